@@ -1,0 +1,4 @@
+pub mod Plain
+pub mod Sameness
+pub mod Texts
+pub mod ReadBack

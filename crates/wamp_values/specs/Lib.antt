@@ -1,0 +1,9 @@
+pub mod Coded
+pub mod Payloads
+pub mod Checks
+pub mod Texts
+pub mod Options
+pub mod Arguments
+pub mod Equal
+pub mod Laws
+pub mod Faults

@@ -1,0 +1,196 @@
+ghost use Rattle.std.specs.Prelude.{◌≡◌, ◌++◌, ◌↔◌, IfOk, IsTrue, OnOk, is_some, Some, None, if◌then◌else◌};
+ghost use Rattle.serde_json.specs.View.{view as data_of};
+ghost use Rattle.serde_json.specs.Find.{as_array, as_object};
+ghost use Rattle.wamp_values.specs.Arguments.{args_tokens, IsArgs, IsArguments, IsArgumentsKw};
+ghost use Rattle.wamp_values.specs.Texts.{data_tokens};
+
+use crate::payload::Payload;
+use json::Writer;
+use serde_json::Value;
+use std::alloc::AllocError;
+use std::marker::Model;
+
+/// A payload that is an array (WAMP specification, "Protocol Messages": Arguments|list).
+#[derive(Debug, Drop)]
+pub struct Arguments {
+    list: Payload,
+}
+
+impl Model for Arguments {
+    ghost use Rattle.std.specs.Prelude.{IsTrue, is_some};
+    ghost use Rattle.serde_json.specs.Data.{Data};
+    ghost use Rattle.serde_json.specs.Find.{as_array};
+    ghost use Rattle.wamp_values.specs.Coded.{coded_data};
+
+    ghost Value = { Data };
+
+    ghost coded = { coded_data };
+
+    ghost view = { λ a. a.list };
+
+    ghost invariant = { λ a. IsTrue (is_some (as_array a.list)) };
+}
+
+impl Arguments {
+    /// The payload as arguments, where it is an array.
+    pub fn of(payload: Payload) -> Option<Arguments>
+        ensures { result ≡ (if is_some (as_array payload) then Some payload else None) }
+    {
+        if payload.value().is_array() {
+            Some(Arguments { list: payload })
+        } else {
+            None
+        }
+    }
+
+    /// The array; takes no memory.
+    pub fn value(&self) -> &Value
+        ensures value { data_of result.now ≡ self.now }
+        ensures arguments { IsArguments self.now }
+    {
+        self.list.value()
+    }
+
+    /// An equal array.
+    pub fn copy(&self) -> Result<Arguments, AllocError>
+        ensures { IfOk result (λ made. made ≡ self.now) }
+    {
+        Ok(Arguments {
+            list: self.list.copy()?,
+        })
+    }
+
+    /// Whether the two are equal; takes no memory.
+    pub fn same(&self, other: &Arguments) -> bool
+        ensures { IsTrue result ↔ (self.now ≡ other.now) }
+    {
+        self.list.same(&other.list)
+    }
+
+    /// Writes the array's tokens, as `Payload::put`.
+    pub fn put(&self, out: &mut Writer) -> Result<(), AllocError>
+        ensures ok { OnOk result (out.new.tokens ≡ out.old.tokens ++ data_tokens self.now) }
+        ensures before { out.new.before ≡ out.old.before }
+        ensures arguments { IsArguments self.now }
+    {
+        self.list.put(out)
+    }
+}
+
+/// A payload that is an object (WAMP specification, "Protocol Messages": ArgumentsKw|dict).
+#[derive(Debug, Drop)]
+pub struct ArgumentsKw {
+    dict: Payload,
+}
+
+impl Model for ArgumentsKw {
+    ghost use Rattle.std.specs.Prelude.{IsTrue, is_some};
+    ghost use Rattle.serde_json.specs.Data.{Data};
+    ghost use Rattle.serde_json.specs.Find.{as_object};
+    ghost use Rattle.wamp_values.specs.Coded.{coded_data};
+
+    ghost Value = { Data };
+
+    ghost coded = { coded_data };
+
+    ghost view = { λ a. a.dict };
+
+    ghost invariant = { λ a. IsTrue (is_some (as_object a.dict)) };
+}
+
+impl ArgumentsKw {
+    /// The payload as arguments by name, where it is an object.
+    pub fn of(payload: Payload) -> Option<ArgumentsKw>
+        ensures { result ≡ (if is_some (as_object payload) then Some payload else None) }
+    {
+        if payload.value().is_object() {
+            Some(ArgumentsKw { dict: payload })
+        } else {
+            None
+        }
+    }
+
+    /// The object; takes no memory.
+    pub fn value(&self) -> &Value
+        ensures value { data_of result.now ≡ self.now }
+        ensures arguments { IsArgumentsKw self.now }
+    {
+        self.dict.value()
+    }
+
+    /// An equal object.
+    pub fn copy(&self) -> Result<ArgumentsKw, AllocError>
+        ensures { IfOk result (λ made. made ≡ self.now) }
+    {
+        Ok(ArgumentsKw {
+            dict: self.dict.copy()?,
+        })
+    }
+
+    /// Whether the two are equal; takes no memory.
+    pub fn same(&self, other: &ArgumentsKw) -> bool
+        ensures { IsTrue result ↔ (self.now ≡ other.now) }
+    {
+        self.dict.same(&other.dict)
+    }
+
+    /// Writes the object's tokens, as `Payload::put`.
+    pub fn put(&self, out: &mut Writer) -> Result<(), AllocError>
+        ensures ok { OnOk result (out.new.tokens ≡ out.old.tokens ++ data_tokens self.now) }
+        ensures before { out.new.before ≡ out.old.before }
+        ensures arguments { IsArgumentsKw self.now }
+    {
+        self.dict.put(out)
+    }
+}
+
+/// What stands in the place of arguments in a message.
+#[derive(Debug, Drop)]
+pub enum Args {
+    Nothing,
+    List(Arguments),
+    Both(Arguments, ArgumentsKw),
+}
+
+impl Args {
+    /// Equal arguments.
+    pub fn copy(&self) -> Result<Args, AllocError>
+        ensures { IfOk result (λ made. made ≡ self.now) }
+    {
+        match self {
+            Args::Nothing => Ok(Args::Nothing),
+            Args::List(list) => Ok(Args::List(list.copy()?)),
+            Args::Both(list, dict) => Ok(Args::Both(list.copy()?, dict.copy()?)),
+        }
+    }
+
+    /// Whether the two are equal; takes no memory.
+    pub fn same(&self, other: &Args) -> bool
+        ensures { IsTrue result ↔ (self.now ≡ other.now) }
+    {
+        match (self, other) {
+            (Args::Nothing, Args::Nothing) => true,
+            (Args::List(list), Args::List(other)) => list.same(other),
+            (Args::Both(list, dict), Args::Both(other, names)) => {
+                list.same(other) && dict.same(names)
+            }
+            _ => false,
+        }
+    }
+
+    /// Writes the tokens of the last items of a message's array, with no bracket.
+    pub fn put(&self, out: &mut Writer) -> Result<(), AllocError>
+        ensures ok { OnOk result (out.new.tokens ≡ out.old.tokens ++ args_tokens self.now) }
+        ensures before { out.new.before ≡ out.old.before }
+        ensures args { OnOk result (IsArgs self.now) }
+    {
+        match self {
+            Args::Nothing => Ok(()),
+            Args::List(list) => list.put(out),
+            Args::Both(list, dict) => {
+                list.put(out)?;
+                dict.put(out)
+            }
+        }
+    }
+}

@@ -1,0 +1,111 @@
+ghost use Rattle.std.specs.Prelude.{◌≡◌, ◌++◌, ◌↔◌, IfOk, IsTrue, OnOk, OnErr};
+ghost use Rattle.serde_json.specs.View.{view as data_of};
+ghost use Rattle.serde_json.specs.Written.{compact_text};
+ghost use Rattle.wamp_values.specs.Checks.{payload_of};
+ghost use Rattle.wamp_values.specs.Texts.{data_tokens};
+ghost use Rattle.wamp_values.specs.Payloads.{IsPayload};
+
+use crate::equal::same_values;
+use crate::fault::ValueFault;
+use crate::survey::survey;
+use crate::write::put;
+use json::Writer;
+use serde_json::Value;
+use std::alloc::AllocError;
+use std::marker::Model;
+use std::mem;
+
+/// How deep the arrays and objects of a payload may nest.
+const DEEPEST: usize = 126;
+
+/// A JSON value that a message may carry: each of its numbers is held as an i64 or a u64, and its arrays and objects
+/// nest at most 126 deep.
+#[derive(Debug, Drop)]
+pub struct Payload {
+    value: Value,
+}
+
+impl Model for Payload {
+    ghost use Rattle.serde_json.specs.Data.{Data};
+    ghost use Rattle.serde_json.specs.View.{view as data_of};
+    ghost use Rattle.wamp_values.specs.Coded.{coded_data};
+    ghost use Rattle.wamp_values.specs.Payloads.{IsPayload};
+
+    ghost Value = { Data };
+
+    ghost coded = { coded_data };
+
+    ghost view = { λ a. data_of a.value };
+
+    ghost invariant = { λ a. IsPayload (data_of a.value) };
+}
+
+impl Payload {
+    /// The payload that this value is; takes no memory, and goes over the value once.
+    ///
+    /// `Number` where a number is not held as an i64 or a u64, as one with a fraction, an exponent or out of range,
+    /// and `-0`. Else `Deep` where arrays and objects nest more than 126 deep.
+    pub fn check(value: Value) -> Result<Payload, ValueFault>
+        ensures { result ≡ payload_of (data_of value) }
+    {
+        match survey(&value, DEEPEST) {
+            Some(true) => Ok(Payload { value }),
+            Some(false) => Err(ValueFault::Deep),
+            None => Err(ValueFault::Number),
+        }
+    }
+
+    /// The value; takes no memory.
+    pub fn value(&self) -> &Value
+        ensures value { data_of result.now ≡ self.now }
+        ensures payload { IsPayload self.now }
+    {
+        &self.value
+    }
+
+    /// An equal payload.
+    pub fn copy(&self) -> Result<Payload, AllocError>
+        ensures { IfOk result (λ made. made ≡ self.now) }
+    {
+        Ok(Payload {
+            value: self.value.clone()?,
+        })
+    }
+
+    /// Whether the two are equal; takes no memory, and stops at the first difference.
+    #[tactic(auto, using(crate::proofs::Sameness::same_decides))]
+    pub fn same(&self, other: &Payload) -> bool
+        ensures { IsTrue result ↔ (self.now ≡ other.now) }
+    {
+        same_values(&self.value, &other.value)
+    }
+
+    /// Writes the payload's tokens: with these, the writer's text is the compact text of the payload.
+    ///
+    /// After an error some of them may have been written.
+    #[tactic(auto, using(crate::proofs::Plain::plain_has_no_float))]
+    pub fn put(&self, out: &mut Writer) -> Result<(), AllocError>
+        ensures ok { OnOk result (out.new.tokens ≡ out.old.tokens ++ data_tokens self.now) }
+        ensures before { out.new.before ≡ out.old.before }
+        ensures payload { IsPayload self.now }
+    {
+        put(&self.value, out)
+    }
+
+    /// Appends the compact text: no space, an object's keys in byte order. An error leaves `out` as it was.
+    #[tactic(auto, using(crate::proofs::Texts::print_tokens))]
+    pub fn write_into(&self, out: &mut Vec<u8>) -> Result<(), AllocError>
+        ensures ok { OnOk result (out.new.items ≡ out.old.items ++ compact_text self.now) }
+        ensures err { OnErr result (out.new.items ≡ out.old.items) }
+    {
+        let start = out.len();
+        let alloc = *out.allocator();
+        let mut writer = Writer::new(mem::replace(out, Vec::new(alloc)));
+        let done = self.put(&mut writer);
+        *out = writer.into_inner();
+        if done.is_err() {
+            out.truncate(start);
+        }
+        done
+    }
+}
