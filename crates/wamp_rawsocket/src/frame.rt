@@ -1,0 +1,86 @@
+ghost use Rattle.std.specs.Prelude.{◌≡◌, ◌<◌, ◌≤◌, ◌^◌, ◌++◌, ◌↔◌, length, IfOk, OnOk, OnErr, IsErrOf, IsOkUnless};
+ghost use Rattle.wamp_rawsocket.specs.Frames.{frame_octets, code_of};
+
+use crate::fault::FrameFault;
+use bytes::Bytes;
+use std::alloc::Global;
+
+/// The octets in front of a frame's payload.
+pub(crate) const HEADER_LEN: usize = 4;
+
+/// What a frame is for.
+#[derive(Clone, Copy, Debug, PartialEq, Eq)]
+pub enum FrameKind {
+    /// A WAMP message.
+    Message,
+    /// A request for a `Pong` with the same payload.
+    Ping,
+    /// The answer to a `Ping`.
+    Pong,
+}
+
+impl FrameKind {
+    /// The type by which a frame's first octet tells this kind.
+    fn code(self) -> u8
+        ensures { result ≡ code_of self }
+    {
+        match self {
+            FrameKind::Message => 0,
+            FrameKind::Ping => 1,
+            FrameKind::Pong => 2,
+        }
+    }
+}
+
+/// One frame of a RawSocket stream. Its payload shares the memory of the octets that were fed.
+#[derive(Debug, Drop)]
+pub struct Frame {
+    pub kind: FrameKind,
+    pub payload: Bytes,
+}
+
+/// Appends a frame to `out`: the octet of its kind, its payload's length in three octets, the
+/// highest first, and the payload.
+///
+/// A payload of more than `limit` octets is `TooLong`; the limit is the one that `answer` found in
+/// the receiver's handshake. `Memory` comes only where the frame fits. After an error `out` holds
+/// what it held before. The cost is that of copying the payload once.
+/// (WAMP specification, "RawSocket Transport", "Framing".)
+pub fn append_frame(
+    out: &mut Vec<u8>,
+    kind: FrameKind,
+    payload: &[u8],
+    limit: u32,
+) -> Result<(), FrameFault>
+    requires { limit < 2 ^ 24 }
+    ensures ok { OnOk result (out.new.items ≡ out.old.items ++ frame_octets kind payload.now) }
+    ensures err { OnErr result (out.new.items ≡ out.old.items) }
+    ensures too_long { IsErrOf result FrameFault.TooLong ↔ (limit < length payload.now) }
+    ensures only_memory_else { length payload.now ≤ limit → IsOkUnless result FrameFault.Memory }
+{
+    if payload.len() > limit as usize {
+        return Err(FrameFault::TooLong);
+    }
+    let [_, high, middle, low] = (payload.len() as u32).to_be_bytes();
+    out.reserve(HEADER_LEN + payload.len())?;
+    out.extend_from_slice(&[kind.code(), high, middle, low])?;
+    out.extend_from_slice(payload)?;
+    Ok(())
+}
+
+/// The octets of a frame alone, by the rules of [`append_frame`].
+pub fn put_frame(
+    alloc: Global,
+    kind: FrameKind,
+    payload: &[u8],
+    limit: u32,
+) -> Result<Vec<u8>, FrameFault>
+    requires { limit < 2 ^ 24 }
+    ensures octets { IfOk result (λ out. out.items ≡ frame_octets kind payload.now) }
+    ensures too_long { IsErrOf result FrameFault.TooLong ↔ (limit < length payload.now) }
+    ensures only_memory_else { length payload.now ≤ limit → IsOkUnless result FrameFault.Memory }
+{
+    let mut out = Vec::new(alloc);
+    append_frame(&mut out, kind, payload, limit)?;
+    Ok(out)
+}

@@ -1,0 +1,52 @@
+ghost use Rattle.std.specs.Prelude.{◌≡◌};
+ghost use Rattle.wamp_rawsocket.specs.Handshake.{answer_of, HasFramedLimit};
+
+use crate::outcome::Answer;
+
+/// The first octet of a handshake, either way.
+const MAGIC: u8 = 0x7F;
+
+/// The serializer number of JSON.
+const JSON: u8 = 1;
+
+/// The longest payload whose length the three octets of a frame can say.
+const LONGEST_PAYLOAD: u32 = (1 << 24) - 1;
+
+/// Frames of up to 2^20 octets of payload are received, in JSON.
+const TERMS: [u8; 4] = [MAGIC, 0xB1, 0, 0];
+
+/// The refusals, each with its error code in the high half of the second octet.
+const SERIALIZER_UNSUPPORTED: [u8; 4] = [MAGIC, 0x10, 0, 0];
+
+const RESERVED_OCTETS_USED: [u8; 4] = [MAGIC, 0x30, 0, 0];
+
+const TOO_MANY_CONNECTIONS: [u8; 4] = [MAGIC, 0x40, 0, 0];
+
+/// The answer to a client's handshake, where `room` says whether one more connection is taken on.
+///
+/// A first octet other than `7F` gets no answer at all. Then these are refused, in this order:
+/// reserved octets that are not zero, a serializer other than JSON, and a client for whom there is
+/// no room. It takes no memory. (WAMP specification, "RawSocket Transport", "Handshake".)
+pub fn answer(octets: [u8; 4], room: bool) -> Answer
+    ensures answer { result ≡ answer_of octets room }
+    ensures limit { HasFramedLimit result }
+{
+    let [magic, offer, third, fourth] = octets;
+    if magic != MAGIC {
+        return Answer::Hang;
+    }
+    if third != 0 || fourth != 0 {
+        return Answer::Refuse(RESERVED_OCTETS_USED);
+    }
+    if offer % 16 != JSON {
+        return Answer::Refuse(SERIALIZER_UNSUPPORTED);
+    }
+    if !room {
+        return Answer::Refuse(TOO_MANY_CONNECTIONS);
+    }
+    let exponent = 9 + u32::from(offer / 16);
+    Answer::Terms {
+        limit: (1 << exponent).min(LONGEST_PAYLOAD),
+        octets: TERMS,
+    }
+}
