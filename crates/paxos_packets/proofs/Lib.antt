@@ -1,0 +1,4 @@
+pub mod Order
+pub mod Meeting
+pub mod Placing
+pub mod Behind

@@ -1,0 +1,5 @@
+use Rattle.paxos_packets.specs.Equality.{entry_equality, vote_equality, packet_equality}
+use Rattle.paxos_packets.proofs.laws.values_are_told_apart.Goals as goal
+
+pub returns : goal.returns
+returns g c = record { entries = entry_equality; votes = vote_equality; packets = packet_equality }

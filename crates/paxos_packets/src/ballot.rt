@@ -1,0 +1,28 @@
+ghost use Rattle.std.specs.Prelude.{◌≡◌};
+ghost use Rattle.paxos_packets.specs.Ballots.{below, same_ballot};
+
+/// A numbered ballot: the proposal number of Lamport 2001, section 2.2. Ballots are ordered by round, then by node, so no two
+/// nodes ever use one number.
+#[derive(Clone, Copy, Debug, PartialEq, Eq, PartialOrd, Ord, Hash)]
+pub struct Ballot {
+    /// From 1 to 2^48 - 1.
+    pub round: u64,
+    /// The member that owns the ballot.
+    pub node: u8,
+}
+
+impl Ballot {
+    /// Whether this ballot is lower than the other. Takes no memory.
+    pub fn is_below(&self, other: &Ballot) -> bool
+        ensures { result ≡ below self.now other.now }
+    {
+        self < other
+    }
+
+    /// Whether the two are one ballot. Takes no memory.
+    pub fn is(&self, other: &Ballot) -> bool
+        ensures { result ≡ same_ballot self.now other.now }
+    {
+        self.round == other.round && self.node == other.node
+    }
+}

@@ -1,0 +1,28 @@
+//! What the members of a cluster commit and send: ballots, slots, entries, votes, packets and rows (Lamport, Paxos Made
+//! Simple, 2001, section 2).
+#![tactic(auto)]
+
+mod ballot;
+mod body;
+mod entry;
+pub mod laws;
+mod list;
+mod members;
+mod packet;
+mod rows;
+mod slot;
+mod transport;
+mod vote;
+
+pub use ballot::Ballot;
+pub use body::{Body, Memory};
+pub use entry::{Entries, Entry};
+pub use members::{Members, NodeSet, Nodes};
+pub use packet::{Kind, Packet};
+pub use rows::{Change, Rows};
+pub use slot::Slot;
+pub use transport::Transport;
+pub use vote::{Vote, Votes};
+
+#[cfg(test)]
+mod tests;

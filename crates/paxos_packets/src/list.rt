@@ -1,0 +1,33 @@
+//! Copies and equality of lists.
+
+ghost use Rattle.std.specs.Prelude.{◌≡◌, IfOk};
+ghost use Rattle.paxos_packets.specs.Same.{same_list};
+
+use crate::body::{Body, Memory};
+use std::alloc::Global;
+
+/// Copies of all items, in order.
+pub(crate) fn copy_all<T: Body>(alloc: Global, items: &[T]) -> Result<Vec<T>, Memory>
+    ensures { IfOk result (λ copies. copies.items ≡ items.now) }
+{
+    let mut copies = Vec::with_capacity(alloc, items.len())?;
+    for item in items {
+        copies.push(item.copy(alloc)?)?;
+    }
+    Ok(copies)
+}
+
+/// Whether the items are equal in value, place by place.
+pub(crate) fn all_same<T: Body>(items: &[T], others: &[T]) -> bool
+    ensures { result ≡ same_list T.same items.now others.now }
+{
+    if items.len() != others.len() {
+        return false;
+    }
+    for (i, item) in items.iter().enumerate() {
+        if !item.same(&others[i]) {
+            return false;
+        }
+    }
+    true
+}

@@ -1,0 +1,165 @@
+ghost use Rattle.std.specs.Prelude.{◌≡◌, ℕ, ◌<◌, ◌≤◌, [], ◌∷◌, ◌++◌, length, ◌&&◌, ◌||◌, ◌==◌, ◌↔◌, nat_lt, Bool, false, IsTrue, IsSome, IfSome};
+ghost use Rattle.paxos_packets.specs.Majority.{IsMajority, is_majority, is_member, others};
+ghost use Rattle.paxos_packets.specs.Nodes.{is_in};
+
+use std::marker::Model;
+
+/// A set of nodes, of those with numbers from 0 to 7.
+#[derive(Clone, Copy, Debug, PartialEq, Eq, Hash)]
+pub struct NodeSet {
+    has: [bool; 8],
+}
+
+impl Model for NodeSet {
+    ghost use Rattle.std.specs.Prelude.{List, Bool};
+
+    ghost Value = { List Bool };
+
+    ghost view = { λ s. s.has };
+
+    ghost inverse = { λ has. record { has = has } };
+}
+
+impl NodeSet {
+    /// The set without any node. Takes no memory.
+    pub fn new() -> NodeSet
+        ensures { (node : ℕ) → is_in result node ≡ false }
+    {
+        NodeSet { has: [false; 8] }
+    }
+
+    /// Puts the node into the set; a number above 7 is that of no node, and changes nothing.
+    pub fn insert(&mut self, node: u8)
+        ensures { (other : ℕ) → is_in self.new other ≡ (is_in self.old other || ((other == node) && nat_lt other 8)) }
+    {
+        if node < 8 {
+            self.has[node as usize] = true;
+        }
+    }
+
+    /// Whether the node is in the set.
+    pub fn contains(self, node: u8) -> bool
+        ensures { result ≡ is_in self node }
+    {
+        node < 8 && self.has[node as usize]
+    }
+}
+
+/// Up to seven nodes, in an order.
+#[derive(Debug, Drop)]
+pub struct Nodes {
+    list: [u8; 7],
+    count: u8,
+}
+
+impl Model for Nodes {
+    ghost use Rattle.std.specs.Prelude.{List, ℕ, ◌≤◌, take};
+
+    ghost Value = { List ℕ };
+
+    ghost view = { λ n. take n.count n.list };
+
+    ghost invariant = { λ n. n.count ≤ 7 };
+}
+
+impl Nodes {
+    fn new() -> Nodes
+        ensures { result ≡ [] }
+    {
+        Nodes {
+            list: [0; 7],
+            count: 0,
+        }
+    }
+
+    fn push(&mut self, node: u8)
+        requires { length self.old < 7 }
+        ensures { self.new ≡ self.old ++ node ∷ [] }
+    {
+        self.list[self.count as usize] = node;
+        self.count += 1;
+    }
+
+    /// The nodes, in order.
+    pub fn as_slice(&self) -> &[u8]
+        ensures { result.now ≡ self.now }
+    {
+        &self.list[..self.count as usize]
+    }
+}
+
+/// The members of a cluster: the nodes 1 to `count`, 3 to 7 of them.
+#[derive(Clone, Copy, Debug, PartialEq, Eq, Hash)]
+pub struct Members {
+    count: u8,
+}
+
+impl Model for Members {
+    ghost Value = { ℕ };
+
+    ghost view = { λ m. m.count };
+
+    ghost invariant = { λ m. (3 ≤ m.count) × (m.count ≤ 7) };
+
+    ghost inverse = { λ n. record { count = n } };
+}
+
+impl Members {
+    /// The members 1 to `count`, or `None` where `count` is not 3 to 7. Takes no memory.
+    pub fn new(count: u8) -> Option<Members>
+        ensures valid { IsSome result ↔ ((3 ≤ count) × (count ≤ 7)) }
+        ensures value { IfSome result (λ m. m ≡ count) }
+    {
+        if (3..=7).contains(&count) {
+            Some(Members { count })
+        } else {
+            None
+        }
+    }
+
+    /// How many members there are.
+    pub fn count(self) -> u8
+        ensures value { result ≡ self }
+        ensures least { 3 ≤ result }
+        ensures most { result ≤ 7 }
+    {
+        let Members { count } = self;
+        count
+    }
+
+    /// Whether this is the number of a member.
+    pub fn contains(self, node: u8) -> bool
+        ensures { result ≡ is_member self node }
+    {
+        1 <= node && node <= self.count
+    }
+
+    /// Whether the set has more than half of the members. Nodes that are no members do not count.
+    pub fn majority(self, set: NodeSet) -> bool
+        ensures value { result ≡ is_majority self (is_in set) }
+        ensures meaning { IsTrue result ↔ IsMajority self (is_in set) }
+    {
+        let mut count: u8 = 0;
+        for below in 0..self.count {
+            if set.contains(below + 1) {
+                count += 1;
+            }
+        }
+        self.count < 2 * count
+    }
+
+    /// The members other than this node, by ascending number. Takes no memory.
+    pub fn others(self, node: u8) -> Nodes
+        ensures { result ≡ others node self }
+    {
+        let count = self.count();
+        let mut nodes = Nodes::new();
+        for below in 0..count {
+            let other = below + 1;
+            if other != node {
+                nodes.push(other);
+            }
+        }
+        nodes
+    }
+}

@@ -1,0 +1,136 @@
+ghost use Rattle.paxos_packets.specs.Same.{same_kind, same_packet};
+ghost use Rattle.paxos_packets.specs.Equality.{kind_equality, packet_equality};
+
+use crate::ballot::Ballot;
+use crate::body::{Body, Memory};
+use crate::entry::{Entries, Entry};
+use crate::slot::Slot;
+use crate::vote::{Vote, Votes};
+use std::alloc::Global;
+
+/// What a packet says (Lamport 2001, sections 2.2, 2.3 and 3; docs/CONSENSUS.md has each kind's place).
+#[derive(Debug, Drop)]
+pub enum Kind<B> {
+    /// Asks for a promise of the ballot, and for the votes from the slot `first` on (1 to 2^40).
+    Prepare { ballot: Ballot, first: u64 },
+    /// Promises the ballot, and reports votes.
+    Promise { ballot: Ballot, votes: Votes<B> },
+    /// Asks for this vote.
+    Accept { vote: Vote<B> },
+    /// This vote was cast.
+    Accepted { vote: Vote<B> },
+    /// Refuses the ballot, since another is promised.
+    Nack { ballot: Ballot, promised: Ballot },
+    /// Pending entries for a leader.
+    Forward { entries: Entries<B> },
+    /// The entry was learned in the slot.
+    Learned { slot: Slot, entry: Entry<B> },
+    /// Asks for what was learned from the slot `first` on (1 to 2^40).
+    Ask { first: u64 },
+}
+
+/// What one member sends to another. It may be lost, repeated or overtaken, and is never altered.
+#[derive(Debug, Drop)]
+pub struct Packet<B> {
+    /// The member that sends it.
+    pub sender: u8,
+    /// The member that it is for.
+    pub addressee: u8,
+    /// What it says.
+    pub kind: Kind<B>,
+}
+
+impl<B: Body> Body for Kind<B> {
+    ghost same = { same_kind B.same };
+
+    fn copy(&self, alloc: Global) -> Result<Kind<B>, Memory> {
+        Ok(match self {
+            Kind::Prepare { ballot, first } => Kind::Prepare {
+                ballot: *ballot,
+                first: *first,
+            },
+            Kind::Promise { ballot, votes } => Kind::Promise {
+                ballot: *ballot,
+                votes: votes.copy(alloc)?,
+            },
+            Kind::Accept { vote } => Kind::Accept {
+                vote: vote.copy(alloc)?,
+            },
+            Kind::Accepted { vote } => Kind::Accepted {
+                vote: vote.copy(alloc)?,
+            },
+            Kind::Nack { ballot, promised } => Kind::Nack {
+                ballot: *ballot,
+                promised: *promised,
+            },
+            Kind::Forward { entries } => Kind::Forward {
+                entries: entries.copy(alloc)?,
+            },
+            Kind::Learned { slot, entry } => Kind::Learned {
+                slot: *slot,
+                entry: entry.copy(alloc)?,
+            },
+            Kind::Ask { first } => Kind::Ask { first: *first },
+        })
+    }
+
+    fn same(&self, other: &Kind<B>) -> bool {
+        match (self, other) {
+            (
+                Kind::Prepare { ballot, first },
+                Kind::Prepare {
+                    ballot: b,
+                    first: f,
+                },
+            ) => ballot.is(b) && first == f,
+            (
+                Kind::Promise { ballot, votes },
+                Kind::Promise {
+                    ballot: b,
+                    votes: v,
+                },
+            ) => ballot.is(b) && votes.same(v),
+            (Kind::Accept { vote }, Kind::Accept { vote: v }) => vote.same(v),
+            (Kind::Accepted { vote }, Kind::Accepted { vote: v }) => vote.same(v),
+            (
+                Kind::Nack { ballot, promised },
+                Kind::Nack {
+                    ballot: b,
+                    promised: p,
+                },
+            ) => ballot.is(b) && promised.is(p),
+            (Kind::Forward { entries }, Kind::Forward { entries: e }) => entries.same(e),
+            (Kind::Learned { slot, entry }, Kind::Learned { slot: s, entry: e }) => slot.get()
+                == s.get()
+                && entry.same(e),
+            (Kind::Ask { first }, Kind::Ask { first: f }) => first == f,
+            _ => false,
+        }
+    }
+
+    ghost reflexive = { (kind_equality B.same (record { reflexive = B.reflexive; sound = B.sound })).reflexive };
+
+    ghost sound = { (kind_equality B.same (record { reflexive = B.reflexive; sound = B.sound })).sound };
+}
+
+impl<B: Body> Body for Packet<B> {
+    ghost same = { same_packet B.same };
+
+    fn copy(&self, alloc: Global) -> Result<Packet<B>, Memory> {
+        Ok(Packet {
+            sender: self.sender,
+            addressee: self.addressee,
+            kind: self.kind.copy(alloc)?,
+        })
+    }
+
+    fn same(&self, other: &Packet<B>) -> bool {
+        self.sender == other.sender
+            && self.addressee == other.addressee
+            && self.kind.same(&other.kind)
+    }
+
+    ghost reflexive = { (packet_equality B.same (record { reflexive = B.reflexive; sound = B.sound })).reflexive };
+
+    ghost sound = { (packet_equality B.same (record { reflexive = B.reflexive; sound = B.sound })).sound };
+}

@@ -1,0 +1,42 @@
+ghost use Rattle.std.specs.Prelude.{◌≡◌, ℕ, ◌<◌, ◌≤◌, ◌^◌, ◌↔◌, IsSome, IfSome};
+
+use std::marker::Model;
+
+/// A place of the log, from 1 to 2^40 - 1.
+#[derive(Clone, Copy, Debug, PartialEq, Eq, PartialOrd, Ord, Hash)]
+pub struct Slot {
+    number: u64,
+}
+
+impl Model for Slot {
+    ghost Value = { ℕ };
+
+    ghost view = { λ s. s.number };
+
+    ghost invariant = { λ s. (1 ≤ s.number) × (s.number < 2 ^ 40) };
+
+    ghost inverse = { λ n. record { number = n } };
+}
+
+impl Slot {
+    /// The slot of this number, or `None` where the number is 0 or above 2^40 - 1. Takes no memory.
+    pub fn new(number: u64) -> Option<Slot>
+        ensures valid { IsSome result ↔ ((1 ≤ number) × (number < 2 ^ 40)) }
+        ensures value { IfSome result (λ s. s ≡ number) }
+    {
+        if (1..1 << 40).contains(&number) {
+            Some(Slot { number })
+        } else {
+            None
+        }
+    }
+
+    /// The number of the slot.
+    pub fn get(self) -> u64
+        ensures value { result ≡ self }
+        ensures least { 1 ≤ result }
+        ensures most { result < 2 ^ 40 }
+    {
+        self.number
+    }
+}

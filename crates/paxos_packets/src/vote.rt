@@ -1,0 +1,232 @@
+ghost use Rattle.std.specs.Prelude.{◌≡◌, ◌+◌, ◌<◌, ◌≤◌, ℕ, [], ◌∷◌, ◌++◌, length, None, option_copied, is_some, is_ok, IsOk, vec_len, vec_capacity, IfOk, IfErr, OnOk, OnErr};
+ghost use Rattle.paxos_packets.specs.Same.{same_list, same_vote};
+ghost use Rattle.paxos_packets.specs.Equality.{vote_equality, votes_equality};
+ghost use Rattle.paxos_packets.specs.Slots.{IsAscending, place, vote_in, put_vote, put_votes, votes_from};
+
+use crate::ballot::Ballot;
+use crate::body::{Body, Memory};
+use crate::entry::Entry;
+use crate::list::{all_same, copy_all};
+use crate::slot::Slot;
+use std::alloc::Global;
+use std::marker::Model;
+
+/// A vote for an entry in a slot and a ballot: a proposal that was accepted (Lamport 2001, section 2.2).
+#[derive(Debug, Drop)]
+pub struct Vote<B> {
+    /// The slot that it is for.
+    pub slot: Slot,
+    /// The ballot in which it was cast.
+    pub ballot: Ballot,
+    /// The entry that it is for.
+    pub entry: Entry<B>,
+}
+
+/// Votes by ascending slot, at most one in each.
+#[derive(Debug, Drop)]
+pub struct Votes<B> {
+    list: Vec<Vote<B>>,
+}
+
+impl<B> Model for Votes<B> {
+    ghost use Rattle.std.specs.Prelude.{List};
+    ghost use Rattle.paxos_packets.specs.declared.vote.Vote.{Vote};
+
+    ghost Value = { List (Vote B) };
+
+    ghost use Rattle.paxos_packets.specs.Slots.{IsAscending};
+
+    ghost view = { λ v. v.list.items };
+
+    ghost invariant = { λ v. IsAscending v.list.items };
+}
+
+impl<B> Votes<B> {
+    /// No vote. Takes no memory; `put` will, from `alloc`.
+    pub fn new(alloc: Global) -> Votes<B>
+        ensures { result ≡ [] }
+    {
+        Votes {
+            list: Vec::new(alloc),
+        }
+    }
+
+    /// The votes, by ascending slot.
+    pub fn as_slice(&self) -> &[Vote<B>]
+        ensures votes { result.now ≡ self.now }
+        ensures ascending { IsAscending self.now }
+    {
+        self.list.as_slice()
+    }
+
+    /// The votes as a vector, by ascending slot. Takes no memory.
+    pub fn into_vec(self) -> Vec<Vote<B>>
+        ensures votes { result.items ≡ self }
+        ensures ascending { IsAscending self }
+    {
+        let Votes { list } = self;
+        list
+    }
+
+    /// The vote in the slot, if there is one. Takes no memory, and steps logarithmic in the number of votes.
+    pub fn find(&self, slot: Slot) -> Option<&Vote<B>>
+        ensures { option_copied result ≡ vote_in slot self.now }
+    {
+        find_in(&self.list, slot.get())
+    }
+}
+
+impl<B: Drop> Votes<B> {
+    /// Puts the vote into its slot, in the place of the one that stands there. It is found in a number of steps that is logarithmic in
+    /// the number of votes; only a vote for a new slot takes memory, and moves the votes of later slots. With `Memory`, which only
+    /// comes where the slot had no vote, the votes are as they were.
+    pub fn put(&mut self, vote: Vote<B>) -> Result<(), Memory>
+        ensures ok { OnOk result (self.new ≡ put_vote vote self.old) }
+        ensures err { OnErr result (self.new ≡ self.old) }
+        ensures absent { OnErr result (vote_in vote.slot self.old ≡ None) }
+    {
+        put_in(&mut self.list, vote)
+    }
+
+    /// Puts each of the votes, in order. With `Memory`, which only comes where room for so many votes more was refused, the votes are
+    /// as they were.
+    pub fn put_all(&mut self, votes: Votes<B>) -> Result<(), Memory>
+        ensures ok { OnOk result (self.new ≡ put_votes votes self.old) }
+        ensures err { OnErr result (self.new ≡ self.old) }
+    {
+        put_all_in(&mut self.list, votes.list)
+    }
+}
+
+impl<B: Body> Votes<B> {
+    /// Copies of the votes from the slot with this number on. It copies, and looks at, no other but a logarithmic number of them.
+    pub fn copy_from(&self, alloc: Global, first: u64) -> Result<Votes<B>, Memory>
+        ensures { IfOk result (λ votes. votes ≡ votes_from first self.now) }
+    {
+        Ok(Votes {
+            list: copy_behind(alloc, &self.list, first)?,
+        })
+    }
+}
+
+impl<B: Body> Body for Votes<B> {
+    ghost same = { same_list (same_vote B.same) };
+
+    fn copy(&self, alloc: Global) -> Result<Votes<B>, Memory> {
+        Ok(Votes {
+            list: copy_all(alloc, &self.list)?,
+        })
+    }
+
+    fn same(&self, other: &Votes<B>) -> bool {
+        all_same(&self.list, &other.list)
+    }
+
+    ghost reflexive = { (votes_equality B.same (record { reflexive = B.reflexive; sound = B.sound })).reflexive };
+
+    ghost sound = { (votes_equality B.same (record { reflexive = B.reflexive; sound = B.sound })).sound };
+}
+
+impl<B: Body> Body for Vote<B> {
+    ghost same = { same_vote B.same };
+
+    fn copy(&self, alloc: Global) -> Result<Vote<B>, Memory> {
+        Ok(Vote {
+            slot: self.slot,
+            ballot: self.ballot,
+            entry: self.entry.copy(alloc)?,
+        })
+    }
+
+    fn same(&self, other: &Vote<B>) -> bool {
+        self.slot.get() == other.slot.get()
+            && self.ballot.is(&other.ballot)
+            && self.entry.same(&other.entry)
+    }
+
+    ghost reflexive = { (vote_equality B.same (record { reflexive = B.reflexive; sound = B.sound })).reflexive };
+
+    ghost sound = { (vote_equality B.same (record { reflexive = B.reflexive; sound = B.sound })).sound };
+}
+
+/// How many of the votes stand in front of the slot with this number. Takes a number of steps that is logarithmic in their number.
+fn place_of<B>(votes: &[Vote<B>], slot: u64) -> usize
+    requires { IsAscending votes.now }
+    ensures place { result ≡ place slot votes.now }
+    ensures within { result ≤ length votes.now }
+{
+    votes.partition_point(|vote| vote.slot.get() < slot)
+}
+
+/// Where the vote of the slot stands, or else where it would.
+fn seek<B>(votes: &[Vote<B>], slot: u64) -> Result<usize, usize>
+    requires { IsAscending votes.now }
+    ensures found { IfOk result (λ at. at ≡ place slot votes.now) }
+    ensures found_within { IfOk result (λ at. at < length votes.now) }
+    ensures free { IfErr result (λ at. at ≡ place slot votes.now) }
+    ensures free_within { IfErr result (λ at. at ≤ length votes.now) }
+    ensures which { is_ok result ≡ is_some (vote_in slot votes.now) }
+{
+    let place = place_of(votes, slot);
+    match votes.get(place) {
+        Some(vote) if vote.slot.get() == slot => Ok(place),
+        _ => Err(place),
+    }
+}
+
+/// Copies of the votes from the slot with this number on.
+fn copy_behind<B: Body>(
+    alloc: Global,
+    votes: &[Vote<B>],
+    first: u64,
+) -> Result<Vec<Vote<B>>, Memory>
+    requires { IsAscending votes.now }
+    ensures copies { IfOk result (λ copies. copies.items ≡ votes_from first votes.now) }
+    ensures ascending { IfOk result (λ copies. IsAscending copies.items) }
+{
+    let place = place_of(votes, first);
+    copy_all(alloc, &votes[place..])
+}
+
+/// The vote in the slot, if there is one.
+fn find_in<B>(votes: &[Vote<B>], slot: u64) -> Option<&Vote<B>>
+    requires { IsAscending votes.now }
+    ensures { option_copied result ≡ vote_in slot votes.now }
+{
+    match seek(votes, slot) {
+        Ok(place) => Some(&votes[place]),
+        Err(_) => None,
+    }
+}
+
+/// Puts the vote into its slot, in the place of the one that stands there.
+fn put_in<B: Drop>(votes: &mut Vec<Vote<B>>, vote: Vote<B>) -> Result<(), Memory>
+    requires { IsAscending votes.old.items }
+    ensures ok { OnOk result (votes.new.items ≡ put_vote vote votes.old.items) }
+    ensures err { OnErr result (votes.new.items ≡ votes.old.items) }
+    ensures absent { OnErr result (vote_in vote.slot votes.old.items ≡ None) }
+    ensures ascending { IsAscending votes.new.items }
+    ensures length { vec_len votes.new ≤ vec_len votes.old + 1 }
+    ensures capacity { vec_capacity votes.old ≤ vec_capacity votes.new }
+    ensures succeeds { vec_len votes.old < vec_capacity votes.old → IsOk result }
+{
+    match seek(votes, vote.slot.get()) {
+        Ok(place) => votes[place] = vote,
+        Err(place) => votes.insert(place, vote)?,
+    }
+    Ok(())
+}
+
+/// Puts each of the votes, in order, or none of them.
+fn put_all_in<B: Drop>(votes: &mut Vec<Vote<B>>, more: Vec<Vote<B>>) -> Result<(), Memory>
+    requires { IsAscending votes.old.items }
+    ensures ok { OnOk result (votes.new.items ≡ put_votes more.items votes.old.items) }
+    ensures err { OnErr result (votes.new.items ≡ votes.old.items) }
+    ensures ascending { IsAscending votes.new.items }
+{
+    votes.reserve(more.len())?;
+    for vote in more {
+        put_in(votes, vote)?;
+    }
+    Ok(())
+}
