@@ -1,0 +1,23 @@
+ghost use Rattle.std.specs.Prelude.{◌≡◌};
+
+use thiserror::Error;
+
+/// There was no memory to plan or to adopt. Where `adopt` answers it the acceptor is failed.
+#[derive(Clone, Copy, Debug, PartialEq, Eq, Drop, Error)]
+#[error("no memory for the acceptor")]
+pub struct Memory;
+
+impl Memory {
+    /// The number of the fault.
+    pub fn number(self) -> u8
+        ensures { result ≡ 50 }
+    {
+        50
+    }
+}
+
+impl From<paxos_packets::Memory> for Memory {
+    fn from(_: paxos_packets::Memory) -> Memory {
+        Memory
+    }
+}

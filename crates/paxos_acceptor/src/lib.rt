@@ -1,0 +1,14 @@
+//! The acceptor: what one member commits and answers where it is asked for a promise or a vote (Lamport 2001, section 2.2).
+#![tactic(auto)]
+
+mod acceptor;
+mod fault;
+pub mod laws;
+mod verdict;
+
+pub use acceptor::Acceptor;
+pub use fault::Memory;
+pub use verdict::{Answer, Verdict};
+
+#[cfg(test)]
+mod tests;
