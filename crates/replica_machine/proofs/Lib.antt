@@ -1,0 +1,5 @@
+pub mod Lists
+pub mod Places
+pub mod Numbering
+pub mod Wanted
+pub mod Replaying

@@ -1,0 +1,5 @@
+pub mod Effects
+pub mod Standings
+pub mod Replay
+pub mod Statements
+pub mod Examples

@@ -1,0 +1,12 @@
+use paxos_packets::Transport;
+
+/// What a machine is given by an entry that takes effect.
+#[derive(Debug, Drop)]
+pub enum Input<B> {
+    /// A node began this boot.
+    Boot { node: u8, boot: u64 },
+    /// A node was taken to be lost in this boot.
+    Lost { node: u8, boot: u64 },
+    /// An act of this transport.
+    Item { transport: Transport, body: B },
+}

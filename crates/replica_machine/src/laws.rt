@@ -1,0 +1,59 @@
+//! Laws over the definitions in `specs/`, each the contract of a function that does nothing.
+ghost use Rattle.std.specs.Prelude.{◌≡◌, true, false, Some, None, [], ◌∷◌};
+ghost use Rattle.replica_machine.specs.Effects.{effects, live_boot, items_taken, item_numbers};
+ghost use Rattle.replica_machine.specs.Examples.{items_out_of_order, item_without_first, lost_and_back, adding, transport};
+ghost use Rattle.replica_machine.specs.Replay.{state, said};
+ghost use Rattle.replica_machine.specs.Statements.{EffectsGoByPlaces, EffectsAreOne, LiveBootsAreOne, ItemsTakenAreOne, EffectsGoOn, ItemsAreNumbered, EffectEndsWant, ItemsStayWanted, BootsStayWanted, LostsStayWanted, StateGoesOn, SayingsGoOn};
+
+/// The places of a log, and the standings that a roll keeps as it goes along, say the same: which entries take effect, which
+/// boot of a node is live, and how many of its Items took effect. Takes no memory.
+pub fn effects<B>()
+    ensures by_places { EffectsGoByPlaces B }
+    ensures effects { EffectsAreOne B }
+    ensures live { LiveBootsAreOne B }
+    ensures taken { ItemsTakenAreOne B }
+    ensures goes_on { EffectsGoOn B }
+{}
+
+/// The Items of one boot that take effect in a log are numbered 1, 2, 3 and so on, in order. Takes no memory.
+pub fn numbering<B>()
+    ensures { ItemsAreNumbered B }
+{}
+
+/// What stays pending behind a log: an Item until it took effect, a Boot until its node has one as great, a Lost while it names
+/// the live boot. Takes no memory.
+pub fn pending<B>()
+    ensures effect_ends_it { EffectEndsWant B }
+    ensures items { ItemsStayWanted B }
+    ensures boots { BootsStayWanted B }
+    ensures losts { LostsStayWanted B }
+{}
+
+/// A machine that has followed a log follows a longer one from there. Takes no memory.
+pub fn replay<B, S, Y>()
+    ensures state { StateGoesOn B S Y }
+    ensures sayings { SayingsGoOn B S Y }
+{}
+
+/// Small logs, by hand. Takes no memory.
+pub fn examples()
+    // took, took, skipped, skipped, took, took
+    ensures out_of_order { effects items_out_of_order ≡ true ∷ true ∷ false ∷ false ∷ true ∷ true ∷ [] }
+    ensures out_of_order_numbers { item_numbers 1 1 items_out_of_order ≡ 1 ∷ 2 ∷ 3 ∷ [] }
+
+    // a Noop never takes effect, nor an Item before the one that its node took before it
+    ensures without_first { effects item_without_first ≡ true ∷ false ∷ false ∷ true ∷ [] }
+
+    // the Lost ends the boot once, and nothing of the boot takes effect behind it
+    ensures lost { effects lost_and_back
+        ≡ true ∷ true ∷ true ∷ true ∷ false ∷ false ∷ false ∷ true ∷ false ∷ false ∷ true ∷ true ∷ [] }
+    ensures lost_live { live_boot 3 lost_and_back ≡ Some 2 }
+    ensures lost_taken { items_taken 3 lost_and_back ≡ 1 }
+    ensures never_booted { live_boot 2 lost_and_back ≡ None }
+
+    // a machine that adds up has the sum of the Items that took effect, and said each sum to its act's transport
+    ensures sum { state adding lost_and_back ≡ 100 }
+    ensures said_first { said adding (transport 3 1 1) lost_and_back ≡ (transport 3 1 1, 10) ∷ [] }
+    ensures said_second { said adding (transport 3 2 1) lost_and_back ≡ (transport 3 2 1, 50) ∷ [] }
+    ensures said_other { said adding (transport 1 1 1) lost_and_back ≡ (transport 1 1 1, 100) ∷ [] }
+{}

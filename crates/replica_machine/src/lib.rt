@@ -1,0 +1,13 @@
+//! Which entries of a log take effect, and what a machine that follows the log has become and has said (Lamport, Paxos Made
+//! Simple, 2001, section 3: every server runs the same state machine over the chosen commands).
+#![tactic(auto)]
+
+mod input;
+pub mod laws;
+mod machine;
+mod roll;
+
+pub use input::Input;
+pub use machine::{Failed, Machine};
+pub use paxos_packets::{Body, Entry, Transport};
+pub use roll::Standing;
