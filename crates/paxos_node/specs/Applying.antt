@@ -1,0 +1,65 @@
+-- Learned entries are applied in the order of slots, none skipped; and a node that is down, or that has just begun
+-- (docs/CONSENSUS.md, "Learn" and "One node").
+use Rattle.std.specs.Prelude.{ℕ, suc, Bool, true, false, ◌&&◌, ◌==◌, None, List, [], ◌∷◌, ◌++◌, filter, length, if◌then◌else◌}
+use Rattle.paxos_packets.specs.declared.entry.Entry.{Entry}
+use Rattle.paxos_packets.specs.declared.entry.Entry.TheVariants.{Noop, Boot, Lost, Item}
+use Rattle.paxos_packets.specs.declared.rows.Rows.{Rows}
+use Rattle.paxos_proposer.specs.Proposing.{round_of, resting}
+use Rattle.paxos_learner.specs.Learning.{unheard, run_from}
+use Rattle.replica_machine.specs.Standings.{takes_effect, is_wanted}
+use Rattle.paxos_node.specs.declared.state.NodeState.{NodeState}
+use Rattle.paxos_node.specs.declared.outcome.Outcome.{Outcome}
+
+-- a node that has only its rows
+abbrev pub down : {B : Type 0} → Rows B → NodeState B
+down rows = record { rows = rows; up = false; proposer = resting 0; learner = unheard; applied = []; pending = []; taken = 0 }
+
+-- a node that begins with these rows
+abbrev pub started : {B : Type 0} → ℕ → Rows B → NodeState B
+started me rows =
+    record {
+      rows = rows;
+      up = true;
+      proposer = resting (round_of rows.promised);
+      learner = unheard;
+      applied = [];
+      pending = Boot me rows.boot ∷ [];
+      taken = 0;
+    }
+
+-- the rows of a node's first start, and those of a boot more
+abbrev pub first_rows : {B : Type 0} → Rows B
+first_rows = record { boot = 1; promised = None; votes = [] }
+
+abbrev pub raised : {B : Type 0} → Rows B → Rows B
+raised rows = record { boot = suc rows.boot; promised = rows.promised; votes = rows.votes }
+
+-- the entry is the next one of the log, and what it settles is no longer pending
+abbrev pub note : {B : Type 0} → Entry B → Outcome B → Outcome B
+note e o =
+    record o {
+      node = record o.node { applied = o.node.applied ++ e ∷ []; pending = filter (is_wanted (o.node.applied ++ e ∷ [])) o.node.pending };
+      applied = o.applied ++ e ∷ [];
+    }
+
+-- it tells that this node is lost in its present boot
+abbrev pub is_own_lost : {B : Type 0} → ℕ → ℕ → Entry B → Bool
+is_own_lost me boot Noop = false
+is_own_lost me boot (Boot n b) = false
+is_own_lost me boot (Lost n b) = (n == me) && (b == boot)
+is_own_lost me boot (Item n b q t x) = false
+
+abbrev pub ends : {B : Type 0} → ℕ → NodeState B → Entry B → Bool
+ends me x e = is_own_lost me x.rows.boot e && takes_effect x.applied e
+
+abbrev pub go_down : {B : Type 0} → Outcome B → Outcome B
+go_down o = record o { node = down o.node.rows }
+
+-- entries are applied one by one; a Lost of its present boot leaves the node down
+abbrev pub apply_all : {B : Type 0} → ℕ → List (Entry B) → Outcome B → Outcome B
+apply_all me [] o = o
+apply_all me (e ∷ es) o = if ends me o.node e then go_down (note e o) else apply_all me es (note e o)
+
+-- the learned entries of the next slots are applied
+abbrev pub settle : {B : Type 0} → ℕ → Outcome B → Outcome B
+settle me o = apply_all me (run_from (suc (length o.node.applied)) o.node.learner.learned) o

@@ -1,0 +1,44 @@
+//! Laws over the definitions in `specs/`, each the contract of a function that does nothing.
+ghost use Rattle.std.specs.Prelude.{◌≡◌, true, false, Some, [], ◌∷◌, ◌++◌};
+ghost use Rattle.paxos_packets.specs.Sending.{to_others};
+ghost use Rattle.paxos_packets.specs.declared.entry.Entry.TheVariants.{Item};
+ghost use Rattle.paxos_node.specs.declared.event.Event.TheVariants.{Take, Tick, Start};
+ghost use Rattle.paxos_packets.specs.declared.packet.Kind.TheVariants.{Prepare, Accept, Accepted, Ask};
+ghost use Rattle.paxos_node.specs.Events.{is_round_refused};
+ghost use Rattle.paxos_node.specs.Statements.{CommitsItsChange};
+ghost use Rattle.paxos_node.specs.Examples.{after, ballot, boot_vote, change, first_node, asked, led, promised_to, waiting, takes_refused, leading_at};
+
+/// Nodes by hand, computed.
+pub fn examples()
+    // a first start asks the others for promises
+    ensures asked { asked.change ≡ change (Some (ballot 1 1)) [] }
+    ensures asked_packets { asked.packets ≡ to_others 3 1 (Prepare (ballot 1 1) 1) }
+
+    // one promise more is a majority: the leader votes for its own Boot, and proposes it
+    ensures led { led.change ≡ change (Some (ballot 1 1)) (boot_vote ∷ []) }
+    ensures led_packets { led.packets ≡ to_others 3 1 (Accept boot_vote) ++ to_others 3 1 (Accepted boot_vote) }
+
+    // a tick asks, and does nothing else
+    ensures tick_packets { (after (Tick 1) first_node).packets ≡ to_others 3 1 (Ask 1) }
+    ensures tick_node { (after (Tick 1) first_node).node ≡ first_node }
+
+    // the 1,025th pending entry is refused
+    ensures room { takes_refused (waiting 1023) ≡ false }
+    ensures full { takes_refused (waiting 1024) ≡ true }
+    ensures full_node { (after (Take 1 1 5) (waiting 1024)).node ≡ waiting 1024 }
+
+    // the last round is 2^48 - 1
+    ensures last_round { (after (Start 1) (promised_to 281474976710654 2)).change ≡ change (Some (ballot 281474976710655 1)) [] }
+    ensures rounds_spent { is_round_refused (Start 1) (promised_to 281474976710655 2) ≡ true }
+    ensures rounds_node { (after (Start 1) (promised_to 281474976710655 2)).node ≡ promised_to 281474976710655 2 }
+
+    // the last slot is 2^40 - 1; behind it an act stays pending
+    ensures last_slot { (after (Take 1 1 5) (leading_at 1099511627775)).change ≡ change (Some (ballot 1 1)) (record { slot = 1099511627775; ballot = ballot 1 1; entry = Item 1 1 1 1 5 } ∷ []) }
+    ensures slots_spent { (after (Take 1 1 5) (leading_at 1099511627776)).packets ≡ [] }
+    ensures stays_pending { (after (Take 1 1 5) (leading_at 1099511627776)).node.pending ≡ Item 1 1 1 1 5 ∷ [] }
+{}
+
+/// One commit: what a node that is up commits in an event is all that changes its rows.
+pub fn one_commit<B>()
+    ensures { CommitsItsChange B }
+{}

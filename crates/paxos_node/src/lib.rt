@@ -1,0 +1,12 @@
+//! One node of the cluster: acceptor, proposer and learner together, with the log that it applies and the entries that wait
+//! for a slot (docs/CONSENSUS.md).
+#![tactic(auto)]
+
+mod event;
+pub mod laws;
+mod outcome;
+mod state;
+
+pub use event::Event;
+pub use outcome::{Outcome, Packets};
+pub use state::NodeState;
