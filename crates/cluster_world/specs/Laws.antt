@@ -1,0 +1,65 @@
+-- The laws over every list of events (docs/CONSENSUS.md, "What holds over every list of events").
+use Rattle.std.specs.Prelude.{◌≡◌, ◌⊎◌, ℕ, suc, ◌≤◌, Bool, true, false, Some, List, ◌++◌, slice_get}
+use Rattle.paxos_packets.specs.Majority.{Has}
+use Rattle.paxos_packets.specs.declared.entry.Entry.{Entry}
+use Rattle.paxos_packets.specs.declared.packet.Kind.TheVariants.{Learned}
+use Rattle.paxos_learner.specs.declared.facts.Fact.{Fact}
+use Rattle.paxos_node.specs.declared.event.Event.{Event}
+use Rattle.paxos_node.specs.Events.{owner, possible, outcome_of}
+use Rattle.cluster_world.specs.World.{World, node_at, was_sent, played, log_of}
+use Rattle.cluster_world.specs.Chosen.{WasSent, Chosen}
+
+-- the node has learned this
+abbrev pub HasLearned : {B : Type 0} → World B → ℕ → Fact B → Type 0
+HasLearned w node f = Has (node_at w.nodes node).learner.learned f
+
+-- agreement
+
+-- what is learned is chosen
+abbrev pub LearnedIsChosen : (B : Type 0) → (B → B → Bool) → Type 0
+LearnedIsChosen B same =
+    (members : ℕ) → 3 ≤ members → (events : List (Event B)) (node : ℕ) (f : Fact B) →
+    HasLearned (played same members events) node f → Chosen members (played same members events).sent f.slot f.entry
+
+-- two chosen entries of one slot are equal
+abbrev pub ChosenIsOne : (B : Type 0) → (B → B → Bool) → Type 0
+ChosenIsOne B same =
+    (members : ℕ) → 3 ≤ members → (events : List (Event B)) (slot : ℕ) (d e : Entry B) →
+    Chosen members (played same members events).sent slot d → Chosen members (played same members events).sent slot e → d ≡ e
+
+-- what a packet tells to be learned is chosen
+abbrev pub ToldIsChosen : (B : Type 0) → (B → B → Bool) → Type 0
+ToldIsChosen B same =
+    (members : ℕ) → 3 ≤ members → (events : List (Event B)) (node slot : ℕ) (e : Entry B) →
+    WasSent (played same members events).sent node (Learned slot e) → Chosen members (played same members events).sent slot e
+
+-- no two nodes, nor one at two moments, learn different entries in one slot
+abbrev pub LearnedIsOne : (B : Type 0) → (B → B → Bool) → Type 0
+LearnedIsOne B same =
+    (members : ℕ) → 3 ≤ members → (early later : List (Event B)) (j k : ℕ) (f g : Fact B) →
+    HasLearned (played same members early) j f → HasLearned (played same members (early ++ later)) k g → f.slot ≡ g.slot → f.entry ≡ g.entry
+
+-- no event tells a node another entry of a slot that it has learned
+abbrev pub NeverDisagrees : (B : Type 0) → (B → B → Bool) → Type 0
+NeverDisagrees B same =
+    (members : ℕ) → 3 ≤ members → (events : List (Event B)) (e : Event B) →
+    was_sent same e (played same members events).sent ≡ true → possible e (node_at (played same members events).nodes (owner e)) ≡ true →
+    (outcome_of same members e (node_at (played same members events).nodes (owner e))).disagrees ≡ false
+
+-- log agreement
+
+-- each entry of a log is chosen in its slot
+abbrev pub LogIsChosen : (B : Type 0) → (B → B → Bool) → Type 0
+LogIsChosen B same =
+    (members : ℕ) → 3 ≤ members → (events : List (Event B)) (node i : ℕ) (e : Entry B) →
+    slice_get (log_of (played same members events) node) i ≡ Some e → Chosen members (played same members events).sent (suc i) e
+
+abbrev pub IsPrefixOf : {A : Type 0} → List A → List A → Type 0
+IsPrefixOf {A} xs ys = (rest : List A) × (xs ++ rest ≡ ys)
+
+-- of two logs, at any two moments, one is a prefix of the other
+abbrev pub LogsArePrefixes : (B : Type 0) → (B → B → Bool) → Type 0
+LogsArePrefixes B same =
+    (members : ℕ) → 3 ≤ members → (early later : List (Event B)) (j k : ℕ) →
+    IsPrefixOf (log_of (played same members early) j) (log_of (played same members (early ++ later)) k)
+    ⊎ IsPrefixOf (log_of (played same members (early ++ later)) k) (log_of (played same members early) j)

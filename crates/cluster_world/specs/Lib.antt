@@ -1,0 +1,7 @@
+pub mod World
+pub mod Chosen
+pub mod Laws
+pub mod Answers
+pub mod Origins
+pub mod Examples
+pub mod Steps

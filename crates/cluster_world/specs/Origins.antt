@@ -1,0 +1,52 @@
+-- Where the entries of a log come from: at most once, and as they were taken (docs/CONSENSUS.md, "What holds over every list of
+-- events").
+use Rattle.std.specs.Prelude.{◌≡◌, ℕ, suc, ◌≤◌, Bool, ◌&&◌, ◌==◌, Option, Some, None, List, ◌∷◌, ◌++◌, slice_get, if◌then◌else◌}
+use Rattle.std.specs.List.{filter_map}
+use Rattle.paxos_packets.specs.Majority.{IsMember, Has}
+use Rattle.paxos_packets.specs.declared.entry.Entry.{Entry}
+use Rattle.paxos_packets.specs.declared.entry.Entry.TheVariants.{Noop, Boot, Lost, Item}
+use Rattle.replica_machine.specs.Effects.{live_boot}
+use Rattle.paxos_node.specs.declared.event.Event.{Event}
+use Rattle.paxos_node.specs.declared.event.Event.TheVariants.{Suspect}
+use Rattle.cluster_world.specs.World.{node_at, played, log_of}
+
+-- an act that a node took: of which transport, and what
+pub record Act (B : Type 0) : Type 0 where
+  pub transport : ℕ
+  pub body : B
+
+abbrev pub act_in : {B : Type 0} → ℕ → ℕ → Entry B → Option (Act B)
+act_in n b Noop = None
+act_in n b (Boot k c) = None
+act_in n b (Lost k c) = None
+act_in n b (Item k c q t x) = if (k == n) && (c == b) then Some (record { transport = t; body = x }) else None
+
+-- the acts that a node took in a boot, in order
+abbrev pub acts_of : {B : Type 0} → ℕ → ℕ → List (Entry B) → List (Act B)
+acts_of n b made = filter_map (act_in n b) made
+
+-- each Item in a log is the act, with transport and body, that its node took under that number, from 1, in that boot
+abbrev pub ItemsWereTaken : (B : Type 0) → (B → B → Bool) → Type 0
+ItemsWereTaken B same =
+    (members : ℕ) (events : List (Event B)) (node n b q t : ℕ) (x : B) →
+    Has (log_of (played same members events) node) (Item n b q t x) →
+    (j : ℕ) × (q ≡ suc j) × (slice_get (acts_of n b (played same members events).made) j ≡ Some (record { transport = t; body = x }))
+
+-- a Boot in a log names a boot that its node, a member, had
+abbrev pub BootsWereHad : (B : Type 0) → (B → B → Bool) → Type 0
+BootsWereHad B same =
+    (members : ℕ) (events : List (Event B)) (node n b : ℕ) →
+    Has (log_of (played same members events) node) (Boot n b) →
+    IsMember members n × (1 ≤ b) × (b ≤ (node_at (played same members events).nodes n).rows.boot)
+
+-- a Lost in a log comes from a suspicion by some node, in whose log that boot was live then
+pub record Suspected {B : Type 0} (same : B → B → Bool) (members : ℕ) (events : List (Event B)) (n b : ℕ) : Type 0 where
+  pub early : List (Event B)
+  pub by : ℕ
+  pub later : List (Event B)
+  pub is : events ≡ early ++ Suspect by n ∷ later
+  pub live : live_boot n (log_of (played same members early) by) ≡ Some b
+
+abbrev pub LostsWereSuspected : (B : Type 0) → (B → B → Bool) → Type 0
+LostsWereSuspected B same =
+    (members : ℕ) (events : List (Event B)) (node n b : ℕ) → Has (log_of (played same members events) node) (Lost n b) → Suspected same members events n b

@@ -1,0 +1,88 @@
+//! Laws over every list of events, each the contract of a function that does nothing.
+ghost use Rattle.cluster_world.specs.Answers.{HandedIsSaid, HandedStays};
+ghost use Rattle.cluster_world.specs.Origins.{ItemsWereTaken, BootsWereHad, LostsWereSuspected};
+ghost use Rattle.replica_machine.specs.Statements.{ItemsAreNumbered};
+ghost use Rattle.std.specs.Prelude.{◌≡◌, true, false, [], ◌∷◌};
+ghost use Rattle.paxos_packets.specs.declared.entry.Entry.TheVariants.{Boot};
+ghost use Rattle.replica_machine.specs.Effects.{effects};
+ghost use Rattle.cluster_world.specs.Examples.{run, one_session, leader_crash, hung_before_boot, asked_in_vain, asked_again, lost_node, duel, session_log, after_crash_log, hung_log, lost_log, duel_log, crash_packets, logs, ups, sums_handed};
+ghost use Rattle.cluster_world.specs.Steps.{SentIsAmong, NodesAreMembers, OneEventMore, EventGoes, EventStays};
+ghost use Rattle.cluster_world.specs.Laws.{LearnedIsChosen, ChosenIsOne, ToldIsChosen, LearnedIsOne, NeverDisagrees, LogIsChosen, LogsArePrefixes};
+
+use paxos_packets::Body;
+
+/// How a world goes on: an event that is possible makes of its node what the node's own part of the event does, and appends its
+/// packets; another changes nothing. Only what was sent is delivered, and whatever was sent may be.
+pub fn steps<B: Body>()
+    ensures sent { SentIsAmong B B.same }
+    ensures nodes { NodesAreMembers B B.same }
+    ensures one_more { OneEventMore B B.same }
+    ensures goes { EventGoes B B.same }
+    ensures stays { EventStays B B.same }
+{}
+
+/// Agreement: what a node has learned in a slot is chosen there, two chosen entries of one slot are equal, and a packet that
+/// tells a learned entry tells a chosen one. So no two nodes, nor one at two moments, learn different entries in one slot.
+pub fn agreement<B: Body>()
+    ensures learned { LearnedIsChosen B B.same }
+    ensures one { ChosenIsOne B B.same }
+    ensures told { ToldIsChosen B B.same }
+    ensures at_any_moments { LearnedIsOne B B.same }
+{}
+
+/// Log agreement: each entry of a log is chosen in its slot, and of two logs, at any two moments, one is a prefix of the other.
+pub fn log_agreement<B: Body>()
+    ensures chosen { LogIsChosen B B.same }
+    ensures prefixes { LogsArePrefixes B B.same }
+{}
+
+/// No disagreement: no event tells a node another entry of a slot that it has learned.
+pub fn no_disagreement<B: Body>()
+    ensures { NeverDisagrees B B.same }
+{}
+
+/// Answers, for every machine: while a node is up, each transport of its present boot was handed what the machine says to it
+/// along the node's log. Once an event takes the node down that stays as it is then, with the slot of a Lost of its own boot.
+pub fn answers<B: Body, S, Y>()
+    ensures said { HandedIsSaid B B.same S Y }
+    ensures stays { HandedStays B B.same S Y }
+{}
+
+/// At most once: the items of a boot that take effect in a log are numbered 1, 2, 3 and so on; each item in a log is the act, with
+/// transport and body, that its node took under that number in that boot; a boot in a log is one that its node had, and a loss
+/// comes from a suspicion.
+pub fn at_most_once<B: Body>()
+    ensures numbered { ItemsAreNumbered B }
+    ensures taken { ItemsWereTaken B B.same }
+    ensures boots { BootsWereHad B B.same }
+    ensures losses { LostsWereSuspected B B.same }
+{}
+
+/// Runs by hand, computed: for each the logs of all nodes, and who is up.
+pub fn examples()
+    // one session through three nodes
+    ensures session { logs (run 3 one_session) 3 ≡ session_log ∷ session_log ∷ session_log ∷ [] }
+    ensures session_handed { sums_handed 2 1 1 (run 3 one_session) ≡ 10 ∷ 21 ∷ [] }
+
+    // a leader crashes after one other has voted; another one leads, and proposes what it hears of
+    ensures crash { logs (run 3 leader_crash) 3 ≡ [] ∷ after_crash_log ∷ after_crash_log ∷ [] }
+    ensures crash_up { ups (run 3 leader_crash) 3 ≡ false ∷ true ∷ true ∷ [] }
+    ensures crash_packets { (run 3 leader_crash).sent ≡ crash_packets }
+
+    // the second act of a node is reported without the first: a gap is filled, and the act is skipped
+    ensures hung { logs (run 3 hung_before_boot) 3 ≡ [] ∷ hung_log ∷ hung_log ∷ [] }
+    ensures hung_effects { effects hung_log ≡ true ∷ false ∷ false ∷ true ∷ [] }
+
+    // two of four are no majority, three are
+    ensures in_vain { logs (run 4 asked_in_vain) 4 ≡ [] ∷ [] ∷ [] ∷ [] ∷ [] }
+    ensures again { logs (run 4 asked_again) 4 ≡ (Boot 1 1 ∷ []) ∷ [] ∷ [] ∷ [] ∷ [] }
+
+    // a node is taken to be lost, goes down at that slot, and comes back in another boot
+    ensures lost { logs (run 3 lost_node) 3 ≡ lost_log ∷ lost_log ∷ lost_log ∷ [] }
+    ensures lost_up { ups (run 3 lost_node) 3 ≡ true ∷ true ∷ true ∷ [] }
+    ensures lost_handed { sums_handed 3 1 1 (run 3 lost_node) ≡ 10 ∷ 21 ∷ 33 ∷ [] }
+    ensures back_handed { sums_handed 2 1 1 (run 3 lost_node) ≡ 53 ∷ 74 ∷ 96 ∷ [] }
+
+    // two nodes want to lead
+    ensures duel { logs (run 3 duel) 3 ≡ duel_log ∷ duel_log ∷ duel_log ∷ [] }
+{}

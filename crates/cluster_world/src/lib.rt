@@ -1,0 +1,7 @@
+//! All nodes of a cluster and all packets that they ever sent, and the laws that hold over every list of events (Lamport, Paxos
+//! Made Simple, 2001, section 2; docs/CONSENSUS.md).
+#![tactic(auto)]
+
+pub mod laws;
+
+pub use paxos_packets::Body;
