@@ -1,0 +1,10 @@
+use Rattle.std.proofs.Common.{◌≡◌, ◌++◌, drop}
+use Rattle.std.specs.List.{flat_map}
+use Rattle.realm_machine.specs.Realm.{events, events_of}
+use Rattle.realm_machine.proofs.content.Content.add_events.Given as goal
+
+-- what is said and the events of the subscriptions that are left is all of it
+abbrev pub invariant-loop-subscription : goal.invariant-loop-subscription
+invariant-loop-subscription l =
+    l.said.items ++ flat_map (events_of l.self.links l.topic l.publication l.args l.except) (drop l.subscription-index l.subscription-items)
+    ≡ l.initial.said.items ++ events l.self l.topic l.publication l.args l.except

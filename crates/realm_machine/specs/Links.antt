@@ -1,0 +1,68 @@
+-- Connected transports in the order in which they came, and their sessions (WAMP specification, "Sessions").
+use Rattle.std.specs.Prelude.{ℕ, zero, suc, ◌==◌, Bool, true, false, not, ◌&&◌, List, [], ◌∷◌, ◌++◌, length, map, filter, find, Option, None, Some, option_map, option_and_then, if◌then◌else◌}
+use Rattle.std.specs.List.{list_any}
+use Rattle.wamp_ids.specs.Ids.{id_after}
+use Rattle.paxos_packets.specs.declared.transport.Transport.{Transport}
+use Rattle.realm_machine.specs.declared.links.Session.{Session}
+use Rattle.realm_machine.specs.declared.links.Link.{Link}
+
+abbrev pub same_transport : Transport → Transport → Bool
+same_transport a b = (a.node == b.node) && ((a.boot == b.boot) && (a.number == b.number))
+
+-- the link of this transport
+abbrev pub is_of : Transport → Link → Bool
+is_of t link = same_transport link.transport t
+
+abbrev pub is_session : ℕ → Option Session → Bool
+is_session id None = false
+is_session id (Some session) = session.id == id
+
+-- the link of this session
+abbrev pub has_id : ℕ → Link → Bool
+has_id id link = is_session id link.session
+
+abbrev pub is_open : Option Session → Bool
+is_open None = false
+is_open (Some session) = true
+
+abbrev pub has_session : Link → Bool
+has_session link = is_open link.session
+
+abbrev pub is_connected : List Link → Transport → Bool
+is_connected links t = list_any (is_of t) links
+
+-- the transport's session, if it has one
+abbrev pub session_of : List Link → Transport → Option Session
+session_of links t = option_and_then (λ (link : Link). link.session) (find (is_of t) links)
+
+-- where a session's transport is
+abbrev pub transport_of : List Link → ℕ → Option Transport
+transport_of links id = option_map (λ (link : Link). link.transport) (find (has_id id) links)
+
+abbrev pub is_taken : List Link → ℕ → Bool
+is_taken links id = list_any (has_id id) links
+
+-- the first id from this one on that is not used, among so many; ids go round
+abbrev pub free_from : ℕ → (ℕ → Bool) → ℕ → Option ℕ
+free_from zero is_used id = None
+free_from (suc turns) is_used id = if is_used id then free_from turns is_used (id_after id) else Some id
+
+-- a session's id: the draw, or the next free one upwards
+abbrev pub new_session_id : List Link → ℕ → Option ℕ
+new_session_id links draw = free_from (suc (length links)) (is_taken links) draw
+
+abbrev pub session_count : List Link → ℕ
+session_count links = length (filter has_session links)
+
+abbrev pub connect : List Link → Transport → List Link
+connect links t = if is_connected links t then links else links ++ record { transport = t; session = None } ∷ []
+
+abbrev pub put_session : Transport → Option Session → Link → Link
+put_session t session link = if is_of t link then record { transport = link.transport; session = session } else link
+
+-- the transport has this session now, or none
+abbrev pub set_session : List Link → Transport → Option Session → List Link
+set_session links t session = map (put_session t session) links
+
+abbrev pub remove : List Link → Transport → List Link
+remove links t = filter (λ link. not (is_of t link)) links

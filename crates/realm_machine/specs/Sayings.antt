@@ -1,0 +1,51 @@
+-- What transports are told.
+use Rattle.std.specs.Prelude.{ℕ, List, [], ◌∷◌, Option, None, Some, codes}
+use Rattle.paxos_packets.specs.declared.transport.Transport.{Transport}
+use Rattle.wamp_values.specs.declared.args.Args.TheVariants.{Nothing}
+use Rattle.wamp_messages.specs.declared.message.RequestKind.{RequestKind}
+use Rattle.wamp_messages.specs.declared.message.Message.{Message}
+use Rattle.wamp_messages.specs.declared.message.Message.TheVariants.{Abort, Error}
+use Rattle.realm_machine.specs.declared.act.Out.TheVariants.{Send, Close}
+use Rattle.realm_machine.specs.declared.act.Say.{Say}
+use Rattle.realm_machine.specs.declared.links.Link.{Link}
+use Rattle.realm_machine.specs.Links.{transport_of}
+
+abbrev pub say : Transport → Message → Say
+say t message = record { transport = t; out = Send message }
+
+abbrev pub shut : Transport → Say
+shut t = record { transport = t; out = Close }
+
+-- to the transport of this session, if there is one
+abbrev pub to_session : List Link → ℕ → Message → List Say
+to_session links session message = say_to (transport_of links session)
+  where
+    say_to : Option Transport → List Say
+    say_to None = []
+    say_to (Some t) = say t message ∷ []
+
+-- the URIs of errors (WAMP specification, "Predefined URIs"; the limit's is this profile's)
+abbrev pub invalid_uri : List ℕ
+invalid_uri = codes "wamp.error.invalid_uri"
+
+abbrev pub invalid_argument : List ℕ
+invalid_argument = codes "wamp.error.invalid_argument"
+
+abbrev pub limit : List ℕ
+limit = codes "cluster.error.limit"
+
+abbrev pub no_such_realm : List ℕ
+no_such_realm = codes "wamp.error.no_such_realm"
+
+abbrev pub protocol_violation : List ℕ
+protocol_violation = codes "wamp.error.protocol_violation"
+
+abbrev pub goodbye_and_out : List ℕ
+goodbye_and_out = codes "wamp.close.goodbye_and_out"
+
+-- a request is refused
+abbrev pub refusal : RequestKind → ℕ → List ℕ → Message
+refusal kind request error = Error kind request error Nothing
+
+abbrev pub abort : List ℕ → Message
+abort reason = Abort reason Nothing

@@ -1,0 +1,78 @@
+ghost use Rattle.std.specs.Prelude.{◌≡◌, ◌∷◌, ◌++◌, [], IfOk, OnOk};
+ghost use Rattle.realm_machine.specs.Sayings.{say, shut, to_session, refusal, abort};
+
+use crate::act::{Out, Say};
+use paxos_packets::Transport;
+use std::alloc::{AllocError, Global};
+use wamp_ids::{Id, Text};
+use wamp_messages::{Message, RequestKind};
+use wamp_values::Args;
+
+// The URIs of errors (WAMP specification, "Predefined URIs"; the limit's is this profile's).
+pub const INVALID_URI: &str = "wamp.error.invalid_uri";
+
+pub const INVALID_ARGUMENT: &str = "wamp.error.invalid_argument";
+
+pub const LIMIT: &str = "cluster.error.limit";
+
+pub const NO_SUCH_REALM: &str = "wamp.error.no_such_realm";
+
+pub const PROTOCOL_VIOLATION: &str = "wamp.error.protocol_violation";
+
+pub const GOODBYE_AND_OUT: &str = "wamp.close.goodbye_and_out";
+
+impl Say {
+    /// The transport is sent the message.
+    pub fn send(transport: Transport, message: Message) -> Say
+        ensures { result ≡ say transport message }
+    {
+        Say {
+            transport,
+            out: Out::Send(message),
+        }
+    }
+
+    /// The transport is closed.
+    pub fn close(transport: Transport) -> Say
+        ensures { result ≡ shut transport }
+    {
+        Say {
+            transport,
+            out: Out::Close,
+        }
+    }
+}
+
+/// The transport is sent the message, and no more is said.
+pub fn answer(alloc: Global, transport: Transport, message: Message) -> Result<Vec<Say>, AllocError>
+    ensures { IfOk result (λ said. said.items ≡ say transport message ∷ []) }
+{
+    Ok(vec![in alloc; Say::send(transport, message)]?)
+}
+
+/// The ERROR that refuses a request.
+pub fn refusal(
+    alloc: Global,
+    kind: RequestKind,
+    request: Id,
+    error: &str,
+) -> Result<Message, AllocError>
+    ensures { IfOk result (λ message. message ≡ refusal kind request error.now) }
+{
+    Ok(Message::Error {
+        kind,
+        request,
+        error: Text::read(alloc, error)?,
+        args: Args::Nothing,
+    })
+}
+
+/// The ABORT for this reason.
+pub fn abort(alloc: Global, reason: &str) -> Result<Message, AllocError>
+    ensures { IfOk result (λ message. message ≡ abort reason.now) }
+{
+    Ok(Message::Abort {
+        reason: Text::read(alloc, reason)?,
+        args: Args::Nothing,
+    })
+}

@@ -1,0 +1,41 @@
+ghost use Rattle.std.specs.Prelude.{◌≡◌, bytes_eq};
+
+use std::marker::Model;
+use wamp_ids::Text;
+
+/// How much a realm holds at the most.
+#[derive(Clone, Copy, Debug, PartialEq, Eq)]
+pub struct Limits {
+    /// Sessions of the realm.
+    pub sessions: u32,
+    /// Registrations of one session.
+    pub registrations: u32,
+    /// Subscriptions of one session.
+    pub subscriptions: u32,
+    /// Open calls of one session.
+    pub calls: u32,
+}
+
+/// What a realm is set up with.
+#[derive(Drop)]
+pub struct Setup {
+    pub name: Text,
+    pub limits: Limits,
+}
+
+impl Model for Setup {
+    ghost use Rattle.realm_machine.specs.Setup.{Setup};
+
+    ghost Value = { Setup };
+
+    ghost view = { λ a. record { name = a.name; limits = a.limits } };
+}
+
+impl Setup {
+    /// Whether the realm has this name.
+    pub fn is_named(&self, name: &Text) -> bool
+        ensures { result ≡ bytes_eq name.now self.now.name }
+    {
+        name.as_str() == self.name.as_str()
+    }
+}
