@@ -1,0 +1,5 @@
+pub mod Putting
+pub mod Telling
+pub mod Answering
+pub mod Running
+pub mod Turning

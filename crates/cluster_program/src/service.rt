@@ -1,0 +1,124 @@
+ghost use Rattle.std.specs.Prelude.{◌≡◌, ◌<◌, ◌^◌, ◌++◌, ℕ, List, [], IfOk, OnOk, IfErr, option_map};
+ghost use Rattle.wamp_ids.specs.Ids.{id_after};
+ghost use Rattle.wamp_messages.specs.Reading.{read_of};
+ghost use Rattle.cluster_program.specs.Stream.{Run};
+ghost use Rattle.cluster_program.specs.Replies.{Puts, Answers};
+ghost use Rattle.cluster_program.specs.Serving.{IsFirst, Takes, due, due_at, due_at_end, content_after, held_len};
+
+use crate::fault::{FRAME, RunFault};
+use crate::progress::Progress;
+use crate::replies::{CLIENT, Replies};
+use realm_machine::{Act, Limits, Realm};
+use std::alloc::Global;
+use wamp_ids::Id;
+use wamp_messages::read;
+use wamp_rawsocket::{Frame, FrameFault, FrameKind, Splitter};
+
+/// How much the realm holds at the most.
+const LIMITS: Limits = Limits {
+    sessions: 4096,
+    registrations: 1024,
+    subscriptions: 1024,
+    calls: 1024,
+};
+
+/// What serves one client: the realm, the frames that the client sends, and the replies to it.
+#[derive(Drop)]
+pub(crate) struct Service {
+    alloc: Global,
+    realm: Realm,
+    splitter: Splitter,
+    draw: Id,
+    pub replies: Replies,
+}
+
+impl Service {
+    /// What serves a client that takes payloads of up to `limit` octets, with a new realm of this name.
+    pub fn new(alloc: Global, realm: &str, limit: u32) -> Result<Service, RunFault>
+        requires { limit < 2 ^ 24 }
+        ensures first { IfOk result (IsFirst realm.now limit) }
+        ensures memory { IfErr result (λ fault. fault ≡ RunFault.Memory) }
+    {
+        let name = String::from_str(alloc, realm)?;
+        let draw = Id::new(1).unwrap();
+        Ok(Service {
+            alloc,
+            realm: Realm::new(alloc, name, LIMITS),
+            splitter: Splitter::new(alloc),
+            draw,
+            replies: Replies::new(alloc, limit),
+        })
+    }
+
+    /// Takes the client's next octets; only memory can refuse them.
+    pub fn feed(&mut self, octets: &[u8]) -> Result<(), RunFault>
+        ensures ok { OnOk result (self.new ≡ record self.old {
+          splitter = option_map (λ held. held ++ octets.now) self.old.splitter;
+        }) }
+        ensures err { IfErr result (λ fault. fault ≡ RunFault.Memory) }
+    {
+        match self.splitter.feed(octets) {
+            Ok(()) => Ok(()),
+            Err(_) => Err(RunFault::Memory),
+        }
+    }
+
+    /// Does what happens at the client's transport to the realm, and puts what the client is told behind the replies.
+    pub fn act(&mut self, act: &Act) -> Result<Progress, RunFault>
+        ensures puts { (after : Run) → Puts result (due_at self.old act.now after) after
+            self.old.replies.octets self.new.replies.octets }
+        ensures content { OnOk result (self.new.realm.content ≡ content_after self.old act.now) }
+        ensures setup { self.new.realm.setup ≡ self.old.realm.setup }
+        ensures limit { self.new.replies.limit ≡ self.old.replies.limit }
+        ensures draw { self.new.draw ≡ self.old.draw }
+        ensures held { self.new.splitter ≡ self.old.splitter }
+    {
+        let says = self.realm.act(CLIENT, act)?;
+        self.replies.tell(says.as_slice())
+    }
+
+    /// Answers the next frame, if a whole one is there.
+    pub fn answer_next(&mut self) -> Result<Progress, RunFault>
+        ensures answers { (more : List ℕ) → Answers result (due self.old more) (due self.new more)
+            self.old.replies.octets self.new.replies.octets }
+        ensures waits { result ≡ Ok Progress.Waiting → due self.new [] ≡ due_at_end self.new }
+        ensures shrinks { result ≡ Ok Progress.Onward → held_len self.new.splitter < held_len self.old.splitter }
+    {
+        let Some(frame) = next_frame(&mut self.splitter)? else {
+            return Ok(Progress::Waiting);
+        };
+        match frame.kind {
+            FrameKind::Message => self.answer_message(frame.payload.as_slice()),
+            FrameKind::Ping => self.replies.put(FrameKind::Pong, frame.payload.as_slice()),
+            FrameKind::Pong => Ok(Progress::Onward),
+        }
+    }
+
+    /// Answers a message, with this draw; the next one has the next.
+    fn answer_message(&mut self, payload: &[u8]) -> Result<Progress, RunFault>
+        ensures puts { (after : Run) → Puts result (due_at self.old (Act.Said self.old.draw (read_of payload.now)) after) after
+            self.old.replies.octets self.new.replies.octets }
+        ensures content { OnOk result (self.new.realm.content
+            ≡ content_after self.old (Act.Said self.old.draw (read_of payload.now))) }
+        ensures setup { self.new.realm.setup ≡ self.old.realm.setup }
+        ensures limit { self.new.replies.limit ≡ self.old.replies.limit }
+        ensures draw { OnOk result (self.new.draw ≡ id_after self.old.draw) }
+        ensures held { self.new.splitter ≡ self.old.splitter }
+    {
+        let read = read(self.alloc, payload)?;
+        let draw = self.draw;
+        self.draw = draw.next();
+        self.act(&Act::Said { draw, read })
+    }
+}
+
+/// The next whole frame, if one is there.
+fn next_frame(splitter: &mut Splitter) -> Result<Option<Frame>, RunFault>
+    ensures { Takes result splitter.old splitter.new }
+{
+    match splitter.next() {
+        Ok(next) => Ok(next),
+        Err(FrameFault::Memory) => Err(RunFault::Memory),
+        Err(_) => Err(RunFault::Transport(FRAME)),
+    }
+}
