@@ -1,18 +1,17 @@
 -- What a service owes once a frame was taken.
-use Rattle.std.proofs.Common.{◌≡◌, ℕ, ◌<◌, ◌≤◌, List, [], ◌∷◌, ◌++◌, length, Option, None, Some, unwrap_or, Result, Ok, Err, refl, sym, ◌∙◌, ap, subst, arith, append-nil, OnOk}
-use Rattle.std.proofs.lemmas.List.{length-drop}
+use Rattle.std.proofs.Common.{◌≡◌, ℕ, ◌<◌, List, [], ◌∷◌, ◌++◌, Option, None, Some, unwrap_or, Result, Ok, Err, refl, sym, ◌∙◌, ap, append-nil, OnOk}
 use Rattle.wamp_ids.specs.Ids.{id_after}
 use Rattle.wamp_messages.specs.Reading.{read_of}
 use Rattle.wamp_rawsocket.specs.declared.fault.FrameFault.{FrameFault}
 use Rattle.wamp_rawsocket.specs.declared.frame.Frame.{Frame}
 use Rattle.wamp_rawsocket.specs.declared.frame.FrameKind.{FrameKind}
 use Rattle.wamp_rawsocket.specs.declared.frame.FrameKind.TheVariants as kind
-use Rattle.wamp_rawsocket.specs.Frames.{header_of, length_of}
-use Rattle.wamp_rawsocket.specs.Splitting.{partial, whole, faulty, IsWhole, behind as cut_behind, front_of, frames_of}
-use Rattle.wamp_rawsocket.proofs.Streams.{frames_at_whole, frames_at_fault, frames_at_end}
+use Rattle.wamp_rawsocket.specs.Splitting.{whole, faulty, front_of, frames_of}
+use Rattle.wamp_rawsocket.proofs.Streams.{whole_leaves_less, frames_at_whole, frames_at_fault, frames_at_end}
 use Rattle.realm_machine.specs.Setup.{Setup}
 use Rattle.realm_machine.specs.declared.act.Act.TheVariants.{Said, Hung}
-use Rattle.realm_machine.specs.Realm.{Content, empty, next, says}
+use Rattle.realm_machine.specs.Content.{Content, empty}
+use Rattle.realm_machine.specs.Said.{next, says}
 use Rattle.cluster_program.specs.declared.fault.RunFault.{RunFault}
 use Rattle.cluster_program.specs.declared.fault.RunFault.TheVariants.{Line, Store, Memory, Transport}
 use Rattle.cluster_program.specs.declared.progress.Progress.{Progress}
@@ -119,20 +118,6 @@ no_frame_stays (Some held) new t = sym t.1
 
 -- ---- what is held grows shorter
 
-cut_behind-shorter : (header : Result FrameKind FrameFault) (len : ℕ) (held payload rest : List ℕ) (kind : FrameKind) → cut_behind header len held ≡ whole kind payload rest → length rest ≤ length held
-cut_behind-shorter (Err fault) len held payload rest kind e = absurd (subst IsWhole (sym e) tt)
-cut_behind-shorter (Ok told) len held payload rest kind e = grind (arith, length-drop)
-
-front_whole-shorter : (octets payload rest : List ℕ) (kind : FrameKind) → front_of octets ≡ whole kind payload rest → length rest < length octets
-front_whole-shorter (octet ∷ high ∷ middle ∷ low ∷ held) payload rest kind e =
-    let len : ℕ = length_of high middle low in
-    let shorter : length rest ≤ length held = cut_behind-shorter (header_of octet len) len held payload rest kind e in
-    omega arith
-front_whole-shorter (octet ∷ high ∷ middle ∷ []) payload rest kind e = absurd (subst IsWhole (sym e) tt)
-front_whole-shorter (octet ∷ high ∷ []) payload rest kind e = absurd (subst IsWhole (sym e) tt)
-front_whole-shorter (octet ∷ []) payload rest kind e = absurd (subst IsWhole (sym e) tt)
-front_whole-shorter [] payload rest kind e = absurd (subst IsWhole (sym e) tt)
-
 pub frame_shrinks : (frame : Frame) (held new : Option (List ℕ)) → Takes (Ok (Some frame)) held new → held_len new < held_len held
 frame_shrinks frame None new t = absurd (never_fault (Ok (Some frame)) (Some frame) (Transport 82) refl t)
-frame_shrinks frame (Some held) new t = rw t.2 (front_whole-shorter held frame.payload t.0 frame.kind t.1)
+frame_shrinks frame (Some held) new t = rw t.2 (whole_leaves_less held frame.payload t.0 frame.kind t.1)

@@ -5,7 +5,8 @@ use Rattle.wamp_rawsocket.specs.Splitting.{frames_of}
 use Rattle.wamp_rawsocket.proofs.Streams.{frames_at_end}
 use Rattle.realm_machine.specs.Setup.{Setup}
 use Rattle.realm_machine.specs.declared.act.Act.TheVariants.{Connect, Hung}
-use Rattle.realm_machine.specs.Realm.{Content, empty, next, says}
+use Rattle.realm_machine.specs.Content.{Content, empty}
+use Rattle.realm_machine.specs.Said.{next, says}
 use Rattle.cluster_program.specs.declared.fault.RunFault.{RunFault}
 use Rattle.cluster_program.specs.declared.fault.RunFault.TheVariants.{Memory, Transport}
 use Rattle.cluster_program.specs.declared.progress.Progress.{Progress}

@@ -7,7 +7,8 @@ use Rattle.wamp_rawsocket.specs.Splitting.{partial, whole, faulty, front_of, fra
 use Rattle.realm_machine.specs.declared.act.Act.{Act}
 use Rattle.realm_machine.specs.declared.act.Act.TheVariants.{Hung}
 use Rattle.realm_machine.specs.Setup.{Setup}
-use Rattle.realm_machine.specs.Realm.{Content, empty, next, says}
+use Rattle.realm_machine.specs.Content.{Content, empty}
+use Rattle.realm_machine.specs.Said.{next, says}
 use Rattle.cluster_program.specs.declared.fault.RunFault.{RunFault}
 use Rattle.cluster_program.specs.declared.fault.RunFault.TheVariants.{Line, Store, Memory, Transport}
 use Rattle.cluster_program.specs.declared.progress.Progress.{Progress}

@@ -19,7 +19,8 @@ use Rattle.realm_machine.specs.declared.act.Out.TheVariants.{Send, Close}
 use Rattle.realm_machine.specs.declared.act.Say.{Say}
 use Rattle.realm_machine.specs.Links.{same_transport}
 use Rattle.realm_machine.specs.Setup.{Setup}
-use Rattle.realm_machine.specs.Realm.{Content, empty, next, says}
+use Rattle.realm_machine.specs.Content.{Content, empty}
+use Rattle.realm_machine.specs.Said.{next, says}
 
 -- the client's transport
 abbrev pub client : Transport

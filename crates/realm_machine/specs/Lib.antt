@@ -2,4 +2,8 @@ pub mod Links
 pub mod Topics
 pub mod Sayings
 pub mod Setup
+pub mod Content
+pub mod Joining
+pub mod Publishing
+pub mod Said
 pub mod Realm

@@ -1,5 +1,5 @@
 ghost use Rattle.std.specs.Prelude.{◌≡◌, IfOk, OnOk};
-ghost use Rattle.realm_machine.specs.Realm.{empty, leave, gone, stop, violation, aborted, goodbye};
+ghost use Rattle.realm_machine.specs.Content.{empty, leave, gone, stop, violation, aborted, goodbye};
 
 use crate::act::Say;
 use crate::links::Links;
@@ -21,7 +21,7 @@ pub struct Content {
 }
 
 impl Model for Content {
-    ghost use Rattle.realm_machine.specs.Realm.{Content};
+    ghost use Rattle.realm_machine.specs.Content.{Content};
 
     ghost Value = { Content };
 

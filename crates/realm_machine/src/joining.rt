@@ -1,6 +1,6 @@
 // How a client joins the realm.
 ghost use Rattle.std.specs.Prelude.{◌≡◌, IfOk, OnOk};
-ghost use Rattle.realm_machine.specs.Realm.{hello, welcome};
+ghost use Rattle.realm_machine.specs.Joining.{hello, welcome};
 
 use crate::act::Say;
 use crate::content::Content;

@@ -2,7 +2,7 @@
 ghost use Rattle.std.specs.Prelude.{◌≡◌, ◌++◌, ◌∷◌, [], ◌&&◌, not, IfOk, OnOk};
 ghost use Rattle.std.specs.List.{flat_map};
 ghost use Rattle.wamp_ids.specs.Uris.{is_reserved};
-ghost use Rattle.realm_machine.specs.Realm.{is_uri as is_uri_of, is_receiver as is_receiver_of, subscribe, subscribe_exact, publish, events, event_to};
+ghost use Rattle.realm_machine.specs.Publishing.{is_uri as is_uri_of, is_receiver as is_receiver_of, subscribe, subscribe_exact, publish, events, event_to};
 ghost use Rattle.realm_machine.specs.Sayings.{say, refusal};
 
 use crate::act::Say;

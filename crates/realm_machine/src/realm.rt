@@ -1,5 +1,6 @@
 ghost use Rattle.std.specs.Prelude.{◌≡◌, Some, string_bytes};
-ghost use Rattle.realm_machine.specs.Realm.{Acts, empty};
+ghost use Rattle.realm_machine.specs.Content.{empty};
+ghost use Rattle.realm_machine.specs.Realm.{Acts};
 
 use crate::act::{Act, Say};
 use crate::content::Content;

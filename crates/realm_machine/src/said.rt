@@ -1,6 +1,6 @@
 // What an act does, by what the client says.
 ghost use Rattle.std.specs.Prelude.{◌≡◌, IfOk, OnOk};
-ghost use Rattle.realm_machine.specs.Realm.{refused, unfit_said, failed, asked, told, said, next, says};
+ghost use Rattle.realm_machine.specs.Said.{refused, unfit_said, failed, asked, told, said, next, says};
 
 use crate::act::{Act, Say};
 use crate::asker::Asker;

@@ -6,28 +6,27 @@ use Rattle.wamp_rawsocket.specs.declared.fault.FrameFault.{FrameFault}
 use Rattle.wamp_rawsocket.specs.declared.frame.FrameKind.{FrameKind}
 use Rattle.wamp_rawsocket.specs.Frames.{header_of, length_of, frame_octets}
 use Rattle.wamp_rawsocket.specs.Splitting.{Front, partial, whole, faulty, IsWhole, front_of, behind, Frames, frame, cut_at, cut_within, frames_of, octets_of, end_of}
-use Rattle.wamp_rawsocket.specs.Laws.{FramesAtWhole, FramesAtFault, FramesAtEnd, FramesReadBack, StreamIsItsFrames}
+use Rattle.wamp_rawsocket.specs.Laws.{WholeLeavesLess, FramesAtWhole, FramesAtFault, FramesAtEnd, FramesReadBack, StreamIsItsFrames}
 use Rattle.wamp_rawsocket.proofs.Fronts.{partial-not_whole, front_whole_more, front_fault_more, front_read_back, front_whole_octets}
 
 behind_whole-shorter : (header : Result FrameKind FrameFault) (len : ℕ) (held payload rest : List ℕ) (kind : FrameKind) → behind header len held ≡ whole kind payload rest → length rest ≤ length held
 behind_whole-shorter (Err fault) len held payload rest kind e = absurd (subst IsWhole (sym e) tt)
 behind_whole-shorter (Ok told) len held payload rest kind e = grind (arith, length-drop)
 
--- what follows a frame is shorter than the stream that begins with it
-front_whole-shorter : (octets payload rest : List ℕ) (kind : FrameKind) → front_of octets ≡ whole kind payload rest → length rest < length octets
-front_whole-shorter (octet ∷ high ∷ middle ∷ low ∷ held) payload rest kind e =
+pub whole_leaves_less : WholeLeavesLess
+whole_leaves_less (octet ∷ high ∷ middle ∷ low ∷ held) payload rest kind e =
     let len : ℕ = length_of high middle low in
     let shorter : length rest ≤ length held = behind_whole-shorter (header_of octet len) len held payload rest kind e in
     omega arith
-front_whole-shorter (octet ∷ high ∷ middle ∷ []) payload rest kind e = absurd (partial-not_whole kind payload rest e)
-front_whole-shorter (octet ∷ high ∷ []) payload rest kind e = absurd (partial-not_whole kind payload rest e)
-front_whole-shorter (octet ∷ []) payload rest kind e = absurd (partial-not_whole kind payload rest e)
-front_whole-shorter [] payload rest kind e = absurd (partial-not_whole kind payload rest e)
+whole_leaves_less (octet ∷ high ∷ middle ∷ []) payload rest kind e = absurd (partial-not_whole kind payload rest e)
+whole_leaves_less (octet ∷ high ∷ []) payload rest kind e = absurd (partial-not_whole kind payload rest e)
+whole_leaves_less (octet ∷ []) payload rest kind e = absurd (partial-not_whole kind payload rest e)
+whole_leaves_less [] payload rest kind e = absurd (partial-not_whole kind payload rest e)
 
 -- two ways to cut that agree on what is shorter than the stream cut it alike
 cut_at-agree : (octets : List ℕ) (front : Front) → front_of octets ≡ front → (f g : List ℕ → Frames) → ((rest : List ℕ) → length rest < length octets → f rest ≡ g rest) → cut_at front f ≡ cut_at front g
 cut_at-agree octets partial e f g alike = refl
-cut_at-agree octets (whole kind payload rest) e f g alike = ap (frame kind payload) (alike rest (front_whole-shorter octets payload rest kind e))
+cut_at-agree octets (whole kind payload rest) e f g alike = ap (frame kind payload) (alike rest (whole_leaves_less octets payload rest kind e))
 cut_at-agree octets (faulty fault) e f g alike = refl
 
 -- room for more frames than there are octets changes nothing
@@ -81,7 +80,7 @@ cut_at-is_cut octets (whole kind payload rest) e cut bytes others =
     let first : octets ≡ frame_octets kind payload ++ rest = (front_whole_octets octets payload rest kind bytes e).0 in
     let rest_bytes : All (λ octet. octet < 2 ^ 8) rest =
     All-behind (λ octet. octet < 2 ^ 8) (frame_octets kind payload) rest (All-same (λ octet. octet < 2 ^ 8) (frame_octets kind payload ++ rest) octets (sym first) bytes) in
-    let behind_it : IsCut rest (cut rest) = others rest (front_whole-shorter octets payload rest kind e) rest_bytes in
+    let behind_it : IsCut rest (cut rest) = others rest (whole_leaves_less octets payload rest kind e) rest_bytes in
     (behind_it.0, first ∙ ap (λ r. frame_octets kind payload ++ r) behind_it.1 ∙ sym (append_assoc (frame_octets kind payload) (octets_of (cut rest)) behind_it.0), behind_it.2)
 
 cut_within-is_cut : (n : ℕ) (octets : List ℕ) → length octets ≤ n → All (λ octet. octet < 2 ^ 8) octets → IsCut octets (cut_within n octets)

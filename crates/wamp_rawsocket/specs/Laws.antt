@@ -25,6 +25,11 @@ abbrev pub WholeStays : Type 0
 WholeStays =
     (octets payload rest more : List ℕ) (kind : FrameKind) → front_of octets ≡ whole kind payload rest → front_of (octets ++ more) ≡ whole kind payload (rest ++ more)
 
+-- what stands behind a whole frame is shorter than the stream that begins with it
+abbrev pub WholeLeavesLess : Type 0
+WholeLeavesLess =
+    (octets payload rest : List ℕ) (kind : FrameKind) → front_of octets ≡ whole kind payload rest → length rest < length octets
+
 -- a fault stays at the front when more octets come
 abbrev pub FaultStays : Type 0
 FaultStays =

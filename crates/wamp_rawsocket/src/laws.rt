@@ -1,5 +1,5 @@
 //! Laws of the framing, each the contract of a function that does nothing.
-ghost use Rattle.wamp_rawsocket.specs.Laws.{TermsTellTheLimit, WholeIsItsOctets, FrameIsReadBack, WholeStays, FaultStays, FramesAtWhole, FramesAtFault, FramesAtEnd, FramesReadBack, StreamIsItsFrames};
+ghost use Rattle.wamp_rawsocket.specs.Laws.{TermsTellTheLimit, WholeIsItsOctets, FrameIsReadBack, WholeStays, WholeLeavesLess, FaultStays, FramesAtWhole, FramesAtFault, FramesAtEnd, FramesReadBack, StreamIsItsFrames};
 
 /// The octets that take a client on tell it the limit that the splitter keeps.
 pub fn terms_tell_the_limit()
@@ -22,6 +22,12 @@ pub fn frame_is_read_back()
 #[tactic(auto, using(crate::proofs::Fronts::front_whole_more))]
 pub fn whole_stays()
     ensures { WholeStays }
+{}
+
+/// What stands behind a whole frame is shorter than the stream that begins with it, so taking frames comes to an end.
+#[tactic(auto, using(crate::proofs::Streams::whole_leaves_less))]
+pub fn whole_leaves_less()
+    ensures { WholeLeavesLess }
 {}
 
 /// A fault at the front of a stream stays there when more octets come.

@@ -1,6 +1,6 @@
 use Rattle.std.proofs.Common.{◌≡◌, ◌++◌, drop}
 use Rattle.std.specs.List.{flat_map}
-use Rattle.realm_machine.specs.Realm.{event_to}
+use Rattle.realm_machine.specs.Publishing.{event_to}
 use Rattle.realm_machine.proofs.publishing.add_events_of.Given as goal
 
 -- what is said and what the members that are left are sent is all of it

@@ -1,6 +1,6 @@
 use Rattle.std.proofs.Common.{◌≡◌, ◌++◌, drop}
 use Rattle.std.specs.List.{flat_map}
-use Rattle.realm_machine.specs.Realm.{events, events_of}
+use Rattle.realm_machine.specs.Publishing.{events, events_of}
 use Rattle.realm_machine.proofs.content.Content.add_events.Given as goal
 
 -- what is said and the events of the subscriptions that are left is all of it
