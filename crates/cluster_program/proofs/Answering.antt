@@ -1,12 +1,12 @@
 -- What a service owes once a frame was taken.
-use Rattle.std.proofs.Common.{◌≡◌, ℕ, ◌<◌, List, [], ◌∷◌, ◌++◌, Option, None, Some, unwrap_or, Result, Ok, Err, refl, sym, ◌∙◌, ap, append-nil, OnOk}
+use Rattle.std.proofs.Common.{◌≡◌, ℕ, ◌<◌, List, [], Option, None, Some, unwrap_or, Result, Ok, Err, refl, sym, ◌∙◌, ap, append-nil, OnOk}
 use Rattle.wamp_ids.specs.Ids.{id_after}
 use Rattle.wamp_messages.specs.Reading.{read_of}
 use Rattle.wamp_rawsocket.specs.declared.fault.FrameFault.{FrameFault}
 use Rattle.wamp_rawsocket.specs.declared.frame.Frame.{Frame}
 use Rattle.wamp_rawsocket.specs.declared.frame.FrameKind.{FrameKind}
 use Rattle.wamp_rawsocket.specs.declared.frame.FrameKind.TheVariants as kind
-use Rattle.wamp_rawsocket.specs.Splitting.{whole, faulty, front_of, frames_of}
+use Rattle.wamp_rawsocket.specs.Splitting.{whole, faulty, front_of}
 use Rattle.wamp_rawsocket.proofs.Streams.{whole_leaves_less, frames_at_whole, frames_at_fault, frames_at_end}
 use Rattle.realm_machine.specs.Setup.{Setup}
 use Rattle.realm_machine.specs.declared.act.Act.TheVariants.{Said, Hung}
@@ -15,7 +15,7 @@ use Rattle.realm_machine.specs.Said.{next, says}
 use Rattle.cluster_program.specs.declared.fault.RunFault.{RunFault}
 use Rattle.cluster_program.specs.declared.fault.RunFault.TheVariants.{Line, Store, Memory, Transport}
 use Rattle.cluster_program.specs.declared.progress.Progress.{Progress}
-use Rattle.cluster_program.specs.declared.progress.Progress.TheVariants.{Onward, Closed}
+use Rattle.cluster_program.specs.declared.progress.Progress.TheVariants.{Onward}
 use Rattle.cluster_program.specs.Stream.{Run, ends, silent, broken_off, client, framed, told, answered}
 use Rattle.cluster_program.specs.Replies.{Puts}
 use Rattle.cluster_program.specs.Serving.{due_of, held_len, Takes}

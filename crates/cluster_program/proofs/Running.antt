@@ -1,7 +1,6 @@
 -- How a run goes on from step to step, and ends.
-use Rattle.std.proofs.Common.{◌≡◌, ◌⊎◌, inl, inr, ℕ, ◌==◌, ◌||◌, Bool, true, false, List, [], ◌∷◌, ◌++◌, length, Option, None, Some, unwrap_or, Result, Ok, Err, MatchResult, IsTrue, MatchBool, refl, sym, ◌∙◌, ap, subst, append_assoc, append-nil, OnOk}
+use Rattle.std.proofs.Common.{◌≡◌, ◌⊎◌, inr, ℕ, Bool, true, false, List, [], ◌++◌, Option, None, Some, Result, Ok, Err, IsTrue, refl, sym, ◌∙◌, ap, subst, append_assoc, append-nil}
 use Rattle.std.specs.Io.KnownBytes.{Appends}
-use Rattle.realm_machine.specs.declared.act.Act.{Act}
 use Rattle.cluster_program.specs.declared.fault.RunFault.{RunFault}
 use Rattle.cluster_program.specs.declared.fault.RunFault.TheVariants.{Line, Store, Memory, Transport}
 use Rattle.cluster_program.specs.declared.progress.Progress.{Progress}
@@ -9,8 +8,8 @@ use Rattle.cluster_program.specs.declared.progress.Progress.TheVariants.{Onward,
 use Rattle.cluster_program.specs.declared.service.Service.{Service}
 use Rattle.cluster_program.specs.Stream.{Ending, unheard, unwelcome, silent, closed, broken_off, too_wide, Run, ends, behind, run_of, stream, is_final}
 use Rattle.cluster_program.specs.Runs.{answer_at, Serves, Breaks, Ended}
-use Rattle.cluster_program.specs.Replies.{Stops, GoesOn, Puts, Answers, Writes}
-use Rattle.cluster_program.specs.Serving.{due, due_at_end, Comes, Underway, Waits, Acted, Steps}
+use Rattle.cluster_program.specs.Replies.{Stops, Puts, Answers}
+use Rattle.cluster_program.specs.Serving.{due, due_at_end, Comes, Underway, Acted, Steps}
 use Rattle.cluster_program.proofs.Putting.{behind-append}
 
 -- that nothing comes is always so

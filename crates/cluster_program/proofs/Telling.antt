@@ -1,5 +1,5 @@
 -- What the client was told, saying by saying.
-use Rattle.std.proofs.Common.{◌≡◌, ℕ, suc, ◌+◌, ◌<◌, false, true, List, ◌∷◌, drop, get_or, length, Result, Ok, Err, refl, sym, ap, add-one, drop-cons}
+use Rattle.std.proofs.Common.{◌≡◌, ℕ, suc, ◌+◌, ◌<◌, false, true, List, ◌∷◌, drop, get_or, length, Ok, Err, refl, sym, ap, add-one, drop-cons}
 use Rattle.realm_machine.specs.declared.act.Say.{Say}
 use Rattle.realm_machine.specs.Links.{same_transport}
 use Rattle.cluster_program.specs.declared.fault.RunFault.{RunFault}

@@ -1,18 +1,18 @@
 -- One turn of a run, by what the reader gave.
-use Rattle.std.proofs.Common.{◌≡◌, inl, inr, ℕ, Bool, true, false, arith, List, [], ◌∷◌, ◌++◌, length, Option, None, Some, option_map, unwrap_or, Result, Ok, Err, refl, sym, ◌∙◌, ap, append_assoc, append-nil, IfOk}
-use Rattle.std.specs.Io.KnownBytes.{Appends, Consumes, Keeps, IsAtEnd}
+use Rattle.std.proofs.Common.{◌≡◌, inl, inr, ℕ, Bool, true, false, arith, List, [], ◌∷◌, ◌++◌, length, Option, None, Some, option_map, unwrap_or, Result, Ok, Err, refl, sym, ◌∙◌, ap, append_assoc}
+use Rattle.std.specs.Io.KnownBytes.{Consumes, Keeps, IsAtEnd}
 use Rattle.wamp_rawsocket.specs.Splitting.{frames_of}
 use Rattle.wamp_rawsocket.proofs.Streams.{frames_at_end}
 use Rattle.realm_machine.specs.Setup.{Setup}
 use Rattle.realm_machine.specs.declared.act.Act.TheVariants.{Connect, Hung}
 use Rattle.realm_machine.specs.Content.{Content, empty}
-use Rattle.realm_machine.specs.Said.{next, says}
+use Rattle.realm_machine.specs.Said.{next}
 use Rattle.cluster_program.specs.declared.fault.RunFault.{RunFault}
 use Rattle.cluster_program.specs.declared.fault.RunFault.TheVariants.{Memory, Transport}
 use Rattle.cluster_program.specs.declared.progress.Progress.{Progress}
 use Rattle.cluster_program.specs.declared.progress.Progress.TheVariants.{Onward, Waiting, Closed}
 use Rattle.cluster_program.specs.declared.service.Service.{Service}
-use Rattle.cluster_program.specs.Stream.{silent, closed, Run, ends, behind, client, setup_of, told, answered, opened, run_of}
+use Rattle.cluster_program.specs.Stream.{silent, closed, Run, ends, behind, client, setup_of, answered, opened, run_of}
 use Rattle.cluster_program.specs.Runs.{Ended, Ends}
 use Rattle.cluster_program.specs.Serving.{due_of, due, due_at, due_at_end, content_after, IsFirst, Underway, Waits, Acted, Turns, KnownOpens, KnownWaits, KnownTurns}
 use Rattle.cluster_program.proofs.Running.{over, breaks_off}

@@ -1,5 +1,5 @@
 -- What a run over a reader and a writer leaves behind (docs/PROTOCOL.md, "A stream").
-use Rattle.std.specs.Prelude.{◌≡◌, ◌⊎◌, ℕ, ◌==◌, ◌||◌, Bool, true, List, [], ◌++◌, Option, None, Some, Result, Ok, Err, IsTrue, MatchBool}
+use Rattle.std.specs.Prelude.{◌≡◌, ◌⊎◌, ℕ, ◌==◌, ◌||◌, List, [], ◌++◌, Option, None, Some, Result, Ok, Err, IsTrue, MatchBool}
 use Rattle.std.specs.Io.KnownBytes.{Appends}
 use Rattle.cluster_program.specs.declared.fault.RunFault.{RunFault}
 use Rattle.cluster_program.specs.declared.fault.RunFault.TheVariants.{Line, Store, Memory, Transport}

@@ -1,5 +1,5 @@
 -- How a run stands between its steps. This is for private clauses: what is due (Stream), in terms of what is at hand.
-use Rattle.std.specs.Prelude.{◌≡◌, ℕ, ◌<◌, Bool, true, false, List, [], ◌++◌, length, Option, None, Some, unwrap_or, Result, Ok, Err}
+use Rattle.std.specs.Prelude.{◌≡◌, ℕ, Bool, true, false, List, [], ◌++◌, length, Option, None, Some, unwrap_or, Result, Ok, Err}
 use Rattle.std.specs.Io.KnownBytes.{Appends}
 use Rattle.wamp_rawsocket.specs.declared.fault.FrameFault.{FrameFault}
 use Rattle.wamp_rawsocket.specs.declared.frame.Frame.{Frame}
@@ -10,7 +10,7 @@ use Rattle.realm_machine.specs.Setup.{Setup}
 use Rattle.realm_machine.specs.Content.{Content, empty}
 use Rattle.realm_machine.specs.Said.{next, says}
 use Rattle.cluster_program.specs.declared.fault.RunFault.{RunFault}
-use Rattle.cluster_program.specs.declared.fault.RunFault.TheVariants.{Line, Store, Memory, Transport}
+use Rattle.cluster_program.specs.declared.fault.RunFault.TheVariants.{Memory, Transport}
 use Rattle.cluster_program.specs.declared.progress.Progress.{Progress}
 use Rattle.cluster_program.specs.declared.progress.Progress.TheVariants.{Onward, Waiting, Closed}
 use Rattle.cluster_program.specs.declared.service.Service.{Service}

@@ -1,6 +1,6 @@
 -- What one client is due: the octets that answer the octets which it sends (WAMP specification, "RawSocket Transport" and
 -- "Sessions"; docs/PROTOCOL.md, "A stream").
-use Rattle.std.specs.Prelude.{◌≡◌, ℕ, nat_le, Bool, true, false, List, [], ◌∷◌, ◌++◌, length, Result, Ok, Err, if◌then◌else◌}
+use Rattle.std.specs.Prelude.{ℕ, nat_le, Bool, true, false, List, [], ◌∷◌, ◌++◌, length, if◌then◌else◌}
 use Rattle.serde_json.specs.Written.{compact_text}
 use Rattle.wamp_ids.specs.Ids.{id_after}
 use Rattle.paxos_packets.specs.declared.transport.Transport.{Transport}

@@ -1,5 +1,5 @@
 -- The votes behind a place.
-use Rattle.std.proofs.Common.{◌≡◌, ℕ, ◌-◌, List, length, take, drop, Result, IfOk, Ok, Err, ◌∙◌, ap, subst, sym}
+use Rattle.std.proofs.Common.{◌≡◌, ℕ, ◌-◌, List, length, take, drop, ◌∙◌, ap, subst, sym}
 use Rattle.std.proofs.lemmas.List.{take_rest}
 use Rattle.paxos_packets.specs.Slots.{IsAscending, place, votes_from}
 use Rattle.paxos_packets.specs.declared.vote.Vote.{Vote}

@@ -1,5 +1,5 @@
 -- The tests of `Same` are equality, where the test of bodies is.
-use Rattle.std.proofs.Common.{◌≡◌, ℕ, Bool, true, false, ◌&&◌, eqb, eq-eqb, List, [], ◌∷◌, refl, ap, ◌∙◌, arith}
+use Rattle.std.proofs.Common.{◌≡◌, ℕ, Bool, true, false, ◌&&◌, eqb, eq-eqb, List, [], ◌∷◌, refl}
 use Rattle.std.proofs.lemmas.Bool.{eqb-true}
 use Rattle.paxos_packets.specs.Ballots.{same_ballot}
 use Rattle.paxos_packets.specs.Same.{same_list, same_entry, same_vote, same_kind, same_packet, IsEquality}

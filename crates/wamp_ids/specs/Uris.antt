@@ -1,5 +1,5 @@
 -- URIs by the loose rules (WAMP specification, "URIs": loose URI check).
-use Rattle.std.specs.Prelude.{◌≡◌, ℕ, Bool, true, false, ◌==◌, nat_lt, List, [], ◌∷◌, length, codes, Result, Ok, Err, Option, None, Some, slice_get, if◌then◌else◌, bytes_eq}
+use Rattle.std.specs.Prelude.{◌≡◌, ℕ, Bool, false, ◌==◌, nat_lt, List, length, codes, Result, Ok, Err, Option, None, Some, slice_get, if◌then◌else◌, bytes_eq}
 use Rattle.std.specs.List.{slice_split, list_any}
 use Rattle.std.specs.Char.{is_whitespace}
 use Rattle.std.specs.Str.{chars}

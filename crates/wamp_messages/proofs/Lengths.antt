@@ -1,5 +1,5 @@
 -- An array of the wrong length is read as that fault.
-use Rattle.std.proofs.Common.{◌≡◌, true, false, refl}
+use Rattle.std.proofs.Common.{◌≡◌, false, refl}
 use Rattle.serde_json.specs.Data.{Items, no_items, item}
 use Rattle.wamp_messages.specs.declared.outcome.MessageFault.TheVariants.{Length}
 use Rattle.wamp_messages.specs.declared.outcome.Read.TheVariants.{Bad}

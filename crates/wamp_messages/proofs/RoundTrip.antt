@@ -1,5 +1,5 @@
 -- What is written of a message is read as that message.
-use Rattle.std.proofs.Common.{◌≡◌, ◌∙◌, ℕ, true, false, List, Some, None, sym, refl}
+use Rattle.std.proofs.Common.{◌≡◌, ◌∙◌, true, false, List, Some, None, sym, refl}
 use Rattle.std.specs.Str.{IsUtf8}
 use Rattle.json.specs.Token.{Token}
 use Rattle.json.specs.Print.{print}

@@ -1,10 +1,7 @@
 -- A message's value has held numbers and ordered keys, and nests no deeper than JSON is read.
-use Rattle.std.proofs.Common.{◌≡◌, ℕ, ◌<◌, ◌≤◌, ◌^◌, Bool, true, false, List, Option, Some, None, Less, refl, arith}
-use Rattle.std.specs.Prelude.{codes}
-use Rattle.std.specs.Ordering.{nat_cmp}
-use Rattle.std.specs.Cmp.Lexicographic.{slice_cmp}
+use Rattle.std.proofs.Common.{ℕ, ◌<◌, ◌≤◌, ◌^◌, Bool, true, false, List, Option, Some, None, refl, arith}
 use Rattle.std.specs.List.Sorted.{IsStrictlySortedBy}
-use Rattle.serde_json.specs.Data.{Data, null, boolean, string, object, Items, item, no_items, no_members, member, depth, items_depth}
+use Rattle.serde_json.specs.Data.{depth}
 use Rattle.serde_json.specs.Read.{max_depth}
 use Rattle.wamp_ids.specs.declared.policy.Match.{Match}
 use Rattle.wamp_ids.specs.declared.policy.Match.TheVariants.{Exact, Prefix, Wildcard}
@@ -14,7 +11,7 @@ use Rattle.wamp_messages.specs.declared.message.RequestKind.{RequestKind}
 use Rattle.wamp_messages.specs.declared.message.RequestKind.TheVariants as kind
 use Rattle.wamp_messages.specs.declared.message.Message.{Message}
 use Rattle.wamp_messages.specs.declared.message.Message.TheVariants.{Hello, Welcome, Abort, Goodbye, Error, Publish, Published, Subscribe, Subscribed, Event}
-use Rattle.wamp_messages.specs.Layouts.{value_of, only, nothing, whole, code_of, hello_details, welcome_details, broker, dealer, publish_options, match_options, event_details}
+use Rattle.wamp_messages.specs.Layouts.{value_of, nothing, code_of, hello_details, welcome_details, broker, dealer, publish_options, match_options, event_details}
 use Rattle.wamp_messages.specs.Messages.{IsId, HasParts}
 
 id_is_held : (n : ℕ) → IsId n → n < 2 ^ 64

@@ -1,10 +1,9 @@
 -- A message as the JSON value that stands for it (WAMP specification, "Message Definitions"; the layouts and the keys of
 -- this profile: docs/PROTOCOL.md, "Messages").
 use Rattle.std.specs.Prelude.{ℕ, Bool, true, false, List, Option, Some, None, codes}
-use Rattle.serde_json.specs.Data.{Data, number, unsigned, string, boolean, array, object, Items, no_items, item, Members, no_members, member}
+use Rattle.serde_json.specs.Data.{Data, number, unsigned, string, boolean, array, object, no_items, item, no_members, member}
 use Rattle.wamp_ids.specs.declared.policy.Match.{Match}
 use Rattle.wamp_ids.specs.declared.policy.Match.TheVariants.{Exact, Prefix, Wildcard}
-use Rattle.wamp_values.specs.declared.args.Args.{Args}
 use Rattle.wamp_values.specs.Arguments.{args_items}
 use Rattle.wamp_messages.specs.declared.message.RequestKind.{RequestKind}
 use Rattle.wamp_messages.specs.declared.message.RequestKind.TheVariants as kind

@@ -1,8 +1,8 @@
 -- What is read of the octets of a message (WAMP specification, "Message Definitions"; faults and unfit requests are this
 -- profile's: docs/PROTOCOL.md, "Reading").
-use Rattle.std.specs.Prelude.{ℕ, ◌==◌, Bool, true, false, not, ◌&&◌, ◌||◌, List, Option, Some, None, codes, bytes_eq, is_some, is_none, unwrap_or, option_and_then, if◌then◌else◌}
+use Rattle.std.specs.Prelude.{ℕ, ◌==◌, Bool, true, false, not, ◌&&◌, List, Option, Some, None, codes, bytes_eq, is_some, unwrap_or, option_and_then, if◌then◌else◌}
 use Rattle.std.specs.Str.{is_utf8}
-use Rattle.serde_json.specs.Data.{Num, unsigned, negative, float, Data, null, number, string, boolean, array, object, Items, no_items, item}
+use Rattle.serde_json.specs.Data.{unsigned, negative, Data, number, array, Items, no_items, item}
 use Rattle.serde_json.specs.Find.{get, as_str, as_bool, as_array, as_object}
 use Rattle.serde_json.specs.Read.{read}
 use Rattle.wamp_ids.specs.Ids.{is_id}
@@ -13,7 +13,6 @@ use Rattle.wamp_values.specs.declared.args.Args.TheVariants.{Nothing, List as Li
 use Rattle.wamp_values.specs.Payloads.{is_fit}
 use Rattle.wamp_messages.specs.declared.message.RequestKind.{RequestKind}
 use Rattle.wamp_messages.specs.declared.message.RequestKind.TheVariants as kind
-use Rattle.wamp_messages.specs.declared.message.Message.{Message}
 use Rattle.wamp_messages.specs.declared.message.Message.TheVariants.{Hello, Welcome, Abort, Goodbye, Error, Publish, Published, Subscribe, Subscribed, Event}
 use Rattle.wamp_messages.specs.declared.outcome.MessageFault.TheVariants.{NotJson, NotArray, Kind, Length, Shape, IdRange}
 use Rattle.wamp_messages.specs.declared.elements.Given.{Given}

@@ -1,4 +1,3 @@
-use Rattle.std.proofs.Common.{refl}
 use Rattle.cluster_program.proofs.Running.{acted}
 use Rattle.cluster_program.proofs.stream.act_out.Goals as goal
 

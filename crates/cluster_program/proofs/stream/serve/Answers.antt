@@ -1,4 +1,3 @@
-use Rattle.std.proofs.Common.{refl, sym, ◌∙◌}
 use Rattle.std.proofs.lemmas.Result.{err_from_is_err_and}
 use Rattle.cluster_program.proofs.Turning.{opens_memory, opens_closed, opens_fault, opens_waits, turns_spent}
 use Rattle.cluster_program.proofs.stream.serve.Goals as goal

@@ -1,4 +1,4 @@
-use Rattle.std.proofs.Common.{refl, sym, ◌∙◌, ap, ◌<◌, arith, [], ◌++◌, List, ℕ}
+use Rattle.std.proofs.Common.{refl, ◌∙◌, ap, arith, [], ◌++◌, List, ℕ}
 use Rattle.std.proofs.lemmas.Result.{err_from_is_err_and}
 use Rattle.cluster_program.proofs.Turning.{turn_memory, turn_fails, turn_answers, turn_ends, turn_ends_by, due_fed, consumes_nothing}
 use Rattle.cluster_program.proofs.stream.turn.Goals as goal

@@ -1,4 +1,4 @@
-use Rattle.std.proofs.Common.{◌≤◌, ltb, false, length, sym, arith}
+use Rattle.std.proofs.Common.{◌≤◌, length, sym, arith}
 use Rattle.std.proofs.lemmas.Bool.{ltb-false}
 use Rattle.paxos_packets.proofs.Placing.{seen, seen_other, seen_none}
 use Rattle.paxos_packets.proofs.vote.seek.Goals as goal

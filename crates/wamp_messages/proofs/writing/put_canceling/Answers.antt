@@ -1,8 +1,8 @@
-use Rattle.std.proofs.Common.{◌≡◌, ◌++◌, ◌∷◌, [], true, false, codes, append_assoc}
+use Rattle.std.proofs.Common.{◌≡◌, ◌++◌, ◌∷◌, [], codes, append_assoc}
 use Rattle.std.proofs.lemmas.Result.{on_ok_weaker}
-use Rattle.json.specs.Token.{begin_object, end_object, key, boolean}
+use Rattle.json.specs.Token.{begin_object, end_object, key}
 use Rattle.wamp_values.specs.Texts.{data_tokens}
-use Rattle.wamp_messages.specs.Layouts.{callee, broker, dealer}
+use Rattle.wamp_messages.specs.Layouts.{callee}
 use Rattle.wamp_messages.proofs.writing.put_canceling.Goals as goal
 
 pub returns-clause-ok : goal.returns-clause-ok

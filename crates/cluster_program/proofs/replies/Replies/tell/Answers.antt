@@ -1,4 +1,4 @@
-use Rattle.std.proofs.Common.{refl, sym, arith, ◌∙◌}
+use Rattle.std.proofs.Common.{sym, arith, ◌∙◌}
 use Rattle.cluster_program.proofs.Telling.{told_next}
 use Rattle.cluster_program.proofs.replies.Replies.tell.Goals as goal
 

@@ -1,8 +1,7 @@
-use Rattle.std.proofs.Common.{refl, sym, ◌∙◌}
 use Rattle.std.proofs.lemmas.Result.{err_from_is_err_and}
 use Rattle.cluster_program.specs.Stream.{ends, silent}
 use Rattle.cluster_program.proofs.Putting.{answers_puts, puts_never_waits}
-use Rattle.cluster_program.proofs.Answering.{message_puts, ping_puts, pong_puts, fault_puts, no_frame_due, no_frame_stays, frame_shrinks}
+use Rattle.cluster_program.proofs.Answering.{message_puts, ping_puts, pong_puts, fault_puts, no_frame_due, frame_shrinks}
 use Rattle.cluster_program.proofs.service.Service.answer_next.Goals as goal
 
 pub returns-in_err-frame-clause-answers : goal.returns-in_err-frame-clause-answers
