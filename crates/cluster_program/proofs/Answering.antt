@@ -112,10 +112,6 @@ no_frame_due None new setup limit c draw t = absurd (never_fault (Ok None) None 
 no_frame_due (Some held) new setup limit c draw t =
     rw (t.1, append-nil) (ap (answered setup limit c draw) (frames_at_end held t.0))
 
-pub no_frame_stays : (held new : Option (List ℕ)) → Takes (Ok None) held new → held ≡ new
-no_frame_stays None new t = absurd (never_fault (Ok None) None (Transport 82) refl t)
-no_frame_stays (Some held) new t = sym t.1
-
 -- ---- what is held grows shorter
 
 pub frame_shrinks : (frame : Frame) (held new : Option (List ℕ)) → Takes (Ok (Some frame)) held new → held_len new < held_len held

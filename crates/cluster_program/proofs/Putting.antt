@@ -1,9 +1,7 @@
 -- What was put behind the waiting replies, step by step.
-use Rattle.std.proofs.Common.{◌≡◌, ℕ, ◌<◌, ◌≤◌, List, [], ◌++◌, length, Result, Ok, Err, refl, sym, ◌∙◌, ap, arith, append_assoc, append-nil}
-use Rattle.std.proofs.lemmas.Bool.{le-leb}
+use Rattle.std.proofs.Common.{◌≡◌, ℕ, ◌<◌, List, [], ◌++◌, length, Result, Ok, Err, refl, sym, ◌∙◌, ap, arith, append_assoc, append-nil}
 use Rattle.std.proofs.lemmas.Bool.Decides.{nat_tests}
 use Rattle.wamp_rawsocket.specs.declared.frame.FrameKind.{FrameKind}
-use Rattle.wamp_rawsocket.specs.Frames.{frame_octets}
 use Rattle.cluster_program.specs.declared.fault.RunFault.{RunFault}
 use Rattle.cluster_program.specs.declared.fault.RunFault.TheVariants.{Memory, Transport}
 use Rattle.cluster_program.specs.declared.progress.Progress.{Progress}
@@ -11,17 +9,7 @@ use Rattle.cluster_program.specs.declared.progress.Progress.TheVariants.{Onward,
 use Rattle.cluster_program.specs.Stream.{Run, ends, behind, too_wide, framed}
 use Rattle.cluster_program.specs.Replies.{Puts, Answers}
 
--- a frame is put where it fits
-pub framed_fits : (limit : ℕ) (kind : FrameKind) (payload : List ℕ) (after : Run) (old new : List ℕ) → length payload ≤ limit → new ≡ old ++ frame_octets kind payload → Puts (Ok Onward) (framed limit kind payload after) after old new
-framed_fits limit kind payload after old new fits e = record {
-  put = frame_octets kind payload;
-  are_put = e;
-  rest = after;
-  is_due = rw (le-leb (length payload) limit fits) refl;
-  is_left = refl;
-}
-
--- and nothing, where it is wider
+-- nothing is put where a frame is wider than the client takes
 pub framed_wide : (limit : ℕ) (kind : FrameKind) (payload : List ℕ) (after : Run) (old new : List ℕ) → limit < length payload → new ≡ old → Puts (Err (Transport 87)) (framed limit kind payload after) after old new
 framed_wide limit kind payload after old new wide e = record {
   put = [];

@@ -24,10 +24,6 @@ appends_both (Some a) None c x y p q = absurd p
 appends_both (Some a) (Some b) None x y p q = absurd q
 appends_both (Some a) (Some b) (Some c) x y p q = q ∙ ap (λ o. o ++ y) p ∙ append_assoc a x y
 
-pub appends_nothing : (a : Option (List ℕ)) → Appends a a []
-appends_nothing None = tt
-appends_nothing (Some a) = sym (append-nil a)
-
 appends_same : (a b : Option (List ℕ)) (x y : List ℕ) → x ≡ y → Appends a b x → Appends a b y
 appends_same a b x y e p = rw (← e) p
 
@@ -155,8 +151,3 @@ steps_written name input left old now later s t v (Ok Closed) u answers waits a 
     over name input left old later true (λ more. ends closed) closed (wrote name input left old now later t.replies.octets true (λ more. ends closed) (goes_closed name input left old now s.replies.octets t.replies.octets true (due s) (due t) u answers) a) refl (inr refl)
 steps_written name input left old now later s t v (Err fault) u answers waits a none same at_end =
     fault_stops name input left old now later s.replies.octets t.replies.octets true (due s) (due t) fault u answers a
-
--- and where they were not written
-pub steps_unwritten : (name input left : List ℕ) (old now : Option (List ℕ)) (s t : Service) (outcome : Result Progress RunFault) → Underway name input left old now s.replies.octets true (due s)
-    → outcome ≡ Ok Onward → ((more : List ℕ) → Answers outcome (due s more) (due t more) s.replies.octets t.replies.octets) → Underway name input left old now t.replies.octets true (due t)
-steps_unwritten name input left old now s t outcome u is answers = goes_onward name input left old now s.replies.octets t.replies.octets true (due s) (due t) u (λ more. rw is at (answers more))

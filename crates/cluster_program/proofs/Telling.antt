@@ -1,23 +1,16 @@
 -- What the client was told, saying by saying.
-use Rattle.std.proofs.Common.{◌≡◌, ℕ, suc, ◌+◌, ◌<◌, false, true, List, ◌∷◌, drop, get_or, length, Ok, Err, refl, sym, ap, add-one, drop-cons}
+use Rattle.std.proofs.Common.{◌≡◌, ℕ, suc, ◌+◌, ◌<◌, true, List, ◌∷◌, drop, get_or, length, Ok, sym, ap, add-one, drop-cons}
 use Rattle.realm_machine.specs.declared.act.Say.{Say}
 use Rattle.realm_machine.specs.Links.{same_transport}
-use Rattle.cluster_program.specs.declared.fault.RunFault.{RunFault}
 use Rattle.cluster_program.specs.declared.progress.Progress.{Progress}
 use Rattle.cluster_program.specs.declared.progress.Progress.TheVariants.{Onward, Closed}
 use Rattle.cluster_program.specs.Stream.{Run, client, heard, told}
 use Rattle.cluster_program.specs.Replies.{Puts}
-use Rattle.cluster_program.proofs.Putting.{puts_then, puts_fault, puts_closed, puts_none, puts_open}
+use Rattle.cluster_program.proofs.Putting.{puts_then, puts_open}
 
 -- of the sayings these are left; what the client is told by the others was put behind the replies
 abbrev pub Told : ℕ → List Say → List Say → List ℕ → List ℕ → Type 0
 Told limit says left old new = (after : Run) → Puts (Ok Onward) (told limit says after) (told limit left after) old new
-
--- a saying to another transport tells the client nothing
-pub told_other : (limit : ℕ) (says : List Say) (say : Say) (others : List Say) (old new : List ℕ) → same_transport say.transport client ≡ false → Told limit says (say ∷ others) old new → Told limit says others old new
-told_other limit says say others old new e t after =
-    puts_then (Ok Onward) (told limit says after) (told limit (say ∷ others) after) (told limit others after) old new new (t after)
-    (puts_none (told limit (say ∷ others) after) (told limit others after) new (rw e refl))
 
 -- what the client is told of a saying to it was put
 told_onward : (limit : ℕ) (says : List Say) (say : Say) (others : List Say) (old mid new : List ℕ) → same_transport say.transport client ≡ true → Told limit says (say ∷ others) old mid → ((after : Run) → Puts (Ok Onward) (heard limit say.out after) after mid new) → Told limit says others old new
@@ -32,28 +25,8 @@ drop_at says i say lt e = rw (add-one, drop-cons says i say) (ap (λ (first : Sa
 Told_at : (limit : ℕ) (says left left' : List Say) (old new : List ℕ) → left ≡ left' → Told limit says left old new → Told limit says left' old new
 Told_at limit says left left' old new e t = rw (← e) t
 
--- one saying further, where it is to another transport
-pub told_past : (limit : ℕ) (says : List Say) (i : ℕ) (say : Say) (old new : List ℕ) → i < length says → say ≡ get_or says i say → same_transport say.transport client ≡ false → Told limit says (drop i says) old new → Told limit says (drop (i + 1) says) old new
-told_past limit says i say old new lt is e t =
-    told_other limit says say (drop (i + 1) says) old new e (Told_at limit says (drop i says) (say ∷ drop (i + 1) says) old new (drop_at says i say lt is) t)
-
 -- one saying further, where it is to the client
 pub told_next : (limit : ℕ) (says : List Say) (i : ℕ) (say : Say) (old mid new : List ℕ) (here : ℕ) (progress : Progress) → i < length says → say ≡ get_or says i say → same_transport say.transport client ≡ true → Told limit says (drop i says) old mid → here ≡ limit → (progress ≡ Closed → ⊥) → ((after : Run) → Puts (Ok progress) (heard here say.out after) after mid new) → Told limit says (drop (i + 1) says) old new
 told_next limit says i say old mid new here progress lt is e t same stays p =
     told_onward limit says say (drop (i + 1) says) old mid new e (Told_at limit says (drop i says) (say ∷ drop (i + 1) says) old mid (drop_at says i say lt is) t)
     (λ after. puts_open progress (heard limit say.out after) after mid new stays (rw (← same) (p after)))
-
--- the telling stops at a saying
-pub told_fault : (limit : ℕ) (says : List Say) (i : ℕ) (say : Say) (old mid new : List ℕ) (here : ℕ) (fault : RunFault) → i < length says → say ≡ get_or says i say → same_transport say.transport client ≡ true → Told limit says (drop i says) old mid → here ≡ limit → ((after : Run) → Puts (Err fault) (heard here say.out after) after mid new) → (after : Run) → Puts (Err fault) (told limit says after) after old new
-told_fault limit says i say old mid new here fault lt is e t same p after =
-    let others = drop (i + 1) says in
-    puts_then (Err fault) (told limit says after) (told limit (say ∷ others) after) after old mid new
-    (Told_at limit says (drop i says) (say ∷ others) old mid (drop_at says i say lt is) t after)
-    (rw (e, ← same) (puts_fault fault (heard here say.out (told limit others after)) (told limit others after) after mid new (p (told limit others after))))
-
-pub told_closed : (limit : ℕ) (says : List Say) (i : ℕ) (say : Say) (old mid new : List ℕ) (here : ℕ) → i < length says → say ≡ get_or says i say → same_transport say.transport client ≡ true → Told limit says (drop i says) old mid → here ≡ limit → ((after : Run) → Puts (Ok Closed) (heard here say.out after) after mid new) → (after : Run) → Puts (Ok Closed) (told limit says after) after old new
-told_closed limit says i say old mid new here lt is e t same p after =
-    let others = drop (i + 1) says in
-    puts_then (Ok Closed) (told limit says after) (told limit (say ∷ others) after) after old mid new
-    (Told_at limit says (drop i says) (say ∷ others) old mid (drop_at says i say lt is) t after)
-    (rw (e, ← same) (puts_closed (heard here say.out (told limit others after)) (told limit others after) after mid new (p (told limit others after))))

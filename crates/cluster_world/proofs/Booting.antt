@@ -42,9 +42,6 @@ NoBoot es = (n b : ℕ) → Has es (Boot n b) → ⊥
 abbrev NoLost : {B : Type 0} → List (Entry B) → Type 0
 NoLost es = (n b : ℕ) → Has es (Lost n b) → ⊥
 
-one_no_boot : {B : Type 0} (e : Entry B) → ((n b : ℕ) → e ≡ Boot n b → ⊥) → NoBoot (e ∷ [])
-one_no_boot e d n b h = d n b (has_one h)
-
 taken_no_boot : {B : Type 0} (n t : ℕ) (body : B) (x : NodeState B) → NoBoot (taken_by n t body x)
 taken_no_boot n t body x =
     cond_both (takes x) (new_item n t body x ∷ []) [] (λ l. NoBoot l) (λ t m b h. differ m b (has_one h)) (λ t m b h. has_nil h)

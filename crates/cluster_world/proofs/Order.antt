@@ -18,9 +18,6 @@ lt_true m n i j e = grind (arith, nat_tests)
 lt_false : (m n i j : ℕ) → (ltb m n || (eqb m n && ltb i j)) ≡ false → (n < m) ⊎ ((n ≡ m) × (j ≤ i))
 lt_false m n i j e = grind (arith, nat_tests)
 
-true_lt : (m n i j : ℕ) → (m < n) ⊎ ((m ≡ n) × (i < j)) → (ltb m n || (eqb m n && ltb i j)) ≡ true
-true_lt m n i j e = grind (arith, nat_tests)
-
 pub lt_from_test : (a b : Ballot) → below a b ≡ true → Lt a b
 lt_from_test a b e = record { is = lt_true a.round b.round a.node b.node e }
 
@@ -97,9 +94,6 @@ pub data Reaches : Option Ballot → Ballot → Type 0 where
 -- a promise above b
 pub data Over : Option Ballot → Ballot → Type 0 where
   over : {p b : Ballot} → Lt b p → Over (Some p) b
-
-pub reach_le : {o : Option Ballot} {a b : Ballot} → Reaches o b → Le a b → Reaches o a
-reach_le (reach h) g = reach (le_trans g h)
 
 pub reach_over : {o : Option Ballot} {a b : Ballot} → Reaches o b → Lt a b → Over o a
 reach_over (reach h) g = over (lt_le_trans g h)

@@ -201,10 +201,6 @@ pub miss : {B : Type 0} (o : Option (Vote B)) → is_some o ≡ false → None �
 miss None e = refl
 miss (Some v) e = cc
 
-pub place_within : {B : Type 0} (slot : ℕ) (vs : List (Vote B)) → IsAscending vs → is_some (vote_in slot vs) ≡ true → place slot vs < length vs
-place_within slot [] h e = cc
-place_within slot (v ∷ vs) h e = (sought slot (v ∷ vs) v h e).0
-
 -- the slots still ascend
 
 put_after : {B : Type 0} (slot : ℕ) (v : Vote B) (ws : List (Vote B)) → slot < v.slot → AllAfter slot ws → AllAfter slot (put_vote v ws)

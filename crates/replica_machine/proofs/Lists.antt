@@ -31,10 +31,6 @@ list_any_last p xs x = list_any-append p xs (x ∷ []) ∙ ap (λ b. list_any p 
     or_false true = refl
     or_false false = refl
 
-pub or_assoc : (a b c : Bool) → ((a || b) || c) ≡ (a || (b || c))
-or_assoc true b c = refl
-or_assoc false b c = refl
-
 -- behind the first element that passes
 pub after_first-cons : {X : Type 0} (p : X → Bool) (x : X) (xs : List X) → after_first p (x ∷ xs) ≡ cond (p x) xs (after_first p xs)
 after_first-cons {X} p x xs = go (p x)
