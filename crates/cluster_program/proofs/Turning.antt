@@ -1,5 +1,5 @@
 -- One turn of a run, by what the reader gave.
-use Rattle.std.proofs.Common.{◌≡◌, inl, inr, ℕ, Bool, true, false, arith, List, [], ◌∷◌, ◌++◌, length, Option, None, Some, option_map, unwrap_or, Result, Ok, Err, refl, sym, ◌∙◌, ap, append_assoc}
+use Rattle.std.proofs.Common.{◌≡◌, inl, inr, ℕ, ◌<◌, ◌≤◌, ◌+◌, Bool, true, false, arith, List, [], ◌∷◌, ◌++◌, length, Option, None, Some, option_map, unwrap_or, Result, Ok, Err, refl, sym, ◌∙◌, ap, append_assoc, length-append}
 use Rattle.std.specs.Io.KnownBytes.{Consumes, Keeps, IsAtEnd}
 use Rattle.wamp_rawsocket.specs.Splitting.{frames_of}
 use Rattle.wamp_rawsocket.proofs.Streams.{frames_at_end}
@@ -13,8 +13,8 @@ use Rattle.cluster_program.specs.declared.progress.Progress.{Progress}
 use Rattle.cluster_program.specs.declared.progress.Progress.TheVariants.{Onward, Waiting, Closed}
 use Rattle.cluster_program.specs.declared.service.Service.{Service}
 use Rattle.cluster_program.specs.Stream.{silent, closed, Run, ends, behind, client, setup_of, answered, opened, run_of}
-use Rattle.cluster_program.specs.Runs.{Ended, Ends}
-use Rattle.cluster_program.specs.Serving.{due_of, due, due_at, due_at_end, content_after, IsFirst, Underway, Waits, Acted, Turns, KnownOpens, KnownWaits, KnownTurns}
+use Rattle.cluster_program.specs.Runs.{Ended, Ends, most_turns}
+use Rattle.cluster_program.specs.Serving.{due_of, due, due_at, due_at_end, content_after, IsFirst, Underway, Waits, Acted, Turns, KnownOpens, KnownWaits, KnownTurns, HasRead}
 use Rattle.cluster_program.proofs.Running.{over, breaks_off}
 
 -- more was read
@@ -168,8 +168,40 @@ opens_waits name limit (Some input) (Some left) old now after s v progress f u a
       no_frame = rw (held, f.held) (ap (answered v.realm.setup v.replies.limit (unwrap_or v.realm.content empty) v.draw) (frames_at_end [] refl));
     }
 
+-- the transport stays open
+pub turn_stays : (name : List ℕ) (input left old now : Option (List ℕ)) (s : Service) → KnownTurns name input left old now s (Ok true) → KnownWaits name input left old now s
+turn_stays name None left old now s t = tt
+turn_stays name (Some input) None old now s t = absurd t
+turn_stays name (Some input) (Some left) old now s t = t
+
+-- ---- how many octets were read
+
+pub has_read_none : (left : Option (List ℕ)) → HasRead 0 left left
+has_read_none None = tt
+has_read_none (Some left) = omega arith
+
+pub has_read_some : (left later : Option (List ℕ)) (read : List ℕ) → Consumes left later read → 0 < length read → HasRead 1 left later
+has_read_some None later read e some = tt
+has_read_some (Some left) None read e some = absurd e
+has_read_some (Some left) (Some later) read e some = let sum : length left ≡ length read + length later = ap length e ∙ length-append read later in omega arith
+
+pub has_read_more : (count : ℕ) (input left later : Option (List ℕ)) → HasRead count input left → HasRead 1 left later → HasRead (count + 1) input later
+has_read_more count None left later h k = tt
+has_read_more count (Some input) None later h k = absurd h
+has_read_more count (Some input) (Some left) None h k = absurd k
+has_read_more count (Some input) (Some left) (Some later) h k = omega arith
+
+pub has_read_least : (least count : ℕ) (input left : Option (List ℕ)) → least ≤ count → HasRead count input left → HasRead least input left
+has_read_least least count None left le h = tt
+has_read_least least count (Some input) None le h = h
+has_read_least least count (Some input) (Some left) le h = omega arith
+
 -- the turns were spent
-pub turns_spent : (name : List ℕ) (input left old now : Option (List ℕ)) (s : Service) → KnownWaits name input left old now s → Ends name (Err (Transport 85)) input left old now
-turns_spent name None left old now s w = tt
-turns_spent name (Some input) None old now s w = absurd w
-turns_spent name (Some input) (Some left) old now s w = breaks_off name input left old now [] true (due s) w.underway
+pub turns_spent : (name : List ℕ) (limit : ℕ) (input first left old before now : Option (List ℕ)) (s : Service) → KnownOpens name limit input first old before → KnownWaits name input left old now s → HasRead most_turns first left
+    → Ends name (Err (Transport 85)) input left old now
+turns_spent name limit None first left old before now s u w h = tt
+turns_spent name limit (Some input) None left old before now s u w h = absurd u
+turns_spent name limit (Some input) (Some first) None old before now s u w h = absurd h
+turns_spent name limit (Some input) (Some first) (Some left) old before now s u w h =
+    let sum : length input ≡ length u.octets + length first = ap length u.are_read ∙ length-append u.octets first in
+    (breaks_off name input left old now [] true (due s) w.underway, omega arith)

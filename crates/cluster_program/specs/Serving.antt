@@ -1,5 +1,5 @@
 -- How a run stands between its steps. This is for private clauses: what is due (Stream), in terms of what is at hand.
-use Rattle.std.specs.Prelude.{◌≡◌, ℕ, Bool, true, false, List, [], ◌++◌, length, Option, None, Some, unwrap_or, Result, Ok, Err}
+use Rattle.std.specs.Prelude.{◌≡◌, ℕ, ◌+◌, ◌≤◌, Bool, true, false, List, [], ◌++◌, length, Option, None, Some, unwrap_or, Result, Ok, Err}
 use Rattle.std.specs.Io.KnownBytes.{Appends}
 use Rattle.wamp_rawsocket.specs.declared.fault.FrameFault.{FrameFault}
 use Rattle.wamp_rawsocket.specs.declared.frame.Frame.{Frame}
@@ -106,6 +106,12 @@ Turns name input left old now s (Ok false) = Ended name (Ok tt) input left old n
 Turns name input left old now s (Err fault) = Ended name (Err fault) input left old now
 
 -- ---- the same, where the reader tells what it has left
+
+-- so many octets were read at least
+abbrev pub HasRead : ℕ → Option (List ℕ) → Option (List ℕ) → Type 0
+HasRead count None left = Unit {0}
+HasRead count (Some input) None = ⊥
+HasRead count (Some input) (Some left) = length left + count ≤ length input
 
 abbrev pub KnownOpens : List ℕ → ℕ → Option (List ℕ) → Option (List ℕ) → Option (List ℕ) → Option (List ℕ) → Type 0
 KnownOpens name limit None left old now = Unit {0}

@@ -1,7 +1,7 @@
 ghost use Rattle.std.specs.Prelude.{◌≡◌, ◌<◌, ◌^◌, ℕ, Bool, true, List, [], Option, Ok, OnOk};
 ghost use Rattle.cluster_program.specs.Stream.{Run};
 ghost use Rattle.cluster_program.specs.Runs.{Ends};
-ghost use Rattle.cluster_program.specs.Serving.{due, due_at, content_after, Underway, Acted, Steps, Turns, KnownOpens, KnownWaits, KnownTurns, held_len};
+ghost use Rattle.cluster_program.specs.Serving.{due, due_at, content_after, Underway, Acted, Steps, Turns, KnownOpens, KnownWaits, KnownTurns, HasRead, held_len};
 
 use crate::fault::{HANDSHAKE, READ, RunFault, TURNS};
 use crate::handshake::read_handshake;
@@ -95,9 +95,10 @@ fn turn<R: Read, W: Write>(
     writer: &mut W,
     service: &mut Service,
 ) -> Result<bool, RunFault>
-    ensures { (name : List ℕ) (input old : Option (List ℕ))
+    ensures turns { (name : List ℕ) (input old : Option (List ℕ))
         → KnownWaits name input (R.remaining reader.old) old (W.contents writer.old) service.old
         → KnownTurns name input (R.remaining reader.new) old (W.contents writer.new) service.new result }
+    ensures reads { result ≡ Ok true → HasRead 1 (R.remaining reader.old) (R.remaining reader.new) }
 {
     let mut chunk = BytesMut::with_capacity(alloc, CHUNK)?;
     match chunk.read_from(reader) {
