@@ -1,23 +1,26 @@
 -- Moves that promise, vote or propose.
-use Rattle.std.proofs.Common.{◌≡◌, ⊎_elim, ℕ, suc, ◌<◌, ◌≤◌, true, false, refl, sym, ap, ◌∙◌, subst, arith, List, [], ◌∷◌, ◌++◌, Option, Some}
+use Rattle.std.proofs.Common.{◌≡◌, ⊎_elim, ℕ, suc, ◌<◌, ◌≤◌, true, false, refl, sym, ap, ◌∙◌, subst, arith, List, [], ◌∷◌, ◌++◌, Option}
+use Rattle.std.proofs.Common.{Some}
 use Rattle.std.proofs.lemmas.Bool.{cond_both}
 use Rattle.cluster_world.proofs.Order.{Lt, Le, Reaches, Over, reach, le_refl, lt_not_le, le_cases, le_from_test}
-use Rattle.cluster_world.proofs.Members.{has_one, has_cases}
-use Rattle.cluster_world.proofs.Invariant.{Sent, Known, Safe, Tops, Tells, Told, RowsOk, RoleOk, LeadingOk, Grows, NodeOk, Inv, promises, KindOk}
+use Rattle.cluster_world.proofs.Lists.{has_one, has_cases}
+use Rattle.cluster_world.proofs.Invariant.{Sent, Known, Safe, Tops, Tells, Told, RowsOk, RoleOk, LeadingOk, Grows, NodeOk, Inv, promises}
+use Rattle.cluster_world.proofs.Invariant.{KindOk}
 use Rattle.cluster_world.proofs.Growth.{known_grows, safe_grows, chosen_grows, vote_of_grows, role_grows}
-use Rattle.cluster_world.proofs.Move.{sent_cases, known_cases, sent_right}
-use Rattle.cluster_world.proofs.Here.{here, here_promised, Kept, mine_ok, turn_moved}
-use Rattle.cluster_world.proofs.Slots.{accept_le, accept_up, accept_over, promise_lt, promise_up, put_has, put_cases, put_keeps, from_has, has_from, sent_to_others, sent_one, others_sent}
-use Rattle.paxos_packets.specs.Ballots.{below}
-use Rattle.paxos_proposer.specs.declared.promises.Counted.{Counted}
+use Rattle.cluster_world.proofs.InvariantKept.{sent_cases, known_cases, sent_right}
+use Rattle.cluster_world.proofs.WithNode.{with_node, with_node_promised, Kept, mine_ok, turn_moved}
+use Rattle.cluster_world.proofs.AcceptorTests.{accept_le, accept_up, accept_over, promise_lt, promise_up, put_has, put_cases, put_keeps}
+use Rattle.cluster_world.proofs.AcceptorTests.{from_has, has_from, sent_to_others, sent_one, others_sent}
+use Rattle.paxos_packets.specs.Ballot.{below}
+use Rattle.paxos_proposer.specs.declared.promises.CountedPromise.{CountedPromise}
 use Rattle.paxos_proposer.specs.declared.role.Role.{Role}
 use Rattle.paxos_proposer.specs.declared.role.Role.TheVariants.{Idle, Preparing, Leading}
 use Rattle.paxos_node.specs.declared.state.NodeState.{NodeState}
-use Rattle.paxos_packets.specs.Sending.{packet, to_others}
-use Rattle.paxos_acceptor.specs.Rules.{with_promise, may_promise, may_accept}
-use Rattle.paxos_node.specs.Turns.{with_role, promised_at, voted_at}
-use Rattle.paxos_proposer.specs.Proposing.{step_down, next_vote, asking, offered}
-use Rattle.paxos_packets.specs.Slots.{put_vote, votes_from}
+use Rattle.paxos_packets.specs.Packet.{packet, to_others}
+use Rattle.paxos_acceptor.specs.Acceptor.{with_promise, may_promise, may_accept}
+use Rattle.paxos_node.specs.Turn.{with_role, promised_at, voted_at}
+use Rattle.paxos_proposer.specs.Proposer.{step_down, next_vote, asking, offered}
+use Rattle.paxos_packets.specs.Vote.{put_vote, votes_from}
 use Rattle.paxos_packets.specs.declared.ballot.Ballot.{Ballot}
 use Rattle.paxos_packets.specs.declared.packet.Kind.{Kind}
 use Rattle.paxos_packets.specs.declared.packet.Packet.{Packet}
@@ -40,7 +43,10 @@ same_accepted : {B : Type 0} (v w : Vote B) → Accepted v ≡ Accepted w → v 
 same_accepted v w e = cc
 
 -- the rows where the promise rises and no vote is cast
-rows_up : {B : Type 0} {promised now : ℕ → Option Ballot} {sent later : List (Packet B)} → Grows promised now sent later → (n : ℕ) (rows : Rows B) (boot : ℕ) (mine : Option Ballot) → ((a : Ballot) → Reaches rows.promised a → Reaches mine a) → ((w : Vote B) → Sent later n (Accepted w) → Sent sent n (Accepted w)) → RowsOk sent n rows → RowsOk later n (record { boot = boot; promised = mine; votes = rows.votes })
+rows_up : {B : Type 0} {promised now : ℕ → Option Ballot} {sent later : List (Packet B)} → Grows promised now sent later
+    → (n : ℕ) (rows : Rows B) (boot : ℕ) (mine : Option Ballot) → ((a : Ballot) → Reaches rows.promised a → Reaches mine a)
+    → ((w : Vote B) → Sent later n (Accepted w) → Sent sent n (Accepted w)) → RowsOk sent n rows
+    → RowsOk later n (record { boot = boot; promised = mine; votes = rows.votes })
 rows_up g n rows boot mine up none ok =
     record {
       reached = λ w s. up w.ballot (ok.reached w (none w s));
@@ -50,19 +56,28 @@ rows_up g n rows boot mine up none ok =
     }
 
 -- what a node tells of itself
-own_tells : {B : Type 0} {promised now : ℕ → Option Ballot} {sent later : List (Packet B)} → Grows promised now sent later → (n : ℕ) (rows : Rows B) (b : Ballot) (floor : ℕ) → Reaches (now n) b → ((a : Ballot) → Reaches rows.promised a → Lt a b) → ((w : Vote B) → Sent later n (Accepted w) → Sent sent n (Accepted w)) → RowsOk sent n rows → Tells now later n b floor (votes_from floor rows.votes)
+own_tells : {B : Type 0} {promised now : ℕ → Option Ballot} {sent later : List (Packet B)} → Grows promised now sent later
+    → (n : ℕ) (rows : Rows B) (b : Ballot) (floor : ℕ) → Reaches (now n) b → ((a : Ballot) → Reaches rows.promised a → Lt a b)
+    → ((w : Vote B) → Sent later n (Accepted w) → Sent sent n (Accepted w)) → RowsOk sent n rows
+    → Tells now later n b floor (votes_from floor rows.votes)
 own_tells {B} g n rows b floor reaches under none ok =
     record {
       reaches = reaches;
       told = λ w l h s. let t = ok.tops w (none w s) in
-          record { best = t.best; is = from_has floor rows.votes t.best t.is (subst (λ i. floor ≤ i) (sym t.slot) l); slot = t.slot; high = t.high };
+          record {
+            best = t.best;
+            is = from_has floor rows.votes t.best t.is (subst (λ i. floor ≤ i) (sym t.slot) l);
+            slot = t.slot;
+            high = t.high;
+          };
       low = λ u h. under u.ballot (ok.low u (has_from floor rows.votes u h));
       known = λ u h. known_grows g (ok.known u (has_from floor rows.votes u h));
     }
 
 -- Prepare
 
-role_promise : {B : Type 0} (now : ℕ → Option Ballot) (later : List (Packet B)) (n : ℕ) (o : Option Ballot) (b : Ballot) → may_promise o b ≡ true → (r : Role B) → RoleOk now o later n r → RoleOk now (Some b) later n (step_down b r)
+role_promise : {B : Type 0} (now : ℕ → Option Ballot) (later : List (Packet B)) (n : ℕ) (o : Option Ballot) (b : Ballot)
+    → may_promise o b ≡ true → (r : Role B) → RoleOk now o later n r → RoleOk now (Some b) later n (step_down b r)
 role_promise now later n o b m Idle ok = tt
 role_promise now later n o b m (Preparing c floor ps) ok =
     cond_both (below c b) Idle (Preparing c floor ps) (λ r. RoleOk now (Some b) later n r) (λ e. tt)
@@ -71,15 +86,23 @@ role_promise now later n o b m (Leading c next table) ok =
     cond_both (below c b) Idle (Leading c next table) (λ r. RoleOk now (Some b) later n r) (λ e. tt)
     (λ e. absurd (lt_not_le (promise_lt o b m c (subst (λ z. Reaches z c) (sym ok.exact) (reach (le_refl c)))) (le_from_test c b e)))
 
-pub promise_moved : {B : Type 0} (members : ℕ) (at : ℕ → NodeState B) (n : ℕ) (x : NodeState B) (sent : List (Packet B)) (to : ℕ) (b : Ballot) (floor : ℕ) → Inv members (here at n x) sent → may_promise x.rows.promised b ≡ true → Known sent (Prepare b floor)
+pub promise_moved : {B : Type 0} (members : ℕ) (at : ℕ → NodeState B) (n : ℕ) (x : NodeState B) (sent : List (Packet B)) (to : ℕ)
+    (b : Ballot) (floor : ℕ)
+    → Inv members (with_node at n x) sent → may_promise x.rows.promised b ≡ true → Known sent (Prepare b floor)
     → Kept members at n x sent (promised_at b x) (sent ++ packet n (Promise b (votes_from floor x.rows.votes)) to ∷ [])
 promise_moved {B} members at n x sent to b floor inv may asked =
     turn_moved members at n x y sent new inv (promise_up x.rows.promised b may)
     (λ k v s. absurd (not_accepted b (votes_from floor x.rows.votes) v (one k (Accepted v) s).1))
-    (λ g k kind s. ((one k kind s).0, subst (λ z. KindOk members (promises (here at n y)) (sent ++ new) n z) (one k kind s).1 (told g)))
+    (λ g k kind s. (
+      (one k kind s).0,
+      subst (λ z. KindOk members (promises (with_node at n y)) (sent ++ new) n z) (one k kind s).1
+          (told g),
+    ))
     (λ g. record {
       rows = rows_up g n x.rows x.rows.boot (Some b) (promise_up x.rows.promised b may) none ok.rows;
-      role = role_promise (promises (here at n y)) (sent ++ new) n x.rows.promised b may x.proposer.role (role_grows g n (λ c o f p. asks c f p) (λ v o p. offers v p) x.rows.promised x.proposer.role ok.role);
+      role =
+          role_promise (promises (with_node at n y)) (sent ++ new) n x.rows.promised b may x.proposer.role
+          (role_grows g n (λ c o f p. asks c f p) (λ v o p. offers v p) x.rows.promised x.proposer.role ok.role);
       heard = λ h i. vote_of_grows g (ok.heard h i);
       learned = λ f i. chosen_grows g (ok.learned f i);
     })
@@ -90,14 +113,15 @@ promise_moved {B} members at n x sent to b floor inv may asked =
     new : List (Packet B)
     new = packet n (Promise b (votes_from floor x.rows.votes)) to ∷ []
 
-    ok : NodeOk members (promises (here at n x)) sent n x
+    ok : NodeOk members (promises (with_node at n x)) sent n x
     ok = mine_ok members at n x sent inv
 
     one : (k : ℕ) (kind : Kind B) → Sent new k kind → (k ≡ n) × (Promise b (votes_from floor x.rows.votes) ≡ kind)
     one = sent_one n to (Promise b (votes_from floor x.rows.votes))
 
     none : (w : Vote B) → Sent (sent ++ new) n (Accepted w) → Sent sent n (Accepted w)
-    none w s = ⊎_elim (λ o. o) (λ o. absurd (not_accepted b (votes_from floor x.rows.votes) w (one n (Accepted w) o).1)) (sent_cases sent new s)
+    none w s =
+        ⊎_elim (λ o. o) (λ o. absurd (not_accepted b (votes_from floor x.rows.votes) w (one n (Accepted w) o).1)) (sent_cases sent new s)
 
     asks : (c : Ballot) (f : ℕ) → Known (sent ++ new) (Prepare c f) → Known sent (Prepare c f)
     asks c f p = ⊎_elim (λ o. o) (λ o. absurd (differ (one o.by (Prepare c f) o.is).1)) (known_cases sent new p)
@@ -111,38 +135,61 @@ promise_moved {B} members at n x sent to b floor inv may asked =
         differ : Promise b (votes_from floor x.rows.votes) ≡ Accept v → ⊥
         differ e = cc
 
-    told : Grows (promises (here at n x)) (promises (here at n y)) sent (sent ++ new) → Told (promises (here at n y)) (sent ++ new) n b (votes_from floor x.rows.votes)
+    told : Grows (promises (with_node at n x)) (promises (with_node at n y)) sent (sent ++ new)
+        → Told (promises (with_node at n y)) (sent ++ new) n b (votes_from floor x.rows.votes)
     told g =
         record {
           floor = floor;
           asked = known_grows g asked;
-          tells = own_tells g n x.rows b floor (subst (λ o. Reaches o b) (sym (here_promised at n y)) (reach (le_refl b))) (promise_lt x.rows.promised b may) none ok.rows;
+          tells =
+              own_tells g n x.rows b floor (subst (λ o. Reaches o b) (sym (with_node_promised at n y)) (reach (le_refl b)))
+              (promise_lt x.rows.promised b may) none ok.rows;
         }
 
 -- Accept
 
 accept_same : (o : Option Ballot) (b c : Ballot) → may_accept o b ≡ true → o ≡ Some c → below c b ≡ false → Some b ≡ Some c
 accept_same o b c m e f =
-    ⊎_elim (λ l. absurd (lt_not_le l (accept_le c b (subst (λ z. may_accept z b ≡ true) e m)))) (λ s. ap (λ z. Some z) s) (le_cases (le_from_test c b f))
+    ⊎_elim (λ l. absurd (lt_not_le l (accept_le c b (subst (λ z. may_accept z b ≡ true) e m)))) (λ s. ap (λ z. Some z) s)
+    (le_cases (le_from_test c b f))
 
-role_accept : {B : Type 0} (now : ℕ → Option Ballot) (later : List (Packet B)) (n : ℕ) (o : Option Ballot) (b : Ballot) → may_accept o b ≡ true → (r : Role B) → RoleOk now o later n r → RoleOk now (Some b) later n (step_down b r)
+role_accept : {B : Type 0} (now : ℕ → Option Ballot) (later : List (Packet B)) (n : ℕ) (o : Option Ballot) (b : Ballot)
+    → may_accept o b ≡ true → (r : Role B) → RoleOk now o later n r → RoleOk now (Some b) later n (step_down b r)
 role_accept now later n o b m Idle ok = tt
 role_accept now later n o b m (Preparing c floor ps) ok =
     cond_both (below c b) Idle (Preparing c floor ps) (λ r. RoleOk now (Some b) later n r) (λ e. tt)
-    (λ e. record { owner = ok.owner; exact = accept_same o b c m ok.exact e; only = ok.only; asked = ok.asked; none = ok.none; kept = ok.kept })
+    (λ e. record {
+      owner = ok.owner;
+      exact = accept_same o b c m ok.exact e;
+      only = ok.only;
+      asked = ok.asked;
+      none = ok.none;
+      kept = ok.kept;
+    })
 role_accept now later n o b m (Leading c next table) ok =
     cond_both (below c b) Idle (Leading c next table) (λ r. RoleOk now (Some b) later n r) (λ e. tt)
     (λ e. record { owner = ok.owner; exact = accept_same o b c m ok.exact e; made = ok.made; own = ok.own; owned = ok.owned })
 
-pub accept_moved : {B : Type 0} (members : ℕ) (at : ℕ → NodeState B) (n : ℕ) (x : NodeState B) (sent : List (Packet B)) (v : Vote B) → Inv members (here at n x) sent → may_accept x.rows.promised v.ballot ≡ true → Known sent (Accept v)
+pub accept_moved : {B : Type 0} (members : ℕ) (at : ℕ → NodeState B) (n : ℕ) (x : NodeState B) (sent : List (Packet B)) (v : Vote B)
+    → Inv members (with_node at n x) sent → may_accept x.rows.promised v.ballot ≡ true → Known sent (Accept v)
     → Kept members at n x sent (voted_at v x) (sent ++ to_others members n (Accepted v))
 accept_moved {B} members at n x sent v inv may known =
     turn_moved members at n x y sent new inv (accept_up x.rows.promised v.ballot may)
-    (λ k w s. ((one k (Accepted w) s).0, subst (λ (z : Vote B). Over x.rows.promised z.ballot → ⊥) (voted k w s) (accept_over x.rows.promised v.ballot may)))
-    (λ g k kind s. ((one k kind s).0, subst (λ z. KindOk members (promises (here at n y)) (sent ++ new) n z) (one k kind s).1 (known_grows g known)))
+    (λ k w s. (
+      (one k (Accepted w) s).0,
+      subst (λ (z : Vote B). Over x.rows.promised z.ballot → ⊥) (voted k w s)
+          (accept_over x.rows.promised v.ballot may),
+    ))
+    (λ g k kind s. (
+      (one k kind s).0,
+      subst (λ z. KindOk members (promises (with_node at n y)) (sent ++ new) n z) (one k kind s).1
+          (known_grows g known),
+    ))
     (λ g. record {
       rows = rows g;
-      role = role_accept (promises (here at n y)) (sent ++ new) n x.rows.promised v.ballot may x.proposer.role (role_grows g n (λ c o f p. asks c f p) (λ v o p. offers v p) x.rows.promised x.proposer.role ok.role);
+      role =
+          role_accept (promises (with_node at n y)) (sent ++ new) n x.rows.promised v.ballot may x.proposer.role
+          (role_grows g n (λ c o f p. asks c f p) (λ v o p. offers v p) x.rows.promised x.proposer.role ok.role);
       heard = λ h i. vote_of_grows g (ok.heard h i);
       learned = λ f i. chosen_grows g (ok.learned f i);
     })
@@ -153,7 +200,7 @@ accept_moved {B} members at n x sent v inv may known =
     new : List (Packet B)
     new = to_others members n (Accepted v)
 
-    ok : NodeOk members (promises (here at n x)) sent n x
+    ok : NodeOk members (promises (with_node at n x)) sent n x
     ok = mine_ok members at n x sent inv
 
     one : (k : ℕ) (kind : Kind B) → Sent new k kind → (k ≡ n) × (Accepted v ≡ kind)
@@ -175,37 +222,66 @@ accept_moved {B} members at n x sent v inv may known =
         differ e = cc
 
     mine_top : (w : Vote B) → v ≡ w → Tops (put_vote v x.rows.votes) w
-    mine_top w e = subst (λ z. Tops (put_vote v x.rows.votes) z) e (record { best = v; is = put_has v x.rows.votes; slot = refl; high = le_refl v.ballot })
+    mine_top w e =
+        subst (λ z. Tops (put_vote v x.rows.votes) z) e
+        (record { best = v; is = put_has v x.rows.votes; slot = refl; high = le_refl v.ballot })
 
     old_top : (w : Vote B) → Reaches x.rows.promised w.ballot → Tops x.rows.votes w → Tops (put_vote v x.rows.votes) w
     old_top w r t =
         ⊎_elim (λ h. record { best = t.best; is = h; slot = t.slot; high = t.high })
-        (λ e. record { best = v; is = put_has v x.rows.votes; slot = sym e ∙ t.slot; high = low (accept_up x.rows.promised v.ballot may w.ballot r) })
+        (λ e. record {
+          best = v;
+          is = put_has v x.rows.votes;
+          slot = sym e ∙ t.slot;
+          high = low (accept_up x.rows.promised v.ballot may w.ballot r);
+        })
         (put_keeps v x.rows.votes t.best t.is)
       where
         low : Reaches (Some v.ballot) w.ballot → Le w.ballot v.ballot
         low (reach h) = h
 
-    rows : Grows (promises (here at n x)) (promises (here at n y)) sent (sent ++ new) → RowsOk (sent ++ new) n y.rows
+    rows : Grows (promises (with_node at n x)) (promises (with_node at n y)) sent (sent ++ new) → RowsOk (sent ++ new) n y.rows
     rows g =
         record {
-          reached = λ w s. ⊎_elim (λ o. accept_up x.rows.promised v.ballot may w.ballot (ok.rows.reached w o)) (λ o. subst (λ (z : Vote B). Reaches (Some v.ballot) z.ballot) (voted n w o) (reach (le_refl v.ballot))) (sent_cases sent new s);
-          tops = λ w s. ⊎_elim (λ o. old_top w (ok.rows.reached w o) (ok.rows.tops w o)) (λ o. mine_top w (voted n w o)) (sent_cases sent new s);
-          low = λ u h. ⊎_elim (λ e. subst (λ (z : Vote B). Reaches (Some v.ballot) z.ballot) e (reach (le_refl v.ballot))) (λ o. accept_up x.rows.promised v.ballot may u.ballot (ok.rows.low u o)) (put_cases v x.rows.votes u h);
-          known = λ u h. ⊎_elim (λ e. subst (λ z. Known (sent ++ new) (Accept z)) e (known_grows g known)) (λ o. known_grows g (ok.rows.known u o)) (put_cases v x.rows.votes u h);
+          reached =
+              λ w s.
+              ⊎_elim (λ o. accept_up x.rows.promised v.ballot may w.ballot (ok.rows.reached w o))
+              (λ o. subst (λ (z : Vote B). Reaches (Some v.ballot) z.ballot) (voted n w o) (reach (le_refl v.ballot)))
+              (sent_cases sent new s);
+          tops =
+              λ w s.
+              ⊎_elim (λ o. old_top w (ok.rows.reached w o) (ok.rows.tops w o)) (λ o. mine_top w (voted n w o)) (sent_cases sent new s);
+          low =
+              λ u h.
+              ⊎_elim (λ e. subst (λ (z : Vote B). Reaches (Some v.ballot) z.ballot) e (reach (le_refl v.ballot)))
+              (λ o. accept_up x.rows.promised v.ballot may u.ballot (ok.rows.low u o)) (put_cases v x.rows.votes u h);
+          known =
+              λ u h.
+              ⊎_elim (λ e. subst (λ z. Known (sent ++ new) (Accept z)) e (known_grows g known)) (λ o. known_grows g (ok.rows.known u o))
+              (put_cases v x.rows.votes u h);
         }
 
 -- Start
 
 abbrev pub begun_at : {B : Type 0} → ℕ → Ballot → ℕ → NodeState B → NodeState B
-begun_at n b floor x = record x { rows = with_promise b x.rows; proposer = record { role = asking n b floor (votes_from floor x.rows.votes); seen = x.proposer.seen } }
+begun_at n b floor x =
+    record x {
+      rows = with_promise b x.rows;
+      proposer = record { role = asking n b floor (votes_from floor x.rows.votes); seen = x.proposer.seen };
+    }
 
-pub begin_moved : {B : Type 0} (members : ℕ) (at : ℕ → NodeState B) (n : ℕ) (x : NodeState B) (sent : List (Packet B)) (b : Ballot) (floor : ℕ) → 2 ≤ members → Inv members (here at n x) sent → may_promise x.rows.promised b ≡ true → b.node ≡ n
+pub begin_moved : {B : Type 0} (members : ℕ) (at : ℕ → NodeState B) (n : ℕ) (x : NodeState B) (sent : List (Packet B)) (b : Ballot)
+    (floor : ℕ)
+    → 2 ≤ members → Inv members (with_node at n x) sent → may_promise x.rows.promised b ≡ true → b.node ≡ n
     → Kept members at n x sent (begun_at n b floor x) (sent ++ to_others members n (Prepare b floor))
 begin_moved {B} members at n x sent b floor many inv may owner =
     turn_moved members at n x y sent new inv (promise_up x.rows.promised b may)
     (λ k v s. absurd (differ v (one k (Accepted v) s).1))
-    (λ g k kind s. ((one k kind s).0, subst (λ z. KindOk members (promises (here at n y)) (sent ++ new) n z) (one k kind s).1 (record { owner = owner; reaches = mine; one = λ f p. sym (only f p) })))
+    (λ g k kind s. (
+      (one k kind s).0,
+      subst (λ z. KindOk members (promises (with_node at n y)) (sent ++ new) n z) (one k kind s).1
+          (record { owner = owner; reaches = mine; one = λ f p. sym (only f p) }),
+    ))
     (λ g. record {
       rows = rows_up g n x.rows x.rows.boot (Some b) (promise_up x.rows.promised b may) none ok.rows;
       role = record {
@@ -214,7 +290,10 @@ begin_moved {B} members at n x sent b floor many inv may owner =
         only = λ f p. sym (only f p);
         asked = record { by = n; is = sent_right sent (others_sent members n many (Prepare b floor)) };
         none = λ v p e. unoffered v p e;
-        kept = λ c h. subst (λ (z : Counted B). Tells (promises (here at n y)) (sent ++ new) z.node b floor z.votes) (has_one h) (own_tells g n x.rows b floor mine (promise_lt x.rows.promised b may) none ok.rows);
+        kept =
+            λ c h.
+            subst (λ (z : CountedPromise B). Tells (promises (with_node at n y)) (sent ++ new) z.node b floor z.votes) (has_one h)
+            (own_tells g n x.rows b floor mine (promise_lt x.rows.promised b may) none ok.rows);
       };
       heard = λ h i. vote_of_grows g (ok.heard h i);
       learned = λ f i. chosen_grows g (ok.learned f i);
@@ -226,11 +305,11 @@ begin_moved {B} members at n x sent b floor many inv may owner =
     new : List (Packet B)
     new = to_others members n (Prepare b floor)
 
-    ok : NodeOk members (promises (here at n x)) sent n x
+    ok : NodeOk members (promises (with_node at n x)) sent n x
     ok = mine_ok members at n x sent inv
 
-    mine : Reaches (promises (here at n y) n) b
-    mine = subst (λ o. Reaches o b) (sym (here_promised at n y)) (reach (le_refl b))
+    mine : Reaches (promises (with_node at n y) n) b
+    mine = subst (λ o. Reaches o b) (sym (with_node_promised at n y)) (reach (le_refl b))
 
     one : (k : ℕ) (kind : Kind B) → Sent new k kind → (k ≡ n) × (Prepare b floor ≡ kind)
     one = sent_to_others members n (Prepare b floor)
@@ -242,15 +321,21 @@ begin_moved {B} members at n x sent b floor many inv may owner =
     none w s = ⊎_elim (λ o. o) (λ o. absurd (differ w (one n (Accepted w) o).1)) (sent_cases sent new s)
 
     -- nothing of this ballot was there
-    unreached : Reaches (promises (here at n x) b.node) b → ⊥
-    unreached r = lt_not_le (promise_lt x.rows.promised b may b (subst (λ o. Reaches o b) (here_promised at n x) (subst (λ j. Reaches (promises (here at n x) j) b) owner r))) (le_refl b)
+    unreached : Reaches (promises (with_node at n x) b.node) b → ⊥
+    unreached r =
+        lt_not_le
+        (promise_lt x.rows.promised b may b (subst (λ o. Reaches o b) (with_node_promised at n x)
+        (subst (λ j. Reaches (promises (with_node at n x) j) b) owner r)))
+        (le_refl b)
 
     only : (f : ℕ) → Known (sent ++ new) (Prepare b f) → floor ≡ f
-    only f p = ⊎_elim (λ o. absurd (unreached (inv.packets.asked_low b f o))) (λ o. same_prepare B b b floor f (one o.by (Prepare b f) o.is).1) (known_cases sent new p)
+    only f p =
+        ⊎_elim (λ o. absurd (unreached (inv.packets.asked_low b f o))) (λ o. same_prepare B b b floor f (one o.by (Prepare b f) o.is).1)
+        (known_cases sent new p)
 
     unoffered : (v : Vote B) → Known (sent ++ new) (Accept v) → v.ballot ≡ b → ⊥
     unoffered v p e =
-        ⊎_elim (λ o. unreached (subst (λ (z : Ballot). Reaches (promises (here at n x) z.node) z) e (inv.packets.low v o)))
+        ⊎_elim (λ o. unreached (subst (λ (z : Ballot). Reaches (promises (with_node at n x) z.node) z) e (inv.packets.low v o)))
         (λ o. other (one o.by (Accept v) o.is).1)
         (known_cases sent new p)
       where
@@ -259,17 +344,20 @@ begin_moved {B} members at n x sent b floor many inv may owner =
 
 -- a proposal
 
-pub offer_moved : {B : Type 0} (members : ℕ) (at : ℕ → NodeState B) (n : ℕ) (x : NodeState B) (sent : List (Packet B)) (b : Ballot) (next : ℕ) (table : List (Vote B)) (e : Entry B) → 2 ≤ members → Inv members (here at n x) sent → LeadingOk x.rows.promised sent n b next table → Safe members (promises (here at n x)) sent (next_vote b next e)
+pub offer_moved : {B : Type 0} (members : ℕ) (at : ℕ → NodeState B) (n : ℕ) (x : NodeState B) (sent : List (Packet B)) (b : Ballot)
+    (next : ℕ) (table : List (Vote B)) (e : Entry B)
+    → 2 ≤ members → Inv members (with_node at n x) sent → LeadingOk x.rows.promised sent n b next table
+    → Safe members (promises (with_node at n x)) sent (next_vote b next e)
     → Kept members at n x sent (with_role (offered b next table e) x) (sent ++ to_others members n (Accept (next_vote b next e)))
 offer_moved {B} members at n x sent b next table e many inv lead safe =
     turn_moved members at n x y sent new inv (λ a h. h)
     (λ k w s. absurd (differ w (one k (Accepted w) s).1))
     (λ g k kind s. (
       (one k kind s).0,
-      subst (λ z. KindOk members (promises (here at n y)) (sent ++ new) n z) (one k kind s).1
+      subst (λ z. KindOk members (promises (with_node at n y)) (sent ++ new) n z) (one k kind s).1
           (record {
             owner = lead.owner;
-            reaches = subst (λ o. Reaches o b) (sym (here_promised at n y ∙ lead.exact)) (reach (le_refl b));
+            reaches = subst (λ o. Reaches o b) (sym (with_node_promised at n y ∙ lead.exact)) (reach (le_refl b));
             safe = safe_grows g safe;
             one = single;
           }),
@@ -279,8 +367,14 @@ offer_moved {B} members at n x sent b next table e many inv lead safe =
       role = record {
         owner = lead.owner;
         exact = lead.exact;
-        made = λ w p d. ⊎_elim (λ o. let l = lead.made w o d in omega arith) (λ o. subst (λ (z : Vote B). z.slot < suc next) (same w o) (omega arith)) (known_cases sent new p);
-        own = λ w h. ⊎_elim (λ o. known_grows g (lead.own w o)) (λ d. subst (λ z. Known (sent ++ new) (Accept z)) (has_one d) there_now) (has_cases table (v ∷ []) h);
+        made =
+            λ w p d.
+            ⊎_elim (λ o. let l = lead.made w o d in omega arith) (λ o. subst (λ (z : Vote B). z.slot < suc next) (same w o) (omega arith))
+            (known_cases sent new p);
+        own =
+            λ w h.
+            ⊎_elim (λ o. known_grows g (lead.own w o)) (λ d. subst (λ z. Known (sent ++ new) (Accept z)) (has_one d) there_now)
+            (has_cases table (v ∷ []) h);
         owned = λ w h. ⊎_elim (λ o. lead.owned w o) (λ d. ap (λ (z : Vote B). z.ballot) (sym (has_one d))) (has_cases table (v ∷ []) h);
       };
       heard = λ h i. vote_of_grows g (ok.heard h i);
@@ -296,7 +390,7 @@ offer_moved {B} members at n x sent b next table e many inv lead safe =
     new : List (Packet B)
     new = to_others members n (Accept v)
 
-    ok : NodeOk members (promises (here at n x)) sent n x
+    ok : NodeOk members (promises (with_node at n x)) sent n x
     ok = mine_ok members at n x sent inv
 
     one : (k : ℕ) (kind : Kind B) → Sent new k kind → (k ≡ n) × (Accept v ≡ kind)
@@ -315,7 +409,9 @@ offer_moved {B} members at n x sent b next table e many inv lead safe =
     there_now = record { by = n; is = sent_right sent (others_sent members n many (Accept v)) }
 
     single : (w : Vote B) → Known (sent ++ new) (Accept w) → v.slot ≡ w.slot → v.ballot ≡ w.ballot → v.entry ≡ w.entry
-    single w p s d = ⊎_elim (λ o. let l = lead.made w o (sym d) in absurd (past l s)) (λ o. ap (λ (z : Vote B). z.entry) (same w o)) (known_cases sent new p)
+    single w p s d =
+        ⊎_elim (λ o. let l = lead.made w o (sym d) in absurd (past l s)) (λ o. ap (λ (z : Vote B). z.entry) (same w o))
+        (known_cases sent new p)
       where
         past : w.slot < next → next ≡ w.slot → ⊥
         past l q = omega arith

@@ -3,24 +3,29 @@ use Rattle.std.proofs.Common.{◌≡◌, ◌⊎◌, inl, inr, ⊎_elim, ℕ, zer
 use Rattle.std.specs.Prelude.{slice_get}
 use Rattle.cluster_world.proofs.Invariant.{IsChosen, promises}
 use Rattle.cluster_world.proofs.OneChosen.{chosen_one}
-use Rattle.cluster_world.proofs.Plays.{event_goes, world_ok, all_stay, play_on}
-use Rattle.paxos_packets.specs.Majority.{Has}
+use Rattle.cluster_world.proofs.EveryWorld.{event_goes, world_ok, all_stay, play_on}
+use Rattle.cluster_world.specs.Has.{Has}
 use Rattle.paxos_packets.specs.declared.entry.Entry.{Entry}
 use Rattle.paxos_packets.specs.declared.packet.Packet.{Packet}
 use Rattle.paxos_node.specs.declared.event.Event.{Event}
 use Rattle.cluster_world.specs.World.{World, node_at, first_world, played, log_of}
 use Rattle.cluster_world.specs.Chosen.{Chosen}
-use Rattle.cluster_world.specs.Laws.{LearnedIsChosen, ChosenIsOne, ToldIsChosen, LearnedIsOne, NeverDisagrees, LogIsChosen, IsPrefixOf, LogsArePrefixes}
-use Rattle.paxos_packets.specs.Same.{IsEquality}
+use Rattle.cluster_world.specs.Laws.{LearnedIsChosen, ChosenIsOne, ToldIsChosen, LearnedIsOne, NeverDisagrees, LogIsChosen, IsPrefixOf}
+use Rattle.cluster_world.specs.Laws.{LogsArePrefixes}
+use Rattle.paxos_packets.specs.Body.{IsEquality}
 
-chosen_out : {B : Type 0} (members : ℕ) (sent : List (Packet B)) (slot : ℕ) (e : Entry B) → IsChosen members sent slot e → Chosen members sent slot e
+chosen_out : {B : Type 0} (members : ℕ) (sent : List (Packet B)) (slot : ℕ) (e : Entry B) → IsChosen members sent slot e
+    → Chosen members sent slot e
 chosen_out members sent slot e c = (c.ballot, c.quorum, c.most, λ k m q. let s = c.voted k m q in (s.to, s.is))
 
-chosen_in : {B : Type 0} (members : ℕ) (sent : List (Packet B)) (slot : ℕ) (e : Entry B) → Chosen members sent slot e → IsChosen members sent slot e
-chosen_in members sent slot e c = record { ballot = c.0; quorum = c.1; most = c.2; voted = λ k m q. let s = c.3 k m q in record { to = s.0; is = s.1 } }
+chosen_in : {B : Type 0} (members : ℕ) (sent : List (Packet B)) (slot : ℕ) (e : Entry B) → Chosen members sent slot e
+    → IsChosen members sent slot e
+chosen_in members sent slot e c =
+    record { ballot = c.0; quorum = c.1; most = c.2; voted = λ k m q. let s = c.3 k m q in record { to = s.0; is = s.1 } }
 
 -- lists that agree where both have an element
-prefixes : {A : Type 0} (xs ys : List A) → ((i : ℕ) (d e : A) → slice_get xs i ≡ Some d → slice_get ys i ≡ Some e → d ≡ e) → IsPrefixOf xs ys ⊎ IsPrefixOf ys xs
+prefixes : {A : Type 0} (xs ys : List A) → ((i : ℕ) (d e : A) → slice_get xs i ≡ Some d → slice_get ys i ≡ Some e → d ≡ e)
+    → IsPrefixOf xs ys ⊎ IsPrefixOf ys xs
 prefixes [] ys h = inl (ys, refl)
 prefixes (x ∷ xs) [] h = inr (x ∷ xs, refl)
 prefixes {A} (x ∷ xs) (y ∷ ys) h =
@@ -36,7 +41,8 @@ module _ {B : Type 0} (same : B → B → Bool) (equal : IsEquality same) where
       chosen_out members w.sent f.slot f.entry (((world_ok same equal members (omega arith) events).inv.nodes k).learned f h)
 
   -- of one world
-  one : (members : ℕ) → 3 ≤ members → (events : List (Event B)) (slot : ℕ) (d e : Entry B) → IsChosen members (played same members events).sent slot d → IsChosen members (played same members events).sent slot e → d ≡ e
+  one : (members : ℕ) → 3 ≤ members → (events : List (Event B)) (slot : ℕ) (d e : Entry B)
+      → IsChosen members (played same members events).sent slot d → IsChosen members (played same members events).sent slot e → d ≡ e
   one members l events slot d e a b =
       let w = played same members events in
       chosen_one members (promises (node_at w.nodes)) w.sent (world_ok same equal members (omega arith) events).inv.packets slot d e a b
@@ -49,7 +55,9 @@ module _ {B : Type 0} (same : B → B → Bool) (equal : IsEquality same) where
   pub told_is_chosen : ToldIsChosen B same
   told_is_chosen members l events k slot e s =
       let w = played same members events in
-      chosen_out members w.sent slot e ((world_ok same equal members (omega arith) events).inv.packets.learned slot e (record { by = k; is = record { to = s.0; is = s.1 } }))
+      chosen_out members w.sent slot e
+      ((world_ok same equal members (omega arith) events).inv.packets.learned slot e
+      (record { by = k; is = record { to = s.0; is = s.1 } }))
 
   pub log_is_chosen : LogIsChosen B same
   log_is_chosen members l events k i e h =
@@ -57,11 +65,20 @@ module _ {B : Type 0} (same : B → B → Bool) (equal : IsEquality same) where
       chosen_out members w.sent (suc i) e (((world_ok same equal members (omega arith) events).log k).at i e h)
 
   -- what was chosen stays chosen
-  chosen_on : (members : ℕ) (early later : List (Event B)) (slot : ℕ) (e : Entry B) → IsChosen members (played same members early).sent slot e → IsChosen members (played same members (early ++ later)).sent slot e
-  chosen_on members early later slot e c = record { ballot = c.ballot; quorum = c.quorum; most = c.most; voted = λ n m q. let s = c.voted n m q in record { to = s.to; is = there _ s.is } }
+  chosen_on : (members : ℕ) (early later : List (Event B)) (slot : ℕ) (e : Entry B)
+      → IsChosen members (played same members early).sent slot e → IsChosen members (played same members (early ++ later)).sent slot e
+  chosen_on members early later slot e c =
+      record {
+        ballot = c.ballot;
+        quorum = c.quorum;
+        most = c.most;
+        voted = λ n m q. let s = c.voted n m q in record { to = s.to; is = there _ s.is };
+      }
     where
       there : (p : Packet B) → Has (played same members early).sent p → Has (played same members (early ++ later)).sent p
-      there p h = subst (λ (z : World B). Has z.sent p) (sym (play_on same members early later (first_world members))) (all_stay same members later (played same members early) p h)
+      there p h =
+          subst (λ (z : World B). Has z.sent p) (sym (play_on same members early later (first_world members)))
+          (all_stay same members later (played same members early) p h)
 
   pub learned_is_one : LearnedIsOne B same
   learned_is_one members l early later j k f g a b s =
@@ -69,16 +86,19 @@ module _ {B : Type 0} (same : B → B → Bool) (equal : IsEquality same) where
       let w = world_ok same equal members many early in
       let v = world_ok same equal members many (early ++ later) in
       one members l (early ++ later) g.slot f.entry g.entry
-      (subst (λ z. IsChosen members (played same members (early ++ later)).sent z f.entry) s (chosen_on members early later f.slot f.entry ((w.inv.nodes j).learned f a)))
+      (subst (λ z. IsChosen members (played same members (early ++ later)).sent z f.entry) s
+      (chosen_on members early later f.slot f.entry ((w.inv.nodes j).learned f a)))
       ((v.inv.nodes k).learned g b)
 
   pub logs_are_prefixes : LogsArePrefixes B same
-  logs_are_prefixes members l early later j k = prefixes (log_of (played same members early) j) (log_of (played same members (early ++ later)) k) agree
+  logs_are_prefixes members l early later j k =
+      prefixes (log_of (played same members early) j) (log_of (played same members (early ++ later)) k) agree
     where
       many : 2 ≤ members
       many = omega arith
 
-      agree : (i : ℕ) (d e : Entry B) → slice_get (log_of (played same members early) j) i ≡ Some d → slice_get (log_of (played same members (early ++ later)) k) i ≡ Some e → d ≡ e
+      agree : (i : ℕ) (d e : Entry B) → slice_get (log_of (played same members early) j) i ≡ Some d
+          → slice_get (log_of (played same members (early ++ later)) k) i ≡ Some e → d ≡ e
       agree i d e a b =
           one members l (early ++ later) (suc i) d e
           (chosen_on members early later (suc i) d (((world_ok same equal members many early).log j).at i d a))

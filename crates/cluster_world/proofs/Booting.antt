@@ -1,26 +1,30 @@
 -- The boots that nodes had, and the suspicions that they had.
-use Rattle.std.proofs.Common.{◌≡◌, ⊎_elim, ℕ, zero, suc, ◌<◌, ◌≤◌, Bool, true, false, not, ◌&&◌, eqb, refl, sym, ap, ◌∙◌, subst, arith, List, [], ◌∷◌, ◌++◌, length, append_assoc, Option, Some, None}
+use Rattle.std.proofs.Common.{◌≡◌, ⊎_elim, ℕ, zero, suc, ◌<◌, ◌≤◌, Bool, true, false, not, ◌&&◌, eqb, refl, sym, ap, ◌∙◌, subst, arith}
+use Rattle.std.proofs.Common.{List, [], ◌∷◌, ◌++◌, length, append_assoc, Option, Some, None}
 use Rattle.std.specs.Prelude.{slice_index_or, nat_lt}
 use Rattle.std.proofs.lemmas.List.{append-nil}
 use Rattle.std.proofs.lemmas.Bool.{cond_both, cases_eq, cases_lt, and_parts}
-use Rattle.cluster_world.proofs.Members.{has_nil, has_one, has_cases}
-use Rattle.cluster_world.proofs.Plays.{within, node_same, node_other, play_on}
+use Rattle.cluster_world.proofs.Lists.{has_nil, has_one, has_cases}
+use Rattle.cluster_world.proofs.EveryWorld.{within, node_same, node_other, play_on}
 use Rattle.cluster_world.proofs.Handing.{Ran, Began, event_cases}
 use Rattle.cluster_world.proofs.Taking.{founded_length, log_was_made}
-use Rattle.paxos_packets.specs.Majority.{IsMember, Has}
+use Rattle.paxos_packets.specs.Members.{IsMember}
+use Rattle.cluster_world.specs.Has.{Has}
 use Rattle.paxos_packets.specs.declared.entry.Entry.{Entry}
 use Rattle.paxos_packets.specs.declared.entry.Entry.TheVariants.{Noop, Boot, Lost}
-use Rattle.replica_machine.specs.Standings.{standing, live_in}
+use Rattle.replica_machine.specs.Roll.{standing, live_in}
 use Rattle.replica_machine.proofs.Places.{live_boot_is}
 use Rattle.paxos_node.specs.declared.event.Event.{Event}
 use Rattle.paxos_node.specs.declared.event.Event.TheVariants.{Take, Tick, Start, Suspect, Deliver, Crash, Restart}
 use Rattle.paxos_node.specs.declared.state.NodeState.{NodeState}
-use Rattle.paxos_node.specs.declared.outcome.Outcome.{Outcome}
+use Rattle.paxos_node.specs.declared.turn.Turn.{Turn}
 use Rattle.paxos_node.specs.Applying.{started, first_rows}
-use Rattle.paxos_node.specs.Events.{takes, new_item, has_room, is_pending, new_lost_of, new_lost, owner, possible, outcome_of, taken_by, suspected_by, made_by}
-use Rattle.cluster_world.specs.World.{World, absent, node_at, put_node, founded, first_boots, first_world, was_sent, done, next, play, played, log_of}
+use Rattle.paxos_node.specs.Events.{takes, new_item, has_room, is_pending, new_lost_of, new_lost, owner, possible, outcome_of, taken_by}
+use Rattle.paxos_node.specs.Events.{suspected_by, made_by}
+use Rattle.cluster_world.specs.World.{World, absent, node_at, put_node, founded, first_boots, first_world, was_sent, done, next, play}
+use Rattle.cluster_world.specs.World.{played, log_of}
 use Rattle.cluster_world.specs.Origins.{BootsWereHad, Suspected, LostsWereSuspected}
-use Rattle.paxos_packets.specs.Same.{IsEquality}
+use Rattle.paxos_packets.specs.Body.{IsEquality}
 
 -- which Boots and which Losts an event makes
 
@@ -81,7 +85,8 @@ new_lost_suspects {B} same me other x =
         inside : (l : Entry B) → Some (Lost other b) ≡ Some l → Lost other b ≡ l
         inside l d = cc
 
-suspected_has : {B : Type 0} (other : ℕ) (x : NodeState B) (o : Option (Entry B)) → Suspects other x o → (e : Entry B) → Has (suspected_by o x) e → (b : ℕ) × (e ≡ Lost other b) × (live_in (standing other x.applied) ≡ Some b)
+suspected_has : {B : Type 0} (other : ℕ) (x : NodeState B) (o : Option (Entry B)) → Suspects other x o → (e : Entry B)
+    → Has (suspected_by o x) e → (b : ℕ) × (e ≡ Lost other b) × (live_in (standing other x.applied) ≡ Some b)
 suspected_has other x None s e h = absurd (has_nil h)
 suspected_has other x (Some l) s e h =
     cond_both (has_room x) (l ∷ []) [] (λ z. Has z e → (b : ℕ) × (e ≡ Lost other b) × (live_in (standing other x.applied) ≡ Some b))
@@ -94,13 +99,19 @@ module _ {B : Type 0} (same : B → B → Bool) where
   made_boot (Take m t body) x p n b h = absurd (taken_no_boot m t body x n b h)
   made_boot (Tick m) x p n b h = absurd (has_nil h)
   made_boot (Start m) x p n b h = absurd (has_nil h)
-  made_boot (Suspect m other) x p n b h = absurd (let r = suspected_has other x (new_lost same m other x) (new_lost_suspects same m other x) (Boot n b) h in differ r.0 r.1)
+  made_boot (Suspect m other) x p n b h =
+      absurd (let r = suspected_has other x (new_lost same m other x) (new_lost_suspects same m other x) (Boot n b) h in differ r.0 r.1)
     where
       differ : (c : ℕ) → ◌≡◌ {A = Entry B} (Boot n b) (Lost other c) → ⊥
       differ c e = cc
   made_boot (Deliver q) x p n b h = absurd (has_nil h)
   made_boot (Crash m) x p n b h = absurd (has_nil h)
-  made_boot (Restart m) x p n b h = record { node = sym (names (has_one h)); was = down x.up (and_parts (not x.up) (nat_lt x.rows.boot Rattle.paxos_node.specs.Events.last_number) p).0; boot = sym (boots (has_one h)) }
+  made_boot (Restart m) x p n b h =
+      record {
+        node = sym (names (has_one h));
+        was = down x.up (and_parts (not x.up) (nat_lt x.rows.boot Rattle.paxos_node.specs.Events.last_number) p).0;
+        boot = sym (boots (has_one h));
+      }
     where
       names : ◌≡◌ {A = Entry B} (Boot m (suc x.rows.boot)) (Boot n b) → m ≡ n
       names e = cc
@@ -121,7 +132,11 @@ module _ {B : Type 0} (same : B → B → Bool) where
   made_lost (Start m) x n b h = absurd (has_nil h)
   made_lost (Suspect m other) x n b h =
       let r = suspected_has other x (new_lost same m other x) (new_lost_suspects same m other x) (Lost n b) h in
-      record { by = m; is = ap (λ k. Suspect m k) (sym (names r.0 r.1)); live = subst (λ (z : ℕ × ℕ). live_in (standing z.0 x.applied) ≡ Some z.1) (λ i. (sym (names r.0 r.1) i, sym (boots r.0 r.1) i)) r.2 }
+      record {
+        by = m;
+        is = ap (λ k. Suspect m k) (sym (names r.0 r.1));
+        live = subst (λ (z : ℕ × ℕ). live_in (standing z.0 x.applied) ≡ Some z.1) (λ i. (sym (names r.0 r.1) i, sym (boots r.0 r.1) i)) r.2;
+      }
     where
       names : (c : ℕ) → ◌≡◌ {A = Entry B} (Lost n b) (Lost other c) → n ≡ other
       names c e = cc
@@ -139,7 +154,7 @@ module _ {B : Type 0} (same : B → B → Bool) where
     abbrev at' : World B → Event B → NodeState B
     at' w e = node_at w.nodes (owner e)
 
-    abbrev goes : World B → Event B → Outcome B
+    abbrev goes : World B → Event B → Turn B
     goes w e = outcome_of same members e (at' w e)
 
     -- boots
@@ -154,19 +169,24 @@ module _ {B : Type 0} (same : B → B → Bool) where
       had : (n b : ℕ) → Has w.made (Boot n b) → Had w n b
 
     -- no boot falls
-    rises : (w : World B) (e : Event B) → possible e (at' w e) ≡ true → (n : ℕ) → (node_at w.nodes n).rows.boot ≤ (node_at (put_node w.nodes (owner e) (goes w e).node) n).rows.boot
+    rises : (w : World B) (e : Event B) → possible e (at' w e) ≡ true → (n : ℕ)
+        → (node_at w.nodes n).rows.boot ≤ (node_at (put_node w.nodes (owner e) (goes w e).node) n).rows.boot
     rises w e p n =
         ⊎_elim
-        (λ (i : n ≡ owner e). subst (λ k. (node_at w.nodes k).rows.boot ≤ (node_at (put_node w.nodes (owner e) (goes w e).node) k).rows.boot) (sym i)
-        (subst (λ (x : NodeState B). (at' w e).rows.boot ≤ x.rows.boot) (sym (node_same w.nodes (owner e) (goes w e).node (within w.nodes e (owner e) p))) mine))
-        (λ i. subst (λ (x : NodeState B). (node_at w.nodes n).rows.boot ≤ x.rows.boot) (sym (node_other w.nodes (owner e) (goes w e).node n i)) (omega arith))
+        (λ (i : n ≡ owner e). subst (λ k. (node_at w.nodes k).rows.boot ≤
+        (node_at (put_node w.nodes (owner e) (goes w e).node) k).rows.boot) (sym i)
+        (subst (λ (x : NodeState B). (at' w e).rows.boot ≤ x.rows.boot)
+        (sym (node_same w.nodes (owner e) (goes w e).node (within w.nodes e (owner e) p))) mine))
+        (λ i. subst (λ (x : NodeState B). (node_at w.nodes n).rows.boot ≤ x.rows.boot)
+        (sym (node_other w.nodes (owner e) (goes w e).node n i)) (omega arith))
         (cases_eq n (owner e))
       where
         mine : (at' w e).rows.boot ≤ (goes w e).node.rows.boot
         mine =
             ⊎_elim
             (λ (r : Ran same members e (at' w e)). let q = r.from.boot_is in omega arith)
-            (λ (r : Began same members e (at' w e)). subst (λ (x : NodeState B). (at' w e).rows.boot ≤ x.rows.boot) (sym r.is) (omega arith))
+            (λ (r : Began same members e (at' w e)). subst (λ (x : NodeState B). (at' w e).rows.boot ≤ x.rows.boot) (sym r.is)
+            (omega arith))
             (event_cases same members e (at' w e) p)
 
     done_boots : (w : World B) (e : Event B) → possible e (at' w e) ≡ true → BootsOk w → BootsOk (done same w e (at' w e) (goes w e))
@@ -193,13 +213,19 @@ module _ {B : Type 0} (same : B → B → Bool) where
         fresh n b m =
             let inside = within w.nodes e (owner e) p in
             record {
-              member = subst (λ k. IsMember members k) (sym (m.node ∙ inside.is)) (low inside.i, high inside.i (subst (λ l. inside.i < l) ok.nodes inside.low));
+              member =
+                  subst (λ k. IsMember members k) (sym (m.node ∙ inside.is))
+                  (low inside.i, high inside.i (subst (λ l. inside.i < l) ok.nodes inside.low));
               from = subst (λ c. 1 ≤ c) (sym m.boot) (low (at' w e).rows.boot);
-              to = subst (λ (z : ℕ × ℕ). z.1 ≤ (node_at (put_node w.nodes (owner e) (goes w e).node) z.0).rows.boot) (λ i. (sym m.node i, sym m.boot i))
-                  (subst (λ (x : NodeState B). suc (at' w e).rows.boot ≤ x.rows.boot) (sym (node_same w.nodes (owner e) (goes w e).node inside))
+              to =
+                  subst (λ (z : ℕ × ℕ). z.1 ≤ (node_at (put_node w.nodes (owner e) (goes w e).node) z.0).rows.boot)
+                  (λ i. (sym m.node i, sym m.boot i))
+                  (subst (λ (x : NodeState B). suc (at' w e).rows.boot ≤ x.rows.boot)
+                  (sym (node_same w.nodes (owner e) (goes w e).node inside))
                   (⊎_elim
                   (λ (r : Ran same members e (at' w e)). absurd (off (sym m.was ∙ r.was)))
-                  (λ (r : Began same members e (at' w e)). subst (λ (x : NodeState B). suc (at' w e).rows.boot ≤ x.rows.boot) (sym r.is) (omega arith))
+                  (λ (r : Began same members e (at' w e)). subst (λ (x : NodeState B). suc (at' w e).rows.boot ≤ x.rows.boot) (sym r.is)
+                  (omega arith))
                   (event_cases same members e (at' w e) p)));
             }
           where
@@ -221,7 +247,8 @@ module _ {B : Type 0} (same : B → B → Bool) where
 
     -- the first nodes are in boot 1
 
-    push_low : (xs : List (NodeState B)) (y : NodeState B) (i : ℕ) → i < length xs → slice_index_or (xs ++ y ∷ []) i absent ≡ slice_index_or xs i absent
+    push_low : (xs : List (NodeState B)) (y : NodeState B) (i : ℕ) → i < length xs
+        → slice_index_or (xs ++ y ∷ []) i absent ≡ slice_index_or xs i absent
     push_low [] y i l = absurd (omega arith)
     push_low (x ∷ xs) y zero l = refl
     push_low (x ∷ xs) y (suc i) l = push_low xs y i (omega arith)
@@ -236,8 +263,11 @@ module _ {B : Type 0} (same : B → B → Bool) where
     founded_boot zero i l = absurd (omega arith)
     founded_boot (suc n) i l =
         ⊎_elim
-        (λ (h : i < n). ap (λ (x : NodeState B). x.rows.boot) (push_low (founded n) (started (suc n) first_rows) i (subst (λ k. i < k) (sym (founded_length same members n)) h)) ∙ founded_boot n i h)
-        (λ (h : n ≤ i). ap (λ (x : NodeState B). x.rows.boot) (push_last (founded n) (started (suc n) first_rows) i (last i n l h ∙ sym (founded_length same members n))))
+        (λ (h : i < n). ap (λ (x : NodeState B). x.rows.boot)
+        (push_low (founded n) (started (suc n) first_rows) i (subst (λ k. i < k) (sym (founded_length same members n)) h))
+        ∙ founded_boot n i h)
+        (λ (h : n ≤ i). ap (λ (x : NodeState B). x.rows.boot)
+        (push_last (founded n) (started (suc n) first_rows) i (last i n l h ∙ sym (founded_length same members n))))
         (cases_lt i n)
       where
         last : (j m : ℕ) → j < suc m → m ≤ j → j ≡ m
@@ -245,7 +275,9 @@ module _ {B : Type 0} (same : B → B → Bool) where
 
     first_had : (k : ℕ) → k ≤ members → (n b : ℕ) → Has (first_boots {B = B} k) (Boot n b) → Had (first_world members) n b
     first_had zero l n b h = absurd (has_nil h)
-    first_had (suc k) l n b h = ⊎_elim (λ a. first_had k (omega arith) n b a) (λ a. mine (names (has_one a)) (boots (has_one a))) (has_cases (first_boots k) (Boot (suc k) 1 ∷ []) h)
+    first_had (suc k) l n b h =
+        ⊎_elim (λ a. first_had k (omega arith) n b a) (λ a. mine (names (has_one a)) (boots (has_one a)))
+        (has_cases (first_boots k) (Boot (suc k) 1 ∷ []) h)
       where
         names : ◌≡◌ {A = Entry B} (Boot (suc k) 1) (Boot n b) → suc k ≡ n
         names e = cc
@@ -258,7 +290,9 @@ module _ {B : Type 0} (same : B → B → Bool) where
             record {
               member = subst (λ m. IsMember members m) i (low, l);
               from = subst (λ c. 1 ≤ c) j (omega arith);
-              to = subst (λ (z : ℕ × ℕ). z.1 ≤ (node_at {B = B} (founded members) z.0).rows.boot) (λ q. (i q, j q)) (at_most (founded_boot members k (omega arith)));
+              to =
+                  subst (λ (z : ℕ × ℕ). z.1 ≤ (node_at {B = B} (founded members) z.0).rows.boot) (λ q. (i q, j q))
+                  (at_most (founded_boot members k (omega arith)));
             }
           where
             low : 1 ≤ suc k
@@ -268,10 +302,15 @@ module _ {B : Type 0} (same : B → B → Bool) where
             at_most e = omega arith
 
     boots_ok : (events : List (Event B)) → BootsOk (played same members events)
-    boots_ok events = play_boots events (first_world members) (record { nodes = founded_length same members members; had = λ n b h. first_had members (omega arith) n b h })
+    boots_ok events =
+        play_boots events (first_world members)
+        (record { nodes = founded_length same members members; had = λ n b h. first_had members (omega arith) n b h })
 
-    pub boot_was_had : IsEquality same → (events : List (Event B)) (k n b : ℕ) → Has (log_of (played same members events) k) (Boot n b) → IsMember members n × (1 ≤ b) × (b ≤ (node_at (played same members events).nodes n).rows.boot)
-    boot_was_had equal events k n b h = ⊎_elim (λ e. absurd (differ e)) (λ a. let z = (boots_ok events).had n b a in (z.member, z.from, z.to)) (log_was_made same members equal events k (Boot n b) h)
+    pub boot_was_had : IsEquality same → (events : List (Event B)) (k n b : ℕ) → Has (log_of (played same members events) k) (Boot n b)
+        → IsMember members n × (1 ≤ b) × (b ≤ (node_at (played same members events).nodes n).rows.boot)
+    boot_was_had equal events k n b h =
+        ⊎_elim (λ e. absurd (differ e)) (λ a. let z = (boots_ok events).had n b a in (z.member, z.from, z.to))
+        (log_was_made same members equal events k (Boot n b) h)
       where
         differ : ◌≡◌ {A = Entry B} (Boot n b) Noop → ⊥
         differ e = cc
@@ -281,9 +320,12 @@ module _ {B : Type 0} (same : B → B → Bool) where
     abbrev Losts : List (Event B) → List (Entry B) → Type 0
     Losts events made = (n b : ℕ) → Has made (Lost n b) → Suspected same members events n b
 
-    lost_next : (early : List (Event B)) (e : Event B) (later : List (Event B)) → Losts (early ++ e ∷ later) (played same members early).made → Losts (early ++ e ∷ later) (next same members (played same members early) e).made
+    lost_next : (early : List (Event B)) (e : Event B) (later : List (Event B))
+        → Losts (early ++ e ∷ later) (played same members early).made
+        → Losts (early ++ e ∷ later) (next same members (played same members early) e).made
     lost_next early e later h =
-        cond_both (was_sent same e w.sent && possible e (at' w e)) (done same w e (at' w e) (goes w e)) w (λ z. Losts (early ++ e ∷ later) z.made)
+        cond_both (was_sent same e w.sent && possible e (at' w e)) (done same w e (at' w e) (goes w e)) w
+        (λ z. Losts (early ++ e ∷ later) z.made)
         (λ t n b i. ⊎_elim (λ a. h n b a) (λ a. mine n b (made_lost e (at' w e) n b a)) (has_cases w.made (made_by same e (at' w e)) i))
         (λ t. h)
       where
@@ -297,26 +339,35 @@ module _ {B : Type 0} (same : B → B → Bool) where
               by = m.by;
               later = later;
               is = ap (λ z. early ++ z ∷ later) m.is;
-              live = live_boot_is n (log_of w m.by) ∙ subst (λ (z : Event B). live_in (standing n (log_of w (owner z))) ≡ Some b) m.is m.live;
+              live =
+                  live_boot_is n (log_of w m.by) ∙ subst (λ (z : Event B). live_in (standing n (log_of w (owner z))) ≡ Some b) m.is m.live;
             }
 
-    lost_play : (todo early : List (Event B)) → Losts (early ++ todo) (played same members early).made → Losts (early ++ todo) (played same members (early ++ todo)).made
-    lost_play [] early h = subst (λ l. Losts l (played same members l).made) (sym (append-nil early)) (subst (λ l. Losts l (played same members early).made) (append-nil early) h)
+    lost_play : (todo early : List (Event B)) → Losts (early ++ todo) (played same members early).made
+        → Losts (early ++ todo) (played same members (early ++ todo)).made
+    lost_play [] early h =
+        subst (λ l. Losts l (played same members l).made) (sym (append-nil early))
+        (subst (λ l. Losts l (played same members early).made) (append-nil early) h)
     lost_play (e ∷ todo) early h =
         subst (λ l. Losts l (played same members l).made) (append_assoc early (e ∷ []) todo)
         (lost_play todo (early ++ e ∷ [])
         (subst (λ l. Losts l (played same members (early ++ e ∷ [])).made) (sym (append_assoc early (e ∷ []) todo))
-        (subst (λ (z : World B). Losts (early ++ e ∷ todo) z.made) (sym (play_on same members early (e ∷ []) (first_world members))) (lost_next early e todo h))))
+        (subst (λ (z : World B). Losts (early ++ e ∷ todo) z.made) (sym (play_on same members early (e ∷ []) (first_world members)))
+        (lost_next early e todo h))))
 
     first_no_lost : (k n b : ℕ) → Has (first_boots {B = B} k) (Lost n b) → ⊥
     first_no_lost zero n b h = has_nil h
-    first_no_lost (suc k) n b h = ⊎_elim (λ a. first_no_lost k n b a) (λ a. differ (has_one a)) (has_cases (first_boots k) (Boot (suc k) 1 ∷ []) h)
+    first_no_lost (suc k) n b h =
+        ⊎_elim (λ a. first_no_lost k n b a) (λ a. differ (has_one a)) (has_cases (first_boots k) (Boot (suc k) 1 ∷ []) h)
       where
         differ : ◌≡◌ {A = Entry B} (Boot (suc k) 1) (Lost n b) → ⊥
         differ e = cc
 
-    pub lost_was_suspected : IsEquality same → (events : List (Event B)) (k n b : ℕ) → Has (log_of (played same members events) k) (Lost n b) → Suspected same members events n b
-    lost_was_suspected equal events k n b h = ⊎_elim (λ e. absurd (differ e)) (λ a. lost_play events [] (λ m c i. absurd (first_no_lost members m c i)) n b a) (log_was_made same members equal events k (Lost n b) h)
+    pub lost_was_suspected : IsEquality same → (events : List (Event B)) (k n b : ℕ)
+        → Has (log_of (played same members events) k) (Lost n b) → Suspected same members events n b
+    lost_was_suspected equal events k n b h =
+        ⊎_elim (λ e. absurd (differ e)) (λ a. lost_play events [] (λ m c i. absurd (first_no_lost members m c i)) n b a)
+        (log_was_made same members equal events k (Lost n b) h)
       where
         differ : ◌≡◌ {A = Entry B} (Lost n b) Noop → ⊥
         differ e = cc

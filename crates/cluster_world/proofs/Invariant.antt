@@ -1,14 +1,15 @@
 -- What holds in every world.
 use Rattle.std.proofs.Common.{◌≡◌, ℕ, suc, ◌<◌, ◌≤◌, Bool, true, List, [], ◌∷◌, Option, Some}
 use Rattle.cluster_world.proofs.Order.{Lt, Le, Reaches, Over}
-use Rattle.paxos_packets.specs.Majority.{IsMajority, IsMember, Has}
-use Rattle.paxos_proposer.specs.declared.promises.Counted.{Counted}
+use Rattle.paxos_packets.specs.Members.{IsMajority, IsMember}
+use Rattle.cluster_world.specs.Has.{Has}
+use Rattle.paxos_proposer.specs.declared.promises.CountedPromise.{CountedPromise}
 use Rattle.paxos_proposer.specs.declared.role.Role.{Role}
 use Rattle.paxos_proposer.specs.declared.role.Role.TheVariants.{Idle, Preparing, Leading}
 use Rattle.paxos_learner.specs.declared.hearings.Hearing.{Hearing}
-use Rattle.paxos_learner.specs.declared.facts.Fact.{Fact}
+use Rattle.paxos_learner.specs.declared.learned.LearnedEntry.{LearnedEntry}
 use Rattle.paxos_node.specs.declared.state.NodeState.{NodeState}
-use Rattle.paxos_proposer.specs.Proposing.{slot_end, next_vote}
+use Rattle.paxos_proposer.specs.Proposer.{slot_end, next_vote}
 use Rattle.paxos_packets.specs.declared.ballot.Ballot.{Ballot}
 use Rattle.paxos_packets.specs.declared.packet.Kind.{Kind}
 use Rattle.paxos_packets.specs.declared.packet.Packet.{Packet}
@@ -66,16 +67,18 @@ pub record Tops {B : Type 0} (votes : List (Vote B)) (w : Vote B) : Type 0 where
   pub high : Le w.ballot best.ballot
 
 -- what a promise of k says, from a slot on
-pub record Tells {B : Type 0} (promised : ℕ → Option Ballot) (sent : List (Packet B)) (k : ℕ) (b : Ballot) (floor : ℕ) (votes : List (Vote B)) : Type 0 where
+pub record Tells {B : Type 0} (promised : ℕ → Option Ballot) (sent : List (Packet B)) (k : ℕ) (b : Ballot) (floor : ℕ)
+    (votes : List (Vote B)) : Type 0 where
   pub reaches : Reaches (promised k) b
   pub told : (w : Vote B) → floor ≤ w.slot → Lt w.ballot b → Sent sent k (Accepted w) → Tops votes w
   pub low : (u : Vote B) → Has votes u → Lt u.ballot b
   pub known : (u : Vote B) → Has votes u → Known sent (Accept u)
 
-pub record Told {B : Type 0} (promised : ℕ → Option Ballot) (sent : List (Packet B)) (k : ℕ) (b : Ballot) (votes : List (Vote B)) : Type 0 where
-  pub floor : ℕ
-  pub asked : Known sent (Prepare b floor)
-  pub tells : Tells promised sent k b floor votes
+pub record Told {B : Type 0} (promised : ℕ → Option Ballot) (sent : List (Packet B)) (k : ℕ) (b : Ballot) (votes : List (Vote B)) : Type 0
+  where
+    pub floor : ℕ
+    pub asked : Known sent (Prepare b floor)
+    pub tells : Tells promised sent k b floor votes
 
 pub record IsChosen {B : Type 0} (members : ℕ) (sent : List (Packet B)) (slot : ℕ) (entry : Entry B) : Type 0 where
   pub ballot : Ballot
@@ -97,15 +100,17 @@ pub record PacketsOk {B : Type 0} (members : ℕ) (promised : ℕ → Option Bal
 
 -- nodes
 
-pub record PreparingOk {B : Type 0} (promised : ℕ → Option Ballot) (mine : Option Ballot) (sent : List (Packet B)) (k : ℕ) (b : Ballot) (floor : ℕ) (promises : List (Counted B)) : Type 0 where
+pub record PreparingOk {B : Type 0} (promised : ℕ → Option Ballot) (mine : Option Ballot) (sent : List (Packet B)) (k : ℕ) (b : Ballot)
+    (floor : ℕ) (promises : List (CountedPromise B)) : Type 0 where
   pub owner : b.node ≡ k
   pub exact : mine ≡ Some b
   pub only : (g : ℕ) → Known sent (Prepare b g) → g ≡ floor
   pub asked : Known sent (Prepare b floor)
   pub none : (v : Vote B) → Known sent (Accept v) → v.ballot ≡ b → ⊥
-  pub kept : (c : Counted B) → Has promises c → Tells promised sent c.node b floor c.votes
+  pub kept : (c : CountedPromise B) → Has promises c → Tells promised sent c.node b floor c.votes
 
-pub record LeadingOk {B : Type 0} (mine : Option Ballot) (sent : List (Packet B)) (k : ℕ) (b : Ballot) (next : ℕ) (table : List (Vote B)) : Type 0 where
+pub record LeadingOk {B : Type 0} (mine : Option Ballot) (sent : List (Packet B)) (k : ℕ) (b : Ballot) (next : ℕ) (table : List (Vote B)) :
+    Type 0 where
   pub owner : b.node ≡ k
   pub exact : mine ≡ Some b
   pub made : (v : Vote B) → Known sent (Accept v) → v.ballot ≡ b → v.slot < next
@@ -121,7 +126,8 @@ RoleOk promised mine sent k (Leading b next table) = LeadingOk mine sent k b nex
 abbrev pub RoleFree : {B : Type 0} → ℕ → (ℕ → Option Ballot) → List (Packet B) → Role B → Type 0
 RoleFree members promised sent Idle = Unit {0}
 RoleFree members promised sent (Preparing b floor promises) = Unit {0}
-RoleFree {B} members promised sent (Leading b next table) = (slot : ℕ) → next ≤ slot → slot < slot_end → Free {B = B} members promised sent b slot
+RoleFree {B} members promised sent (Leading b next table) =
+    (slot : ℕ) → next ≤ slot → slot < slot_end → Free {B = B} members promised sent b slot
 
 pub record RowsOk {B : Type 0} (sent : List (Packet B)) (k : ℕ) (rows : Rows B) : Type 0 where
   pub reached : (w : Vote B) → Sent sent k (Accepted w) → Reaches rows.promised w.ballot
@@ -133,11 +139,12 @@ pub record VoteOf {B : Type 0} (sent : List (Packet B)) (h : Hearing) : Type 0 w
   pub entry : Entry B
   pub is : Sent sent h.node (Accepted (vote h.slot h.ballot entry))
 
-pub record NodeOk {B : Type 0} (members : ℕ) (promised : ℕ → Option Ballot) (sent : List (Packet B)) (k : ℕ) (x : NodeState B) : Type 0 where
-  pub rows : RowsOk sent k x.rows
-  pub role : RoleOk promised x.rows.promised sent k x.proposer.role
-  pub heard : (h : Hearing) → Has x.learner.heard h → VoteOf sent h
-  pub learned : (f : Fact B) → Has x.learner.learned f → IsChosen members sent f.slot f.entry
+pub record NodeOk {B : Type 0} (members : ℕ) (promised : ℕ → Option Ballot) (sent : List (Packet B)) (k : ℕ) (x : NodeState B) : Type 0
+  where
+    pub rows : RowsOk sent k x.rows
+    pub role : RoleOk promised x.rows.promised sent k x.proposer.role
+    pub heard : (h : Hearing) → Has x.learner.heard h → VoteOf sent h
+    pub learned : (f : LearnedEntry B) → Has x.learner.learned f → IsChosen members sent f.slot f.entry
 
 abbrev pub promises : {B : Type 0} → (ℕ → NodeState B) → ℕ → Option Ballot
 promises at k = (at k).rows.promised
@@ -178,4 +185,5 @@ KindOk members now later n (Learned s e) = IsChosen members later s e
 -- the entries of these slot_end may be proposed
 abbrev pub AllSafe : {B : Type 0} → ℕ → (ℕ → Option Ballot) → List (Packet B) → Ballot → ℕ → List (Entry B) → Type 0
 AllSafe members promised sent b slot [] = Unit {0}
-AllSafe members promised sent b slot (e ∷ es) = Safe members promised sent (next_vote b slot e) × AllSafe members promised sent b (suc slot) es
+AllSafe members promised sent b slot (e ∷ es) =
+    Safe members promised sent (next_vote b slot e) × AllSafe members promised sent b (suc slot) es

@@ -1,7 +1,8 @@
 -- The order of ballots.
-use Rattle.std.proofs.Common.{◌≡◌, ◌⊎◌, inl, inr, ⊎_elim, ℕ, zero, suc, ◌<◌, ◌≤◌, true, false, ltb, eqb, refl, ◌∙◌, arith, Option, Some, ◌&&◌, ◌||◌}
+use Rattle.std.proofs.Common.{◌≡◌, ◌⊎◌, inl, inr, ⊎_elim, ℕ, zero, suc, ◌<◌, ◌≤◌, true, false, ltb, eqb, refl, ◌∙◌, arith, Option, Some}
+use Rattle.std.proofs.Common.{◌&&◌, ◌||◌}
 use Rattle.std.proofs.lemmas.Bool.Decides.{nat_tests}
-use Rattle.paxos_packets.specs.Ballots.{below}
+use Rattle.paxos_packets.specs.Ballot.{below}
 use Rattle.paxos_packets.specs.declared.ballot.Ballot.{Ballot}
 
 -- a is below b
@@ -75,10 +76,13 @@ pub le_cases : {a b : Ballot} → Le a b → Lt a b ⊎ (a ≡ b)
 le_cases {a} {b} h = ⊎_elim (λ e. inl e) (λ e. ⊎_elim (λ f. inr f) (λ f. absurd (lt_not_le f h)) e) (cases a b)
 
 -- induction over ballots
-by_node : (P : Ballot → Type 0) → ((b : Ballot) → ((a : Ballot) → Lt a b → P a) → P b) → (r : ℕ) → ((a : Ballot) → a.round < r → P a) → (m : ℕ) (b : Ballot) → b.round ≡ r → b.node < m → P b
+by_node : (P : Ballot → Type 0) → ((b : Ballot) → ((a : Ballot) → Lt a b → P a) → P b) → (r : ℕ) → ((a : Ballot) → a.round < r → P a)
+    → (m : ℕ) (b : Ballot) → b.round ≡ r → b.node < m → P b
 by_node P each r lower zero b e l = absurd (omega arith)
 by_node P each r lower (suc m) b e l =
-    each b (λ a h. ⊎_elim (λ (f : a.round < b.round). lower a (omega arith)) (λ (f : (a.round ≡ b.round) × (a.node < b.node)). by_node P each r lower m a (f.0 ∙ e) (omega arith)) h.is)
+    each b
+    (λ a h. ⊎_elim (λ (f : a.round < b.round). lower a (omega arith))
+    (λ (f : (a.round ≡ b.round) × (a.node < b.node)). by_node P each r lower m a (f.0 ∙ e) (omega arith)) h.is)
 
 by_round : (P : Ballot → Type 0) → ((b : Ballot) → ((a : Ballot) → Lt a b → P a) → P b) → (r : ℕ) (b : Ballot) → b.round < r → P b
 by_round P each zero b l = absurd (omega arith)

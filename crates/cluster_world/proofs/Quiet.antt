@@ -3,8 +3,8 @@ use Rattle.std.proofs.Common.{◌≡◌, ⊎_elim, ℕ, subst, List, ◌++◌, O
 use Rattle.cluster_world.proofs.Order.{Reaches}
 use Rattle.cluster_world.proofs.Invariant.{Sent, Known, IsChosen, Grows, PacketsOk, NodeOk, Inv, promises, KindOk}
 use Rattle.cluster_world.proofs.Growth.{known_grows, safe_grows, chosen_grows, vote_of_grows, role_grows}
-use Rattle.cluster_world.proofs.Move.{sent_cases, known_cases}
-use Rattle.cluster_world.proofs.Here.{here, Kept, turn_moved}
+use Rattle.cluster_world.proofs.InvariantKept.{sent_cases, known_cases}
+use Rattle.cluster_world.proofs.WithNode.{with_node, Kept, turn_moved}
 use Rattle.paxos_node.specs.declared.state.NodeState.{NodeState}
 use Rattle.paxos_packets.specs.declared.ballot.Ballot.{Ballot}
 use Rattle.paxos_packets.specs.declared.packet.Kind.{Kind}
@@ -23,7 +23,9 @@ QuietKind members sent n (Forward es) = Unit {0}
 QuietKind members sent n (Ask s) = Unit {0}
 QuietKind members sent n (Learned s e) = IsChosen members sent s e
 
-module _ {B : Type 0} (members : ℕ) (promised now : ℕ → Option Ballot) (sent new : List (Packet B)) (n : ℕ) (g : Grows promised now sent (sent ++ new)) (quiet : (k : ℕ) (kind : Kind B) → Sent new k kind → (k ≡ n) × QuietKind members sent n kind) where
+module _ {B : Type 0} (members : ℕ) (promised now : ℕ → Option Ballot) (sent new : List (Packet B)) (n : ℕ)
+    (g : Grows promised now sent (sent ++ new))
+    (quiet : (k : ℕ) (kind : Kind B) → Sent new k kind → (k ≡ n) × QuietKind members sent n kind) where
   old_asks : (b : Ballot) (f : ℕ) → Known (sent ++ new) (Prepare b f) → Known sent (Prepare b f)
   old_asks b f p = ⊎_elim (λ a. a) (λ a. (quiet a.by (Prepare b f) a.is).1.1) (known_cases sent new p)
 
@@ -69,10 +71,16 @@ module _ {B : Type 0} (members : ℕ) (promised now : ℕ → Option Ballot) (se
       }
 
 -- a move with the same promise, to a node that was right before
-pub quiet_moved : {B : Type 0} (members : ℕ) (at : ℕ → NodeState B) (n : ℕ) (x y : NodeState B) (sent new : List (Packet B)) → Inv members (here at n x) sent → x.rows.promised ≡ y.rows.promised → NodeOk members (promises (here at n x)) sent n y → ((k : ℕ) (kind : Kind B) → Sent new k kind → (k ≡ n) × QuietKind members sent n kind) → Kept members at n x sent y (sent ++ new)
+pub quiet_moved : {B : Type 0} (members : ℕ) (at : ℕ → NodeState B) (n : ℕ) (x y : NodeState B) (sent new : List (Packet B))
+    → Inv members (with_node at n x) sent → x.rows.promised ≡ y.rows.promised → NodeOk members (promises (with_node at n x)) sent n y
+    → ((k : ℕ) (kind : Kind B) → Sent new k kind → (k ≡ n) × QuietKind members sent n kind) → Kept members at n x sent y (sent ++ new)
 quiet_moved members at n x y sent new inv same ok quiet =
     turn_moved members at n x y sent new inv
     (λ b h. subst (λ o. Reaches o b) same h)
     (λ k v s. absurd ((quiet k (Accepted v) s).1))
-    (λ g k kind s. ((quiet k kind s).0, kind_quiet members (promises (here at n x)) (promises (here at n y)) sent new n g quiet inv.packets kind ((quiet k kind s).1)))
-    (λ g. node_quiet members (promises (here at n x)) (promises (here at n y)) sent new n g quiet y ok)
+    (λ g k kind s. (
+      (quiet k kind s).0,
+      kind_quiet members (promises (with_node at n x)) (promises (with_node at n y)) sent new n g quiet
+          inv.packets kind ((quiet k kind s).1),
+    ))
+    (λ g. node_quiet members (promises (with_node at n x)) (promises (with_node at n y)) sent new n g quiet y ok)

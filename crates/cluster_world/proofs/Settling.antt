@@ -1,28 +1,30 @@
 -- Learned entries are applied: the log stays chosen.
-use Rattle.std.proofs.Common.{◌≡◌, ◌⊎◌, inl, inr, ⊎_elim, ℕ, zero, suc, ◌+◌, ◌≤◌, Bool, true, false, eqb, refl, sym, ap, ◌∙◌, subst, arith, List, [], ◌∷◌, ◌++◌, length, append_assoc, length-append, Some}
+use Rattle.std.proofs.Common.{◌≡◌, ◌⊎◌, inl, inr, ⊎_elim, ℕ, zero, suc, ◌+◌, ◌≤◌, Bool, true, false, eqb, refl, sym, ap, ◌∙◌, subst, arith}
+use Rattle.std.proofs.Common.{List, [], ◌∷◌, ◌++◌, length, append_assoc, length-append, Some}
 use Rattle.std.specs.Prelude.{slice_get, if◌then◌else◌, nat_lt}
 use Rattle.std.proofs.lemmas.Bool.{cond_both, eqb-true}
 use Rattle.std.proofs.lemmas.List.{append-nil}
 use Rattle.cluster_world.proofs.Invariant.{IsChosen, NodeOk, promises}
 use Rattle.cluster_world.proofs.Growth.{chosen_grows, role_free_grows}
-use Rattle.cluster_world.proofs.Here.{here, kept_on, mine_ok}
-use Rattle.cluster_world.proofs.Turns.{silent, kept_none, Stays, State, Going, FreeAt}
+use Rattle.cluster_world.proofs.WithNode.{with_node, kept_on, mine_ok}
+use Rattle.cluster_world.proofs.Proposals.{silent, kept_none, Stays, State, Going, FreeAt}
 use Rattle.cluster_world.proofs.Events.{ToBy}
-use Rattle.paxos_packets.specs.Majority.{Has, here as first_here, there}
+use Rattle.cluster_world.specs.Has.{Has, here, there}
 use Rattle.paxos_packets.specs.declared.entry.Entry.{Entry}
 use Rattle.paxos_packets.specs.declared.packet.Packet.{Packet}
-use Rattle.paxos_learner.specs.declared.facts.Fact.{Fact}
-use Rattle.paxos_learner.specs.Learning.{run_with, run_from}
+use Rattle.paxos_learner.specs.declared.learned.LearnedEntry.{LearnedEntry}
+use Rattle.paxos_learner.specs.Learner.{run_with, run_from}
 use Rattle.paxos_node.specs.declared.state.NodeState.{NodeState}
-use Rattle.paxos_node.specs.declared.outcome.Outcome.{Outcome}
+use Rattle.paxos_node.specs.declared.turn.Turn.{Turn}
 use Rattle.paxos_node.specs.Applying.{down, started, raised, note, ends, go_down, apply_all, settle}
-use Rattle.paxos_packets.specs.Same.{IsEquality}
+use Rattle.paxos_packets.specs.Body.{IsEquality}
 
 -- each entry of the log is chosen in its slot
 pub record Logged {B : Type 0} (members : ℕ) (sent : List (Packet B)) (log : List (Entry B)) : Type 0 where
   pub at : (i : ℕ) (e : Entry B) → slice_get log i ≡ Some e → IsChosen members sent (suc i) e
 
-slice_get_push : {E : Type 0} (xs : List E) (x : E) (i : ℕ) (e : E) → slice_get (xs ++ x ∷ []) i ≡ Some e → (slice_get xs i ≡ Some e) ⊎ ((i ≡ length xs) × (x ≡ e))
+slice_get_push : {E : Type 0} (xs : List E) (x : E) (i : ℕ) (e : E) → slice_get (xs ++ x ∷ []) i ≡ Some e
+    → (slice_get xs i ≡ Some e) ⊎ ((i ≡ length xs) × (x ≡ e))
 slice_get_push [] x zero e h = inr (refl, same)
   where
     same : x ≡ e
@@ -37,88 +39,113 @@ logged_nil {B} members sent = record { at = λ i e h. absurd (nothing i e h) }
     nothing : (i : ℕ) (e : Entry B) → slice_get {X = Entry B} [] i ≡ Some e → ⊥
     nothing i e h = cc
 
-logged_push : {B : Type 0} (members : ℕ) (sent : List (Packet B)) (log : List (Entry B)) (e : Entry B) → Logged members sent log → IsChosen members sent (suc (length log)) e → Logged members sent (log ++ e ∷ [])
+logged_push : {B : Type 0} (members : ℕ) (sent : List (Packet B)) (log : List (Entry B)) (e : Entry B) → Logged members sent log
+    → IsChosen members sent (suc (length log)) e → Logged members sent (log ++ e ∷ [])
 logged_push {B} members sent log e ok c =
-    record { at = λ i f h. ⊎_elim (λ a. ok.at i f a) (λ (a : (i ≡ length log) × (e ≡ f)). subst (λ (z : ℕ × Entry B). IsChosen members sent (suc z.0) z.1) (λ j. (sym a.0 j, a.1 j)) c) (slice_get_push log e i f h) }
+    record {
+      at = λ i f h. ⊎_elim (λ a. ok.at i f a)
+          (λ (a : (i ≡ length log) × (e ≡ f)). subst (λ (z : ℕ × Entry B). IsChosen members sent (suc z.0) z.1) (λ j. (sym a.0 j, a.1 j))
+          c) (slice_get_push log e i f h);
+    }
 
 -- the entries are chosen in the slots from this one on
 abbrev pub RunOk : {B : Type 0} → ℕ → List (Packet B) → ℕ → List (Entry B) → Type 0
 RunOk members sent slot [] = Unit {0}
 RunOk members sent slot (e ∷ es) = IsChosen members sent slot e × RunOk members sent (suc slot) es
 
-run_ok : {B : Type 0} (members : ℕ) (sent : List (Packet B)) (fs : List (Fact B)) (slot : ℕ) → ((f : Fact B) → Has fs f → IsChosen members sent f.slot f.entry) → RunOk members sent slot (run_from slot fs)
+run_ok : {B : Type 0} (members : ℕ) (sent : List (Packet B)) (fs : List (LearnedEntry B)) (slot : ℕ)
+    → ((f : LearnedEntry B) → Has fs f → IsChosen members sent f.slot f.entry) → RunOk members sent slot (run_from slot fs)
 run_ok members sent [] slot ok = tt
-run_ok {B} members sent (f ∷ fs) slot ok = go (λ s. run_ok members sent fs s (λ g h. ok g (there h))) (eqb f.slot slot) (nat_lt f.slot slot) refl
+run_ok {B} members sent (f ∷ fs) slot ok =
+    go (λ s. run_ok members sent fs s (λ g h. ok g (there h))) (eqb f.slot slot) (nat_lt f.slot slot) refl
   where
-    go : ((s : ℕ) → RunOk members sent s (run_from s fs)) → (a b : Bool) → eqb f.slot slot ≡ a → RunOk members sent slot (run_with a b f.entry (run_from (if a then suc slot else slot) fs))
-    go rest true b e = (subst (λ s. IsChosen members sent s f.entry) (eqb-true f.slot slot e) (ok f first_here), rest (suc slot))
+    go : ((s : ℕ) → RunOk members sent s (run_from s fs)) → (a b : Bool) → eqb f.slot slot ≡ a
+        → RunOk members sent slot (run_with a b f.entry (run_from (if a then suc slot else slot) fs))
+    go rest true b e = (subst (λ s. IsChosen members sent s f.entry) (eqb-true f.slot slot e) (ok f here), rest (suc slot))
     go rest false true e = rest slot
     go rest false false e = tt
 
 -- a turn from this log and boot: up, with what it applied at the end of the log; or down
-pub record From {B : Type 0} (log : List (Entry B)) (boot acts : ℕ) (o : Outcome B) : Type 0 where
+pub record From {B : Type 0} (log : List (Entry B)) (boot acts : ℕ) (o : Turn B) : Type 0 where
   pub boot_is : o.node.rows.boot ≡ boot
   pub case : ((o.node.up ≡ true) × (o.node.applied ≡ log ++ o.applied) × (o.node.taken ≡ acts)) ⊎ (o.node.up ≡ false)
 
-pub applies_from : {B : Type 0} (n : ℕ) (log : List (Entry B)) (boot acts : ℕ) (es : List (Entry B)) (o : Outcome B) → From log boot acts o → From log boot acts (apply_all n es o)
+pub applies_from : {B : Type 0} (n : ℕ) (log : List (Entry B)) (boot acts : ℕ) (es : List (Entry B)) (o : Turn B) → From log boot acts o
+    → From log boot acts (apply_all n es o)
 applies_from n log boot acts [] o f = f
 applies_from {B} n log boot acts (e ∷ es) o f =
     cond_both (ends n o.node e) (go_down (note e o)) (apply_all n es (note e o)) (λ z. From log boot acts z)
     (λ t. record { boot_is = f.boot_is; case = inr refl })
     (λ t. applies_from n log boot acts es (note e o) (record {
       boot_is = f.boot_is;
-      case = ⊎_elim (λ (c : (o.node.up ≡ true) × (o.node.applied ≡ log ++ o.applied) × (o.node.taken ≡ acts)). inl (c.0, ap (λ l. l ++ e ∷ []) c.1 ∙ append_assoc log o.applied (e ∷ []), c.2)) (λ c. inr c) f.case;
+      case =
+          ⊎_elim
+          (λ (c : (o.node.up ≡ true) × (o.node.applied ≡ log ++ o.applied) × (o.node.taken ≡ acts)). inl
+          (c.0, ap (λ l. l ++ e ∷ []) c.1 ∙ append_assoc log o.applied (e ∷ []), c.2))
+          (λ c. inr c) f.case;
     }))
 
-module _ {B : Type 0} (same : B → B → Bool) (equal : IsEquality same) (members : ℕ) (many : 2 ≤ members) (at : ℕ → NodeState B) (n : ℕ) (before : List (Packet B)) where
-  pub record Good (o : Outcome B) : Type 0 where
+module _ {B : Type 0} (same : B → B → Bool) (equal : IsEquality same) (members : ℕ) (many : 2 ≤ members) (at : ℕ → NodeState B) (n : ℕ)
+    (before : List (Packet B)) where
+  pub record Good (o : Turn B) : Type 0 where
     pub inv : State same equal members many at n before o
     pub free : FreeAt same equal members many at n before o
     pub log : Logged members (before ++ o.packets) o.node.applied
 
-  pub record Goes (t u : Outcome B) : Type 0 where
+  pub record Goes (t u : Turn B) : Type 0 where
     pub going : Going same equal members many at n before t u
     pub free : FreeAt same equal members many at n before u
     pub log : Logged members (before ++ u.packets) u.node.applied
     pub agrees : t.disagrees ≡ false → u.disagrees ≡ false
 
-  pub goes_on : {t u v : Outcome B} → Goes t u → Goes u v → Goes t v
+  pub goes_on : {t u v : Turn B} → Goes t u → Goes u v → Goes t v
   goes_on g h = record { going = kept_on g.going h.going; free = h.free; log = h.log; agrees = λ e. h.agrees (g.agrees e) }
 
-  pub good_of : {t u : Outcome B} → Goes t u → Good u
+  pub good_of : {t u : Turn B} → Goes t u → Good u
   good_of g = record { inv = g.going.inv; free = g.free; log = g.log }
 
-  keep : (o : Outcome B) → Good o → Goes o o
-  keep o ok = record { going = kept_none members many at n o.node (before ++ o.packets) ok.inv; free = ok.free; log = ok.log; agrees = λ e. e }
+  keep : (o : Turn B) → Good o → Goes o o
+  keep o ok =
+      record { going = kept_none members many at n o.node (before ++ o.packets) ok.inv; free = ok.free; log = ok.log; agrees = λ e. e }
 
-  mine : (o : Outcome B) → Good o → NodeOk members (promises (here at n o.node)) (before ++ o.packets) n o.node
+  mine : (o : Turn B) → Good o → NodeOk members (promises (with_node at n o.node)) (before ++ o.packets) n o.node
   mine o ok = mine_ok members at n o.node (before ++ o.packets) ok.inv
 
-  pub down_goes : (o : Outcome B) → Good o → Goes o (go_down o)
+  pub down_goes : (o : Turn B) → Good o → Goes o (go_down o)
   down_goes o ok =
       let m = mine o ok in
       record {
-        going = silent members many at n o.node (down o.node.rows) (before ++ o.packets) ok.inv refl (record { rows = m.rows; role = tt; heard = λ h i. absurd (elim i [ ]); learned = λ f i. absurd (elim i [ ]) });
+        going =
+            silent members many at n o.node (down o.node.rows) (before ++ o.packets) ok.inv refl
+            (record { rows = m.rows; role = tt; heard = λ h i. absurd (elim i [ ]); learned = λ f i. absurd (elim i [ ]) });
         free = tt;
         log = logged_nil members (before ++ o.packets);
         agrees = λ e. e;
       }
 
-  pub start_goes : (o : Outcome B) → Good o → Goes o (record o { node = started n (raised o.node.rows) })
+  pub start_goes : (o : Turn B) → Good o → Goes o (record o { node = started n (raised o.node.rows) })
   start_goes o ok =
       let m = mine o ok in
       record {
         going = silent members many at n o.node (started n (raised o.node.rows)) (before ++ o.packets) ok.inv refl
-            (record { rows = record { reached = m.rows.reached; tops = m.rows.tops; low = m.rows.low; known = m.rows.known }; role = tt; heard = λ h i. absurd (elim i [ ]); learned = λ f i. absurd (elim i [ ]) });
+            (record {
+              rows = record { reached = m.rows.reached; tops = m.rows.tops; low = m.rows.low; known = m.rows.known };
+              role = tt;
+              heard = λ h i. absurd (elim i [ ]);
+              learned = λ f i. absurd (elim i [ ]);
+            });
         free = tt;
         log = logged_nil members (before ++ o.packets);
         agrees = λ e. e;
       }
 
-  note_goes : (e : Entry B) (o : Outcome B) → Good o → IsChosen members (before ++ o.packets) (suc (length o.node.applied)) e → Goes o (note e o)
+  note_goes : (e : Entry B) (o : Turn B) → Good o → IsChosen members (before ++ o.packets) (suc (length o.node.applied)) e
+      → Goes o (note e o)
   note_goes e o ok c =
       let m = mine o ok in
-      let g : Going same equal members many at n before o (note e o) = silent members many at n o.node (note e o).node (before ++ o.packets) ok.inv refl (record { rows = m.rows; role = m.role; heard = m.heard; learned = m.learned }) in
+      let g : Going same equal members many at n before o (note e o) =
+      silent members many at n o.node (note e o).node (before ++ o.packets) ok.inv refl
+      (record { rows = m.rows; role = m.role; heard = m.heard; learned = m.learned }) in
       record {
         going = g;
         free = role_free_grows members g.grows o.node.proposer.role ok.free;
@@ -126,7 +153,8 @@ module _ {B : Type 0} (same : B → B → Bool) (equal : IsEquality same) (membe
         agrees = λ d. d;
       }
 
-  apply_goes : (es : List (Entry B)) (o : Outcome B) → Good o → RunOk members (before ++ o.packets) (suc (length o.node.applied)) es → Goes o (apply_all n es o)
+  apply_goes : (es : List (Entry B)) (o : Turn B) → Good o → RunOk members (before ++ o.packets) (suc (length o.node.applied)) es
+      → Goes o (apply_all n es o)
   apply_goes [] o ok r = keep o ok
   apply_goes (e ∷ es) o ok r =
       let a = note_goes e o ok r.0 in
@@ -140,11 +168,13 @@ module _ {B : Type 0} (same : B → B → Bool) (equal : IsEquality same) (membe
           plus_one : (k : ℕ) → k + 1 ≡ suc k
           plus_one k = omega arith
 
-  settle_goes : (o : Outcome B) → Good o → Goes o (settle n o)
-  settle_goes o ok = apply_goes (run_from (suc (length o.node.applied)) o.node.learner.learned) o ok (run_ok members (before ++ o.packets) o.node.learner.learned (suc (length o.node.applied)) (mine o ok).learned)
+  settle_goes : (o : Turn B) → Good o → Goes o (settle n o)
+  settle_goes o ok =
+      apply_goes (run_from (suc (length o.node.applied)) o.node.learner.learned) o ok
+      (run_ok members (before ++ o.packets) o.node.learner.learned (suc (length o.node.applied)) (mine o ok).learned)
 
   -- a step, and what it taught is applied
-  pub step_goes : {k : ℕ} (t u : Outcome B) → Good t → ToBy same equal members many at n before k t u → Goes t (settle n u)
+  pub step_goes : {k : ℕ} (t u : Turn B) → Good t → ToBy same equal members many at n before k t u → Goes t (settle n u)
   step_goes t u ok s = goes_on a (settle_goes u (good_of a))
     where
       a : Goes t u
@@ -152,12 +182,23 @@ module _ {B : Type 0} (same : B → B → Bool) (equal : IsEquality same) (membe
           record {
             going = s.path.going;
             free = s.free;
-            log = subst (λ l. Logged members (before ++ u.packets) l) (sym s.path.stays.log) (record { at = λ i e h. chosen_grows s.path.going.grows (ok.log.at i e h) });
+            log =
+                subst (λ l. Logged members (before ++ u.packets) l) (sym s.path.stays.log)
+                (record { at = λ i e h. chosen_grows s.path.going.grows (ok.log.at i e h) });
             agrees = s.path.agrees;
           }
 
 -- from the log and boot of the node that had the turn
-pub step_from : {B : Type 0} (n : ℕ) {k : ℕ} (t u : Outcome B) → t.node.up ≡ true → t.applied ≡ [] → Stays k t u → From t.node.applied t.node.rows.boot k (settle n u)
+pub step_from : {B : Type 0} (n : ℕ) {k : ℕ} (t u : Turn B) → t.node.up ≡ true → t.applied ≡ [] → Stays k t u
+    → From t.node.applied t.node.rows.boot k (settle n u)
 step_from n {k} t u up none s =
     applies_from n t.node.applied t.node.rows.boot k (run_from (suc (length u.node.applied)) u.node.learner.learned) u
-    (record { boot_is = s.boot; case = inl (s.up ∙ up, s.log ∙ sym (ap (λ l. t.node.applied ++ l) (s.news ∙ none) ∙ append-nil t.node.applied), s.acts) })
+    (record {
+      boot_is = s.boot;
+      case = inl (
+        s.up ∙ up,
+        s.log
+            ∙ sym (ap (λ l. t.node.applied ++ l) (s.news ∙ none) ∙ append-nil t.node.applied),
+        s.acts,
+      );
+    })

@@ -1,16 +1,17 @@
 -- Every entry of a node and of its packets comes from what it was given: of any property of entries, kept through an event.
-use Rattle.std.proofs.Common.{◌≡◌, ⊎_elim, ℕ, zero, suc, ◌+◌, ◌-◌, Bool, true, false, not, ◌&&◌, eqb, refl, sym, subst, List, [], ◌∷◌, ◌++◌, length, map, Option, Some, None}
+use Rattle.std.proofs.Common.{◌≡◌, ⊎_elim, ℕ, zero, suc, ◌+◌, ◌-◌, Bool, true, false, not, ◌&&◌, eqb, refl, sym, subst, List, [], ◌∷◌, ◌++◌}
+use Rattle.std.proofs.Common.{length, map, Option, Some, None}
 use Rattle.std.specs.Prelude.{filter, if◌then◌else◌, nat_lt, nat_le, take}
 use Rattle.std.proofs.lemmas.Bool.{cond_both, cond-true}
-use Rattle.cluster_world.proofs.Members.{has_cons, has_nil, has_one, has_cases, has_map, has_filter}
-use Rattle.cluster_world.proofs.Slots.{put_cases, has_from}
+use Rattle.cluster_world.proofs.Lists.{has_cons, has_nil, has_one, has_cases, has_map, has_filter}
+use Rattle.cluster_world.proofs.AcceptorTests.{put_cases, has_from}
 use Rattle.cluster_world.proofs.Reports.{best_has, has_reports}
-use Rattle.cluster_world.proofs.Learner.{fact_cases}
-use Rattle.paxos_packets.specs.Ballots.{below}
-use Rattle.paxos_packets.specs.Majority.{Has, here as first_here, there, is_majority, others}
-use Rattle.paxos_packets.specs.Ballots.{same_ballot}
-use Rattle.paxos_packets.specs.Sending.{packet, to_others}
-use Rattle.paxos_packets.specs.Slots.{votes_from}
+use Rattle.cluster_world.proofs.Learner.{learned_cases}
+use Rattle.paxos_packets.specs.Ballot.{below, same_ballot}
+use Rattle.cluster_world.specs.Has.{Has, here, there}
+use Rattle.paxos_packets.specs.Members.{is_majority, others}
+use Rattle.paxos_packets.specs.Packet.{packet, to_others}
+use Rattle.paxos_packets.specs.Vote.{votes_from}
 use Rattle.paxos_packets.specs.declared.ballot.Ballot.{Ballot}
 use Rattle.paxos_packets.specs.declared.entry.Entry.{Entry}
 use Rattle.paxos_packets.specs.declared.entry.Entry.TheVariants.{Noop, Boot}
@@ -18,30 +19,32 @@ use Rattle.paxos_packets.specs.declared.packet.Kind.{Kind}
 use Rattle.paxos_packets.specs.declared.packet.Packet.{Packet}
 use Rattle.paxos_packets.specs.declared.vote.Vote.{Vote}
 use Rattle.paxos_packets.specs.declared.packet.Kind.TheVariants.{Prepare, Promise, Accept, Accepted, Nack, Forward, Ask, Learned}
-use Rattle.paxos_acceptor.specs.Rules.{may_promise, may_accept, promised_or}
-use Rattle.paxos_proposer.specs.declared.promises.Counted.{Counted}
+use Rattle.paxos_acceptor.specs.Acceptor.{may_promise, may_accept}
+use Rattle.std.specs.Option.{unwrap_or}
+use Rattle.paxos_proposer.specs.declared.promises.CountedPromise.{CountedPromise}
 use Rattle.paxos_proposer.specs.declared.role.Role.{Role}
 use Rattle.paxos_proposer.specs.declared.role.Role.TheVariants.{Idle, Preparing, Leading}
-use Rattle.paxos_proposer.specs.Proposing.{slot_end, new_ballot, step_down, nacked, next_vote, is_leading}
+use Rattle.paxos_proposer.specs.Proposer.{slot_end, new_ballot, step_down, nacked, next_vote, is_leading}
 use Rattle.paxos_proposer.specs.Reports.{is_counted, reports, best, past_reports, entry_or_noop, called_in, called_for}
-use Rattle.paxos_learner.specs.declared.facts.Fact.{Fact}
+use Rattle.paxos_learner.specs.declared.learned.LearnedEntry.{LearnedEntry}
 use Rattle.paxos_learner.specs.declared.state.LearnerState.{LearnerState}
-use Rattle.paxos_learner.specs.Learning.{is_learned, heard_from, learn, hears, has_most, count_vote, run_with, run_from}
-use Rattle.replica_machine.specs.Standings.{is_wanted}
+use Rattle.paxos_learner.specs.Learner.{is_learned, put_learned, heard_from, learn, hears, has_most, count_vote, run_with, run_from}
+use Rattle.replica_machine.specs.Roll.{is_wanted}
 use Rattle.paxos_node.specs.declared.event.Event.{Event}
 use Rattle.paxos_node.specs.declared.event.Event.TheVariants.{Take, Tick, Start, Suspect, Deliver, Crash, Restart}
 use Rattle.paxos_node.specs.declared.state.NodeState.{NodeState}
-use Rattle.paxos_node.specs.declared.outcome.Outcome.{Outcome}
-use Rattle.paxos_node.specs.Turns.{with_role, with_pending, begun, voted_at, counted_at, send, promise, cast}
+use Rattle.paxos_node.specs.declared.turn.Turn.{Turn}
+use Rattle.paxos_node.specs.Turn.{with_role, with_pending, begun, voted_at, counted_at, send, promise, cast}
 use Rattle.paxos_node.specs.Proposals.{offer, propose_as, propose, propose_all, lead, stands, propose_new, propose_each, forwarded, push}
 use Rattle.paxos_node.specs.Replies.{saw, refuse, on_prepare, on_accept, count_promise, on_promise_as, told_from, on_packet}
 use Rattle.paxos_node.specs.Applying.{note, ends, go_down, apply_all, settle}
-use Rattle.paxos_node.specs.Events.{takes, new_item, with_item, on_take, accepts_again, again, on_tick, begin, starts, on_start, has_room, new_lost, suspected, outcome_of, taken_by, suspected_by, made_by}
+use Rattle.paxos_node.specs.Events.{takes, new_item, with_item, on_take, accepts_again, again, on_tick, begin, starts, on_start, has_room}
+use Rattle.paxos_node.specs.Events.{new_lost, suspected, outcome_of, taken_by, suspected_by, made_by}
 
 take_has : {A : Type 0} (n : ℕ) (xs : List A) (x : A) → Has (take n xs) x → Has xs x
 take_has zero xs x h = absurd (has_nil h)
 take_has (suc n) [] x h = absurd (has_nil h)
-take_has (suc n) (y ∷ ys) x h = ⊎_elim (λ e. subst (λ z. Has (y ∷ ys) z) e first_here) (λ r. there (take_has n ys x r)) (has_cons h)
+take_has (suc n) (y ∷ ys) x h = ⊎_elim (λ e. subst (λ z. Has (y ∷ ys) z) e here) (λ r. there (take_has n ys x r)) (has_cons h)
 
 module _ {B : Type 0} (G : Entry B → Type 0) where
   abbrev pub Each : List (Entry B) → Type 0
@@ -65,20 +68,20 @@ module _ {B : Type 0} (G : Entry B → Type 0) where
 
   abbrev pub RoleGood : Role B → Type 0
   RoleGood Idle = Unit {0}
-  RoleGood (Preparing b floor cs) = (c : Counted B) → Has cs c → VotesGood c.votes
+  RoleGood (Preparing b floor cs) = (c : CountedPromise B) → Has cs c → VotesGood c.votes
   RoleGood (Leading b next table) = VotesGood table
 
-  abbrev pub FactsGood : List (Fact B) → Type 0
-  FactsGood fs = (f : Fact B) → Has fs f → G f.entry
+  abbrev pub LearnedGood : List (LearnedEntry B) → Type 0
+  LearnedGood fs = (f : LearnedEntry B) → Has fs f → G f.entry
 
   pub record NodeGood (x : NodeState B) : Type 0 where
     pub votes : VotesGood x.rows.votes
     pub role : RoleGood x.proposer.role
-    pub learned : FactsGood x.learner.learned
+    pub learned : LearnedGood x.learner.learned
     pub applied : Each x.applied
     pub pending : Each x.pending
 
-  pub record TurnGood (t : Outcome B) : Type 0 where
+  pub record TurnGood (t : Turn B) : Type 0 where
     pub node : NodeGood t.node
     pub out : SentGood t.packets
 
@@ -97,26 +100,38 @@ module _ {B : Type 0} (G : Entry B → Type 0) where
   others_good : (members n : ℕ) (kind : Kind B) → KindGood kind → SentGood (to_others members n kind)
   others_good members n kind k p h = some_good n (others n members) kind k p h
 
-  send_good : (new : List (Packet B)) (t : Outcome B) → TurnGood t → SentGood new → TurnGood (send new t)
+  send_good : (new : List (Packet B)) (t : Turn B) → TurnGood t → SentGood new → TurnGood (send new t)
   send_good new t ok g = record { node = ok.node; out = sent_good t.packets new ok.out g }
 
-  role_good : (r : Role B) (seen : ℕ) (t : Outcome B) → TurnGood t → RoleGood r → TurnGood (record t { node = record t.node { proposer = record { role = r; seen = seen } } })
-  role_good r seen t ok g = record { node = record { votes = ok.node.votes; role = g; learned = ok.node.learned; applied = ok.node.applied; pending = ok.node.pending }; out = ok.out }
+  role_good : (r : Role B) (seen : ℕ) (t : Turn B) → TurnGood t → RoleGood r
+      → TurnGood (record t { node = record t.node { proposer = record { role = r; seen = seen } } })
+  role_good r seen t ok g =
+      record {
+        node = record { votes = ok.node.votes; role = g; learned = ok.node.learned; applied = ok.node.applied; pending = ok.node.pending };
+        out = ok.out;
+      }
 
   -- the learner
 
-  learn_good : (slot : ℕ) (e : Entry B) (l : LearnerState B) → FactsGood l.learned → G e → FactsGood (learn slot e l).learned
+  learn_good : (slot : ℕ) (e : Entry B) (l : LearnerState B) → LearnedGood l.learned → G e → LearnedGood (learn slot e l).learned
   learn_good slot e l ok g =
-      cond_both (is_learned slot l.learned) l (record { heard = l.heard; learned = Rattle.paxos_learner.specs.Learning.put_fact (record { slot = slot; entry = e }) l.learned }) (λ (y : LearnerState B). FactsGood y.learned) (λ t. ok)
-      (λ t f h. ⊎_elim (λ s. subst (λ (z : Fact B). G z.entry) s g) (λ o. ok f o) (fact_cases (record { slot = slot; entry = e }) l.learned f h))
+      cond_both (is_learned slot l.learned) l
+      (record { heard = l.heard; learned = put_learned (record { slot = slot; entry = e }) l.learned })
+      (λ (y : LearnerState B). LearnedGood y.learned) (λ t. ok)
+      (λ t f h. ⊎_elim (λ s. subst (λ (z : LearnedEntry B). G z.entry) s g) (λ o. ok f o)
+      (learned_cases (record { slot = slot; entry = e }) l.learned f h))
 
-  hears_good : (k : ℕ) (v : Vote B) (l : LearnerState B) → FactsGood l.learned → FactsGood (hears k v l).learned
+  hears_good : (k : ℕ) (v : Vote B) (l : LearnerState B) → LearnedGood l.learned → LearnedGood (hears k v l).learned
   hears_good k v l ok =
-      cond_both (heard_from l.heard v.slot v.ballot k) l (record { heard = l.heard ++ record { slot = v.slot; ballot = v.ballot; node = k } ∷ []; learned = l.learned }) (λ (y : LearnerState B). FactsGood y.learned) (λ t. ok) (λ t. ok)
+      cond_both (heard_from l.heard v.slot v.ballot k) l
+      (record { heard = l.heard ++ record { slot = v.slot; ballot = v.ballot; node = k } ∷ []; learned = l.learned })
+      (λ (y : LearnerState B). LearnedGood y.learned) (λ t. ok) (λ t. ok)
 
-  count_good : (members k : ℕ) (v : Vote B) (l : LearnerState B) → FactsGood l.learned → G v.entry → FactsGood (count_vote members k v l).learned
+  count_good : (members k : ℕ) (v : Vote B) (l : LearnerState B) → LearnedGood l.learned → G v.entry
+      → LearnedGood (count_vote members k v l).learned
   count_good members k v l ok g =
-      cond_both (has_most members v (hears k v l)) (learn v.slot v.entry (hears k v l)) (hears k v l) (λ (y : LearnerState B). FactsGood y.learned)
+      cond_both (has_most members v (hears k v l)) (learn v.slot v.entry (hears k v l)) (hears k v l)
+      (λ (y : LearnerState B). LearnedGood y.learned)
       (λ t. learn_good v.slot v.entry (hears k v l) (hears_good k v l ok) g)
       (λ t. hears_good k v l ok)
 
@@ -138,25 +153,49 @@ module _ {B : Type 0} (G : Entry B → Type 0) where
       }
 
   counted_good : (members k : ℕ) (v : Vote B) (x : NodeState B) → NodeGood x → G v.entry → NodeGood (counted_at members k v x)
-  counted_good members k v x ok g = record { votes = ok.votes; role = ok.role; learned = count_good members k v x.learner ok.learned g; applied = ok.applied; pending = ok.pending }
+  counted_good members k v x ok g =
+      record {
+        votes = ok.votes;
+        role = ok.role;
+        learned = count_good members k v x.learner ok.learned g;
+        applied = ok.applied;
+        pending = ok.pending;
+      }
 
   module _ (same : B → B → Bool) (members n : ℕ) where
-    cast_good : (v : Vote B) (t : Outcome B) → TurnGood t → G v.entry → TurnGood (cast same members n v t)
-    cast_good v t ok g = record { node = counted_good members n v (voted_at v t.node) (voted_good v t.node ok.node g) g; out = sent_good t.packets (to_others members n (Accepted v)) ok.out (others_good members n (Accepted v) g) }
+    cast_good : (v : Vote B) (t : Turn B) → TurnGood t → G v.entry → TurnGood (cast same members n v t)
+    cast_good v t ok g =
+        record {
+          node = counted_good members n v (voted_at v t.node) (voted_good v t.node ok.node g) g;
+          out = sent_good t.packets (to_others members n (Accepted v)) ok.out (others_good members n (Accepted v) g);
+        }
 
-    refuse_good : (from : ℕ) (b : Ballot) (t : Outcome B) → TurnGood t → TurnGood (refuse n from b t)
-    refuse_good from b t ok = send_good (packet n (Nack b (promised_or t.node.rows.promised b)) from ∷ []) t ok (one_good n from (Nack b (promised_or t.node.rows.promised b)) tt)
+    refuse_good : (from : ℕ) (b : Ballot) (t : Turn B) → TurnGood t → TurnGood (refuse n from b t)
+    refuse_good from b t ok =
+        send_good (packet n (Nack b (unwrap_or t.node.rows.promised b)) from ∷ []) t ok
+        (one_good n from (Nack b (unwrap_or t.node.rows.promised b)) tt)
 
-    prepare_good : (from : ℕ) (b : Ballot) (floor : ℕ) (t : Outcome B) → TurnGood t → TurnGood (on_prepare n from b floor t)
+    prepare_good : (from : ℕ) (b : Ballot) (floor : ℕ) (t : Turn B) → TurnGood t → TurnGood (on_prepare n from b floor t)
     prepare_good from b floor t ok =
-        cond_both (may_promise t.node.rows.promised b) (send (packet n (Promise b (votes_from floor t.node.rows.votes)) from ∷ []) (promise b t)) (refuse n from b t) (λ u. TurnGood u)
+        cond_both (may_promise t.node.rows.promised b)
+        (send (packet n (Promise b (votes_from floor t.node.rows.votes)) from ∷ []) (promise b t)) (refuse n from b t) (λ u. TurnGood u)
         (λ e. record {
-          node = record { votes = ok.node.votes; role = down_good b t.node.proposer.role ok.node.role; learned = ok.node.learned; applied = ok.node.applied; pending = ok.node.pending };
-          out = sent_good t.packets _ ok.out (one_good n from (Promise b (votes_from floor t.node.rows.votes)) (λ v h. ok.node.votes v (has_from floor t.node.rows.votes v h)));
+          node =
+              record {
+                votes = ok.node.votes;
+                role = down_good b t.node.proposer.role ok.node.role;
+                learned = ok.node.learned;
+                applied = ok.node.applied;
+                pending = ok.node.pending;
+              };
+          out =
+              sent_good t.packets _ ok.out
+              (one_good n from (Promise b (votes_from floor t.node.rows.votes))
+              (λ v h. ok.node.votes v (has_from floor t.node.rows.votes v h)));
         })
         (λ e. refuse_good from b t ok)
 
-    accept_good : (from : ℕ) (v : Vote B) (t : Outcome B) → TurnGood t → G v.entry → TurnGood (on_accept same members n from v t)
+    accept_good : (from : ℕ) (v : Vote B) (t : Turn B) → TurnGood t → G v.entry → TurnGood (on_accept same members n from v t)
     accept_good from v t ok g =
         cond_both (may_accept t.node.rows.promised v.ballot) (cast same members n v t) (refuse n from v.ballot t) (λ u. TurnGood u)
         (λ e. cast_good v t ok g)
@@ -164,20 +203,25 @@ module _ {B : Type 0} (G : Entry B → Type 0) where
 
     -- the proposer
 
-    offer_good : (b : Ballot) (next : ℕ) (table : List (Vote B)) (e : Entry B) (t : Outcome B) → VotesGood table → TurnGood t → G e → TurnGood (offer members n b next table e t)
+    offer_good : (b : Ballot) (next : ℕ) (table : List (Vote B)) (e : Entry B) (t : Turn B) → VotesGood table → TurnGood t → G e
+        → TurnGood (offer members n b next table e t)
     offer_good b next table e t rg ok g =
         record {
           node = record {
             votes = ok.node.votes;
-            role = λ v h. ⊎_elim (λ o. rg v o) (λ s. subst (λ (z : Vote B). G z.entry) (has_one s) g) (has_cases table (next_vote b next e ∷ []) h);
+            role =
+                λ v h.
+                ⊎_elim (λ o. rg v o) (λ s. subst (λ (z : Vote B). G z.entry) (has_one s) g) (has_cases table (next_vote b next e ∷ []) h);
             learned = ok.node.learned;
             applied = ok.node.applied;
             pending = ok.node.pending;
           };
-          out = sent_good t.packets (to_others members n (Accept (next_vote b next e))) ok.out (others_good members n (Accept (next_vote b next e)) g);
+          out =
+              sent_good t.packets (to_others members n (Accept (next_vote b next e))) ok.out
+              (others_good members n (Accept (next_vote b next e)) g);
         }
 
-    propose_as_good : (r : Role B) (e : Entry B) (t : Outcome B) → RoleGood r → TurnGood t → G e → TurnGood (propose_as same members n r e t)
+    propose_as_good : (r : Role B) (e : Entry B) (t : Turn B) → RoleGood r → TurnGood t → G e → TurnGood (propose_as same members n r e t)
     propose_as_good Idle e t rg ok g = ok
     propose_as_good (Preparing b floor cs) e t rg ok g = ok
     propose_as_good (Leading b next table) e t rg ok g =
@@ -185,19 +229,23 @@ module _ {B : Type 0} (G : Entry B → Type 0) where
         (λ l. cast_good (next_vote b next e) (offer members n b next table e t) (offer_good b next table e t rg ok g) g)
         (λ l. ok)
 
-    propose_good : (e : Entry B) (t : Outcome B) → TurnGood t → G e → TurnGood (propose same members n e t)
+    propose_good : (e : Entry B) (t : Turn B) → TurnGood t → G e → TurnGood (propose same members n e t)
     propose_good e t ok g = propose_as_good t.node.proposer.role e t ok.node.role ok g
 
-    propose_all_good : (es : List (Entry B)) (t : Outcome B) → TurnGood t → Each es → TurnGood (propose_all same members n es t)
+    propose_all_good : (es : List (Entry B)) (t : Turn B) → TurnGood t → Each es → TurnGood (propose_all same members n es t)
     propose_all_good [] t ok g = ok
-    propose_all_good (e ∷ es) t ok g = propose_all_good es (propose same members n e t) (propose_good e t ok (g e first_here)) (λ f h. g f (there h))
+    propose_all_good (e ∷ es) t ok g =
+        propose_all_good es (propose same members n e t) (propose_good e t ok (g e here)) (λ f h. g f (there h))
 
-    propose_new_good : (e : Entry B) (t : Outcome B) → TurnGood t → G e → TurnGood (propose_new same members n e t)
-    propose_new_good e t ok g = cond_both (stands same (length t.node.applied) t.node.proposer.role e) t (propose same members n e t) (λ u. TurnGood u) (λ d. ok) (λ d. propose_good e t ok g)
+    propose_new_good : (e : Entry B) (t : Turn B) → TurnGood t → G e → TurnGood (propose_new same members n e t)
+    propose_new_good e t ok g =
+        cond_both (stands same (length t.node.applied) t.node.proposer.role e) t (propose same members n e t) (λ u. TurnGood u) (λ d. ok)
+        (λ d. propose_good e t ok g)
 
-    propose_each_good : (es : List (Entry B)) (t : Outcome B) → TurnGood t → Each es → TurnGood (propose_each same members n es t)
+    propose_each_good : (es : List (Entry B)) (t : Turn B) → TurnGood t → Each es → TurnGood (propose_each same members n es t)
     propose_each_good [] t ok g = ok
-    propose_each_good (e ∷ es) t ok g = propose_each_good es (propose_new same members n e t) (propose_new_good e t ok (g e first_here)) (λ f h. g f (there h))
+    propose_each_good (e ∷ es) t ok g =
+        propose_each_good es (propose_new same members n e t) (propose_new_good e t ok (g e here)) (λ f h. g f (there h))
 
     forward_good : (o : Option Ballot) (es : List (Entry B)) → Each es → SentGood (forwarded n o es)
     forward_good None es g p h = absurd (has_nil h)
@@ -208,14 +256,21 @@ module _ {B : Type 0} (G : Entry B → Type 0) where
         (λ t q z. subst (λ (y : Packet B). KindGood y.kind) (has_one z) (λ f i. g f (take_has 64 (e ∷ es) f i)))
         p h
 
-    push_good : (t : Outcome B) → TurnGood t → TurnGood (push same members n t)
+    push_good : (t : Turn B) → TurnGood t → TurnGood (push same members n t)
     push_good t ok =
-        cond_both (is_leading t.node.proposer.role) (propose_each same members n t.node.pending t) (send (forwarded n t.node.rows.promised t.node.pending) t) (λ u. TurnGood u)
+        cond_both (is_leading t.node.proposer.role) (propose_each same members n t.node.pending t)
+        (send (forwarded n t.node.rows.promised t.node.pending) t) (λ u. TurnGood u)
         (λ d. propose_each_good t.node.pending t ok ok.node.pending)
-        (λ d. send_good (forwarded n t.node.rows.promised t.node.pending) t ok (forward_good t.node.rows.promised t.node.pending ok.node.pending))
+        (λ d. send_good (forwarded n t.node.rows.promised t.node.pending) t ok
+        (forward_good t.node.rows.promised t.node.pending ok.node.pending))
 
-    pending_good : (pending : List (Entry B)) (taken : ℕ) (t : Outcome B) → TurnGood t → Each pending → TurnGood (record t { node = record t.node { pending = pending; taken = taken } })
-    pending_good pending taken t ok g = record { node = record { votes = ok.node.votes; role = ok.node.role; learned = ok.node.learned; applied = ok.node.applied; pending = g }; out = ok.out }
+    pending_good : (pending : List (Entry B)) (taken : ℕ) (t : Turn B) → TurnGood t → Each pending
+        → TurnGood (record t { node = record t.node { pending = pending; taken = taken } })
+    pending_good pending taken t ok g =
+        record {
+          node = record { votes = ok.node.votes; role = ok.node.role; learned = ok.node.learned; applied = ok.node.applied; pending = g };
+          out = ok.out;
+        }
 
     module _ (noop : G Noop) where
       entry_good : (slot : ℕ) (vs : List (Vote B)) → VotesGood vs → G (entry_or_noop (best slot vs))
@@ -227,62 +282,91 @@ module _ {B : Type 0} (G : Entry B → Type 0) where
 
       called_good : (vs : List (Vote B)) → VotesGood vs → (slot k : ℕ) (e : Entry B) → Has (called_in vs slot k) e → G e
       called_good vs g slot zero e h = absurd (has_nil h)
-      called_good vs g slot (suc k) e h = ⊎_elim (λ s. subst (λ z. G z) s (entry_good slot vs g)) (λ o. called_good vs g (suc slot) k e o) (has_cons h)
+      called_good vs g slot (suc k) e h =
+          ⊎_elim (λ s. subst (λ z. G z) s (entry_good slot vs g)) (λ o. called_good vs g (suc slot) k e o) (has_cons h)
 
-      lead_good : (b : Ballot) (floor : ℕ) (vs : List (Vote B)) (t : Outcome B) → TurnGood t → VotesGood vs → TurnGood (lead same members n b floor vs t)
+      lead_good : (b : Ballot) (floor : ℕ) (vs : List (Vote B)) (t : Turn B) → TurnGood t → VotesGood vs
+          → TurnGood (lead same members n b floor vs t)
       lead_good b floor vs t ok g =
-          propose_all_good (called_for floor vs) (record t { node = with_role (Leading b floor []) t.node }) (role_good (Leading b floor []) t.node.proposer.seen t ok (λ v h. absurd (has_nil h)))
+          propose_all_good (called_for floor vs) (record t { node = with_role (Leading b floor []) t.node })
+          (role_good (Leading b floor []) t.node.proposer.seen t ok (λ v h. absurd (has_nil h)))
           (called_good vs g floor (past_reports floor vs - floor))
 
-      promise_as_good : (from : ℕ) (b : Ballot) (votes : List (Vote B)) (r : Role B) (t : Outcome B) → RoleGood r → TurnGood t → VotesGood votes → TurnGood (on_promise_as same members n from b votes r t)
+      promise_as_good : (from : ℕ) (b : Ballot) (votes : List (Vote B)) (r : Role B) (t : Turn B) → RoleGood r → TurnGood t
+          → VotesGood votes → TurnGood (on_promise_as same members n from b votes r t)
       promise_as_good from b votes Idle t rg ok g = ok
       promise_as_good from b votes (Leading c next table) t rg ok g = ok
       promise_as_good from b votes (Preparing c floor cs) t rg ok g =
           cond_both (same_ballot b c && not (is_counted cs from)) (count_promise same members n c floor all t) t (λ u. TurnGood u)
-          (λ e. cond_both (is_majority members (is_counted all)) (push same members n (lead same members n c floor (reports all) t)) (record t { node = with_role (Preparing c floor all) t.node }) (λ u. TurnGood u)
-          (λ m. push_good (lead same members n c floor (reports all) t) (lead_good c floor (reports all) t ok (λ v h. let z = has_reports all v h in all_good z.0 z.1 v z.2)))
+          (λ e. cond_both (is_majority members (is_counted all)) (push same members n (lead same members n c floor (reports all) t))
+          (record t { node = with_role (Preparing c floor all) t.node }) (λ u. TurnGood u)
+          (λ m. push_good (lead same members n c floor (reports all) t)
+          (lead_good c floor (reports all) t ok (λ v h. let z = has_reports all v h in all_good z.0 z.1 v z.2)))
           (λ m. role_good (Preparing c floor all) t.node.proposer.seen t ok all_good))
           (λ e. ok)
         where
-          all : List (Counted B)
+          all : List (CountedPromise B)
           all = cs ++ record { node = from; votes = votes } ∷ []
 
-          all_good : (d : Counted B) → Has all d → VotesGood d.votes
-          all_good d h = ⊎_elim (λ o. rg d o) (λ s. subst (λ (z : Counted B). VotesGood z.votes) (has_one s) g) (has_cases cs (record { node = from; votes = votes } ∷ []) h)
+          all_good : (d : CountedPromise B) → Has all d → VotesGood d.votes
+          all_good d h =
+              ⊎_elim (λ o. rg d o) (λ s. subst (λ (z : CountedPromise B). VotesGood z.votes) (has_one s) g)
+              (has_cases cs (record { node = from; votes = votes } ∷ []) h)
 
       nacked_good : (b p : Ballot) (r : Role B) → RoleGood r → RoleGood (nacked b p r)
       nacked_good b p Idle g = tt
-      nacked_good b p (Preparing c floor cs) g = cond_both (same_ballot b c && below c p) Idle (Preparing c floor cs) (λ r. RoleGood r) (λ t. tt) (λ t. g)
-      nacked_good b p (Leading c next table) g = cond_both (same_ballot b c && below c p) Idle (Leading c next table) (λ r. RoleGood r) (λ t. tt) (λ t. g)
+      nacked_good b p (Preparing c floor cs) g =
+          cond_both (same_ballot b c && below c p) Idle (Preparing c floor cs) (λ r. RoleGood r) (λ t. tt) (λ t. g)
+      nacked_good b p (Leading c next table) g =
+          cond_both (same_ballot b c && below c p) Idle (Leading c next table) (λ r. RoleGood r) (λ t. tt) (λ t. g)
 
-      told_good : (to slot : ℕ) (fs : List (Fact B)) → FactsGood fs → SentGood (told_from n to slot fs)
+      told_good : (to slot : ℕ) (fs : List (LearnedEntry B)) → LearnedGood fs → SentGood (told_from n to slot fs)
       told_good to slot [] g p h = absurd (has_nil h)
       told_good to slot (f ∷ fs) g p h =
           ⊎_elim
           (λ a. cond_both (nat_le slot f.slot && nat_lt f.slot (slot + 64)) (packet n (Learned f.slot f.entry) to ∷ []) [] (λ l. SentGood l)
-          (λ t. one_good n to (Learned f.slot f.entry) (g f first_here))
+          (λ t. one_good n to (Learned f.slot f.entry) (g f here))
           (λ t q z. absurd (has_nil z))
           p a)
           (λ b. told_good to slot fs (λ z i. g z (there i)) p b)
-          (has_cases (if nat_le slot f.slot && nat_lt f.slot (slot + 64) then packet n (Learned f.slot f.entry) to ∷ [] else []) (told_from n to slot fs) h)
+          (has_cases (if nat_le slot f.slot && nat_lt f.slot (slot + 64) then packet n (Learned f.slot f.entry) to ∷ [] else [])
+          (told_from n to slot fs) h)
 
-      packet_good : (from : ℕ) (kind : Kind B) (t : Outcome B) → TurnGood t → KindGood kind → TurnGood (on_packet same members n from kind t)
+      packet_good : (from : ℕ) (kind : Kind B) (t : Turn B) → TurnGood t → KindGood kind → TurnGood (on_packet same members n from kind t)
       packet_good from (Prepare b floor) t ok g = prepare_good from b floor t ok
       packet_good from (Promise b votes) t ok g = promise_as_good from b votes t.node.proposer.role t ok.node.role ok g
       packet_good from (Accept v) t ok g = accept_good from v t ok g
       packet_good from (Accepted v) t ok g = record { node = counted_good members from v t.node ok.node g; out = ok.out }
-      packet_good from (Nack b p) t ok g = role_good (nacked b p t.node.proposer.role) t.node.proposer.seen t ok (nacked_good b p t.node.proposer.role ok.node.role)
-      packet_good from (Forward es) t ok g = cond_both (is_leading t.node.proposer.role) (propose_each same members n es t) t (λ u. TurnGood u) (λ d. propose_each_good es t ok g) (λ d. ok)
-      packet_good from (Ask slot) t ok g = send_good (told_from n from slot t.node.learner.learned) t ok (told_good from slot t.node.learner.learned ok.node.learned)
-      packet_good from (Learned slot e) t ok g = record { node = record { votes = ok.node.votes; role = ok.node.role; learned = learn_good slot e t.node.learner ok.node.learned g; applied = ok.node.applied; pending = ok.node.pending }; out = ok.out }
+      packet_good from (Nack b p) t ok g =
+          role_good (nacked b p t.node.proposer.role) t.node.proposer.seen t ok (nacked_good b p t.node.proposer.role ok.node.role)
+      packet_good from (Forward es) t ok g =
+          cond_both (is_leading t.node.proposer.role) (propose_each same members n es t) t (λ u. TurnGood u)
+          (λ d. propose_each_good es t ok g) (λ d. ok)
+      packet_good from (Ask slot) t ok g =
+          send_good (told_from n from slot t.node.learner.learned) t ok (told_good from slot t.node.learner.learned ok.node.learned)
+      packet_good from (Learned slot e) t ok g =
+          record {
+            node =
+                record {
+                  votes = ok.node.votes;
+                  role = ok.node.role;
+                  learned = learn_good slot e t.node.learner ok.node.learned g;
+                  applied = ok.node.applied;
+                  pending = ok.node.pending;
+                };
+            out = ok.out;
+          }
 
-    start_good : (t : Outcome B) → TurnGood t → TurnGood (on_start members n t)
+    start_good : (t : Turn B) → TurnGood t → TurnGood (on_start members n t)
     start_good t ok =
         cond_both (starts n t.node) (begin members n b floor t) t (λ u. TurnGood u)
         (λ e. record {
           node = record {
             votes = ok.node.votes;
-            role = λ c h v i. ok.node.votes v (has_from floor t.node.rows.votes v (subst (λ (z : Counted B). Has z.votes v) (sym (has_one h)) i));
+            role =
+                λ c h v i.
+                ok.node.votes v
+                (has_from floor t.node.rows.votes v (subst (λ (z : CountedPromise B). Has z.votes v) (sym (has_one h)) i));
             learned = ok.node.learned;
             applied = ok.node.applied;
             pending = ok.node.pending;
@@ -297,58 +381,82 @@ module _ {B : Type 0} (G : Entry B → Type 0) where
         floor : ℕ
         floor = suc (length t.node.applied)
 
-    accepts_good : (learned : List (Fact B)) (vs : List (Vote B)) → VotesGood vs → SentGood (accepts_again members n learned vs)
+    accepts_good : (learned : List (LearnedEntry B)) (vs : List (Vote B)) → VotesGood vs → SentGood (accepts_again members n learned vs)
     accepts_good learned [] g p h = absurd (has_nil h)
     accepts_good learned (v ∷ vs) g p h =
         sent_good (if is_learned v.slot learned then [] else to_others members n (Accept v)) (accepts_again members n learned vs)
-        (cond_both (is_learned v.slot learned) [] (to_others members n (Accept v)) (λ l. SentGood l) (λ t q z. absurd (has_nil z)) (λ t. others_good members n (Accept v) (g v first_here)))
+        (cond_both (is_learned v.slot learned) [] (to_others members n (Accept v)) (λ l. SentGood l) (λ t q z. absurd (has_nil z))
+        (λ t. others_good members n (Accept v) (g v here)))
         (accepts_good learned vs (λ w i. g w (there i)))
         p h
 
-    again_good : (r : Role B) (learned : List (Fact B)) → RoleGood r → SentGood (again members n r learned)
+    again_good : (r : Role B) (learned : List (LearnedEntry B)) → RoleGood r → SentGood (again members n r learned)
     again_good Idle learned g p h = absurd (has_nil h)
-    again_good (Preparing b floor cs) learned g p h = some_good n (filter (λ j. not (is_counted cs j)) (others n members)) (Prepare b floor) tt p h
+    again_good (Preparing b floor cs) learned g p h =
+        some_good n (filter (λ j. not (is_counted cs j)) (others n members)) (Prepare b floor) tt p h
     again_good (Leading b next table) learned g p h = accepts_good learned table g p h
 
-    tick_good : (t : Outcome B) → TurnGood t → TurnGood (on_tick same members n t)
+    tick_good : (t : Turn B) → TurnGood t → TurnGood (on_tick same members n t)
     tick_good t ok =
-        let a = send_good (again members n t.node.proposer.role t.node.learner.learned) t ok (again_good t.node.proposer.role t.node.learner.learned ok.node.role) in
+        let a =
+        send_good (again members n t.node.proposer.role t.node.learner.learned) t ok
+        (again_good t.node.proposer.role t.node.learner.learned ok.node.role) in
         let pushed = push same members n (send (again members n t.node.proposer.role t.node.learner.learned) t) in
-        send_good (to_others members n (Ask (suc (length pushed.node.applied)))) pushed (push_good (send (again members n t.node.proposer.role t.node.learner.learned) t) a) (others_good members n (Ask (suc (length pushed.node.applied))) tt)
+        send_good (to_others members n (Ask (suc (length pushed.node.applied)))) pushed
+        (push_good (send (again members n t.node.proposer.role t.node.learner.learned) t) a)
+        (others_good members n (Ask (suc (length pushed.node.applied))) tt)
 
-    take_good : (transport : ℕ) (body : B) (t : Outcome B) → TurnGood t → Each (taken_by n transport body t.node) → TurnGood (on_take same members n transport body t)
+    take_good : (transport : ℕ) (body : B) (t : Turn B) → TurnGood t → Each (taken_by n transport body t.node)
+        → TurnGood (on_take same members n transport body t)
     take_good transport body t ok g =
         cond_both (takes t.node) (push same members n (record t { node = with_item n transport body t.node })) t (λ u. TurnGood u)
-        (λ d. push_good (record t { node = with_item n transport body t.node }) (pending_good (t.node.pending ++ item ∷ []) (suc t.node.taken) t ok
-        (each_push t.node.pending item ok.node.pending (g item (subst (λ l. Has l item) (sym (cond-true (takes t.node) (item ∷ []) [] d)) first_here)))))
+        (λ d. push_good (record t { node = with_item n transport body t.node })
+        (pending_good (t.node.pending ++ item ∷ []) (suc t.node.taken) t ok
+        (each_push t.node.pending item ok.node.pending
+        (g item (subst (λ l. Has l item) (sym (cond-true (takes t.node) (item ∷ []) [] d)) here)))))
         (λ d. ok)
       where
         item : Entry B
         item = new_item n transport body t.node
 
-    suspect_good : (lost : Option (Entry B)) (t : Outcome B) → TurnGood t → Each (suspected_by lost t.node) → TurnGood (suspected same members n lost t)
+    suspect_good : (lost : Option (Entry B)) (t : Turn B) → TurnGood t → Each (suspected_by lost t.node)
+        → TurnGood (suspected same members n lost t)
     suspect_good None t ok g = ok
     suspect_good (Some lost) t ok g =
-        cond_both (has_room t.node) (push same members n (record t { node = with_pending (t.node.pending ++ lost ∷ []) t.node })) t (λ u. TurnGood u)
-        (λ d. push_good (record t { node = with_pending (t.node.pending ++ lost ∷ []) t.node }) (pending_good (t.node.pending ++ lost ∷ []) t.node.taken t ok
-        (each_push t.node.pending lost ok.node.pending (g lost (subst (λ l. Has l lost) (sym (cond-true (has_room t.node) (lost ∷ []) [] d)) first_here)))))
+        cond_both (has_room t.node) (push same members n (record t { node = with_pending (t.node.pending ++ lost ∷ []) t.node })) t
+        (λ u. TurnGood u)
+        (λ d. push_good (record t { node = with_pending (t.node.pending ++ lost ∷ []) t.node })
+        (pending_good (t.node.pending ++ lost ∷ []) t.node.taken t ok
+        (each_push t.node.pending lost ok.node.pending
+        (g lost (subst (λ l. Has l lost) (sym (cond-true (has_room t.node) (lost ∷ []) [] d)) here)))))
         (λ d. ok)
 
   -- what is learned is applied
 
-  run_good : (fs : List (Fact B)) (slot : ℕ) → FactsGood fs → Each (run_from slot fs)
+  run_good : (fs : List (LearnedEntry B)) (slot : ℕ) → LearnedGood fs → Each (run_from slot fs)
   run_good [] slot g = λ e h. absurd (has_nil h)
   run_good (f ∷ fs) slot g = go (λ s. run_good fs s (λ z i. g z (there i))) (eqb f.slot slot) (nat_lt f.slot slot)
     where
       go : ((s : ℕ) → Each (run_from s fs)) → (a b : Bool) → Each (run_with a b f.entry (run_from (if a then suc slot else slot) fs))
-      go rest true b = λ e h. ⊎_elim (λ s. subst (λ z. G z) s (g f first_here)) (λ o. rest (suc slot) e o) (has_cons h)
+      go rest true b = λ e h. ⊎_elim (λ s. subst (λ z. G z) s (g f here)) (λ o. rest (suc slot) e o) (has_cons h)
       go rest false true = λ e h. rest slot e h
       go rest false false = λ e h. absurd (has_nil h)
 
-  fallen_good : (t : Outcome B) → TurnGood t → TurnGood (go_down t)
-  fallen_good t ok = record { node = record { votes = ok.node.votes; role = tt; learned = λ f h. absurd (has_nil h); applied = λ e h. absurd (has_nil h); pending = λ e h. absurd (has_nil h) }; out = ok.out }
+  fallen_good : (t : Turn B) → TurnGood t → TurnGood (go_down t)
+  fallen_good t ok =
+      record {
+        node =
+            record {
+              votes = ok.node.votes;
+              role = tt;
+              learned = λ f h. absurd (has_nil h);
+              applied = λ e h. absurd (has_nil h);
+              pending = λ e h. absurd (has_nil h);
+            };
+        out = ok.out;
+      }
 
-  note_good : (e : Entry B) (t : Outcome B) → TurnGood t → G e → TurnGood (note e t)
+  note_good : (e : Entry B) (t : Turn B) → TurnGood t → G e → TurnGood (note e t)
   note_good e t ok g =
       record {
         node = record {
@@ -361,16 +469,18 @@ module _ {B : Type 0} (G : Entry B → Type 0) where
         out = ok.out;
       }
 
-  apply_good : (n : ℕ) (es : List (Entry B)) (t : Outcome B) → TurnGood t → Each es → TurnGood (apply_all n es t)
+  apply_good : (n : ℕ) (es : List (Entry B)) (t : Turn B) → TurnGood t → Each es → TurnGood (apply_all n es t)
   apply_good n [] t ok g = ok
   apply_good n (e ∷ es) t ok g =
-      let a = note_good e t ok (g e first_here) in
+      let a = note_good e t ok (g e here) in
       cond_both (ends n t.node e) (go_down (note e t)) (apply_all n es (note e t)) (λ u. TurnGood u)
       (λ d. fallen_good (note e t) a)
       (λ d. apply_good n es (note e t) a (λ f h. g f (there h)))
 
-  settle_good : (n : ℕ) (t : Outcome B) → TurnGood t → TurnGood (settle n t)
-  settle_good n t ok = apply_good n (run_from (suc (length t.node.applied)) t.node.learner.learned) t ok (run_good t.node.learner.learned (suc (length t.node.applied)) ok.node.learned)
+  settle_good : (n : ℕ) (t : Turn B) → TurnGood t → TurnGood (settle n t)
+  settle_good n t ok =
+      apply_good n (run_from (suc (length t.node.applied)) t.node.learner.learned) t ok
+      (run_good t.node.learner.learned (suc (length t.node.applied)) ok.node.learned)
 
   -- what a packet brings
   abbrev pub EventGood : Event B → Type 0
@@ -382,7 +492,8 @@ module _ {B : Type 0} (G : Entry B → Type 0) where
   EventGood (Crash n) = Unit {0}
   EventGood (Restart n) = Unit {0}
 
-  pub outcome_good : (same : B → B → Bool) (members : ℕ) → G Noop → (e : Event B) (x : NodeState B) → NodeGood x → EventGood e → Each (made_by same e x) → TurnGood (outcome_of same members e x)
+  pub outcome_good : (same : B → B → Bool) (members : ℕ) → G Noop → (e : Event B) (x : NodeState B) → NodeGood x → EventGood e
+      → Each (made_by same e x) → TurnGood (outcome_of same members e x)
   outcome_good same members noop e x ok eg g = go e eg g
     where
       start : TurnGood (begun x)
@@ -394,10 +505,19 @@ module _ {B : Type 0} (G : Entry B → Type 0) where
       go (Start n) eg g = settle_good n _ (start_good same members n (begun x) start)
       go (Suspect n other) eg g = settle_good n _ (suspect_good same members n (new_lost same n other x) (begun x) start g)
       go (Deliver p) eg g =
-          settle_good p.addressee _ (packet_good same members p.addressee noop p.sender p.kind (record (begun x) { node = saw p.kind x }) (role_good x.proposer.role (saw p.kind x).proposer.seen (begun x) start ok.role) eg)
+          settle_good p.addressee _
+          (packet_good same members p.addressee noop p.sender p.kind (record (begun x) { node = saw p.kind x })
+          (role_good x.proposer.role (saw p.kind x).proposer.seen (begun x) start ok.role) eg)
       go (Crash n) eg g = fallen_good (begun x) start
       go (Restart n) eg g =
           record {
-            node = record { votes = ok.votes; role = tt; learned = λ f h. absurd (has_nil h); applied = λ f h. absurd (has_nil h); pending = λ f h. subst (λ z. G z) (has_one h) (g (Boot n (suc x.rows.boot)) first_here) };
+            node =
+                record {
+                  votes = ok.votes;
+                  role = tt;
+                  learned = λ f h. absurd (has_nil h);
+                  applied = λ f h. absurd (has_nil h);
+                  pending = λ f h. subst (λ z. G z) (has_one h) (g (Boot n (suc x.rows.boot)) here);
+                };
             out = λ p h. absurd (has_nil h);
           }

@@ -1,86 +1,96 @@
 -- The boot of a node, whether it is up, and its log through an event.
-use Rattle.std.proofs.Common.{◌≡◌, inr, ℕ, suc, Bool, true, false, not, ◌&&◌, refl, sym, ap, ◌∙◌, List, [], ◌∷◌, ◌++◌, length, Option, Some, None}
+use Rattle.std.proofs.Common.{◌≡◌, inr, ℕ, suc, Bool, true, false, not, ◌&&◌, refl, sym, ap, ◌∙◌, List, [], ◌∷◌, ◌++◌, length, Option, Some}
+use Rattle.std.proofs.Common.{None}
 use Rattle.std.specs.Prelude.{if◌then◌else◌, nat_lt}
 use Rattle.std.proofs.lemmas.Bool.{cond_both}
-use Rattle.cluster_world.proofs.Turns.{Stays, stays_on}
+use Rattle.cluster_world.proofs.Proposals.{Stays, stays_on}
 use Rattle.cluster_world.proofs.Settling.{From, step_from}
-use Rattle.paxos_packets.specs.Majority.{is_majority}
-use Rattle.paxos_packets.specs.Ballots.{same_ballot}
-use Rattle.paxos_packets.specs.Sending.{packet}
-use Rattle.paxos_packets.specs.Slots.{votes_from}
+use Rattle.paxos_packets.specs.Members.{is_majority}
+use Rattle.paxos_packets.specs.Ballot.{same_ballot}
+use Rattle.paxos_packets.specs.Packet.{packet}
+use Rattle.paxos_packets.specs.Vote.{votes_from}
 use Rattle.paxos_packets.specs.declared.ballot.Ballot.{Ballot}
 use Rattle.paxos_packets.specs.declared.entry.Entry.{Entry}
 use Rattle.paxos_packets.specs.declared.packet.Kind.{Kind}
 use Rattle.paxos_packets.specs.declared.vote.Vote.{Vote}
 use Rattle.paxos_packets.specs.declared.packet.Kind.TheVariants.{Prepare, Promise, Accept, Accepted, Nack, Forward, Ask, Learned}
-use Rattle.paxos_acceptor.specs.Rules.{may_promise, may_accept}
-use Rattle.paxos_proposer.specs.declared.promises.Counted.{Counted}
+use Rattle.paxos_acceptor.specs.Acceptor.{may_promise, may_accept}
+use Rattle.paxos_proposer.specs.declared.promises.CountedPromise.{CountedPromise}
 use Rattle.paxos_proposer.specs.declared.role.Role.{Role}
 use Rattle.paxos_proposer.specs.declared.role.Role.TheVariants.{Idle, Preparing, Leading}
-use Rattle.paxos_proposer.specs.Proposing.{slot_end, next_vote, new_ballot, is_leading}
+use Rattle.paxos_proposer.specs.Proposer.{slot_end, next_vote, new_ballot, is_leading}
 use Rattle.paxos_proposer.specs.Reports.{is_counted, reports, called_for}
 use Rattle.paxos_node.specs.declared.event.Event.{Event}
 use Rattle.paxos_node.specs.declared.event.Event.TheVariants.{Take, Tick, Start, Suspect, Deliver, Crash, Restart}
 use Rattle.paxos_node.specs.declared.state.NodeState.{NodeState}
-use Rattle.paxos_node.specs.declared.outcome.Outcome.{Outcome}
-use Rattle.paxos_node.specs.Turns.{with_role, with_pending, begun, send, promise, cast}
+use Rattle.paxos_node.specs.declared.turn.Turn.{Turn}
+use Rattle.paxos_node.specs.Turn.{with_role, with_pending, begun, send, promise, cast}
 use Rattle.paxos_node.specs.Proposals.{offer, propose_as, propose, propose_all, lead, stands, propose_new, propose_each, forwarded, push}
 use Rattle.paxos_node.specs.Replies.{saw, refuse, count_promise, on_promise_as, on_packet}
-use Rattle.paxos_node.specs.Events.{takes, with_item, on_take, again, on_tick, begin, starts, on_start, has_room, suspected, new_lost, outcome_of, possible}
+use Rattle.paxos_node.specs.Events.{takes, with_item, on_take, again, on_tick, begin, starts, on_start, has_room, suspected, new_lost}
+use Rattle.paxos_node.specs.Events.{outcome_of, possible}
 
-abbrev pub Same : {B : Type 0} → Outcome B → Outcome B → Type 0
+abbrev pub Same : {B : Type 0} → Turn B → Turn B → Type 0
 Same t u = Stays t.node.taken t u
 
-pub same_here : {B : Type 0} (t : Outcome B) → Same t t
+pub same_here : {B : Type 0} (t : Turn B) → Same t t
 same_here t = record { boot = refl; up = refl; log = refl; news = refl; acts = refl }
 
 module _ {B : Type 0} (same : B → B → Bool) (members n : ℕ) where
-  proposes_as : (r : Role B) (e : Entry B) (t : Outcome B) → Same t (propose_as same members n r e t)
+  proposes_as : (r : Role B) (e : Entry B) (t : Turn B) → Same t (propose_as same members n r e t)
   proposes_as Idle e t = same_here t
   proposes_as (Preparing b floor cs) e t = same_here t
   proposes_as (Leading b next table) e t =
       cond_both (nat_lt next slot_end) (cast same members n (next_vote b next e) (offer members n b next table e t)) t (λ u. Same t u)
       (λ l. record { boot = refl; up = refl; log = refl; news = refl; acts = refl }) (λ l. same_here t)
 
-  proposes : (e : Entry B) (t : Outcome B) → Same t (propose same members n e t)
+  proposes : (e : Entry B) (t : Turn B) → Same t (propose same members n e t)
   proposes e t = proposes_as t.node.proposer.role e t
 
-  proposes_all : (es : List (Entry B)) (t : Outcome B) → Same t (propose_all same members n es t)
+  proposes_all : (es : List (Entry B)) (t : Turn B) → Same t (propose_all same members n es t)
   proposes_all [] t = same_here t
   proposes_all (e ∷ es) t = stays_on (proposes e t) (proposes_all es (propose same members n e t))
 
-  proposes_new : (e : Entry B) (t : Outcome B) → Same t (propose_new same members n e t)
-  proposes_new e t = cond_both (stands same (length t.node.applied) t.node.proposer.role e) t (propose same members n e t) (λ u. Same t u) (λ d. same_here t) (λ d. proposes e t)
+  proposes_new : (e : Entry B) (t : Turn B) → Same t (propose_new same members n e t)
+  proposes_new e t =
+      cond_both (stands same (length t.node.applied) t.node.proposer.role e) t (propose same members n e t) (λ u. Same t u)
+      (λ d. same_here t) (λ d. proposes e t)
 
-  proposes_each : (es : List (Entry B)) (t : Outcome B) → Same t (propose_each same members n es t)
+  proposes_each : (es : List (Entry B)) (t : Turn B) → Same t (propose_each same members n es t)
   proposes_each [] t = same_here t
   proposes_each (e ∷ es) t = stays_on (proposes_new e t) (proposes_each es (propose_new same members n e t))
 
-  pub pushes : (t : Outcome B) → Same t (push same members n t)
+  pub pushes : (t : Turn B) → Same t (push same members n t)
   pushes t =
-      cond_both (is_leading t.node.proposer.role) (propose_each same members n t.node.pending t) (send (forwarded n t.node.rows.promised t.node.pending) t) (λ u. Same t u)
+      cond_both (is_leading t.node.proposer.role) (propose_each same members n t.node.pending t)
+      (send (forwarded n t.node.rows.promised t.node.pending) t) (λ u. Same t u)
       (λ d. proposes_each t.node.pending t)
       (λ d. record { boot = refl; up = refl; log = refl; news = refl; acts = refl })
 
-  leads : (b : Ballot) (floor : ℕ) (vs : List (Vote B)) (t : Outcome B) → Same t (lead same members n b floor vs t)
-  leads b floor vs t = let s = proposes_all (called_for floor vs) (record t { node = with_role (Leading b floor []) t.node }) in record { boot = s.boot; up = s.up; log = s.log; news = s.news; acts = s.acts }
+  leads : (b : Ballot) (floor : ℕ) (vs : List (Vote B)) (t : Turn B) → Same t (lead same members n b floor vs t)
+  leads b floor vs t =
+      let s = proposes_all (called_for floor vs) (record t { node = with_role (Leading b floor []) t.node }) in
+      record { boot = s.boot; up = s.up; log = s.log; news = s.news; acts = s.acts }
 
-  promises_as : (from : ℕ) (b : Ballot) (votes : List (Vote B)) (r : Role B) (t : Outcome B) → Same t (on_promise_as same members n from b votes r t)
+  promises_as : (from : ℕ) (b : Ballot) (votes : List (Vote B)) (r : Role B) (t : Turn B)
+      → Same t (on_promise_as same members n from b votes r t)
   promises_as from b votes Idle t = same_here t
   promises_as from b votes (Leading c next table) t = same_here t
   promises_as from b votes (Preparing c floor cs) t =
       cond_both (same_ballot b c && not (is_counted cs from)) (count_promise same members n c floor more t) t (λ u. Same t u)
-      (λ e. cond_both (is_majority members (is_counted more)) (push same members n (lead same members n c floor (reports more) t)) (record t { node = with_role (Preparing c floor more) t.node }) (λ u. Same t u)
+      (λ e. cond_both (is_majority members (is_counted more)) (push same members n (lead same members n c floor (reports more) t))
+      (record t { node = with_role (Preparing c floor more) t.node }) (λ u. Same t u)
       (λ m. stays_on (leads c floor (reports more) t) (pushes (lead same members n c floor (reports more) t)))
       (λ m. record { boot = refl; up = refl; log = refl; news = refl; acts = refl }))
       (λ e. same_here t)
     where
-      more : List (Counted B)
+      more : List (CountedPromise B)
       more = cs ++ record { node = from; votes = votes } ∷ []
 
-  hears_packet : (from : ℕ) (kind : Kind B) (t : Outcome B) → Same t (on_packet same members n from kind t)
+  hears_packet : (from : ℕ) (kind : Kind B) (t : Turn B) → Same t (on_packet same members n from kind t)
   hears_packet from (Prepare b floor) t =
-      cond_both (may_promise t.node.rows.promised b) (send (packet n (Promise b (votes_from floor t.node.rows.votes)) from ∷ []) (promise b t)) (refuse n from b t) (λ u. Same t u)
+      cond_both (may_promise t.node.rows.promised b)
+      (send (packet n (Promise b (votes_from floor t.node.rows.votes)) from ∷ []) (promise b t)) (refuse n from b t) (λ u. Same t u)
       (λ e. record { boot = refl; up = refl; log = refl; news = refl; acts = refl })
       (λ e. record { boot = refl; up = refl; log = refl; news = refl; acts = refl })
   hears_packet from (Promise b votes) t = promises_as from b votes t.node.proposer.role t
@@ -90,32 +100,42 @@ module _ {B : Type 0} (same : B → B → Bool) (members n : ℕ) where
       (λ e. record { boot = refl; up = refl; log = refl; news = refl; acts = refl })
   hears_packet from (Accepted v) t = record { boot = refl; up = refl; log = refl; news = refl; acts = refl }
   hears_packet from (Nack b p) t = record { boot = refl; up = refl; log = refl; news = refl; acts = refl }
-  hears_packet from (Forward es) t = cond_both (is_leading t.node.proposer.role) (propose_each same members n es t) t (λ u. Same t u) (λ d. proposes_each es t) (λ d. same_here t)
+  hears_packet from (Forward es) t =
+      cond_both (is_leading t.node.proposer.role) (propose_each same members n es t) t (λ u. Same t u) (λ d. proposes_each es t)
+      (λ d. same_here t)
   hears_packet from (Ask slot) t = record { boot = refl; up = refl; log = refl; news = refl; acts = refl }
   hears_packet from (Learned slot e) t = record { boot = refl; up = refl; log = refl; news = refl; acts = refl }
 
-  pub delivers : (from : ℕ) (kind : Kind B) (t : Outcome B) → Same t (on_packet same members n from kind (record t { node = saw kind t.node }))
-  delivers from kind t = let s = hears_packet from kind (record t { node = saw kind t.node }) in record { boot = s.boot; up = s.up; log = s.log; news = s.news; acts = s.acts }
+  pub delivers : (from : ℕ) (kind : Kind B) (t : Turn B) → Same t (on_packet same members n from kind (record t { node = saw kind t.node }))
+  delivers from kind t =
+      let s = hears_packet from kind (record t { node = saw kind t.node }) in
+      record { boot = s.boot; up = s.up; log = s.log; news = s.news; acts = s.acts }
 
-  pub begins : (t : Outcome B) → Same t (on_start members n t)
+  pub begins : (t : Turn B) → Same t (on_start members n t)
   begins t =
-      cond_both (starts n t.node) (begin members n (new_ballot n t.node.rows.promised t.node.proposer) (suc (length t.node.applied)) t) t (λ u. Same t u)
+      cond_both (starts n t.node) (begin members n (new_ballot n t.node.rows.promised t.node.proposer) (suc (length t.node.applied)) t) t
+      (λ u. Same t u)
       (λ e. record { boot = refl; up = refl; log = refl; news = refl; acts = refl }) (λ e. same_here t)
 
-  pub ticks : (t : Outcome B) → Same t (on_tick same members n t)
-  ticks t = let s = pushes (send (again members n t.node.proposer.role t.node.learner.learned) t) in record { boot = s.boot; up = s.up; log = s.log; news = s.news; acts = s.acts }
+  pub ticks : (t : Turn B) → Same t (on_tick same members n t)
+  ticks t =
+      let s = pushes (send (again members n t.node.proposer.role t.node.learner.learned) t) in
+      record { boot = s.boot; up = s.up; log = s.log; news = s.news; acts = s.acts }
 
-  pub suspects : (lost : Option (Entry B)) (t : Outcome B) → Same t (suspected same members n lost t)
+  pub suspects : (lost : Option (Entry B)) (t : Turn B) → Same t (suspected same members n lost t)
   suspects None t = same_here t
   suspects (Some lost) t =
-      cond_both (has_room t.node) (push same members n (record t { node = with_pending (t.node.pending ++ lost ∷ []) t.node })) t (λ u. Same t u)
-      (λ e. let s = pushes (record t { node = with_pending (t.node.pending ++ lost ∷ []) t.node }) in record { boot = s.boot; up = s.up; log = s.log; news = s.news; acts = s.acts })
+      cond_both (has_room t.node) (push same members n (record t { node = with_pending (t.node.pending ++ lost ∷ []) t.node })) t
+      (λ u. Same t u)
+      (λ e. let s = pushes (record t { node = with_pending (t.node.pending ++ lost ∷ []) t.node }) in record
+      { boot = s.boot; up = s.up; log = s.log; news = s.news; acts = s.acts })
       (λ e. same_here t)
 
-  pub takes_act : (transport : ℕ) (body : B) (t : Outcome B) → Stays (if takes t.node then suc t.node.taken else t.node.taken) t (on_take same members n transport body t)
+  pub takes_act : (transport : ℕ) (body : B) (t : Turn B)
+      → Stays (if takes t.node then suc t.node.taken else t.node.taken) t (on_take same members n transport body t)
   takes_act transport body t = go (takes t.node) refl
     where
-      u : Outcome B
+      u : Turn B
       u = record t { node = with_item n transport body t.node }
 
       go : (b : Bool) → takes t.node ≡ b → Stays (if b then suc t.node.taken else t.node.taken) t (if b then push same members n u else t)
@@ -133,12 +153,14 @@ acts_after (Crash n) x = x.taken
 acts_after (Restart n) x = x.taken
 
 -- an event at a node that is up leaves its boot; either it stays up, with what it applied at the end of its log, or it goes down
-pub up_from : {B : Type 0} (same : B → B → Bool) (members : ℕ) (e : Event B) (x : NodeState B) → x.up ≡ true → possible e x ≡ true → From x.applied x.rows.boot (acts_after e x) (outcome_of same members e x)
+pub up_from : {B : Type 0} (same : B → B → Bool) (members : ℕ) (e : Event B) (x : NodeState B) → x.up ≡ true → possible e x ≡ true
+    → From x.applied x.rows.boot (acts_after e x) (outcome_of same members e x)
 up_from same members (Take n t body) x u p = step_from n (begun x) _ u refl (takes_act same members n t body (begun x))
 up_from same members (Tick n) x u p = step_from n (begun x) _ u refl (ticks same members n (begun x))
 up_from same members (Start n) x u p = step_from n (begun x) _ u refl (begins same members n (begun x))
 up_from same members (Suspect n other) x u p = step_from n (begun x) _ u refl (suspects same members n (new_lost same n other x) (begun x))
-up_from same members (Deliver q) x u p = step_from q.addressee (begun x) _ u refl (delivers same members q.addressee q.sender q.kind (begun x))
+up_from same members (Deliver q) x u p =
+    step_from q.addressee (begun x) _ u refl (delivers same members q.addressee q.sender q.kind (begun x))
 up_from same members (Crash n) x u p = record { boot_is = refl; case = inr refl }
 up_from same members (Restart n) x u p = absurd (no (sym (ap not u) ∙ lift p))
   where

@@ -1,13 +1,13 @@
 -- How a world goes on, event by event.
 use Rattle.std.proofs.Common.{◌≡◌, Bool, true, false, ◌||◌, refl, sym, subst, List, [], ◌∷◌}
 use Rattle.std.proofs.lemmas.Bool.{cond-true, cond-false, and_parts}
-use Rattle.cluster_world.proofs.Plays.{within, node_same, node_other, among_has, play_on}
+use Rattle.cluster_world.proofs.EveryWorld.{within, node_same, node_other, among_has, play_on}
 use Rattle.cluster_world.proofs.Taking.{nodes_length}
-use Rattle.paxos_packets.specs.Equality.{packet_equality}
-use Rattle.paxos_packets.specs.Majority.{Has, here as first_here, there}
-use Rattle.paxos_packets.specs.Same.{IsEquality, same_packet}
+use Rattle.paxos_packets.specs.Packet.{packet_equality, same_packet}
+use Rattle.cluster_world.specs.Has.{Has, here, there}
+use Rattle.paxos_packets.specs.Body.{IsEquality}
 use Rattle.paxos_packets.specs.declared.packet.Packet.{Packet}
-use Rattle.paxos_node.specs.declared.outcome.Outcome.{Outcome}
+use Rattle.paxos_node.specs.declared.turn.Turn.{Turn}
 use Rattle.paxos_node.specs.declared.state.NodeState.{NodeState}
 use Rattle.paxos_node.specs.Events.{owner, possible, outcome_of}
 use Rattle.cluster_world.specs.World.{node_at, first_world, is_among, was_sent, done}
@@ -22,7 +22,7 @@ or_second false b e = e
 
 module _ {B : Type 0} (same : B → B → Bool) (equal : IsEquality same) where
   has_among : (p : Packet B) (sent : List (Packet B)) → Has sent p → is_among same p sent ≡ true
-  has_among p sent (first_here {xs = qs}) = or_first (same_packet same p p) (is_among same p qs) ((packet_equality same equal).reflexive p)
+  has_among p sent (here {xs = qs}) = or_first (same_packet same p p) (is_among same p qs) ((packet_equality same equal).reflexive p)
   has_among p sent (there {y = q} {xs = qs} h) = or_second (same_packet same q p) (is_among same p qs) (has_among p qs h)
 
   pub sent_is_among : SentIsAmong B same
@@ -47,8 +47,9 @@ module _ {B : Type 0} (same : B → B → Bool) where
       x : NodeState B
       x = node_at w.nodes (owner e)
 
-      o : Outcome B
+      o : Turn B
       o = outcome_of same members e (node_at w.nodes (owner e))
 
   pub event_stays : EventStays B same
-  event_stays members w e t = cond-false (may same w e) (done same w e (node_at w.nodes (owner e)) (outcome_of same members e (node_at w.nodes (owner e)))) w t
+  event_stays members w e t =
+      cond-false (may same w e) (done same w e (node_at w.nodes (owner e)) (outcome_of same members e (node_at w.nodes (owner e)))) w t

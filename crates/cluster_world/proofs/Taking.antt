@@ -1,27 +1,30 @@
 -- Each entry of a log is an act that was taken, a boot that a node had, or a suspicion.
-use Rattle.std.proofs.Common.{◌≡◌, ◌⊎◌, inl, inr, ⊎_elim, ℕ, zero, suc, ◌+◌, ◌<◌, Bool, true, false, ◌&&◌, eqb, refl, sym, ap, ◌∙◌, subst, arith, List, [], ◌∷◌, ◌++◌, length, length-append, Option, Some, None}
+use Rattle.std.proofs.Common.{◌≡◌, ◌⊎◌, inl, inr, ⊎_elim, ℕ, zero, suc, ◌+◌, ◌<◌, Bool, true, false, ◌&&◌, eqb, refl, sym, ap, ◌∙◌, subst}
+use Rattle.std.proofs.Common.{arith, List, [], ◌∷◌, ◌++◌, length, length-append, Option, Some, None}
 use Rattle.std.specs.Prelude.{slice_get, slice_index_or, nat_lt}
 use Rattle.std.proofs.lemmas.List.{append-nil, length-set}
 use Rattle.std.proofs.lemmas.List.Elements.{filter_map-append}
 use Rattle.std.proofs.lemmas.Bool.{cond_both, cond-true, cond-false, cases_eq, and_parts, and_from, eq-eqb, eqb-true}
-use Rattle.cluster_world.proofs.Members.{has_nil, has_one, has_cases, has_left, has_right}
-use Rattle.cluster_world.proofs.Plays.{within, node_same, node_other, among_has}
+use Rattle.cluster_world.proofs.Lists.{has_nil, has_one, has_cases, has_left, has_right}
+use Rattle.cluster_world.proofs.EveryWorld.{within, node_same, node_other, among_has}
 use Rattle.cluster_world.proofs.Standing.{acts_after}
 use Rattle.cluster_world.proofs.Handing.{Ran, Began, event_cases}
 use Rattle.cluster_world.proofs.Sources.{Each, SentGood, NodeGood, EventGood, sent_good, outcome_good}
-use Rattle.paxos_packets.specs.Majority.{Has, here as first_here}
+use Rattle.cluster_world.specs.Has.{Has, here}
 use Rattle.paxos_packets.specs.declared.entry.Entry.{Entry}
 use Rattle.paxos_packets.specs.declared.entry.Entry.TheVariants.{Noop, Boot, Lost, Item}
-use Rattle.replica_machine.specs.Standings.{standing, live_in}
+use Rattle.replica_machine.specs.Roll.{standing, live_in}
 use Rattle.paxos_node.specs.declared.event.Event.{Event}
 use Rattle.paxos_node.specs.declared.event.Event.TheVariants.{Take, Tick, Start, Suspect, Deliver, Crash, Restart}
 use Rattle.paxos_node.specs.declared.state.NodeState.{NodeState}
-use Rattle.paxos_node.specs.declared.outcome.Outcome.{Outcome}
+use Rattle.paxos_node.specs.declared.turn.Turn.{Turn}
 use Rattle.paxos_node.specs.Applying.{started, first_rows}
-use Rattle.paxos_node.specs.Events.{takes, new_item, has_room, is_pending, new_lost_of, new_lost, owner, possible, outcome_of, suspected_by, made_by}
-use Rattle.cluster_world.specs.World.{World, absent, node_at, put_node, founded, first_boots, first_world, was_sent, done, next, play, played, log_of}
+use Rattle.paxos_node.specs.Events.{takes, new_item, has_room, is_pending, new_lost_of, new_lost, owner, possible, outcome_of, suspected_by}
+use Rattle.paxos_node.specs.Events.{made_by}
+use Rattle.cluster_world.specs.World.{World, absent, node_at, put_node, founded, first_boots, first_world, was_sent, done, next, play}
+use Rattle.cluster_world.specs.World.{played, log_of}
 use Rattle.cluster_world.specs.Origins.{Act, act_in, acts_of, ItemsWereTaken}
-use Rattle.paxos_packets.specs.Same.{IsEquality}
+use Rattle.paxos_packets.specs.Body.{IsEquality}
 
 off : false ≡ true → ⊥
 off e = cc
@@ -30,14 +33,15 @@ module _ {B : Type 0} (same : B → B → Bool) (members : ℕ) where
   abbrev at' : World B → Event B → NodeState B
   at' w e = node_at w.nodes (owner e)
 
-  abbrev goes : World B → Event B → Outcome B
+  abbrev goes : World B → Event B → Turn B
   goes w e = outcome_of same members e (at' w e)
 
   -- what an event makes of a world: nothing, or what its node does
   abbrev May : World B → Event B → Type 0
   May w e = (was_sent same e w.sent ≡ true) × (possible e (at' w e) ≡ true)
 
-  by_next : (P : World B → Type 0) (w : World B) (e : Event B) → P w → (May w e → P (done same w e (at' w e) (goes w e))) → P (next same members w e)
+  by_next : (P : World B → Type 0) (w : World B) (e : Event B) → P w → (May w e → P (done same w e (at' w e) (goes w e)))
+      → P (next same members w e)
   by_next P w e stay go =
       cond_both (was_sent same e w.sent && possible e (at' w e)) (done same w e (at' w e) (goes w e)) w P
       (λ t. go (and_parts (was_sent same e w.sent) (possible e (at' w e)) t)) (λ t. stay)
@@ -56,7 +60,8 @@ module _ {B : Type 0} (same : B → B → Bool) (members : ℕ) where
 
   pub founded_length : (n : ℕ) → length (founded {B = B} n) ≡ n
   founded_length zero = refl
-  founded_length (suc n) = length-append (founded {B = B} n) (started (suc n) first_rows ∷ []) ∙ (ap (λ k. k + 1) (founded_length n) ∙ plus_one n)
+  founded_length (suc n) =
+      length-append (founded {B = B} n) (started (suc n) first_rows ∷ []) ∙ (ap (λ k. k + 1) (founded_length n) ∙ plus_one n)
     where
       plus_one : (k : ℕ) → k + 1 ≡ suc k
       plus_one k = omega arith
@@ -85,10 +90,14 @@ module _ {B : Type 0} (same : B → B → Bool) (members : ℕ) where
       where
         go : May w e → Each G (done same w e (at' w e) (goes w e)).made → AllGood (done same w e (at' w e) (goes w e))
         go may g =
-            let t = outcome_good G same members noop e (at' w e) (ok.nodes (owner e)) (event_good w e ok may.0) (λ x h. g x (has_right w.made h)) in
+            let t =
+            outcome_good G same members noop e (at' w e) (ok.nodes (owner e)) (event_good w e ok may.0)
+            (λ x h. g x (has_right w.made h)) in
             record {
               nodes = λ k. ⊎_elim
-                  (λ (i : k ≡ owner e). subst (λ j. NodeGood G (node_at (put_node w.nodes (owner e) (goes w e).node) j)) (sym i) (subst (λ x. NodeGood G x) (sym (node_same w.nodes (owner e) (goes w e).node (within w.nodes e (owner e) may.1))) t.node))
+                  (λ (i : k ≡ owner e). subst (λ j. NodeGood G (node_at (put_node w.nodes (owner e) (goes w e).node) j)) (sym i)
+                  (subst (λ x. NodeGood G x) (sym (node_same w.nodes (owner e) (goes w e).node (within w.nodes e (owner e) may.1)))
+                  t.node))
                   (λ i. subst (λ x. NodeGood G x) (sym (node_other w.nodes (owner e) (goes w e).node k i)) (ok.nodes k))
                   (cases_eq k (owner e));
               sent = sent_good G w.sent (goes w e).packets ok.sent t.out;
@@ -101,17 +110,34 @@ module _ {B : Type 0} (same : B → B → Bool) (members : ℕ) where
     made_play [] w x h = h
     made_play (e ∷ events) w x h = made_play events (next same members w e) x (made_next w e x h)
 
-    play_good : (events : List (Event B)) (w : World B) → AllGood w → Each G (play same members events w).made → AllGood (play same members events w)
+    play_good : (events : List (Event B)) (w : World B) → AllGood w → Each G (play same members events w).made
+        → AllGood (play same members events w)
     play_good [] w ok g = ok
-    play_good (e ∷ events) w ok g = play_good events (next same members w e) (next_good w e ok (λ x h. g x (made_play events (next same members w e) x h))) g
+    play_good (e ∷ events) w ok g =
+        play_good events (next same members w e) (next_good w e ok (λ x h. g x (made_play events (next same members w e) x h))) g
 
     started_good : (k : ℕ) → G (Boot k 1) → NodeGood G (started k first_rows)
-    started_good k g = record { votes = λ v h. absurd (has_nil h); role = tt; learned = λ f h. absurd (has_nil h); applied = λ e h. absurd (has_nil h); pending = λ e h. subst (λ z. G z) (has_one h) g }
+    started_good k g =
+        record {
+          votes = λ v h. absurd (has_nil h);
+          role = tt;
+          learned = λ f h. absurd (has_nil h);
+          applied = λ e h. absurd (has_nil h);
+          pending = λ e h. subst (λ z. G z) (has_one h) g;
+        }
 
     absent_good : NodeGood G absent
-    absent_good = record { votes = λ v h. absurd (has_nil h); role = tt; learned = λ f h. absurd (has_nil h); applied = λ e h. absurd (has_nil h); pending = λ e h. absurd (has_nil h) }
+    absent_good =
+        record {
+          votes = λ v h. absurd (has_nil h);
+          role = tt;
+          learned = λ f h. absurd (has_nil h);
+          applied = λ e h. absurd (has_nil h);
+          pending = λ e h. absurd (has_nil h);
+        }
 
-    push_good : (xs : List (NodeState B)) (x : NodeState B) → NodeGood G x → ((k : ℕ) → NodeGood G (slice_index_or xs k absent)) → (k : ℕ) → NodeGood G (slice_index_or (xs ++ x ∷ []) k absent)
+    push_good : (xs : List (NodeState B)) (x : NodeState B) → NodeGood G x → ((k : ℕ) → NodeGood G (slice_index_or xs k absent)) → (k : ℕ)
+        → NodeGood G (slice_index_or (xs ++ x ∷ []) k absent)
     push_good [] x p h zero = p
     push_good [] x p h (suc k) = absent_good
     push_good (y ∷ ys) x p h zero = h zero
@@ -119,7 +145,9 @@ module _ {B : Type 0} (same : B → B → Bool) (members : ℕ) where
 
     founded_good : (n : ℕ) → Each G (first_boots n) → (k : ℕ) → NodeGood G (slice_index_or (founded n) k absent)
     founded_good zero g k = absent_good
-    founded_good (suc n) g k = push_good (founded n) (started (suc n) first_rows) (started_good (suc n) (g (Boot (suc n) 1) (has_right (first_boots n) first_here))) (founded_good n (λ e h. g e (has_left _ h))) k
+    founded_good (suc n) g k =
+        push_good (founded n) (started (suc n) first_rows) (started_good (suc n) (g (Boot (suc n) 1) (has_right (first_boots n) here)))
+        (founded_good n (λ e h. g e (has_left _ h))) k
 
     first_good : Each G (first_boots members) → AllGood (first_world members)
     first_good g = record { nodes = at; sent = λ p h. absurd (has_nil h) }
@@ -128,10 +156,13 @@ module _ {B : Type 0} (same : B → B → Bool) (members : ℕ) where
         at zero = absent_good
         at (suc k) = founded_good members g k
 
-    log_good : (events : List (Event B)) → Each G (played same members events).made → (k : ℕ) → Each G (log_of (played same members events) k)
-    log_good events g k = ((play_good events (first_world members) (first_good (λ x h. g x (made_play events (first_world members) x h))) g).nodes k).applied
+    log_good : (events : List (Event B)) → Each G (played same members events).made → (k : ℕ)
+        → Each G (log_of (played same members events) k)
+    log_good events g k =
+        ((play_good events (first_world members) (first_good (λ x h. g x (made_play events (first_world members) x h))) g).nodes k).applied
 
-  pub log_was_made : IsEquality same → (events : List (Event B)) (k : ℕ) (e : Entry B) → Has (log_of (played same members events) k) e → (e ≡ Noop) ⊎ Has (played same members events).made e
+  pub log_was_made : IsEquality same → (events : List (Event B)) (k : ℕ) (e : Entry B) → Has (log_of (played same members events) k) e
+      → (e ≡ Noop) ⊎ Has (played same members events).made e
   log_was_made equal events k e h = log_good equal G (inl refl) events (λ x i. inr i) k e h
     where
       G : Entry B → Type 0
@@ -143,7 +174,9 @@ module _ {B : Type 0} (same : B → B → Bool) (members : ℕ) where
   record Adds (e : Event B) (x : NodeState B) : Type 0 where
     quiet : (k b : ℕ) → ((k ≡ owner e) → (b ≡ x.rows.boot) → ⊥) → acts_of k b (made_by same e x) ≡ []
     own : length (acts_of (owner e) x.rows.boot (made_by same e x)) + x.taken ≡ acts_after e x
-    item : (n b q t : ℕ) (y : B) → Has (made_by same e x) (Item n b q t y) → (x.up ≡ true) × (n ≡ owner e) × (b ≡ x.rows.boot) × (q ≡ suc x.taken) × (acts_of n b (made_by same e x) ≡ record { transport = t; body = y } ∷ [])
+    item : (n b q t : ℕ) (y : B) → Has (made_by same e x) (Item n b q t y)
+        → (x.up ≡ true) × (n ≡ owner e) × (b ≡ x.rows.boot) × (q ≡ suc x.taken)
+        × (acts_of n b (made_by same e x) ≡ record { transport = t; body = y } ∷ [])
 
   adds_none : (e : Event B) (x : NodeState B) → made_by same e x ≡ [] → acts_after e x ≡ x.taken → Adds e x
   adds_none e x none after =
@@ -172,28 +205,42 @@ module _ {B : Type 0} (same : B → B → Bool) (members : ℕ) where
       mine = rw (and_from (eqb n n) (eqb x.rows.boot x.rows.boot) (eq-eqb n n refl) (eq-eqb x.rows.boot x.rows.boot refl)) refl
 
       other : (k b : ℕ) → ((k ≡ n) → (b ≡ x.rows.boot) → ⊥) → (z : Bool) → test k b ≡ z → acts_of k b (item' ∷ []) ≡ []
-      other k b d true e = let p = and_parts (eqb n k) (eqb x.rows.boot b) e in absurd (d (sym (eqb-true n k p.0)) (sym (eqb-true x.rows.boot b p.1)))
+      other k b d true e =
+          let p = and_parts (eqb n k) (eqb x.rows.boot b) e in absurd (d (sym (eqb-true n k p.0)) (sym (eqb-true x.rows.boot b p.1)))
       other k b d false e = rw e refl
 
       Goal : List (Entry B) → ℕ → Type 0
       Goal made after =
           ((k b : ℕ) → ((k ≡ n) → (b ≡ x.rows.boot) → ⊥) → acts_of k b made ≡ []) × (length (acts_of n x.rows.boot made) + x.taken ≡ after)
-          × ((m b q u : ℕ) (y : B) → Has made (Item m b q u y) → (x.up ≡ true) × (m ≡ n) × (b ≡ x.rows.boot) × (q ≡ suc x.taken) × (acts_of m b made ≡ record { transport = u; body = y } ∷ []))
+          × ((m b q u : ℕ) (y : B) → Has made (Item m b q u y) → (x.up ≡ true) × (m ≡ n) × (b ≡ x.rows.boot) × (q ≡ suc x.taken)
+          × (acts_of m b made ≡ record { transport = u; body = y } ∷ []))
 
       some : Goal (item' ∷ []) (suc x.taken)
-      some = (λ k b d. other k b d (test k b) refl, ap (λ l. length l + x.taken) mine ∙ one_plus x.taken, λ m b q u y h. found m b q u y (has_one h))
+      some = (
+        λ k b d. other k b d (test k b) refl,
+        ap (λ l. length l + x.taken) mine ∙ one_plus x.taken,
+        λ m b q u y h. found m b q u y (has_one h),
+      )
         where
           one_plus : (k : ℕ) → 1 + k ≡ suc k
           one_plus k = omega arith
 
-          found : (m b q u : ℕ) (y : B) → item' ≡ Item m b q u y → (x.up ≡ true) × (m ≡ n) × (b ≡ x.rows.boot) × (q ≡ suc x.taken) × (acts_of m b (item' ∷ []) ≡ record { transport = u; body = y } ∷ [])
+          found : (m b q u : ℕ) (y : B) → item' ≡ Item m b q u y
+              → (x.up ≡ true) × (m ≡ n) × (b ≡ x.rows.boot) × (q ≡ suc x.taken)
+              × (acts_of m b (item' ∷ []) ≡ record { transport = u; body = y } ∷ [])
           found m b q u y e =
               let en : n ≡ m = cc in
               let eb : x.rows.boot ≡ b = cc in
               let eq : suc x.taken ≡ q = cc in
               let et : t ≡ u = cc in
-              let ey : body ≡ y = cc in
-              (up, sym en, sym eb, sym eq, subst (λ (z : ℕ × ℕ). acts_of z.0 z.1 (item' ∷ []) ≡ record { transport = u; body = y } ∷ []) (λ i. (en i, eb i)) (mine ∙ (λ i. record { transport = et i; body = ey i } ∷ [])))
+              let ey : body ≡ y = cc in (
+                up,
+                sym en,
+                sym eb,
+                sym eq,
+                subst (λ (z : ℕ × ℕ). acts_of z.0 z.1 (item' ∷ []) ≡ record { transport = u; body = y } ∷ [])
+                    (λ i. (en i, eb i)) (mine ∙ (λ i. record { transport = et i; body = ey i } ∷ [])),
+              )
 
       none : Goal [] x.taken
       none = (λ k b d. refl, zero_plus x.taken, λ m b q u y h. absurd (has_nil h))
@@ -205,11 +252,18 @@ module _ {B : Type 0} (same : B → B → Bool) (members : ℕ) where
       pack g = record { quiet = g.0; own = g.1; item = g.2 }
 
       go : (z : Bool) → takes x ≡ z → Adds (Take n t body) x
-      go true e = pack (subst (λ (y : List (Entry B) × ℕ). Goal y.0 y.1) (λ i. (sym (cond-true (takes x) (item' ∷ []) [] e) i, sym (cond-true (takes x) (suc x.taken) x.taken e) i)) some)
-      go false e = pack (subst (λ (y : List (Entry B) × ℕ). Goal y.0 y.1) (λ i. (sym (cond-false (takes x) (item' ∷ []) [] e) i, sym (cond-false (takes x) (suc x.taken) x.taken e) i)) none)
+      go true e =
+          pack
+          (subst (λ (y : List (Entry B) × ℕ). Goal y.0 y.1)
+          (λ i. (sym (cond-true (takes x) (item' ∷ []) [] e) i, sym (cond-true (takes x) (suc x.taken) x.taken e) i)) some)
+      go false e =
+          pack
+          (subst (λ (y : List (Entry B) × ℕ). Goal y.0 y.1)
+          (λ i. (sym (cond-false (takes x) (item' ∷ []) [] e) i, sym (cond-false (takes x) (suc x.taken) x.taken e) i)) none)
 
   -- an entry that is no Item adds no act
-  adds_other : (e : Event B) (x : NodeState B) (lost : Entry B) → ((k b : ℕ) → act_in k b lost ≡ None) → ((n b q t : ℕ) (y : B) → lost ≡ Item n b q t y → ⊥) → made_by same e x ≡ lost ∷ [] → acts_after e x ≡ x.taken → Adds e x
+  adds_other : (e : Event B) (x : NodeState B) (lost : Entry B) → ((k b : ℕ) → act_in k b lost ≡ None)
+      → ((n b q t : ℕ) (y : B) → lost ≡ Item n b q t y → ⊥) → made_by same e x ≡ lost ∷ [] → acts_after e x ≡ x.taken → Adds e x
   adds_other e x lost empties differ is after =
       record {
         quiet = λ k b d. empty k b;
@@ -239,17 +293,29 @@ module _ {B : Type 0} (same : B → B → Bool) (members : ℕ) where
       by_room b is true r = lost_adds b (ap (λ o. suspected_by o x) is ∙ cond-true (has_room x) (Lost other b ∷ []) [] r)
       by_room b is false r = adds_none e x (ap (λ o. suspected_by o x) is ∙ cond-false (has_room x) (Lost other b ∷ []) [] r) refl
 
-      by_pending : (b : ℕ) → new_lost same n other x ≡ new_lost_of same other (Some b) x.pending → (z : Bool) → is_pending same x.pending (Lost other b) ≡ z → Adds e x
-      by_pending b is true p = adds_none e x (ap (λ o. suspected_by o x) (is ∙ cond-true (is_pending same x.pending (Lost other b)) None (Some (Lost other b)) p)) refl
-      by_pending b is false p = by_room b (is ∙ cond-false (is_pending same x.pending (Lost other b)) None (Some (Lost other b)) p) (has_room x) refl
+      by_pending : (b : ℕ) → new_lost same n other x ≡ new_lost_of same other (Some b) x.pending → (z : Bool)
+          → is_pending same x.pending (Lost other b) ≡ z → Adds e x
+      by_pending b is true p =
+          adds_none e x
+          (ap (λ o. suspected_by o x) (is ∙ cond-true (is_pending same x.pending (Lost other b)) None (Some (Lost other b)) p)) refl
+      by_pending b is false p =
+          by_room b (is ∙ cond-false (is_pending same x.pending (Lost other b)) None (Some (Lost other b)) p) (has_room x) refl
 
-      by_live : new_lost same n other x ≡ new_lost_of same other (live_in (standing other x.applied)) x.pending → (o : Option ℕ) → live_in (standing other x.applied) ≡ o → Adds e x
+      by_live : new_lost same n other x ≡ new_lost_of same other (live_in (standing other x.applied)) x.pending → (o : Option ℕ)
+          → live_in (standing other x.applied) ≡ o → Adds e x
       by_live is None l = adds_none e x (ap (λ o. suspected_by o x) (is ∙ ap (λ o. new_lost_of same other o x.pending) l)) refl
-      by_live is (Some b) l = by_pending b (is ∙ ap (λ o. new_lost_of same other o x.pending) l) (is_pending same x.pending (Lost other b)) refl
+      by_live is (Some b) l =
+          by_pending b (is ∙ ap (λ o. new_lost_of same other o x.pending) l) (is_pending same x.pending (Lost other b)) refl
 
       by_other : (z : Bool) → eqb other n ≡ z → Adds e x
-      by_other true t = adds_none e x (ap (λ o. suspected_by o x) (cond-true (eqb other n) None (new_lost_of same other (live_in (standing other x.applied)) x.pending) t)) refl
-      by_other false t = by_live (cond-false (eqb other n) None (new_lost_of same other (live_in (standing other x.applied)) x.pending) t) (live_in (standing other x.applied)) refl
+      by_other true t =
+          adds_none e x
+          (ap (λ o. suspected_by o x) (cond-true (eqb other n) None
+          (new_lost_of same other (live_in (standing other x.applied)) x.pending) t))
+          refl
+      by_other false t =
+          by_live (cond-false (eqb other n) None (new_lost_of same other (live_in (standing other x.applied)) x.pending) t)
+          (live_in (standing other x.applied)) refl
 
   event_adds : (e : Event B) (x : NodeState B) → possible e x ≡ true → Adds e x
   event_adds (Take n t body) x p = take_adds n t body x (and_parts x.up (nat_lt 0 t) p).0
@@ -258,7 +324,8 @@ module _ {B : Type 0} (same : B → B → Bool) (members : ℕ) where
   event_adds (Suspect n other) x p = suspect_adds n other x
   event_adds (Deliver q) x p = adds_none (Deliver q) x refl refl
   event_adds (Crash n) x p = adds_none (Crash n) x refl refl
-  event_adds (Restart n) x p = adds_other (Restart n) x (Boot n (suc x.rows.boot)) (λ k c. refl) (λ k c q t y d. differ k c q t y d) refl refl
+  event_adds (Restart n) x p =
+      adds_other (Restart n) x (Boot n (suc x.rows.boot)) (λ k c. refl) (λ k c q t y d. differ k c q t y d) refl refl
     where
       differ : (k c q t : ℕ) (y : B) → Boot n (suc x.rows.boot) ≡ Item k c q t y → ⊥
       differ k c q t y d = cc
@@ -297,14 +364,25 @@ module _ {B : Type 0} (same : B → B → Bool) (members : ℕ) where
   done_acts w e p ok =
       record {
         counts = λ k. ⊎_elim
-            (λ (i : k ≡ owner e). subst (λ j. CountOk (w.made ++ more) j (node_at (put_node w.nodes (owner e) o.node) j)) (sym i) (subst (λ y. CountOk (w.made ++ more) (owner e) y) (sym (node_same w.nodes (owner e) o.node (within w.nodes e (owner e) p))) mine))
+            (λ (i : k ≡ owner e). subst (λ j. CountOk (w.made ++ more) j (node_at (put_node w.nodes (owner e) o.node) j)) (sym i)
+            (subst (λ y. CountOk (w.made ++ more) (owner e) y) (sym (node_same w.nodes (owner e) o.node (within w.nodes e (owner e) p)))
+            mine))
             (λ i. subst (λ y. CountOk (w.made ++ more) k y) (sym (node_other w.nodes (owner e) o.node k i)) (record {
-              now = λ u. ap (λ l. length l) (same_acts k (node_at w.nodes k).rows.boot w.made more (adds.quiet k (node_at w.nodes k).rows.boot (λ a b. i a))) ∙ (ok.counts k).now u;
+              now =
+                  λ u.
+                  ap (λ l. length l) (same_acts k (node_at w.nodes k).rows.boot w.made more
+                  (adds.quiet k (node_at w.nodes k).rows.boot (λ a b. i a)))
+                  ∙ (ok.counts k).now u;
               later = λ b l. same_acts k b w.made more (adds.quiet k b (λ a c. i a)) ∙ (ok.counts k).later b l;
             }))
             (cases_eq k (owner e));
         taken = λ n b q t y h. ⊎_elim
-            (λ a. let z = ok.taken n b q t y a in (z.0, z.1, subst (λ l. slice_get l z.0 ≡ Some (record { transport = t; body = y })) (sym (acts_on n b w.made more)) (at_left (acts_of n b w.made) (acts_of n b more) z.0 (record { transport = t; body = y }) z.2)))
+            (λ a. let z = ok.taken n b q t y a in (
+              z.0,
+              z.1,
+              subst (λ l. slice_get l z.0 ≡ Some (record { transport = t; body = y })) (sym (acts_on n b w.made more))
+                  (at_left (acts_of n b w.made) (acts_of n b more) z.0 (record { transport = t; body = y }) z.2),
+            ))
             (λ a. fresh n b q t y (adds.item n b q t y a))
             (has_cases w.made more h);
       }
@@ -312,7 +390,7 @@ module _ {B : Type 0} (same : B → B → Bool) (members : ℕ) where
       x : NodeState B
       x = at' w e
 
-      o : Outcome B
+      o : Turn B
       o = goes w e
 
       more : List (Entry B)
@@ -324,12 +402,17 @@ module _ {B : Type 0} (same : B → B → Bool) (members : ℕ) where
       old : CountOk w.made (owner e) x
       old = ok.counts (owner e)
 
-      fresh : (n b q t : ℕ) (y : B) → (x.up ≡ true) × (n ≡ owner e) × (b ≡ x.rows.boot) × (q ≡ suc x.taken) × (acts_of n b more ≡ record { transport = t; body = y } ∷ []) → TakenAs (w.made ++ more) n b q t y
+      fresh : (n b q t : ℕ) (y : B)
+          → (x.up ≡ true) × (n ≡ owner e) × (b ≡ x.rows.boot) × (q ≡ suc x.taken)
+          × (acts_of n b more ≡ record { transport = t; body = y } ∷ [])
+          → TakenAs (w.made ++ more) n b q t y
       fresh n b q t y a = (
         x.taken,
         a.3,
-        subst (λ l. slice_get l x.taken ≡ Some (record { transport = t; body = y })) (sym (acts_on n b w.made more ∙ ap (λ l. acts_of n b w.made ++ l) a.4))
-            (subst (λ j. slice_get (acts_of n b w.made ++ record { transport = t; body = y } ∷ []) j ≡ Some (record { transport = t; body = y })) count (at_end (acts_of n b w.made) (record { transport = t; body = y }))),
+        subst (λ l. slice_get l x.taken ≡ Some (record { transport = t; body = y }))
+            (sym (acts_on n b w.made more ∙ ap (λ l. acts_of n b w.made ++ l) a.4))
+            (subst (λ j. slice_get (acts_of n b w.made ++ record { transport = t; body = y } ∷ []) j
+            ≡ Some (record { transport = t; body = y })) count (at_end (acts_of n b w.made) (record { transport = t; body = y }))),
       )
         where
           count : length (acts_of n b w.made) ≡ x.taken
@@ -343,10 +426,14 @@ module _ {B : Type 0} (same : B → B → Bool) (members : ℕ) where
                 ap (λ b. length (acts_of (owner e) b (w.made ++ more))) r.from.boot_is
                 ∙ (ap (λ l. length l) (acts_on (owner e) x.rows.boot w.made more)
                 ∙ (length-append (acts_of (owner e) x.rows.boot w.made) (acts_of (owner e) x.rows.boot more)
-                ∙ (sum (length (acts_of (owner e) x.rows.boot w.made)) (length (acts_of (owner e) x.rows.boot more)) x.taken (old.now r.was) ∙ (adds.own ∙ sym c.2)))))
+                ∙ (sum (length (acts_of (owner e) x.rows.boot w.made)) (length (acts_of (owner e) x.rows.boot more)) x.taken (old.now r.was)
+                ∙ (adds.own ∙ sym c.2)))))
                 (λ c. absurd (off (sym c ∙ u)))
                 r.from.case;
-            later = λ b l. let m = subst (λ c. c < b) r.from.boot_is l in same_acts (owner e) b w.made more (adds.quiet (owner e) b (λ i j. apart b m j)) ∙ old.later b m;
+            later =
+                λ b l.
+                let m = subst (λ c. c < b) r.from.boot_is l in
+                same_acts (owner e) b w.made more (adds.quiet (owner e) b (λ i j. apart b m j)) ∙ old.later b m;
           }
         where
           sum : (a b c : ℕ) → a ≡ c → a + b ≡ b + c
@@ -359,7 +446,11 @@ module _ {B : Type 0} (same : B → B → Bool) (members : ℕ) where
       began r =
           subst (λ y. CountOk (w.made ++ more) (owner e) y) (sym r.is)
           (record {
-            now = λ u. ap (λ l. length l) (same_acts (owner e) (suc x.rows.boot) w.made more (adds.quiet (owner e) (suc x.rows.boot) (λ i j. above j)) ∙ old.later (suc x.rows.boot) next_up);
+            now =
+                λ u.
+                ap (λ l. length l)
+                (same_acts (owner e) (suc x.rows.boot) w.made more (adds.quiet (owner e) (suc x.rows.boot) (λ i j. above j))
+                ∙ old.later (suc x.rows.boot) next_up);
             later = λ b l. same_acts (owner e) b w.made more (adds.quiet (owner e) b (λ i j. apart b l j)) ∙ old.later b (low b l);
           })
         where
@@ -388,7 +479,8 @@ module _ {B : Type 0} (same : B → B → Bool) (members : ℕ) where
 
   boots_only : (n k b q t : ℕ) (y : B) → Has (first_boots n) (Item k b q t y) → ⊥
   boots_only zero k b q t y h = has_nil h
-  boots_only (suc n) k b q t y h = ⊎_elim (λ a. boots_only n k b q t y a) (λ a. differ (has_one a)) (has_cases (first_boots n) (Boot (suc n) 1 ∷ []) h)
+  boots_only (suc n) k b q t y h =
+      ⊎_elim (λ a. boots_only n k b q t y a) (λ a. differ (has_one a)) (has_cases (first_boots n) (Boot (suc n) 1 ∷ []) h)
     where
       differ : Boot (suc n) 1 ≡ Item k b q t y → ⊥
       differ e = cc
@@ -397,7 +489,8 @@ module _ {B : Type 0} (same : B → B → Bool) (members : ℕ) where
   plain_taken n zero = refl
   plain_taken n (suc k) = each n k
     where
-      push : (xs : List (NodeState B)) (x : NodeState B) → x.taken ≡ 0 → ((j : ℕ) → (slice_index_or xs j absent).taken ≡ 0) → (j : ℕ) → (slice_index_or (xs ++ x ∷ []) j absent).taken ≡ 0
+      push : (xs : List (NodeState B)) (x : NodeState B) → x.taken ≡ 0 → ((j : ℕ) → (slice_index_or xs j absent).taken ≡ 0) → (j : ℕ)
+          → (slice_index_or (xs ++ x ∷ []) j absent).taken ≡ 0
       push [] x p h zero = p
       push [] x p h (suc j) = refl
       push (y ∷ ys) x p h zero = h zero
@@ -411,12 +504,20 @@ module _ {B : Type 0} (same : B → B → Bool) (members : ℕ) where
   acts_ok events =
       play_acts events (first_world members)
       (record {
-        counts = λ k. record { now = λ u. ap (λ l. length l) (boots_act members k (node_at (founded {B = B} members) k).rows.boot) ∙ sym (plain_taken members k); later = λ b l. boots_act members k b };
+        counts =
+            λ k.
+            record {
+              now = λ u. ap (λ l. length l) (boots_act members k (node_at (founded {B = B} members) k).rows.boot)
+                  ∙ sym (plain_taken members k);
+              later = λ b l. boots_act members k b;
+            };
         taken = λ n b q t y h. absurd (boots_only members n b q t y h);
       })
 
-  pub item_was_taken : IsEquality same → (events : List (Event B)) (k n b q t : ℕ) (y : B) → Has (log_of (played same members events) k) (Item n b q t y) → TakenAs (played same members events).made n b q t y
-  item_was_taken equal events k n b q t y h = ⊎_elim (λ e. absurd (differ e)) (λ a. (acts_ok events).taken n b q t y a) (log_was_made equal events k (Item n b q t y) h)
+  pub item_was_taken : IsEquality same → (events : List (Event B)) (k n b q t : ℕ) (y : B)
+      → Has (log_of (played same members events) k) (Item n b q t y) → TakenAs (played same members events).made n b q t y
+  item_was_taken equal events k n b q t y h =
+      ⊎_elim (λ e. absurd (differ e)) (λ a. (acts_ok events).taken n b q t y a) (log_was_made equal events k (Item n b q t y) h)
     where
       differ : Item n b q t y ≡ Noop → ⊥
       differ e = cc

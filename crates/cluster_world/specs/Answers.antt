@@ -1,5 +1,5 @@
 -- What transports are handed, over every list of events (docs/CONSENSUS.md, "What holds over every list of events").
-use Rattle.std.specs.Prelude.{◌≡◌, Bool, true, false, List, [], ◌∷◌, ◌++◌}
+use Rattle.std.specs.Prelude.{◌≡◌, Bool, true, false, List, [], ◌∷◌, ◌++◌, ℕ}
 use Rattle.paxos_packets.specs.declared.entry.Entry.{Entry}
 use Rattle.paxos_packets.specs.declared.transport.Transport.{Transport}
 use Rattle.replica_machine.specs.Replay.{Machine, said}
@@ -7,7 +7,6 @@ use Rattle.paxos_node.specs.declared.event.Event.{Event}
 use Rattle.paxos_node.specs.declared.state.NodeState.{NodeState}
 use Rattle.paxos_node.specs.Events.{outcome_of}
 use Rattle.cluster_world.specs.World.{node_at, played, log_of, handed}
-use Rattle.std.specs.Prelude.{ℕ}
 
 -- the transport is one of its node's present boot, and that node is up
 abbrev pub IsPresent : {B : Type 0} → Transport → NodeState B → Type 0
@@ -28,5 +27,7 @@ log_after same members e x = x.applied ++ (outcome_of same members e x).applied
 abbrev pub HandedStays : (B : Type 0) → (B → B → Bool) → Type 0 → Type 0 → Type 0
 HandedStays B same S Y =
     (m : Machine B S Y) (members : ℕ) (early : List (Event B)) (e : Event B) (later : List (Event B)) (t : Transport) →
-    IsPresent t (node_at (played same members early).nodes t.node) → (node_at (played same members (early ++ e ∷ [])).nodes t.node).up ≡ false →
-    handed m t (played same members ((early ++ e ∷ []) ++ later)) ≡ said m t (log_after same members e (node_at (played same members early).nodes t.node))
+    IsPresent t (node_at (played same members early).nodes t.node)
+    → (node_at (played same members (early ++ e ∷ [])).nodes t.node).up ≡ false →
+    handed m t (played same members ((early ++ e ∷ []) ++ later))
+    ≡ said m t (log_after same members e (node_at (played same members early).nodes t.node))

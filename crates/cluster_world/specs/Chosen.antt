@@ -1,6 +1,7 @@
 -- When an entry is chosen: no counters and no learners, only the packets ever sent (Lamport 2001, section 2.1).
 use Rattle.std.specs.Prelude.{◌≡◌, ℕ, Bool, true, List}
-use Rattle.paxos_packets.specs.Majority.{IsMajority, IsMember, Has}
+use Rattle.paxos_packets.specs.Members.{IsMajority, IsMember}
+use Rattle.cluster_world.specs.Has.{Has}
 use Rattle.paxos_packets.specs.declared.ballot.Ballot.{Ballot}
 use Rattle.paxos_packets.specs.declared.entry.Entry.{Entry}
 use Rattle.paxos_packets.specs.declared.packet.Kind.{Kind}

@@ -1,10 +1,11 @@
 -- Runs by hand, for a body that is a number.
-use Rattle.std.specs.Prelude.{ℕ, zero, suc, ◌-◌, Bool, true, false, not, ◌&&◌, ◌||◌, ◌==◌, Option, Some, None, List, [], ◌∷◌, ◌++◌, slice_get}
+use Rattle.std.specs.Prelude.{ℕ, zero, suc, ◌-◌, Bool, true, false, not, ◌&&◌, ◌||◌, ◌==◌, Option, Some, None, List, [], ◌∷◌, ◌++◌}
+use Rattle.std.specs.Prelude.{slice_get}
 use Rattle.paxos_packets.specs.declared.packet.Packet.{Packet}
 use Rattle.paxos_node.specs.declared.event.Event.{Event}
 use Rattle.paxos_node.specs.declared.event.Event.TheVariants.{Take, Tick, Start, Suspect, Deliver, Crash, Restart}
 use Rattle.cluster_world.specs.World.{World, node_at, first_world, next, log_of, handed}
-use Rattle.paxos_packets.specs.Sending.{packet}
+use Rattle.paxos_packets.specs.Packet.{packet}
 use Rattle.paxos_packets.specs.declared.ballot.Ballot.{Ballot}
 use Rattle.paxos_packets.specs.declared.vote.Vote.{Vote}
 use Rattle.paxos_packets.specs.declared.entry.Entry.{Entry}
@@ -52,7 +53,8 @@ flush_with members among more number (Some p) s go = go (suc number) (deliver_if
 
 abbrev pub flush : ℕ → List ℕ → ℕ → ℕ → Stage → Stage
 flush members among zero number s = s
-flush members among (suc more) number s = flush_with members among more number (slice_get s.world.sent (number - 1)) s (λ n z. flush members among more n z)
+flush members among (suc more) number s =
+    flush_with members among more number (slice_get s.world.sent (number - 1)) s (λ n z. flush members among more n z)
 
 abbrev pub happen : ℕ → Stage → Line → Stage
 happen members s (Happens e) = record { world = next same_number members s.world e; delivered = s.delivered }
@@ -74,12 +76,14 @@ one_session =
 -- the leader crashes once one other has voted, and another leads
 abbrev pub leader_crash : List Line
 leader_crash =
-    Happens (Start 1) ∷ Packet_no 1 ∷ Packet_no 3 ∷ Packet_no 5 ∷ Happens (Crash 1) ∷ Happens (Start 2) ∷ Packet_no 11 ∷ Packet_no 12 ∷ Flush (2 ∷ 3 ∷ []) ∷ []
+    Happens (Start 1) ∷ Packet_no 1 ∷ Packet_no 3 ∷ Packet_no 5 ∷ Happens (Crash 1) ∷ Happens (Start 2) ∷ Packet_no 11 ∷ Packet_no 12 ∷
+    Flush (2 ∷ 3 ∷ []) ∷ []
 
 -- the second act of a node is reported without the first
 abbrev pub hung_before_boot : List Line
 hung_before_boot =
-    Happens (Start 1) ∷ Packet_no 1 ∷ Packet_no 3 ∷ Happens (Take 1 1 10) ∷ Happens (Take 1 1 11) ∷ Packet_no 5 ∷ Packet_no 13 ∷ Happens (Crash 1)
+    Happens (Start 1) ∷ Packet_no 1 ∷ Packet_no 3 ∷ Happens (Take 1 1 10) ∷ Happens (Take 1 1 11) ∷ Packet_no 5 ∷ Packet_no 13 ∷ Happens
+    (Crash 1)
     ∷ Happens (Start 2) ∷ Packet_no 21 ∷ Packet_no 22 ∷ Packet_no 9 ∷ Flush (2 ∷ 3 ∷ []) ∷ []
 
 -- of four nodes two are no majority
@@ -92,14 +96,16 @@ asked_again = asked_in_vain ++ Packet_no 7 ∷ Packet_no 15 ∷ []
 -- a node is lost with its acts, and comes back
 abbrev pub lost_node : List Line
 lost_node =
-    Happens (Start 1) ∷ Flush (1 ∷ 2 ∷ 3 ∷ []) ∷ Happens (Take 3 1 10) ∷ Happens (Take 3 1 11) ∷ Happens (Take 3 1 12) ∷ Flush (1 ∷ 2 ∷ 3 ∷ [])
+    Happens (Start 1) ∷ Flush (1 ∷ 2 ∷ 3 ∷ []) ∷ Happens (Take 3 1 10) ∷ Happens (Take 3 1 11) ∷ Happens (Take 3 1 12) ∷ Flush
+    (1 ∷ 2 ∷ 3 ∷ [])
     ∷ Happens (Suspect 1 3) ∷ Flush (1 ∷ 2 ∷ 3 ∷ []) ∷ Happens (Restart 3) ∷ Happens (Tick 3) ∷ Flush (1 ∷ 2 ∷ 3 ∷ [])
     ∷ Happens (Take 2 1 20) ∷ Happens (Take 2 1 21) ∷ Happens (Take 2 1 22) ∷ Flush (1 ∷ 2 ∷ 3 ∷ []) ∷ []
 
 -- two nodes want to lead
 abbrev pub duel : List Line
 duel =
-    Happens (Start 1) ∷ Happens (Start 2) ∷ Packet_no 1 ∷ Packet_no 5 ∷ Packet_no 3 ∷ Packet_no 6 ∷ Happens (Start 1) ∷ Packet_no 11 ∷ Packet_no 13 ∷ Packet_no 7
+    Happens (Start 1) ∷ Happens (Start 2) ∷ Packet_no 1 ∷ Packet_no 5 ∷ Packet_no 3 ∷ Packet_no 6 ∷ Happens (Start 1) ∷ Packet_no 11 ∷
+    Packet_no 13 ∷ Packet_no 7
     ∷ Flush (1 ∷ 2 ∷ 3 ∷ []) ∷ []
 
 -- what is to be found behind each, as written down beforehand

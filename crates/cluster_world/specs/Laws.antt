@@ -1,16 +1,16 @@
 -- The laws over every list of events (docs/CONSENSUS.md, "What holds over every list of events").
 use Rattle.std.specs.Prelude.{◌≡◌, ◌⊎◌, ℕ, suc, ◌≤◌, Bool, true, false, Some, List, ◌++◌, slice_get}
-use Rattle.paxos_packets.specs.Majority.{Has}
+use Rattle.cluster_world.specs.Has.{Has}
 use Rattle.paxos_packets.specs.declared.entry.Entry.{Entry}
 use Rattle.paxos_packets.specs.declared.packet.Kind.TheVariants.{Learned}
-use Rattle.paxos_learner.specs.declared.facts.Fact.{Fact}
+use Rattle.paxos_learner.specs.declared.learned.LearnedEntry.{LearnedEntry}
 use Rattle.paxos_node.specs.declared.event.Event.{Event}
 use Rattle.paxos_node.specs.Events.{owner, possible, outcome_of}
 use Rattle.cluster_world.specs.World.{World, node_at, was_sent, played, log_of}
 use Rattle.cluster_world.specs.Chosen.{WasSent, Chosen}
 
 -- the node has learned this
-abbrev pub HasLearned : {B : Type 0} → World B → ℕ → Fact B → Type 0
+abbrev pub HasLearned : {B : Type 0} → World B → ℕ → LearnedEntry B → Type 0
 HasLearned w node f = Has (node_at w.nodes node).learner.learned f
 
 -- agreement
@@ -18,7 +18,7 @@ HasLearned w node f = Has (node_at w.nodes node).learner.learned f
 -- what is learned is chosen
 abbrev pub LearnedIsChosen : (B : Type 0) → (B → B → Bool) → Type 0
 LearnedIsChosen B same =
-    (members : ℕ) → 3 ≤ members → (events : List (Event B)) (node : ℕ) (f : Fact B) →
+    (members : ℕ) → 3 ≤ members → (events : List (Event B)) (node : ℕ) (f : LearnedEntry B) →
     HasLearned (played same members events) node f → Chosen members (played same members events).sent f.slot f.entry
 
 -- two chosen entries of one slot are equal
@@ -36,7 +36,7 @@ ToldIsChosen B same =
 -- no two nodes, nor one at two moments, learn different entries in one slot
 abbrev pub LearnedIsOne : (B : Type 0) → (B → B → Bool) → Type 0
 LearnedIsOne B same =
-    (members : ℕ) → 3 ≤ members → (early later : List (Event B)) (j k : ℕ) (f g : Fact B) →
+    (members : ℕ) → 3 ≤ members → (early later : List (Event B)) (j k : ℕ) (f g : LearnedEntry B) →
     HasLearned (played same members early) j f → HasLearned (played same members (early ++ later)) k g → f.slot ≡ g.slot → f.entry ≡ g.entry
 
 -- no event tells a node another entry of a slot that it has learned

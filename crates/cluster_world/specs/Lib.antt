@@ -1,3 +1,4 @@
+pub mod Has
 pub mod World
 pub mod Chosen
 pub mod Laws

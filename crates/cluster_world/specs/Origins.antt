@@ -2,7 +2,8 @@
 -- events").
 use Rattle.std.specs.Prelude.{◌≡◌, ℕ, suc, ◌≤◌, Bool, ◌&&◌, ◌==◌, Option, Some, None, List, ◌∷◌, ◌++◌, slice_get, if◌then◌else◌}
 use Rattle.std.specs.List.{filter_map}
-use Rattle.paxos_packets.specs.Majority.{IsMember, Has}
+use Rattle.paxos_packets.specs.Members.{IsMember}
+use Rattle.cluster_world.specs.Has.{Has}
 use Rattle.paxos_packets.specs.declared.entry.Entry.{Entry}
 use Rattle.paxos_packets.specs.declared.entry.Entry.TheVariants.{Noop, Boot, Lost, Item}
 use Rattle.replica_machine.specs.Effects.{live_boot}
@@ -49,4 +50,5 @@ pub record Suspected {B : Type 0} (same : B → B → Bool) (members : ℕ) (eve
 
 abbrev pub LostsWereSuspected : (B : Type 0) → (B → B → Bool) → Type 0
 LostsWereSuspected B same =
-    (members : ℕ) (events : List (Event B)) (node n b : ℕ) → Has (log_of (played same members events) node) (Lost n b) → Suspected same members events n b
+    (members : ℕ) (events : List (Event B)) (node n b : ℕ) → Has (log_of (played same members events) node) (Lost n b)
+    → Suspected same members events n b

@@ -1,6 +1,6 @@
 -- How a world goes on, event by event (docs/CONSENSUS.md, "The world").
 use Rattle.std.specs.Prelude.{◌≡◌, ℕ, Bool, true, false, ◌&&◌, List, [], ◌∷◌, ◌++◌, length}
-use Rattle.paxos_packets.specs.Majority.{Has}
+use Rattle.cluster_world.specs.Has.{Has}
 use Rattle.paxos_packets.specs.declared.packet.Packet.{Packet}
 use Rattle.paxos_node.specs.declared.event.Event.{Event}
 use Rattle.paxos_node.specs.Events.{owner, possible, outcome_of}
@@ -8,7 +8,8 @@ use Rattle.cluster_world.specs.World.{World, node_at, is_among, was_sent, next, 
 
 -- the test that a packet was sent holds of just the packets that were
 abbrev pub SentIsAmong : (B : Type 0) → (B → B → Bool) → Type 0
-SentIsAmong B same = (p : Packet B) (sent : List (Packet B)) → (is_among same p sent ≡ true → Has sent p) × (Has sent p → is_among same p sent ≡ true)
+SentIsAmong B same =
+    (p : Packet B) (sent : List (Packet B)) → (is_among same p sent ≡ true → Has sent p) × (Has sent p → is_among same p sent ≡ true)
 
 -- there are as many nodes as members
 abbrev pub NodesAreMembers : (B : Type 0) → (B → B → Bool) → Type 0
@@ -16,7 +17,9 @@ NodesAreMembers B same = (members : ℕ) (events : List (Event B)) → length (p
 
 -- a list of events and one event more
 abbrev pub OneEventMore : (B : Type 0) → (B → B → Bool) → Type 0
-OneEventMore B same = (members : ℕ) (events : List (Event B)) (e : Event B) → played same members (events ++ e ∷ []) ≡ next same members (played same members events) e
+OneEventMore B same =
+    (members : ℕ) (events : List (Event B)) (e : Event B)
+    → played same members (events ++ e ∷ []) ≡ next same members (played same members events) e
 
 -- whether an event does anything
 abbrev pub may : {B : Type 0} → (B → B → Bool) → World B → Event B → Bool

@@ -1,15 +1,18 @@
 -- All nodes, all packets ever sent, and what an event makes of them (docs/CONSENSUS.md, "The world").
-use Rattle.std.specs.Prelude.{ℕ, zero, suc, Bool, true, false, ◌&&◌, ◌||◌, ◌==◌, None, List, [], ◌∷◌, ◌++◌, filter, slice_index_or, slice_set, if◌then◌else◌}
-use Rattle.paxos_packets.specs.Same.{same_packet}
+use Rattle.std.specs.Prelude.{ℕ, zero, suc, Bool, true, ◌&&◌, ◌==◌, None, List, [], ◌∷◌, ◌++◌, filter, fold, slice_index_or}
+use Rattle.std.specs.Prelude.{slice_set, if◌then◌else◌}
+use Rattle.std.specs.List.{list_any, flat_map}
+use Rattle.paxos_packets.specs.Packet.{same_packet}
 use Rattle.paxos_packets.specs.declared.entry.Entry.{Entry}
 use Rattle.paxos_packets.specs.declared.entry.Entry.TheVariants.{Boot}
 use Rattle.paxos_packets.specs.declared.packet.Packet.{Packet}
 use Rattle.paxos_packets.specs.declared.transport.Transport.{Transport}
-use Rattle.replica_machine.specs.Replay.{Machine, is_to, sayings_behind}
+use Rattle.replica_machine.specs.Replay.{Machine, sayings_behind}
+use Rattle.paxos_packets.specs.Transport.{same_transport}
 use Rattle.paxos_node.specs.declared.event.Event.{Event}
 use Rattle.paxos_node.specs.declared.event.Event.TheVariants.{Take, Tick, Start, Suspect, Deliver, Crash, Restart}
 use Rattle.paxos_node.specs.declared.state.NodeState.{NodeState}
-use Rattle.paxos_node.specs.declared.outcome.Outcome.{Outcome}
+use Rattle.paxos_node.specs.declared.turn.Turn.{Turn}
 use Rattle.paxos_node.specs.Applying.{down, started, first_rows}
 use Rattle.paxos_node.specs.Events.{last_number, owner, possible, outcome_of, made_by}
 
@@ -56,8 +59,7 @@ first_world members = record { nodes = founded members; sent = []; made = first_
 -- a packet is delivered only where an equal one was sent; no other event reads what was sent
 
 abbrev pub is_among : {B : Type 0} → (B → B → Bool) → Packet B → List (Packet B) → Bool
-is_among same p [] = false
-is_among same p (q ∷ qs) = same_packet same q p || is_among same p qs
+is_among same p sent = list_any (λ q. same_packet same q p) sent
 
 abbrev pub was_sent : {B : Type 0} → (B → B → Bool) → Event B → List (Packet B) → Bool
 was_sent same (Take n t body) sent = true
@@ -69,7 +71,7 @@ was_sent same (Crash n) sent = true
 was_sent same (Restart n) sent = true
 
 -- one node changes, and packets are sent
-abbrev pub done : {B : Type 0} → (B → B → Bool) → World B → Event B → NodeState B → Outcome B → World B
+abbrev pub done : {B : Type 0} → (B → B → Bool) → World B → Event B → NodeState B → Turn B → World B
 done same w e x o =
     record {
       nodes = put_node w.nodes (owner e) o.node;
@@ -86,8 +88,7 @@ next same members w e =
     else w
 
 abbrev pub play : {B : Type 0} → (B → B → Bool) → ℕ → List (Event B) → World B → World B
-play same members [] w = w
-play same members (e ∷ es) w = play same members es (next same members w e)
+play same members events w = fold (next same members) w events
 
 -- the world that a list of events leads to
 abbrev pub played : {B : Type 0} → (B → B → Bool) → ℕ → List (Event B) → World B
@@ -100,11 +101,11 @@ log_of w k = (node_at w.nodes k).applied
 -- what a transport was handed: what a machine that follows the log says to it, wherever its own node applied entries in its boot
 
 abbrev pub handed_at : {B S Y : Type 0} → Machine B S Y → Transport → Applied B → List Y
-handed_at m t a = if (a.node == t.node) && (a.boot == t.boot) then filter (λ y. is_to t (m.to y)) (sayings_behind m a.log a.entries) else []
+handed_at m t a =
+    if (a.node == t.node) && (a.boot == t.boot) then filter (λ y. same_transport (m.to y) t) (sayings_behind m a.log a.entries) else []
 
 abbrev pub handed_in : {B S Y : Type 0} → Machine B S Y → Transport → List (Applied B) → List Y
-handed_in m t [] = []
-handed_in m t (a ∷ rest) = handed_at m t a ++ handed_in m t rest
+handed_in m t applied = flat_map (handed_at m t) applied
 
 abbrev pub handed : {B S Y : Type 0} → Machine B S Y → Transport → World B → List Y
 handed m t w = handed_in m t w.applied

@@ -1,13 +1,16 @@
 //! Laws over every list of events, each the contract of a function that does nothing.
 ghost use Rattle.cluster_world.specs.Answers.{HandedIsSaid, HandedStays};
 ghost use Rattle.cluster_world.specs.Origins.{ItemsWereTaken, BootsWereHad, LostsWereSuspected};
-ghost use Rattle.replica_machine.specs.Statements.{ItemsAreNumbered};
+ghost use Rattle.replica_machine.specs.Laws.{ItemsAreNumbered};
 ghost use Rattle.std.specs.Prelude.{◌≡◌, true, false, [], ◌∷◌};
 ghost use Rattle.paxos_packets.specs.declared.entry.Entry.TheVariants.{Boot};
 ghost use Rattle.replica_machine.specs.Effects.{effects};
-ghost use Rattle.cluster_world.specs.Examples.{run, one_session, leader_crash, hung_before_boot, asked_in_vain, asked_again, lost_node, duel, session_log, after_crash_log, hung_log, lost_log, duel_log, crash_packets, logs, ups, sums_handed};
+ghost use Rattle.cluster_world.specs.Examples.{run, one_session, leader_crash, hung_before_boot, asked_in_vain};
+ghost use Rattle.cluster_world.specs.Examples.{asked_again, lost_node, duel, session_log, after_crash_log, hung_log};
+ghost use Rattle.cluster_world.specs.Examples.{lost_log, duel_log, crash_packets, logs, ups, sums_handed};
 ghost use Rattle.cluster_world.specs.Steps.{SentIsAmong, NodesAreMembers, OneEventMore, EventGoes, EventStays};
-ghost use Rattle.cluster_world.specs.Laws.{LearnedIsChosen, ChosenIsOne, ToldIsChosen, LearnedIsOne, NeverDisagrees, LogIsChosen, LogsArePrefixes};
+ghost use Rattle.cluster_world.specs.Laws.{LearnedIsChosen, ChosenIsOne, ToldIsChosen, LearnedIsOne, NeverDisagrees};
+ghost use Rattle.cluster_world.specs.Laws.{LogIsChosen, LogsArePrefixes};
 
 use paxos_packets::Body;
 

@@ -1,8 +1,8 @@
 -- No packet lowers a promise.
 use Rattle.std.proofs.Common.{◌≡◌, ℕ, Bool, true, false, not, ◌&&◌, ◌||◌, cond, ltb, eqb, Option, Some, refl, subst, arith}
 use Rattle.std.proofs.lemmas.Bool.Decides.{nat_tests}
-use Rattle.paxos_packets.specs.Ballots.{below}
-use Rattle.paxos_packets.specs.Slots.{votes_from}
+use Rattle.paxos_packets.specs.Ballot.{below}
+use Rattle.paxos_packets.specs.Vote.{votes_from}
 use Rattle.paxos_packets.specs.declared.ballot.Ballot.{Ballot}
 use Rattle.paxos_packets.specs.declared.vote.Vote.{Vote}
 use Rattle.paxos_packets.specs.declared.packet.Kind.{Kind}
@@ -10,7 +10,8 @@ use Rattle.paxos_packets.specs.declared.packet.Kind.TheVariants.{Prepare, Promis
 use Rattle.paxos_packets.specs.declared.rows.Rows.{Rows}
 use Rattle.paxos_acceptor.specs.declared.verdict.Verdict.{Verdict}
 use Rattle.paxos_acceptor.specs.declared.verdict.Answer.TheVariants.{ToSender, ToOthers}
-use Rattle.paxos_acceptor.specs.Rules.{newer, may_promise, may_accept, promise_change, vote_change, refused, judged}
+use Rattle.std.specs.Option.{option_or}
+use Rattle.paxos_acceptor.specs.Acceptor.{may_promise, may_accept, promise_change, vote_change, refused, judged}
 
 none : (m i : ℕ) → (ltb m m || (eqb m m && ltb i i)) ≡ false
 none m i = grind (arith, nat_tests)
@@ -23,21 +24,26 @@ allowed true e = cc
 allowed false e = refl
 
 abbrev Rises : {B : Type 0} → Rows B → Ballot → Verdict B → Type 0
-Rises rows old v = (new : Ballot) × (newer v.change.promised rows.promised ≡ Some new) × (below new old ≡ false)
+Rises rows old v = (new : Ballot) × (option_or v.change.promised rows.promised ≡ Some new) × (below new old ≡ false)
 
-stays : {B : Type 0} (rows : Rows B) (old : Ballot) → rows.promised ≡ Some old → (new : Ballot) × (rows.promised ≡ Some new) × (below new old ≡ false)
+stays : {B : Type 0} (rows : Rows B) (old : Ballot) → rows.promised ≡ Some old
+    → (new : Ballot) × (rows.promised ≡ Some new) × (below new old ≡ false)
 stays rows old p = (old, p, none old.round old.node)
 
-on_prepare : {B : Type 0} (rows : Rows B) (b old : Ballot) (first : ℕ) → rows.promised ≡ Some old → (c : Bool) → may_promise rows.promised b ≡ c
-    → Rises rows old (cond c (record { change = promise_change b; answer = ToSender (Promise b (votes_from first rows.votes)) }) (refused rows b))
+on_prepare : {B : Type 0} (rows : Rows B) (b old : Ballot) (first : ℕ) → rows.promised ≡ Some old → (c : Bool)
+    → may_promise rows.promised b ≡ c
+    → Rises rows old
+    (cond c (record { change = promise_change b; answer = ToSender (Promise b (votes_from first rows.votes)) }) (refused rows b))
 on_prepare rows b old first p true e =
     let above : below old b ≡ true = subst (λ (o : Option Ballot). may_promise o b ≡ true) p e in
     (b, refl, other_way old.round b.round old.node b.node above)
 on_prepare rows b old first p false e = stays rows old p
 
-on_accept : {B : Type 0} (rows : Rows B) (v : Vote B) (old : Ballot) → rows.promised ≡ Some old → (c : Bool) → may_accept rows.promised v.ballot ≡ c
+on_accept : {B : Type 0} (rows : Rows B) (v : Vote B) (old : Ballot) → rows.promised ≡ Some old → (c : Bool)
+    → may_accept rows.promised v.ballot ≡ c
     → Rises rows old (cond c (record { change = vote_change v; answer = ToOthers (Accepted v) }) (refused rows v.ballot))
-on_accept rows v old p true e = (v.ballot, refl, allowed (below v.ballot old) (subst (λ (o : Option Ballot). may_accept o v.ballot ≡ true) p e))
+on_accept rows v old p true e =
+    (v.ballot, refl, allowed (below v.ballot old) (subst (λ (o : Option Ballot). may_accept o v.ballot ≡ true) p e))
 on_accept rows v old p false e = stays rows old p
 
 pub rises : {B : Type 0} (rows : Rows B) (kind : Kind B) (old : Ballot) → rows.promised ≡ Some old → Rises rows old (judged rows kind)

@@ -1,5 +1,5 @@
 ghost use Rattle.std.specs.Prelude.{◌≡◌, true, false, IfOk, IsErr, OnOk, OnErr};
-ghost use Rattle.paxos_acceptor.specs.Rules.{adopted, judged, no_change as unchanged, may_promise as promises, may_accept as accepts, refused, prepared, voted};
+ghost use Rattle.paxos_acceptor.specs.Acceptor.{adopted, judged, no_change, may_promise, may_accept, refused, prepared, voted};
 
 use crate::fault::Memory;
 use crate::verdict::{Answer, Verdict};
@@ -15,7 +15,7 @@ pub struct Acceptor<B> {
 }
 
 impl<B> Model for Acceptor<B> {
-    ghost use Rattle.paxos_acceptor.specs.State.{State};
+    ghost use Rattle.paxos_acceptor.specs.Acceptor.{State};
 
     ghost Value = { State B };
 
@@ -64,7 +64,12 @@ impl<B: Body> Acceptor<B> {
         match &packet.kind {
             Kind::Prepare { ballot, first } => plan_prepare(alloc, &self.rows, *ballot, *first),
             Kind::Accept { vote } => plan_accept(alloc, &self.rows, vote),
-            _ => Ok(Verdict {
+            Kind::Promise { .. }
+            | Kind::Accepted { .. }
+            | Kind::Nack { .. }
+            | Kind::Forward { .. }
+            | Kind::Learned { .. }
+            | Kind::Ask { .. } => Ok(Verdict {
                 change: no_change(alloc),
                 answer: Answer::Nothing,
             }),
@@ -93,7 +98,7 @@ impl<B: Body> Acceptor<B> {
 }
 
 fn no_change<B>(alloc: Global) -> Change<B>
-    ensures { result ≡ unchanged }
+    ensures { result ≡ no_change }
 {
     Change {
         promised: None,
@@ -101,9 +106,9 @@ fn no_change<B>(alloc: Global) -> Change<B>
     }
 }
 
-/// Whether a ballot may be promised: there is no promise, or it is below the ballot.
+// Whether a ballot may be promised: there is no promise, or it is below the ballot.
 fn may_promise(promised: Option<Ballot>, ballot: Ballot) -> bool
-    ensures { result ≡ promises promised ballot }
+    ensures { result ≡ may_promise promised ballot }
 {
     match promised {
         Some(promised) => promised.is_below(&ballot),
@@ -111,9 +116,9 @@ fn may_promise(promised: Option<Ballot>, ballot: Ballot) -> bool
     }
 }
 
-/// Whether a vote in the ballot may be cast: there is no promise, or the ballot is not below it.
+// Whether a vote in the ballot may be cast: there is no promise, or the ballot is not below it.
 fn may_accept(promised: Option<Ballot>, ballot: Ballot) -> bool
-    ensures { result ≡ accepts promised ballot }
+    ensures { result ≡ may_accept promised ballot }
 {
     match promised {
         Some(promised) => !ballot.is_below(&promised),
@@ -121,7 +126,7 @@ fn may_accept(promised: Option<Ballot>, ballot: Ballot) -> bool
     }
 }
 
-/// The answer to a Prepare or an Accept that the promise forbids.
+// The answer to a Prepare or an Accept that the promise forbids.
 fn refuse<B>(alloc: Global, rows: &Rows<B>, ballot: Ballot) -> Verdict<B>
     ensures { result ≡ refused rows.now ballot }
 {
@@ -136,7 +141,7 @@ fn refuse<B>(alloc: Global, rows: &Rows<B>, ballot: Ballot) -> Verdict<B>
     }
 }
 
-/// The case Prepare.
+// The case Prepare.
 fn plan_prepare<B: Body>(
     alloc: Global,
     rows: &Rows<B>,
@@ -160,7 +165,7 @@ fn plan_prepare<B: Body>(
     })
 }
 
-/// The case Accept.
+// The case Accept.
 fn plan_accept<B: Body>(alloc: Global, rows: &Rows<B>, vote: &Vote<B>) -> Result<Verdict<B>, Memory>
     ensures { IfOk result (λ verdict. verdict ≡ voted rows.now vote.now) }
 {

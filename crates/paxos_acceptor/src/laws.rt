@@ -1,22 +1,26 @@
 //! Laws of the acceptor's rules. Each is the contract of a function that does nothing.
 
 ghost use Rattle.std.specs.Prelude.{◌≡◌, true, false, Option, Some, None};
-ghost use Rattle.paxos_packets.specs.Ballots.{below};
+ghost use Rattle.paxos_packets.specs.Ballot.{below};
 ghost use Rattle.paxos_packets.specs.declared.ballot.Ballot.{Ballot};
 ghost use Rattle.paxos_packets.specs.declared.packet.Kind.{Kind};
 ghost use Rattle.paxos_packets.specs.declared.rows.Rows.{Rows};
 ghost use Rattle.paxos_packets.specs.declared.vote.Vote.{Vote};
-ghost use Rattle.paxos_acceptor.specs.Rules.{adopted, judged, no_change, promise_change, refused, vote_change, voted, prepared, with_promise, with_vote};
+ghost use Rattle.paxos_acceptor.specs.Acceptor.{adopted, judged, no_change, promise_change, refused, vote_change};
+ghost use Rattle.paxos_acceptor.specs.Acceptor.{voted, prepared, with_promise, with_vote};
 
 /// No packet lowers a promise: what is promised after its change is adopted is not below what was promised before.
 pub fn promises_rise<B>()
-    ensures { (rows : Rows B) (kind : Kind B) (old : Ballot) → rows.promised ≡ Some old → ((new : Ballot) × ((adopted rows (judged rows kind).change).promised ≡ Some new) × (below new old ≡ false)) }
+    ensures { (rows : Rows B) (kind : Kind B) (old : Ballot) → rows.promised ≡ Some old
+        → ((new : Ballot) × ((adopted rows (judged rows kind).change).promised ≡ Some new) × (below new old ≡ false)) }
 {}
 
 /// A member that has promised a ballot refuses each lower one, for a promise and for a vote (Lamport 2001, section 2.2, P1a).
 pub fn promises_are_kept<B>()
-    ensures prepare { (rows : Rows B) (ballot promised : Ballot) (first : _) → rows.promised ≡ Some promised → below ballot promised ≡ true → prepared rows ballot first ≡ refused rows ballot }
-    ensures accept { (rows : Rows B) (vote : Vote B) (promised : Ballot) → rows.promised ≡ Some promised → below vote.ballot promised ≡ true → voted rows vote ≡ refused rows vote.ballot }
+    ensures prepare { (rows : Rows B) (ballot promised : Ballot) (first : _) → rows.promised ≡ Some promised
+        → below ballot promised ≡ true → prepared rows ballot first ≡ refused rows ballot }
+    ensures accept { (rows : Rows B) (vote : Vote B) (promised : Ballot) → rows.promised ≡ Some promised
+        → below vote.ballot promised ≡ true → voted rows vote ≡ refused rows vote.ballot }
 {}
 
 /// What each of the three changes makes of the rows.

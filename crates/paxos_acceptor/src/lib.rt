@@ -9,6 +9,3 @@ mod verdict;
 pub use acceptor::Acceptor;
 pub use fault::Memory;
 pub use verdict::{Answer, Verdict};
-
-#[cfg(test)]
-mod tests;

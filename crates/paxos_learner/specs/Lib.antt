@@ -1,1 +1,1 @@
-pub mod Learning
+pub mod Learner

@@ -2,10 +2,10 @@
 //! 2.3).
 #![tactic(auto)]
 
-mod facts;
 mod hearings;
+mod learned;
 mod state;
 
-pub use facts::{Fact, Facts};
 pub use hearings::{Hearing, Hearings};
+pub use learned::{LearnedEntries, LearnedEntry};
 pub use state::LearnerState;

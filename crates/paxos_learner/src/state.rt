@@ -1,9 +1,9 @@
-use crate::facts::Facts;
 use crate::hearings::Hearings;
+use crate::learned::LearnedEntries;
 
 /// One member as a learner. It is lost in a crash.
 #[derive(Debug, Drop)]
 pub struct LearnerState<B> {
     pub heard: Hearings,
-    pub learned: Facts<B>,
+    pub learned: LearnedEntries<B>,
 }

@@ -1,11 +1,13 @@
 -- What a node commits in an event is all that changes its rows.
-use Rattle.std.proofs.Common.{◌≡◌, ⊎_elim, ℕ, suc, ◌<◌, Bool, true, false, not, ◌&&◌, eqb, refl, sym, ap, ◌∙◌, subst, arith, List, [], ◌∷◌, ◌++◌, length, Option, Some, None}
+use Rattle.std.proofs.Common.{◌≡◌, ⊎_elim, ℕ, suc, ◌<◌, Bool, true, false, not, ◌&&◌, eqb, refl, sym, ap, ◌∙◌, subst, arith, List, [], ◌∷◌}
+use Rattle.std.proofs.Common.{◌++◌, length, Option, Some, None}
 use Rattle.std.specs.Prelude.{if◌then◌else◌, nat_lt}
 use Rattle.std.proofs.lemmas.Bool.{cond_both, cond-true, cond-false, and_parts, eq-eqb, ne_eqb, lt-ltb, cases_order, le-ltb}
-use Rattle.paxos_packets.specs.Majority.{is_majority}
-use Rattle.paxos_packets.specs.Ballots.{same_ballot}
-use Rattle.paxos_packets.specs.Slots.{AllAfter, IsAscending, put_vote, put_votes, votes_from}
-use Rattle.paxos_packets.specs.Sending.{packet}
+use Rattle.paxos_packets.specs.Members.{is_majority}
+use Rattle.paxos_packets.specs.Ballot.{same_ballot}
+use Rattle.paxos_packets.proofs.Ascending.{AllAfter, Ascends}
+use Rattle.paxos_packets.specs.Vote.{put_vote, put_votes, votes_from}
+use Rattle.paxos_packets.specs.Packet.{packet}
 use Rattle.paxos_packets.specs.declared.ballot.Ballot.{Ballot}
 use Rattle.paxos_packets.specs.declared.entry.Entry.{Entry}
 use Rattle.paxos_packets.specs.declared.packet.Kind.{Kind}
@@ -13,32 +15,35 @@ use Rattle.paxos_packets.specs.declared.packet.Kind.TheVariants.{Prepare, Promis
 use Rattle.paxos_packets.specs.declared.rows.Rows.{Rows}
 use Rattle.paxos_packets.specs.declared.vote.Vote.{Vote}
 use Rattle.paxos_packets.proofs.Placing.{put_ascending}
-use Rattle.paxos_acceptor.specs.Rules.{may_promise, may_accept, with_promise, with_vote, adopted}
-use Rattle.paxos_proposer.specs.declared.promises.Counted.{Counted}
+use Rattle.paxos_acceptor.specs.Acceptor.{may_promise, may_accept, with_promise, with_vote, adopted}
+use Rattle.paxos_proposer.specs.declared.promises.CountedPromise.{CountedPromise}
 use Rattle.paxos_proposer.specs.declared.role.Role.{Role}
 use Rattle.paxos_proposer.specs.declared.role.Role.TheVariants.{Idle, Preparing, Leading}
-use Rattle.paxos_proposer.specs.Proposing.{slot_end, next_vote, new_ballot, is_leading}
+use Rattle.paxos_proposer.specs.Proposer.{slot_end, next_vote, new_ballot, is_leading}
 use Rattle.paxos_proposer.specs.Reports.{is_counted, reports, called_for}
 use Rattle.paxos_node.specs.declared.event.Event.{Event}
 use Rattle.paxos_node.specs.declared.event.Event.TheVariants.{Take, Tick, Start, Suspect, Deliver, Crash, Restart}
-use Rattle.paxos_node.specs.declared.outcome.Outcome.{Outcome}
-use Rattle.paxos_node.specs.Turns.{with_role, with_pending, begun, send, promise, vote, cast}
+use Rattle.paxos_node.specs.declared.turn.Turn.{Turn}
+use Rattle.paxos_node.specs.Turn.{with_role, with_pending, begun, send, promise, vote, cast}
 use Rattle.paxos_node.specs.Proposals.{offer, propose_as, propose, propose_all, lead, stands, propose_new, propose_each, forwarded, push}
 use Rattle.paxos_node.specs.Replies.{saw, refuse, count_promise, on_promise_as, on_packet}
 use Rattle.paxos_node.specs.Applying.{note, ends, go_down, apply_all, settle}
-use Rattle.paxos_node.specs.Events.{last_number, takes, with_item, on_take, again, on_tick, begin, starts, on_start, has_room, suspected, new_lost, possible, outcome_of}
-use Rattle.paxos_learner.specs.Learning.{run_from}
-use Rattle.paxos_node.specs.Statements.{CommitsItsChange}
+use Rattle.paxos_node.specs.Events.{last_number, takes, with_item, on_take, again, on_tick, begin, starts, on_start, has_room, suspected}
+use Rattle.paxos_node.specs.Events.{new_lost, possible, outcome_of}
+use Rattle.paxos_learner.specs.Learner.{run_from}
+use Rattle.paxos_node.specs.Laws.{CommitsItsChange}
 
 -- votes that are put, one after the other
 
 module _ {B : Type 0} where
   put_eq : (v w : Vote B) (ws : List (Vote B)) → v.slot ≡ w.slot → put_vote v (w ∷ ws) ≡ v ∷ ws
-  put_eq v w ws e = cond-true (eqb v.slot w.slot) (v ∷ ws) (if nat_lt v.slot w.slot then v ∷ (w ∷ ws) else w ∷ put_vote v ws) (eq-eqb v.slot w.slot e)
+  put_eq v w ws e =
+      cond-true (eqb v.slot w.slot) (v ∷ ws) (if nat_lt v.slot w.slot then v ∷ (w ∷ ws) else w ∷ put_vote v ws) (eq-eqb v.slot w.slot e)
 
   put_lt : (v w : Vote B) (ws : List (Vote B)) → v.slot < w.slot → put_vote v (w ∷ ws) ≡ v ∷ (w ∷ ws)
   put_lt v w ws l =
-      cond-false (eqb v.slot w.slot) (v ∷ ws) (if nat_lt v.slot w.slot then v ∷ (w ∷ ws) else w ∷ put_vote v ws) (ne_eqb v.slot w.slot (apart l))
+      cond-false (eqb v.slot w.slot) (v ∷ ws) (if nat_lt v.slot w.slot then v ∷ (w ∷ ws) else w ∷ put_vote v ws)
+      (ne_eqb v.slot w.slot (apart l))
       ∙ cond-true (nat_lt v.slot w.slot) (v ∷ (w ∷ ws)) (w ∷ put_vote v ws) (lt-ltb v.slot w.slot l)
     where
       apart : v.slot < w.slot → v.slot ≡ w.slot → ⊥
@@ -46,7 +51,8 @@ module _ {B : Type 0} where
 
   put_gt : (v w : Vote B) (ws : List (Vote B)) → w.slot < v.slot → put_vote v (w ∷ ws) ≡ w ∷ put_vote v ws
   put_gt v w ws l =
-      cond-false (eqb v.slot w.slot) (v ∷ ws) (if nat_lt v.slot w.slot then v ∷ (w ∷ ws) else w ∷ put_vote v ws) (ne_eqb v.slot w.slot (apart l))
+      cond-false (eqb v.slot w.slot) (v ∷ ws) (if nat_lt v.slot w.slot then v ∷ (w ∷ ws) else w ∷ put_vote v ws)
+      (ne_eqb v.slot w.slot (apart l))
       ∙ cond-false (nat_lt v.slot w.slot) (v ∷ (w ∷ ws)) (w ∷ put_vote v ws) (past l)
     where
       apart : w.slot < v.slot → v.slot ≡ w.slot → ⊥
@@ -62,13 +68,15 @@ module _ {B : Type 0} where
       ⊎_elim
       (λ (e : a.slot ≡ x.slot).
       let p : x.slot < b.slot = omega arith in
-      ap (λ l. put_vote a l) (put_gt b x ws p) ∙ (put_eq a x (put_vote b ws) e ∙ (sym (put_gt b a ws l) ∙ ap (λ l. put_vote b l) (sym (put_eq a x ws e)))))
+      ap (λ l. put_vote a l) (put_gt b x ws p)
+      ∙ (put_eq a x (put_vote b ws) e ∙ (sym (put_gt b a ws l) ∙ ap (λ l. put_vote b l) (sym (put_eq a x ws e)))))
       (λ r. ⊎_elim
       (λ (h : a.slot < x.slot). before h ∙ (sym (put_gt b a (x ∷ ws) l) ∙ ap (λ l. put_vote b l) (sym (put_lt a x ws h))))
       (λ (h : x.slot < a.slot).
       let p : x.slot < b.slot = omega arith in
       ap (λ l. put_vote a l) (put_gt b x ws p)
-      ∙ (put_gt a x (put_vote b ws) h ∙ (ap (λ l. x ∷ l) (put_two a b l ws) ∙ (sym (put_gt b x (put_vote a ws) p) ∙ ap (λ l. put_vote b l) (sym (put_gt a x ws h))))))
+      ∙ (put_gt a x (put_vote b ws) h ∙ (ap (λ l. x ∷ l) (put_two a b l ws)
+      ∙ (sym (put_gt b x (put_vote a ws) p) ∙ ap (λ l. put_vote b l) (sym (put_gt a x ws h))))))
       r)
       (cases_order a.slot x.slot)
     where
@@ -78,8 +86,10 @@ module _ {B : Type 0} where
           ⊎_elim
           (λ (e : b.slot ≡ x.slot). ap (λ l. put_vote a l) (put_eq b x ws e) ∙ (put_lt a b ws l ∙ ap (λ l. a ∷ l) (sym (put_eq b x ws e))))
           (λ r. ⊎_elim
-          (λ (g : b.slot < x.slot). ap (λ l. put_vote a l) (put_lt b x ws g) ∙ (put_lt a b (x ∷ ws) l ∙ ap (λ l. a ∷ l) (sym (put_lt b x ws g))))
-          (λ (g : x.slot < b.slot). ap (λ l. put_vote a l) (put_gt b x ws g) ∙ (put_lt a x (put_vote b ws) h ∙ ap (λ l. a ∷ l) (sym (put_gt b x ws g))))
+          (λ (g : b.slot < x.slot). ap (λ l. put_vote a l) (put_lt b x ws g)
+          ∙ (put_lt a b (x ∷ ws) l ∙ ap (λ l. a ∷ l) (sym (put_lt b x ws g))))
+          (λ (g : x.slot < b.slot). ap (λ l. put_vote a l) (put_gt b x ws g)
+          ∙ (put_lt a x (put_vote b ws) h ∙ ap (λ l. a ∷ l) (sym (put_gt b x ws g))))
           r)
           (cases_order b.slot x.slot)
 
@@ -90,8 +100,10 @@ module _ {B : Type 0} where
       ⊎_elim
       (λ (h : b.slot ≡ x.slot). ap (λ l. put_vote a l) (put_eq b x ws h) ∙ (put_eq a b ws e ∙ sym (put_eq a x ws (e ∙ h))))
       (λ r. ⊎_elim
-      (λ (h : b.slot < x.slot). let p : a.slot < x.slot = omega arith in ap (λ l. put_vote a l) (put_lt b x ws h) ∙ (put_eq a b (x ∷ ws) e ∙ sym (put_lt a x ws p)))
-      (λ (h : x.slot < b.slot). let p : x.slot < a.slot = omega arith in ap (λ l. put_vote a l) (put_gt b x ws h) ∙ (put_gt a x (put_vote b ws) p ∙ (ap (λ l. x ∷ l) (put_same a b e ws) ∙ sym (put_gt a x ws p))))
+      (λ (h : b.slot < x.slot). let p : a.slot < x.slot = omega arith in ap (λ l. put_vote a l) (put_lt b x ws h)
+      ∙ (put_eq a b (x ∷ ws) e ∙ sym (put_lt a x ws p)))
+      (λ (h : x.slot < b.slot). let p : x.slot < a.slot = omega arith in ap (λ l. put_vote a l) (put_gt b x ws h)
+      ∙ (put_gt a x (put_vote b ws) p ∙ (ap (λ l. x ∷ l) (put_same a b e ws) ∙ sym (put_gt a x ws p))))
       r)
       (cases_order b.slot x.slot)
 
@@ -104,122 +116,141 @@ module _ {B : Type 0} where
   all_after a b l [] h = tt
   all_after a b l (c ∷ cs) h = let p : b < c.slot = h.0 in (omega arith, all_after a b l cs h.1)
 
-  pub votes_put : (v : Vote B) (cs ws : List (Vote B)) → IsAscending cs → put_votes (put_vote v cs) ws ≡ put_vote v (put_votes cs ws)
+  pub votes_put : (v : Vote B) (cs ws : List (Vote B)) → Ascends cs → put_votes (put_vote v cs) ws ≡ put_vote v (put_votes cs ws)
   votes_put v [] ws h = refl
   votes_put v (c ∷ cs) ws h =
       ⊎_elim
       (λ (e : v.slot ≡ c.slot).
-      ap (λ l. put_votes l ws) (put_eq v c cs e) ∙ (ap (λ l. put_votes cs l) (sym (put_same v c e ws)) ∙ sym (put_front v cs (put_vote c ws) (subst (λ s. AllAfter s cs) (sym e) h.0))))
+      ap (λ l. put_votes l ws) (put_eq v c cs e)
+      ∙ (ap (λ l. put_votes cs l) (sym (put_same v c e ws))
+      ∙ sym (put_front v cs (put_vote c ws) (subst (λ s. AllAfter s cs) (sym e) h.0))))
       (λ r. ⊎_elim
-      (λ (l : v.slot < c.slot). ap (λ z. put_votes z ws) (put_lt v c cs l) ∙ sym (put_front v (c ∷ cs) ws (l, all_after v.slot c.slot l cs h.0)))
+      (λ (l : v.slot < c.slot). ap (λ z. put_votes z ws) (put_lt v c cs l)
+      ∙ sym (put_front v (c ∷ cs) ws (l, all_after v.slot c.slot l cs h.0)))
       (λ (l : c.slot < v.slot). ap (λ z. put_votes z ws) (put_gt v c cs l) ∙ votes_put v cs (put_vote c ws) h.1)
       r)
       (cases_order v.slot c.slot)
 
 -- the rows so far are those of before with the change so far
-pub record Commits {B : Type 0} (rows : Rows B) (o : Outcome B) : Type 0 where
+pub record Commits {B : Type 0} (rows : Rows B) (o : Turn B) : Type 0 where
   pub is : o.node.rows ≡ adopted rows o.change
-  pub ascends : IsAscending o.change.votes
+  pub ascends : Ascends o.change.votes
 
 module _ {B : Type 0} (same : B → B → Bool) (members n : ℕ) (rows : Rows B) where
-  abbrev C : Outcome B → Type 0
+  abbrev C : Turn B → Type 0
   C o = Commits rows o
 
-  promised : (b : Ballot) (t : Outcome B) → C t → C (promise b t)
+  promised : (b : Ballot) (t : Turn B) → C t → C (promise b t)
   promised b t c = record { is = ap (λ r. with_promise b r) c.is; ascends = c.ascends }
 
-  voted : (v : Vote B) (t : Outcome B) → C t → C (vote v t)
+  voted : (v : Vote B) (t : Turn B) → C t → C (vote v t)
   voted v t c =
       record {
-        is = ap (λ r. with_vote v r) c.is ∙ (λ i. record { boot = rows.boot; promised = Some v.ballot; votes = sym (votes_put v t.change.votes rows.votes c.ascends) i });
+        is =
+            ap (λ r. with_vote v r) c.is
+            ∙ (λ i. record { boot = rows.boot; promised = Some v.ballot; votes = sym (votes_put v t.change.votes rows.votes c.ascends) i });
         ascends = put_ascending v t.change.votes c.ascends;
       }
 
-  casts : (v : Vote B) (t : Outcome B) → C t → C (cast same members n v t)
+  casts : (v : Vote B) (t : Turn B) → C t → C (cast same members n v t)
   casts v t c = let d = voted v t c in record { is = d.is; ascends = d.ascends }
 
-  offers : (b : Ballot) (next : ℕ) (table : List (Vote B)) (e : Entry B) (t : Outcome B) → C t → C (offer members n b next table e t)
+  offers : (b : Ballot) (next : ℕ) (table : List (Vote B)) (e : Entry B) (t : Turn B) → C t → C (offer members n b next table e t)
   offers b next table e t c = record { is = c.is; ascends = c.ascends }
 
-  proposes_as : (r : Role B) (e : Entry B) (t : Outcome B) → C t → C (propose_as same members n r e t)
+  proposes_as : (r : Role B) (e : Entry B) (t : Turn B) → C t → C (propose_as same members n r e t)
   proposes_as Idle e t c = c
   proposes_as (Preparing b first cs) e t c = c
   proposes_as (Leading b next table) e t c =
       cond_both (nat_lt next slot_end) (cast same members n (next_vote b next e) (offer members n b next table e t)) t (λ u. C u)
       (λ l. casts (next_vote b next e) (offer members n b next table e t) (offers b next table e t c)) (λ l. c)
 
-  proposes : (e : Entry B) (t : Outcome B) → C t → C (propose same members n e t)
+  proposes : (e : Entry B) (t : Turn B) → C t → C (propose same members n e t)
   proposes e t c = proposes_as t.node.proposer.role e t c
 
-  proposes_all : (es : List (Entry B)) (t : Outcome B) → C t → C (propose_all same members n es t)
+  proposes_all : (es : List (Entry B)) (t : Turn B) → C t → C (propose_all same members n es t)
   proposes_all [] t c = c
   proposes_all (e ∷ es) t c = proposes_all es (propose same members n e t) (proposes e t c)
 
-  proposes_each : (es : List (Entry B)) (t : Outcome B) → C t → C (propose_each same members n es t)
+  proposes_each : (es : List (Entry B)) (t : Turn B) → C t → C (propose_each same members n es t)
   proposes_each [] t c = c
   proposes_each (e ∷ es) t c =
-      proposes_each es (propose_new same members n e t) (cond_both (stands same (length t.node.applied) t.node.proposer.role e) t (propose same members n e t) (λ u. C u) (λ d. c) (λ d. proposes e t c))
+      proposes_each es (propose_new same members n e t)
+      (cond_both (stands same (length t.node.applied) t.node.proposer.role e) t (propose same members n e t) (λ u. C u) (λ d. c)
+      (λ d. proposes e t c))
 
-  pushes : (t : Outcome B) → C t → C (push same members n t)
+  pushes : (t : Turn B) → C t → C (push same members n t)
   pushes t c =
-      cond_both (is_leading t.node.proposer.role) (propose_each same members n t.node.pending t) (send (forwarded n t.node.rows.promised t.node.pending) t) (λ u. C u)
+      cond_both (is_leading t.node.proposer.role) (propose_each same members n t.node.pending t)
+      (send (forwarded n t.node.rows.promised t.node.pending) t) (λ u. C u)
       (λ d. proposes_each t.node.pending t c) (λ d. record { is = c.is; ascends = c.ascends })
 
-  leads : (b : Ballot) (first : ℕ) (vs : List (Vote B)) (t : Outcome B) → C t → C (lead same members n b first vs t)
-  leads b first vs t c = proposes_all (called_for first vs) (record t { node = with_role (Leading b first []) t.node }) (record { is = c.is; ascends = c.ascends })
+  leads : (b : Ballot) (first : ℕ) (vs : List (Vote B)) (t : Turn B) → C t → C (lead same members n b first vs t)
+  leads b first vs t c =
+      proposes_all (called_for first vs) (record t { node = with_role (Leading b first []) t.node })
+      (record { is = c.is; ascends = c.ascends })
 
-  promises_as : (from : ℕ) (b : Ballot) (votes : List (Vote B)) (r : Role B) (t : Outcome B) → C t → C (on_promise_as same members n from b votes r t)
+  promises_as : (from : ℕ) (b : Ballot) (votes : List (Vote B)) (r : Role B) (t : Turn B) → C t
+      → C (on_promise_as same members n from b votes r t)
   promises_as from b votes Idle t c = c
   promises_as from b votes (Leading d next table) t c = c
   promises_as from b votes (Preparing d first cs) t c =
       cond_both (same_ballot b d && not (is_counted cs from)) (count_promise same members n d first more t) t (λ u. C u)
-      (λ e. cond_both (is_majority members (is_counted more)) (push same members n (lead same members n d first (reports more) t)) (record t { node = with_role (Preparing d first more) t.node }) (λ u. C u)
+      (λ e. cond_both (is_majority members (is_counted more)) (push same members n (lead same members n d first (reports more) t))
+      (record t { node = with_role (Preparing d first more) t.node }) (λ u. C u)
       (λ m. pushes (lead same members n d first (reports more) t) (leads d first (reports more) t c))
       (λ m. record { is = c.is; ascends = c.ascends }))
       (λ e. c)
     where
-      more : List (Counted B)
+      more : List (CountedPromise B)
       more = cs ++ record { node = from; votes = votes } ∷ []
 
-  packets : (from : ℕ) (kind : Kind B) (t : Outcome B) → C t → C (on_packet same members n from kind t)
+  packets : (from : ℕ) (kind : Kind B) (t : Turn B) → C t → C (on_packet same members n from kind t)
   packets from (Prepare b first) t c =
-      cond_both (may_promise t.node.rows.promised b) (send (packet n (Promise b (votes_from first t.node.rows.votes)) from ∷ []) (promise b t)) (refuse n from b t) (λ u. C u)
+      cond_both (may_promise t.node.rows.promised b)
+      (send (packet n (Promise b (votes_from first t.node.rows.votes)) from ∷ []) (promise b t)) (refuse n from b t) (λ u. C u)
       (λ e. let d = promised b t c in record { is = d.is; ascends = d.ascends }) (λ e. record { is = c.is; ascends = c.ascends })
   packets from (Promise b votes) t c = promises_as from b votes t.node.proposer.role t c
   packets from (Accept v) t c =
-      cond_both (may_accept t.node.rows.promised v.ballot) (cast same members n v t) (refuse n from v.ballot t) (λ u. C u) (λ e. casts v t c) (λ e. record { is = c.is; ascends = c.ascends })
+      cond_both (may_accept t.node.rows.promised v.ballot) (cast same members n v t) (refuse n from v.ballot t) (λ u. C u)
+      (λ e. casts v t c) (λ e. record { is = c.is; ascends = c.ascends })
   packets from (Accepted v) t c = record { is = c.is; ascends = c.ascends }
   packets from (Nack b p) t c = record { is = c.is; ascends = c.ascends }
-  packets from (Forward es) t c = cond_both (is_leading t.node.proposer.role) (propose_each same members n es t) t (λ u. C u) (λ d. proposes_each es t c) (λ d. c)
+  packets from (Forward es) t c =
+      cond_both (is_leading t.node.proposer.role) (propose_each same members n es t) t (λ u. C u) (λ d. proposes_each es t c) (λ d. c)
   packets from (Ask first) t c = record { is = c.is; ascends = c.ascends }
   packets from (Learned s e) t c = record { is = c.is; ascends = c.ascends }
 
-  starting : (t : Outcome B) → C t → C (on_start members n t)
+  starting : (t : Turn B) → C t → C (on_start members n t)
   starting t c =
-      cond_both (starts n t.node) (begin members n (new_ballot n t.node.rows.promised t.node.proposer) (suc (length t.node.applied)) t) t (λ u. C u)
+      cond_both (starts n t.node) (begin members n (new_ballot n t.node.rows.promised t.node.proposer) (suc (length t.node.applied)) t) t
+      (λ u. C u)
       (λ e. record { is = ap (λ r. with_promise (new_ballot n t.node.rows.promised t.node.proposer) r) c.is; ascends = c.ascends }) (λ e. c)
 
-  ticking : (t : Outcome B) → C t → C (on_tick same members n t)
-  ticking t c = let d = pushes (send (again members n t.node.proposer.role t.node.learner.learned) t) (record { is = c.is; ascends = c.ascends }) in record { is = d.is; ascends = d.ascends }
+  ticking : (t : Turn B) → C t → C (on_tick same members n t)
+  ticking t c =
+      let d = pushes (send (again members n t.node.proposer.role t.node.learner.learned) t) (record { is = c.is; ascends = c.ascends }) in
+      record { is = d.is; ascends = d.ascends }
 
-  taking : (transport : ℕ) (body : B) (t : Outcome B) → C t → C (on_take same members n transport body t)
+  taking : (transport : ℕ) (body : B) (t : Turn B) → C t → C (on_take same members n transport body t)
   taking transport body t c =
       cond_both (takes t.node) (push same members n (record t { node = with_item n transport body t.node })) t (λ u. C u)
       (λ d. pushes (record t { node = with_item n transport body t.node }) (record { is = c.is; ascends = c.ascends })) (λ d. c)
 
-  suspecting : (lost : Option (Entry B)) (t : Outcome B) → C t → C (suspected same members n lost t)
+  suspecting : (lost : Option (Entry B)) (t : Turn B) → C t → C (suspected same members n lost t)
   suspecting None t c = c
   suspecting (Some lost) t c =
       cond_both (has_room t.node) (push same members n (record t { node = with_pending (t.node.pending ++ lost ∷ []) t.node })) t (λ u. C u)
-      (λ d. pushes (record t { node = with_pending (t.node.pending ++ lost ∷ []) t.node }) (record { is = c.is; ascends = c.ascends })) (λ d. c)
+      (λ d. pushes (record t { node = with_pending (t.node.pending ++ lost ∷ []) t.node }) (record { is = c.is; ascends = c.ascends }))
+      (λ d. c)
 
-  applying : (es : List (Entry B)) (t : Outcome B) → C t → C (apply_all n es t)
+  applying : (es : List (Entry B)) (t : Turn B) → C t → C (apply_all n es t)
   applying [] t c = c
   applying (e ∷ es) t c =
       cond_both (ends n t.node e) (go_down (note e t)) (apply_all n es (note e t)) (λ u. C u)
       (λ d. record { is = c.is; ascends = c.ascends }) (λ d. applying es (note e t) (record { is = c.is; ascends = c.ascends }))
 
-  settling : (t : Outcome B) → C t → C (settle n t)
+  settling : (t : Turn B) → C t → C (settle n t)
   settling t c = applying (run_from (suc (length t.node.applied)) t.node.learner.learned) t c
 
 pub commits_its_change : {B : Type 0} → CommitsItsChange B
@@ -236,6 +267,9 @@ commits_its_change {B} same members e x up p = (of e p).is
     of (Tick n) h = settling same members n x.rows _ (ticking same members n x.rows (begun x) start)
     of (Start n) h = settling same members n x.rows _ (starting same members n x.rows (begun x) start)
     of (Suspect n other) h = settling same members n x.rows _ (suspecting same members n x.rows (new_lost same n other x) (begun x) start)
-    of (Deliver q) h = settling same members q.addressee x.rows _ (packets same members q.addressee x.rows q.sender q.kind (record (begun x) { node = saw q.kind x }) (record { is = refl; ascends = tt }))
+    of (Deliver q) h =
+        settling same members q.addressee x.rows _
+        (packets same members q.addressee x.rows q.sender q.kind (record (begun x) { node = saw q.kind x })
+        (record { is = refl; ascends = tt }))
     of (Crash n) h = record { is = refl; ascends = tt }
     of (Restart n) h = absurd (off (sym (ap not up) ∙ (and_parts (not x.up) (nat_lt x.rows.boot last_number) h).0))

@@ -4,11 +4,11 @@ use Rattle.std.specs.Prelude.{ℕ, suc, Bool, true, false, ◌&&◌, ◌==◌, N
 use Rattle.paxos_packets.specs.declared.entry.Entry.{Entry}
 use Rattle.paxos_packets.specs.declared.entry.Entry.TheVariants.{Noop, Boot, Lost, Item}
 use Rattle.paxos_packets.specs.declared.rows.Rows.{Rows}
-use Rattle.paxos_proposer.specs.Proposing.{round_of, resting}
-use Rattle.paxos_learner.specs.Learning.{unheard, run_from}
-use Rattle.replica_machine.specs.Standings.{takes_effect, is_wanted}
+use Rattle.paxos_proposer.specs.Proposer.{round_of, resting}
+use Rattle.paxos_learner.specs.Learner.{unheard, run_from}
+use Rattle.replica_machine.specs.Roll.{takes_effect, is_wanted}
 use Rattle.paxos_node.specs.declared.state.NodeState.{NodeState}
-use Rattle.paxos_node.specs.declared.outcome.Outcome.{Outcome}
+use Rattle.paxos_node.specs.declared.turn.Turn.{Turn}
 
 -- a node that has only its rows
 abbrev pub down : {B : Type 0} → Rows B → NodeState B
@@ -35,7 +35,7 @@ abbrev pub raised : {B : Type 0} → Rows B → Rows B
 raised rows = record { boot = suc rows.boot; promised = rows.promised; votes = rows.votes }
 
 -- the entry is the next one of the log, and what it settles is no longer pending
-abbrev pub note : {B : Type 0} → Entry B → Outcome B → Outcome B
+abbrev pub note : {B : Type 0} → Entry B → Turn B → Turn B
 note e o =
     record o {
       node = record o.node { applied = o.node.applied ++ e ∷ []; pending = filter (is_wanted (o.node.applied ++ e ∷ [])) o.node.pending };
@@ -52,14 +52,14 @@ is_own_lost me boot (Item n b q t x) = false
 abbrev pub ends : {B : Type 0} → ℕ → NodeState B → Entry B → Bool
 ends me x e = is_own_lost me x.rows.boot e && takes_effect x.applied e
 
-abbrev pub go_down : {B : Type 0} → Outcome B → Outcome B
+abbrev pub go_down : {B : Type 0} → Turn B → Turn B
 go_down o = record o { node = down o.node.rows }
 
 -- entries are applied one by one; a Lost of its present boot leaves the node down
-abbrev pub apply_all : {B : Type 0} → ℕ → List (Entry B) → Outcome B → Outcome B
+abbrev pub apply_all : {B : Type 0} → ℕ → List (Entry B) → Turn B → Turn B
 apply_all me [] o = o
 apply_all me (e ∷ es) o = if ends me o.node e then go_down (note e o) else apply_all me es (note e o)
 
 -- the learned entries of the next slots are applied
-abbrev pub settle : {B : Type 0} → ℕ → Outcome B → Outcome B
+abbrev pub settle : {B : Type 0} → ℕ → Turn B → Turn B
 settle me o = apply_all me (run_from (suc (length o.node.applied)) o.node.learner.learned) o

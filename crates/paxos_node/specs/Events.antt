@@ -1,28 +1,30 @@
 -- One node in one event: a function of the event and the node alone (docs/CONSENSUS.md, "Events").
-use Rattle.std.specs.Prelude.{ℕ, suc, Bool, true, false, not, ◌&&◌, ◌||◌, nat_lt, ◌==◌, Option, Some, None, List, [], ◌∷◌, ◌++◌, map, filter, length, if◌then◌else◌}
-use Rattle.paxos_packets.specs.Majority.{others}
-use Rattle.paxos_packets.specs.Same.{same_entry}
-use Rattle.paxos_packets.specs.Sending.{packet, to_others}
-use Rattle.paxos_packets.specs.Slots.{votes_from}
+use Rattle.std.specs.Prelude.{ℕ, suc, Bool, false, not, ◌&&◌, nat_lt, ◌==◌, Option, Some, None, is_some, List, [], ◌∷◌, ◌++◌, map}
+use Rattle.std.specs.Prelude.{filter, length, if◌then◌else◌}
+use Rattle.std.specs.List.{list_any, flat_map}
+use Rattle.paxos_packets.specs.Members.{others}
+use Rattle.paxos_packets.specs.Entry.{same_entry}
+use Rattle.paxos_packets.specs.Packet.{packet, to_others}
+use Rattle.paxos_packets.specs.Vote.{votes_from}
 use Rattle.paxos_packets.specs.declared.ballot.Ballot.{Ballot}
 use Rattle.paxos_packets.specs.declared.entry.Entry.{Entry}
 use Rattle.paxos_packets.specs.declared.entry.Entry.TheVariants.{Boot, Lost, Item}
 use Rattle.paxos_packets.specs.declared.vote.Vote.{Vote}
 use Rattle.paxos_packets.specs.declared.packet.Kind.TheVariants.{Prepare, Accept, Ask}
 use Rattle.paxos_packets.specs.declared.packet.Packet.{Packet}
-use Rattle.paxos_acceptor.specs.Rules.{with_promise}
+use Rattle.paxos_acceptor.specs.Acceptor.{with_promise}
 use Rattle.paxos_proposer.specs.declared.role.Role.{Role}
 use Rattle.paxos_proposer.specs.declared.role.Role.TheVariants.{Idle, Preparing, Leading}
-use Rattle.paxos_proposer.specs.Proposing.{new_ballot, rounds_spent, asking}
+use Rattle.paxos_proposer.specs.Proposer.{new_ballot, rounds_spent, asking}
 use Rattle.paxos_proposer.specs.Reports.{is_counted}
-use Rattle.paxos_learner.specs.declared.facts.Fact.{Fact}
-use Rattle.paxos_learner.specs.Learning.{is_learned}
-use Rattle.replica_machine.specs.Standings.{standing, live_in}
+use Rattle.paxos_learner.specs.declared.learned.LearnedEntry.{LearnedEntry}
+use Rattle.paxos_learner.specs.Learner.{is_learned}
+use Rattle.replica_machine.specs.Roll.{standing, live_in}
 use Rattle.paxos_node.specs.declared.event.Event.{Event}
 use Rattle.paxos_node.specs.declared.event.Event.TheVariants.{Take, Tick, Start, Suspect, Deliver, Crash, Restart}
 use Rattle.paxos_node.specs.declared.state.NodeState.{NodeState}
-use Rattle.paxos_node.specs.declared.outcome.Outcome.{Outcome}
-use Rattle.paxos_node.specs.Turns.{with_pending, begun, send, and_promise}
+use Rattle.paxos_node.specs.declared.turn.Turn.{Turn}
+use Rattle.paxos_node.specs.Turn.{with_pending, begun, send, and_promise}
 use Rattle.paxos_node.specs.Proposals.{push}
 use Rattle.paxos_node.specs.Replies.{saw, on_packet}
 use Rattle.paxos_node.specs.Applying.{started, raised, go_down, settle}
@@ -48,7 +50,7 @@ new_item me transport body x = Item me x.rows.boot (suc x.taken) transport body
 abbrev pub with_item : {B : Type 0} → ℕ → ℕ → B → NodeState B → NodeState B
 with_item me transport body x = record x { pending = x.pending ++ new_item me transport body x ∷ []; taken = suc x.taken }
 
-abbrev pub on_take : {B : Type 0} → (B → B → Bool) → ℕ → ℕ → ℕ → B → Outcome B → Outcome B
+abbrev pub on_take : {B : Type 0} → (B → B → Bool) → ℕ → ℕ → ℕ → B → Turn B → Turn B
 on_take same members me transport body o =
     if takes o.node then push same members me (record o { node = with_item me transport body o.node })
     else o
@@ -56,25 +58,26 @@ on_take same members me transport body o =
 -- Tick: what waits for an answer is sent again
 
 -- the votes proposed in slots that aren't learned, slot by slot
-abbrev pub accepts_again : {B : Type 0} → ℕ → ℕ → List (Fact B) → List (Vote B) → List (Packet B)
-accepts_again members me learned [] = []
-accepts_again members me learned (v ∷ vs) = (if is_learned v.slot learned then [] else to_others members me (Accept v)) ++ accepts_again members me learned vs
+abbrev pub accepts_again : {B : Type 0} → ℕ → ℕ → List (LearnedEntry B) → List (Vote B) → List (Packet B)
+accepts_again members me learned votes =
+    flat_map (λ v. if is_learned v.slot learned then [] else to_others members me (Accept v)) votes
 
-abbrev pub again : {B : Type 0} → ℕ → ℕ → Role B → List (Fact B) → List (Packet B)
+abbrev pub again : {B : Type 0} → ℕ → ℕ → Role B → List (LearnedEntry B) → List (Packet B)
 again members me Idle learned = []
-again members me (Preparing b first promises) learned = map (packet me (Prepare b first)) (filter (λ k. not (is_counted promises k)) (others me members))
+again members me (Preparing b first promises) learned =
+    map (packet me (Prepare b first)) (filter (λ k. not (is_counted promises k)) (others me members))
 again members me (Leading b next proposed) learned = accepts_again members me learned proposed
 
 -- it asks the others for the slots that it lacks
-abbrev pub ask : {B : Type 0} → ℕ → ℕ → Outcome B → Outcome B
+abbrev pub ask : {B : Type 0} → ℕ → ℕ → Turn B → Turn B
 ask members me o = send (to_others members me (Ask (suc (length o.node.applied)))) o
 
-abbrev pub on_tick : {B : Type 0} → (B → B → Bool) → ℕ → ℕ → Outcome B → Outcome B
+abbrev pub on_tick : {B : Type 0} → (B → B → Bool) → ℕ → ℕ → Turn B → Turn B
 on_tick same members me o = ask members me (push same members me (send (again members me o.node.proposer.role o.node.learner.learned) o))
 
 -- Start: a ballot above all that it saw
 
-abbrev pub begin : {B : Type 0} → ℕ → ℕ → Ballot → ℕ → Outcome B → Outcome B
+abbrev pub begin : {B : Type 0} → ℕ → ℕ → Ballot → ℕ → Turn B → Turn B
 begin members me b first o =
     record o {
       node = record o.node {
@@ -88,7 +91,7 @@ begin members me b first o =
 abbrev pub starts : {B : Type 0} → ℕ → NodeState B → Bool
 starts me x = not (rounds_spent me x.rows.promised x.proposer)
 
-abbrev pub on_start : {B : Type 0} → ℕ → ℕ → Outcome B → Outcome B
+abbrev pub on_start : {B : Type 0} → ℕ → ℕ → Turn B → Turn B
 on_start members me o =
     if starts me o.node then begin members me (new_ballot me o.node.rows.promised o.node.proposer) (suc (length o.node.applied)) o
     else o
@@ -96,8 +99,7 @@ on_start members me o =
 -- Suspect: another's Lost is pending
 
 abbrev pub is_pending : {B : Type 0} → (B → B → Bool) → List (Entry B) → Entry B → Bool
-is_pending same [] e = false
-is_pending same (p ∷ ps) e = same_entry same p e || is_pending same ps e
+is_pending same pending e = list_any (λ p. same_entry same p e) pending
 
 -- the Lost of the other's live boot, unless it is pending already
 abbrev pub new_lost_of : {B : Type 0} → (B → B → Bool) → ℕ → Option ℕ → List (Entry B) → Option (Entry B)
@@ -107,13 +109,13 @@ new_lost_of same other (Some b) pending = if is_pending same pending (Lost other
 abbrev pub new_lost : {B : Type 0} → (B → B → Bool) → ℕ → ℕ → NodeState B → Option (Entry B)
 new_lost same me other x = if other == me then None else new_lost_of same other (live_in (standing other x.applied)) x.pending
 
-abbrev pub suspected : {B : Type 0} → (B → B → Bool) → ℕ → ℕ → Option (Entry B) → Outcome B → Outcome B
+abbrev pub suspected : {B : Type 0} → (B → B → Bool) → ℕ → ℕ → Option (Entry B) → Turn B → Turn B
 suspected same members me None o = o
 suspected same members me (Some lost) o =
     if has_room o.node then push same members me (record o { node = with_pending (o.node.pending ++ lost ∷ []) o.node })
     else o
 
-abbrev pub on_suspect : {B : Type 0} → (B → B → Bool) → ℕ → ℕ → ℕ → Outcome B → Outcome B
+abbrev pub on_suspect : {B : Type 0} → (B → B → Bool) → ℕ → ℕ → ℕ → Turn B → Turn B
 on_suspect same members me other o = suspected same members me (new_lost same me other o.node) o
 
 -- whose event it is
@@ -137,7 +139,7 @@ possible (Crash n) x = x.up
 possible (Restart n) x = not x.up && nat_lt x.rows.boot last_number
 
 -- the node's part of an event, before what was learned is applied
-abbrev pub on_event : {B : Type 0} → (B → B → Bool) → ℕ → Event B → Outcome B → Outcome B
+abbrev pub on_event : {B : Type 0} → (B → B → Bool) → ℕ → Event B → Turn B → Turn B
 on_event same members (Take n t body) o = on_take same members n t body o
 on_event same members (Tick n) o = on_tick same members n o
 on_event same members (Start n) o = on_start members n o
@@ -147,22 +149,27 @@ on_event same members (Crash n) o = go_down o
 on_event same members (Restart n) o = record o { node = started n (raised o.node.rows) }
 
 -- what an event makes of the node
-abbrev pub outcome_of : {B : Type 0} → (B → B → Bool) → ℕ → Event B → NodeState B → Outcome B
+abbrev pub outcome_of : {B : Type 0} → (B → B → Bool) → ℕ → Event B → NodeState B → Turn B
 outcome_of same members e x = settle (owner e) (on_event same members e (begun x))
 
 -- the refusals that an event may name: there is no round left; there is no room for the act or the suspicion
 abbrev pub is_round_refused : {B : Type 0} → Event B → NodeState B → Bool
 is_round_refused (Start n) x = not (starts n x)
-is_round_refused _ x = false
-
-abbrev pub is_some_entry : {B : Type 0} → Option (Entry B) → Bool
-is_some_entry None = false
-is_some_entry (Some e) = true
+is_round_refused (Take n t body) x = false
+is_round_refused (Tick n) x = false
+is_round_refused (Suspect n other) x = false
+is_round_refused (Deliver p) x = false
+is_round_refused (Crash n) x = false
+is_round_refused (Restart n) x = false
 
 abbrev pub is_full_refused : {B : Type 0} → (B → B → Bool) → Event B → NodeState B → Bool
 is_full_refused same (Take n t body) x = not (takes x)
-is_full_refused same (Suspect n other) x = is_some_entry (new_lost same n other x) && not (has_room x)
-is_full_refused same _ x = false
+is_full_refused same (Suspect n other) x = is_some (new_lost same n other x) && not (has_room x)
+is_full_refused same (Tick n) x = false
+is_full_refused same (Start n) x = false
+is_full_refused same (Deliver p) x = false
+is_full_refused same (Crash n) x = false
+is_full_refused same (Restart n) x = false
 
 -- the acts, boots and suspicions that an event brings into the world
 abbrev pub taken_by : {B : Type 0} → ℕ → ℕ → B → NodeState B → List (Entry B)

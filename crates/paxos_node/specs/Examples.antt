@@ -1,6 +1,6 @@
 -- Nodes by hand, of three members, for a body that is a number.
 use Rattle.std.specs.Prelude.{ℕ, Bool, ◌==◌, Option, Some, List, [], replicate}
-use Rattle.paxos_packets.specs.Sending.{packet}
+use Rattle.paxos_packets.specs.Packet.{packet}
 use Rattle.paxos_packets.specs.declared.ballot.Ballot.{Ballot}
 use Rattle.paxos_packets.specs.declared.entry.Entry.TheVariants.{Noop, Boot}
 use Rattle.paxos_packets.specs.declared.packet.Kind.TheVariants.{Promise}
@@ -10,15 +10,15 @@ use Rattle.paxos_proposer.specs.declared.role.Role.TheVariants.{Leading}
 use Rattle.paxos_node.specs.declared.event.Event.{Event}
 use Rattle.paxos_node.specs.declared.event.Event.TheVariants.{Take, Start, Deliver}
 use Rattle.paxos_node.specs.declared.state.NodeState.{NodeState}
-use Rattle.paxos_node.specs.declared.outcome.Outcome.{Outcome}
-use Rattle.paxos_node.specs.Turns.{with_role, with_pending}
+use Rattle.paxos_node.specs.declared.turn.Turn.{Turn}
+use Rattle.paxos_node.specs.Turn.{with_role, with_pending}
 use Rattle.paxos_node.specs.Applying.{started, first_rows}
 use Rattle.paxos_node.specs.Events.{outcome_of, is_full_refused}
 
 abbrev pub same_number : ℕ → ℕ → Bool
 same_number m n = m == n
 
-abbrev pub after : Event ℕ → NodeState ℕ → Outcome ℕ
+abbrev pub after : Event ℕ → NodeState ℕ → Turn ℕ
 after e x = outcome_of same_number 3 e x
 
 abbrev pub ballot : ℕ → ℕ → Ballot
@@ -34,10 +34,10 @@ change promised votes = record { promised = promised; votes = votes }
 abbrev pub first_node : NodeState ℕ
 first_node = started 1 first_rows
 
-abbrev pub asked : Outcome ℕ
+abbrev pub asked : Turn ℕ
 asked = after (Start 1) first_node
 
-abbrev pub led : Outcome ℕ
+abbrev pub led : Turn ℕ
 led = after (Deliver (packet 2 (Promise (ballot 1 1) []) 1)) asked.node
 
 -- node 1 with this promise

@@ -1,7 +1,7 @@
-pub mod Turns
+pub mod Turn
 pub mod Proposals
 pub mod Replies
 pub mod Applying
 pub mod Events
 pub mod Examples
-pub mod Statements
+pub mod Laws

@@ -1,12 +1,13 @@
 //! Laws over the definitions in `specs/`, each the contract of a function that does nothing.
 ghost use Rattle.std.specs.Prelude.{◌≡◌, true, false, Some, [], ◌∷◌, ◌++◌};
-ghost use Rattle.paxos_packets.specs.Sending.{to_others};
+ghost use Rattle.paxos_packets.specs.Packet.{to_others};
 ghost use Rattle.paxos_packets.specs.declared.entry.Entry.TheVariants.{Item};
 ghost use Rattle.paxos_node.specs.declared.event.Event.TheVariants.{Take, Tick, Start};
 ghost use Rattle.paxos_packets.specs.declared.packet.Kind.TheVariants.{Prepare, Accept, Accepted, Ask};
 ghost use Rattle.paxos_node.specs.Events.{is_round_refused};
-ghost use Rattle.paxos_node.specs.Statements.{CommitsItsChange};
-ghost use Rattle.paxos_node.specs.Examples.{after, ballot, boot_vote, change, first_node, asked, led, promised_to, waiting, takes_refused, leading_at};
+ghost use Rattle.paxos_node.specs.Laws.{CommitsItsChange};
+ghost use Rattle.paxos_node.specs.Examples.{after, ballot, boot_vote, change, first_node, asked, led, promised_to};
+ghost use Rattle.paxos_node.specs.Examples.{waiting, takes_refused, leading_at};
 
 /// Nodes by hand, computed.
 pub fn examples()
@@ -33,7 +34,8 @@ pub fn examples()
     ensures rounds_node { (after (Start 1) (promised_to 281474976710655 2)).node ≡ promised_to 281474976710655 2 }
 
     // the last slot is 2^40 - 1; behind it an act stays pending
-    ensures last_slot { (after (Take 1 1 5) (leading_at 1099511627775)).change ≡ change (Some (ballot 1 1)) (record { slot = 1099511627775; ballot = ballot 1 1; entry = Item 1 1 1 1 5 } ∷ []) }
+    ensures last_slot { (after (Take 1 1 5) (leading_at 1099511627775)).change
+        ≡ change (Some (ballot 1 1)) (record { slot = 1099511627775; ballot = ballot 1 1; entry = Item 1 1 1 1 5 } ∷ []) }
     ensures slots_spent { (after (Take 1 1 5) (leading_at 1099511627776)).packets ≡ [] }
     ensures stays_pending { (after (Take 1 1 5) (leading_at 1099511627776)).node.pending ≡ Item 1 1 1 1 5 ∷ [] }
 {}

@@ -4,9 +4,11 @@
 
 mod event;
 pub mod laws;
-mod outcome;
+mod packets;
 mod state;
+mod turn;
 
 pub use event::Event;
-pub use outcome::{Outcome, Packets};
+pub use packets::Packets;
 pub use state::NodeState;
+pub use turn::Turn;

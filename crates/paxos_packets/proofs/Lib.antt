@@ -1,4 +1,5 @@
 pub mod Order
 pub mod Meeting
+pub mod Ascending
 pub mod Placing
 pub mod Behind

@@ -1,13 +1,14 @@
 -- The order of ballots.
 use Rattle.std.proofs.Common.{◌≡◌, ◌⊎◌, inl, inr, ⊎_elim, ℕ, true, false, ◌&&◌, ◌||◌, ltb, eqb, arith}
 use Rattle.std.proofs.lemmas.Bool.Decides.{nat_tests}
-use Rattle.paxos_packets.specs.Ballots.{below}
+use Rattle.paxos_packets.specs.Ballot.{below}
 use Rattle.paxos_packets.specs.declared.ballot.Ballot.{Ballot}
 
 none : (m i : ℕ) → (ltb m m || (eqb m m && ltb i i)) ≡ false
 none m i = grind (arith, nat_tests)
 
-along : (m n o i j k : ℕ) → (ltb m n || (eqb m n && ltb i j)) ≡ true → (ltb n o || (eqb n o && ltb j k)) ≡ true → (ltb m o || (eqb m o && ltb i k)) ≡ true
+along : (m n o i j k : ℕ) → (ltb m n || (eqb m n && ltb i j)) ≡ true → (ltb n o || (eqb n o && ltb j k)) ≡ true
+    → (ltb m o || (eqb m o && ltb i k)) ≡ true
 along m n o i j k e f = grind (arith, nat_tests)
 
 either : (m n i j : ℕ) → ((ltb m n || (eqb m n && ltb i j)) ≡ true) ⊎ (((m ≡ n) × (i ≡ j)) ⊎ ((ltb n m || (eqb n m && ltb j i)) ≡ true))

@@ -1,9 +1,11 @@
 -- Where a vote stands among votes whose slots ascend.
-use Rattle.std.proofs.Common.{◌≡◌, ℕ, zero, suc, ◌<◌, ◌≤◌, Bool, true, false, cond, Option, Some, None, is_some, List, [], ◌∷◌, ◌++◌, length, get_or, set, take, drop, ltb, leb, eqb, refl, ap, sym, ◌∙◌, subst, lt-ltb, eq-eqb, arith}
+use Rattle.std.proofs.Common.{◌≡◌, ℕ, zero, suc, ◌<◌, ◌≤◌, Bool, true, false, cond, Option, Some, None, is_some, List, [], ◌∷◌, ◌++◌}
+use Rattle.std.proofs.Common.{length, get_or, set, take, drop, ltb, leb, eqb, refl, ap, sym, ◌∙◌, subst, lt-ltb, eq-eqb, arith}
 use Rattle.std.proofs.lemmas.Bool.{ltb-true, eqb-true}
 use Rattle.std.proofs.lemmas.Bool.Decides.{nat_tests}
 use Rattle.std.specs.List.Sorted.{IsPartitionedBy, IsPartitionPoint}
-use Rattle.paxos_packets.specs.Slots.{AllAfter, IsAscending, place, vote_in, put_vote, put_votes, votes_from}
+use Rattle.paxos_packets.proofs.Ascending.{AllAfter, Ascends}
+use Rattle.paxos_packets.specs.Vote.{place, vote_in, put_vote, put_votes, votes_from}
 use Rattle.paxos_packets.specs.declared.vote.Vote.{Vote}
 
 not_lt : (a b : ℕ) → b ≤ a → ltb a b ≡ false
@@ -59,7 +61,8 @@ place_le slot (v ∷ vs) = go (ltb v.slot slot) (place slot vs) (length vs) (pla
     go true m n h = omega arith
     go false m n h = omega arith
 
-pub place_above : {B : Type 0} (slot k : ℕ) (vs : List (Vote B)) (d : Vote B) → IsAscending vs → k < length vs → (get_or vs k d).slot < slot → k < place slot vs
+pub place_above : {B : Type 0} (slot k : ℕ) (vs : List (Vote B)) (d : Vote B) → Ascends vs → k < length vs → (get_or vs k d).slot < slot
+    → k < place slot vs
 place_above slot k [] d h l g = absurd (omega arith)
 place_above slot zero (v ∷ vs) d h l g = rw (lt-ltb v.slot slot g) (omega arith)
 place_above slot (suc k) (v ∷ vs) d h l g =
@@ -69,7 +72,8 @@ place_above slot (suc k) (v ∷ vs) d h l g =
     let i : k < place slot vs = place_above slot k vs d h.1 m g in
     rw e (omega arith)
 
-pub place_below : {B : Type 0} (slot k : ℕ) (vs : List (Vote B)) (d : Vote B) → k < length vs → slot ≤ (get_or vs k d).slot → place slot vs ≤ k
+pub place_below : {B : Type 0} (slot k : ℕ) (vs : List (Vote B)) (d : Vote B) → k < length vs → slot ≤ (get_or vs k d).slot
+    → place slot vs ≤ k
 place_below slot k [] d l g = absurd (omega arith)
 place_below slot zero (v ∷ vs) d l g = rw (not_lt v.slot slot g) (omega arith)
 place_below slot (suc k) (v ∷ vs) d l g = go (ltb v.slot slot) (place slot vs) (place_below slot k vs d (omega arith) g)
@@ -79,8 +83,10 @@ place_below slot (suc k) (v ∷ vs) d l g = go (ltb v.slot slot) (place slot vs)
     go false m h = omega arith
 
 -- what stands in front of the place is lower
-pub place_reaches : {B : Type 0} (slot k : ℕ) (vs : List (Vote B)) (d : Vote B) → k < length vs → k < place slot vs → (get_or vs k d).slot < slot
-place_reaches slot k vs d l g = from_not (get_or vs k d).slot slot (λ h. let m : place slot vs ≤ k = place_below slot k vs d l h in absurd (omega arith))
+pub place_reaches : {B : Type 0} (slot k : ℕ) (vs : List (Vote B)) (d : Vote B) → k < length vs → k < place slot vs
+    → (get_or vs k d).slot < slot
+place_reaches slot k vs d l g =
+    from_not (get_or vs k d).slot slot (λ h. let m : place slot vs ≤ k = place_below slot k vs d l h in absurd (omega arith))
   where
     from_not : (a b : ℕ) → (b ≤ a → ⊥) → a < b
     from_not a b h = grind arith
@@ -97,7 +103,8 @@ found_at slot v vs d true e more l g =
     rw n (more (omega arith) g)
 found_at slot v vs d false e more l g = rw (eq-eqb v.slot slot g) refl
 
-pub found : {B : Type 0} (slot : ℕ) (vs : List (Vote B)) (d : Vote B) → place slot vs < length vs → (get_or vs (place slot vs) d).slot ≡ slot → vote_in slot vs ≡ Some (get_or vs (place slot vs) d)
+pub found : {B : Type 0} (slot : ℕ) (vs : List (Vote B)) (d : Vote B) → place slot vs < length vs
+    → (get_or vs (place slot vs) d).slot ≡ slot → vote_in slot vs ≡ Some (get_or vs (place slot vs) d)
 found slot [] d l g = absurd (omega arith)
 found slot (v ∷ vs) d l g = found_at slot v vs d (ltb v.slot slot) refl (found slot vs d) l g
 
@@ -114,7 +121,8 @@ absent_at slot v vs d false e h more g =
     let n : eqb v.slot slot ≡ false = not_eq v.slot slot (g (omega arith)) in
     rw n (none_after v.slot slot vs a h)
 
-pub absent : {B : Type 0} (slot : ℕ) (vs : List (Vote B)) (d : Vote B) → IsAscending vs → (place slot vs < length vs → (get_or vs (place slot vs) d).slot ≡ slot → ⊥) → vote_in slot vs ≡ None
+pub absent : {B : Type 0} (slot : ℕ) (vs : List (Vote B)) (d : Vote B) → Ascends vs
+    → (place slot vs < length vs → (get_or vs (place slot vs) d).slot ≡ slot → ⊥) → vote_in slot vs ≡ None
 absent slot [] d h g = refl
 absent slot (v ∷ vs) d h g = absent_at slot v vs d (ltb v.slot slot) refl h.0 (absent slot vs d h.1) g
 
@@ -131,12 +139,14 @@ replaced_at v w ws d true e more l g =
     rw (n, m) (ap (λ us. w ∷ us) (more (omega arith) g))
 replaced_at v w ws d false e more l g = rw (eq-eqb v.slot w.slot (sym g)) refl
 
-pub replaced : {B : Type 0} (v : Vote B) (vs : List (Vote B)) (d : Vote B) → place v.slot vs < length vs → (get_or vs (place v.slot vs) d).slot ≡ v.slot → set vs (place v.slot vs) v ≡ put_vote v vs
+pub replaced : {B : Type 0} (v : Vote B) (vs : List (Vote B)) (d : Vote B) → place v.slot vs < length vs
+    → (get_or vs (place v.slot vs) d).slot ≡ v.slot → set vs (place v.slot vs) v ≡ put_vote v vs
 replaced v [] d l g = absurd (omega arith)
 replaced v (w ∷ ws) d l g = replaced_at v w ws d (ltb w.slot v.slot) refl (replaced v ws d) l g
 
 inserted_at : {B : Type 0} (v w : Vote B) (ws : List (Vote B)) (d : Vote B) (b : Bool) → ltb w.slot v.slot ≡ b
-    → ((place v.slot ws < length ws → (get_or ws (place v.slot ws) d).slot ≡ v.slot → ⊥) → take (place v.slot ws) ws ++ v ∷ drop (place v.slot ws) ws ≡ put_vote v ws)
+    → ((place v.slot ws < length ws → (get_or ws (place v.slot ws) d).slot ≡ v.slot → ⊥) → take (place v.slot ws) ws
+    ++ v ∷ drop (place v.slot ws) ws ≡ put_vote v ws)
     → (cond b (suc (place v.slot ws)) 0 < suc (length ws) → (get_or (w ∷ ws) (cond b (suc (place v.slot ws)) 0) d).slot ≡ v.slot → ⊥)
     → take (cond b (suc (place v.slot ws)) 0) (w ∷ ws) ++ v ∷ drop (cond b (suc (place v.slot ws)) 0) (w ∷ ws) ≡ put_vote v (w ∷ ws)
 inserted_at v w ws d true e more g =
@@ -151,47 +161,57 @@ inserted_at v w ws d false e more g =
     let m : ltb v.slot w.slot ≡ true = lt-ltb v.slot w.slot (grind arith) in
     rw (n, m) refl
 
-pub inserted : {B : Type 0} (v : Vote B) (vs : List (Vote B)) (d : Vote B) → (place v.slot vs < length vs → (get_or vs (place v.slot vs) d).slot ≡ v.slot → ⊥) → take (place v.slot vs) vs ++ v ∷ drop (place v.slot vs) vs ≡ put_vote v vs
+pub inserted : {B : Type 0} (v : Vote B) (vs : List (Vote B)) (d : Vote B)
+    → (place v.slot vs < length vs → (get_or vs (place v.slot vs) d).slot ≡ v.slot → ⊥)
+    → take (place v.slot vs) vs ++ v ∷ drop (place v.slot vs) vs ≡ put_vote v vs
 inserted v [] d g = refl
 inserted v (w ∷ ws) d g = inserted_at v w ws d (ltb w.slot v.slot) refl (inserted v ws d) g
 
 -- whether the slot has a vote, from a look at its place
 
-pub seen : {B : Type 0} (slot i : ℕ) (v : Vote B) (vs : List (Vote B)) → i ≡ place slot vs → i < length vs → v ≡ get_or vs i v → v.slot ≡ slot → is_some (vote_in slot vs) ≡ true
+pub seen : {B : Type 0} (slot i : ℕ) (v : Vote B) (vs : List (Vote B)) → i ≡ place slot vs → i < length vs → v ≡ get_or vs i v
+    → v.slot ≡ slot → is_some (vote_in slot vs) ≡ true
 seen {B = B} slot i v vs e l r g =
     let m : place slot vs < length vs = omega arith in
     let a : get_or vs (place slot vs) v ≡ v = sym (subst (λ (k : ℕ). v ≡ get_or vs k v) e r) in
     ap is_some (found slot vs v m (ap (λ (w : Vote B). w.slot) a ∙ g))
 
-pub seen_other : {B : Type 0} (slot i : ℕ) (v : Vote B) (vs : List (Vote B)) → IsAscending vs → i ≡ place slot vs → v ≡ get_or vs i v → (v.slot ≡ slot → ⊥) → is_some (vote_in slot vs) ≡ false
+pub seen_other : {B : Type 0} (slot i : ℕ) (v : Vote B) (vs : List (Vote B)) → Ascends vs → i ≡ place slot vs → v ≡ get_or vs i v
+    → (v.slot ≡ slot → ⊥) → is_some (vote_in slot vs) ≡ false
 seen_other {B = B} slot i v vs h e r g =
     let a : v ≡ get_or vs (place slot vs) v = subst (λ (k : ℕ). v ≡ get_or vs k v) e r in
     ap is_some (absent slot vs v h (λ l q. g (ap (λ (w : Vote B). w.slot) a ∙ q)))
 
-pub seen_none : {B : Type 0} (slot i : ℕ) (vs : List (Vote B)) → IsAscending vs → i ≡ place slot vs → length vs ≤ i → is_some (vote_in slot vs) ≡ false
+pub seen_none : {B : Type 0} (slot i : ℕ) (vs : List (Vote B)) → Ascends vs → i ≡ place slot vs → length vs ≤ i
+    → is_some (vote_in slot vs) ≡ false
 seen_none slot i [] h e l = refl
 seen_none slot i (v ∷ vs) h e l = ap is_some (absent slot (v ∷ vs) v h (λ m q. absurd (omega arith)))
 
 -- where the slot has a vote, the vote at its place is the one
 
-sought : {B : Type 0} (slot : ℕ) (vs : List (Vote B)) (d : Vote B) → IsAscending vs → is_some (vote_in slot vs) ≡ true → (place slot vs < length vs) × ((get_or vs (place slot vs) d).slot ≡ slot)
+sought : {B : Type 0} (slot : ℕ) (vs : List (Vote B)) (d : Vote B) → Ascends vs → is_some (vote_in slot vs) ≡ true
+    → (place slot vs < length vs) × ((get_or vs (place slot vs) d).slot ≡ slot)
 sought slot vs d h e = go (ltb (place slot vs) (length vs)) (eqb (get_or vs (place slot vs) d).slot slot) refl refl
   where
     none : ((place slot vs < length vs) → (get_or vs (place slot vs) d).slot ≡ slot → ⊥) → ⊥
     none g = let n = absent slot vs d h g in let k = rw n at e in cc
 
-    go : (a b : Bool) → ltb (place slot vs) (length vs) ≡ a → eqb (get_or vs (place slot vs) d).slot slot ≡ b → (place slot vs < length vs) × ((get_or vs (place slot vs) d).slot ≡ slot)
+    go : (a b : Bool) → ltb (place slot vs) (length vs) ≡ a → eqb (get_or vs (place slot vs) d).slot slot ≡ b
+        → (place slot vs < length vs) × ((get_or vs (place slot vs) d).slot ≡ slot)
     go true true p q = (ltb-true _ _ p, eqb-true _ _ q)
     go false b p q = absurd (none (λ l g. let k = lt_false (place slot vs) (length vs) p in absurd (omega arith)))
     go true false p q = absurd (none (λ l g. let k = eq-eqb _ slot g in cc))
 
-pub put_found : {B : Type 0} (v : Vote B) (vs : List (Vote B)) → IsAscending vs → is_some (vote_in v.slot vs) ≡ true → set vs (place v.slot vs) v ≡ put_vote v vs
+pub put_found : {B : Type 0} (v : Vote B) (vs : List (Vote B)) → Ascends vs → is_some (vote_in v.slot vs) ≡ true
+    → set vs (place v.slot vs) v ≡ put_vote v vs
 put_found v vs h e = let k = sought v.slot vs v h e in replaced v vs v k.0 k.1
 
-pub put_free : {B : Type 0} (v : Vote B) (vs : List (Vote B)) → is_some (vote_in v.slot vs) ≡ false → take (place v.slot vs) vs ++ v ∷ drop (place v.slot vs) vs ≡ put_vote v vs
+pub put_free : {B : Type 0} (v : Vote B) (vs : List (Vote B)) → is_some (vote_in v.slot vs) ≡ false
+    → take (place v.slot vs) vs ++ v ∷ drop (place v.slot vs) vs ≡ put_vote v vs
 put_free v vs e = inserted v vs v (λ l g. let n = found v.slot vs v l g in let k = rw n at e in cc)
 
-pub hit : {B : Type 0} (slot i : ℕ) (v : Vote B) (vs : List (Vote B)) → IsAscending vs → is_some (vote_in slot vs) ≡ true → i ≡ place slot vs → v ≡ get_or vs i v → Some v ≡ vote_in slot vs
+pub hit : {B : Type 0} (slot i : ℕ) (v : Vote B) (vs : List (Vote B)) → Ascends vs → is_some (vote_in slot vs) ≡ true
+    → i ≡ place slot vs → v ≡ get_or vs i v → Some v ≡ vote_in slot vs
 hit {B = B} slot i v vs h e p r =
     let k = sought slot vs v h e in
     let a : v ≡ get_or vs (place slot vs) v = subst (λ (j : ℕ). v ≡ get_or vs j v) p r in
@@ -212,11 +232,12 @@ put_after slot v (w ∷ ws) g h = go (eqb v.slot w.slot) (ltb v.slot w.slot) (pu
     go false true k = (g, h)
     go false false k = (h.0, k)
 
-pub put_ascending : {B : Type 0} (v : Vote B) (ws : List (Vote B)) → IsAscending ws → IsAscending (put_vote v ws)
+pub put_ascending : {B : Type 0} (v : Vote B) (ws : List (Vote B)) → Ascends ws → Ascends (put_vote v ws)
 put_ascending v [] h = (tt, tt)
 put_ascending {B} v (w ∷ ws) h = go (eqb v.slot w.slot) (ltb v.slot w.slot) refl refl (put_ascending v ws h.1)
   where
-    go : (a b : Bool) → eqb v.slot w.slot ≡ a → ltb v.slot w.slot ≡ b → IsAscending (put_vote v ws) → IsAscending (cond a (v ∷ ws) (cond b (v ∷ (w ∷ ws)) (w ∷ put_vote v ws)))
+    go : (a b : Bool) → eqb v.slot w.slot ≡ a → ltb v.slot w.slot ≡ b → Ascends (put_vote v ws)
+        → Ascends (cond a (v ∷ ws) (cond b (v ∷ (w ∷ ws)) (w ∷ put_vote v ws)))
     go true b p q k = (after_lower w.slot v.slot ws (let e = eqb-true v.slot w.slot p in omega arith) h.0, h.1)
     go false true p q k =
         let l : v.slot < w.slot = ltb-true v.slot w.slot q in
@@ -228,50 +249,59 @@ put_ascending {B} v (w ∷ ws) h = go (eqb v.slot w.slot) (ltb v.slot w.slot) re
 
 -- the votes from a slot on
 
-pub ascending_drop : {B : Type 0} (k : ℕ) (vs : List (Vote B)) → IsAscending vs → IsAscending (drop k vs)
+pub ascending_drop : {B : Type 0} (k : ℕ) (vs : List (Vote B)) → Ascends vs → Ascends (drop k vs)
 ascending_drop zero vs h = h
 ascending_drop (suc k) [] h = tt
 ascending_drop (suc k) (v ∷ vs) h = ascending_drop k vs h.1
 
-from_at : {B : Type 0} (slot : ℕ) (v : Vote B) (vs : List (Vote B)) (b : Bool) → ltb v.slot slot ≡ b → AllAfter v.slot vs → drop (place slot vs) vs ≡ votes_from slot vs
+from_at : {B : Type 0} (slot : ℕ) (v : Vote B) (vs : List (Vote B)) (b : Bool) → ltb v.slot slot ≡ b → AllAfter v.slot vs
+    → drop (place slot vs) vs ≡ votes_from slot vs
     → drop (cond b (suc (place slot vs)) 0) (v ∷ vs) ≡ votes_from slot (v ∷ vs)
 from_at slot v vs true e h more = let a : v.slot < slot = ltb-true v.slot slot e in rw (not_le slot v.slot a) more
 from_at slot v vs false e h more =
     let a : slot ≤ v.slot = lt_false v.slot slot e in
     rw (is_le slot v.slot a) (ap (λ ws. v ∷ ws) (sym (kept_after v.slot slot vs a h)))
 
-pub from_place : {B : Type 0} (slot : ℕ) (vs : List (Vote B)) → IsAscending vs → drop (place slot vs) vs ≡ votes_from slot vs
+pub from_place : {B : Type 0} (slot : ℕ) (vs : List (Vote B)) → Ascends vs → drop (place slot vs) vs ≡ votes_from slot vs
 from_place slot [] h = refl
 from_place slot (v ∷ vs) h = from_at slot v vs (ltb v.slot slot) refl h.0 (from_place slot vs h.1)
 
-pub parted : {B : Type 0} (slot : ℕ) (vs : List (Vote B)) → IsAscending vs → IsPartitionedBy (λ v. ltb v.slot slot) vs
+pub parted : {B : Type 0} (slot : ℕ) (vs : List (Vote B)) → Ascends vs → IsPartitionedBy (λ v. ltb v.slot slot) vs
 parted slot vs h i j d le l e =
     let a : j < place slot vs = place_above slot j vs d h l (ltb-true (get_or vs j d).slot slot e) in
     lt-ltb (get_or vs i d).slot slot (place_reaches slot i vs d (omega arith) (omega arith))
 
-pub place_is : {B : Type 0} (slot : ℕ) (vs : List (Vote B)) (i : ℕ) → IsAscending vs → i ≤ length vs → IsPartitionPoint (λ v. ltb v.slot slot ≡ true) (λ v. ltb v.slot slot ≡ false) vs i → i ≡ place slot vs
+pub place_is : {B : Type 0} (slot : ℕ) (vs : List (Vote B)) (i : ℕ) → Ascends vs → i ≤ length vs
+    → IsPartitionPoint (λ v. ltb v.slot slot ≡ true) (λ v. ltb v.slot slot ≡ false) vs i → i ≡ place slot vs
 place_is slot [] i h l p = omega arith
 place_is slot (v ∷ vs) zero h l p =
     let e : ltb v.slot slot ≡ false = p.1 0 v (omega arith) (omega arith) in
     rw e refl
 place_is slot (v ∷ vs) (suc i) h l p =
     let e : ltb v.slot slot ≡ true = p.0 0 v (omega arith) (omega arith) in
-    rw e (ap suc (place_is slot vs i h.1 (omega arith) (λ k d a b. p.0 (suc k) d (omega arith) (omega arith), λ k d a b. p.1 (suc k) d (omega arith) (omega arith))))
+    rw e
+    (ap suc (place_is slot vs i h.1 (omega arith)
+    (λ k d a b. p.0 (suc k) d (omega arith) (omega arith), λ k d a b. p.1 (suc k) d (omega arith) (omega arith))))
 
 -- votes are put, one after the other
 
-pub put_votes-push : {B : Type 0} (xs : List (Vote B)) (v : Vote B) (ws : List (Vote B)) → put_votes (xs ++ v ∷ []) ws ≡ put_vote v (put_votes xs ws)
+pub put_votes-push : {B : Type 0} (xs : List (Vote B)) (v : Vote B) (ws : List (Vote B))
+    → put_votes (xs ++ v ∷ []) ws ≡ put_vote v (put_votes xs ws)
 put_votes-push [] v ws = refl
 put_votes-push (x ∷ xs) v ws = put_votes-push xs v (put_vote x ws)
 
 -- what stands in a slot after a vote was put
 
-vote_in-put_at : {B : Type 0} (v w : Vote B) (ws : List (Vote B)) (slot : ℕ) → vote_in slot (put_vote v ws) ≡ cond (eqb v.slot slot) (Some v) (vote_in slot ws)
+vote_in-put_at : {B : Type 0} (v w : Vote B) (ws : List (Vote B)) (slot : ℕ)
+    → vote_in slot (put_vote v ws) ≡ cond (eqb v.slot slot) (Some v) (vote_in slot ws)
     → (a b : Bool) → eqb v.slot w.slot ≡ a → ltb v.slot w.slot ≡ b
-    → vote_in slot (cond a (v ∷ ws) (cond b (v ∷ (w ∷ ws)) (w ∷ put_vote v ws))) ≡ cond (eqb v.slot slot) (Some v) (cond (eqb w.slot slot) (Some w) (vote_in slot ws))
+    → vote_in slot (cond a (v ∷ ws) (cond b (v ∷ (w ∷ ws)) (w ∷ put_vote v ws)))
+    ≡ cond (eqb v.slot slot) (Some v) (cond (eqb w.slot slot) (Some w) (vote_in slot ws))
 vote_in-put_at v w ws slot more true b p q = go (eqb v.slot slot) refl
   where
-    go : (c : Bool) → eqb v.slot slot ≡ c → cond (eqb v.slot slot) (Some v) (vote_in slot ws) ≡ cond (eqb v.slot slot) (Some v) (cond (eqb w.slot slot) (Some w) (vote_in slot ws))
+    go : (c : Bool) → eqb v.slot slot ≡ c
+        → cond (eqb v.slot slot) (Some v) (vote_in slot ws)
+        ≡ cond (eqb v.slot slot) (Some v) (cond (eqb w.slot slot) (Some w) (vote_in slot ws))
     go true e = rw e refl
     go false e =
         let l : v.slot ≡ w.slot = eqb-true v.slot w.slot p in
@@ -280,13 +310,16 @@ vote_in-put_at v w ws slot more true b p q = go (eqb v.slot slot) refl
 vote_in-put_at v w ws slot more false true p q = refl
 vote_in-put_at v w ws slot more false false p q = go (eqb w.slot slot) refl
   where
-    go : (c : Bool) → eqb w.slot slot ≡ c → cond (eqb w.slot slot) (Some w) (vote_in slot (put_vote v ws)) ≡ cond (eqb v.slot slot) (Some v) (cond (eqb w.slot slot) (Some w) (vote_in slot ws))
+    go : (c : Bool) → eqb w.slot slot ≡ c
+        → cond (eqb w.slot slot) (Some w) (vote_in slot (put_vote v ws))
+        ≡ cond (eqb v.slot slot) (Some v) (cond (eqb w.slot slot) (Some w) (vote_in slot ws))
     go true e =
         let l : w.slot ≡ slot = eqb-true w.slot slot e in
         let n : eqb v.slot slot ≡ false = subst (λ (s : ℕ). eqb v.slot s ≡ false) l p in
         rw (e, n) refl
     go false e = rw (e, more) refl
 
-pub vote_in-put : {B : Type 0} (v : Vote B) (vs : List (Vote B)) (slot : ℕ) → vote_in slot (put_vote v vs) ≡ cond (eqb v.slot slot) (Some v) (vote_in slot vs)
+pub vote_in-put : {B : Type 0} (v : Vote B) (vs : List (Vote B)) (slot : ℕ)
+    → vote_in slot (put_vote v vs) ≡ cond (eqb v.slot slot) (Some v) (vote_in slot vs)
 vote_in-put v [] slot = refl
 vote_in-put v (w ∷ ws) slot = vote_in-put_at v w ws slot (vote_in-put v ws slot) (eqb v.slot w.slot) (ltb v.slot w.slot) refl refl

@@ -1,7 +1,8 @@
-pub mod Ballots
-pub mod Equality
-pub mod Majority
-pub mod Nodes
-pub mod Same
-pub mod Sending
-pub mod Slots
+pub mod Ballot
+pub mod Body
+pub mod Entry
+pub mod List
+pub mod Members
+pub mod Packet
+pub mod Transport
+pub mod Vote

@@ -1,5 +1,5 @@
 ghost use Rattle.std.specs.Prelude.{◌≡◌};
-ghost use Rattle.paxos_packets.specs.Ballots.{below, same_ballot};
+ghost use Rattle.paxos_packets.specs.Ballot.{below};
 
 /// A numbered ballot: the proposal number of Lamport 2001, section 2.2. Ballots are ordered by round, then by node, so no two
 /// nodes ever use one number.
@@ -17,12 +17,5 @@ impl Ballot {
         ensures { result ≡ below self.now other.now }
     {
         self < other
-    }
-
-    /// Whether the two are one ballot. Takes no memory.
-    pub fn is(&self, other: &Ballot) -> bool
-        ensures { result ≡ same_ballot self.now other.now }
-    {
-        self.round == other.round && self.node == other.node
     }
 }

@@ -1,6 +1,6 @@
 ghost use Rattle.std.specs.Prelude.{◌≡◌, [], ◌∷◌, ◌++◌, IfOk, OnOk, OnErr};
-ghost use Rattle.paxos_packets.specs.Same.{same_entry, same_list};
-ghost use Rattle.paxos_packets.specs.Equality.{entry_equality, entries_equality};
+ghost use Rattle.paxos_packets.specs.Entry.{same_entry, entry_equality, entries_equality};
+ghost use Rattle.std.specs.Cmp.Lexicographic.{pointwise};
 
 use crate::body::{Body, Memory};
 use crate::list::{all_same, copy_all};
@@ -92,7 +92,7 @@ impl<B: Drop> Entries<B> {
 }
 
 impl<B: Body> Body for Entries<B> {
-    ghost same = { same_list (same_entry B.same) };
+    ghost same = { pointwise (same_entry B.same) };
 
     fn copy(&self, alloc: Global) -> Result<Entries<B>, Memory> {
         Ok(Entries {

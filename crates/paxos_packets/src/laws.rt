@@ -1,10 +1,12 @@
 //! Laws of the definitions. Each is the contract of a function that does nothing.
 
 ghost use Rattle.std.specs.Prelude.{◌≡◌, ◌⊎◌, ℕ, Bool, true, false, ◌==◌, Some, List, if◌then◌else◌};
-ghost use Rattle.paxos_packets.specs.Ballots.{below};
-ghost use Rattle.paxos_packets.specs.Majority.{IsMajority, IsMember};
-ghost use Rattle.paxos_packets.specs.Same.{IsEquality, same_entry, same_packet, same_vote};
-ghost use Rattle.paxos_packets.specs.Slots.{IsAscending, put_vote, vote_in};
+ghost use Rattle.paxos_packets.specs.Ballot.{below};
+ghost use Rattle.paxos_packets.specs.Members.{IsMajority, IsMember};
+ghost use Rattle.paxos_packets.specs.Body.{IsEquality};
+ghost use Rattle.paxos_packets.specs.Entry.{same_entry};
+ghost use Rattle.paxos_packets.specs.Packet.{same_packet};
+ghost use Rattle.paxos_packets.specs.Vote.{same_vote, IsAscending, put_vote, vote_in};
 ghost use Rattle.paxos_packets.specs.declared.ballot.Ballot.{Ballot};
 ghost use Rattle.paxos_packets.specs.declared.vote.Vote.{Vote};
 
@@ -17,12 +19,14 @@ pub fn ballots_are_ordered()
 
 /// Two majorities of the same members have a common member (Lamport 2001, section 2.1).
 pub fn majorities_meet()
-    ensures { (members : ℕ) (p q : ℕ → Bool) → IsMajority members p → IsMajority members q → ((node : ℕ) × IsMember members node × (p node ≡ true) × (q node ≡ true)) }
+    ensures { (members : ℕ) (p q : ℕ → Bool) → IsMajority members p → IsMajority members q
+        → ((node : ℕ) × IsMember members node × (p node ≡ true) × (q node ≡ true)) }
 {}
 
 /// A vote that is put stands in its slot, and no other slot changes; the slots still ascend.
 pub fn votes_are_put<B>()
-    ensures found { (v : Vote B) (vs : List (Vote B)) (slot : ℕ) → vote_in slot (put_vote v vs) ≡ (if v.slot == slot then Some v else vote_in slot vs) }
+    ensures found { (v : Vote B) (vs : List (Vote B)) (slot : ℕ)
+        → vote_in slot (put_vote v vs) ≡ (if v.slot == slot then Some v else vote_in slot vs) }
     ensures ascending { (v : Vote B) (vs : List (Vote B)) → IsAscending vs → IsAscending (put_vote v vs) }
 {}
 

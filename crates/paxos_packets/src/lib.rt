@@ -17,12 +17,9 @@ mod vote;
 pub use ballot::Ballot;
 pub use body::{Body, Memory};
 pub use entry::{Entries, Entry};
-pub use members::{Members, NodeSet, Nodes};
+pub use members::{Members, NodeSet};
 pub use packet::{Kind, Packet};
 pub use rows::{Change, Rows};
 pub use slot::Slot;
 pub use transport::Transport;
 pub use vote::{Vote, Votes};
-
-#[cfg(test)]
-mod tests;

@@ -1,12 +1,12 @@
 //! Copies and equality of lists.
 
 ghost use Rattle.std.specs.Prelude.{◌≡◌, IfOk};
-ghost use Rattle.paxos_packets.specs.Same.{same_list};
+ghost use Rattle.std.specs.Cmp.Lexicographic.{pointwise};
 
 use crate::body::{Body, Memory};
 use std::alloc::Global;
 
-/// Copies of all items, in order.
+// Copies of all items, in order.
 pub(crate) fn copy_all<T: Body>(alloc: Global, items: &[T]) -> Result<Vec<T>, Memory>
     ensures { IfOk result (λ copies. copies.items ≡ items.now) }
 {
@@ -17,9 +17,9 @@ pub(crate) fn copy_all<T: Body>(alloc: Global, items: &[T]) -> Result<Vec<T>, Me
     Ok(copies)
 }
 
-/// Whether the items are equal in value, place by place.
+// Whether the items are equal in value, place by place.
 pub(crate) fn all_same<T: Body>(items: &[T], others: &[T]) -> bool
-    ensures { result ≡ same_list T.same items.now others.now }
+    ensures { result ≡ pointwise T.same items.now others.now }
 {
     if items.len() != others.len() {
         return false;

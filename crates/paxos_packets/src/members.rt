@@ -1,7 +1,8 @@
-ghost use Rattle.std.specs.Prelude.{◌≡◌, ℕ, ◌<◌, ◌≤◌, [], ◌∷◌, ◌++◌, length, ◌&&◌, ◌||◌, ◌==◌, ◌↔◌, nat_lt, Bool, false, IsTrue, IsSome, IfSome};
-ghost use Rattle.paxos_packets.specs.Majority.{IsMajority, is_majority, is_member, others};
-ghost use Rattle.paxos_packets.specs.Nodes.{is_in};
+ghost use Rattle.std.specs.Prelude.{◌≡◌, ℕ, ◌<◌, ◌≤◌, [], ◌∷◌, ◌++◌, length, ◌&&◌, ◌||◌, ◌==◌, ◌↔◌, nat_lt, Bool};
+ghost use Rattle.std.specs.Prelude.{false, IsTrue, IsSome, IfSome};
+ghost use Rattle.paxos_packets.specs.Members.{IsMajority, is_majority, is_member, others, is_in};
 
+use arrayvec::ArrayVec;
 use std::marker::Model;
 
 /// A set of nodes, of those with numbers from 0 to 7.
@@ -11,7 +12,7 @@ pub struct NodeSet {
 }
 
 impl Model for NodeSet {
-    ghost use Rattle.std.specs.Prelude.{List, Bool};
+    ghost use Rattle.std.specs.Prelude.{List, Bool, ℕ, ◌≤◌, take};
 
     ghost Value = { List Bool };
 
@@ -42,49 +43,6 @@ impl NodeSet {
         ensures { result ≡ is_in self node }
     {
         node < 8 && self.has[node as usize]
-    }
-}
-
-/// Up to seven nodes, in an order.
-#[derive(Debug, Drop)]
-pub struct Nodes {
-    list: [u8; 7],
-    count: u8,
-}
-
-impl Model for Nodes {
-    ghost use Rattle.std.specs.Prelude.{List, ℕ, ◌≤◌, take};
-
-    ghost Value = { List ℕ };
-
-    ghost view = { λ n. take n.count n.list };
-
-    ghost invariant = { λ n. n.count ≤ 7 };
-}
-
-impl Nodes {
-    fn new() -> Nodes
-        ensures { result ≡ [] }
-    {
-        Nodes {
-            list: [0; 7],
-            count: 0,
-        }
-    }
-
-    fn push(&mut self, node: u8)
-        requires { length self.old < 7 }
-        ensures { self.new ≡ self.old ++ node ∷ [] }
-    {
-        self.list[self.count as usize] = node;
-        self.count += 1;
-    }
-
-    /// The nodes, in order.
-    pub fn as_slice(&self) -> &[u8]
-        ensures { result.now ≡ self.now }
-    {
-        &self.list[..self.count as usize]
     }
 }
 
@@ -149,11 +107,11 @@ impl Members {
     }
 
     /// The members other than this node, by ascending number. Takes no memory.
-    pub fn others(self, node: u8) -> Nodes
-        ensures { result ≡ others node self }
+    pub fn others(self, node: u8) -> ArrayVec<u8, 7>
+        ensures { result.items ≡ others node self }
     {
         let count = self.count();
-        let mut nodes = Nodes::new();
+        let mut nodes = ArrayVec::new();
         for below in 0..count {
             let other = below + 1;
             if other != node {

@@ -1,5 +1,4 @@
-ghost use Rattle.paxos_packets.specs.Same.{same_kind, same_packet};
-ghost use Rattle.paxos_packets.specs.Equality.{kind_equality, packet_equality};
+ghost use Rattle.paxos_packets.specs.Packet.{same_kind, same_packet, kind_equality, packet_equality};
 
 use crate::ballot::Ballot;
 use crate::body::{Body, Memory};
@@ -82,14 +81,14 @@ impl<B: Body> Body for Kind<B> {
                     ballot: b,
                     first: f,
                 },
-            ) => ballot.is(b) && first == f,
+            ) => ballot == b && first == f,
             (
                 Kind::Promise { ballot, votes },
                 Kind::Promise {
                     ballot: b,
                     votes: v,
                 },
-            ) => ballot.is(b) && votes.same(v),
+            ) => ballot == b && votes.same(v),
             (Kind::Accept { vote }, Kind::Accept { vote: v }) => vote.same(v),
             (Kind::Accepted { vote }, Kind::Accepted { vote: v }) => vote.same(v),
             (
@@ -98,10 +97,9 @@ impl<B: Body> Body for Kind<B> {
                     ballot: b,
                     promised: p,
                 },
-            ) => ballot.is(b) && promised.is(p),
+            ) => ballot == b && promised == p,
             (Kind::Forward { entries }, Kind::Forward { entries: e }) => entries.same(e),
-            (Kind::Learned { slot, entry }, Kind::Learned { slot: s, entry: e }) => slot.get()
-                == s.get()
+            (Kind::Learned { slot, entry }, Kind::Learned { slot: s, entry: e }) => slot == s
                 && entry.same(e),
             (Kind::Ask { first }, Kind::Ask { first: f }) => first == f,
             _ => false,

@@ -1,7 +1,8 @@
-ghost use Rattle.std.specs.Prelude.{◌≡◌, ◌+◌, ◌<◌, ◌≤◌, ℕ, [], ◌∷◌, ◌++◌, length, None, option_copied, is_some, is_ok, IsOk, vec_len, vec_capacity, IfOk, IfErr, OnOk, OnErr};
-ghost use Rattle.paxos_packets.specs.Same.{same_list, same_vote};
-ghost use Rattle.paxos_packets.specs.Equality.{vote_equality, votes_equality};
-ghost use Rattle.paxos_packets.specs.Slots.{IsAscending, place, vote_in, put_vote, put_votes, votes_from};
+ghost use Rattle.std.specs.Prelude.{◌≡◌, ◌+◌, ◌<◌, ◌≤◌, ℕ, [], ◌∷◌, ◌++◌, length, None, option_copied, is_some, is_ok};
+ghost use Rattle.std.specs.Prelude.{IsOk, vec_len, vec_capacity, IfOk, IfErr, OnOk, OnErr};
+ghost use Rattle.std.specs.Cmp.Lexicographic.{pointwise};
+ghost use Rattle.paxos_packets.specs.Vote.{same_vote, vote_equality, votes_equality, IsAscending, place, vote_in};
+ghost use Rattle.paxos_packets.specs.Vote.{put_vote, put_votes, votes_from};
 
 use crate::ballot::Ballot;
 use crate::body::{Body, Memory};
@@ -34,7 +35,7 @@ impl<B> Model for Votes<B> {
 
     ghost Value = { List (Vote B) };
 
-    ghost use Rattle.paxos_packets.specs.Slots.{IsAscending};
+    ghost use Rattle.paxos_packets.specs.Vote.{IsAscending};
 
     ghost view = { λ v. v.list.items };
 
@@ -99,7 +100,8 @@ impl<B: Drop> Votes<B> {
 }
 
 impl<B: Body> Votes<B> {
-    /// Copies of the votes from the slot with this number on. It copies, and looks at, no other but a logarithmic number of them.
+    /// Copies of the votes from the slot with this number on, or `Memory` where there is none for them. It copies, and looks at, no
+    /// other but a logarithmic number of them.
     pub fn copy_from(&self, alloc: Global, first: u64) -> Result<Votes<B>, Memory>
         ensures { IfOk result (λ votes. votes ≡ votes_from first self.now) }
     {
@@ -110,7 +112,7 @@ impl<B: Body> Votes<B> {
 }
 
 impl<B: Body> Body for Votes<B> {
-    ghost same = { same_list (same_vote B.same) };
+    ghost same = { pointwise (same_vote B.same) };
 
     fn copy(&self, alloc: Global) -> Result<Votes<B>, Memory> {
         Ok(Votes {
@@ -139,9 +141,7 @@ impl<B: Body> Body for Vote<B> {
     }
 
     fn same(&self, other: &Vote<B>) -> bool {
-        self.slot.get() == other.slot.get()
-            && self.ballot.is(&other.ballot)
-            && self.entry.same(&other.entry)
+        self.slot == other.slot && self.ballot == other.ballot && self.entry.same(&other.entry)
     }
 
     ghost reflexive = { (vote_equality B.same (record { reflexive = B.reflexive; sound = B.sound })).reflexive };
@@ -149,7 +149,7 @@ impl<B: Body> Body for Vote<B> {
     ghost sound = { (vote_equality B.same (record { reflexive = B.reflexive; sound = B.sound })).sound };
 }
 
-/// How many of the votes stand in front of the slot with this number. Takes a number of steps that is logarithmic in their number.
+// How many of the votes stand in front of the slot with this number. Takes a number of steps that is logarithmic in their number.
 fn place_of<B>(votes: &[Vote<B>], slot: u64) -> usize
     requires { IsAscending votes.now }
     ensures place { result ≡ place slot votes.now }
@@ -158,7 +158,7 @@ fn place_of<B>(votes: &[Vote<B>], slot: u64) -> usize
     votes.partition_point(|vote| vote.slot.get() < slot)
 }
 
-/// Where the vote of the slot stands, or else where it would.
+// Where the vote of the slot stands, or else where it would.
 fn seek<B>(votes: &[Vote<B>], slot: u64) -> Result<usize, usize>
     requires { IsAscending votes.now }
     ensures found { IfOk result (λ at. at ≡ place slot votes.now) }
@@ -174,7 +174,7 @@ fn seek<B>(votes: &[Vote<B>], slot: u64) -> Result<usize, usize>
     }
 }
 
-/// Copies of the votes from the slot with this number on.
+// Copies of the votes from the slot with this number on.
 fn copy_behind<B: Body>(
     alloc: Global,
     votes: &[Vote<B>],
@@ -188,7 +188,7 @@ fn copy_behind<B: Body>(
     copy_all(alloc, &votes[place..])
 }
 
-/// The vote in the slot, if there is one.
+// The vote in the slot, if there is one.
 fn find_in<B>(votes: &[Vote<B>], slot: u64) -> Option<&Vote<B>>
     requires { IsAscending votes.now }
     ensures { option_copied result ≡ vote_in slot votes.now }
@@ -199,7 +199,7 @@ fn find_in<B>(votes: &[Vote<B>], slot: u64) -> Option<&Vote<B>>
     }
 }
 
-/// Puts the vote into its slot, in the place of the one that stands there.
+// Puts the vote into its slot, in the place of the one that stands there.
 fn put_in<B: Drop>(votes: &mut Vec<Vote<B>>, vote: Vote<B>) -> Result<(), Memory>
     requires { IsAscending votes.old.items }
     ensures ok { OnOk result (votes.new.items ≡ put_vote vote votes.old.items) }
@@ -217,7 +217,7 @@ fn put_in<B: Drop>(votes: &mut Vec<Vote<B>>, vote: Vote<B>) -> Result<(), Memory
     Ok(())
 }
 
-/// Puts each of the votes, in order, or none of them.
+// Puts each of the votes, in order, or none of them.
 fn put_all_in<B: Drop>(votes: &mut Vec<Vote<B>>, more: Vec<Vote<B>>) -> Result<(), Memory>
     requires { IsAscending votes.old.items }
     ensures ok { OnOk result (votes.new.items ≡ put_votes more.items votes.old.items) }

@@ -1,2 +1,2 @@
-pub mod Proposing
+pub mod Proposer
 pub mod Reports

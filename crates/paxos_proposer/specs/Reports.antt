@@ -1,21 +1,20 @@
 -- What the promises of a majority report, and which entries a new leader has to propose for that (Lamport 2001, section 2.2,
 -- phase 2 (a), and section 3: a gap is filled by a Noop).
-use Rattle.std.specs.Prelude.{ℕ, zero, suc, ◌-◌, max, Bool, false, ◌&&◌, ◌||◌, ◌==◌, Option, Some, None, List, [], ◌∷◌, ◌++◌, if◌then◌else◌}
-use Rattle.paxos_packets.specs.Ballots.{below}
+use Rattle.std.specs.Prelude.{ℕ, zero, suc, ◌-◌, max, Bool, ◌&&◌, ◌==◌, Option, Some, None, List, [], ◌∷◌, if◌then◌else◌}
+use Rattle.std.specs.List.{list_any, flat_map}
+use Rattle.paxos_packets.specs.Ballot.{below}
 use Rattle.paxos_packets.specs.declared.entry.Entry.{Entry}
 use Rattle.paxos_packets.specs.declared.entry.Entry.TheVariants.{Noop}
 use Rattle.paxos_packets.specs.declared.vote.Vote.{Vote}
-use Rattle.paxos_proposer.specs.declared.promises.Counted.{Counted}
+use Rattle.paxos_proposer.specs.declared.promises.CountedPromise.{CountedPromise}
 
 -- a promise of this node was counted
-abbrev pub is_counted : {B : Type 0} → List (Counted B) → ℕ → Bool
-is_counted [] node = false
-is_counted (c ∷ cs) node = (c.node == node) || is_counted cs node
+abbrev pub is_counted : {B : Type 0} → List (CountedPromise B) → ℕ → Bool
+is_counted promises node = list_any (λ c. c.node == node) promises
 
 -- all votes that were reported
-abbrev pub reports : {B : Type 0} → List (Counted B) → List (Vote B)
-reports [] = []
-reports (c ∷ cs) = c.votes ++ reports cs
+abbrev pub reports : {B : Type 0} → List (CountedPromise B) → List (Vote B)
+reports promises = flat_map (λ c. c.votes) promises
 
 -- the vote for the slot with the greatest ballot
 abbrev pub better : {B : Type 0} → ℕ → Vote B → Option (Vote B) → Option (Vote B)

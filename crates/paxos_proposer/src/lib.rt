@@ -5,5 +5,5 @@
 mod promises;
 mod role;
 
-pub use promises::{Counted, Promises};
+pub use promises::{CountedPromise, CountedPromises};
 pub use role::{ProposerState, Role};

@@ -1,4 +1,4 @@
-use crate::promises::Promises;
+use crate::promises::CountedPromises;
 use paxos_packets::{Ballot, Votes};
 
 /// What a member does as a proposer.
@@ -10,7 +10,7 @@ pub enum Role<B> {
     Preparing {
         ballot: Ballot,
         first: u64,
-        promises: Promises<B>,
+        promises: CountedPromises<B>,
     },
     /// A majority has promised the ballot. It has proposed these votes, and proposes in the slot `next` next.
     Leading {

@@ -1,5 +1,6 @@
 -- Lists that grow at the end.
-use Rattle.std.proofs.Common.{◌≡◌, ◌⊎◌, inl, inr, ⊎_elim, ℕ, suc, ◌+◌, ◌<◌, ◌≤◌, Bool, true, false, not, ◌&&◌, ◌||◌, cond, eqb, ltb, refl, sym, ap, ◌∙◌, subst, arith, List, [], ◌∷◌, ◌++◌, Option, Some, None, drop}
+use Rattle.std.proofs.Common.{◌≡◌, ◌⊎◌, inl, inr, ⊎_elim, ℕ, suc, ◌+◌, ◌<◌, ◌≤◌, Bool, true, false, not, ◌&&◌, ◌||◌, cond, eqb, ltb, refl}
+use Rattle.std.proofs.Common.{sym, ap, ◌∙◌, subst, arith, List, [], ◌∷◌, ◌++◌, Option, Some, None, drop}
 use Rattle.std.specs.Prelude.{max, count_by}
 use Rattle.std.specs.List.{list_any, list_all, filter_map, cons_option, after_first, position_or_len, fold, reduce}
 use Rattle.std.proofs.lemmas.Bool.{cases_lt, or_left, or_right, ltb-true, eq-eqb, ne_eqb, and_parts}
@@ -18,7 +19,8 @@ by_last {A} P first step xs = go [] xs first
     go ys [] p = subst (λ l. P l) (sym (append-nil ys)) p
     go ys (z ∷ zs) p = subst (λ l. P l) (append_assoc ys (z ∷ []) zs) (go (ys ++ z ∷ []) zs (step ys z p))
 
-pub filter_map_last : {X Y : Type 0} (h : X → Option Y) (xs : List X) (x : X) → filter_map h (xs ++ x ∷ []) ≡ filter_map h xs ++ cons_option (h x) []
+pub filter_map_last : {X Y : Type 0} (h : X → Option Y) (xs : List X) (x : X)
+    → filter_map h (xs ++ x ∷ []) ≡ filter_map h xs ++ cons_option (h x) []
 filter_map_last h xs x = filter_map-append h xs (x ∷ [])
 
 pub count_by_last : {X : Type 0} (p : X → Bool) (xs : List X) (x : X) → count_by p (xs ++ x ∷ []) ≡ count_by p xs + cond (p x) 1 0
@@ -46,7 +48,8 @@ after_first-cons {X} p x xs = go (p x)
     go false = ap (λ j. drop j (x ∷ xs)) next
 
 -- one more element stands behind the first one that passes p if there is one
-pub any_after_last : {X : Type 0} (p q : X → Bool) (xs : List X) (x : X) → list_any q (after_first p (xs ++ x ∷ [])) ≡ (list_any q (after_first p xs) || (list_any p xs && q x))
+pub any_after_last : {X : Type 0} (p q : X → Bool) (xs : List X) (x : X)
+    → list_any q (after_first p (xs ++ x ∷ [])) ≡ (list_any q (after_first p xs) || (list_any p xs && q x))
 any_after_last {X} p q [] x = ap (λ l. list_any q l) (after_first-cons p x []) ∙ go (p x)
   where
     go : (b : Bool) → list_any q (cond b [] []) ≡ false
@@ -54,7 +57,10 @@ any_after_last {X} p q [] x = ap (λ l. list_any q l) (after_first-cons p x []) 
     go false = refl
 any_after_last {X} p q (y ∷ ys) x = go (p y) (any_after_last p q ys x) (after_first-cons p y (ys ++ x ∷ [])) (after_first-cons p y ys)
   where
-    go : (b : Bool) → list_any q (after_first p (ys ++ x ∷ [])) ≡ (list_any q (after_first p ys) || (list_any p ys && q x)) → after_first p (y ∷ (ys ++ x ∷ [])) ≡ cond b (ys ++ x ∷ []) (after_first p (ys ++ x ∷ [])) → after_first p (y ∷ ys) ≡ cond b ys (after_first p ys) → list_any q (after_first p (y ∷ (ys ++ x ∷ []))) ≡ (list_any q (after_first p (y ∷ ys)) || ((b || list_any p ys) && q x))
+    go : (b : Bool) → list_any q (after_first p (ys ++ x ∷ [])) ≡ (list_any q (after_first p ys) || (list_any p ys && q x))
+        → after_first p (y ∷ (ys ++ x ∷ [])) ≡ cond b (ys ++ x ∷ []) (after_first p (ys ++ x ∷ []))
+        → after_first p (y ∷ ys) ≡ cond b ys (after_first p ys)
+        → list_any q (after_first p (y ∷ (ys ++ x ∷ []))) ≡ (list_any q (after_first p (y ∷ ys)) || ((b || list_any p ys) && q x))
     go true ih e f = ap (λ l. list_any q l) e ∙ list_any_last q ys x ∙ ap (λ l. list_any q l || q x) (sym f)
     go false ih e f = ap (λ l. list_any q l) e ∙ ih ∙ ap (λ l. list_any q l || (list_any p ys && q x)) (sym f)
 
@@ -63,7 +69,9 @@ pub any_after_none : {X : Type 0} (p q : X → Bool) (xs : List X) → list_any 
 any_after_none p q [] e = refl
 any_after_none {X} p q (y ∷ ys) e = go (p y) (after_first-cons p y ys) (λ f. any_after_none p q ys f) e
   where
-    go : (b : Bool) → after_first p (y ∷ ys) ≡ cond b ys (after_first p ys) → (list_any p ys ≡ false → list_any q (after_first p ys) ≡ false) → (b || list_any p ys) ≡ false → list_any q (after_first p (y ∷ ys)) ≡ false
+    go : (b : Bool) → after_first p (y ∷ ys) ≡ cond b ys (after_first p ys)
+        → (list_any p ys ≡ false → list_any q (after_first p ys) ≡ false) → (b || list_any p ys) ≡ false
+        → list_any q (after_first p (y ∷ ys)) ≡ false
     go true f ih e = absurd (cc)
     go false f ih e = ap (λ l. list_any q l) f ∙ ih e
 
@@ -105,7 +113,9 @@ and_true false = refl
 
 from : (x : ℕ) (xs : List ℕ) (b : ℕ) → (ltb x b && list_all (λ c. ltb c b) xs) ≡ ltb (fold (λ u v. max u v) x xs) b
 from x [] b = and_true (ltb x b)
-from x (y ∷ ys) b = sym (and_assoc (ltb x b) (ltb y b) (list_all (λ c. ltb c b) ys)) ∙ ap (λ t. t && list_all (λ c. ltb c b) ys) (sym (max_below x y b)) ∙ from (max x y) ys b
+from x (y ∷ ys) b =
+    sym (and_assoc (ltb x b) (ltb y b) (list_all (λ c. ltb c b) ys)) ∙ ap (λ t. t && list_all (λ c. ltb c b) ys) (sym (max_below x y b))
+    ∙ from (max x y) ys b
 
 pub all_below_greatest : (bs : List ℕ) (b : ℕ) → list_all (λ c. ltb c b) bs ≡ all_below (reduce max bs) b
 all_below_greatest [] b = refl
@@ -120,9 +130,12 @@ has : (x : ℕ) (xs : List ℕ) → let g = fold (λ u v. max u v) x xs in (eqb 
 has x [] = or_left (eqb x x) false (eq-eqb x x refl)
 has x (y ∷ ys) = go (fold (λ u v. max u v) (max x y) ys) (max_is x y) (has (max x y) ys)
   where
-    go : (g : ℕ) → ((max x y ≡ x) × (y ≤ x)) ⊎ ((max x y ≡ y) × (x ≤ y)) → (eqb (max x y) g || list_any (λ c. eqb c g) ys) ≡ true → (eqb x g || (eqb y g || list_any (λ c. eqb c g) ys)) ≡ true
-    go g (inl m) h = or_skip (eqb x g) (eqb y g) (list_any (λ c. eqb c g) ys) (subst (λ z. (eqb z g || list_any (λ c. eqb c g) ys) ≡ true) m.0 h)
-    go g (inr m) h = or_right (eqb x g) (eqb y g || list_any (λ c. eqb c g) ys) (subst (λ z. (eqb z g || list_any (λ c. eqb c g) ys) ≡ true) m.0 h)
+    go : (g : ℕ) → ((max x y ≡ x) × (y ≤ x)) ⊎ ((max x y ≡ y) × (x ≤ y)) → (eqb (max x y) g || list_any (λ c. eqb c g) ys) ≡ true
+        → (eqb x g || (eqb y g || list_any (λ c. eqb c g) ys)) ≡ true
+    go g (inl m) h =
+        or_skip (eqb x g) (eqb y g) (list_any (λ c. eqb c g) ys) (subst (λ z. (eqb z g || list_any (λ c. eqb c g) ys) ≡ true) m.0 h)
+    go g (inr m) h =
+        or_right (eqb x g) (eqb y g || list_any (λ c. eqb c g) ys) (subst (λ z. (eqb z g || list_any (λ c. eqb c g) ys) ≡ true) m.0 h)
 
 pub has_greatest : (bs : List ℕ) (g : ℕ) → reduce max bs ≡ Some g → list_any (λ c. eqb c g) bs ≡ true
 has_greatest [] g e = absurd (cc)

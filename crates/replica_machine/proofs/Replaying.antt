@@ -7,22 +7,26 @@ use Rattle.std.proofs.lemmas.List.Sums.{fold-append}
 use Rattle.paxos_packets.specs.declared.entry.Entry.{Entry}
 use Rattle.replica_machine.specs.declared.input.Input.{Input}
 use Rattle.replica_machine.specs.Effects.{effective}
-use Rattle.replica_machine.specs.Standings.{effective_behind}
+use Rattle.replica_machine.specs.Roll.{effective_behind}
 use Rattle.replica_machine.specs.Replay.{Machine, input_of, inputs, inputs_behind, sayings_from}
-use Rattle.replica_machine.specs.Statements.{StateGoesOn, SayingsGoOn}
+use Rattle.replica_machine.specs.Laws.{StateGoesOn, SayingsGoOn}
 use Rattle.replica_machine.proofs.Places.{effective_append}
 
 pub inputs_append : {B : Type 0} (log es : List (Entry B)) → inputs (log ++ es) ≡ inputs log ++ inputs_behind log es
-inputs_append log es = ap (λ l. filter_map input_of l) (effective_append log es) ∙ filter_map-append input_of (effective log) (effective_behind log es)
+inputs_append log es =
+    ap (λ l. filter_map input_of l) (effective_append log es) ∙ filter_map-append input_of (effective log) (effective_behind log es)
 
-pub sayings_from_append : {B S Y : Type 0} (m : Machine B S Y) (s : S) (is js : List (Input B)) → sayings_from m s (is ++ js) ≡ sayings_from m s is ++ sayings_from m (fold m.next s is) js
+pub sayings_from_append : {B S Y : Type 0} (m : Machine B S Y) (s : S) (is js : List (Input B))
+    → sayings_from m s (is ++ js) ≡ sayings_from m s is ++ sayings_from m (fold m.next s is) js
 sayings_from_append m s [] js = refl
 sayings_from_append m s (i ∷ is) js =
     ap (λ l. m.says s i ++ l) (sayings_from_append m (m.next s i) is js)
     ∙ sym (append_assoc (m.says s i) (sayings_from m (m.next s i) is) (sayings_from m (fold m.next (m.next s i) is) js))
 
 pub state_append : {B S Y : Type 0} → StateGoesOn B S Y
-state_append m log es = ap (λ l. fold m.next m.first l) (inputs_append log es) ∙ fold-append m.next m.first (inputs log) (inputs_behind log es)
+state_append m log es =
+    ap (λ l. fold m.next m.first l) (inputs_append log es) ∙ fold-append m.next m.first (inputs log) (inputs_behind log es)
 
 pub sayings_append : {B S Y : Type 0} → SayingsGoOn B S Y
-sayings_append m log es = ap (λ l. sayings_from m m.first l) (inputs_append log es) ∙ sayings_from_append m m.first (inputs log) (inputs_behind log es)
+sayings_append m log es =
+    ap (λ l. sayings_from m m.first l) (inputs_append log es) ∙ sayings_from_append m m.first (inputs log) (inputs_behind log es)

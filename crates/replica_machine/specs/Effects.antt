@@ -1,6 +1,7 @@
 -- Which entries of a log take effect, by places in the log (docs/CONSENSUS.md, "Entries that take effect").
 -- `before` is the log before a place.
-use Rattle.std.specs.Prelude.{ℕ, ◌+◌, Bool, false, ◌&&◌, ◌==◌, nat_lt, Option, Some, None, option_and_then, List, [], ◌∷◌, ◌++◌, max, count_by, if◌then◌else◌}
+use Rattle.std.specs.Prelude.{ℕ, ◌+◌, Bool, false, ◌&&◌, ◌==◌, nat_lt, Option, Some, None, option_and_then, List, [], ◌∷◌, ◌++◌, max}
+use Rattle.std.specs.Prelude.{count_by, if◌then◌else◌}
 use Rattle.std.specs.Option.{option_map_or}
 use Rattle.std.specs.List.{list_any, list_all, filter_map, after_first, reduce}
 use Rattle.paxos_packets.specs.declared.entry.Entry.{Entry}
@@ -62,7 +63,8 @@ has_effect before so_far (Item n b q t x) = is_the (live_boot n before) b && (q 
 -- those that took effect before the entries behind `before`, and then those of these
 abbrev pub effective_from : {B : Type 0} → List (Entry B) → List (Entry B) → List (Entry B) → List (Entry B)
 effective_from before so_far [] = so_far
-effective_from before so_far (e ∷ es) = effective_from (before ++ e ∷ []) (if has_effect before so_far e then so_far ++ e ∷ [] else so_far) es
+effective_from before so_far (e ∷ es) =
+    effective_from (before ++ e ∷ []) (if has_effect before so_far e then so_far ++ e ∷ [] else so_far) es
 
 -- the entries of a log that take effect, in order
 abbrev pub effective : {B : Type 0} → List (Entry B) → List (Entry B)

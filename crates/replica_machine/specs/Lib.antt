@@ -1,5 +1,5 @@
 pub mod Effects
-pub mod Standings
+pub mod Roll
 pub mod Replay
-pub mod Statements
+pub mod Laws
 pub mod Examples

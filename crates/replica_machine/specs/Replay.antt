@@ -1,13 +1,14 @@
 -- What a machine that follows a log has become, and what it has said (Lamport 2001, section 3: the state machine).
-use Rattle.std.specs.Prelude.{Bool, ◌&&◌, ◌==◌, Option, Some, None, List, [], ◌∷◌, ◌++◌, filter, fold}
+use Rattle.std.specs.Prelude.{Option, Some, None, List, [], ◌∷◌, ◌++◌, filter, fold}
 use Rattle.std.specs.List.{filter_map}
 use Rattle.paxos_packets.specs.declared.entry.Entry.{Entry}
 use Rattle.paxos_packets.specs.declared.entry.Entry.TheVariants.{Noop, Boot, Lost, Item}
+use Rattle.paxos_packets.specs.Transport.{same_transport}
 use Rattle.paxos_packets.specs.declared.transport.Transport.{Transport}
 use Rattle.replica_machine.specs.declared.input.Input.{Input}
 use Rattle.replica_machine.specs.declared.input.Input.TheVariants as Given
 use Rattle.replica_machine.specs.Effects.{effective}
-use Rattle.replica_machine.specs.Standings.{effective_behind}
+use Rattle.replica_machine.specs.Roll.{effective_behind}
 
 -- a machine: its content at first, the next content, what it says, and to whom
 pub record Machine (B S Y : Type 0) : Type 0 where
@@ -39,12 +40,9 @@ sayings_from m s (i ∷ is) = m.says s i ++ sayings_from m (m.next s i) is
 abbrev pub sayings : {B S Y : Type 0} → Machine B S Y → List (Entry B) → List Y
 sayings m log = sayings_from m m.first (inputs log)
 
-abbrev pub is_to : Transport → Transport → Bool
-is_to t u = (u.node == t.node) && ((u.boot == t.boot) && (u.number == t.number))
-
 -- what is said to the transport along a log, in order
 abbrev pub said : {B S Y : Type 0} → Machine B S Y → Transport → List (Entry B) → List Y
-said m t log = filter (λ y. is_to t (m.to y)) (sayings m log)
+said m t log = filter (λ y. same_transport (m.to y) t) (sayings m log)
 
 -- what the entries of `es` give a machine behind a log, and what it says at them
 abbrev pub inputs_behind : {B : Type 0} → List (Entry B) → List (Entry B) → List (Input B)

@@ -3,7 +3,9 @@ ghost use Rattle.std.specs.Prelude.{◌≡◌, true, false, Some, None, [], ◌�
 ghost use Rattle.replica_machine.specs.Effects.{effects, live_boot, items_taken, item_numbers};
 ghost use Rattle.replica_machine.specs.Examples.{items_out_of_order, item_without_first, lost_and_back, adding, transport};
 ghost use Rattle.replica_machine.specs.Replay.{state, said};
-ghost use Rattle.replica_machine.specs.Statements.{EffectsGoByPlaces, EffectsAreOne, LiveBootsAreOne, ItemsTakenAreOne, EffectsGoOn, ItemsAreNumbered, EffectEndsWant, ItemsStayWanted, BootsStayWanted, LostsStayWanted, StateGoesOn, SayingsGoOn};
+ghost use Rattle.replica_machine.specs.Laws.{EffectsGoByPlaces, EffectsAreOne, LiveBootsAreOne, ItemsTakenAreOne};
+ghost use Rattle.replica_machine.specs.Laws.{EffectsGoOn, ItemsAreNumbered, EffectEndsWant, ItemsStayWanted};
+ghost use Rattle.replica_machine.specs.Laws.{BootsStayWanted, LostsStayWanted, StateGoesOn, SayingsGoOn};
 
 /// The places of a log, and the standings that a roll keeps as it goes along, say the same: which entries take effect, which
 /// boot of a node is live, and how many of its Items took effect. Takes no memory.

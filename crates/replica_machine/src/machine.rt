@@ -61,6 +61,3 @@ pub trait Machine: Drop {
     fn to(say: &Self::Say) -> Transport
         ensures { result ≡ to say.now };
 }
-
-#[cfg(test)]
-mod tests;

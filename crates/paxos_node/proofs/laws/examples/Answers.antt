@@ -1,6 +1,6 @@
 -- Computed.
 use Rattle.std.proofs.Common.{refl}
-use Rattle.paxos_proposer.specs.Proposing.{round_end, slot_end}
+use Rattle.paxos_proposer.specs.Proposer.{round_end, slot_end}
 use Rattle.paxos_node.specs.Events.{last_number, most_pending}
 use Rattle.paxos_node.proofs.laws.examples.Goals as goal
 

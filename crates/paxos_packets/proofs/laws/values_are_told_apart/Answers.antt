@@ -1,4 +1,6 @@
-use Rattle.paxos_packets.specs.Equality.{entry_equality, vote_equality, packet_equality}
+use Rattle.paxos_packets.specs.Entry.{entry_equality}
+use Rattle.paxos_packets.specs.Vote.{vote_equality}
+use Rattle.paxos_packets.specs.Packet.{packet_equality}
 use Rattle.paxos_packets.proofs.laws.values_are_told_apart.Goals as goal
 
 pub returns : goal.returns

@@ -1,6 +1,5 @@
 use Rattle.std.proofs.Common.{◌≡◌, ◌≤◌}
-use Rattle.paxos_packets.specs.Majority.{count_nodes}
-use Rattle.paxos_packets.specs.Nodes.{is_in}
+use Rattle.paxos_packets.specs.Members.{count_nodes, is_in}
 use Rattle.paxos_packets.proofs.members.Members.majority.Given as goal
 
 abbrev pub invariant-loop-below : goal.invariant-loop-below

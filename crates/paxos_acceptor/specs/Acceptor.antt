@@ -1,0 +1,89 @@
+-- The acceptor, and its rules (Lamport 2001, section 2.2, phases 1 (b) and 2 (b)), on the rows of one member.
+use Rattle.std.specs.Prelude.{ℕ, Bool, true, not, Option, Some, None, List, [], ◌∷◌, if◌then◌else◌}
+use Rattle.std.specs.Option.{option_or, unwrap_or}
+use Rattle.paxos_packets.specs.Ballot.{below}
+use Rattle.paxos_packets.specs.Vote.{put_vote, put_votes, votes_from}
+use Rattle.paxos_packets.specs.Packet.{packet, to_others}
+use Rattle.paxos_packets.specs.declared.ballot.Ballot.{Ballot}
+use Rattle.paxos_packets.specs.declared.vote.Vote.{Vote}
+use Rattle.paxos_packets.specs.declared.packet.Kind.{Kind}
+use Rattle.paxos_packets.specs.declared.packet.Kind.TheVariants.{Prepare, Promise, Accept, Accepted, Nack, Forward, Learned, Ask}
+use Rattle.paxos_packets.specs.declared.packet.Packet.{Packet}
+use Rattle.paxos_packets.specs.declared.rows.Change.{Change}
+use Rattle.paxos_packets.specs.declared.rows.Rows.{Rows}
+use Rattle.paxos_acceptor.specs.declared.verdict.Answer.{Answer}
+use Rattle.paxos_acceptor.specs.declared.verdict.Answer.TheVariants.{Nothing, ToSender, ToOthers}
+use Rattle.paxos_acceptor.specs.declared.verdict.Verdict.{Verdict}
+
+-- what callers see of an acceptor
+pub record State (B : Type 0) : Type 0 where
+  -- what the member has committed
+  pub rows : Rows B
+  -- whether a change that was committed could not be taken over for want of memory
+  pub failed : Bool
+
+-- no promise, or b above it
+abbrev pub may_promise : Option Ballot → Ballot → Bool
+may_promise None b = true
+may_promise (Some p) b = below p b
+
+-- no promise, or b not below it
+abbrev pub may_accept : Option Ballot → Ballot → Bool
+may_accept None b = true
+may_accept (Some p) b = not (below b p)
+
+abbrev pub with_promise : {B : Type 0} → Ballot → Rows B → Rows B
+with_promise b rows = record { boot = rows.boot; promised = Some b; votes = rows.votes }
+
+abbrev pub with_vote : {B : Type 0} → Vote B → Rows B → Rows B
+with_vote v rows = record { boot = rows.boot; promised = Some v.ballot; votes = put_vote v rows.votes }
+
+-- changes: nothing, a promise, a vote together with its promise
+abbrev pub no_change : {B : Type 0} → Change B
+no_change = record { promised = None; votes = [] }
+
+abbrev pub promise_change : {B : Type 0} → Ballot → Change B
+promise_change b = record { promised = Some b; votes = [] }
+
+abbrev pub vote_change : {B : Type 0} → Vote B → Change B
+vote_change v = record { promised = Some v.ballot; votes = v ∷ [] }
+
+-- the rows after a change
+abbrev pub adopted : {B : Type 0} → Rows B → Change B → Rows B
+adopted rows change =
+    record { boot = rows.boot; promised = option_or change.promised rows.promised; votes = put_votes change.votes rows.votes }
+
+abbrev pub refused : {B : Type 0} → Rows B → Ballot → Verdict B
+refused rows b = record { change = no_change; answer = ToSender (Nack b (unwrap_or rows.promised b)) }
+
+-- Prepare: a promise, and the votes from the slot on; else a Nack
+abbrev pub prepared : {B : Type 0} → Rows B → Ballot → ℕ → Verdict B
+prepared rows b first =
+    if may_promise rows.promised b then record { change = promise_change b; answer = ToSender (Promise b (votes_from first rows.votes)) }
+    else refused rows b
+
+-- Accept: a vote, told to the others; else a Nack
+abbrev pub voted : {B : Type 0} → Rows B → Vote B → Verdict B
+voted rows v =
+    if may_accept rows.promised v.ballot then record { change = vote_change v; answer = ToOthers (Accepted v) }
+    else refused rows v.ballot
+
+abbrev pub nothing : {B : Type 0} → Verdict B
+nothing = record { change = no_change; answer = Nothing }
+
+-- what one packet brings about
+abbrev pub judged : {B : Type 0} → Rows B → Kind B → Verdict B
+judged rows (Prepare b first) = prepared rows b first
+judged rows (Promise b votes) = nothing
+judged rows (Accept v) = voted rows v
+judged rows (Accepted v) = nothing
+judged rows (Nack b p) = nothing
+judged rows (Forward es) = nothing
+judged rows (Learned s e) = nothing
+judged rows (Ask first) = nothing
+
+-- the packets of an answer
+abbrev pub answers : {B : Type 0} → ℕ → ℕ → ℕ → Answer B → List (Packet B)
+answers members me sender Nothing = []
+answers members me sender (ToSender kind) = packet me kind sender ∷ []
+answers members me sender (ToOthers kind) = to_others members me kind

@@ -1,0 +1,85 @@
+-- One member as a learner: an entry is learned where a majority is heard to have voted for it in one ballot, or where a
+-- member tells that it was (Lamport 2001, section 2.3).
+use Rattle.std.specs.Prelude.{ℕ, suc, Bool, true, false, not, ◌&&◌, nat_lt, ◌==◌, Option, Some, None, option_map, List, [], ◌∷◌, ◌++◌}
+use Rattle.std.specs.Prelude.{if◌then◌else◌}
+use Rattle.std.specs.List.{list_any, find}
+use Rattle.paxos_packets.specs.Members.{is_majority}
+use Rattle.paxos_packets.specs.Entry.{same_entry}
+use Rattle.paxos_packets.specs.declared.ballot.Ballot.{Ballot}
+use Rattle.paxos_packets.specs.declared.entry.Entry.{Entry}
+use Rattle.paxos_packets.specs.declared.vote.Vote.{Vote}
+use Rattle.paxos_learner.specs.declared.learned.LearnedEntry.{LearnedEntry}
+use Rattle.paxos_learner.specs.declared.hearings.Hearing.{Hearing}
+use Rattle.paxos_learner.specs.declared.state.LearnerState.{LearnerState}
+
+-- a learner that has just begun
+abbrev pub unheard : {B : Type 0} → LearnerState B
+unheard = record { heard = []; learned = [] }
+
+-- votes that were heard
+
+abbrev pub is_hearing : ℕ → Ballot → ℕ → Hearing → Bool
+is_hearing slot ballot node h =
+    (h.slot == slot) && ((h.ballot.round == ballot.round) && ((h.ballot.node == ballot.node) && (h.node == node)))
+
+-- a vote of this node in this ballot and slot was heard
+abbrev pub heard_from : List Hearing → ℕ → Ballot → ℕ → Bool
+heard_from heard slot ballot node = list_any (is_hearing slot ballot node) heard
+
+abbrev pub hears : {B : Type 0} → ℕ → Vote B → LearnerState B → LearnerState B
+hears node v l =
+    if heard_from l.heard v.slot v.ballot node then l
+    else record { heard = l.heard ++ record { slot = v.slot; ballot = v.ballot; node = node } ∷ []; learned = l.learned }
+
+-- entries that were learned
+
+abbrev pub learned_at : {B : Type 0} → ℕ → List (LearnedEntry B) → Option (Entry B)
+learned_at slot learned = option_map (λ l. l.entry) (find (λ l. l.slot == slot) learned)
+
+abbrev pub is_learned : {B : Type 0} → ℕ → List (LearnedEntry B) → Bool
+is_learned slot learned = list_any (λ l. l.slot == slot) learned
+
+-- by ascending slot
+abbrev pub put_learned : {B : Type 0} → LearnedEntry B → List (LearnedEntry B) → List (LearnedEntry B)
+put_learned l [] = l ∷ []
+put_learned l (m ∷ ms) = if nat_lt m.slot l.slot then m ∷ put_learned l ms else l ∷ (m ∷ ms)
+
+-- what is told of a learned slot changes nothing
+abbrev pub learn : {B : Type 0} → ℕ → Entry B → LearnerState B → LearnerState B
+learn slot entry l =
+    if is_learned slot l.learned then l
+    else record { heard = l.heard; learned = put_learned (record { slot = slot; entry = entry }) l.learned }
+
+-- it is another entry than the one that was learned there
+abbrev pub is_other : {B : Type 0} → (B → B → Bool) → Entry B → Option (Entry B) → Bool
+is_other same entry None = false
+is_other same entry (Some e) = not (same_entry same e entry)
+
+abbrev pub disagrees : {B : Type 0} → (B → B → Bool) → ℕ → Entry B → LearnerState B → Bool
+disagrees same slot entry l = is_other same entry (learned_at slot l.learned)
+
+-- a vote is counted
+
+-- a majority is heard to have cast this vote
+abbrev pub has_most : {B : Type 0} → ℕ → Vote B → LearnerState B → Bool
+has_most members v l = is_majority members (heard_from l.heard v.slot v.ballot)
+
+abbrev pub learn_chosen : {B : Type 0} → ℕ → Vote B → LearnerState B → LearnerState B
+learn_chosen members v l = if has_most members v l then learn v.slot v.entry l else l
+
+abbrev pub count_vote : {B : Type 0} → ℕ → ℕ → Vote B → LearnerState B → LearnerState B
+count_vote members node v l = learn_chosen members v (hears node v l)
+
+abbrev pub vote_disagrees : {B : Type 0} → (B → B → Bool) → ℕ → ℕ → Vote B → LearnerState B → Bool
+vote_disagrees same members node v l = has_most members v (hears node v l) && disagrees same v.slot v.entry l
+
+-- the entries of the slots from this one on, up to the first that isn't learned; earlier slots are passed over
+abbrev pub run_with : {B : Type 0} → Bool → Bool → Entry B → List (Entry B) → List (Entry B)
+run_with true earlier e rest = e ∷ rest
+run_with false true e rest = rest
+run_with false false e rest = []
+
+abbrev pub run_from : {B : Type 0} → ℕ → List (LearnedEntry B) → List (Entry B)
+run_from slot [] = []
+run_from slot (l ∷ ls) =
+    run_with (l.slot == slot) (nat_lt l.slot slot) l.entry (run_from (if l.slot == slot then suc slot else slot) ls)

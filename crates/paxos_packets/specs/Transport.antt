@@ -1,0 +1,6 @@
+-- Transports, told apart by a test.
+use Rattle.std.specs.Prelude.{Bool, ◌&&◌, ◌==◌}
+use Rattle.paxos_packets.specs.declared.transport.Transport.{Transport}
+
+abbrev pub same_transport : Transport → Transport → Bool
+same_transport a b = (a.node == b.node) && ((a.boot == b.boot) && (a.number == b.number))
