@@ -1,6 +1,6 @@
 -- The node's part of each event keeps the invariant.
-use Rattle.std.proofs.Common.{◌≡◌, ⊎_elim, ℕ, suc, ◌+◌, ◌-◌, ◌≤◌, Bool, true, false, not, ◌&&◌, ◌||◌, eqb, ltb, refl, sym, ap, ◌∙◌, subst}
-use Rattle.std.proofs.Common.{arith, List, [], ◌∷◌, ◌++◌, length, append_assoc, Option, Some, None}
+use Rattle.std.proofs.Common.{◌≡◌, ⊎_elim, ℕ, suc, ◌+◌, ◌-◌, ◌≤◌, Bool, true, false, not, ◌&&◌, ◌||◌, eqb, ltb, refl, sym, ap, ◌∙◌, subst, arith, List, []}
+use Rattle.std.proofs.Common.{◌∷◌, ◌++◌, length, append_assoc, Option, Some, None}
 use Rattle.std.specs.Prelude.{filter, if◌then◌else◌, nat_lt, nat_le, max, take}
 use Rattle.std.proofs.lemmas.Bool.{cond_both, and_parts, lt-ltb}
 use Rattle.cluster_world.proofs.Lists.{has_one, has_cases}
@@ -13,8 +13,8 @@ use Rattle.cluster_world.proofs.Quiet.{QuietKind, quiet_moved}
 use Rattle.cluster_world.proofs.AcceptorTests.{sent_nil, sent_one, sent_to_others, sent_to_some}
 use Rattle.cluster_world.proofs.Active.{promise_moved, begin_moved}
 use Rattle.cluster_world.proofs.Learner.{learner_of, with_learner_ok, learn_ok, agrees, vote_agrees}
-use Rattle.cluster_world.proofs.Proposals.{silent, counted_ok, cast_kept, cast_agrees, neither, State, Going, FreeAt, Path, StepTo, Step}
-use Rattle.cluster_world.proofs.Proposals.{step_on, stay, propose_step, recover_step}
+use Rattle.cluster_world.proofs.Proposals.{silent, counted_ok, cast_kept, cast_agrees, neither, State, Going, FreeAt, Path, StepTo, Step, step_on, stay}
+use Rattle.cluster_world.proofs.Proposals.{propose_step, recover_step}
 use Rattle.cluster_world.proofs.Reports.{all_called, past_free, length-called_in}
 use Rattle.cluster_world.specs.Has.{Has, here, there}
 use Rattle.paxos_packets.specs.Members.{is_majority, others}
@@ -39,10 +39,8 @@ use Rattle.paxos_node.specs.declared.state.NodeState.{NodeState}
 use Rattle.paxos_node.specs.declared.turn.Turn.{Turn}
 use Rattle.paxos_node.specs.Turn.{with_role, with_pending, with_learner, promised_at, counted_at, send, promise, count, hear_learned, cast}
 use Rattle.paxos_node.specs.Proposals.{propose, lead, stands, propose_new, propose_each, forwarded, push}
-use Rattle.paxos_node.specs.Replies.{saw, refuse, on_prepare, on_accept, count_promise, on_promise_as, on_nack, on_forward, told_from}
-use Rattle.paxos_node.specs.Replies.{on_packet}
-use Rattle.paxos_node.specs.Events.{takes, with_item, on_take, accepts_again, again, ask, on_tick, begin, starts, on_start, has_room}
-use Rattle.paxos_node.specs.Events.{suspected}
+use Rattle.paxos_node.specs.Replies.{saw, refuse, on_prepare, on_accept, count_promise, on_promise_as, on_nack, on_forward, told_from, on_packet}
+use Rattle.paxos_node.specs.Events.{takes, with_item, on_take, accepts_again, again, ask, on_tick, begin, starts, on_start, has_room, suspected}
 use Rattle.paxos_packets.specs.Body.{IsEquality}
 
 module _ {B : Type 0} (same : B → B → Bool) (equal : IsEquality same) (members : ℕ) (many : 2 ≤ members) (at : ℕ → NodeState B) (n : ℕ)
@@ -82,8 +80,8 @@ module _ {B : Type 0} (same : B → B → Bool) (equal : IsEquality same) (membe
   free_same t u g e f = subst (λ r. RoleFree members (now u) (all u) r) (sym e) (role_free_grows members g.grows t.node.proposer.role f)
 
   -- packets that promise and propose nothing new
-  pub sends : (t : Turn B) (new : List (Packet B)) → St t → Fr t
-      → ((k : ℕ) (kind : Kind B) → Sent new k kind → (k ≡ n) × QuietKind members (all t) n kind) → To t (send new t)
+  pub sends : (t : Turn B) (new : List (Packet B)) → St t → Fr t → ((k : ℕ) (kind : Kind B) → Sent new k kind → (k ≡ n) × QuietKind members (all t) n kind)
+      → To t (send new t)
   sends t new inv free quiet =
       let g : Go t (send new t) = subst (λ l. Kept members at n t.node (all t) t.node l) (append_assoc before t.packets new)
       (quiet_moved members at n t.node t.node (all t) new inv refl (mine_ok members at n t.node (all t) inv) quiet) in
@@ -147,8 +145,7 @@ module _ {B : Type 0} (same : B → B → Bool) (equal : IsEquality same) (membe
       p : Ballot
       p = unwrap_or t.node.rows.promised b
 
-  prepare_step : (t : Turn B) (from : ℕ) (b : Ballot) (floor : ℕ) → St t → Fr t → Known (all t) (Prepare b floor)
-      → To t (on_prepare n from b floor t)
+  prepare_step : (t : Turn B) (from : ℕ) (b : Ballot) (floor : ℕ) → St t → Fr t → Known (all t) (Prepare b floor) → To t (on_prepare n from b floor t)
   prepare_step t from b floor inv free known =
       cond_both (may_promise t.node.rows.promised b) u (refuse n from b t) (λ v. To t v)
       (λ e.
@@ -205,29 +202,27 @@ module _ {B : Type 0} (same : B → B → Bool) (equal : IsEquality same) (membe
   propose_each_step (e ∷ es) t inv free =
       let a = propose_new_step e t inv free in then_to a (propose_each_step es (propose_new same members n e t) a.path.going.inv a.free)
 
-  forward_quiet : (sent : List (Packet B)) (o : Option Ballot) (es : List (Entry B)) (k : ℕ) (kind : Kind B)
-      → Sent (forwarded n o es) k kind → (k ≡ n) × QuietKind members sent n kind
+  forward_quiet : (sent : List (Packet B)) (o : Option Ballot) (es : List (Entry B)) (k : ℕ) (kind : Kind B) → Sent (forwarded n o es) k kind
+      → (k ≡ n) × QuietKind members sent n kind
   forward_quiet sent None es k kind s = absurd (sent_nil k kind s)
   forward_quiet sent (Some p) [] k kind s = absurd (sent_nil k kind s)
   forward_quiet sent (Some p) (e ∷ es) k kind s =
-      cond_both (eqb p.node n) [] (packet n (Forward (take 64 (e ∷ es))) p.node ∷ [])
-      (λ l. Sent l k kind → (k ≡ n) × QuietKind members sent n kind)
+      cond_both (eqb p.node n) [] (packet n (Forward (take 64 (e ∷ es))) p.node ∷ []) (λ l. Sent l k kind → (k ≡ n) × QuietKind members sent n kind)
       (λ t z. absurd (sent_nil k kind z))
       (λ t z. let o = sent_one n p.node (Forward (take 64 (e ∷ es))) k kind z in (o.0, subst (λ y. QuietKind members sent n y) o.1 tt))
       s
 
   pub push_step : (t : Turn B) → St t → Fr t → To t (push same members n t)
   push_step t inv free =
-      cond_both (is_leading t.node.proposer.role) (propose_each same members n t.node.pending t)
-      (send (forwarded n t.node.rows.promised t.node.pending) t) (λ z. To t z)
+      cond_both (is_leading t.node.proposer.role) (propose_each same members n t.node.pending t) (send (forwarded n t.node.rows.promised t.node.pending) t)
+      (λ z. To t z)
       (λ d. propose_each_step t.node.pending t inv free)
       (λ d. sends t (forwarded n t.node.rows.promised t.node.pending) inv free (forward_quiet (all t) t.node.rows.promised t.node.pending))
 
   -- Promise
 
-  lead_step : (t : Turn B) (b : Ballot) (floor : ℕ) (cs : List (CountedPromise B)) → St t
-      → PreparingOk (now t) t.node.rows.promised (all t) n b floor cs → is_majority members (is_counted cs) ≡ true
-      → To t (lead same members n b floor (reports cs) t)
+  lead_step : (t : Turn B) (b : Ballot) (floor : ℕ) (cs : List (CountedPromise B)) → St t → PreparingOk (now t) t.node.rows.promised (all t) n b floor cs
+      → is_majority members (is_counted cs) ≡ true → To t (lead same members n b floor (reports cs) t)
   lead_step t b floor cs inv ok most =
       step_on same equal members many at n before g
       (recover_step same equal members many at n before (called_for floor (reports cs)) u b floor [] g.going.inv refl
@@ -260,17 +255,16 @@ module _ {B : Type 0} (same : B → B → Bool) (equal : IsEquality same) (membe
   count_promise_step t b floor cs inv ok =
       cond_both (is_majority members (is_counted cs)) (push same members n (lead same members n b floor (reports cs) t))
       (record t { node = with_role (Preparing b floor cs) t.node }) (λ u. To t u)
-      (λ e. let a = lead_step t b floor cs inv ok e in then_to a
-      (push_step (lead same members n b floor (reports cs) t) a.path.going.inv a.free))
+      (λ e. let a = lead_step t b floor cs inv ok e in then_to a (push_step (lead same members n b floor (reports cs) t) a.path.going.inv a.free))
       (λ e. record { path = role_path t inv (Preparing b floor cs) t.node.proposer.seen ok; free = tt })
 
-  promise_step : (t : Turn B) (from : ℕ) (b : Ballot) (votes : List (Vote B)) → St t → Fr t → Sent (all t) from (Promise b votes)
-      → (r : Role B) → t.node.proposer.role ≡ r → To t (on_promise_as same members n from b votes r t)
+  promise_step : (t : Turn B) (from : ℕ) (b : Ballot) (votes : List (Vote B)) → St t → Fr t → Sent (all t) from (Promise b votes) → (r : Role B)
+      → t.node.proposer.role ≡ r → To t (on_promise_as same members n from b votes r t)
   promise_step t from b votes inv free s Idle is = stood t inv free
   promise_step t from b votes inv free s (Leading c next table) is = stood t inv free
   promise_step t from b votes inv free s (Preparing c floor cs) is =
-      cond_both (same_ballot b c && not (is_counted cs from))
-      (count_promise same members n c floor (cs ++ record { node = from; votes = votes } ∷ []) t) t (λ u. To t u)
+      cond_both (same_ballot b c && not (is_counted cs from)) (count_promise same members n c floor (cs ++ record { node = from; votes = votes } ∷ []) t) t
+      (λ u. To t u)
       (λ e. count_promise_step t c floor (cs ++ record { node = from; votes = votes } ∷ []) inv
       (more (ballot_sound b c (and_parts (same_ballot b c) (not (is_counted cs from)) e).0)))
       (λ e. stood t inv free)
@@ -295,15 +289,14 @@ module _ {B : Type 0} (same : B → B → Bool) (equal : IsEquality same) (membe
             none = ok.none;
             kept =
                 λ d h.
-                ⊎_elim (λ o. ok.kept d o)
-                (λ o. subst (λ (z : CountedPromise B). Tells (now t) (all t) z.node c floor z.votes) (has_one o) (tells e))
+                ⊎_elim (λ o. ok.kept d o) (λ o. subst (λ (z : CountedPromise B). Tells (now t) (all t) z.node c floor z.votes) (has_one o) (tells e))
                 (has_cases cs (record { node = from; votes = votes } ∷ []) h);
           }
 
   -- Nack
 
-  nacked_ok : (promised : ℕ → Option Ballot) (m : Option Ballot) (sent : List (Packet B)) (b p : Ballot) (r : Role B)
-      → RoleOk promised m sent n r → RoleOk promised m sent n (nacked b p r)
+  nacked_ok : (promised : ℕ → Option Ballot) (m : Option Ballot) (sent : List (Packet B)) (b p : Ballot) (r : Role B) → RoleOk promised m sent n r
+      → RoleOk promised m sent n (nacked b p r)
   nacked_ok promised m sent b p Idle ok = tt
   nacked_ok promised m sent b p (Preparing c floor cs) ok =
       cond_both (same_ballot b c && below c p) Idle (Preparing c floor cs) (λ r. RoleOk promised m sent n r) (λ e. tt) (λ e. ok)
@@ -325,9 +318,7 @@ module _ {B : Type 0} (same : B → B → Bool) (equal : IsEquality same) (membe
       (nacked_ok (now t) t.node.rows.promised (all t) b p t.node.proposer.role (mine t inv).role) in
       record {
         path = g;
-        free =
-            nacked_free (now (on_nack b p t)) (all t) b p t.node.proposer.role
-            (role_free_grows members g.going.grows t.node.proposer.role free);
+        free = nacked_free (now (on_nack b p t)) (all t) b p t.node.proposer.role (role_free_grows members g.going.grows t.node.proposer.role free);
       }
 
   -- Accepted, Learned, Ask, Forward
@@ -370,8 +361,8 @@ module _ {B : Type 0} (same : B → B → Bool) (equal : IsEquality same) (membe
       }
 
   told_quiet : (sent : List (Packet B)) (to slot : ℕ) (fs : List (LearnedEntry B))
-      → ((f : LearnedEntry B) → Has fs f → IsChosen members sent f.slot f.entry) → (k : ℕ) (kind : Kind B)
-      → Sent (told_from n to slot fs) k kind → (k ≡ n) × QuietKind members sent n kind
+      → ((f : LearnedEntry B) → Has fs f → IsChosen members sent f.slot f.entry) → (k : ℕ) (kind : Kind B) → Sent (told_from n to slot fs) k kind
+      → (k ≡ n) × QuietKind members sent n kind
   told_quiet sent to slot [] ok k kind s = absurd (sent_nil k kind s)
   told_quiet sent to slot (f ∷ fs) ok k kind s =
       ⊎_elim
@@ -381,13 +372,11 @@ module _ {B : Type 0} (same : B → B → Bool) (equal : IsEquality same) (membe
       (λ e c. absurd (sent_nil k kind c))
       a)
       (λ b. told_quiet sent to slot fs (λ g h. ok g (there h)) k kind b)
-      (sent_cases (if nat_le slot f.slot && nat_lt f.slot (slot + 64) then packet n (Learned f.slot f.entry) to ∷ [] else [])
-      (told_from n to slot fs) s)
+      (sent_cases (if nat_le slot f.slot && nat_lt f.slot (slot + 64) then packet n (Learned f.slot f.entry) to ∷ [] else []) (told_from n to slot fs) s)
 
   ask_step : (t : Turn B) (from slot : ℕ) → St t → Fr t → To t (send (told_from n from slot t.node.learner.learned) t)
   ask_step t from slot inv free =
-      sends t (told_from n from slot t.node.learner.learned) inv free
-      (told_quiet (all t) from slot t.node.learner.learned (mine t inv).learned)
+      sends t (told_from n from slot t.node.learner.learned) inv free (told_quiet (all t) from slot t.node.learner.learned (mine t inv).learned)
 
   forward_step : (t : Turn B) (es : List (Entry B)) → St t → Fr t → To t (on_forward same members n es t)
   forward_step t es inv free =
@@ -410,15 +399,13 @@ module _ {B : Type 0} (same : B → B → Bool) (equal : IsEquality same) (membe
   deliver_step t from kind inv free s =
       let g = role_path t inv t.node.proposer.role (saw kind t.node).proposer.seen (mine t inv).role in
       step_on same equal members many at n before g
-      (packet_step (record t { node = saw kind t.node }) from kind g.going.inv
-      (free_same t (record t { node = saw kind t.node }) g.going refl free) s)
+      (packet_step (record t { node = saw kind t.node }) from kind g.going.inv (free_same t (record t { node = saw kind t.node }) g.going refl free) s)
 
   -- Start
 
   start_may : (o : Option Ballot) (seen : ℕ) → may_promise o (record { round = suc (max seen (round_of o)); node = n }) ≡ true
   start_may None seen = refl
-  start_may (Some p) seen =
-      or_left' (eqb p.round (suc (max seen p.round)) && ltb p.node n) (lt-ltb p.round (suc (max seen p.round)) (omega arith))
+  start_may (Some p) seen = or_left' (eqb p.round (suc (max seen p.round)) && ltb p.node n) (lt-ltb p.round (suc (max seen p.round)) (omega arith))
     where
       or_left' : {a : Bool} (b : Bool) → a ≡ true → (a || b) ≡ true
       or_left' b e = rw e refl
@@ -446,13 +433,12 @@ module _ {B : Type 0} (same : B → B → Bool) (equal : IsEquality same) (membe
   -- Tick
 
   offers_quiet : (sent : List (Packet B)) (learned : List (LearnedEntry B)) (vs : List (Vote B))
-      → ((v : Vote B) → Has vs v → (v.ballot.node ≡ n) × Known sent (Accept v)) → (k : ℕ) (kind : Kind B)
-      → Sent (accepts_again members n learned vs) k kind → (k ≡ n) × QuietKind members sent n kind
+      → ((v : Vote B) → Has vs v → (v.ballot.node ≡ n) × Known sent (Accept v)) → (k : ℕ) (kind : Kind B) → Sent (accepts_again members n learned vs) k kind
+      → (k ≡ n) × QuietKind members sent n kind
   offers_quiet sent learned [] ok k kind s = absurd (sent_nil k kind s)
   offers_quiet sent learned (v ∷ vs) ok k kind s =
       ⊎_elim
-      (λ b. cond_both (is_learned v.slot learned) [] (to_others members n (Accept v))
-      (λ l. Sent l k kind → (k ≡ n) × QuietKind members sent n kind)
+      (λ b. cond_both (is_learned v.slot learned) [] (to_others members n (Accept v)) (λ l. Sent l k kind → (k ≡ n) × QuietKind members sent n kind)
       (λ t c. absurd (sent_nil k kind c))
       (λ t c. let o = sent_to_others members n (Accept v) k kind c in (o.0, subst (λ z. QuietKind members sent n z) o.1 (ok v here)))
       b)
@@ -460,8 +446,7 @@ module _ {B : Type 0} (same : B → B → Bool) (equal : IsEquality same) (membe
       (sent_cases (if is_learned v.slot learned then [] else to_others members n (Accept v)) (accepts_again members n learned vs) s)
 
   again_quiet : (promised : ℕ → Option Ballot) (o : Option Ballot) (sent : List (Packet B)) (learned : List (LearnedEntry B)) (r : Role B)
-      → RoleOk promised o sent n r → (k : ℕ) (kind : Kind B) → Sent (again members n r learned) k kind
-      → (k ≡ n) × QuietKind members sent n kind
+      → RoleOk promised o sent n r → (k : ℕ) (kind : Kind B) → Sent (again members n r learned) k kind → (k ≡ n) × QuietKind members sent n kind
   again_quiet promised o sent learned Idle ok k kind s = absurd (sent_nil k kind s)
   again_quiet promised o sent learned (Preparing b floor cs) ok k kind s =
       let z = sent_to_some n (filter (λ j. not (is_counted cs j)) (others n members)) (Prepare b floor) k kind s in
@@ -483,9 +468,7 @@ module _ {B : Type 0} (same : B → B → Bool) (equal : IsEquality same) (membe
       sends t (again members n t.node.proposer.role t.node.learner.learned) inv free
       (again_quiet (now t) t.node.rows.promised (all t) t.node.learner.learned t.node.proposer.role (mine t inv).role) in
       let b = push_step (send (again members n t.node.proposer.role t.node.learner.learned) t) a.path.going.inv a.free in
-      then_to a
-      (then_to b (asks_step (push same members n (send (again members n t.node.proposer.role t.node.learner.learned) t))
-      b.path.going.inv b.free))
+      then_to a (then_to b (asks_step (push same members n (send (again members n t.node.proposer.role t.node.learner.learned) t)) b.path.going.inv b.free))
 
   -- Take and Suspect
 
@@ -498,8 +481,7 @@ module _ {B : Type 0} (same : B → B → Bool) (equal : IsEquality same) (membe
 
       go : (b : Bool) → takes t.node ≡ b → ToBy (if b then suc t.node.taken else t.node.taken) t (if b then push same members n u else t)
       go true e =
-          let a = pending_step t inv free (with_item n transport body t.node).pending (suc t.node.taken) in
-          then_to a (push_step u a.path.going.inv a.free)
+          let a = pending_step t inv free (with_item n transport body t.node).pending (suc t.node.taken) in then_to a (push_step u a.path.going.inv a.free)
       go false e = stood t inv free
 
   pub suspect_step : (t : Turn B) (lost : Option (Entry B)) → St t → Fr t → To t (suspected same members n lost t)

@@ -1,6 +1,6 @@
 -- Every entry of a node and of its packets comes from what it was given: of any property of entries, kept through an event.
-use Rattle.std.proofs.Common.{◌≡◌, ⊎_elim, ℕ, zero, suc, ◌+◌, ◌-◌, Bool, true, false, not, ◌&&◌, eqb, refl, sym, subst, List, [], ◌∷◌, ◌++◌}
-use Rattle.std.proofs.Common.{length, map, Option, Some, None}
+use Rattle.std.proofs.Common.{◌≡◌, ⊎_elim, ℕ, zero, suc, ◌+◌, ◌-◌, Bool, true, false, not, ◌&&◌, eqb, refl, sym, subst, List, [], ◌∷◌, ◌++◌, length}
+use Rattle.std.proofs.Common.{map, Option, Some, None}
 use Rattle.std.specs.Prelude.{filter, if◌then◌else◌, nat_lt, nat_le, take}
 use Rattle.std.proofs.lemmas.Bool.{cond_both, cond-true}
 use Rattle.cluster_world.proofs.Lists.{has_cons, has_nil, has_one, has_cases, has_map, has_filter}
@@ -38,8 +38,8 @@ use Rattle.paxos_node.specs.Turn.{with_role, with_pending, begun, voted_at, coun
 use Rattle.paxos_node.specs.Proposals.{offer, propose_as, propose, propose_all, lead, stands, propose_new, propose_each, forwarded, push}
 use Rattle.paxos_node.specs.Replies.{saw, refuse, on_prepare, on_accept, count_promise, on_promise_as, told_from, on_packet}
 use Rattle.paxos_node.specs.Applying.{note, ends, go_down, apply_all, settle}
-use Rattle.paxos_node.specs.Events.{takes, new_item, with_item, on_take, accepts_again, again, on_tick, begin, starts, on_start, has_room}
-use Rattle.paxos_node.specs.Events.{new_lost, suspected, outcome_of, taken_by, suspected_by, made_by}
+use Rattle.paxos_node.specs.Events.{takes, new_item, with_item, on_take, accepts_again, again, on_tick, begin, starts, on_start, has_room, new_lost}
+use Rattle.paxos_node.specs.Events.{suspected, outcome_of, taken_by, suspected_by, made_by}
 
 take_has : {A : Type 0} (n : ℕ) (xs : List A) (x : A) → Has (take n xs) x → Has xs x
 take_has zero xs x h = absurd (has_nil h)
@@ -115,8 +115,7 @@ module _ {B : Type 0} (G : Entry B → Type 0) where
 
   learn_good : (slot : ℕ) (e : Entry B) (l : LearnerState B) → LearnedGood l.learned → G e → LearnedGood (learn slot e l).learned
   learn_good slot e l ok g =
-      cond_both (is_learned slot l.learned) l
-      (record { heard = l.heard; learned = put_learned (record { slot = slot; entry = e }) l.learned })
+      cond_both (is_learned slot l.learned) l (record { heard = l.heard; learned = put_learned (record { slot = slot; entry = e }) l.learned })
       (λ (y : LearnerState B). LearnedGood y.learned) (λ t. ok)
       (λ t f h. ⊎_elim (λ s. subst (λ (z : LearnedEntry B). G z.entry) s g) (λ o. ok f o)
       (learned_cases (record { slot = slot; entry = e }) l.learned f h))
@@ -127,11 +126,9 @@ module _ {B : Type 0} (G : Entry B → Type 0) where
       (record { heard = l.heard ++ record { slot = v.slot; ballot = v.ballot; node = k } ∷ []; learned = l.learned })
       (λ (y : LearnerState B). LearnedGood y.learned) (λ t. ok) (λ t. ok)
 
-  count_good : (members k : ℕ) (v : Vote B) (l : LearnerState B) → LearnedGood l.learned → G v.entry
-      → LearnedGood (count_vote members k v l).learned
+  count_good : (members k : ℕ) (v : Vote B) (l : LearnerState B) → LearnedGood l.learned → G v.entry → LearnedGood (count_vote members k v l).learned
   count_good members k v l ok g =
-      cond_both (has_most members v (hears k v l)) (learn v.slot v.entry (hears k v l)) (hears k v l)
-      (λ (y : LearnerState B). LearnedGood y.learned)
+      cond_both (has_most members v (hears k v l)) (learn v.slot v.entry (hears k v l)) (hears k v l) (λ (y : LearnerState B). LearnedGood y.learned)
       (λ t. learn_good v.slot v.entry (hears k v l) (hears_good k v l ok) g)
       (λ t. hears_good k v l ok)
 
@@ -154,13 +151,7 @@ module _ {B : Type 0} (G : Entry B → Type 0) where
 
   counted_good : (members k : ℕ) (v : Vote B) (x : NodeState B) → NodeGood x → G v.entry → NodeGood (counted_at members k v x)
   counted_good members k v x ok g =
-      record {
-        votes = ok.votes;
-        role = ok.role;
-        learned = count_good members k v x.learner ok.learned g;
-        applied = ok.applied;
-        pending = ok.pending;
-      }
+      record { votes = ok.votes; role = ok.role; learned = count_good members k v x.learner ok.learned g; applied = ok.applied; pending = ok.pending }
 
   module _ (same : B → B → Bool) (members n : ℕ) where
     cast_good : (v : Vote B) (t : Turn B) → TurnGood t → G v.entry → TurnGood (cast same members n v t)
@@ -177,8 +168,8 @@ module _ {B : Type 0} (G : Entry B → Type 0) where
 
     prepare_good : (from : ℕ) (b : Ballot) (floor : ℕ) (t : Turn B) → TurnGood t → TurnGood (on_prepare n from b floor t)
     prepare_good from b floor t ok =
-        cond_both (may_promise t.node.rows.promised b)
-        (send (packet n (Promise b (votes_from floor t.node.rows.votes)) from ∷ []) (promise b t)) (refuse n from b t) (λ u. TurnGood u)
+        cond_both (may_promise t.node.rows.promised b) (send (packet n (Promise b (votes_from floor t.node.rows.votes)) from ∷ []) (promise b t))
+        (refuse n from b t) (λ u. TurnGood u)
         (λ e. record {
           node =
               record {
@@ -190,8 +181,7 @@ module _ {B : Type 0} (G : Entry B → Type 0) where
               };
           out =
               sent_good t.packets _ ok.out
-              (one_good n from (Promise b (votes_from floor t.node.rows.votes))
-              (λ v h. ok.node.votes v (has_from floor t.node.rows.votes v h)));
+              (one_good n from (Promise b (votes_from floor t.node.rows.votes)) (λ v h. ok.node.votes v (has_from floor t.node.rows.votes v h)));
         })
         (λ e. refuse_good from b t ok)
 
@@ -209,16 +199,13 @@ module _ {B : Type 0} (G : Entry B → Type 0) where
         record {
           node = record {
             votes = ok.node.votes;
-            role =
-                λ v h.
-                ⊎_elim (λ o. rg v o) (λ s. subst (λ (z : Vote B). G z.entry) (has_one s) g) (has_cases table (next_vote b next e ∷ []) h);
+            role = λ v h. ⊎_elim (λ o. rg v o) (λ s. subst (λ (z : Vote B). G z.entry) (has_one s) g) (has_cases table (next_vote b next e ∷ []) h);
             learned = ok.node.learned;
             applied = ok.node.applied;
             pending = ok.node.pending;
           };
           out =
-              sent_good t.packets (to_others members n (Accept (next_vote b next e))) ok.out
-              (others_good members n (Accept (next_vote b next e)) g);
+              sent_good t.packets (to_others members n (Accept (next_vote b next e))) ok.out (others_good members n (Accept (next_vote b next e)) g);
         }
 
     propose_as_good : (r : Role B) (e : Entry B) (t : Turn B) → RoleGood r → TurnGood t → G e → TurnGood (propose_as same members n r e t)
@@ -234,8 +221,7 @@ module _ {B : Type 0} (G : Entry B → Type 0) where
 
     propose_all_good : (es : List (Entry B)) (t : Turn B) → TurnGood t → Each es → TurnGood (propose_all same members n es t)
     propose_all_good [] t ok g = ok
-    propose_all_good (e ∷ es) t ok g =
-        propose_all_good es (propose same members n e t) (propose_good e t ok (g e here)) (λ f h. g f (there h))
+    propose_all_good (e ∷ es) t ok g = propose_all_good es (propose same members n e t) (propose_good e t ok (g e here)) (λ f h. g f (there h))
 
     propose_new_good : (e : Entry B) (t : Turn B) → TurnGood t → G e → TurnGood (propose_new same members n e t)
     propose_new_good e t ok g =
@@ -261,8 +247,7 @@ module _ {B : Type 0} (G : Entry B → Type 0) where
         cond_both (is_leading t.node.proposer.role) (propose_each same members n t.node.pending t)
         (send (forwarded n t.node.rows.promised t.node.pending) t) (λ u. TurnGood u)
         (λ d. propose_each_good t.node.pending t ok ok.node.pending)
-        (λ d. send_good (forwarded n t.node.rows.promised t.node.pending) t ok
-        (forward_good t.node.rows.promised t.node.pending ok.node.pending))
+        (λ d. send_good (forwarded n t.node.rows.promised t.node.pending) t ok (forward_good t.node.rows.promised t.node.pending ok.node.pending))
 
     pending_good : (pending : List (Entry B)) (taken : ℕ) (t : Turn B) → TurnGood t → Each pending
         → TurnGood (record t { node = record t.node { pending = pending; taken = taken } })
@@ -285,15 +270,14 @@ module _ {B : Type 0} (G : Entry B → Type 0) where
       called_good vs g slot (suc k) e h =
           ⊎_elim (λ s. subst (λ z. G z) s (entry_good slot vs g)) (λ o. called_good vs g (suc slot) k e o) (has_cons h)
 
-      lead_good : (b : Ballot) (floor : ℕ) (vs : List (Vote B)) (t : Turn B) → TurnGood t → VotesGood vs
-          → TurnGood (lead same members n b floor vs t)
+      lead_good : (b : Ballot) (floor : ℕ) (vs : List (Vote B)) (t : Turn B) → TurnGood t → VotesGood vs → TurnGood (lead same members n b floor vs t)
       lead_good b floor vs t ok g =
           propose_all_good (called_for floor vs) (record t { node = with_role (Leading b floor []) t.node })
           (role_good (Leading b floor []) t.node.proposer.seen t ok (λ v h. absurd (has_nil h)))
           (called_good vs g floor (past_reports floor vs - floor))
 
-      promise_as_good : (from : ℕ) (b : Ballot) (votes : List (Vote B)) (r : Role B) (t : Turn B) → RoleGood r → TurnGood t
-          → VotesGood votes → TurnGood (on_promise_as same members n from b votes r t)
+      promise_as_good : (from : ℕ) (b : Ballot) (votes : List (Vote B)) (r : Role B) (t : Turn B) → RoleGood r → TurnGood t → VotesGood votes
+          → TurnGood (on_promise_as same members n from b votes r t)
       promise_as_good from b votes Idle t rg ok g = ok
       promise_as_good from b votes (Leading c next table) t rg ok g = ok
       promise_as_good from b votes (Preparing c floor cs) t rg ok g =
@@ -340,8 +324,8 @@ module _ {B : Type 0} (G : Entry B → Type 0) where
       packet_good from (Nack b p) t ok g =
           role_good (nacked b p t.node.proposer.role) t.node.proposer.seen t ok (nacked_good b p t.node.proposer.role ok.node.role)
       packet_good from (Forward es) t ok g =
-          cond_both (is_leading t.node.proposer.role) (propose_each same members n es t) t (λ u. TurnGood u)
-          (λ d. propose_each_good es t ok g) (λ d. ok)
+          cond_both (is_leading t.node.proposer.role) (propose_each same members n es t) t (λ u. TurnGood u) (λ d. propose_each_good es t ok g)
+          (λ d. ok)
       packet_good from (Ask slot) t ok g =
           send_good (told_from n from slot t.node.learner.learned) t ok (told_good from slot t.node.learner.learned ok.node.learned)
       packet_good from (Learned slot e) t ok g =
@@ -364,9 +348,7 @@ module _ {B : Type 0} (G : Entry B → Type 0) where
           node = record {
             votes = ok.node.votes;
             role =
-                λ c h v i.
-                ok.node.votes v
-                (has_from floor t.node.rows.votes v (subst (λ (z : CountedPromise B). Has z.votes v) (sym (has_one h)) i));
+                λ c h v i. ok.node.votes v (has_from floor t.node.rows.votes v (subst (λ (z : CountedPromise B). Has z.votes v) (sym (has_one h)) i));
             learned = ok.node.learned;
             applied = ok.node.applied;
             pending = ok.node.pending;
@@ -392,8 +374,7 @@ module _ {B : Type 0} (G : Entry B → Type 0) where
 
     again_good : (r : Role B) (learned : List (LearnedEntry B)) → RoleGood r → SentGood (again members n r learned)
     again_good Idle learned g p h = absurd (has_nil h)
-    again_good (Preparing b floor cs) learned g p h =
-        some_good n (filter (λ j. not (is_counted cs j)) (others n members)) (Prepare b floor) tt p h
+    again_good (Preparing b floor cs) learned g p h = some_good n (filter (λ j. not (is_counted cs j)) (others n members)) (Prepare b floor) tt p h
     again_good (Leading b next table) learned g p h = accepts_good learned table g p h
 
     tick_good : (t : Turn B) → TurnGood t → TurnGood (on_tick same members n t)
@@ -410,25 +391,20 @@ module _ {B : Type 0} (G : Entry B → Type 0) where
         → TurnGood (on_take same members n transport body t)
     take_good transport body t ok g =
         cond_both (takes t.node) (push same members n (record t { node = with_item n transport body t.node })) t (λ u. TurnGood u)
-        (λ d. push_good (record t { node = with_item n transport body t.node })
-        (pending_good (t.node.pending ++ item ∷ []) (suc t.node.taken) t ok
-        (each_push t.node.pending item ok.node.pending
-        (g item (subst (λ l. Has l item) (sym (cond-true (takes t.node) (item ∷ []) [] d)) here)))))
+        (λ d. push_good (record t { node = with_item n transport body t.node }) (pending_good (t.node.pending ++ item ∷ []) (suc t.node.taken) t ok
+        (each_push t.node.pending item ok.node.pending (g item (subst (λ l. Has l item) (sym (cond-true (takes t.node) (item ∷ []) [] d)) here)))))
         (λ d. ok)
       where
         item : Entry B
         item = new_item n transport body t.node
 
-    suspect_good : (lost : Option (Entry B)) (t : Turn B) → TurnGood t → Each (suspected_by lost t.node)
-        → TurnGood (suspected same members n lost t)
+    suspect_good : (lost : Option (Entry B)) (t : Turn B) → TurnGood t → Each (suspected_by lost t.node) → TurnGood (suspected same members n lost t)
     suspect_good None t ok g = ok
     suspect_good (Some lost) t ok g =
-        cond_both (has_room t.node) (push same members n (record t { node = with_pending (t.node.pending ++ lost ∷ []) t.node })) t
-        (λ u. TurnGood u)
+        cond_both (has_room t.node) (push same members n (record t { node = with_pending (t.node.pending ++ lost ∷ []) t.node })) t (λ u. TurnGood u)
         (λ d. push_good (record t { node = with_pending (t.node.pending ++ lost ∷ []) t.node })
         (pending_good (t.node.pending ++ lost ∷ []) t.node.taken t ok
-        (each_push t.node.pending lost ok.node.pending
-        (g lost (subst (λ l. Has l lost) (sym (cond-true (has_room t.node) (lost ∷ []) [] d)) here)))))
+        (each_push t.node.pending lost ok.node.pending (g lost (subst (λ l. Has l lost) (sym (cond-true (has_room t.node) (lost ∷ []) [] d)) here)))))
         (λ d. ok)
 
   -- what is learned is applied

@@ -1,6 +1,6 @@
 -- Each entry of a log is an act that was taken, a boot that a node had, or a suspicion.
-use Rattle.std.proofs.Common.{◌≡◌, ◌⊎◌, inl, inr, ⊎_elim, ℕ, zero, suc, ◌+◌, ◌<◌, Bool, true, false, ◌&&◌, eqb, refl, sym, ap, ◌∙◌, subst}
-use Rattle.std.proofs.Common.{arith, List, [], ◌∷◌, ◌++◌, length, length-append, Option, Some, None}
+use Rattle.std.proofs.Common.{◌≡◌, ◌⊎◌, inl, inr, ⊎_elim, ℕ, zero, suc, ◌+◌, ◌<◌, Bool, true, false, ◌&&◌, eqb, refl, sym, ap, ◌∙◌, subst, arith, List, []}
+use Rattle.std.proofs.Common.{◌∷◌, ◌++◌, length, length-append, Option, Some, None}
 use Rattle.std.specs.Prelude.{slice_get, slice_index_or, nat_lt}
 use Rattle.std.proofs.lemmas.List.{append-nil, length-set}
 use Rattle.std.proofs.lemmas.List.Elements.{filter_map-append}
@@ -19,10 +19,8 @@ use Rattle.paxos_node.specs.declared.event.Event.TheVariants.{Take, Tick, Start,
 use Rattle.paxos_node.specs.declared.state.NodeState.{NodeState}
 use Rattle.paxos_node.specs.declared.turn.Turn.{Turn}
 use Rattle.paxos_node.specs.Applying.{started, first_rows}
-use Rattle.paxos_node.specs.Events.{takes, new_item, has_room, is_pending, new_lost_of, new_lost, owner, possible, outcome_of, suspected_by}
-use Rattle.paxos_node.specs.Events.{made_by}
-use Rattle.cluster_world.specs.World.{World, absent, node_at, put_node, founded, first_boots, first_world, was_sent, done, next, play}
-use Rattle.cluster_world.specs.World.{played, log_of}
+use Rattle.paxos_node.specs.Events.{takes, new_item, has_room, is_pending, new_lost_of, new_lost, owner, possible, outcome_of, suspected_by, made_by}
+use Rattle.cluster_world.specs.World.{World, absent, node_at, put_node, founded, first_boots, first_world, was_sent, done, next, play, played, log_of}
 use Rattle.cluster_world.specs.Origins.{Act, act_in, acts_of, ItemsWereTaken}
 use Rattle.paxos_packets.specs.Body.{IsEquality}
 
@@ -40,8 +38,7 @@ module _ {B : Type 0} (same : B → B → Bool) (members : ℕ) where
   abbrev May : World B → Event B → Type 0
   May w e = (was_sent same e w.sent ≡ true) × (possible e (at' w e) ≡ true)
 
-  by_next : (P : World B → Type 0) (w : World B) (e : Event B) → P w → (May w e → P (done same w e (at' w e) (goes w e)))
-      → P (next same members w e)
+  by_next : (P : World B → Type 0) (w : World B) (e : Event B) → P w → (May w e → P (done same w e (at' w e) (goes w e))) → P (next same members w e)
   by_next P w e stay go =
       cond_both (was_sent same e w.sent && possible e (at' w e)) (done same w e (at' w e) (goes w e)) w P
       (λ t. go (and_parts (was_sent same e w.sent) (possible e (at' w e)) t)) (λ t. stay)
@@ -60,8 +57,7 @@ module _ {B : Type 0} (same : B → B → Bool) (members : ℕ) where
 
   pub founded_length : (n : ℕ) → length (founded {B = B} n) ≡ n
   founded_length zero = refl
-  founded_length (suc n) =
-      length-append (founded {B = B} n) (started (suc n) first_rows ∷ []) ∙ (ap (λ k. k + 1) (founded_length n) ∙ plus_one n)
+  founded_length (suc n) = length-append (founded {B = B} n) (started (suc n) first_rows ∷ []) ∙ (ap (λ k. k + 1) (founded_length n) ∙ plus_one n)
     where
       plus_one : (k : ℕ) → k + 1 ≡ suc k
       plus_one k = omega arith
@@ -90,14 +86,11 @@ module _ {B : Type 0} (same : B → B → Bool) (members : ℕ) where
       where
         go : May w e → Each G (done same w e (at' w e) (goes w e)).made → AllGood (done same w e (at' w e) (goes w e))
         go may g =
-            let t =
-            outcome_good G same members noop e (at' w e) (ok.nodes (owner e)) (event_good w e ok may.0)
-            (λ x h. g x (has_right w.made h)) in
+            let t = outcome_good G same members noop e (at' w e) (ok.nodes (owner e)) (event_good w e ok may.0) (λ x h. g x (has_right w.made h)) in
             record {
               nodes = λ k. ⊎_elim
                   (λ (i : k ≡ owner e). subst (λ j. NodeGood G (node_at (put_node w.nodes (owner e) (goes w e).node) j)) (sym i)
-                  (subst (λ x. NodeGood G x) (sym (node_same w.nodes (owner e) (goes w e).node (within w.nodes e (owner e) may.1)))
-                  t.node))
+                  (subst (λ x. NodeGood G x) (sym (node_same w.nodes (owner e) (goes w e).node (within w.nodes e (owner e) may.1))) t.node))
                   (λ i. subst (λ x. NodeGood G x) (sym (node_other w.nodes (owner e) (goes w e).node k i)) (ok.nodes k))
                   (cases_eq k (owner e));
               sent = sent_good G w.sent (goes w e).packets ok.sent t.out;
@@ -110,8 +103,7 @@ module _ {B : Type 0} (same : B → B → Bool) (members : ℕ) where
     made_play [] w x h = h
     made_play (e ∷ events) w x h = made_play events (next same members w e) x (made_next w e x h)
 
-    play_good : (events : List (Event B)) (w : World B) → AllGood w → Each G (play same members events w).made
-        → AllGood (play same members events w)
+    play_good : (events : List (Event B)) (w : World B) → AllGood w → Each G (play same members events w).made → AllGood (play same members events w)
     play_good [] w ok g = ok
     play_good (e ∷ events) w ok g =
         play_good events (next same members w e) (next_good w e ok (λ x h. g x (made_play events (next same members w e) x h))) g
@@ -156,8 +148,7 @@ module _ {B : Type 0} (same : B → B → Bool) (members : ℕ) where
         at zero = absent_good
         at (suc k) = founded_good members g k
 
-    log_good : (events : List (Event B)) → Each G (played same members events).made → (k : ℕ)
-        → Each G (log_of (played same members events) k)
+    log_good : (events : List (Event B)) → Each G (played same members events).made → (k : ℕ) → Each G (log_of (played same members events) k)
     log_good events g k =
         ((play_good events (first_world members) (first_good (λ x h. g x (made_play events (first_world members) x h))) g).nodes k).applied
 
@@ -175,8 +166,7 @@ module _ {B : Type 0} (same : B → B → Bool) (members : ℕ) where
     quiet : (k b : ℕ) → ((k ≡ owner e) → (b ≡ x.rows.boot) → ⊥) → acts_of k b (made_by same e x) ≡ []
     own : length (acts_of (owner e) x.rows.boot (made_by same e x)) + x.taken ≡ acts_after e x
     item : (n b q t : ℕ) (y : B) → Has (made_by same e x) (Item n b q t y)
-        → (x.up ≡ true) × (n ≡ owner e) × (b ≡ x.rows.boot) × (q ≡ suc x.taken)
-        × (acts_of n b (made_by same e x) ≡ record { transport = t; body = y } ∷ [])
+        → (x.up ≡ true) × (n ≡ owner e) × (b ≡ x.rows.boot) × (q ≡ suc x.taken) × (acts_of n b (made_by same e x) ≡ record { transport = t; body = y } ∷ [])
 
   adds_none : (e : Event B) (x : NodeState B) → made_by same e x ≡ [] → acts_after e x ≡ x.taken → Adds e x
   adds_none e x none after =
@@ -205,8 +195,7 @@ module _ {B : Type 0} (same : B → B → Bool) (members : ℕ) where
       mine = rw (and_from (eqb n n) (eqb x.rows.boot x.rows.boot) (eq-eqb n n refl) (eq-eqb x.rows.boot x.rows.boot refl)) refl
 
       other : (k b : ℕ) → ((k ≡ n) → (b ≡ x.rows.boot) → ⊥) → (z : Bool) → test k b ≡ z → acts_of k b (item' ∷ []) ≡ []
-      other k b d true e =
-          let p = and_parts (eqb n k) (eqb x.rows.boot b) e in absurd (d (sym (eqb-true n k p.0)) (sym (eqb-true x.rows.boot b p.1)))
+      other k b d true e = let p = and_parts (eqb n k) (eqb x.rows.boot b) e in absurd (d (sym (eqb-true n k p.0)) (sym (eqb-true x.rows.boot b p.1)))
       other k b d false e = rw e refl
 
       Goal : List (Entry B) → ℕ → Type 0
@@ -216,18 +205,13 @@ module _ {B : Type 0} (same : B → B → Bool) (members : ℕ) where
           × (acts_of m b made ≡ record { transport = u; body = y } ∷ []))
 
       some : Goal (item' ∷ []) (suc x.taken)
-      some = (
-        λ k b d. other k b d (test k b) refl,
-        ap (λ l. length l + x.taken) mine ∙ one_plus x.taken,
-        λ m b q u y h. found m b q u y (has_one h),
-      )
+      some = (λ k b d. other k b d (test k b) refl, ap (λ l. length l + x.taken) mine ∙ one_plus x.taken, λ m b q u y h. found m b q u y (has_one h))
         where
           one_plus : (k : ℕ) → 1 + k ≡ suc k
           one_plus k = omega arith
 
           found : (m b q u : ℕ) (y : B) → item' ≡ Item m b q u y
-              → (x.up ≡ true) × (m ≡ n) × (b ≡ x.rows.boot) × (q ≡ suc x.taken)
-              × (acts_of m b (item' ∷ []) ≡ record { transport = u; body = y } ∷ [])
+              → (x.up ≡ true) × (m ≡ n) × (b ≡ x.rows.boot) × (q ≡ suc x.taken) × (acts_of m b (item' ∷ []) ≡ record { transport = u; body = y } ∷ [])
           found m b q u y e =
               let en : n ≡ m = cc in
               let eb : x.rows.boot ≡ b = cc in
@@ -238,8 +222,8 @@ module _ {B : Type 0} (same : B → B → Bool) (members : ℕ) where
                 sym en,
                 sym eb,
                 sym eq,
-                subst (λ (z : ℕ × ℕ). acts_of z.0 z.1 (item' ∷ []) ≡ record { transport = u; body = y } ∷ [])
-                    (λ i. (en i, eb i)) (mine ∙ (λ i. record { transport = et i; body = ey i } ∷ [])),
+                subst (λ (z : ℕ × ℕ). acts_of z.0 z.1 (item' ∷ []) ≡ record { transport = u; body = y } ∷ []) (λ i. (en i, eb i))
+                    (mine ∙ (λ i. record { transport = et i; body = ey i } ∷ [])),
               )
 
       none : Goal [] x.taken
@@ -262,8 +246,8 @@ module _ {B : Type 0} (same : B → B → Bool) (members : ℕ) where
           (λ i. (sym (cond-false (takes x) (item' ∷ []) [] e) i, sym (cond-false (takes x) (suc x.taken) x.taken e) i)) none)
 
   -- an entry that is no Item adds no act
-  adds_other : (e : Event B) (x : NodeState B) (lost : Entry B) → ((k b : ℕ) → act_in k b lost ≡ None)
-      → ((n b q t : ℕ) (y : B) → lost ≡ Item n b q t y → ⊥) → made_by same e x ≡ lost ∷ [] → acts_after e x ≡ x.taken → Adds e x
+  adds_other : (e : Event B) (x : NodeState B) (lost : Entry B) → ((k b : ℕ) → act_in k b lost ≡ None) → ((n b q t : ℕ) (y : B) → lost ≡ Item n b q t y → ⊥)
+      → made_by same e x ≡ lost ∷ [] → acts_after e x ≡ x.taken → Adds e x
   adds_other e x lost empties differ is after =
       record {
         quiet = λ k b d. empty k b;
@@ -293,26 +277,21 @@ module _ {B : Type 0} (same : B → B → Bool) (members : ℕ) where
       by_room b is true r = lost_adds b (ap (λ o. suspected_by o x) is ∙ cond-true (has_room x) (Lost other b ∷ []) [] r)
       by_room b is false r = adds_none e x (ap (λ o. suspected_by o x) is ∙ cond-false (has_room x) (Lost other b ∷ []) [] r) refl
 
-      by_pending : (b : ℕ) → new_lost same n other x ≡ new_lost_of same other (Some b) x.pending → (z : Bool)
-          → is_pending same x.pending (Lost other b) ≡ z → Adds e x
+      by_pending : (b : ℕ) → new_lost same n other x ≡ new_lost_of same other (Some b) x.pending → (z : Bool) → is_pending same x.pending (Lost other b) ≡ z
+          → Adds e x
       by_pending b is true p =
-          adds_none e x
-          (ap (λ o. suspected_by o x) (is ∙ cond-true (is_pending same x.pending (Lost other b)) None (Some (Lost other b)) p)) refl
-      by_pending b is false p =
-          by_room b (is ∙ cond-false (is_pending same x.pending (Lost other b)) None (Some (Lost other b)) p) (has_room x) refl
+          adds_none e x (ap (λ o. suspected_by o x) (is ∙ cond-true (is_pending same x.pending (Lost other b)) None (Some (Lost other b)) p)) refl
+      by_pending b is false p = by_room b (is ∙ cond-false (is_pending same x.pending (Lost other b)) None (Some (Lost other b)) p) (has_room x) refl
 
       by_live : new_lost same n other x ≡ new_lost_of same other (live_in (standing other x.applied)) x.pending → (o : Option ℕ)
           → live_in (standing other x.applied) ≡ o → Adds e x
       by_live is None l = adds_none e x (ap (λ o. suspected_by o x) (is ∙ ap (λ o. new_lost_of same other o x.pending) l)) refl
-      by_live is (Some b) l =
-          by_pending b (is ∙ ap (λ o. new_lost_of same other o x.pending) l) (is_pending same x.pending (Lost other b)) refl
+      by_live is (Some b) l = by_pending b (is ∙ ap (λ o. new_lost_of same other o x.pending) l) (is_pending same x.pending (Lost other b)) refl
 
       by_other : (z : Bool) → eqb other n ≡ z → Adds e x
       by_other true t =
           adds_none e x
-          (ap (λ o. suspected_by o x) (cond-true (eqb other n) None
-          (new_lost_of same other (live_in (standing other x.applied)) x.pending) t))
-          refl
+          (ap (λ o. suspected_by o x) (cond-true (eqb other n) None (new_lost_of same other (live_in (standing other x.applied)) x.pending) t)) refl
       by_other false t =
           by_live (cond-false (eqb other n) None (new_lost_of same other (live_in (standing other x.applied)) x.pending) t)
           (live_in (standing other x.applied)) refl
@@ -324,8 +303,7 @@ module _ {B : Type 0} (same : B → B → Bool) (members : ℕ) where
   event_adds (Suspect n other) x p = suspect_adds n other x
   event_adds (Deliver q) x p = adds_none (Deliver q) x refl refl
   event_adds (Crash n) x p = adds_none (Crash n) x refl refl
-  event_adds (Restart n) x p =
-      adds_other (Restart n) x (Boot n (suc x.rows.boot)) (λ k c. refl) (λ k c q t y d. differ k c q t y d) refl refl
+  event_adds (Restart n) x p = adds_other (Restart n) x (Boot n (suc x.rows.boot)) (λ k c. refl) (λ k c q t y d. differ k c q t y d) refl refl
     where
       differ : (k c q t : ℕ) (y : B) → Boot n (suc x.rows.boot) ≡ Item k c q t y → ⊥
       differ k c q t y d = cc
@@ -365,13 +343,11 @@ module _ {B : Type 0} (same : B → B → Bool) (members : ℕ) where
       record {
         counts = λ k. ⊎_elim
             (λ (i : k ≡ owner e). subst (λ j. CountOk (w.made ++ more) j (node_at (put_node w.nodes (owner e) o.node) j)) (sym i)
-            (subst (λ y. CountOk (w.made ++ more) (owner e) y) (sym (node_same w.nodes (owner e) o.node (within w.nodes e (owner e) p)))
-            mine))
+            (subst (λ y. CountOk (w.made ++ more) (owner e) y) (sym (node_same w.nodes (owner e) o.node (within w.nodes e (owner e) p))) mine))
             (λ i. subst (λ y. CountOk (w.made ++ more) k y) (sym (node_other w.nodes (owner e) o.node k i)) (record {
               now =
                   λ u.
-                  ap (λ l. length l) (same_acts k (node_at w.nodes k).rows.boot w.made more
-                  (adds.quiet k (node_at w.nodes k).rows.boot (λ a b. i a)))
+                  ap (λ l. length l) (same_acts k (node_at w.nodes k).rows.boot w.made more (adds.quiet k (node_at w.nodes k).rows.boot (λ a b. i a)))
                   ∙ (ok.counts k).now u;
               later = λ b l. same_acts k b w.made more (adds.quiet k b (λ a c. i a)) ∙ (ok.counts k).later b l;
             }))
@@ -403,16 +379,14 @@ module _ {B : Type 0} (same : B → B → Bool) (members : ℕ) where
       old = ok.counts (owner e)
 
       fresh : (n b q t : ℕ) (y : B)
-          → (x.up ≡ true) × (n ≡ owner e) × (b ≡ x.rows.boot) × (q ≡ suc x.taken)
-          × (acts_of n b more ≡ record { transport = t; body = y } ∷ [])
+          → (x.up ≡ true) × (n ≡ owner e) × (b ≡ x.rows.boot) × (q ≡ suc x.taken) × (acts_of n b more ≡ record { transport = t; body = y } ∷ [])
           → TakenAs (w.made ++ more) n b q t y
       fresh n b q t y a = (
         x.taken,
         a.3,
-        subst (λ l. slice_get l x.taken ≡ Some (record { transport = t; body = y }))
-            (sym (acts_on n b w.made more ∙ ap (λ l. acts_of n b w.made ++ l) a.4))
-            (subst (λ j. slice_get (acts_of n b w.made ++ record { transport = t; body = y } ∷ []) j
-            ≡ Some (record { transport = t; body = y })) count (at_end (acts_of n b w.made) (record { transport = t; body = y }))),
+        subst (λ l. slice_get l x.taken ≡ Some (record { transport = t; body = y })) (sym (acts_on n b w.made more ∙ ap (λ l. acts_of n b w.made ++ l) a.4))
+            (subst (λ j. slice_get (acts_of n b w.made ++ record { transport = t; body = y } ∷ []) j ≡ Some (record { transport = t; body = y })) count
+            (at_end (acts_of n b w.made) (record { transport = t; body = y }))),
       )
         where
           count : length (acts_of n b w.made) ≡ x.taken
@@ -479,8 +453,7 @@ module _ {B : Type 0} (same : B → B → Bool) (members : ℕ) where
 
   boots_only : (n k b q t : ℕ) (y : B) → Has (first_boots n) (Item k b q t y) → ⊥
   boots_only zero k b q t y h = has_nil h
-  boots_only (suc n) k b q t y h =
-      ⊎_elim (λ a. boots_only n k b q t y a) (λ a. differ (has_one a)) (has_cases (first_boots n) (Boot (suc n) 1 ∷ []) h)
+  boots_only (suc n) k b q t y h = ⊎_elim (λ a. boots_only n k b q t y a) (λ a. differ (has_one a)) (has_cases (first_boots n) (Boot (suc n) 1 ∷ []) h)
     where
       differ : Boot (suc n) 1 ≡ Item k b q t y → ⊥
       differ e = cc
@@ -507,15 +480,14 @@ module _ {B : Type 0} (same : B → B → Bool) (members : ℕ) where
         counts =
             λ k.
             record {
-              now = λ u. ap (λ l. length l) (boots_act members k (node_at (founded {B = B} members) k).rows.boot)
-                  ∙ sym (plain_taken members k);
+              now = λ u. ap (λ l. length l) (boots_act members k (node_at (founded {B = B} members) k).rows.boot) ∙ sym (plain_taken members k);
               later = λ b l. boots_act members k b;
             };
         taken = λ n b q t y h. absurd (boots_only members n b q t y h);
       })
 
-  pub item_was_taken : IsEquality same → (events : List (Event B)) (k n b q t : ℕ) (y : B)
-      → Has (log_of (played same members events) k) (Item n b q t y) → TakenAs (played same members events).made n b q t y
+  pub item_was_taken : IsEquality same → (events : List (Event B)) (k n b q t : ℕ) (y : B) → Has (log_of (played same members events) k) (Item n b q t y)
+      → TakenAs (played same members events).made n b q t y
   item_was_taken equal events k n b q t y h =
       ⊎_elim (λ e. absurd (differ e)) (λ a. (acts_ok events).taken n b q t y a) (log_was_made equal events k (Item n b q t y) h)
     where

@@ -5,7 +5,8 @@ use Rattle.paxos_packets.proofs.vote.find_in.Goals as goal
 
 pub returns-in-Ok : goal.returns-in-Ok
 returns-in-Ok g c =
-    hit c.args.slot c.in-Ok.place c.index-votes-place.result c.args.votes.now (ascends _ c.requires) (sym c.in-Ok.ensures.which) c.in-Ok.ensures.found
+    hit c.args.slot c.in-Ok.place c.index-votes-place.result c.args.votes.now (ascends _ c.requires) (sym c.in-Ok.ensures.which)
+    c.in-Ok.ensures.found
     c.index-votes-place.is
 
 pub returns-in-Err : goal.returns-in-Err

@@ -6,7 +6,8 @@ use Rattle.paxos_packets.proofs.vote.put_in.Goals as goal
 pub returns-in-Ok-clause-ok : goal.returns-in-Ok-clause-ok
 returns-in-Ok-clause-ok g c =
     let found = rw (c.get.ensures.value, c.deref.ensures.value) at (sym c.in-Ok.ensures.which) in
-    rw (c.in-Ok.ensures.found, c.get.ensures.value, c.deref.ensures.value) (put_found c.args.vote c.args.votes.now.items (ascends _ c.requires) found)
+    rw (c.in-Ok.ensures.found, c.get.ensures.value, c.deref.ensures.value)
+    (put_found c.args.vote c.args.votes.now.items (ascends _ c.requires) found)
 
 pub returns-in_ok-insert-in-Err-clause-ok : goal.returns-in_ok-insert-in-Err-clause-ok
 returns-in_ok-insert-in-Err-clause-ok g c =
@@ -15,7 +16,8 @@ returns-in_ok-insert-in-Err-clause-ok g c =
     (put_free c.args.vote c.args.votes.now.items free)
 
 pub returns-in-Ok-clause-ascending : goal.returns-in-Ok-clause-ascending
-returns-in-Ok-clause-ascending g c = rw (returns-in-Ok-clause-ok g c) (ascending _ (put_ascending c.args.vote c.args.votes.now.items (ascends _ c.requires)))
+returns-in-Ok-clause-ascending g c =
+    rw (returns-in-Ok-clause-ok g c) (ascending _ (put_ascending c.args.vote c.args.votes.now.items (ascends _ c.requires)))
 
 pub returns-in_ok-insert-in-Err-clause-ascending : goal.returns-in_ok-insert-in-Err-clause-ascending
 returns-in_ok-insert-in-Err-clause-ascending g c =

@@ -13,7 +13,8 @@ returns-in-Some-clause-which g c =
 pub returns-in_default-clause-which : goal.returns-in_default-clause-which
 returns-in_default-clause-which g c =
     sym
-    (seen_other c.args.slot c.place_of-place.result c.in-Some.vote.now c.args.votes.now (ascends _ c.requires) c.place_of-place.ensures.place
+    (seen_other c.args.slot c.place_of-place.result c.in-Some.vote.now c.args.votes.now (ascends _ c.requires)
+    c.place_of-place.ensures.place
     c.in-Some.ensures.lookup.1 (λ e. omega arith))
 
 pub returns-in_default-2-clause-which : goal.returns-in_default-2-clause-which
