@@ -1,2 +1,2 @@
-pub mod Ids
-pub mod Uris
+pub mod Id
+pub mod Uri

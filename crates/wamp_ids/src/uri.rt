@@ -1,8 +1,11 @@
-ghost use Rattle.std.specs.Prelude.{◌≡◌, List, ℕ, IsTrue, ◌↔◌, IfOk, string_bytes, slice_get, option_map};
+ghost use Rattle.std.specs.Prelude.{◌≡◌, List, ℕ, IsTrue, ◌↔◌, IfOk, slice_get, option_map};
+ghost use Rattle.std.specs.Cow.{cow_str_bytes};
 ghost use Rattle.std.specs.Str.Iter.{split_text, split_has_more, split_pattern};
-ghost use Rattle.wamp_ids.specs.Uris.{parts, is_reserved, number_of, uri_of, Reads, IsUri, has_space as space_in, has_empty_part as empty_part_in};
+ghost use Rattle.wamp_ids.specs.Uri.{parts, is_reserved, number_of, uri_of, Reads, IsUri, has_space, has_empty_part};
 
+use crate::memory::Memory;
 use std::alloc::{AllocError, Global};
+use std::borrow::CowStr;
 use std::marker::Model;
 use std::str::Split;
 use thiserror::Error;
@@ -51,24 +54,25 @@ impl From<AllocError> for UriFault {
 }
 
 /// A URI of WAMP by the loose rules: 1 to 1,024 octets of components joined by `.`, a component being one or more
-/// characters that are not white space, `.` or `#` (WAMP specification, "URIs").
+/// characters that are not white space, `.` or `#` (WAMP specification, "URIs"). It borrows its text or owns a
+/// copy.
 #[derive(Debug, Drop)]
-pub struct Uri {
-    text: String,
+pub struct Uri<'a> {
+    text: CowStr<'a>,
 }
 
-impl Model for Uri {
+impl<'a> Model for Uri<'a> {
     ghost Value = { List ℕ };
 
-    ghost view = { λ a. string_bytes a.text };
+    ghost view = { λ a. cow_str_bytes a.text };
 
-    ghost invariant = { λ a. IsUri (string_bytes a.text) };
+    ghost invariant = { λ a. IsUri (cow_str_bytes a.text) };
 }
 
-impl Uri {
-    /// The URI of this text. The faults come in the order of their numbers, `Memory` last.
-    pub fn read(alloc: Global, text: &str) -> Result<Uri, UriFault>
-        ensures { Reads result (uri_of text.now) }
+impl<'a> Uri<'a> {
+    /// This text as a URI that borrows it; takes no memory. The faults come in the order of their numbers, without `Memory`.
+    pub fn of(text: &'a str) -> Result<Uri<'a>, UriFault>
+        ensures { result ≡ uri_of text.now }
     {
         if text.len() > LONGEST {
             return Err(UriFault::TooLong);
@@ -83,7 +87,18 @@ impl Uri {
             return Err(UriFault::EmptyPart);
         }
         Ok(Uri {
-            text: String::from_str(alloc, text)?,
+            text: CowStr::Borrowed(text),
+        })
+    }
+
+    /// The URI of this text, copied. The faults come in the order of their numbers, `Memory` last. After an error there is
+    /// no URI, and nothing has changed.
+    pub fn read(alloc: Global, text: &str) -> Result<Uri<'a>, UriFault>
+        ensures { Reads result (uri_of text.now) }
+    {
+        let uri = Uri::of(text)?;
+        Ok(Uri {
+            text: CowStr::Owned(String::from_str(alloc, uri.as_str())?),
         })
     }
 
@@ -101,7 +116,7 @@ impl Uri {
         ensures whole { IsTrue (split_has_more result) }
         ensures dots { split_pattern result ≡ 46 }
     {
-        self.text.split('.')
+        self.text.as_str().split('.')
     }
 
     /// The component at this place, counted from 0.
@@ -121,17 +136,17 @@ impl Uri {
         }
     }
 
-    /// An equal URI.
-    pub fn copy(&self, alloc: Global) -> Result<Uri, AllocError>
+    /// An equal URI with a text of its own. Where memory runs out there is none, and nothing has changed.
+    pub fn copy(&self, alloc: Global) -> Result<Uri<'static>, Memory>
         ensures { IfOk result (λ made. made ≡ self.now) }
     {
         Ok(Uri {
-            text: String::from_str(alloc, self.as_str())?,
+            text: CowStr::Owned(String::from_str(alloc, self.as_str())?),
         })
     }
 
-    /// Whether the two are equal.
-    pub fn same(&self, other: &Uri) -> bool
+    /// Whether the two are equal; takes no memory.
+    pub fn same(&self, other: &Uri<'_>) -> bool
         ensures { IsTrue result ↔ (self.now ≡ other.now) }
     {
         self.as_str() == other.as_str()
@@ -139,62 +154,13 @@ impl Uri {
 }
 
 fn has_space(text: &str) -> bool
-    ensures { result ≡ space_in text.now }
+    ensures { result ≡ has_space text.now }
 {
     text.chars().any(|character| character.is_whitespace())
 }
 
 fn has_empty_part(text: &str) -> bool
-    ensures { result ≡ empty_part_in text.now }
+    ensures { result ≡ has_empty_part text.now }
 {
     text.split('.').any(|part| part.is_empty())
-}
-
-#[cfg(test)]
-mod tests {
-    use super::*;
-    use std::test::Fail;
-
-    fn fault_of(rt: &HostRuntime, text: &str) -> u8 {
-        match Uri::read(rt.alloc(), text) {
-            Ok(_) => 0,
-            Err(fault) => fault.number(),
-        }
-    }
-
-    #[test]
-    fn reads_uris_by_the_loose_rules(rt: HostRuntime) -> Result<(), Fail> {
-        for (text, number) in [
-            ("a.b", 0),
-            ("a..b", 4),
-            ("", 4),
-            ("a b", 2),
-            ("a#", 3),
-            ("a#b c", 2),
-            ("é.ü", 0),
-        ] {
-            assert_eq!(rt; fault_of(&rt, text), number, "{text}");
-        }
-        let longest = vec![in rt.alloc(); b'a'; 1024]?;
-        let mut text = String::from_utf8(longest)?;
-        assert_eq!(rt; fault_of(&rt, text.as_str()), 0);
-        text.push('a')?;
-        assert_eq!(rt; fault_of(&rt, text.as_str()), 1);
-        Ok(())
-    }
-
-    #[test]
-    fn takes_uris_apart(rt: HostRuntime) -> Result<(), Fail> {
-        let uri = Uri::read(rt.alloc(), "wamp.é.x")?;
-        assert!(rt; uri.is_reserved());
-        assert_eq!(rt; uri.part(1), Some("é"));
-        assert_eq!(rt; uri.part(3), None);
-        assert_eq!(rt; uri.parts().count(), 3);
-        assert!(rt; !Uri::read(rt.alloc(), "wampx.y")?.is_reserved());
-        let copy = uri.copy(rt.alloc())?;
-        assert_eq!(rt; copy.as_str(), "wamp.é.x");
-        assert!(rt; uri.same(&copy));
-        assert!(rt; !uri.same(&Uri::read(rt.alloc(), "wamp.é")?));
-        Ok(())
-    }
 }

@@ -1,10 +1,11 @@
 -- An array of the wrong length is read as that fault.
 use Rattle.std.proofs.Common.{◌≡◌, false, refl}
 use Rattle.serde_json.specs.Data.{Items, no_items, item}
-use Rattle.wamp_messages.specs.declared.outcome.MessageFault.TheVariants.{Length}
-use Rattle.wamp_messages.specs.declared.outcome.Read.TheVariants.{Bad}
+use Rattle.wamp_messages.specs.declared.fault.MessageFault.TheVariants.{Length}
+use Rattle.wamp_messages.specs.declared.read_result.Read.TheVariants.{Bad}
 use Rattle.wamp_messages.specs.Elements.{is_two, is_three, has_two, has_three, has_four}
-use Rattle.wamp_messages.specs.Reading.{hello_in, welcome_in, abort_in, goodbye_in, error_in, publish_in, published_in, subscribe_in, subscribed_in, event_in}
+use Rattle.wamp_messages.specs.Reading.{hello_in, welcome_in, abort_in, goodbye_in, error_in, publish_in, published_in}
+use Rattle.wamp_messages.specs.Reading.{subscribe_in, subscribed_in, event_in}
 
 pub hello_length : (ds : Items) → is_two ds ≡ false → Bad Length ≡ hello_in ds
 hello_length no_items h = refl

@@ -4,23 +4,23 @@ use Rattle.std.specs.Str.{IsUtf8}
 use Rattle.json.specs.Token.{Token}
 use Rattle.json.specs.Print.{print}
 use Rattle.serde_json.specs.Read.{read}
-use Rattle.serde_json.specs.Written.{compact_text}
 use Rattle.wamp_ids.specs.declared.policy.Match.TheVariants.{Exact, Prefix, Wildcard}
 use Rattle.wamp_values.specs.declared.args.Args.{Args}
 use Rattle.wamp_values.specs.declared.args.Args.TheVariants.{Nothing, List as Listed, Both}
-use Rattle.wamp_values.specs.Arguments.{IsArgs, args_items}
-use Rattle.wamp_values.specs.Texts.{data_tokens}
+use Rattle.wamp_values.specs.Args.{IsArgs, args_items}
+use Rattle.wamp_values.specs.Tokens.{data_tokens}
 use Rattle.wamp_values.proofs.Plain.{payload_is_fit}
 use Rattle.wamp_values.proofs.Texts.{print_tokens}
 use Rattle.wamp_values.proofs.ReadBack.{reads_back}
 use Rattle.wamp_messages.specs.declared.elements.Given.TheVariants.{Fit}
 use Rattle.wamp_messages.specs.declared.message.RequestKind.TheVariants as kind
 use Rattle.wamp_messages.specs.declared.message.Message.{Message}
-use Rattle.wamp_messages.specs.declared.message.Message.TheVariants.{Hello, Welcome, Abort, Goodbye, Error, Publish, Published, Subscribe, Subscribed, Event}
-use Rattle.wamp_messages.specs.declared.outcome.Read.TheVariants.{Good}
-use Rattle.wamp_messages.specs.Layouts.{value_of}
+use Rattle.wamp_messages.specs.declared.message.Message.TheVariants.{Hello, Welcome, Abort, Goodbye, Error, Publish, Published}
+use Rattle.wamp_messages.specs.declared.message.Message.TheVariants.{Subscribe, Subscribed, Event}
+use Rattle.wamp_messages.specs.declared.read_result.Read.TheVariants.{Good}
+use Rattle.wamp_messages.specs.Writing.{value_of, text_of}
 use Rattle.wamp_messages.specs.Reading.{read_of, message_in, args_given}
-use Rattle.wamp_messages.specs.Messages.{HasParts, IsMessage}
+use Rattle.wamp_messages.specs.Message.{HasParts, IsMessage}
 use Rattle.wamp_messages.proofs.Values.{value_is_plain, value_nests}
 use Rattle.wamp_messages.proofs.Json.{json_read}
 
@@ -59,12 +59,13 @@ message_again (Event subscription publication (Some topic) args) h = rw (args_ag
 
 -- ---- and the octets are read as the value
 
-octets_again : (m : Message) → IsMessage m → read (compact_text (value_of m)) ≡ Some (value_of m)
+octets_again : (m : Message) → IsMessage m → read (text_of m) ≡ Some (value_of m)
 octets_again m h = reads_back (value_of m) (value_is_plain m h.parts) (value_nests m h.parts)
 
-pub read_again : (m : Message) → IsMessage m → read_of (compact_text (value_of m)) ≡ Good m
+pub read_again : (m : Message) → IsMessage m → read_of (text_of m) ≡ Good m
 read_again m h =
-    sym (json_read (compact_text (value_of m)) (value_of m) h.utf8 (octets_again m h)) ∙ message_again m h.parts
+    sym (json_read (text_of m) (value_of m) h.utf8 (octets_again m h)) ∙ message_again m h.parts
 
-pub written_again : (m : Message) (ts : List Token) → ts ≡ data_tokens (value_of m) → HasParts m → IsUtf8 (print ts) → read_of (compact_text (value_of m)) ≡ Good m
+pub written_again : (m : Message) (ts : List Token)
+    → ts ≡ data_tokens (value_of m) → HasParts m → IsUtf8 (print ts) → read_of (text_of m) ≡ Good m
 written_again m ts e parts utf8 = read_again m (record { parts = parts; utf8 = rw (e, print_tokens (value_of m)) at utf8 })

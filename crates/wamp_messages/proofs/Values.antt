@@ -5,14 +5,16 @@ use Rattle.serde_json.specs.Data.{depth}
 use Rattle.serde_json.specs.Read.{max_depth}
 use Rattle.wamp_ids.specs.declared.policy.Match.{Match}
 use Rattle.wamp_ids.specs.declared.policy.Match.TheVariants.{Exact, Prefix, Wildcard}
-use Rattle.wamp_values.specs.Payloads.{IsPlain}
+use Rattle.wamp_values.specs.Payload.{IsPlain}
 use Rattle.wamp_values.proofs.Plain.{args_are_plain, args_nest}
 use Rattle.wamp_messages.specs.declared.message.RequestKind.{RequestKind}
 use Rattle.wamp_messages.specs.declared.message.RequestKind.TheVariants as kind
 use Rattle.wamp_messages.specs.declared.message.Message.{Message}
-use Rattle.wamp_messages.specs.declared.message.Message.TheVariants.{Hello, Welcome, Abort, Goodbye, Error, Publish, Published, Subscribe, Subscribed, Event}
-use Rattle.wamp_messages.specs.Layouts.{value_of, nothing, code_of, hello_details, welcome_details, broker, dealer, publish_options, match_options, event_details}
-use Rattle.wamp_messages.specs.Messages.{IsId, HasParts}
+use Rattle.wamp_messages.specs.declared.message.Message.TheVariants.{Hello, Welcome, Abort, Goodbye, Error, Publish, Published}
+use Rattle.wamp_messages.specs.declared.message.Message.TheVariants.{Subscribe, Subscribed, Event}
+use Rattle.wamp_messages.specs.Writing.{value_of, nothing, code_of, hello_details, welcome_details, broker, dealer}
+use Rattle.wamp_messages.specs.Writing.{publish_options, match_options, event_details}
+use Rattle.wamp_messages.specs.Message.{IsId, HasParts}
 
 id_is_held : (n : ℕ) → IsId n → n < 2 ^ 64
 id_is_held n h = grind (arith, h)

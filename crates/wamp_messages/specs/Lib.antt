@@ -1,5 +1,7 @@
-pub mod Faults
-pub mod Layouts
+pub mod Fault
+pub mod Options
 pub mod Reading
 pub mod Elements
-pub mod Messages
+pub mod Writing
+pub mod Message
+pub mod Laws

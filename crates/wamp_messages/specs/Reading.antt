@@ -1,25 +1,27 @@
 -- What is read of the octets of a message (WAMP specification, "Message Definitions"; faults and unfit requests are this
 -- profile's: docs/PROTOCOL.md, "Reading").
-use Rattle.std.specs.Prelude.{ℕ, ◌==◌, Bool, true, false, not, ◌&&◌, List, Option, Some, None, codes, bytes_eq, is_some, unwrap_or, option_and_then, if◌then◌else◌}
+use Rattle.std.specs.Prelude.{ℕ, ◌==◌, Bool, true, false, not, ◌&&◌, List, Option, Some, None, codes, is_some}
+use Rattle.std.specs.Prelude.{unwrap_or, if◌then◌else◌}
 use Rattle.std.specs.Str.{is_utf8}
 use Rattle.serde_json.specs.Data.{unsigned, negative, Data, number, array, Items, no_items, item}
-use Rattle.serde_json.specs.Find.{get, as_str, as_bool, as_array, as_object}
+use Rattle.serde_json.specs.Find.{as_str, as_array, as_object}
 use Rattle.serde_json.specs.Read.{read}
-use Rattle.wamp_ids.specs.Ids.{is_id}
+use Rattle.wamp_ids.specs.Id.{is_id}
 use Rattle.wamp_ids.specs.declared.policy.Match.{Match}
-use Rattle.wamp_ids.specs.declared.policy.Match.TheVariants.{Exact, Prefix, Wildcard}
 use Rattle.wamp_values.specs.declared.args.Args.{Args}
 use Rattle.wamp_values.specs.declared.args.Args.TheVariants.{Nothing, List as Listed, Both}
-use Rattle.wamp_values.specs.Payloads.{is_fit}
+use Rattle.wamp_values.specs.Payload.{is_fit}
+use Rattle.wamp_messages.specs.Options.{flag_in, match_in, is_canceling, is_topic_or_missing, topic_in}
 use Rattle.wamp_messages.specs.declared.message.RequestKind.{RequestKind}
 use Rattle.wamp_messages.specs.declared.message.RequestKind.TheVariants as kind
-use Rattle.wamp_messages.specs.declared.message.Message.TheVariants.{Hello, Welcome, Abort, Goodbye, Error, Publish, Published, Subscribe, Subscribed, Event}
-use Rattle.wamp_messages.specs.declared.outcome.MessageFault.TheVariants.{NotJson, NotArray, Kind, Length, Shape, IdRange}
+use Rattle.wamp_messages.specs.declared.message.Message.TheVariants.{Hello, Welcome, Abort, Goodbye, Error, Publish, Published}
+use Rattle.wamp_messages.specs.declared.message.Message.TheVariants.{Subscribe, Subscribed, Event}
+use Rattle.wamp_messages.specs.declared.fault.MessageFault.TheVariants.{NotJson, NotArray, Kind, Length, Shape, IdRange}
 use Rattle.wamp_messages.specs.declared.elements.Given.{Given}
 use Rattle.wamp_messages.specs.declared.elements.Given.TheVariants.{TooMany, Misshapen, Inexact, Fit}
-use Rattle.wamp_messages.specs.declared.outcome.UnfitKind.TheVariants as unfit
-use Rattle.wamp_messages.specs.declared.outcome.Read.{Read}
-use Rattle.wamp_messages.specs.declared.outcome.Read.TheVariants.{Good, Unfit, Bad}
+use Rattle.wamp_messages.specs.declared.read_result.UnfitKind.TheVariants as unfit
+use Rattle.wamp_messages.specs.declared.read_result.Read.{Read}
+use Rattle.wamp_messages.specs.declared.read_result.Read.TheVariants.{Good, Unfit, Bad}
 
 -- ---- the elements
 
@@ -78,47 +80,7 @@ with_args ds f = by_given (args_given ds)
     by_given Inexact = f None
     by_given (Fit args) = f (Some args)
 
--- ---- options and details
-
--- the truth value of a key, or what is taken where the key is missing; None where it has another type
-abbrev pub flag_in : List ℕ → Bool → Data → Option Bool
-flag_in key missing options = given (get key options)
-  where
-    given : Option Data → Option Bool
-    given None = Some missing
-    given (Some d) = as_bool d
-
--- the match of a text, if it is the name of one
-abbrev pub match_of : List ℕ → Option Match
-match_of name =
-    if bytes_eq name (codes "exact") then Some Exact
-    else (if bytes_eq name (codes "prefix") then Some Prefix
-    else (if bytes_eq name (codes "wildcard") then Some Wildcard
-    else None))
-
--- the match of the options, exact where they name none; None where they name no match
-abbrev pub match_in : Data → Option Match
-match_in options = given (get (codes "match") options)
-  where
-    given : Option Data → Option Match
-    given None = Some Exact
-    given (Some d) = option_and_then match_of (as_str d)
-
--- `roles.callee.features.call_canceling` is `true`; all else counts as not announced
-abbrev pub is_canceling : Data → Bool
-is_canceling details =
-    unwrap_or (option_and_then as_bool (option_and_then (get (codes "call_canceling")) (option_and_then (get (codes "features")) (option_and_then (get (codes "callee")) (get (codes "roles") details))))) false
-
--- the topic that an event's details name, if it is a text or missing
-abbrev pub is_topic_or_missing : Data → Bool
-is_topic_or_missing details = given (get (codes "topic") details)
-  where
-    given : Option Data → Bool
-    given None = true
-    given (Some d) = is_text d
-
-abbrev pub topic_in : Data → Option (List ℕ)
-topic_in details = option_and_then as_str (get (codes "topic") details)
+-- ---- requests
 
 -- the kind of request of a code
 abbrev pub kind_of : ℕ → Option RequestKind
@@ -168,6 +130,17 @@ goodbye_in (item details (item reason no_items)) =
     if is_dictionary details && is_text reason then Good (Goodbye (text_in reason)) else Bad Shape
 goodbye_in ds = Bad Length
 
+-- whether an ERROR on such a request answers an invocation
+abbrev pub is_invocation : RequestKind → Bool
+is_invocation kind.Publish = false
+is_invocation kind.Subscribe = false
+is_invocation kind.Unsubscribe = false
+is_invocation kind.Call = false
+is_invocation kind.Cancel = false
+is_invocation kind.Register = false
+is_invocation kind.Unregister = false
+is_invocation kind.Invocation = true
+
 -- ERROR: Type, Request, Details, Error, Args. With inexact ones it is unfit where it answers an invocation, else misshapen.
 abbrev pub is_error_shaped : Data → Data → Data → Bool
 is_error_shaped request details error = is_whole request && (is_dictionary details && is_text error)
@@ -176,9 +149,8 @@ abbrev pub error_of : Option RequestKind → Data → Data → Data → Option A
 error_of None request details error args = Bad Shape
 error_of (Some kind) request details error (Some args) =
     if is_error_shaped request details error then with_id request (λ id. Good (Error kind id (text_in error) args)) else Bad Shape
-error_of (Some kind.Invocation) request details error None =
-    if is_error_shaped request details error then with_id request (λ id. Unfit unfit.Yield id false) else Bad Shape
-error_of (Some kind) request details error None = Bad Shape
+error_of (Some kind) request details error None =
+    if is_invocation kind && is_error_shaped request details error then with_id request (λ id. Unfit unfit.Yield id false) else Bad Shape
 
 abbrev pub error_in : Items → Read
 error_in (item type (item request (item details (item error rest)))) = with_args rest (error_of (kind_in type) request details error)
@@ -192,7 +164,8 @@ publish_read acknowledge exclude_me request topic args = Unfit unfit.Publish req
 abbrev pub publish_of : Data → Data → Data → Option Args → Read
 publish_of request options topic args =
     if is_whole request && (is_dictionary options && is_text topic)
-    then with_id request (λ id. publish_read (flag_in (codes "acknowledge") false options) (flag_in (codes "exclude_me") true options) id (text_in topic) args)
+    then with_id request (λ id. publish_read (flag_in (codes "acknowledge") false options)
+    (flag_in (codes "exclude_me") true options) id (text_in topic) args)
     else Bad Shape
 
 abbrev pub publish_in : Items → Read

@@ -9,19 +9,19 @@ use serde_json::Value;
 use std::vec::IntoIter;
 use wamp_values::{Args, Arguments, ArgumentsKw, Payload};
 
-/// What stands in the place of arguments, at a message's end.
+// What stands in the place of arguments, at a message's end.
 #[derive(Drop)]
 pub(crate) enum Given {
-    /// More elements than a list and a dictionary.
+    // More elements than a list and a dictionary.
     TooMany,
-    /// No list, or no dictionary.
+    // No list, or no dictionary.
     Misshapen,
-    /// Some number is not kept exactly.
+    // Some number is not kept exactly.
     Inexact,
     Fit(Args),
 }
 
-/// The two elements that are left, if there are two.
+// The two elements that are left, if there are two.
 pub(crate) fn exactly_two(mut rest: IntoIter<Value>) -> Option<(Value, Value)>
     ensures { MatchOption result (is_two (elements rest) ≡ false)
         (λ all. elements rest ≡ item (view all.0) (item (view all.1) no_items)) }
@@ -34,7 +34,7 @@ pub(crate) fn exactly_two(mut rest: IntoIter<Value>) -> Option<(Value, Value)>
     Some((first, second))
 }
 
-/// The three elements that are left, if there are three.
+// The three elements that are left, if there are three.
 pub(crate) fn exactly_three(mut rest: IntoIter<Value>) -> Option<(Value, Value, Value)>
     ensures { MatchOption result (is_three (elements rest) ≡ false)
         (λ all. elements rest ≡ item (view all.0) (item (view all.1) (item (view all.2) no_items))) }
@@ -48,7 +48,7 @@ pub(crate) fn exactly_three(mut rest: IntoIter<Value>) -> Option<(Value, Value, 
     Some((first, second, third))
 }
 
-/// The next two elements.
+// The next two elements.
 pub(crate) fn two(rest: &mut IntoIter<Value>) -> Option<(Value, Value)>
     ensures { MatchOption result (has_two (elements rest.old) ≡ false)
         (λ some. elements rest.old ≡ item (view some.0) (item (view some.1) (elements rest.new))) }
@@ -58,7 +58,7 @@ pub(crate) fn two(rest: &mut IntoIter<Value>) -> Option<(Value, Value)>
     Some((first, second))
 }
 
-/// The next three elements.
+// The next three elements.
 pub(crate) fn three(rest: &mut IntoIter<Value>) -> Option<(Value, Value, Value)>
     ensures { MatchOption result (has_three (elements rest.old) ≡ false)
         (λ some. elements rest.old
@@ -70,7 +70,7 @@ pub(crate) fn three(rest: &mut IntoIter<Value>) -> Option<(Value, Value, Value)>
     Some((first, second, third))
 }
 
-/// The next four elements.
+// The next four elements.
 pub(crate) fn four(rest: &mut IntoIter<Value>) -> Option<(Value, Value, Value, Value)>
     ensures { MatchOption result (has_four (elements rest.old) ≡ false)
         (λ some. elements rest.old
@@ -84,7 +84,7 @@ pub(crate) fn four(rest: &mut IntoIter<Value>) -> Option<(Value, Value, Value, V
     Some((first, second, third, fourth))
 }
 
-/// The elements that are left, as arguments.
+// The elements that are left, as arguments.
 pub(crate) fn arguments(mut rest: IntoIter<Value>) -> Given
     ensures { result ≡ args_given (elements rest) }
 {

@@ -1,7 +1,6 @@
 ghost use Rattle.std.specs.Prelude.{◌≡◌, ◌↔◌, IfOk, IsTrue};
 
-use crate::outcome::Memory;
-use std::alloc::Global;
+use crate::memory::Memory;
 use wamp_ids::{Id, Match, Text};
 use wamp_values::Args;
 
@@ -80,22 +79,22 @@ pub enum Message {
 }
 
 impl Message {
-    /// An equal message.
-    pub fn copy(&self, alloc: Global) -> Result<Message, Memory>
+    /// An equal message. Where memory runs out there is none, and nothing has changed.
+    pub fn copy(&self) -> Result<Message, Memory>
         ensures { IfOk result (λ made. made ≡ self.now) }
     {
         Ok(match self {
             Message::Hello { realm, canceling } => Message::Hello {
-                realm: realm.copy(alloc)?,
+                realm: realm.copy()?,
                 canceling: *canceling,
             },
             Message::Welcome { session } => Message::Welcome { session: *session },
             Message::Abort { reason, args } => Message::Abort {
-                reason: reason.copy(alloc)?,
+                reason: reason.copy()?,
                 args: args.copy()?,
             },
             Message::Goodbye { reason } => Message::Goodbye {
-                reason: reason.copy(alloc)?,
+                reason: reason.copy()?,
             },
             Message::Error {
                 kind,
@@ -105,7 +104,7 @@ impl Message {
             } => Message::Error {
                 kind: *kind,
                 request: *request,
-                error: error.copy(alloc)?,
+                error: error.copy()?,
                 args: args.copy()?,
             },
             Message::Publish {
@@ -118,7 +117,7 @@ impl Message {
                 request: *request,
                 acknowledge: *acknowledge,
                 exclude_me: *exclude_me,
-                topic: topic.copy(alloc)?,
+                topic: topic.copy()?,
                 args: args.copy()?,
             },
             Message::Published {
@@ -135,7 +134,7 @@ impl Message {
             } => Message::Subscribe {
                 request: *request,
                 matching: *matching,
-                topic: topic.copy(alloc)?,
+                topic: topic.copy()?,
             },
             Message::Subscribed {
                 request,
@@ -152,7 +151,7 @@ impl Message {
             } => Message::Event {
                 subscription: *subscription,
                 publication: *publication,
-                topic: copy_topic(topic, alloc)?,
+                topic: copy_topic(topic)?,
                 args: args.copy()?,
             },
         })
@@ -300,11 +299,11 @@ fn is_same_topic(topic: &Option<Text>, other: &Option<Text>) -> bool
     }
 }
 
-fn copy_topic(topic: &Option<Text>, alloc: Global) -> Result<Option<Text>, Memory>
+fn copy_topic(topic: &Option<Text>) -> Result<Option<Text>, Memory>
     ensures { IfOk result (λ made. made ≡ topic.now) }
 {
     match topic {
-        Some(text) => Ok(Some(text.copy(alloc)?)),
+        Some(text) => Ok(Some(text.copy()?)),
         None => Ok(None),
     }
 }

@@ -2,28 +2,31 @@
 ghost use Rattle.std.specs.Prelude.{◌≡◌, codes, option_map};
 ghost use Rattle.serde_json.specs.Find.{get};
 ghost use Rattle.serde_json.specs.View.{view};
-ghost use Rattle.wamp_messages.specs.Reading.{flag_in, match_of, match_in, is_canceling as announces_canceling};
+ghost use Rattle.wamp_messages.specs.Options.{flag_in, match_of, match_in, callee_features, is_canceling};
 
 use serde_json::Value;
 use wamp_ids::Match;
+use wamp_values::{Found, bool_option, text_at};
 
-/// The truth value of a key, or what is taken where the key is missing; `None` where it has another type.
+// The truth value of a key, or what is taken where the key is missing; `None` where it has another type.
 pub(crate) fn flag_in(options: &Value, key: &str, missing: bool) -> Option<bool>
     ensures { result ≡ flag_in key.now missing (view options.now) }
 {
-    match options.get(key) {
-        Some(value) => value.as_bool(),
-        None => Some(missing),
+    match bool_option(options, key) {
+        Found::Absent => Some(missing),
+        Found::Is(flag) => Some(flag),
+        Found::Other => None,
     }
 }
 
-/// The match of the options, exact where they name none; `None` where they name no match.
+// The match of the options, exact where they name none; `None` where they name no match.
 pub(crate) fn match_in(options: &Value) -> Option<Match>
     ensures { result ≡ match_in (view options.now) }
 {
-    match options.get("match") {
-        Some(value) => match_of(value.as_str()?),
-        None => Some(Match::Exact),
+    match text_at(options, "match") {
+        Found::Absent => Some(Match::Exact),
+        Found::Is(name) => match_of(name),
+        Found::Other => None,
     }
 }
 
@@ -38,26 +41,29 @@ fn match_of(name: &str) -> Option<Match>
     }
 }
 
-/// Whether a HELLO's details announce call canceling as a callee.
+// Whether a HELLO's details announce call canceling as a callee.
 pub(crate) fn is_canceling(details: &Value) -> bool
-    ensures { result ≡ announces_canceling (view details.now) }
+    ensures { result ≡ is_canceling (view details.now) }
 {
-    let Some(roles) = details.get("roles") else {
+    let Some(features) = callee_features(details) else {
         return false;
     };
-    let Some(callee) = roles.get("callee") else {
-        return false;
-    };
-    let Some(features) = callee.get("features") else {
-        return false;
-    };
-    match features.get("call_canceling") {
-        Some(value) => value.as_bool().unwrap_or(false),
-        None => false,
+    match bool_option(features, "call_canceling") {
+        Found::Absent => false,
+        Found::Is(flag) => flag,
+        Found::Other => false,
     }
 }
 
-/// The topic of an EVENT's details, taken out of them.
+fn callee_features(details: &Value) -> Option<&Value>
+    ensures { option_map (λ features. view features.now) result ≡ callee_features (view details.now) }
+{
+    let roles = details.get("roles")?;
+    let callee = roles.get("callee")?;
+    callee.get("features")
+}
+
+// The topic of an EVENT's details, taken out of them.
 pub(crate) fn take_topic(details: &mut Value) -> Option<Value>
     ensures { option_map (λ topic. view topic) result ≡ get (codes "topic") (view details.old) }
 {

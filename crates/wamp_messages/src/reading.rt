@@ -2,14 +2,17 @@
 ghost use Rattle.std.specs.Prelude.{◌≡◌, IfOk, Some, None};
 ghost use Rattle.serde_json.specs.View.{view};
 ghost use Rattle.wamp_messages.specs.Elements.{elements};
-ghost use Rattle.wamp_messages.specs.Reading.{read_of, message_in, by_code, is_whole as is_whole_in, id_in as id_of, kind_in as kind_of};
-ghost use Rattle.wamp_messages.specs.Reading.{hello_in, welcome_in, abort_in, goodbye_in, error_in, publish_in, published_in, subscribe_in, subscribed_in, event_in};
+ghost use Rattle.wamp_messages.specs.Reading.{read_of, message_in, by_code, is_whole, id_in, kind_in, is_invocation};
+ghost use Rattle.wamp_messages.specs.Reading.{hello_in, welcome_in, abort_in, goodbye_in, error_in, publish_in, published_in};
+ghost use Rattle.wamp_messages.specs.Reading.{subscribe_in, subscribed_in, event_in};
 ghost use Rattle.wamp_messages.specs.Reading.{abort_of, error_of, publish_of, event_of};
 
 use crate::elements::{Given, arguments, exactly_three, exactly_two, four, three, two};
+use crate::fault::MessageFault;
+use crate::memory::Memory;
 use crate::message::{Message, RequestKind};
 use crate::options::{flag_in, is_canceling, match_in, take_topic};
-use crate::outcome::{Memory, MessageFault, Read, UnfitKind};
+use crate::read_result::{Read, UnfitKind};
 use serde_json::Value;
 use std::alloc::Global;
 use std::vec::IntoIter;
@@ -18,8 +21,8 @@ use wamp_values::Args;
 
 /// What these octets are read as: a message, a request that is unfit, or why they are no message.
 ///
-/// The octets are gone over once, as JSON; texts and arguments are moved out of what was parsed. Memory is the only
-/// error (WAMP specification, "Message Definitions"; the order of faults is this profile's).
+/// The octets are gone over once, as JSON; texts and arguments are moved out of what was parsed (WAMP specification, "Message
+/// Definitions"; the order of faults is this profile's). Where memory runs out nothing was read, and nothing has changed.
 #[tactic(auto, using(crate::proofs::Json::json_read, crate::proofs::Json::no_json))]
 pub fn read(alloc: Global, octets: &[u8]) -> Result<Read, Memory>
     ensures { IfOk result (λ done. done ≡ read_of octets.now) }
@@ -200,10 +203,10 @@ fn inexact_error(kind: Option<RequestKind>, request: &Value, details: &Value, er
     ensures { result
         ≡ error_of kind (view request.now) (view details.now) (view error.now) None }
 {
-    let Some(RequestKind::Invocation) = kind else {
+    let Some(kind) = kind else {
         return Read::Bad(MessageFault::Shape);
     };
-    if !is_whole(request) || !details.is_object() || !error.is_string() {
+    if !is_invocation(kind) || !is_whole(request) || !details.is_object() || !error.is_string() {
         return Read::Bad(MessageFault::Shape);
     }
     match id_in(request) {
@@ -376,19 +379,34 @@ fn event(subscription: &Value, publication: &Value, mut details: Value, args: Ar
 }
 
 fn is_whole(value: &Value) -> bool
-    ensures { result ≡ is_whole_in (view value.now) }
+    ensures { result ≡ is_whole (view value.now) }
 {
     value.is_number() && !value.is_f64()
 }
 
 fn id_in(value: &Value) -> Option<Id>
-    ensures { result ≡ id_of (view value.now) }
+    ensures { result ≡ id_in (view value.now) }
 {
     Id::new(value.as_u64()?)
 }
 
+fn is_invocation(kind: RequestKind) -> bool
+    ensures { result ≡ is_invocation kind }
+{
+    match kind {
+        RequestKind::Publish
+        | RequestKind::Subscribe
+        | RequestKind::Unsubscribe
+        | RequestKind::Call
+        | RequestKind::Cancel
+        | RequestKind::Register
+        | RequestKind::Unregister => false,
+        RequestKind::Invocation => true,
+    }
+}
+
 fn kind_in(value: &Value) -> Option<RequestKind>
-    ensures { result ≡ kind_of (view value.now) }
+    ensures { result ≡ kind_in (view value.now) }
 {
     match value.as_u64()? {
         16 => Some(RequestKind::Publish),

@@ -2,43 +2,45 @@
 ghost use Rattle.std.specs.Prelude.{◌≡◌, ◌++◌, ◌∷◌, [], true, false, codes, IfOk, OnOk, OnErr, decimal};
 ghost use Rattle.json.specs.Token.{begin_array, begin_object, end_object, number, key, boolean};
 ghost use Rattle.serde_json.specs.Data.{string, boolean as boolean_value};
-ghost use Rattle.serde_json.specs.Written.{compact_text};
-ghost use Rattle.wamp_values.specs.Arguments.{IsArgs, args_items};
-ghost use Rattle.wamp_values.specs.Texts.{data_tokens, list_tokens};
-ghost use Rattle.wamp_messages.specs.Layouts.{value_of, code_of, nothing, only, hello_details, callee, welcome_details, broker, dealer, publish_options, match_options, event_details};
-ghost use Rattle.wamp_messages.specs.Messages.{HasParts, IsId};
+ghost use Rattle.wamp_values.specs.Args.{IsArgs, args_items};
+ghost use Rattle.wamp_values.specs.Tokens.{data_tokens, list_tokens, Appends};
+ghost use Rattle.wamp_messages.specs.Writing.{text_of, value_of, code_of, nothing, only, hello_details, callee};
+ghost use Rattle.wamp_messages.specs.Writing.{welcome_details, broker, dealer, publish_options, match_options, event_details};
+ghost use Rattle.wamp_messages.specs.Message.{HasParts, IsId};
 ghost use Rattle.wamp_messages.specs.Reading.{read_of};
-ghost use Rattle.wamp_messages.specs.declared.outcome.Read.TheVariants.{Good};
-ghost use Rattle.wamp_messages.specs.declared.message.Message.TheVariants.{Hello, Welcome, Abort, Goodbye, Error, Publish, Published, Subscribe, Subscribed, Event};
+ghost use Rattle.wamp_messages.specs.declared.read_result.Read.TheVariants.{Good};
+ghost use Rattle.wamp_messages.specs.declared.message.Message.TheVariants.{Hello, Welcome, Abort, Goodbye, Error, Publish};
+ghost use Rattle.wamp_messages.specs.declared.message.Message.TheVariants.{Published, Subscribe, Subscribed, Event};
 
+use crate::memory::Memory;
 use crate::message::{Message, RequestKind};
-use crate::outcome::Memory;
 use json::Writer;
 use std::alloc::{AllocError, Global};
 use std::mem;
 use wamp_ids::{Id, Match, Text};
 use wamp_values::Args;
 
-/// The message's one canonical text: compact JSON, in the order of its layout. Memory is the only error.
+/// The message's one canonical text: compact JSON, in the order of its layout. Where memory runs out there is none, and nothing
+/// has changed.
 pub fn write(alloc: Global, message: &Message) -> Result<Vec<u8>, Memory>
-    ensures spelled { IfOk result (λ octets. octets.items ≡ compact_text (value_of message.now)) }
+    ensures spelled { IfOk result (λ octets. octets.items ≡ text_of message.now) }
     ensures read_again { IfOk result (λ octets. read_of octets.items ≡ Good message.now) }
 {
     let mut out = Vec::new(alloc);
-    write_into(alloc, message, &mut out)?;
+    write_into(message, &mut out)?;
     Ok(out)
 }
 
-/// Appends the message's canonical text, as `write` gives it, with no memory but what `out` grows by. Memory is the only
-/// error, and leaves `out` as it was.
+/// Appends the message's canonical text, as `write` gives it, with no memory but what `out` grows by. Where memory runs out
+/// `out` is as it was.
 #[tactic(auto, using(wamp_values::proofs::Texts::print_tokens, crate::proofs::RoundTrip::written_again))]
-pub fn write_into(alloc: Global, message: &Message, out: &mut Vec<u8>) -> Result<(), Memory>
-    ensures spelled { OnOk result
-        (out.new.items ≡ out.old.items ++ compact_text (value_of message.now)) }
-    ensures read_again { OnOk result (read_of (compact_text (value_of message.now)) ≡ Good message.now) }
+pub fn write_into(message: &Message, out: &mut Vec<u8>) -> Result<(), Memory>
+    ensures spelled { OnOk result (out.new.items ≡ out.old.items ++ text_of message.now) }
+    ensures read_again { OnOk result (read_of (text_of message.now) ≡ Good message.now) }
     ensures err { OnErr result (out.new.items ≡ out.old.items) }
 {
     let start = out.len();
+    let alloc = *out.allocator();
     let mut writer = Writer::new(mem::replace(out, Vec::new(alloc)));
     let done = put_message(message, &mut writer);
     *out = writer.into_inner();
@@ -50,8 +52,7 @@ pub fn write_into(alloc: Global, message: &Message, out: &mut Vec<u8>) -> Result
 }
 
 fn put_message(message: &Message, out: &mut Writer) -> Result<(), AllocError>
-    ensures ok { OnOk result (out.new.tokens ≡ out.old.tokens ++ data_tokens (value_of message.now)) }
-    ensures before { out.new.before ≡ out.old.before }
+    ensures tokens { Appends result out.old out.new (data_tokens (value_of message.now)) }
     ensures parts { OnOk result (HasParts message.now) }
 {
     match message {
@@ -95,9 +96,7 @@ fn put_message(message: &Message, out: &mut Writer) -> Result<(), AllocError>
 }
 
 fn put_hello(realm: &Text, canceling: bool, out: &mut Writer) -> Result<(), AllocError>
-    ensures ok { OnOk result (out.new.tokens
-        ≡ out.old.tokens ++ data_tokens (value_of (Hello realm.now canceling))) }
-    ensures before { out.new.before ≡ out.old.before }
+    ensures { Appends result out.old out.new (data_tokens (value_of (Hello realm.now canceling))) }
 {
     begin(1, out)?;
     out.string(realm.as_str())?;
@@ -106,9 +105,7 @@ fn put_hello(realm: &Text, canceling: bool, out: &mut Writer) -> Result<(), Allo
 }
 
 fn put_hello_details(canceling: bool, out: &mut Writer) -> Result<(), AllocError>
-    ensures ok { OnOk result
-        (out.new.tokens ≡ out.old.tokens ++ data_tokens (hello_details canceling)) }
-    ensures before { out.new.before ≡ out.old.before }
+    ensures { Appends result out.old out.new (data_tokens (hello_details canceling)) }
 {
     if canceling {
         put_canceling(out)
@@ -118,8 +115,7 @@ fn put_hello_details(canceling: bool, out: &mut Writer) -> Result<(), AllocError
 }
 
 fn put_canceling(out: &mut Writer) -> Result<(), AllocError>
-    ensures ok { OnOk result (out.new.tokens ≡ out.old.tokens ++ data_tokens (hello_details true)) }
-    ensures before { out.new.before ≡ out.old.before }
+    ensures { Appends result out.old out.new (data_tokens (hello_details true)) }
 {
     open("roles", out)?;
     open("callee", out)?;
@@ -128,8 +124,7 @@ fn put_canceling(out: &mut Writer) -> Result<(), AllocError>
 }
 
 fn put_callee(out: &mut Writer) -> Result<(), AllocError>
-    ensures ok { OnOk result (out.new.tokens ≡ out.old.tokens ++ data_tokens callee) }
-    ensures before { out.new.before ≡ out.old.before }
+    ensures { Appends result out.old out.new (data_tokens callee) }
 {
     open_within("features", out)?;
     put_feature("call_canceling", out)?;
@@ -137,9 +132,7 @@ fn put_callee(out: &mut Writer) -> Result<(), AllocError>
 }
 
 fn put_welcome(session: Id, out: &mut Writer) -> Result<(), AllocError>
-    ensures ok { OnOk result (out.new.tokens
-        ≡ out.old.tokens ++ data_tokens (value_of (Welcome session))) }
-    ensures before { out.new.before ≡ out.old.before }
+    ensures tokens { Appends result out.old out.new (data_tokens (value_of (Welcome session))) }
     ensures parts { OnOk result (IsId session) }
 {
     begin(2, out)?;
@@ -149,8 +142,7 @@ fn put_welcome(session: Id, out: &mut Writer) -> Result<(), AllocError>
 }
 
 fn put_welcome_details(out: &mut Writer) -> Result<(), AllocError>
-    ensures ok { OnOk result (out.new.tokens ≡ out.old.tokens ++ data_tokens welcome_details) }
-    ensures before { out.new.before ≡ out.old.before }
+    ensures { Appends result out.old out.new (data_tokens welcome_details) }
 {
     open_within("roles", out)?;
     put_broker(out)?;
@@ -159,9 +151,7 @@ fn put_welcome_details(out: &mut Writer) -> Result<(), AllocError>
 }
 
 fn put_broker(out: &mut Writer) -> Result<(), AllocError>
-    ensures ok { OnOk result
-        (out.new.tokens ≡ out.old.tokens ++ key (codes "broker") ∷ data_tokens broker) }
-    ensures before { out.new.before ≡ out.old.before }
+    ensures { Appends result out.old out.new (key (codes "broker") ∷ data_tokens broker) }
 {
     out.key("broker")?;
     open_within("features", out)?;
@@ -171,9 +161,7 @@ fn put_broker(out: &mut Writer) -> Result<(), AllocError>
 }
 
 fn put_dealer(out: &mut Writer) -> Result<(), AllocError>
-    ensures ok { OnOk result
-        (out.new.tokens ≡ out.old.tokens ++ key (codes "dealer") ∷ data_tokens dealer) }
-    ensures before { out.new.before ≡ out.old.before }
+    ensures { Appends result out.old out.new (key (codes "dealer") ∷ data_tokens dealer) }
 {
     out.key("dealer")?;
     open_within("features", out)?;
@@ -184,9 +172,8 @@ fn put_dealer(out: &mut Writer) -> Result<(), AllocError>
 }
 
 fn put_abort(reason: &Text, args: &Args, out: &mut Writer) -> Result<(), AllocError>
-    ensures ok { OnOk result (out.new.tokens
-        ≡ out.old.tokens ++ data_tokens (value_of (Abort reason.now args.now))) }
-    ensures before { out.new.before ≡ out.old.before }
+    ensures tokens { Appends result out.old out.new
+        (data_tokens (value_of (Abort reason.now args.now))) }
     ensures parts { OnOk result (IsArgs args.now) }
 {
     begin(3, out)?;
@@ -196,9 +183,7 @@ fn put_abort(reason: &Text, args: &Args, out: &mut Writer) -> Result<(), AllocEr
 }
 
 fn put_goodbye(reason: &Text, out: &mut Writer) -> Result<(), AllocError>
-    ensures ok { OnOk result (out.new.tokens
-        ≡ out.old.tokens ++ data_tokens (value_of (Goodbye reason.now))) }
-    ensures before { out.new.before ≡ out.old.before }
+    ensures { Appends result out.old out.new (data_tokens (value_of (Goodbye reason.now))) }
 {
     begin(6, out)?;
     put_nothing(out)?;
@@ -213,9 +198,8 @@ fn put_error(
     args: &Args,
     out: &mut Writer,
 ) -> Result<(), AllocError>
-    ensures ok { OnOk result (out.new.tokens
-        ≡ out.old.tokens ++ data_tokens (value_of (Error kind request error.now args.now))) }
-    ensures before { out.new.before ≡ out.old.before }
+    ensures tokens { Appends result out.old out.new
+        (data_tokens (value_of (Error kind request error.now args.now))) }
     ensures parts { OnOk result (IsId request × IsArgs args.now) }
 {
     begin(8, out)?;
@@ -233,10 +217,8 @@ fn put_publish(
     args: &Args,
     out: &mut Writer,
 ) -> Result<(), AllocError>
-    ensures ok { OnOk result (out.new.tokens
-        ≡ out.old.tokens
-        ++ data_tokens (value_of (Publish request options.0 options.1 topic.now args.now))) }
-    ensures before { out.new.before ≡ out.old.before }
+    ensures tokens { Appends result out.old out.new
+        (data_tokens (value_of (Publish request options.0 options.1 topic.now args.now))) }
     ensures parts { OnOk result (IsId request × IsArgs args.now) }
 {
     let (acknowledge, exclude_me) = options;
@@ -252,9 +234,8 @@ fn put_publish_options(
     exclude_me: bool,
     out: &mut Writer,
 ) -> Result<(), AllocError>
-    ensures ok { OnOk result (out.new.tokens
-        ≡ out.old.tokens ++ data_tokens (publish_options acknowledge exclude_me)) }
-    ensures before { out.new.before ≡ out.old.before }
+    ensures { Appends result out.old out.new
+        (data_tokens (publish_options acknowledge exclude_me)) }
 {
     match (acknowledge, exclude_me) {
         (false, true) => put_nothing(out),
@@ -265,9 +246,7 @@ fn put_publish_options(
 }
 
 fn put_both_options(out: &mut Writer) -> Result<(), AllocError>
-    ensures ok { OnOk result
-        (out.new.tokens ≡ out.old.tokens ++ data_tokens (publish_options true false)) }
-    ensures before { out.new.before ≡ out.old.before }
+    ensures { Appends result out.old out.new (data_tokens (publish_options true false)) }
 {
     open("acknowledge", out)?;
     out.boolean(true)?;
@@ -277,9 +256,8 @@ fn put_both_options(out: &mut Writer) -> Result<(), AllocError>
 }
 
 fn put_published(request: Id, publication: Id, out: &mut Writer) -> Result<(), AllocError>
-    ensures ok { OnOk result (out.new.tokens
-        ≡ out.old.tokens ++ data_tokens (value_of (Published request publication))) }
-    ensures before { out.new.before ≡ out.old.before }
+    ensures tokens { Appends result out.old out.new
+        (data_tokens (value_of (Published request publication))) }
     ensures parts { OnOk result (IsId request × IsId publication) }
 {
     begin(17, out)?;
@@ -294,9 +272,8 @@ fn put_subscribe(
     topic: &Text,
     out: &mut Writer,
 ) -> Result<(), AllocError>
-    ensures ok { OnOk result (out.new.tokens
-        ≡ out.old.tokens ++ data_tokens (value_of (Subscribe request matching topic.now))) }
-    ensures before { out.new.before ≡ out.old.before }
+    ensures tokens { Appends result out.old out.new
+        (data_tokens (value_of (Subscribe request matching topic.now))) }
     ensures parts { OnOk result (IsId request) }
 {
     begin(32, out)?;
@@ -307,9 +284,7 @@ fn put_subscribe(
 }
 
 fn put_match_options(matching: Match, out: &mut Writer) -> Result<(), AllocError>
-    ensures ok { OnOk result
-        (out.new.tokens ≡ out.old.tokens ++ data_tokens (match_options matching)) }
-    ensures before { out.new.before ≡ out.old.before }
+    ensures { Appends result out.old out.new (data_tokens (match_options matching)) }
 {
     match matching {
         Match::Exact => put_nothing(out),
@@ -319,9 +294,8 @@ fn put_match_options(matching: Match, out: &mut Writer) -> Result<(), AllocError
 }
 
 fn put_subscribed(request: Id, subscription: Id, out: &mut Writer) -> Result<(), AllocError>
-    ensures ok { OnOk result (out.new.tokens
-        ≡ out.old.tokens ++ data_tokens (value_of (Subscribed request subscription))) }
-    ensures before { out.new.before ≡ out.old.before }
+    ensures tokens { Appends result out.old out.new
+        (data_tokens (value_of (Subscribed request subscription))) }
     ensures parts { OnOk result (IsId request × IsId subscription) }
 {
     begin(33, out)?;
@@ -337,10 +311,8 @@ fn put_event(
     args: &Args,
     out: &mut Writer,
 ) -> Result<(), AllocError>
-    ensures ok { OnOk result (out.new.tokens
-        ≡ out.old.tokens
-        ++ data_tokens (value_of (Event subscription publication topic.now args.now))) }
-    ensures before { out.new.before ≡ out.old.before }
+    ensures tokens { Appends result out.old out.new
+        (data_tokens (value_of (Event subscription publication topic.now args.now))) }
     ensures parts { OnOk result (IsId subscription × (IsId publication × IsArgs args.now)) }
 {
     begin(36, out)?;
@@ -351,9 +323,7 @@ fn put_event(
 }
 
 fn put_event_details(topic: &Option<Text>, out: &mut Writer) -> Result<(), AllocError>
-    ensures ok { OnOk result
-        (out.new.tokens ≡ out.old.tokens ++ data_tokens (event_details topic.now)) }
-    ensures before { out.new.before ≡ out.old.before }
+    ensures { Appends result out.old out.new (data_tokens (event_details topic.now)) }
 {
     match topic {
         Some(topic) => put_text_option("topic", topic.as_str(), out),
@@ -365,9 +335,7 @@ fn put_event_details(topic: &Option<Text>, out: &mut Writer) -> Result<(), Alloc
 
 // The array's bracket and the message's code.
 fn begin(code: u64, out: &mut Writer) -> Result<(), AllocError>
-    ensures ok { OnOk result
-        (out.new.tokens ≡ out.old.tokens ++ begin_array ∷ number (decimal code) ∷ []) }
-    ensures before { out.new.before ≡ out.old.before }
+    ensures { Appends result out.old out.new (begin_array ∷ number (decimal code) ∷ []) }
 {
     out.begin_array()?;
     out.u64(code)
@@ -376,9 +344,7 @@ fn begin(code: u64, out: &mut Writer) -> Result<(), AllocError>
 // The arguments, and the bracket that ends the message.
 #[tactic(auto, using(wamp_values::proofs::Texts::close_args))]
 fn end(args: &Args, out: &mut Writer) -> Result<(), AllocError>
-    ensures ok { OnOk result
-        (out.new.tokens ≡ out.old.tokens ++ list_tokens (args_items args.now)) }
-    ensures before { out.new.before ≡ out.old.before }
+    ensures tokens { Appends result out.old out.new (list_tokens (args_items args.now)) }
     ensures parts { OnOk result (IsArgs args.now) }
 {
     args.put(out)?;
@@ -387,8 +353,7 @@ fn end(args: &Args, out: &mut Writer) -> Result<(), AllocError>
 
 // An object up to its first value.
 fn open(name: &str, out: &mut Writer) -> Result<(), AllocError>
-    ensures ok { OnOk result (out.new.tokens ≡ out.old.tokens ++ begin_object ∷ key name.now ∷ []) }
-    ensures before { out.new.before ≡ out.old.before }
+    ensures { Appends result out.old out.new (begin_object ∷ key name.now ∷ []) }
 {
     out.begin_object()?;
     out.key(name)
@@ -396,34 +361,28 @@ fn open(name: &str, out: &mut Writer) -> Result<(), AllocError>
 
 // An object in an object, up to the inner one's first key.
 fn open_within(name: &str, out: &mut Writer) -> Result<(), AllocError>
-    ensures ok { OnOk result (out.new.tokens
-        ≡ out.old.tokens ++ begin_object ∷ key name.now ∷ begin_object ∷ []) }
-    ensures before { out.new.before ≡ out.old.before }
+    ensures { Appends result out.old out.new (begin_object ∷ key name.now ∷ begin_object ∷ []) }
 {
     open(name, out)?;
     out.begin_object()
 }
 
 fn close_two(out: &mut Writer) -> Result<(), AllocError>
-    ensures ok { OnOk result (out.new.tokens ≡ out.old.tokens ++ end_object ∷ end_object ∷ []) }
-    ensures before { out.new.before ≡ out.old.before }
+    ensures { Appends result out.old out.new (end_object ∷ end_object ∷ []) }
 {
     out.end_object()?;
     out.end_object()
 }
 
 fn put_nothing(out: &mut Writer) -> Result<(), AllocError>
-    ensures ok { OnOk result (out.new.tokens ≡ out.old.tokens ++ data_tokens nothing) }
-    ensures before { out.new.before ≡ out.old.before }
+    ensures { Appends result out.old out.new (data_tokens nothing) }
 {
     out.begin_object()?;
     out.end_object()
 }
 
 fn put_text_option(name: &str, text: &str, out: &mut Writer) -> Result<(), AllocError>
-    ensures ok { OnOk result (out.new.tokens
-        ≡ out.old.tokens ++ data_tokens (only name.now (string text.now))) }
-    ensures before { out.new.before ≡ out.old.before }
+    ensures { Appends result out.old out.new (data_tokens (only name.now (string text.now))) }
 {
     open(name, out)?;
     out.string(text)?;
@@ -431,9 +390,7 @@ fn put_text_option(name: &str, text: &str, out: &mut Writer) -> Result<(), Alloc
 }
 
 fn put_flag_option(name: &str, flag: bool, out: &mut Writer) -> Result<(), AllocError>
-    ensures ok { OnOk result (out.new.tokens
-        ≡ out.old.tokens ++ data_tokens (only name.now (boolean_value flag))) }
-    ensures before { out.new.before ≡ out.old.before }
+    ensures { Appends result out.old out.new (data_tokens (only name.now (boolean_value flag))) }
 {
     open(name, out)?;
     out.boolean(flag)?;
@@ -441,9 +398,7 @@ fn put_flag_option(name: &str, flag: bool, out: &mut Writer) -> Result<(), Alloc
 }
 
 fn put_feature(name: &str, out: &mut Writer) -> Result<(), AllocError>
-    ensures ok { OnOk result
-        (out.new.tokens ≡ out.old.tokens ++ key name.now ∷ boolean true ∷ []) }
-    ensures before { out.new.before ≡ out.old.before }
+    ensures { Appends result out.old out.new (key name.now ∷ boolean true ∷ []) }
 {
     out.key(name)?;
     out.boolean(true)

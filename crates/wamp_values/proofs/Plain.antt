@@ -8,15 +8,15 @@ use Rattle.std.specs.String.{string_cmp}
 use Rattle.std.specs.Ordering.{nat_cmp}
 use Rattle.std.specs.declared.alloc.Global.{Global}
 use Rattle.std.specs.Cmp.Lexicographic.{slice_cmp}
-use Rattle.serde_json.specs.Data.{Num, unsigned, negative, float, Data, null, boolean, number, string, array, object, Items, no_items, item, Members, no_members, member, depth, items_depth}
+use Rattle.serde_json.specs.Data.{Num, unsigned, negative, float, Data, null, boolean, number, string, array, object, Items}
+use Rattle.serde_json.specs.Data.{no_items, item, Members, no_members, member, depth, items_depth}
 use Rattle.serde_json.specs.Find.{is_float}
 use Rattle.serde_json.specs.Written.{has_float, items_have_float, members_have_float}
 use Rattle.serde_json.specs.View.{members_view}
 use Rattle.serde_json.proofs.Views.{Entry}
-use Rattle.wamp_values.specs.Payloads.{IsHeld, IsPlain, ItemsArePlain, MembersArePlain, keys, IsPayload, is_fit, deepest}
-use Rattle.wamp_values.specs.Checks.{payload_of}
+use Rattle.wamp_values.specs.Payload.{IsHeld, IsPlain, ItemsArePlain, MembersArePlain, keys, IsPayload, is_fit, deepest, payload_of}
 use Rattle.wamp_values.specs.declared.fault.ValueFault.TheVariants.{Number, Deep}
-use Rattle.wamp_values.specs.Arguments.{IsArgs, args_items}
+use Rattle.wamp_values.specs.Args.{IsArgs, args_items}
 use Rattle.wamp_values.specs.declared.args.Args.{Args}
 use Rattle.wamp_values.specs.declared.args.Args.TheVariants.{Nothing, List as Listed, Both}
 
@@ -44,19 +44,23 @@ mutual
 
 -- ---- keys
 
-below_each : (k : String Global) (es : List Entry) → AllByRecursion (λ y. string_cmp k y ≡ Less) (keys_of es) → AllByRecursion (λ y. slice_cmp nat_cmp (string_bytes k) y ≡ Less) (keys (members_view es))
+below_each : (k : String Global) (es : List Entry)
+    → AllByRecursion (λ y. string_cmp k y ≡ Less) (keys_of es)
+    → AllByRecursion (λ y. slice_cmp nat_cmp (string_bytes k) y ≡ Less) (keys (members_view es))
 below_each k [] h = tt
 below_each k (e ∷ es) h = (h.0, below_each k es h.1)
 
 -- a map's keys are in order, and so are those of the object that it is
-pub keys_in_order : (es : List Entry) → IsStrictlySortedBy string_cmp (keys_of es) → IsStrictlySortedBy (slice_cmp nat_cmp) (keys (members_view es))
+pub keys_in_order : (es : List Entry)
+    → IsStrictlySortedBy string_cmp (keys_of es) → IsStrictlySortedBy (slice_cmp nat_cmp) (keys (members_view es))
 unfolding IsStrictlySortedBy
 keys_in_order [] h = tt
 keys_in_order (e ∷ es) h = (below_each e.0 es h.0, keys_in_order es h.1)
 
 -- ---- payloads
 
-taken_where : (floats within : Bool) (d : Data) → is_ok (if floats then Err Number else (if within then Ok d else Err Deep)) ≡ (not floats && within)
+taken_where : (floats within : Bool) (d : Data)
+    → is_ok (if floats then Err Number else (if within then Ok d else Err Deep)) ≡ (not floats && within)
 taken_where true within d = refl
 taken_where false true d = refl
 taken_where false false d = refl

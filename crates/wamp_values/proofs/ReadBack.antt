@@ -1,5 +1,6 @@
 -- What is written of a plain value is read as that value.
-use Rattle.std.proofs.Common.{◌≡◌, ℕ, suc, ◌≤◌, pos, negsuc, List, [], ◌++◌, Some, Less, Greater, refl, sym, ap, ◌∙◌, subst, arith, append-nil}
+use Rattle.std.proofs.Common.{◌≡◌, ℕ, suc, ◌≤◌, pos, negsuc, List, [], ◌++◌, Some, Less, Greater, refl, sym, ap, ◌∙◌, subst}
+use Rattle.std.proofs.Common.{arith, append-nil}
 use Rattle.std.specs.List.{AllByRecursion}
 use Rattle.std.specs.List.Sorted.{IsStrictlySortedBy}
 use Rattle.std.specs.Ordering.{nat_cmp, ordering_reverse}
@@ -13,13 +14,14 @@ use Rattle.json.specs.Tree as tree
 use Rattle.json.proofs.Printed.Decimals.{IsNumber-decimal, IsNumber-signed_decimal}
 use Rattle.json.proofs.Printed.Tokens.{tokens-print}
 use Rattle.json.proofs.Printed.Trees.{value-json_tokens, ArePrintable-json_tokens}
-use Rattle.serde_json.specs.Data.{Num, unsigned, negative, float, Data, null, boolean, number, string, array, object, Items, no_items, item, Members, no_members, member, put, depth, items_depth, members_depth}
+use Rattle.serde_json.specs.Data.{Num, unsigned, negative, float, Data, null, boolean, number, string, array, object, Items}
+use Rattle.serde_json.specs.Data.{no_items, item, Members, no_members, member, put, depth, items_depth, members_depth}
 use Rattle.serde_json.specs.Read.{number_of, of_json, of_items, of_members, max_depth, read}
 use Rattle.serde_json.specs.Written.{compact_text, number_text, outline, items_outline, members_outline}
 use Rattle.serde_json.proofs.Numbers.{number_of-decimal, number_of-negative}
 use Rattle.serde_json.proofs.Texts.{print-outline}
-use Rattle.wamp_values.specs.Payloads.{IsHeld, IsPlain, ItemsArePlain, MembersArePlain, keys}
-use Rattle.wamp_values.specs.Texts.{data_tokens}
+use Rattle.wamp_values.specs.Payload.{IsHeld, IsPlain, ItemsArePlain, MembersArePlain, keys}
+use Rattle.wamp_values.specs.Tokens.{data_tokens}
 
 -- ---- numbers
 
@@ -85,7 +87,8 @@ unfolding and_then
 and_then_nothing no_members = refl
 and_then_nothing (member k d ms) = ap (member k d) (and_then_nothing ms)
 
-and_then_assoc : (ms : Members) (k : List ℕ) (d : Data) (ns : Members) → and_then (and_then ms (member k d no_members)) ns ≡ and_then ms (member k d ns)
+and_then_assoc : (ms : Members) (k : List ℕ) (d : Data) (ns : Members)
+    → and_then (and_then ms (member k d no_members)) ns ≡ and_then ms (member k d ns)
 unfolding and_then
 and_then_assoc no_members k d ns = refl
 and_then_assoc (member l e ms) k d ns = ap (member l e) (and_then_assoc ms k d ns)
@@ -93,13 +96,15 @@ and_then_assoc (member l e ms) k d ns = ap (member l e) (and_then_assoc ms k d n
 abbrev AreInOrder : Members → Type 0
 AreInOrder ms = IsStrictlySortedBy (slice_cmp nat_cmp) (keys ms)
 
-below_middle : (l : List ℕ) (done : Members) (k : List ℕ) (d : Data) (rest : Members) → AllByRecursion (λ y. slice_cmp nat_cmp l y ≡ Less) (keys (and_then done (member k d rest))) → slice_cmp nat_cmp l k ≡ Less
+below_middle : (l : List ℕ) (done : Members) (k : List ℕ) (d : Data) (rest : Members)
+    → AllByRecursion (λ y. slice_cmp nat_cmp l y ≡ Less) (keys (and_then done (member k d rest))) → slice_cmp nat_cmp l k ≡ Less
 unfolding and_then
 below_middle l no_members k d rest h = h.0
 below_middle l (member m e done) k d rest h = below_middle l done k d rest h.1
 
 -- a key that is above those before it goes last
-goes_last : (done : Members) (k : List ℕ) (d : Data) (rest : Members) → AreInOrder (and_then done (member k d rest)) → put k d done ≡ and_then done (member k d no_members)
+goes_last : (done : Members) (k : List ℕ) (d : Data) (rest : Members)
+    → AreInOrder (and_then done (member k d rest)) → put k d done ≡ and_then done (member k d no_members)
 unfolding and_then IsStrictlySortedBy
 goes_last no_members k d rest h = refl
 goes_last (member l e done) k d rest h =
@@ -121,18 +126,23 @@ mutual
   items_are_read no_items h = refl
   items_are_read (item d ds) h = rw (value_is_read d h.0) (ap (option_map (item d)) (items_are_read ds h.1))
 
-  members_are_read : (done ms : Members) → AreInOrder (and_then done ms) → MembersArePlain ms → of_members (members_outline ms) done ≡ Some (and_then done ms)
+  members_are_read : (done ms : Members)
+      → AreInOrder (and_then done ms) → MembersArePlain ms → of_members (members_outline ms) done ≡ Some (and_then done ms)
   members_are_read done no_members s h = ap Some (sym (and_then_nothing done))
   members_are_read done (member k d ms) s h =
-      rw (value_is_read d h.0) (ap (of_members (members_outline ms)) (goes_last done k d ms s) ∙ members_are_read (and_then done (member k d no_members)) ms (subst AreInOrder (sym (and_then_assoc done k d ms)) s) h.1 ∙ ap Some (and_then_assoc done k d ms))
+      rw (value_is_read d h.0) (ap (of_members (members_outline ms)) (goes_last done k d ms s) ∙
+      members_are_read (and_then done (member k d no_members)) ms
+      (subst AreInOrder (sym (and_then_assoc done k d ms)) s) h.1 ∙ ap Some (and_then_assoc done k d ms))
 
 -- ---- the whole text
 
 pub reads_back : (d : Data) → IsPlain d → depth d ≤ max_depth → read (compact_text d) ≡ Some d
 reads_back d plain shallow =
     let seen : tokens (compact_text d) ≡ data_tokens d ++ [] =
-    ap tokens (sym (print-outline d)) ∙ tokens-print (data_tokens d) (ArePrintable-json_tokens (outline d) (has_numbers d plain)) ∙ sym (append-nil (data_tokens d)) in
-    let parsed : json.value max_depth (data_tokens d ++ []) ≡ Some (outline d, []) = value-json_tokens (outline d) max_depth [] (omega (arith, outline_depth d)) in
+    ap tokens (sym (print-outline d)) ∙
+    tokens-print (data_tokens d) (ArePrintable-json_tokens (outline d) (has_numbers d plain)) ∙ sym (append-nil (data_tokens d)) in
+    let parsed : json.value max_depth (data_tokens d ++ []) ≡ Some (outline d, []) =
+    value-json_tokens (outline d) max_depth [] (omega (arith, outline_depth d)) in
     ap (λ ts. option_and_then of_json (option_and_then (λ p. json.if_last p.0 p.1) (json.value max_depth ts))) seen
     ∙ ap (λ o. option_and_then of_json (option_and_then (λ p. json.if_last p.0 p.1) o)) parsed
     ∙ value_is_read d plain

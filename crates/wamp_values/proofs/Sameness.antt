@@ -4,9 +4,10 @@ use Rattle.std.specs.Prelude.{◌↔◌, ◌&&◌}
 use Rattle.std.proofs.lemmas.Bool.{and_parts}
 use Rattle.std.proofs.lemmas.Bool.Decides.{Decides-eqb}
 use Rattle.std.proofs.lemmas.Slice.Eq.{bytes_eq-Decides}
-use Rattle.serde_json.specs.Data.{Num, unsigned, negative, float, Data, null, boolean, number, string, array, object, Items, no_items, item, Members, no_members, member}
+use Rattle.serde_json.specs.Data.{Num, unsigned, negative, float, Data, null, boolean, number, string, array, object, Items}
+use Rattle.serde_json.specs.Data.{no_items, item, Members, no_members, member}
 use Rattle.wamp_values.specs.Equal.{same_bool, same_num, same_data, same_items, same_members}
-use Rattle.wamp_values.specs.Payloads.{IsHeld, IsPlain, ItemsArePlain, MembersArePlain}
+use Rattle.wamp_values.specs.Payload.{IsHeld, IsPlain, ItemsArePlain, MembersArePlain}
 
 bool_is : (a b : Bool) → same_bool a b ≡ true → a ≡ b
 bool_is true true h = refl

@@ -1,6 +1,7 @@
 -- for private clauses: whether two values that have no floats are equal, told by a walk over both
 use Rattle.std.specs.Prelude.{Bool, true, false, ◌&&◌, ◌==◌, pos, negsuc, bytes_eq}
-use Rattle.serde_json.specs.Data.{Num, unsigned, negative, Data, null, boolean, number, string, array, object, Items, no_items, item, Members, no_members, member}
+use Rattle.serde_json.specs.Data.{Num, unsigned, negative, Data, null, boolean, number, string, array, object, Items, no_items}
+use Rattle.serde_json.specs.Data.{item, Members, no_members, member}
 
 abbrev pub same_bool : Bool → Bool → Bool
 same_bool true true = true

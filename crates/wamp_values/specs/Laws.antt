@@ -3,8 +3,7 @@ use Rattle.std.specs.Prelude.{◌≡◌, ◌≤◌, Some, is_ok}
 use Rattle.serde_json.specs.Data.{Data, depth}
 use Rattle.serde_json.specs.Read.{read, max_depth}
 use Rattle.serde_json.specs.Written.{compact_text}
-use Rattle.wamp_values.specs.Payloads.{IsPlain, is_fit}
-use Rattle.wamp_values.specs.Checks.{payload_of}
+use Rattle.wamp_values.specs.Payload.{IsPlain, is_fit, payload_of}
 
 -- what is written of a value is read as that value, wherever a text may nest as deep
 abbrev pub ReadsBack : Type 0

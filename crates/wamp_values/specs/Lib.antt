@@ -1,9 +1,8 @@
-pub mod Coded
-pub mod Payloads
-pub mod Checks
-pub mod Texts
+pub mod Payload
+pub mod Fitness
+pub mod Tokens
 pub mod Options
-pub mod Arguments
+pub mod Args
 pub mod Equal
 pub mod Laws
-pub mod Faults
+pub mod Fault

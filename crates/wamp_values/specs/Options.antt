@@ -14,6 +14,11 @@ abbrev pub found_by : {A : Type 0} → (Data → Option A) → Option Data → F
 found_by read None = Absent
 found_by read (Some d) = is_or_other (read d)
 
+abbrev pub found_map : {A B : Type 0} → (A → B) → Found A → Found B
+found_map f Absent = Absent
+found_map f (Is a) = Is (f a)
+found_map f Other = Other
+
 abbrev pub text_at : List ℕ → Data → Found (List ℕ)
 text_at key d = found_by as_str (get key d)
 

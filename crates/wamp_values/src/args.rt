@@ -1,13 +1,13 @@
-ghost use Rattle.std.specs.Prelude.{◌≡◌, ◌++◌, ◌↔◌, IfOk, IsTrue, OnOk, is_some, Some, None, if◌then◌else◌};
-ghost use Rattle.serde_json.specs.View.{view as data_of};
+ghost use Rattle.std.specs.Prelude.{◌≡◌, ◌↔◌, IfOk, IsTrue, OnOk, is_some, Some, None, if◌then◌else◌};
+ghost use Rattle.serde_json.specs.View.{view};
 ghost use Rattle.serde_json.specs.Find.{as_array, as_object};
-ghost use Rattle.wamp_values.specs.Arguments.{args_tokens, IsArgs, IsArguments, IsArgumentsKw};
-ghost use Rattle.wamp_values.specs.Texts.{data_tokens};
+ghost use Rattle.wamp_values.specs.Args.{args_tokens, IsArgs, IsArguments, IsArgumentsKw};
+ghost use Rattle.wamp_values.specs.Tokens.{data_tokens, Appends};
 
+use crate::memory::Memory;
 use crate::payload::Payload;
 use json::Writer;
 use serde_json::Value;
-use std::alloc::AllocError;
 use std::marker::Model;
 
 /// A payload that is an array (WAMP specification, "Protocol Messages": Arguments|list).
@@ -20,7 +20,7 @@ impl Model for Arguments {
     ghost use Rattle.std.specs.Prelude.{IsTrue, is_some};
     ghost use Rattle.serde_json.specs.Data.{Data};
     ghost use Rattle.serde_json.specs.Find.{as_array};
-    ghost use Rattle.wamp_values.specs.Coded.{coded_data};
+    ghost use Rattle.wamp_values.specs.Payload.{coded_data};
 
     ghost Value = { Data };
 
@@ -45,14 +45,14 @@ impl Arguments {
 
     /// The array; takes no memory.
     pub fn value(&self) -> &Value
-        ensures value { data_of result.now ≡ self.now }
+        ensures value { view result.now ≡ self.now }
         ensures arguments { IsArguments self.now }
     {
         self.list.value()
     }
 
-    /// An equal array.
-    pub fn copy(&self) -> Result<Arguments, AllocError>
+    /// An equal array. Where memory runs out there is none, and nothing has changed.
+    pub fn copy(&self) -> Result<Arguments, Memory>
         ensures { IfOk result (λ made. made ≡ self.now) }
     {
         Ok(Arguments {
@@ -67,10 +67,9 @@ impl Arguments {
         self.list.same(&other.list)
     }
 
-    /// Writes the array's tokens, as `Payload::put`.
-    pub fn put(&self, out: &mut Writer) -> Result<(), AllocError>
-        ensures ok { OnOk result (out.new.tokens ≡ out.old.tokens ++ data_tokens self.now) }
-        ensures before { out.new.before ≡ out.old.before }
+    /// Writes the array's tokens, as `Payload::put` does.
+    pub fn put(&self, out: &mut Writer) -> Result<(), Memory>
+        ensures tokens { Appends result out.old out.new (data_tokens self.now) }
         ensures arguments { IsArguments self.now }
     {
         self.list.put(out)
@@ -87,7 +86,7 @@ impl Model for ArgumentsKw {
     ghost use Rattle.std.specs.Prelude.{IsTrue, is_some};
     ghost use Rattle.serde_json.specs.Data.{Data};
     ghost use Rattle.serde_json.specs.Find.{as_object};
-    ghost use Rattle.wamp_values.specs.Coded.{coded_data};
+    ghost use Rattle.wamp_values.specs.Payload.{coded_data};
 
     ghost Value = { Data };
 
@@ -112,14 +111,14 @@ impl ArgumentsKw {
 
     /// The object; takes no memory.
     pub fn value(&self) -> &Value
-        ensures value { data_of result.now ≡ self.now }
+        ensures value { view result.now ≡ self.now }
         ensures arguments { IsArgumentsKw self.now }
     {
         self.dict.value()
     }
 
-    /// An equal object.
-    pub fn copy(&self) -> Result<ArgumentsKw, AllocError>
+    /// An equal object. Where memory runs out there is none, and nothing has changed.
+    pub fn copy(&self) -> Result<ArgumentsKw, Memory>
         ensures { IfOk result (λ made. made ≡ self.now) }
     {
         Ok(ArgumentsKw {
@@ -134,10 +133,9 @@ impl ArgumentsKw {
         self.dict.same(&other.dict)
     }
 
-    /// Writes the object's tokens, as `Payload::put`.
-    pub fn put(&self, out: &mut Writer) -> Result<(), AllocError>
-        ensures ok { OnOk result (out.new.tokens ≡ out.old.tokens ++ data_tokens self.now) }
-        ensures before { out.new.before ≡ out.old.before }
+    /// Writes the object's tokens, as `Payload::put` does.
+    pub fn put(&self, out: &mut Writer) -> Result<(), Memory>
+        ensures tokens { Appends result out.old out.new (data_tokens self.now) }
         ensures arguments { IsArgumentsKw self.now }
     {
         self.dict.put(out)
@@ -153,8 +151,8 @@ pub enum Args {
 }
 
 impl Args {
-    /// Equal arguments.
-    pub fn copy(&self) -> Result<Args, AllocError>
+    /// Equal arguments. Where memory runs out there are none, and nothing has changed.
+    pub fn copy(&self) -> Result<Args, Memory>
         ensures { IfOk result (λ made. made ≡ self.now) }
     {
         match self {
@@ -178,10 +176,9 @@ impl Args {
         }
     }
 
-    /// Writes the tokens of the last items of a message's array, with no bracket.
-    pub fn put(&self, out: &mut Writer) -> Result<(), AllocError>
-        ensures ok { OnOk result (out.new.tokens ≡ out.old.tokens ++ args_tokens self.now) }
-        ensures before { out.new.before ≡ out.old.before }
+    /// Writes the tokens of the last items of a message's array, with no bracket, as `Payload::put` does.
+    pub fn put(&self, out: &mut Writer) -> Result<(), Memory>
+        ensures tokens { Appends result out.old out.new (args_tokens self.now) }
         ensures args { OnOk result (IsArgs self.now) }
     {
         match self {

@@ -1,5 +1,5 @@
 ghost use Rattle.std.specs.Prelude.{◌≡◌};
-ghost use Rattle.wamp_values.specs.Faults.{number_of};
+ghost use Rattle.wamp_values.specs.Fault.{number_of};
 
 use std::alloc::AllocError;
 use thiserror::Error;

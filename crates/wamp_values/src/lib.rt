@@ -1,18 +1,18 @@
 //! The JSON values that messages of WAMP carry: payloads, arguments and options.
 #![tactic(auto)]
 
-pub use args::{Args, Arguments, ArgumentsKw};
-pub use fault::ValueFault;
-pub use options::{Found, bool_option, text_option};
-pub use payload::Payload;
-
 mod args;
 mod equal;
 mod fault;
+mod fitness;
 pub mod laws;
+mod memory;
 mod options;
 mod payload;
-mod survey;
-#[cfg(test)]
-mod tests;
-mod write;
+mod tokens;
+
+pub use args::{Args, Arguments, ArgumentsKw};
+pub use fault::ValueFault;
+pub use memory::Memory;
+pub use options::{Found, bool_option, text_at, text_option};
+pub use payload::Payload;

@@ -1,8 +1,8 @@
-ghost use Rattle.std.specs.Prelude.{◌≡◌, IfOk, IfErr};
+ghost use Rattle.std.specs.Prelude.{◌≡◌, IfOk};
 ghost use Rattle.serde_json.specs.View.{view};
-ghost use Rattle.wamp_values.specs.Options.{text_at, bool_at};
+ghost use Rattle.wamp_values.specs.Options.{text_at, bool_at, found_map};
 
-use crate::fault::ValueFault;
+use crate::memory::Memory;
 use serde_json::Value;
 use std::alloc::Global;
 use wamp_ids::Text;
@@ -18,19 +18,27 @@ pub enum Found<T> {
     Other,
 }
 
-/// A copy of the text at this key of a dictionary (WAMP specification, "Protocol Messages": Options|dict).
-///
-/// The error is `Memory` alone.
-pub fn text_option(alloc: Global, options: &Value, key: &str) -> Result<Found<Text>, ValueFault>
-    ensures ok { IfOk result (λ found. found ≡ text_at key.now (view options.now)) }
-    ensures err { IfErr result (λ fault. fault ≡ ValueFault.Memory) }
+/// The text at this key of a dictionary, lent by it (WAMP specification, "Protocol Messages": Options|dict); takes no memory.
+pub fn text_at<'a>(options: &'a Value, key: &str) -> Found<&'a str>
+    ensures { found_map (λ text. text.now) result ≡ text_at key.now (view options.now) }
 {
     let Some(value) = options.get(key) else {
-        return Ok(Found::Absent);
+        return Found::Absent;
     };
     match value.as_str() {
-        Some(text) => Ok(Found::Is(Text::read(alloc, text)?)),
-        None => Ok(Found::Other),
+        Some(text) => Found::Is(text),
+        None => Found::Other,
+    }
+}
+
+/// A copy of the text at this key of a dictionary. Where memory runs out there is none, and nothing has changed.
+pub fn text_option(alloc: Global, options: &Value, key: &str) -> Result<Found<Text>, Memory>
+    ensures { IfOk result (λ found. found ≡ text_at key.now (view options.now)) }
+{
+    match text_at(options, key) {
+        Found::Absent => Ok(Found::Absent),
+        Found::Is(text) => Ok(Found::Is(Text::new(alloc, text)?)),
+        Found::Other => Ok(Found::Other),
     }
 }
 

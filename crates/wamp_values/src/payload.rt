@@ -1,17 +1,16 @@
 ghost use Rattle.std.specs.Prelude.{◌≡◌, ◌++◌, ◌↔◌, IfOk, IsTrue, OnOk, OnErr};
-ghost use Rattle.serde_json.specs.View.{view as data_of};
+ghost use Rattle.serde_json.specs.View.{view};
 ghost use Rattle.serde_json.specs.Written.{compact_text};
-ghost use Rattle.wamp_values.specs.Checks.{payload_of};
-ghost use Rattle.wamp_values.specs.Texts.{data_tokens};
-ghost use Rattle.wamp_values.specs.Payloads.{IsPayload};
+ghost use Rattle.wamp_values.specs.Payload.{payload_of, IsPayload};
+ghost use Rattle.wamp_values.specs.Tokens.{data_tokens, Appends};
 
 use crate::equal::same_values;
 use crate::fault::ValueFault;
-use crate::survey::survey;
-use crate::write::put;
+use crate::fitness::{Fitness, fitness_of};
+use crate::memory::Memory;
+use crate::tokens::put;
 use json::Writer;
 use serde_json::Value;
-use std::alloc::AllocError;
 use std::marker::Model;
 use std::mem;
 
@@ -27,17 +26,16 @@ pub struct Payload {
 
 impl Model for Payload {
     ghost use Rattle.serde_json.specs.Data.{Data};
-    ghost use Rattle.serde_json.specs.View.{view as data_of};
-    ghost use Rattle.wamp_values.specs.Coded.{coded_data};
-    ghost use Rattle.wamp_values.specs.Payloads.{IsPayload};
+    ghost use Rattle.serde_json.specs.View as json;
+    ghost use Rattle.wamp_values.specs.Payload.{coded_data, IsPayload};
 
     ghost Value = { Data };
 
     ghost coded = { coded_data };
 
-    ghost view = { λ a. data_of a.value };
+    ghost view = { λ a. json.view a.value };
 
-    ghost invariant = { λ a. IsPayload (data_of a.value) };
+    ghost invariant = { λ a. IsPayload (json.view a.value) };
 }
 
 impl Payload {
@@ -46,25 +44,25 @@ impl Payload {
     /// `Number` where a number is not held as an i64 or a u64, as one with a fraction, an exponent or out of range,
     /// and `-0`. Else `Deep` where arrays and objects nest more than 126 deep.
     pub fn check(value: Value) -> Result<Payload, ValueFault>
-        ensures { result ≡ payload_of (data_of value) }
+        ensures { result ≡ payload_of (view value) }
     {
-        match survey(&value, DEEPEST) {
-            Some(true) => Ok(Payload { value }),
-            Some(false) => Err(ValueFault::Deep),
-            None => Err(ValueFault::Number),
+        match fitness_of(&value, DEEPEST) {
+            Fitness::Inexact => Err(ValueFault::Number),
+            Fitness::TooDeep => Err(ValueFault::Deep),
+            Fitness::Fit => Ok(Payload { value }),
         }
     }
 
     /// The value; takes no memory.
     pub fn value(&self) -> &Value
-        ensures value { data_of result.now ≡ self.now }
+        ensures value { view result.now ≡ self.now }
         ensures payload { IsPayload self.now }
     {
         &self.value
     }
 
-    /// An equal payload.
-    pub fn copy(&self) -> Result<Payload, AllocError>
+    /// An equal payload. Where memory runs out there is none, and nothing has changed.
+    pub fn copy(&self) -> Result<Payload, Memory>
         ensures { IfOk result (λ made. made ≡ self.now) }
     {
         Ok(Payload {
@@ -82,19 +80,18 @@ impl Payload {
 
     /// Writes the payload's tokens: with these, the writer's text is the compact text of the payload.
     ///
-    /// After an error some of them may have been written.
+    /// After an error some of them may have been written, and what the writer began with stays.
     #[tactic(auto, using(crate::proofs::Plain::plain_has_no_float))]
-    pub fn put(&self, out: &mut Writer) -> Result<(), AllocError>
-        ensures ok { OnOk result (out.new.tokens ≡ out.old.tokens ++ data_tokens self.now) }
-        ensures before { out.new.before ≡ out.old.before }
+    pub fn put(&self, out: &mut Writer) -> Result<(), Memory>
+        ensures tokens { Appends result out.old out.new (data_tokens self.now) }
         ensures payload { IsPayload self.now }
     {
-        put(&self.value, out)
+        Ok(put(&self.value, out)?)
     }
 
     /// Appends the compact text: no space, an object's keys in byte order. An error leaves `out` as it was.
     #[tactic(auto, using(crate::proofs::Texts::print_tokens))]
-    pub fn write_into(&self, out: &mut Vec<u8>) -> Result<(), AllocError>
+    pub fn write_into(&self, out: &mut Vec<u8>) -> Result<(), Memory>
         ensures ok { OnOk result (out.new.items ≡ out.old.items ++ compact_text self.now) }
         ensures err { OnErr result (out.new.items ≡ out.old.items) }
     {

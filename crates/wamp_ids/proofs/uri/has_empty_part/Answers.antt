@@ -3,7 +3,7 @@ use Rattle.std.proofs.Common.{lit<, rules}
 use borrow.Author.Tests.{tests}
 use Rattle.std.proofs.lemmas.Iterator.Search.{any_from_yields_List}
 use Rattle.std.proofs.lemmas.Iterator.Splits.{YieldsList-from_str_split}
-use Rattle.wamp_ids.specs.Uris.{is_empty}
+use Rattle.wamp_ids.specs.Uri.{is_empty}
 use Rattle.wamp_ids.proofs.uri.has_empty_part.Goals as goal
 
 pub returns : goal.returns

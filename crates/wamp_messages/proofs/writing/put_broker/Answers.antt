@@ -1,12 +1,8 @@
-use Rattle.std.proofs.Common.{◌≡◌, ◌++◌, ◌∷◌, [], true, codes, append_assoc}
-use Rattle.std.proofs.lemmas.Result.{on_ok_weaker}
-use Rattle.json.specs.Token.{begin_object, end_object, key, boolean}
+use Rattle.wamp_values.proofs.Texts.{appended, appended_one}
 use Rattle.wamp_messages.proofs.writing.put_broker.Goals as goal
 
-pub returns-clause-ok : goal.returns-clause-ok
-returns-clause-ok c =
-    let step_1 : c.key.new.self.tokens ≡ c.args.out.now.tokens ++ key (codes "broker") ∷ [] = c.in_ok-key.ensures.ok in
-    let step_2 : c.open_within.new.out.tokens ≡ c.key.new.self.tokens ++ begin_object ∷ key (codes "features") ∷ begin_object ∷ [] = c.in_ok-open_within.ensures.ok in
-    let step_3 : c.put_feature.new.out.tokens ≡ c.open_within.new.out.tokens ++ key (codes "pattern_based_subscription") ∷ boolean true ∷ [] = c.in_ok-put_feature.ensures.ok in
-    let step_4 : c.put_feature-2.new.out.tokens ≡ c.put_feature.new.out.tokens ++ key (codes "publisher_exclusion") ∷ boolean true ∷ [] = c.in_ok-put_feature-2.ensures.ok in
-    on_ok_weaker c.close_two.result (λ (e : c.close_two.new.out.tokens ≡ c.put_feature-2.new.out.tokens ++ end_object ∷ end_object ∷ []). rw (e, step_4, step_3, step_2, step_1) (simp append_assoc)) c.close_two.ensures.ok
+pub returns : goal.returns
+returns c =
+    let opened = appended (appended_one c.in_ok-key.ensures) c.in_ok-open_within.ensures in
+    let features = appended c.in_ok-put_feature.ensures c.in_ok-put_feature-2.ensures in
+    appended (appended opened features) c.close_two.ensures

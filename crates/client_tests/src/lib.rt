@@ -1,0 +1,14 @@
+//! Tests of what a client meets, from ids to the realm, over the crates' public surfaces. A crate with tests is proved twice, so
+//! they stand here.
+#![tactic(auto)]
+
+#[cfg(test)]
+mod frames;
+#[cfg(test)]
+mod ids;
+#[cfg(test)]
+mod messages;
+#[cfg(test)]
+mod realm;
+#[cfg(test)]
+mod values;

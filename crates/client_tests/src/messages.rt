@@ -1,0 +1,139 @@
+// Rows of messages: what is read of a text, and the one text that is written.
+use std::alloc::Global;
+use std::test::Fail;
+use wamp_messages::{Memory, Message, Read, UnfitKind, read, write};
+
+const WELCOME: &str = "[2,1,{\"roles\":{\"broker\":{\"features\":{\
+    \"pattern_based_subscription\":true,\"publisher_exclusion\":true}},\
+    \"dealer\":{\"features\":{\"call_canceling\":true,\
+    \"pattern_based_registration\":true,\"shared_registration\":true}}}}]";
+
+// The number of the fault, or 0 where there is none.
+fn fault_number(done: &Read) -> u8 {
+    match done {
+        Read::Bad(fault) => fault.number(),
+        _ => 0,
+    }
+}
+
+fn fault(alloc: Global, octets: &[u8]) -> Result<u8, Fail> {
+    let done = read(alloc, octets)?;
+    Ok(fault_number(&done))
+}
+
+// Whether this is the unfit request 1 of this kind.
+fn is_unfit(done: &Read, wanted: UnfitKind, silent: bool) -> bool {
+    match done {
+        Read::Unfit {
+            kind,
+            request,
+            quiet,
+        } => *kind == wanted && request.get() == 1 && *quiet == silent,
+        _ => false,
+    }
+}
+
+fn reads_unfit(alloc: Global, text: &str, kind: UnfitKind, quiet: bool) -> Result<bool, Fail> {
+    let done = read(alloc, text.as_bytes())?;
+    Ok(is_unfit(&done, kind, quiet))
+}
+
+fn is_spelled(alloc: Global, message: &Message, text: &str) -> Result<bool, Fail> {
+    let octets = write(alloc, message)?;
+    Ok(octets.as_slice() == text.as_bytes())
+}
+
+// Whether the copy is equal, and has the text.
+fn is_copied(alloc: Global, message: &Message, text: &str) -> Result<bool, Fail> {
+    let copy = message.copy()?;
+    Ok(copy.same(message) && is_spelled(alloc, &copy, text)?)
+}
+
+// Whether the text is that of the message that is read of it.
+fn is_written_again(alloc: Global, text: &str) -> Result<bool, Fail> {
+    let done = read(alloc, text.as_bytes())?;
+    match &done {
+        Read::Good(message) => is_copied(alloc, message, text),
+        _ => Ok(false),
+    }
+}
+
+#[test]
+fn faults_come_in_the_order_of_their_numbers(rt: HostRuntime) -> Result<(), Fail> {
+    for (text, number) in [
+        ("{", 21),
+        ("{}", 22),
+        ("[]", 23),
+        ("[5,\"x\",{}]", 23),
+        ("[34,1,1]", 23),
+        ("[48,1,{},\"p\"]", 23),
+        ("[64,1,{},\"p\"]", 23),
+        ("[33,1]", 24),
+        ("[32,1,{},\"a\",[]]", 24),
+        ("[32,1,[],\"a\"]", 25),
+        ("[32,1.0,{},\"a\"]", 25),
+        ("[32,-1,[],\"a\"]", 25),
+        ("[8,33,0,{},\"a\"]", 25),
+        ("[36,0,1,{},[0.5]]", 25),
+        ("[32,0,{},\"a\"]", 26),
+        ("[32,-1,{},\"a\"]", 26),
+        ("[16,0,{},\"a\",[0.5]]", 26),
+    ] {
+        assert_eq!(rt; fault(rt.alloc(), text.as_bytes())?, number, "{text}");
+    }
+    assert_eq!(rt; fault(rt.alloc(), &[0x5b, 0x22, 0xff, 0x22, 0x5d])?, 21);
+    Ok(())
+}
+
+#[test]
+fn unfit_requests_are_told_apart_from_faults(rt: HostRuntime) -> Result<(), Fail> {
+    let alloc = rt.alloc();
+    let subscribe = UnfitKind::Subscribe;
+    let publish = UnfitKind::Publish;
+    assert!(rt;
+        reads_unfit(
+            alloc,
+            "[32,1,{\"match\":\"fuzzy\"},\"a\"]",
+            subscribe,
+            false
+        )?
+    );
+    assert!(rt; reads_unfit(alloc, "[32,1,{\"match\":null},\"a\"]", subscribe, false)?);
+    assert!(rt; reads_unfit(alloc, "[16,1,{},\"a\",[0.5]]", publish, true)?);
+    assert!(rt; reads_unfit(alloc, "[16,1,{\"acknowledge\":1},\"a\"]", publish, true)?);
+    assert!(rt;
+        reads_unfit(
+            alloc,
+            "[16,1,{\"acknowledge\":true},\"a\",[0.5]]",
+            publish,
+            false
+        )?
+    );
+    assert!(rt; reads_unfit(alloc, "[8,68,1,{},\"a\",[0.5]]", UnfitKind::Yield, false)?);
+    Ok(())
+}
+
+#[test]
+fn what_is_read_is_written_as_its_one_text(rt: HostRuntime) -> Result<(), Fail> {
+    for text in [
+        "[1,\"realm1\",{}]",
+        "[1,\"realm1\",{\"roles\":{\"callee\":{\"features\":{\"call_canceling\":true}}}}]",
+        "[3,{},\"wamp.error.protocol_violation\"]",
+        "[6,{},\"wamp.close.goodbye_and_out\"]",
+        "[8,32,1,{},\"wamp.error.invalid_argument\",[],{\"a\":-1}]",
+        "[16,2,{\"acknowledge\":true,\"exclude_me\":false},\"a.b\",[\"hi\"]]",
+        "[17,2,3]",
+        "[32,1,{\"match\":\"prefix\"},\"com.a.x\"]",
+        "[33,1,9007199254740992]",
+        "[36,1,500,{\"topic\":\"com.a.x-low\"},[\"hi\"]]",
+        WELCOME,
+    ] {
+        assert!(rt; is_written_again(rt.alloc(), text)?, "{text}");
+    }
+    Ok(())
+}
+
+#[test]
+fn want_of_memory_has_number_27(rt: HostRuntime) {
+    assert_eq!(rt; Memory.number(), 27);
+}

@@ -1,0 +1,30 @@
+ghost use Rattle.std.specs.Prelude.{◌≡◌};
+
+use std::alloc::AllocError;
+use thiserror::Error;
+
+/// No memory was left: the only error of the calls that answer it.
+#[derive(Clone, Copy, Debug, PartialEq, Eq, Hash, Error)]
+#[error("out of memory")]
+pub struct Memory;
+
+impl Memory {
+    /// The fault's number, 5.
+    pub fn number(self) -> u8
+        ensures { result ≡ 5 }
+    {
+        5
+    }
+}
+
+impl From<AllocError> for Memory {
+    fn from(_error: AllocError) -> Memory {
+        Memory
+    }
+}
+
+impl From<Memory> for AllocError {
+    fn from(_error: Memory) -> AllocError {
+        AllocError
+    }
+}
