@@ -5,11 +5,12 @@ use Rattle.std.proofs.Math.Seq.{take-append_seam, drop-append_seam}
 use Rattle.wamp_rawsocket.specs.declared.fault.FrameFault.{FrameFault}
 use Rattle.wamp_rawsocket.specs.declared.frame.FrameKind.{FrameKind}
 use Rattle.wamp_rawsocket.specs.declared.frame.FrameKind.TheVariants.{Message, Ping, Pong}
-use Rattle.wamp_rawsocket.specs.Frames.{header_of, length_of, code_of, length_octets, inbound_limit}
-use Rattle.wamp_rawsocket.specs.Splitting.{partial, whole, faulty, IsWhole, behind}
+use Rattle.wamp_rawsocket.specs.Frame.{header_of, length_of, code_of, length_octets, inbound_limit}
+use Rattle.wamp_rawsocket.specs.Splitter.{partial, whole, faulty, IsWhole, behind}
 use Rattle.wamp_rawsocket.specs.Laws.{WholeStays, FaultStays, FrameIsReadBack, WholeIsItsOctets}
 
-behind_whole-more : (header : Result FrameKind FrameFault) (len : ℕ) (held more payload rest : List ℕ) (kind : FrameKind) → behind header len held ≡ whole kind payload rest → behind header len (held ++ more) ≡ whole kind payload (rest ++ more)
+behind_whole-more : (header : Result FrameKind FrameFault) (len : ℕ) (held more payload rest : List ℕ) (kind : FrameKind)
+    → behind header len held ≡ whole kind payload rest → behind header len (held ++ more) ≡ whole kind payload (rest ++ more)
 behind_whole-more (Err fault) len held more payload rest kind e = cc
 behind_whole-more (Ok told) len held more payload rest kind e = grind (arith, take-append-le, drop-append-le, length-append)
 
@@ -22,7 +23,8 @@ front_whole_more (octet ∷ high ∷ []) payload rest more kind e = cc
 front_whole_more (octet ∷ []) payload rest more kind e = cc
 front_whole_more [] payload rest more kind e = cc
 
-behind_faulty-more : (header : Result FrameKind FrameFault) (len : ℕ) (held more : List ℕ) (fault : FrameFault) → behind header len held ≡ faulty fault → behind header len (held ++ more) ≡ faulty fault
+behind_faulty-more : (header : Result FrameKind FrameFault) (len : ℕ) (held more : List ℕ) (fault : FrameFault)
+    → behind header len held ≡ faulty fault → behind header len (held ++ more) ≡ faulty fault
 behind_faulty-more (Err shown) len held more fault e = e
 behind_faulty-more (Ok told) len held more fault e = grind arith
 
@@ -46,7 +48,8 @@ header_of-code_of Ping len fits = grind arith
 header_of-code_of Pong len fits = grind arith
 
 -- a payload is read back as what has its length
-behind-payload : (kind : FrameKind) (len : ℕ) (payload rest : List ℕ) → len ≡ length payload → behind (Ok kind) len (payload ++ rest) ≡ whole kind payload rest
+behind-payload : (kind : FrameKind) (len : ℕ) (payload rest : List ℕ) → len ≡ length payload
+    → behind (Ok kind) len (payload ++ rest) ≡ whole kind payload rest
 behind-payload kind len payload rest e = rw e (grind (arith, take-append_seam, drop-append_seam, length-append))
 
 pub front_read_back : FrameIsReadBack
@@ -55,15 +58,18 @@ front_read_back kind payload rest fits =
     rw (length_of-length_octets n, header_of-code_of kind n fits) (behind-payload kind n payload rest refl)
 
 -- what a whole frame at the front says of the octets behind the first four, and of what those show
-behind_whole-kind : (header : Result FrameKind FrameFault) (len : ℕ) (held payload rest : List ℕ) (kind : FrameKind) → behind header len held ≡ whole kind payload rest → header ≡ Ok kind
+behind_whole-kind : (header : Result FrameKind FrameFault) (len : ℕ) (held payload rest : List ℕ) (kind : FrameKind)
+    → behind header len held ≡ whole kind payload rest → header ≡ Ok kind
 behind_whole-kind (Err fault) len held payload rest kind e = cc
 behind_whole-kind (Ok told) len held payload rest kind e = grind arith
 
-behind_whole-length : (header : Result FrameKind FrameFault) (len : ℕ) (held payload rest : List ℕ) (kind : FrameKind) → behind header len held ≡ whole kind payload rest → length payload ≡ len
+behind_whole-length : (header : Result FrameKind FrameFault) (len : ℕ) (held payload rest : List ℕ) (kind : FrameKind)
+    → behind header len held ≡ whole kind payload rest → length payload ≡ len
 behind_whole-length (Err fault) len held payload rest kind e = cc
 behind_whole-length (Ok told) len held payload rest kind e = grind (arith, length-take-le)
 
-behind_whole-held : (header : Result FrameKind FrameFault) (len : ℕ) (held payload rest : List ℕ) (kind : FrameKind) → behind header len held ≡ whole kind payload rest → held ≡ payload ++ rest
+behind_whole-held : (header : Result FrameKind FrameFault) (len : ℕ) (held payload rest : List ℕ) (kind : FrameKind)
+    → behind header len held ≡ whole kind payload rest → held ≡ payload ++ rest
 behind_whole-held (Err fault) len held payload rest kind e = cc
 behind_whole-held (Ok told) len held payload rest kind e = grind (arith, take-append-drop)
 
@@ -77,7 +83,8 @@ header_of_ok-len : (octet len : ℕ) (kind : FrameKind) → header_of octet len 
 header_of_ok-len octet len kind e = grind arith
 
 -- the number that three octets spell is spelled by them
-length_octets-length_of : (high middle low n : ℕ) → middle < 2 ^ 8 → low < 2 ^ 8 → n ≡ length_of high middle low → length_octets n ≡ high ∷ middle ∷ low ∷ []
+length_octets-length_of : (high middle low n : ℕ) → middle < 2 ^ 8 → low < 2 ^ 8 → n ≡ length_of high middle low
+    → length_octets n ≡ high ∷ middle ∷ low ∷ []
 length_octets-length_of high middle low n middle_fits low_fits e =
     let first : n / 65536 ≡ high = omega arith in
     let second : n / 256 % 256 ≡ middle = omega arith in
@@ -96,7 +103,8 @@ front_whole_octets (octet ∷ high ∷ middle ∷ low ∷ held) payload rest kin
     let behind_it : held ≡ payload ++ rest = behind_whole-held (header_of octet len) len held payload rest kind e in
     let told : octet ≡ code_of kind = header_of_ok-octet octet len kind header in
     let fits : len ≤ inbound_limit = header_of_ok-len octet len kind header in
-    let spelled : length_octets (length payload) ≡ high ∷ middle ∷ low ∷ [] = length_octets-length_of high middle low (length payload) (bytes 2 middle (omega arith)) (bytes 3 low (omega arith)) long in
+    let spelled : length_octets (length payload) ≡ high ∷ middle ∷ low ∷ [] = length_octets-length_of high middle low (length payload)
+    (bytes 2 middle (omega arith)) (bytes 3 low (omega arith)) long in
     (cc, rw long fits)
 front_whole_octets (octet ∷ high ∷ middle ∷ []) payload rest kind bytes e = absurd (partial-not_whole kind payload rest e)
 front_whole_octets (octet ∷ high ∷ []) payload rest kind bytes e = absurd (partial-not_whole kind payload rest e)

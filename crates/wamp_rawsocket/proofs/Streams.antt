@@ -1,15 +1,18 @@
 -- The frames of a whole stream.
-use Rattle.std.proofs.Common.{◌≡◌, ℕ, zero, suc, ◌<◌, ◌≤◌, ◌^◌, List, [], ◌∷◌, ◌++◌, length, Result, Ok, Err, refl, ap, sym, subst, ◌∙◌, arith, All, append_assoc}
+use Rattle.std.proofs.Common.{◌≡◌, ℕ, zero, suc, ◌<◌, ◌≤◌, ◌^◌, List, [], ◌∷◌, ◌++◌, length, Result, Ok, Err, refl, ap, sym, subst, ◌∙◌}
+use Rattle.std.proofs.Common.{arith, All, append_assoc}
 use Rattle.std.proofs.lemmas.List.{length-drop}
 use Rattle.std.proofs.lemmas.List.Elements.{All-tail, All-same}
 use Rattle.wamp_rawsocket.specs.declared.fault.FrameFault.{FrameFault}
 use Rattle.wamp_rawsocket.specs.declared.frame.FrameKind.{FrameKind}
-use Rattle.wamp_rawsocket.specs.Frames.{header_of, length_of, frame_octets}
-use Rattle.wamp_rawsocket.specs.Splitting.{Front, partial, whole, faulty, IsWhole, front_of, behind, Frames, frame, cut_at, cut_within, frames_of, octets_of, end_of}
+use Rattle.wamp_rawsocket.specs.Frame.{header_of, length_of, frame_octets}
+use Rattle.wamp_rawsocket.specs.Splitter.{Front, partial, whole, faulty, IsWhole, front_of, behind, Frames, frame, cut_at, cut_within}
+use Rattle.wamp_rawsocket.specs.Splitter.{frames_of, octets_of, end_of}
 use Rattle.wamp_rawsocket.specs.Laws.{WholeLeavesLess, FramesAtWhole, FramesAtFault, FramesAtEnd, FramesReadBack, StreamIsItsFrames}
 use Rattle.wamp_rawsocket.proofs.Fronts.{partial-not_whole, front_whole_more, front_fault_more, front_read_back, front_whole_octets}
 
-behind_whole-shorter : (header : Result FrameKind FrameFault) (len : ℕ) (held payload rest : List ℕ) (kind : FrameKind) → behind header len held ≡ whole kind payload rest → length rest ≤ length held
+behind_whole-shorter : (header : Result FrameKind FrameFault) (len : ℕ) (held payload rest : List ℕ) (kind : FrameKind)
+    → behind header len held ≡ whole kind payload rest → length rest ≤ length held
 behind_whole-shorter (Err fault) len held payload rest kind e = absurd (subst IsWhole (sym e) tt)
 behind_whole-shorter (Ok told) len held payload rest kind e = grind (arith, length-drop)
 
@@ -24,7 +27,8 @@ whole_leaves_less (octet ∷ []) payload rest kind e = absurd (partial-not_whole
 whole_leaves_less [] payload rest kind e = absurd (partial-not_whole kind payload rest e)
 
 -- two ways to cut that agree on what is shorter than the stream cut it alike
-cut_at-agree : (octets : List ℕ) (front : Front) → front_of octets ≡ front → (f g : List ℕ → Frames) → ((rest : List ℕ) → length rest < length octets → f rest ≡ g rest) → cut_at front f ≡ cut_at front g
+cut_at-agree : (octets : List ℕ) (front : Front) → front_of octets ≡ front → (f g : List ℕ → Frames)
+    → ((rest : List ℕ) → length rest < length octets → f rest ≡ g rest) → cut_at front f ≡ cut_at front g
 cut_at-agree octets partial e f g alike = refl
 cut_at-agree octets (whole kind payload rest) e f g alike = ap (frame kind payload) (alike rest (whole_leaves_less octets payload rest kind e))
 cut_at-agree octets (faulty fault) e f g alike = refl
@@ -45,7 +49,8 @@ unfolding frames_of
 frames_of-front [] = refl
 frames_of-front (octet ∷ octets) =
     let all : List ℕ = octet ∷ octets in
-    cut_at-agree all (front_of all) refl (cut_within (length octets)) (λ rest. cut_within (length rest) rest) (λ rest less. cut_within-enough (length octets) (length rest) rest (omega arith) (omega arith))
+    cut_at-agree all (front_of all) refl (cut_within (length octets)) (λ rest. cut_within (length rest) rest)
+    (λ rest less. cut_within-enough (length octets) (length rest) rest (omega arith) (omega arith))
 
 pub frames_at_whole : FramesAtWhole
 frames_at_whole octets payload rest more kind e =
@@ -73,15 +78,22 @@ All-behind P (octet ∷ front) rest all = All-behind P front rest (All-tail P oc
 abbrev IsCut : List ℕ → Frames → Type 0
 IsCut octets frames = (rest : List ℕ) × (octets ≡ octets_of frames ++ rest) × (front_of rest ≡ end_of frames)
 
-cut_at-is_cut : (octets : List ℕ) (front : Front) → front_of octets ≡ front → (cut : List ℕ → Frames) → All (λ octet. octet < 2 ^ 8) octets → ((rest : List ℕ) → length rest < length octets → All (λ octet. octet < 2 ^ 8) rest → IsCut rest (cut rest)) → IsCut octets (cut_at front cut)
+cut_at-is_cut : (octets : List ℕ) (front : Front) → front_of octets ≡ front → (cut : List ℕ → Frames) → All (λ octet. octet < 2 ^ 8) octets
+    → ((rest : List ℕ) → length rest < length octets → All (λ octet. octet < 2 ^ 8) rest → IsCut rest (cut rest))
+    → IsCut octets (cut_at front cut)
 cut_at-is_cut octets partial e cut bytes others = (octets, refl, e)
 cut_at-is_cut octets (faulty fault) e cut bytes others = (octets, refl, e)
 cut_at-is_cut octets (whole kind payload rest) e cut bytes others =
     let first : octets ≡ frame_octets kind payload ++ rest = (front_whole_octets octets payload rest kind bytes e).0 in
     let rest_bytes : All (λ octet. octet < 2 ^ 8) rest =
-    All-behind (λ octet. octet < 2 ^ 8) (frame_octets kind payload) rest (All-same (λ octet. octet < 2 ^ 8) (frame_octets kind payload ++ rest) octets (sym first) bytes) in
-    let behind_it : IsCut rest (cut rest) = others rest (whole_leaves_less octets payload rest kind e) rest_bytes in
-    (behind_it.0, first ∙ ap (λ r. frame_octets kind payload ++ r) behind_it.1 ∙ sym (append_assoc (frame_octets kind payload) (octets_of (cut rest)) behind_it.0), behind_it.2)
+    All-behind (λ octet. octet < 2 ^ 8) (frame_octets kind payload) rest
+    (All-same (λ octet. octet < 2 ^ 8) (frame_octets kind payload ++ rest) octets (sym first) bytes) in
+    let behind_it : IsCut rest (cut rest) = others rest (whole_leaves_less octets payload rest kind e) rest_bytes in (
+      behind_it.0,
+      first ∙ ap (λ r. frame_octets kind payload ++ r) behind_it.1 ∙
+          sym (append_assoc (frame_octets kind payload) (octets_of (cut rest)) behind_it.0),
+      behind_it.2,
+    )
 
 cut_within-is_cut : (n : ℕ) (octets : List ℕ) → length octets ≤ n → All (λ octet. octet < 2 ^ 8) octets → IsCut octets (cut_within n octets)
 cut_within-is_cut zero [] short bytes = ([], refl, refl)

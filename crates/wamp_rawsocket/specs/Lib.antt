@@ -1,5 +1,5 @@
-pub mod Faults
-pub mod Frames
+pub mod Fault
+pub mod Frame
 pub mod Handshake
 pub mod Laws
-pub mod Splitting
+pub mod Splitter

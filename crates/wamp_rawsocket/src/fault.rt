@@ -1,5 +1,5 @@
 ghost use Rattle.std.specs.Prelude.{◌≡◌};
-ghost use Rattle.wamp_rawsocket.specs.Faults.{number_of};
+ghost use Rattle.wamp_rawsocket.specs.Fault.{number_of};
 
 use std::alloc::{AllocError, AllocFailed};
 use thiserror::Error;

@@ -1,12 +1,15 @@
-ghost use Rattle.std.specs.Prelude.{◌≡◌, ◌<◌, ◌≤◌, ◌^◌, ◌++◌, ◌↔◌, length, IfOk, OnOk, OnErr, IsErrOf, IsOkUnless};
-ghost use Rattle.wamp_rawsocket.specs.Frames.{frame_octets, code_of};
+ghost use Rattle.std.specs.Prelude.{◌≡◌, ◌<◌, ◌≤◌, ◌++◌, ◌↔◌, length, IfOk, OnOk, OnErr, IsErrOf, IsOkUnless};
+ghost use Rattle.wamp_rawsocket.specs.Frame.{frame_octets, code_of, outbound_limit};
 
 use crate::fault::FrameFault;
 use bytes::Bytes;
 use std::alloc::Global;
 
-/// The octets in front of a frame's payload.
+// The octets in front of a frame's payload.
 pub(crate) const HEADER_LEN: usize = 4;
+
+// The longest payload whose length the three octets of a frame can say.
+pub(crate) const LONGEST_PAYLOAD: u32 = (1 << 24) - 1;
 
 /// What a frame is for.
 #[derive(Clone, Copy, Debug, PartialEq, Eq)]
@@ -20,7 +23,7 @@ pub enum FrameKind {
 }
 
 impl FrameKind {
-    /// The type by which a frame's first octet tells this kind.
+    // The type by which a frame's first octet tells this kind.
     fn code(self) -> u8
         ensures { result ≡ code_of self }
     {
@@ -43,8 +46,9 @@ pub struct Frame {
 /// highest first, and the payload.
 ///
 /// A payload of more than `limit` octets is `TooLong`; the limit is the one that `answer` found in
-/// the receiver's handshake. `Memory` comes only where the frame fits. After an error `out` holds
-/// what it held before. The cost is that of copying the payload once.
+/// the receiver's handshake, and a greater one than a frame can say, 2^24 - 1, counts as that.
+/// `Memory` comes only where the frame fits. After an error `out` holds what it held before. The
+/// cost is that of copying the payload once.
 /// (WAMP specification, "RawSocket Transport", "Framing".)
 pub fn append_frame(
     out: &mut Vec<u8>,
@@ -52,13 +56,12 @@ pub fn append_frame(
     payload: &[u8],
     limit: u32,
 ) -> Result<(), FrameFault>
-    requires { limit < 2 ^ 24 }
     ensures ok { OnOk result (out.new.items ≡ out.old.items ++ frame_octets kind payload.now) }
     ensures err { OnErr result (out.new.items ≡ out.old.items) }
-    ensures too_long { IsErrOf result FrameFault.TooLong ↔ (limit < length payload.now) }
-    ensures only_memory_else { length payload.now ≤ limit → IsOkUnless result FrameFault.Memory }
+    ensures too_long { IsErrOf result FrameFault.TooLong ↔ (outbound_limit limit < length payload.now) }
+    ensures only_memory_else { length payload.now ≤ outbound_limit limit → IsOkUnless result FrameFault.Memory }
 {
-    if payload.len() > limit as usize {
+    if payload.len() > limit.min(LONGEST_PAYLOAD) as usize {
         return Err(FrameFault::TooLong);
     }
     let [_, high, middle, low] = (payload.len() as u32).to_be_bytes();
@@ -75,10 +78,9 @@ pub fn put_frame(
     payload: &[u8],
     limit: u32,
 ) -> Result<Vec<u8>, FrameFault>
-    requires { limit < 2 ^ 24 }
     ensures octets { IfOk result (λ out. out.items ≡ frame_octets kind payload.now) }
-    ensures too_long { IsErrOf result FrameFault.TooLong ↔ (limit < length payload.now) }
-    ensures only_memory_else { length payload.now ≤ limit → IsOkUnless result FrameFault.Memory }
+    ensures too_long { IsErrOf result FrameFault.TooLong ↔ (outbound_limit limit < length payload.now) }
+    ensures only_memory_else { length payload.now ≤ outbound_limit limit → IsOkUnless result FrameFault.Memory }
 {
     let mut out = Vec::new(alloc);
     append_frame(&mut out, kind, payload, limit)?;

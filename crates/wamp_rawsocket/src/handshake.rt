@@ -1,21 +1,19 @@
 ghost use Rattle.std.specs.Prelude.{◌≡◌};
 ghost use Rattle.wamp_rawsocket.specs.Handshake.{answer_of, HasFramedLimit};
 
-use crate::outcome::Answer;
+use crate::frame::LONGEST_PAYLOAD;
+use crate::handshake_answer::Answer;
 
-/// The first octet of a handshake, either way.
+// The first octet of a handshake, either way.
 const MAGIC: u8 = 0x7F;
 
-/// The serializer number of JSON.
+// The serializer number of JSON.
 const JSON: u8 = 1;
 
-/// The longest payload whose length the three octets of a frame can say.
-const LONGEST_PAYLOAD: u32 = (1 << 24) - 1;
-
-/// Frames of up to 2^20 octets of payload are received, in JSON.
+// Frames of up to 2^20 octets of payload are received, in JSON.
 const TERMS: [u8; 4] = [MAGIC, 0xB1, 0, 0];
 
-/// The refusals, each with its error code in the high half of the second octet.
+// The refusals, each with its error code in the high half of the second octet.
 const SERIALIZER_UNSUPPORTED: [u8; 4] = [MAGIC, 0x10, 0, 0];
 
 const RESERVED_OCTETS_USED: [u8; 4] = [MAGIC, 0x30, 0, 0];

@@ -1,5 +1,6 @@
 //! Laws of the framing, each the contract of a function that does nothing.
-ghost use Rattle.wamp_rawsocket.specs.Laws.{TermsTellTheLimit, WholeIsItsOctets, FrameIsReadBack, WholeStays, WholeLeavesLess, FaultStays, FramesAtWhole, FramesAtFault, FramesAtEnd, FramesReadBack, StreamIsItsFrames};
+ghost use Rattle.wamp_rawsocket.specs.Laws.{TermsTellTheLimit, WholeIsItsOctets, FrameIsReadBack, WholeStays, WholeLeavesLess};
+ghost use Rattle.wamp_rawsocket.specs.Laws.{FaultStays, FramesAtWhole, FramesAtFault, FramesAtEnd, FramesReadBack, StreamIsItsFrames};
 
 /// The octets that take a client on tell it the limit that the splitter keeps.
 pub fn terms_tell_the_limit()

@@ -5,15 +5,12 @@
 mod fault;
 mod frame;
 mod handshake;
+mod handshake_answer;
 pub mod laws;
-mod outcome;
 mod splitter;
 
 pub use fault::FrameFault;
 pub use frame::{Frame, FrameKind, append_frame, put_frame};
 pub use handshake::answer;
-pub use outcome::Answer;
+pub use handshake_answer::Answer;
 pub use splitter::Splitter;
-
-#[cfg(test)]
-mod tests;

@@ -1,6 +1,6 @@
 ghost use Rattle.std.specs.Prelude.{◌≡◌, ◌↔◌, ◌++◌, [], Option, List, ℕ, option_map, MatchOption, OnOk, OnErr, IsOkUnless};
-ghost use Rattle.wamp_rawsocket.specs.Frames.{header_of};
-ghost use Rattle.wamp_rawsocket.specs.Splitting.{Gives};
+ghost use Rattle.wamp_rawsocket.specs.Frame.{header_of};
+ghost use Rattle.wamp_rawsocket.specs.Splitter.{Gives};
 
 use crate::fault::FrameFault;
 use crate::frame::{Frame, FrameKind, HEADER_LEN};
@@ -8,7 +8,7 @@ use bytes::{Buf, BytesMut};
 use std::alloc::Global;
 use std::marker::Model;
 
-/// The longest payload that is received, as the handshake's answer says.
+// The longest payload that is received, as the handshake's answer says.
 const INBOUND_LIMIT: u32 = 1 << 20;
 
 /// Cuts the octets of a stream into frames, however they come.
@@ -89,7 +89,7 @@ impl Splitter {
     }
 }
 
-/// Judges a frame's first octet and the length of its payload.
+// Judges a frame's first octet and the length of its payload.
 fn read_header(octet: u8, length: u32) -> Result<FrameKind, FrameFault>
     ensures { result ≡ header_of octet length }
 {

@@ -5,7 +5,7 @@ use Rattle.wamp_rawsocket.specs.declared.fault.FrameFault.{FrameFault}
 use Rattle.wamp_rawsocket.specs.declared.fault.FrameFault.TheVariants.{Memory, Failed}
 use Rattle.wamp_rawsocket.specs.declared.frame.Frame.{Frame}
 use Rattle.wamp_rawsocket.specs.declared.frame.FrameKind.{FrameKind}
-use Rattle.wamp_rawsocket.specs.Frames.{frame_octets, header_of, length_of}
+use Rattle.wamp_rawsocket.specs.Frame.{frame_octets, header_of, length_of}
 
 -- what stands at the front of a stream: too few octets to tell, a whole frame and the octets behind it, or a fault
 pub data Front : Type 0 where

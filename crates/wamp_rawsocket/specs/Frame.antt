@@ -1,6 +1,6 @@
 -- The octets of a frame: WAMP specification, "RawSocket Transport", "Framing".
 -- That the high five bits of the first octet are zero is this project's profile.
-use Rattle.std.specs.Prelude.{ℕ, ◌+◌, ◌*◌, ◌/◌, ◌%◌, ◌^◌, List, [], ◌∷◌, ◌++◌, length, Result, Ok, Err, nat_lt, ◌==◌, if◌then◌else◌}
+use Rattle.std.specs.Prelude.{ℕ, ◌+◌, ◌-◌, ◌*◌, ◌/◌, ◌%◌, ◌^◌, min, List, [], ◌∷◌, ◌++◌, length, Result, Ok, Err, nat_lt, ◌==◌, if◌then◌else◌}
 use Rattle.wamp_rawsocket.specs.declared.fault.FrameFault.{FrameFault}
 use Rattle.wamp_rawsocket.specs.declared.fault.FrameFault.TheVariants.{Reserved, BadType, TooLong}
 use Rattle.wamp_rawsocket.specs.declared.frame.FrameKind.{FrameKind}
@@ -23,6 +23,14 @@ length_of high middle low = high * 65536 + middle * 256 + low
 -- a frame: the octet of its kind, the length of its payload, and the payload
 abbrev pub frame_octets : FrameKind → List ℕ → List ℕ
 frame_octets kind payload = code_of kind ∷ length_octets (length payload) ++ payload
+
+-- the longest payload whose length the three octets can say
+abbrev pub longest_payload : ℕ
+longest_payload = 2 ^ 24 - 1
+
+-- the longest payload that is put into a frame for a receiver that takes payloads of so many octets
+abbrev pub outbound_limit : ℕ → ℕ
+outbound_limit limit = min limit longest_payload
 
 -- the longest payload that is received
 abbrev pub inbound_limit : ℕ
