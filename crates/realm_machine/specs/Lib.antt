@@ -1,9 +1,12 @@
 pub mod Links
 pub mod Topics
 pub mod Sayings
-pub mod Setup
+pub mod Config
 pub mod Content
-pub mod Joining
+pub mod Leaving
+pub mod Opening
+pub mod Subscribing
 pub mod Publishing
-pub mod Said
+pub mod Step
 pub mod Realm
+pub mod Laws

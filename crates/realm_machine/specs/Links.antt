@@ -1,13 +1,12 @@
 -- Connected transports in the order in which they came, and their sessions (WAMP specification, "Sessions").
-use Rattle.std.specs.Prelude.{ℕ, zero, suc, ◌==◌, Bool, true, false, not, ◌&&◌, List, [], ◌∷◌, ◌++◌, length, map, filter, find, Option, None, Some, option_map, option_and_then, if◌then◌else◌}
+use Rattle.std.specs.Prelude.{ℕ, zero, suc, ◌==◌, Bool, true, false, not, List, [], ◌∷◌, ◌++◌, length, map, filter, find, Option}
+use Rattle.std.specs.Prelude.{None, Some, option_map, option_and_then, if◌then◌else◌}
 use Rattle.std.specs.List.{list_any}
-use Rattle.wamp_ids.specs.Ids.{id_after}
+use Rattle.wamp_ids.specs.Id.{id_after}
 use Rattle.paxos_packets.specs.declared.transport.Transport.{Transport}
+use Rattle.paxos_packets.specs.Transport.{same_transport}
 use Rattle.realm_machine.specs.declared.links.Session.{Session}
 use Rattle.realm_machine.specs.declared.links.Link.{Link}
-
-abbrev pub same_transport : Transport → Transport → Bool
-same_transport a b = (a.node == b.node) && ((a.boot == b.boot) && (a.number == b.number))
 
 -- the link of this transport
 abbrev pub is_of : Transport → Link → Bool
@@ -64,5 +63,6 @@ put_session t session link = if is_of t link then record { transport = link.tran
 abbrev pub set_session : List Link → Transport → Option Session → List Link
 set_session links t session = map (put_session t session) links
 
-abbrev pub remove : List Link → Transport → List Link
-remove links t = filter (λ link. not (is_of t link)) links
+-- the transport is connected no more
+abbrev pub without_transport : List Link → Transport → List Link
+without_transport links t = filter (λ link. not (is_of t link)) links

@@ -1,4 +1,4 @@
--- What transports are told.
+-- What is said to transports.
 use Rattle.std.specs.Prelude.{ℕ, List, [], ◌∷◌, Option, None, Some, codes}
 use Rattle.paxos_packets.specs.declared.transport.Transport.{Transport}
 use Rattle.wamp_values.specs.declared.args.Args.TheVariants.{Nothing}

@@ -14,7 +14,7 @@ pub enum Act {
     Hung,
 }
 
-/// What a transport is told.
+/// What is said to a transport.
 #[derive(Drop)]
 pub enum Out {
     /// The message is sent.
@@ -23,7 +23,7 @@ pub enum Out {
     Close,
 }
 
-/// What is told, and to which transport.
+/// What is said, and to which transport.
 #[derive(Drop)]
 pub struct Say {
     pub transport: Transport,

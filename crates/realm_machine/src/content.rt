@@ -1,18 +1,19 @@
-ghost use Rattle.std.specs.Prelude.{◌≡◌, IfOk, OnOk};
-ghost use Rattle.realm_machine.specs.Content.{empty, leave, gone, stop, violation, aborted, goodbye};
+ghost use Rattle.std.specs.Prelude.{◌≡◌};
+ghost use Rattle.realm_machine.specs.Content.{Does, empty, reply, refuse};
 
 use crate::act::Say;
 use crate::links::Links;
-use crate::sayings::{GOODBYE_AND_OUT, PROTOCOL_VIOLATION, abort, answer};
+use crate::memory::Memory;
+use crate::sayings::refusal;
 use crate::topics::Topics;
 use paxos_packets::Transport;
-use std::alloc::{AllocError, Global};
+use std::alloc::Global;
 use std::marker::Model;
-use wamp_ids::Text;
-use wamp_messages::Message;
+use wamp_ids::Id;
+use wamp_messages::{Message, RequestKind};
 
-/// The content of a realm. What it does for an act comes in parts, each a case of the step: it answers what is said.
-/// An error, for want of memory alone, may leave a part undone.
+// The content of a realm. What it does for an act comes in parts, each a case of the step. An error, for want of memory alone,
+// may leave a part undone.
 #[derive(Drop)]
 pub struct Content {
     pub alloc: Global,
@@ -29,7 +30,7 @@ impl Model for Content {
 }
 
 impl Content {
-    /// No transport and no subscription.
+    // No transport and no subscription.
     pub fn new(alloc: Global) -> Content
         ensures { result ≡ empty }
     {
@@ -40,62 +41,24 @@ impl Content {
         }
     }
 
-    /// The transport's session leaves what it joined, and is no more; the transport stays.
-    pub fn leave(&mut self, transport: Transport)
-        ensures { self.new ≡ leave self.old transport }
+    // The transport is sent the message, and nothing else is said.
+    pub fn reply(&self, transport: Transport, message: Message) -> Result<Vec<Say>, Memory>
+        ensures { Does result self.now (reply self.now transport message) }
     {
-        if let Some(session) = self.links.session_of(transport) {
-            self.links.set_session(transport, None);
-            self.topics.leave(session.id);
-        }
+        Ok(vec![in self.alloc; Say::send(transport, message)]?)
     }
 
-    /// The transport goes, after its session has left.
-    pub fn remove(&mut self, transport: Transport)
-        ensures { self.new ≡ gone self.old transport }
+    // The request is refused for this error.
+    pub fn refuse(
+        &self,
+        transport: Transport,
+        kind: RequestKind,
+        request: Id,
+        error: &str,
+    ) -> Result<Vec<Say>, Memory>
+        ensures { Does result self.now (refuse self.now transport kind request error.now) }
     {
-        self.leave(transport);
-        self.links.remove(transport);
-    }
-
-    /// The transport is told why, and closed.
-    pub fn stop(&mut self, transport: Transport, reason: &str) -> Result<Vec<Say>, AllocError>
-        ensures says { IfOk result (λ said. said.items
-            ≡ (stop self.old transport reason.now).says) }
-        ensures content { OnOk result (self.new ≡ (stop self.old transport reason.now).content) }
-    {
-        let message = abort(self.alloc, reason)?;
-        let said = vec![in self.alloc; Say::send(transport, message), Say::close(transport)]?;
-        self.remove(transport);
-        Ok(said)
-    }
-
-    /// The client broke the protocol.
-    pub fn violation(&mut self, transport: Transport) -> Result<Vec<Say>, AllocError>
-        ensures says { IfOk result (λ said. said.items ≡ (violation self.old transport).says) }
-        ensures content { OnOk result (self.new ≡ (violation self.old transport).content) }
-    {
-        self.stop(transport, PROTOCOL_VIOLATION)
-    }
-
-    /// The client aborted.
-    pub fn aborted(&mut self, transport: Transport) -> Result<Vec<Say>, AllocError>
-        ensures says { IfOk result (λ said. said.items ≡ (aborted self.old transport).says) }
-        ensures content { OnOk result (self.new ≡ (aborted self.old transport).content) }
-    {
-        let said = vec![in self.alloc; Say::close(transport)]?;
-        self.remove(transport);
-        Ok(said)
-    }
-
-    /// The client ends its session.
-    pub fn goodbye(&mut self, transport: Transport) -> Result<Vec<Say>, AllocError>
-        ensures says { IfOk result (λ said. said.items ≡ (goodbye self.old transport).says) }
-        ensures content { OnOk result (self.new ≡ (goodbye self.old transport).content) }
-    {
-        let reason = Text::read(self.alloc, GOODBYE_AND_OUT)?;
-        let said = answer(self.alloc, transport, Message::Goodbye { reason })?;
-        self.leave(transport);
-        Ok(said)
+        let message = refusal(self.alloc, kind, request, error)?;
+        self.reply(transport, message)
     }
 }

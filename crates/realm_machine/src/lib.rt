@@ -1,25 +1,28 @@
 //! One realm of a WAMP router as a machine: sessions, subscriptions and publications (WAMP specification, basic profile).
-//! What a client does goes in as an act, what its transports are sent comes out as sayings; docs/PROTOCOL.md, "The
-//! realm", has the rules.
+//! What a client does goes in as an act, what is said to transports comes out as sayings; docs/PROTOCOL.md, "The realm",
+//! has the rules.
 #![tactic(auto)]
 
-pub use act::{Act, Out, Say};
-pub use paxos_packets::Transport;
-pub use realm::{Failed, Realm};
-pub use setup::Limits;
-pub use wamp_ids::Id;
-pub use wamp_messages::{Message, Read};
-
 mod act;
-mod asker;
+mod config;
 mod content;
-mod joining;
+pub mod laws;
+mod leaving;
 mod links;
+mod memory;
+mod opening;
 mod publishing;
 mod realm;
-mod said;
+mod requester;
 mod sayings;
-mod setup;
-#[cfg(test)]
-mod tests;
+mod step;
+mod subscribing;
 mod topics;
+
+pub use act::{Act, Out, Say};
+pub use config::Limits;
+pub use paxos_packets::Transport;
+pub use realm::Realm;
+pub use replica_machine::Failed;
+pub use wamp_ids::Id;
+pub use wamp_messages::{Message, Read};

@@ -1,27 +1,46 @@
 ghost use Rattle.std.specs.Prelude.{◌≡◌, ℕ, List, [], find, map, option_map, OnOk, OnErr};
-ghost use Rattle.realm_machine.specs.Links.{is_of as is_link_of, has_id as is_link_with, is_taken, is_connected, session_of, transport_of, new_session_id, session_count, connect, put_session, set_session, remove};
+ghost use Rattle.realm_machine.specs.Links.{is_of, has_id, is_taken, is_connected, session_of, transport_of, new_session_id};
+ghost use Rattle.realm_machine.specs.Links.{session_count, connect, put_session, set_session, without_transport};
 
+use crate::memory::Memory;
 use paxos_packets::Transport;
-use std::alloc::{AllocError, Global};
+use std::alloc::Global;
 use std::marker::Model;
 use wamp_ids::Id;
 
-/// An open session.
+// An open session.
 #[derive(Clone, Copy, Debug, PartialEq, Eq)]
 pub struct Session {
     pub id: Id,
-    /// Whether the client announced call canceling as a callee.
+    // Whether the client announced call canceling as a callee.
     pub canceling: bool,
 }
 
-/// A connected transport, and its session if it has one.
+// A connected transport, and its session if it has one.
 #[derive(Clone, Copy, Debug, PartialEq, Eq)]
 pub struct Link {
     pub transport: Transport,
     pub session: Option<Session>,
 }
 
-/// The connected transports in the order in which they came. Each call goes over them once, unless it says otherwise.
+impl Link {
+    fn is_of(&self, transport: Transport) -> bool
+        ensures { result ≡ is_of transport self.now }
+    {
+        self.transport == transport
+    }
+
+    fn has_id(&self, id: Id) -> bool
+        ensures { result ≡ has_id id self.now }
+    {
+        match self.session {
+            Some(session) => session.id == id,
+            None => false,
+        }
+    }
+}
+
+// The connected transports in the order in which they came. Each call goes over them once, unless it says otherwise.
 #[derive(Drop)]
 pub struct Links {
     list: Vec<Link>,
@@ -37,7 +56,7 @@ impl Model for Links {
 }
 
 impl Links {
-    /// No transport is connected.
+    // No transport is connected.
     pub fn new(alloc: Global) -> Links
         ensures { result ≡ [] }
     {
@@ -46,14 +65,21 @@ impl Links {
         }
     }
 
-    /// Whether the transport is connected.
+    // Whether the transport is connected.
     pub fn is_connected(&self, transport: Transport) -> bool
         ensures { result ≡ is_connected self.now transport }
     {
-        self.list.iter().any(|link| is_of(link, transport))
+        self.list.iter().any(|link| link.is_of(transport))
     }
 
-    /// The transport's session, if it has one.
+    // The transport's link, if it is connected.
+    pub fn link_of(&self, transport: Transport) -> Option<&Link>
+        ensures { option_map (λ link. link.now) result ≡ find (is_of transport) self.now }
+    {
+        self.list.iter().find(|link| link.is_of(transport))
+    }
+
+    // The transport's session, if it has one.
     pub fn session_of(&self, transport: Transport) -> Option<Session>
         ensures { result ≡ session_of self.now transport }
     {
@@ -63,29 +89,23 @@ impl Links {
         }
     }
 
-    fn link_of(&self, transport: Transport) -> Option<&Link>
-        ensures { option_map (λ link. link.now) result ≡ find (is_link_of transport) self.now }
-    {
-        self.list.iter().find(|link| is_of(link, transport))
-    }
-
-    /// Where the session of this id is.
+    // Where the session of this id is.
     pub fn transport_of(&self, id: Id) -> Option<Transport>
         ensures { result ≡ transport_of self.now id }
     {
-        let link = self.list.iter().find(|link| has_id(link, id))?;
+        let link = self.list.iter().find(|link| link.has_id(id))?;
         Some(link.transport)
     }
 
-    /// Whether a session has this id.
+    // Whether a session has this id.
     pub fn is_taken(&self, id: Id) -> bool
         ensures { result ≡ is_taken self.now id }
     {
-        self.list.iter().any(|link| has_id(link, id))
+        self.list.iter().any(|link| link.has_id(id))
     }
 
-    /// The id for a new session: the draw, or the next one upwards that no session has. Goes over the transports once
-    /// more for each id that is taken.
+    // The id for a new session: the draw, or the next one upwards that no session has. Goes over the transports once
+    // more for each id that is taken.
     pub fn new_session_id(&self, draw: Id) -> Option<Id>
         ensures { result ≡ new_session_id self.now draw }
     {
@@ -99,7 +119,7 @@ impl Links {
         if self.is_taken(id) { None } else { Some(id) }
     }
 
-    /// How many sessions are open.
+    // How many sessions are open.
     pub fn session_count(&self) -> usize
         ensures { result ≡ session_count self.now }
     {
@@ -109,8 +129,8 @@ impl Links {
             .count()
     }
 
-    /// Adds the transport as the last one, without a session, unless it is connected.
-    pub fn connect(&mut self, transport: Transport) -> Result<(), AllocError>
+    // Adds the transport as the last one, without a session, unless it is connected.
+    pub fn connect(&mut self, transport: Transport) -> Result<(), Memory>
         ensures ok { OnOk result (self.new ≡ connect self.old transport) }
         ensures err { OnErr result (self.new ≡ self.old) }
     {
@@ -123,18 +143,18 @@ impl Links {
         Ok(())
     }
 
-    /// The transport has this session now, or none.
+    // The transport has this session now, or none.
     pub fn set_session(&mut self, transport: Transport, session: Option<Session>)
         ensures { self.new ≡ set_session self.old transport session }
     {
         set_sessions(&mut self.list, transport, session);
     }
 
-    /// The transport is connected no more.
+    // The transport is connected no more.
     pub fn remove(&mut self, transport: Transport)
-        ensures { self.new ≡ remove self.old transport }
+        ensures { self.new ≡ without_transport self.old transport }
     {
-        self.list.retain(|link| !is_of(link, transport));
+        self.list.retain(|link| !link.is_of(transport));
     }
 }
 
@@ -151,27 +171,12 @@ fn set_sessions(links: &mut [Link], transport: Transport, session: Option<Sessio
 fn with_session(link: &Link, transport: Transport, session: &Option<Session>) -> Link
     ensures { result ≡ put_session transport session.now link.now }
 {
-    if is_of(link, transport) {
+    if link.is_of(transport) {
         Link {
             transport: link.transport,
             session: *session,
         }
     } else {
         *link
-    }
-}
-
-fn is_of(link: &Link, transport: Transport) -> bool
-    ensures { result ≡ is_link_of transport link.now }
-{
-    link.transport == transport
-}
-
-fn has_id(link: &Link, id: Id) -> bool
-    ensures { result ≡ is_link_with id link.now }
-{
-    match link.session {
-        Some(session) => session.id == id,
-        None => false,
     }
 }

@@ -3,38 +3,18 @@ ghost use Rattle.realm_machine.specs.Content.{empty};
 ghost use Rattle.realm_machine.specs.Realm.{Acts};
 
 use crate::act::{Act, Say};
+use crate::config::{Config, Limits};
 use crate::content::Content;
-use crate::setup::{Limits, Setup};
 use paxos_packets::Transport;
-use std::alloc::{AllocError, Global};
+use replica_machine::Failed;
+use std::alloc::Global;
 use std::marker::Model;
-use thiserror::Error;
 use wamp_ids::Text;
-
-/// A realm failed for want of memory.
-#[derive(Clone, Copy, Debug, PartialEq, Eq, Hash, Error)]
-#[error("the realm failed for want of memory")]
-pub struct Failed;
-
-impl Failed {
-    /// The fault's number, 48.
-    pub fn number(self) -> u8
-        ensures { result ≡ 48 }
-    {
-        48
-    }
-}
-
-impl From<AllocError> for Failed {
-    fn from(_error: AllocError) -> Failed {
-        Failed
-    }
-}
 
 /// One realm of a router: its sessions, and its subscriptions with their members.
 #[derive(Drop)]
 pub struct Realm {
-    setup: Setup,
+    config: Config,
     // Nothing once the realm failed.
     content: Option<Content>,
 }
@@ -44,17 +24,17 @@ impl Model for Realm {
 
     ghost Value = { State };
 
-    ghost view = { λ a. record { setup = a.setup; content = a.content } };
+    ghost view = { λ a. record { config = a.config; content = a.content } };
 }
 
 impl Realm {
     /// A realm of this name, with no transport. Takes no memory.
     pub fn new(alloc: Global, name: String, limits: Limits) -> Realm
-        ensures setup { result.setup ≡ record { name = string_bytes name; limits = limits } }
+        ensures config { result.config ≡ record { name = string_bytes name; limits = limits } }
         ensures content { result.content ≡ Some empty }
     {
         Realm {
-            setup: Setup {
+            config: Config {
                 name: Text::from(name),
                 limits,
             },
@@ -66,17 +46,20 @@ impl Realm {
     ///
     /// An error comes only for want of memory. The realm is failed then, and answers the same to each later act.
     ///
-    /// An act goes over the connected transports and the subscriptions a few times: its cost is linear in their
-    /// number, and where a session leaves or subscribes in that of their members.
+    /// Cost: an act goes over the connected transports to find its own, one that opens or ends a session a few times more. A
+    /// SUBSCRIBE and a session's end go over the subscriptions and their members, a PUBLISH over the subscriptions and, for
+    /// each receiver, over the transports.
     pub fn act(&mut self, transport: Transport, act: &Act) -> Result<Vec<Say>, Failed>
-        ensures act { Acts self.old.setup self.old.content transport act.now result self.new.content }
-        ensures setup { self.new.setup ≡ self.old.setup }
+        ensures act { Acts self.old.config self.old.content transport act.now result self.new.content }
+        ensures config { self.new.config ≡ self.old.config }
     {
         let Some(mut content) = self.content.take() else {
             return Err(Failed);
         };
-        let said = content.act(&self.setup, transport, act)?;
+        let Ok(says) = content.on_act(&self.config, transport, act) else {
+            return Err(Failed);
+        };
         self.content = Some(content);
-        Ok(said)
+        Ok(says)
     }
 }

@@ -1,9 +1,10 @@
-ghost use Rattle.std.specs.Prelude.{◌≡◌, ◌∷◌, ◌++◌, [], IfOk, OnOk};
-ghost use Rattle.realm_machine.specs.Sayings.{say, shut, to_session, refusal, abort};
+ghost use Rattle.std.specs.Prelude.{◌≡◌, IfOk};
+ghost use Rattle.realm_machine.specs.Sayings.{say, shut, refusal, abort};
 
 use crate::act::{Out, Say};
+use crate::memory::Memory;
 use paxos_packets::Transport;
-use std::alloc::{AllocError, Global};
+use std::alloc::Global;
 use wamp_ids::{Id, Text};
 use wamp_messages::{Message, RequestKind};
 use wamp_values::Args;
@@ -43,36 +44,29 @@ impl Say {
     }
 }
 
-/// The transport is sent the message, and no more is said.
-pub fn answer(alloc: Global, transport: Transport, message: Message) -> Result<Vec<Say>, AllocError>
-    ensures { IfOk result (λ said. said.items ≡ say transport message ∷ []) }
-{
-    Ok(vec![in alloc; Say::send(transport, message)]?)
-}
-
-/// The ERROR that refuses a request.
+// The ERROR that refuses a request.
 pub fn refusal(
     alloc: Global,
     kind: RequestKind,
     request: Id,
     error: &str,
-) -> Result<Message, AllocError>
+) -> Result<Message, Memory>
     ensures { IfOk result (λ message. message ≡ refusal kind request error.now) }
 {
     Ok(Message::Error {
         kind,
         request,
-        error: Text::read(alloc, error)?,
+        error: Text::new(alloc, error)?,
         args: Args::Nothing,
     })
 }
 
-/// The ABORT for this reason.
-pub fn abort(alloc: Global, reason: &str) -> Result<Message, AllocError>
+// The ABORT for this reason.
+pub fn abort(alloc: Global, reason: &str) -> Result<Message, Memory>
     ensures { IfOk result (λ message. message ≡ abort reason.now) }
 {
     Ok(Message::Abort {
-        reason: Text::read(alloc, reason)?,
+        reason: Text::new(alloc, reason)?,
         args: Args::Nothing,
     })
 }

@@ -1,15 +1,15 @@
-ghost use Rattle.std.specs.Prelude.{◌≡◌, ◌+◌, ◌<◌, ℕ, List, [], ◌∷◌, ◌++◌, IfOk, OnOk, OnErr, Some, None, option_map, map, if◌then◌else◌};
-ghost use Rattle.wamp_ids.specs.Ids.{last_id};
-ghost use Rattle.realm_machine.specs.Topics.{no_topics, is_on as is_subscription_on, has_member as has_member_of, is_member, subscription_on, count_of, is_full, join, with_subscription, joined, joined_id, left, without, others, has_members};
+ghost use Rattle.std.specs.Prelude.{◌≡◌, ◌+◌, ◌<◌, ℕ, List, [], ◌∷◌, ◌++◌, IfOk, OnOk, OnErr, Some, None, option_map, map};
+ghost use Rattle.std.specs.Prelude.{if◌then◌else◌};
+ghost use Rattle.wamp_ids.specs.Id.{last_id};
+ghost use Rattle.realm_machine.specs.Topics.{no_topics, is_uri, is_on, has_member, subscription_on, count_of, is_full, add_member};
+ghost use Rattle.realm_machine.specs.Topics.{with_member, with_subscription, others, without_member, without_session, has_members};
 
-use std::alloc::{AllocError, Global};
+use crate::memory::Memory;
+use std::alloc::Global;
 use std::marker::Model;
-use wamp_ids::{Id, Text};
+use wamp_ids::{Id, LAST_ID, Text, Uri};
 
-/// The greatest id, 2^53.
-const LAST_ID: u64 = 9_007_199_254_740_992;
-
-/// The ids of sessions, in the order in which they joined.
+// The ids of sessions, in the order in which they came.
 #[derive(Drop)]
 pub struct Members {
     list: Vec<Id>,
@@ -24,8 +24,8 @@ impl Model for Members {
 }
 
 impl Members {
-    /// The session alone.
-    pub fn of(alloc: Global, session: Id) -> Result<Members, AllocError>
+    // The session alone.
+    pub fn of(alloc: Global, session: Id) -> Result<Members, Memory>
         ensures { IfOk result (λ made. made ≡ session ∷ []) }
     {
         let mut list = Vec::new(alloc);
@@ -33,15 +33,15 @@ impl Members {
         Ok(Members { list })
     }
 
-    /// The ids, in order.
+    // The ids, in order.
     pub fn as_slice(&self) -> &[Id]
         ensures { result.now ≡ self.now }
     {
         self.list.as_slice()
     }
 
-    /// The session joins as the last one.
-    pub fn push(&mut self, session: Id) -> Result<(), AllocError>
+    // The session comes as the last one.
+    pub fn push(&mut self, session: Id) -> Result<(), Memory>
         ensures ok { OnOk result (self.new ≡ self.old ++ session ∷ []) }
         ensures err { OnErr result (self.new ≡ self.old) }
     {
@@ -49,7 +49,7 @@ impl Members {
         Ok(())
     }
 
-    /// The session leaves.
+    // The session leaves.
     pub fn remove(&mut self, session: Id)
         ensures { self.new ≡ others session self.old }
     {
@@ -57,7 +57,7 @@ impl Members {
     }
 }
 
-/// A topic's subscription, with the sessions that it serves.
+// A topic's subscription, with the sessions that it serves.
 #[derive(Drop)]
 pub struct Subscription {
     pub id: Id,
@@ -66,16 +66,16 @@ pub struct Subscription {
 }
 
 impl Subscription {
-    /// Whether it is the topic's.
+    // Whether it is the topic's.
     pub fn is_on(&self, topic: &Text) -> bool
-        ensures { result ≡ is_subscription_on topic.now self.now }
+        ensures { result ≡ is_on topic.now self.now }
     {
         self.topic.as_str() == topic.as_str()
     }
 
-    /// Whether the session is a member. Goes over the members.
+    // Whether the session is a member. Goes over the members.
     pub fn has_member(&self, session: Id) -> bool
-        ensures { result ≡ has_member_of session self.now }
+        ensures { result ≡ has_member session self.now }
     {
         self.members
             .as_slice()
@@ -89,9 +89,9 @@ impl Subscription {
         !self.members.as_slice().is_empty()
     }
 
-    // The session joins as the last member, if this is the topic's subscription.
-    fn join(&mut self, session: Id, topic: &Text) -> Result<(), AllocError>
-        ensures { OnOk result (self.new ≡ join session topic.now self.old) }
+    // The session comes as the last member, if this is the topic's subscription.
+    fn add_member(&mut self, session: Id, topic: &Text) -> Result<(), Memory>
+        ensures { OnOk result (self.new ≡ add_member session topic.now self.old) }
     {
         if self.is_on(topic) {
             self.members.push(session)?;
@@ -100,13 +100,13 @@ impl Subscription {
     }
 
     fn leave(&mut self, session: Id)
-        ensures { self.new ≡ without session self.old }
+        ensures { self.new ≡ without_member session self.old }
     {
         self.members.remove(session);
     }
 }
 
-/// The subscriptions by ascending id. Each call goes over them once, and for a session's membership over their members.
+// The subscriptions by ascending id. Each call goes over them once, and for a session's membership over their members.
 #[derive(Drop)]
 pub struct Topics {
     list: Vec<Subscription>,
@@ -116,7 +116,7 @@ pub struct Topics {
 
 impl Model for Topics {
     ghost use Rattle.std.specs.Prelude.{◌≤◌};
-    ghost use Rattle.wamp_ids.specs.Ids.{last_id};
+    ghost use Rattle.wamp_ids.specs.Id.{last_id};
     ghost use Rattle.realm_machine.specs.Topics.{Topics};
 
     ghost Value = { Topics };
@@ -127,7 +127,7 @@ impl Model for Topics {
 }
 
 impl Topics {
-    /// No subscription, and no id handed out.
+    // No subscription, and no id handed out.
     pub fn new(alloc: Global) -> Topics
         ensures { result ≡ no_topics }
     {
@@ -137,14 +137,14 @@ impl Topics {
         }
     }
 
-    /// The subscriptions, by ascending id.
+    // The subscriptions, by ascending id.
     pub fn as_slice(&self) -> &[Subscription]
         ensures { result.now ≡ self.now.list }
     {
         self.list.as_slice()
     }
 
-    /// The topic's subscription.
+    // The topic's subscription.
     pub fn subscription_on(&self, topic: &Text) -> Option<&Subscription>
         ensures { option_map (λ found. found.now) result ≡ subscription_on self.now topic.now }
     {
@@ -153,21 +153,7 @@ impl Topics {
             .find(|subscription| subscription.is_on(topic))
     }
 
-    /// The id of the topic's subscription, if the session is a member of it.
-    pub fn joined_by(&self, session: Id, topic: &Text) -> Option<Id>
-        ensures { result
-            ≡ (if is_member (subscription_on self.now topic.now) session then Some (joined_id
-            self.now topic.now) else None) }
-    {
-        let subscription = self.subscription_on(topic)?;
-        if subscription.has_member(session) {
-            Some(subscription.id)
-        } else {
-            None
-        }
-    }
-
-    /// How many subscriptions the session is a member of.
+    // How many subscriptions the session is a member of.
     pub fn count_of(&self, session: Id) -> usize
         ensures { result ≡ count_of self.now session }
     {
@@ -177,39 +163,29 @@ impl Topics {
             .count()
     }
 
-    /// Whether the session may join no more: it has as many subscriptions as it may have, or the ids are spent.
+    // Whether the session may have no more: it has as many subscriptions as it may have, or the ids are spent.
     pub fn is_full(&self, limit: u32, session: Id) -> bool
         ensures { result ≡ is_full limit self.now session }
     {
         !(self.count_of(session) < limit as usize) || !(self.last < LAST_ID)
     }
 
-    /// The session joins the topic's subscription as its last member, or a new one, of which this is the id.
-    ///
-    /// An error may leave the session joined.
-    pub fn join(&mut self, session: Id, topic: &Text) -> Result<Id, AllocError>
-        requires { self.old.last < last_id }
-        ensures id { IfOk result (λ id. id ≡ joined_id self.old topic.now) }
-        ensures ok { OnOk result (self.new ≡ joined self.old session topic.now) }
+    // The session is the last member of the topic's subscription now. An error may leave it one.
+    pub fn add_member(&mut self, session: Id, topic: &Text) -> Result<(), Memory>
+        ensures { OnOk result (self.new ≡ with_member self.old session topic.now) }
     {
-        match self.subscription_on(topic) {
-            Some(subscription) => {
-                let id = subscription.id;
-                join_topic(&mut self.list, session, topic)?;
-                Ok(id)
-            }
-            None => self.subscribe_anew(session, topic),
-        }
+        add_member_to(&mut self.list, session, topic)
     }
 
-    fn subscribe_anew(&mut self, session: Id, topic: &Text) -> Result<Id, AllocError>
+    // The topic has a subscription of its own now, of which this is the id, and the session is its member.
+    pub fn add_subscription(&mut self, session: Id, topic: &Text) -> Result<Id, Memory>
         requires { self.old.last < last_id }
         ensures id { IfOk result (λ id. id ≡ self.old.last + 1) }
         ensures ok { OnOk result (self.new ≡ with_subscription self.old session topic.now) }
         ensures err { OnErr result (self.new ≡ self.old) }
     {
         let alloc = *self.list.allocator();
-        let topic = topic.copy(alloc)?;
+        let topic = topic.copy()?;
         let members = Members::of(alloc, session)?;
         let Some(id) = Id::new(self.last + 1) else {
             unreachable!();
@@ -219,28 +195,35 @@ impl Topics {
         Ok(id)
     }
 
-    /// The session leaves all its subscriptions; one that has no members then is gone.
+    // The session leaves all its subscriptions; one that has no members then is no more.
     pub fn leave(&mut self, session: Id)
-        ensures { self.new ≡ left self.old session }
+        ensures { self.new ≡ without_session self.old session }
     {
         leave_each(&mut self.list, session);
         self.list.retain(|subscription| subscription.has_members());
     }
 }
 
-fn join_topic(list: &mut [Subscription], session: Id, topic: &Text) -> Result<(), AllocError>
-    ensures { OnOk result (list.new ≡ map (join session topic.now) list.old) }
+fn add_member_to(list: &mut [Subscription], session: Id, topic: &Text) -> Result<(), Memory>
+    ensures { OnOk result (list.new ≡ map (add_member session topic.now) list.old) }
 {
     for place in 0..list.len() {
-        list[place].join(session, topic)?;
+        list[place].add_member(session, topic)?;
     }
     Ok(())
 }
 
 fn leave_each(list: &mut [Subscription], session: Id)
-    ensures { list.new ≡ map (without session) list.old }
+    ensures { list.new ≡ map (without_member session) list.old }
 {
     for place in 0..list.len() {
         list[place].leave(session);
     }
+}
+
+// Whether the text may be a topic.
+pub fn is_topic(text: &Text) -> bool
+    ensures { result ≡ is_uri text.now }
+{
+    Uri::of(text.as_str()).is_ok()
 }

@@ -4,4 +4,5 @@ use Rattle.realm_machine.proofs.links.set_sessions.Given as goal
 
 -- the elements before the place are changed, the others are not
 abbrev pub invariant-loop-place : goal.invariant-loop-place
-invariant-loop-place l = l.links ≡ map (put_session l.transport l.session) (take l.place l.initial.links) ++ drop l.place l.initial.links
+invariant-loop-place l =
+    l.links ≡ map (put_session l.transport l.session) (take l.place l.initial.links) ++ drop l.place l.initial.links

@@ -16,23 +16,23 @@ pub struct Limits {
     pub calls: u32,
 }
 
-/// What a realm is set up with.
+// What a realm is made with.
 #[derive(Drop)]
-pub struct Setup {
+pub struct Config {
     pub name: Text,
     pub limits: Limits,
 }
 
-impl Model for Setup {
-    ghost use Rattle.realm_machine.specs.Setup.{Setup};
+impl Model for Config {
+    ghost use Rattle.realm_machine.specs.Config.{Config};
 
-    ghost Value = { Setup };
+    ghost Value = { Config };
 
     ghost view = { λ a. record { name = a.name; limits = a.limits } };
 }
 
-impl Setup {
-    /// Whether the realm has this name.
+impl Config {
+    // Whether the realm has this name.
     pub fn is_named(&self, name: &Text) -> bool
         ensures { result ≡ bytes_eq name.now self.now.name }
     {

@@ -1,0 +1,34 @@
+-- How a client leaves, and why it is made to (WAMP specification, "Session Closing"; docs/PROTOCOL.md, "The realm").
+use Rattle.std.specs.Prelude.{ℕ, List, [], ◌∷◌, Option, None, Some}
+use Rattle.paxos_packets.specs.declared.transport.Transport.{Transport}
+use Rattle.wamp_messages.specs.declared.message.Message.TheVariants.{Goodbye}
+use Rattle.realm_machine.specs.declared.links.Session.{Session}
+use Rattle.realm_machine.specs.Links.{session_of, set_session, without_transport}
+use Rattle.realm_machine.specs.Topics.{without_session}
+use Rattle.realm_machine.specs.Sayings.{say, shut, abort, protocol_violation, goodbye_and_out}
+use Rattle.realm_machine.specs.Content.{Content, Step, quiet, reply, and_then, with_links}
+
+-- the session leaves what it is subscribed to; its transport stays, without a session
+abbrev pub leave_session : Content → Transport → Option Session → Step
+leave_session c t None = quiet c
+leave_session c t (Some session) = quiet (record c { links = set_session c.links t None; topics = without_session c.topics session.id })
+
+abbrev pub leave : Content → Transport → Step
+leave c t = leave_session c t (session_of c.links t)
+
+-- the transport goes, after its session has left; one that is not connected has none, and nothing changes
+abbrev pub remove : Content → Transport → Step
+remove c t = and_then (leave c t) (λ d. quiet (with_links d (without_transport d.links t)))
+
+-- the transport is sent why, and closed
+abbrev pub stop : Content → Transport → List ℕ → Step
+stop c t reason = and_then (remove c t) (λ d. record { content = d; says = say t (abort reason) ∷ (shut t ∷ []) })
+
+abbrev pub violation : Content → Transport → Step
+violation c t = stop c t protocol_violation
+
+abbrev pub aborted : Content → Transport → Step
+aborted c t = and_then (remove c t) (λ d. record { content = d; says = shut t ∷ [] })
+
+abbrev pub goodbye : Content → Transport → Step
+goodbye c t = and_then (leave c t) (λ d. reply d t (Goodbye goodbye_and_out))

@@ -1,0 +1,91 @@
+-- What each act does, by what the client sends: one case for each row of the realm's table (docs/PROTOCOL.md, "The realm").
+use Rattle.std.specs.Prelude.{ℕ, Bool, List, Option, None, Some, find, if◌then◌else◌}
+use Rattle.paxos_packets.specs.declared.transport.Transport.{Transport}
+use Rattle.wamp_messages.specs.declared.message.RequestKind.{RequestKind}
+use Rattle.wamp_messages.specs.declared.message.RequestKind.TheVariants as kind
+use Rattle.wamp_messages.specs.declared.message.Message.{Message}
+use Rattle.wamp_messages.specs.declared.message.Message.TheVariants.{Hello, Welcome, Abort, Goodbye, Error, Publish, Published}
+use Rattle.wamp_messages.specs.declared.message.Message.TheVariants.{Subscribe, Subscribed, Event}
+use Rattle.wamp_messages.specs.declared.read_result.UnfitKind.{UnfitKind}
+use Rattle.wamp_messages.specs.declared.read_result.UnfitKind.TheVariants as unfit
+use Rattle.wamp_messages.specs.declared.read_result.Read.{Read}
+use Rattle.wamp_messages.specs.declared.read_result.Read.TheVariants.{Good, Unfit, Bad}
+use Rattle.realm_machine.specs.declared.act.Act.{Act}
+use Rattle.realm_machine.specs.declared.act.Act.TheVariants.{Connect, Said, Hung}
+use Rattle.realm_machine.specs.declared.act.Say.{Say}
+use Rattle.realm_machine.specs.declared.links.Session.{Session}
+use Rattle.realm_machine.specs.declared.links.Link.{Link}
+use Rattle.realm_machine.specs.declared.requester.Requester.{Requester}
+use Rattle.realm_machine.specs.Config.{Config}
+use Rattle.realm_machine.specs.Links.{is_of, connect}
+use Rattle.realm_machine.specs.Sayings.{invalid_argument}
+use Rattle.realm_machine.specs.Content.{Content, Step, quiet, refuse, with_links}
+use Rattle.realm_machine.specs.Leaving.{remove, violation, aborted, goodbye}
+use Rattle.realm_machine.specs.Opening.{open_session}
+use Rattle.realm_machine.specs.Subscribing.{subscribe}
+use Rattle.realm_machine.specs.Publishing.{publish}
+
+-- an unfit answer to an invocation changes nothing: there are no calls yet
+abbrev pub refuse_unfit : Content → Transport → UnfitKind → ℕ → Step
+refuse_unfit c t unfit.Publish request = refuse c t kind.Publish request invalid_argument
+refuse_unfit c t unfit.Subscribe request = refuse c t kind.Subscribe request invalid_argument
+refuse_unfit c t unfit.Yield request = quiet c
+
+-- an unfit request, of a client with a session
+abbrev pub on_unfit : Content → Transport → UnfitKind → ℕ → Bool → Step
+on_unfit c t kind request is_quiet = if is_quiet then quiet c else refuse_unfit c t kind request
+
+-- an ERROR answers an invocation, of which none is open yet, or breaks the protocol
+abbrev pub on_error : Content → Transport → RequestKind → Step
+on_error c t kind.Invocation = quiet c
+on_error c t kind = violation c t
+
+-- a client with a session, and the last four kinds are those that only the router sends
+abbrev pub on_request : Config → Content → Requester → Message → Step
+on_request config c requester (Hello realm canceling) = violation c requester.transport
+on_request config c requester (Abort reason args) = aborted c requester.transport
+on_request config c requester (Goodbye reason) = goodbye c requester.transport
+on_request config c requester (Error kind request error args) = on_error c requester.transport kind
+on_request config c requester (Publish request acknowledge exclude_me topic args) =
+    publish c requester request acknowledge exclude_me topic args
+on_request config c requester (Subscribe request matching topic) = subscribe config c requester request matching topic
+on_request config c requester (Welcome session) = violation c requester.transport
+on_request config c requester (Published request publication) = violation c requester.transport
+on_request config c requester (Subscribed request subscription) = violation c requester.transport
+on_request config c requester (Event subscription publication topic args) = violation c requester.transport
+
+-- a client without a session: whatever it sends but HELLO and ABORT breaks the protocol
+abbrev pub on_opening : Config → Content → Transport → ℕ → Message → Step
+on_opening config c t draw (Hello realm canceling) = open_session config c t draw realm canceling
+on_opening config c t draw (Abort reason args) = aborted c t
+on_opening config c t draw message = violation c t
+
+abbrev pub on_message : Config → Content → Transport → Option Session → ℕ → Message → Step
+on_message config c t None draw message = on_opening config c t draw message
+on_message config c t (Some session) draw message =
+    on_request config c (record { transport = t; session = session.id; draw = draw }) message
+
+abbrev pub on_read : Config → Content → Transport → Option Session → ℕ → Read → Step
+on_read config c t session draw (Good message) = on_message config c t session draw message
+on_read config c t None draw (Unfit kind request is_quiet) = violation c t
+on_read config c t (Some session) draw (Unfit kind request is_quiet) = on_unfit c t kind request is_quiet
+on_read config c t session draw (Bad fault) = violation c t
+
+-- at a transport that has this link, or that is not connected
+abbrev pub on_link : Config → Content → Transport → ℕ → Read → Option Link → Step
+on_link config c t draw read None = quiet c
+on_link config c t draw read (Some link) = on_read config c t link.session draw read
+
+-- ---- acts
+
+abbrev pub on_act : Config → Content → Transport → Act → Step
+on_act config c t Connect = quiet (with_links c (connect c.links t))
+on_act config c t (Said draw read) = on_link config c t draw read (find (is_of t) c.links)
+on_act config c t Hung = remove c t
+
+-- the content after an act at a transport, and what is said
+abbrev pub next : Config → Content → Transport → Act → Content
+next config c t act = (on_act config c t act).content
+
+abbrev pub says : Config → Content → Transport → Act → List Say
+says config c t act = (on_act config c t act).says

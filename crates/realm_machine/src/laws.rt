@@ -1,0 +1,18 @@
+//! Laws of the realm's step, each the contract of a function that does nothing.
+ghost use Rattle.realm_machine.specs.Laws.{EmptyIsSound, EachActKeepsSound, EveryRealmIsSound, FreeIdIsFound, OpensWhereRoom};
+
+/// What every realm keeps, whatever acts come to it: each transport is connected once, no two sessions have one id, the ids
+/// of subscriptions rise and none is above the last one that was handed out, each topic has one subscription, and each
+/// subscription has members, each of them once. Takes no memory.
+pub fn realms_are_sound()
+    ensures empty { EmptyIsSound }
+    ensures each_act { EachActKeepsSound }
+    ensures all_acts { EveryRealmIsSound }
+{}
+
+/// While fewer than 2^53 sessions are open, the search for a new session's id ends at one that no session has; so a HELLO is
+/// never refused for want of an id. Takes no memory.
+pub fn session_ids_are_found()
+    ensures found { FreeIdIsFound }
+    ensures opens { OpensWhereRoom }
+{}
