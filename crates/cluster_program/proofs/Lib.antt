@@ -3,3 +3,4 @@ pub mod Telling
 pub mod Answering
 pub mod Running
 pub mod Turning
+pub mod Serving

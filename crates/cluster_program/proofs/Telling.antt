@@ -1,7 +1,7 @@
 -- What the client was told, saying by saying.
 use Rattle.std.proofs.Common.{◌≡◌, ℕ, suc, ◌+◌, ◌<◌, true, List, ◌∷◌, drop, get_or, length, Ok, sym, ap, add-one, drop-cons}
 use Rattle.realm_machine.specs.declared.act.Say.{Say}
-use Rattle.realm_machine.specs.Links.{same_transport}
+use Rattle.paxos_packets.specs.Transport.{same_transport}
 use Rattle.cluster_program.specs.declared.progress.Progress.{Progress}
 use Rattle.cluster_program.specs.declared.progress.Progress.TheVariants.{Onward, Closed}
 use Rattle.cluster_program.specs.Stream.{Run, client, heard, told}
@@ -13,7 +13,9 @@ abbrev pub Told : ℕ → List Say → List Say → List ℕ → List ℕ → Ty
 Told limit says left old new = (after : Run) → Puts (Ok Onward) (told limit says after) (told limit left after) old new
 
 -- what the client is told of a saying to it was put
-told_onward : (limit : ℕ) (says : List Say) (say : Say) (others : List Say) (old mid new : List ℕ) → same_transport say.transport client ≡ true → Told limit says (say ∷ others) old mid → ((after : Run) → Puts (Ok Onward) (heard limit say.out after) after mid new) → Told limit says others old new
+told_onward : (limit : ℕ) (says : List Say) (say : Say) (others : List Say) (old mid new : List ℕ)
+    → same_transport say.transport client ≡ true → Told limit says (say ∷ others) old mid
+    → ((after : Run) → Puts (Ok Onward) (heard limit say.out after) after mid new) → Told limit says others old new
 told_onward limit says say others old mid new e t p after =
     puts_then (Ok Onward) (told limit says after) (told limit (say ∷ others) after) (told limit others after) old mid new (t after)
     (rw e (p (told limit others after)))
@@ -26,7 +28,11 @@ Told_at : (limit : ℕ) (says left left' : List Say) (old new : List ℕ) → le
 Told_at limit says left left' old new e t = rw (← e) t
 
 -- one saying further, where it is to the client
-pub told_next : (limit : ℕ) (says : List Say) (i : ℕ) (say : Say) (old mid new : List ℕ) (here : ℕ) (progress : Progress) → i < length says → say ≡ get_or says i say → same_transport say.transport client ≡ true → Told limit says (drop i says) old mid → here ≡ limit → (progress ≡ Closed → ⊥) → ((after : Run) → Puts (Ok progress) (heard here say.out after) after mid new) → Told limit says (drop (i + 1) says) old new
+pub told_next : (limit : ℕ) (says : List Say) (i : ℕ) (say : Say) (old mid new : List ℕ) (here : ℕ) (progress : Progress) → i < length says
+    → say ≡ get_or says i say → same_transport say.transport client ≡ true → Told limit says (drop i says) old mid → here ≡ limit
+    → (progress ≡ Closed → ⊥) → ((after : Run) → Puts (Ok progress) (heard here say.out after) after mid new)
+    → Told limit says (drop (i + 1) says) old new
 told_next limit says i say old mid new here progress lt is e t same stays p =
-    told_onward limit says say (drop (i + 1) says) old mid new e (Told_at limit says (drop i says) (say ∷ drop (i + 1) says) old mid (drop_at says i say lt is) t)
+    told_onward limit says say (drop (i + 1) says) old mid new e
+    (Told_at limit says (drop i says) (say ∷ drop (i + 1) says) old mid (drop_at says i say lt is) t)
     (λ after. puts_open progress (heard limit say.out after) after mid new stays (rw (← same) (p after)))

@@ -1,7 +1,7 @@
-pub mod Faults
-pub mod Greeting
+pub mod Fault
+pub mod Handshake
+pub mod Order
 pub mod Replies
-pub mod Runs
-pub mod Serving
+pub mod Service
 pub mod Stream
-pub mod Waiting
+pub mod Turns

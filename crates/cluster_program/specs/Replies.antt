@@ -1,20 +1,23 @@
 -- Replies that wait to be written. This is for private clauses: what is due (Stream), in terms of what was put behind them.
-use Rattle.std.specs.Prelude.{◌≡◌, ℕ, List, [], ◌++◌, Result, Ok, Err, MatchResult, IsTrue}
+use Rattle.std.specs.Prelude.{◌≡◌, ℕ, List, [], ◌++◌, Option, Result, Ok, Err, MatchResult, IsTrue}
 use Rattle.std.specs.Io.KnownBytes.{Appends}
-use Rattle.std.specs.Prelude.{Option}
 use Rattle.cluster_program.specs.declared.fault.RunFault.{RunFault}
 use Rattle.cluster_program.specs.declared.fault.RunFault.TheVariants.{Line, Store, Memory, Transport}
 use Rattle.cluster_program.specs.declared.progress.Progress.{Progress}
 use Rattle.cluster_program.specs.declared.progress.Progress.TheVariants.{Onward, Waiting, Closed}
-use Rattle.cluster_program.specs.Stream.{Ending, closed, Run, ends, behind, is_final}
-use Rattle.cluster_program.specs.Runs.{answer_at}
+use Rattle.cluster_program.specs.Stream.{Ending, closed, Run, ends, behind, is_final, answer_at}
+
+-- what clauses see of the replies: the longest payload that the client takes, and the octets that wait to be written
+pub record WaitingReplies : Type 0 where
+  pub limit : ℕ
+  pub octets : List ℕ
 
 -- of what is due there remains this where a fault is met; nothing is known of it where memory ran out
-abbrev pub Stops : RunFault → Run → Type 0
-Stops (Line number) rest = ⊥
-Stops (Store number) rest = ⊥
-Stops Memory rest = Unit {0}
-Stops (Transport number) rest = (ending : Ending) × (rest ≡ ends ending) × (answer_at ending ≡ Err (Transport number)) × IsTrue (is_final ending)
+abbrev pub IsLeftBy : RunFault → Run → Type 0
+IsLeftBy (Line number) rest = ⊥
+IsLeftBy (Store number) rest = ⊥
+IsLeftBy Memory rest = Unit {0}
+IsLeftBy (Transport number) rest = (ending : Ending) × (rest ≡ ends ending) × (answer_at ending ≡ Err (Transport number)) × IsTrue (is_final ending)
 
 -- all that follows is due, or the transport is closed and nothing is
 abbrev pub GoesOn : Progress → Run → Run → Type 0
@@ -28,7 +31,7 @@ pub record Puts (result : Result Progress RunFault) (due onward : Run) (old new 
   pub are_put : new ≡ old ++ put
   pub rest : Run
   pub is_due : due ≡ behind put rest
-  pub is_left : MatchResult result (λ progress. GoesOn progress onward rest) (λ fault. Stops fault rest)
+  pub is_left : MatchResult result (λ progress. GoesOn progress onward rest) (λ fault. IsLeftBy fault rest)
 
 -- the same, but that nothing is put where more has to be read first
 abbrev pub Answers : Result Progress RunFault → Run → Run → List ℕ → List ℕ → Type 0
@@ -40,7 +43,7 @@ abbrev pub Written : Result (Unit {0}) RunFault → List ℕ → Option (List �
 Written (Ok x) octets old new = Appends old new octets
 Written (Err fault) octets old new = fault ≡ Transport 84
 
--- all replies were written, or the writer failed
-abbrev pub Writes : Result (Unit {0}) RunFault → List ℕ → List ℕ → Option (List ℕ) → Option (List ℕ) → Type 0
-Writes (Ok x) old new written now = (new ≡ []) × Appends written now old
-Writes (Err fault) old new written now = fault ≡ Transport 84
+-- all replies were written, or the writer failed and they wait still
+abbrev pub Flushes : Result (Unit {0}) RunFault → WaitingReplies → WaitingReplies → Option (List ℕ) → Option (List ℕ) → Type 0
+Flushes (Ok x) old new written now = (new ≡ record { limit = old.limit; octets = [] }) × Appends written now old.octets
+Flushes (Err fault) old new written now = (fault ≡ Transport 84) × (new ≡ old)

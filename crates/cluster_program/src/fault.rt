@@ -1,5 +1,5 @@
 ghost use Rattle.std.specs.Prelude.{◌≡◌};
-ghost use Rattle.cluster_program.specs.Faults.{status_of};
+ghost use Rattle.cluster_program.specs.Fault.{status_of};
 
 use realm_machine::Failed;
 use std::alloc::{AllocError, AllocFailed};
@@ -7,22 +7,22 @@ use std::error::Error;
 use std::fmt;
 use wamp_messages::Memory;
 
-/// The handshake was refused, hung or cut short.
+// The handshake was refused, hung or cut short.
 pub const HANDSHAKE: u8 = 81;
 
-/// The client sent what is no frame.
+// The client sent what is no frame.
 pub const FRAME: u8 = 82;
 
-/// A read failed.
+// A read failed.
 pub const READ: u8 = 83;
 
-/// A write failed.
+// A write failed.
 pub const WRITE: u8 = 84;
 
-/// The turns of a run were spent.
+// The turns of a run were spent.
 pub const TURNS: u8 = 85;
 
-/// A message or PONG was longer than the client takes.
+// A message or PONG was longer than the client takes.
 pub const TOO_WIDE: u8 = 87;
 
 /// Why a run of the program failed. It shows as the text that the program writes on standard error.

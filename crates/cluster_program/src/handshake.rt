@@ -1,11 +1,11 @@
 ghost use Rattle.std.specs.Prelude.{take};
-ghost use Rattle.cluster_program.specs.Greeting.{Greets, GivesOctet};
+ghost use Rattle.cluster_program.specs.Handshake.{Greets, GivesOctet};
 
 use crate::fault::{READ, RunFault};
 use std::io::Read;
 
-/// The four octets of a client's handshake, or `None` where the reader ends before the fourth. Nothing behind them is
-/// read.
+// The four octets of a client's handshake, or `None` where the reader ends before the fourth. Nothing behind them is
+// read.
 pub(crate) fn read_handshake<R: Read>(reader: &mut R) -> Result<Option<[u8; 4]>, RunFault>
     ensures { Greets result (R.remaining reader.old) (R.remaining reader.new) }
 {
@@ -19,7 +19,7 @@ pub(crate) fn read_handshake<R: Read>(reader: &mut R) -> Result<Option<[u8; 4]>,
     Ok(Some(octets))
 }
 
-/// The reader's next octet, or `None` at its end.
+// The reader's next octet, or `None` at its end.
 fn read_octet<R: Read>(reader: &mut R) -> Result<Option<u8>, RunFault>
     ensures { GivesOctet result (R.remaining reader.old) (R.remaining reader.new) }
 {

@@ -1,12 +1,18 @@
+ghost use Rattle.std.specs.Prelude.{◌≡◌};
+ghost use Rattle.cluster_program.specs.Order.{usage_status_of};
+
 use clap::error::ErrorKind;
 use clap::{Arg, ArgAction, ArgMatches, Command};
 use std::alloc::{AllocError, Global};
 use thiserror::Error;
 
-/// The realm that is served where the command line names none.
+// The realm that is served where the command line names none.
 const DEFAULT_REALM: &str = "realm1";
 
-/// How the program is used, for a command line that is wrong.
+// The program's version.
+const VERSION: &str = "0.1.0";
+
+// How the program is used, for a command line that is wrong.
 const USAGE: &str = "\
 Usage: wampd stream [--realm NAME]
 
@@ -14,6 +20,14 @@ Usage: wampd stream [--realm NAME]
   --realm NAME  the realm that is served; realm1 if none is named
 
 For more information, try 'wampd --help'.";
+
+// How the program ends, for its help.
+const STATUSES: &str = "\
+Exit status:
+  0  the client ended, or was told goodbye
+  2  the command line is wrong
+  5  no memory is left
+  6  the transport failed, or nothing can be written; docs/PROTOCOL.md has the numbers of its faults";
 
 /// What a command line asks the program to do.
 #[derive(Debug, Drop)]
@@ -34,7 +48,9 @@ pub enum UsageFault {
 
 impl UsageFault {
     /// The status with which the program ends: 2, or 5 for want of memory.
-    pub fn status(&self) -> u8 {
+    pub fn status(&self) -> u8
+        ensures { result ≡ usage_status_of self.now }
+    {
         match self {
             UsageFault::Usage(_) => 2,
             UsageFault::Memory => 5,
@@ -48,10 +64,15 @@ impl From<AllocError> for UsageFault {
     }
 }
 
+/// The fault of a command line of which a word is no text, since it is not UTF-8.
+pub fn unreadable_words(alloc: Global) -> UsageFault {
+    usage(alloc, "error: a word of the command line is not UTF-8")
+}
+
 /// The order that these words give, without the program's own name.
 ///
-/// A realm's name is a text that is not empty and does not begin with `-`. A request for help is no order: `help_of`
-/// answers it.
+/// A realm's name is a text that is not empty and does not begin with `-`. A request for help or for the version is no
+/// order: `help_of` answers it.
 pub fn order_of<'a>(alloc: Global, words: &'a [String]) -> Result<Order, UsageFault> {
     let matches = parse(alloc, words)?;
     let matches = match matches {
@@ -71,18 +92,19 @@ pub fn order_of<'a>(alloc: Global, words: &'a [String]) -> Result<Order, UsageFa
     })
 }
 
-/// What to print where the words ask for help, as `--help` and `stream --help` do; `None` where they do not.
+/// What to print where the words ask for help or for the version, as `--help`, `stream --help` and `--version` do; `None`
+/// where they do not.
 pub fn help_of<'a>(alloc: Global, words: &'a [String]) -> Result<Option<String>, UsageFault> {
     let Err(error) = parse(alloc, words)? else {
         return Ok(None);
     };
-    if error.kind() != ErrorKind::DisplayHelp {
-        return Ok(None);
+    match error.kind() {
+        ErrorKind::DisplayHelp | ErrorKind::DisplayVersion => Ok(Some(error.to_string(alloc)?)),
+        _ => Ok(None),
     }
-    Ok(Some(error.to_string(alloc)?))
 }
 
-/// What the command line's parser makes of the words.
+// What the command line's parser makes of the words.
 fn parse<'a>(
     alloc: Global,
     words: &'a [String],
@@ -103,19 +125,22 @@ fn fault_of(alloc: Global, error: &clap::Error) -> UsageFault {
         return UsageFault::Memory;
     }
     match error.to_string(alloc) {
-        Ok(text) => usage(alloc, first_line(text.as_str())),
+        Ok(text) => usage(alloc, cause_in(text.as_str())),
         Err(_) => UsageFault::Memory,
     }
 }
 
-fn first_line(text: &str) -> &str {
-    match text.split('\n').next() {
-        Some(line) => line,
-        None => text,
+// The front of what the parser says: the cause, and what may have been meant. Its usage is told by `USAGE`.
+fn cause_in(text: &str) -> &str {
+    for end in ["\n\nUsage:", "\n\nFor more information"] {
+        if let Some((cause, _usage)) = text.split_once(end) {
+            return cause;
+        }
     }
+    text
 }
 
-/// The fault of this cause.
+// The fault of this cause.
 fn usage(alloc: Global, cause: &str) -> UsageFault {
     match format!(in alloc; "{cause}\n\n{USAGE}") {
         Ok(text) => UsageFault::Usage(text),
@@ -123,7 +148,7 @@ fn usage(alloc: Global, cause: &str) -> UsageFault {
     }
 }
 
-/// The program's command line.
+// The program's command line.
 fn command<'a>(alloc: Global) -> Result<Command<'a>, AllocError> {
     let realm = Arg::new(alloc, "realm")
         .long("realm")
@@ -137,44 +162,11 @@ fn command<'a>(alloc: Global) -> Result<Command<'a>, AllocError> {
         .arg(realm)?;
     Command::new(alloc, "wampd")
         .about("A WAMP router (RawSocket, JSON)")
+        .version(VERSION)
+        .after_help(STATUSES)
         .no_binary_name(true)
+        .bin_name("wampd")?
+        .disable_help_subcommand(true)
         .subcommand_required(true)
         .subcommand(stream)
-}
-
-#[cfg(test)]
-mod tests {
-    use super::*;
-    use std::test::Fail;
-
-    /// The realm of the order, or the status of the fault.
-    fn read(alloc: Global, line: &str) -> Result<String, Fail> {
-        let mut words = Vec::new(alloc);
-        for word in line.split_whitespace() {
-            words.push(String::from_str(alloc, word)?)?;
-        }
-        match order_of(alloc, &words) {
-            Ok(Order::Stream { realm }) => Ok(realm),
-            Err(fault) => Ok(format!(in alloc; "{}", fault.status())?),
-        }
-    }
-
-    #[test]
-    fn reads_command_lines(rt: HostRuntime) -> Result<(), Fail> {
-        for (line, answer) in [
-            ("stream", "realm1"),
-            ("stream --realm a.b", "a.b"),
-            ("", "2"),
-            ("serve", "2"),
-            ("script --nodes 3", "2"),
-            ("stream --realm", "2"),
-            ("stream --realm -x", "2"),
-            ("stream --realm a --realm b", "2"),
-            ("stream more", "2"),
-            ("--help", "2"),
-        ] {
-            assert_eq!(rt; read(rt.alloc(), line)?.as_str(), answer, "{line}");
-        }
-        Ok(())
-    }
 }

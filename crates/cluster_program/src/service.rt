@@ -1,9 +1,9 @@
-ghost use Rattle.std.specs.Prelude.{◌≡◌, ◌<◌, ◌^◌, ◌++◌, ℕ, List, [], IfOk, OnOk, IfErr, option_map};
-ghost use Rattle.wamp_ids.specs.Ids.{id_after};
+ghost use Rattle.std.specs.Prelude.{◌≡◌, ◌<◌, ◌++◌, ℕ, List, [], IfOk, OnOk, IfErr, option_map};
+ghost use Rattle.wamp_ids.specs.Id.{id_after};
 ghost use Rattle.wamp_messages.specs.Reading.{read_of};
-ghost use Rattle.cluster_program.specs.Stream.{Run};
-ghost use Rattle.cluster_program.specs.Replies.{Puts, Answers};
-ghost use Rattle.cluster_program.specs.Serving.{IsFirst, Takes, due, due_at, due_at_end, content_after, held_len};
+ghost use Rattle.cluster_program.specs.Stream.{silent, ends};
+ghost use Rattle.cluster_program.specs.Replies.{Answers};
+ghost use Rattle.cluster_program.specs.Service.{IsFirst, Takes, Performs, due, held_len};
 
 use crate::fault::{FRAME, RunFault};
 use crate::progress::Progress;
@@ -14,7 +14,7 @@ use wamp_ids::Id;
 use wamp_messages::read;
 use wamp_rawsocket::{Frame, FrameFault, FrameKind, Splitter};
 
-/// How much the realm holds at the most.
+// How much the realm holds at the most.
 const LIMITS: Limits = Limits {
     sessions: 4096,
     registrations: 1024,
@@ -22,7 +22,7 @@ const LIMITS: Limits = Limits {
     calls: 1024,
 };
 
-/// What serves one client: the realm, the frames that the client sends, and the replies to it.
+// What serves one client: the realm, the frames that the client sends, and the replies to it.
 #[derive(Drop)]
 pub(crate) struct Service {
     alloc: Global,
@@ -33,9 +33,8 @@ pub(crate) struct Service {
 }
 
 impl Service {
-    /// What serves a client that takes payloads of up to `limit` octets, with a new realm of this name.
+    // What serves a client that takes payloads of up to `limit` octets, with a new realm of this name.
     pub fn new(alloc: Global, realm: &str, limit: u32) -> Result<Service, RunFault>
-        requires { limit < 2 ^ 24 }
         ensures first { IfOk result (IsFirst realm.now limit) }
         ensures memory { IfErr result (λ fault. fault ≡ RunFault.Memory) }
     {
@@ -50,7 +49,7 @@ impl Service {
         })
     }
 
-    /// Takes the client's next octets; only memory can refuse them.
+    // Takes the client's next octets; only memory can refuse them.
     pub fn feed(&mut self, octets: &[u8]) -> Result<(), RunFault>
         ensures ok { OnOk result (self.new ≡ record self.old {
           splitter = option_map (λ held. held ++ octets.now) self.old.splitter;
@@ -63,25 +62,19 @@ impl Service {
         }
     }
 
-    /// Does what happens at the client's transport to the realm, and puts what the client is told behind the replies.
+    // Does what happens at the client's transport to the realm, and puts what the client is told behind the replies.
     pub fn act(&mut self, act: &Act) -> Result<Progress, RunFault>
-        ensures puts { (after : Run) → Puts result (due_at self.old act.now after) after
-            self.old.replies.octets self.new.replies.octets }
-        ensures content { OnOk result (self.new.realm.content ≡ content_after self.old act.now) }
-        ensures setup { self.new.realm.setup ≡ self.old.realm.setup }
-        ensures limit { self.new.replies.limit ≡ self.old.replies.limit }
-        ensures draw { self.new.draw ≡ self.old.draw }
-        ensures held { self.new.splitter ≡ self.old.splitter }
+        ensures { Performs result self.old act.now self.old.draw self.new }
     {
         let says = self.realm.act(CLIENT, act)?;
         self.replies.tell(says.as_slice())
     }
 
-    /// Answers the next frame, if a whole one is there.
+    // Answers the next frame, if a whole one is there.
     pub fn answer_next(&mut self) -> Result<Progress, RunFault>
         ensures answers { (more : List ℕ) → Answers result (due self.old more) (due self.new more)
             self.old.replies.octets self.new.replies.octets }
-        ensures waits { result ≡ Ok Progress.Waiting → due self.new [] ≡ due_at_end self.new }
+        ensures waits { result ≡ Ok Progress.Waiting → due self.new [] ≡ ends silent }
         ensures shrinks { result ≡ Ok Progress.Onward → held_len self.new.splitter < held_len self.old.splitter }
     {
         let Some(frame) = next_frame(&mut self.splitter)? else {
@@ -94,16 +87,9 @@ impl Service {
         }
     }
 
-    /// Answers a message, with this draw; the next one has the next.
+    // Answers a message, with this draw; the next one has the next.
     fn answer_message(&mut self, payload: &[u8]) -> Result<Progress, RunFault>
-        ensures puts { (after : Run) → Puts result (due_at self.old (Act.Said self.old.draw (read_of payload.now)) after) after
-            self.old.replies.octets self.new.replies.octets }
-        ensures content { OnOk result (self.new.realm.content
-            ≡ content_after self.old (Act.Said self.old.draw (read_of payload.now))) }
-        ensures setup { self.new.realm.setup ≡ self.old.realm.setup }
-        ensures limit { self.new.replies.limit ≡ self.old.replies.limit }
-        ensures draw { OnOk result (self.new.draw ≡ id_after self.old.draw) }
-        ensures held { self.new.splitter ≡ self.old.splitter }
+        ensures { Performs result self.old (Act.Said self.old.draw (read_of payload.now)) (id_after self.old.draw) self.new }
     {
         let read = read(self.alloc, payload)?;
         let draw = self.draw;
@@ -112,7 +98,7 @@ impl Service {
     }
 }
 
-/// The next whole frame, if one is there.
+// The next whole frame, if one is there.
 fn next_frame(splitter: &mut Splitter) -> Result<Option<Frame>, RunFault>
     ensures { Takes result splitter.old splitter.new }
 {

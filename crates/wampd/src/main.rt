@@ -1,23 +1,35 @@
 //! A WAMP router: `wampd stream` serves one client on standard input and output.
 #![tactic(auto)]
 
-use cluster_program::{Order, RunFault, help_of, order_of, stream_run};
+use cluster_program::{
+    Order, RunFault, UsageFault, help_of, order_of, stream_run, unreadable_words,
+};
 use std::env;
+use std::io::{ErrorKind, Write};
 use std::process::ExitCode;
 
-/// The words of the command line, without the program's own name.
-fn words_of(rt: &HostRuntime) -> Result<Vec<String>, RunFault> {
-    let mut words = Vec::new(rt.alloc());
-    let Ok(args) = env::args(rt) else {
-        return Err(RunFault::Memory);
+// The status where the help or the version cannot be written: that of a transport that failed.
+const UNWRITTEN: u8 = 6;
+
+// The words of the command line, without the program's own name.
+fn words_of(rt: &HostRuntime) -> Result<Vec<String>, UsageFault> {
+    let args = match env::args(rt) {
+        Ok(args) => args,
+        Err(error) if error.kind() == ErrorKind::InvalidData => {
+            return Err(unreadable_words(rt.alloc()));
+        }
+        Err(_) => return Err(UsageFault::Memory),
     };
+    let mut words = Vec::new(rt.alloc());
     for word in args.skip(1) {
-        words.push(word)?;
+        if words.push(word).is_err() {
+            return Err(UsageFault::Memory);
+        }
     }
     Ok(words)
 }
 
-/// Serves one client, and says on standard error why its transport failed.
+// Serves one client, and says on standard error why its transport failed.
 fn stream(rt: &HostRuntime, realm: &str) -> ExitCode {
     match stream_run(rt.alloc(), &mut rt.stdin(), &mut rt.stdout(), realm) {
         Ok(()) => ExitCode::SUCCESS,
@@ -25,28 +37,40 @@ fn stream(rt: &HostRuntime, realm: &str) -> ExitCode {
     }
 }
 
-/// The fault on a line of its own on standard error, and its status.
+// The fault on a line of its own on standard error, and its status.
 fn failure(rt: &HostRuntime, fault: RunFault) -> ExitCode {
     let _ = eprintln!(rt; "{fault}");
     ExitCode::from(fault.status())
 }
 
+// Says on standard error what is wrong with the command line, and how the program is used.
+fn misuse(rt: &HostRuntime, fault: UsageFault) -> ExitCode {
+    let _ = eprintln!(rt; "{fault}");
+    ExitCode::from(fault.status())
+}
+
+// Writes what was asked for on standard output.
+fn tell(rt: &HostRuntime, text: &str) -> ExitCode {
+    let mut out = rt.stdout();
+    if out.write_all(text.as_bytes()).is_err() || out.flush().is_err() {
+        let _ = eprintln!(rt; "error: standard output cannot be written");
+        return ExitCode::from(UNWRITTEN);
+    }
+    ExitCode::SUCCESS
+}
+
 fn main(rt: HostRuntime) -> ExitCode {
     let words = match words_of(&rt) {
         Ok(words) => words,
-        Err(fault) => return failure(&rt, fault),
+        Err(fault) => return misuse(&rt, fault),
     };
-    if let Ok(Some(help)) = help_of(rt.alloc(), &words) {
-        return match print!(rt; "{help}") {
-            Ok(()) => ExitCode::SUCCESS,
-            Err(_) => ExitCode::FAILURE,
-        };
+    match help_of(rt.alloc(), &words) {
+        Ok(Some(text)) => return tell(&rt, text.as_str()),
+        Ok(None) => {}
+        Err(fault) => return misuse(&rt, fault),
     }
     match order_of(rt.alloc(), &words) {
         Ok(Order::Stream { realm }) => stream(&rt, realm.as_str()),
-        Err(fault) => {
-            let _ = eprintln!(rt; "{fault}");
-            ExitCode::from(fault.status())
-        }
+        Err(fault) => misuse(&rt, fault),
     }
 }

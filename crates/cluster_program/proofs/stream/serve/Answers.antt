@@ -1,35 +1,65 @@
-use Rattle.std.proofs.Common.{arith, refl}
+use Rattle.std.proofs.Common.{Ok, Err, arith, rules}
 use Rattle.std.proofs.lemmas.Result.{err_from_is_err_and}
-use Rattle.cluster_program.proofs.Turning.{opens_memory, opens_closed, opens_fault, opens_waits, turn_stays, turns_spent, has_read_none, has_read_more, has_read_least}
-use Rattle.cluster_program.specs.Runs.{most_turns}
+use Rattle.cluster_program.specs.Stream.{opened, config_of}
+use Rattle.cluster_program.specs.Service.{owed}
+use Rattle.cluster_program.proofs.Running.{ends_memory, over_ends, ends_then, goes_then, goes_writing}
+use Rattle.cluster_program.proofs.Serving.{opens_over, opens_closed, opens_writes, opens_idle, turns_spent}
 use Rattle.cluster_program.proofs.stream.serve.Goals as goal
 
 pub returns-in_err-service : goal.returns-in_err-service
-returns-in_err-service g c input old u =
-    let p = err_from_is_err_and c.from_residual.result c.from_residual.ensures.1 in
-    rw (p.1, p.2, c.in_err-service.ensures.memory) (opens_memory c.args.realm.now c.args.limit input _ old _ u)
-
-pub returns-in-Closed : goal.returns-in-Closed
-returns-in-Closed g c input old u =
-    opens_closed c.args.realm.now c.args.limit input _ old _ _ c.in_ok-service.service c.in_ok-service.ensures.first u (rw c.in-Closed.is at c.in_ok-act_out.ensures.acted)
+returns-in_err-service g c =
+    let p = err_from_is_err_and c.from_residual-in_err-service.result c.from_residual-in_err-service.ensures.1 in
+    rw (p.1, p.2, c.in_err-service.ensures.memory) (ends_memory (opened (config_of c.args.realm.now) c.args.limit) _ _)
 
 pub returns-in_err-act_out : goal.returns-in_err-act_out
-returns-in_err-act_out g c input old u =
+returns-in_err-act_out g c =
     let p = err_from_is_err_and c.from_residual-in_err-act_out.result c.from_residual-in_err-act_out.ensures.1 in
     rw (p.1, p.2)
-    (opens_fault c.args.realm.now c.args.limit input (g.R.Read.remaining c.args.reader.now) old (g.W.Write.contents c.args.writer.now) (g.W.Write.contents c.act_out.new.writer) c.in_ok-service.service c.in_err-act_out.field-0.0 c.in_ok-service.ensures.first u c.in_err-act_out.ensures.acted)
+    (over_ends (opened (config_of c.args.realm.now) c.args.limit) (Err c.in_err-act_out.field-0.0) (g.R.Read.remaining c.args.reader.now)
+    (g.W.Write.contents c.args.writer.now)
+    (g.W.Write.contents c.act_out.new.writer)
+    (opens_over c.args.realm.now c.args.limit c.in_ok-service.service c.act_out.new.service c.in_err-act_out.field-0.0 _ _
+    c.in_ok-service.ensures.first c.in_err-act_out.ensures))
+
+pub returns-in-Closed : goal.returns-in-Closed
+returns-in-Closed g c =
+    over_ends (opened (config_of c.args.realm.now) c.args.limit) (Ok tt) (g.R.Read.remaining c.args.reader.now)
+    (g.W.Write.contents c.args.writer.now) (g.W.Write.contents c.act_out.new.writer)
+    (opens_closed c.args.realm.now c.args.limit c.in_ok-service.service c.act_out.new.service _ _ c.in_ok-service.ensures.first
+    (rw c.in-Closed.is at c.in_ok-act_out.ensures))
 
 pub loop-turn-init : goal.loop-turn-init
 loop-turn-init g c =
-    let e = c.in_ok-act_out.ensures in
-    (λ input old u. opens_waits c.args.realm.now c.args.limit input _ old _ _ c.in_ok-service.service c.act_out.new.service c.in_ok-act_out.field-0 c.in_ok-service.ensures.first u e.acted c.in_default.not-Closed e.no_replies e.content e.setup e.limit e.draw e.held, has_read_none _)
+    let first = c.in_ok-service.ensures.first in (
+      goes_writing _ _ _ _ _
+          (opens_writes c.args.realm.now c.args.limit c.in_ok-service.service c.act_out.new.service c.in_ok-act_out.field-0 _ _ first
+          c.in_default.not-Closed c.in_ok-act_out.ensures),
+      opens_idle c.args.realm.now c.args.limit c.in_ok-service.service c.act_out.new.service c.in_ok-act_out.field-0 _ _ first
+          c.in_ok-act_out.ensures,
+      search rules,
+    )
 
-pub returns : goal.returns
-returns g c input old u = turns_spent c.args.realm.now c.args.limit input _ _ old _ _ _ u (c.loop-turn.invariant.0 input old u) (has_read_least most_turns c.loop-turn._turn _ _ (omega arith) c.loop-turn.invariant.1)
+pub turn-requires : goal.turn-requires
+turn-requires g c = record { room = c.loop-turn.invariant.2; idle = c.loop-turn.invariant.1 }
+
+pub returns-in-Ok-false : goal.returns-in-Ok-false
+returns-in-Ok-false g c =
+    ends_then (opened (config_of c.args.realm.now) c.args.limit) (owed c.loop-turn.service) c.loop-turn._turn (Ok tt)
+    (g.R.Read.remaining c.args.reader.now) (g.R.Read.remaining c.loop-turn.reader) (g.R.Read.remaining c.turn.new.reader)
+    (g.W.Write.contents c.args.writer.now) (g.W.Write.contents c.loop-turn.writer) (g.W.Write.contents c.turn.new.writer)
+    c.loop-turn.invariant.0 (rw c.in-Ok-false.field-0-test at c.in-Ok-false.ensures)
+
+pub returns-in-Err : goal.returns-in-Err
+returns-in-Err g c =
+    ends_then (opened (config_of c.args.realm.now) c.args.limit) (owed c.loop-turn.service) c.loop-turn._turn (Err c.in-Err.fault) _ _ _ _ _
+    _ c.loop-turn.invariant.0 c.in-Err.ensures
 
 pub loop-turn-preserved : goal.loop-turn-preserved
 loop-turn-preserved g c =
-    let arm = c.in-Ok-true in (
-      λ input old u. turn_stays _ _ _ _ _ _ (rw arm.field-0-test at (arm.ensures.turns c.args.realm.now input old (c.loop-turn.invariant.0 input old u))),
-      has_read_more _ _ _ _ c.loop-turn.invariant.1 (arm.ensures.reads (rw arm.field-0-test refl)),
-    )
+    let went = rw c.in-Ok-true.field-0-test at c.in-Ok-true.ensures in
+    (goes_then _ (owed c.loop-turn.service) _ c.loop-turn._turn 1 _ _ _ _ _ _ c.loop-turn.invariant.0 went.0, went.1, search rules)
+
+pub returns : goal.returns
+returns g c =
+    turns_spent (opened (config_of c.args.realm.now) c.args.limit) c.loop-turn.service c.loop-turn._turn _ _ _ _ c.loop-turn.invariant.0
+    c.loop-turn.invariant.1 (omega arith)

@@ -1,8 +1,10 @@
-use Rattle.std.proofs.Common.{ℕ, List, Option}
-use Rattle.cluster_program.specs.Serving.{KnownOpens, KnownWaits, HasRead}
+use Rattle.std.proofs.Common.{◌<◌, length}
+use Rattle.cluster_program.specs.Stream.{opened, config_of}
+use Rattle.cluster_program.specs.Service.{owed}
+use Rattle.cluster_program.specs.Turns.{Goes, IsIdle}
 use Rattle.cluster_program.proofs.stream.serve.Given as goal
 
 abbrev pub invariant-loop-turn : goal.invariant-loop-turn
-invariant-loop-turn g l = ((input old : Option (List ℕ)) → KnownOpens l.fn.realm l.fn.limit input (g.R.Read.remaining l.fn.reader) old (g.W.Write.contents l.fn.writer)
-    → KnownWaits l.fn.realm input (g.R.Read.remaining l.reader) old (g.W.Write.contents l.writer) l.service)
-    × HasRead l._turn (g.R.Read.remaining l.fn.reader) (g.R.Read.remaining l.reader)
+invariant-loop-turn g l =
+    Goes (opened (config_of l.fn.realm) l.fn.limit) (owed l.service) l._turn (g.R.Read.remaining l.fn.reader) (g.R.Read.remaining l.reader)
+    (g.W.Write.contents l.fn.writer) (g.W.Write.contents l.writer) × IsIdle l.service × (0 < length l.chunk)

@@ -1,4 +1,4 @@
--- The statuses of faults (docs/PROTOCOL.md, "The program").
+-- The statuses of faults (docs/PROTOCOL.md, "A stream").
 use Rattle.std.specs.Prelude.{ℕ}
 use Rattle.cluster_program.specs.declared.fault.RunFault.{RunFault}
 use Rattle.cluster_program.specs.declared.fault.RunFault.TheVariants.{Line, Store, Memory, Transport}

@@ -1,25 +1,25 @@
-use crate::{RunFault, stream_run};
+use cluster_program::{RunFault, stream_run};
 use std::alloc::AllocError;
 use std::io;
 use std::io::{Read, Write};
-use std::test::Fail;
 
-/// The client's octets of the stored run.
+// The client's octets of the stored run.
 const ASKED: &[u8] = b"\x7F\xF1\0\0\
 \0\0\0\x28[1,\"realm1\",{\"roles\":{\"subscriber\":{}}}]\
 \0\0\0\x0F[32,1,{},\"a.b\"]\
 \0\0\0\x3B[16,2,{\"acknowledge\":true,\"exclude_me\":false},\"a.b\",[\"hi\"]]\
 \0\0\0\x1F[6,{},\"wamp.close.close_realm\"]";
 
-/// The router's octets of the stored run.
+// The router's octets of the stored run.
 const ANSWERED: &[u8] = b"\x7F\xB1\0\0\
-\0\0\0\xD1[2,1,{\"roles\":{\"broker\":{\"features\":{\"pattern_based_subscription\":true,\"publisher_exclusion\":true}},\"dealer\":{\"features\":{\"call_canceling\":true,\"pattern_based_registration\":true,\"shared_registration\":true}}}}]\
+\0\0\0\xD1[2,1,{\"roles\":{\"broker\":{\"features\":{\"pattern_based_subscription\":true,\"publisher_exclusion\":true}},\
+\"dealer\":{\"features\":{\"call_canceling\":true,\"pattern_based_registration\":true,\"shared_registration\":true}}}}]\
 \0\0\0\x08[33,1,1]\
 \0\0\0\x08[17,2,3]\
 \0\0\0\x12[36,1,3,{},[\"hi\"]]\
 \0\0\0\x23[6,{},\"wamp.close.goodbye_and_out\"]";
 
-/// A reader that gives at most so many octets at a time, and fails once.
+// A reader that gives at most so many octets at a time, and fails once.
 #[derive(Drop)]
 struct Pieces<'a> {
     octets: &'a [u8],
@@ -42,7 +42,7 @@ impl Read for Pieces<'_> {
     }
 }
 
-/// A writer that keeps what it is given, and fails once, in a write or in a flush.
+// A writer that keeps what it is given, and fails once, in a write or in a flush.
 #[derive(Drop)]
 struct Paper {
     octets: Vec<u8>,
@@ -84,7 +84,7 @@ impl Write for Paper {
     }
 }
 
-/// A reader of these octets, by so many at a time.
+// A reader of these octets, by so many at a time.
 fn reader_of(octets: &[u8], most: usize) -> Pieces<'_> {
     Pieces {
         octets,
@@ -93,7 +93,7 @@ fn reader_of(octets: &[u8], most: usize) -> Pieces<'_> {
     }
 }
 
-/// What a run over these octets writes, and how it ends.
+// What a run over these octets writes, and how it ends.
 fn answers(rt: &impl AllocGlobal, octets: &[u8], most: usize) -> (Vec<u8>, Result<(), RunFault>) {
     let mut written = Vec::new(rt.alloc());
     let outcome = stream_run(
@@ -206,13 +206,15 @@ fn stops_at_a_failed_write(rt: HostRuntime) {
     }
 }
 
-/// The octets of a client that takes payloads of up to 512 octets and is subscribed, and what it is answered.
+// The octets of a client that takes payloads of up to 512 octets and is subscribed, and what it is answered.
 const SMALL: (&[u8], &[u8]) = (
     b"\x7F\x01\0\0\0\0\0\x0F[1,\"realm1\",{}]\0\0\0\x0D[32,1,{},\"a\"]",
-    b"\x7F\xB1\0\0\0\0\0\xD1[2,1,{\"roles\":{\"broker\":{\"features\":{\"pattern_based_subscription\":true,\"publisher_exclusion\":true}},\"dealer\":{\"features\":{\"call_canceling\":true,\"pattern_based_registration\":true,\"shared_registration\":true}}}}]\0\0\0\x08[33,1,1]",
+    b"\x7F\xB1\0\0\0\0\0\xD1[2,1,{\"roles\":{\"broker\":{\"features\":{\"pattern_based_subscription\":true,\"publisher_exclusion\":true}},\
+\"dealer\":{\"features\":{\"call_canceling\":true,\"pattern_based_registration\":true,\"shared_registration\":true}}}}]\
+\0\0\0\x08[33,1,1]",
 );
 
-/// Appends a frame of this first octet, whose payload is `front`, so many times `x`, and `back`.
+// Appends a frame of this first octet, whose payload is `front`, so many times `x`, and `back`.
 fn put_long(
     out: &mut Vec<u8>,
     kind: u8,

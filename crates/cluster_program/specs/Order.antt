@@ -1,0 +1,9 @@
+-- The statuses of a command line that is wrong (docs/PROTOCOL.md, "A stream").
+use Rattle.std.specs.Prelude.{ℕ}
+use Rattle.cluster_program.specs.declared.order.UsageFault.{UsageFault}
+use Rattle.cluster_program.specs.declared.order.UsageFault.TheVariants.{Usage, Memory}
+
+-- the status with which the program ends
+abbrev pub usage_status_of : UsageFault → ℕ
+usage_status_of (Usage text) = 2
+usage_status_of Memory = 5

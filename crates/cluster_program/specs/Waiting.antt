@@ -1,7 +1,0 @@
--- What clauses see of the replies that wait to be written.
-use Rattle.std.specs.Prelude.{ℕ, List}
-
--- the longest payload that the client takes, and the octets of the replies
-pub record Waiting : Type 0 where
-  pub limit : ℕ
-  pub octets : List ℕ

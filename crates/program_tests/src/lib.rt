@@ -1,0 +1,10 @@
+//! Tests of the program's calls, over the public surface of `cluster_program`. A crate with tests is proved twice, so they stand
+//! here.
+#![tactic(auto)]
+
+#[cfg(test)]
+mod order;
+#[cfg(test)]
+mod stream;
+#[cfg(test)]
+mod turns;
