@@ -9,6 +9,10 @@ mod ids;
 #[cfg(test)]
 mod messages;
 #[cfg(test)]
+mod pattern_tables;
+#[cfg(test)]
+mod patterns;
+#[cfg(test)]
 mod realm;
 #[cfg(test)]
 mod values;

@@ -1,2 +1,3 @@
 pub mod Id
+pub mod Pattern
 pub mod Uri

@@ -1,10 +1,12 @@
--- URIs by the loose rules (WAMP specification, "URIs": loose URI check).
-use Rattle.std.specs.Prelude.{◌≡◌, ℕ, Bool, false, ◌==◌, nat_lt, List, length, codes, Result, Ok, Err, Option, None, Some}
+-- URIs, and the rules that their patterns share (WAMP specification, "URIs": loose URI check; "Pattern-based Subscriptions").
+use Rattle.std.specs.Prelude.{◌≡◌, ℕ, Bool, true, false, ◌&&◌, ◌==◌, nat_lt, List, length, codes, Result, Ok, Err, Option, None, Some}
 use Rattle.std.specs.Prelude.{slice_get, if◌then◌else◌, bytes_eq}
 use Rattle.std.specs.List.{slice_split, list_any}
 use Rattle.std.specs.Char.{is_whitespace}
 use Rattle.std.specs.Str.{chars}
 use Rattle.std.specs.Result.{IsOk}
+use Rattle.wamp_ids.specs.declared.policy.Match.{Match}
+use Rattle.wamp_ids.specs.declared.policy.Match.TheVariants.{Exact, Prefix, Wildcard}
 use Rattle.wamp_ids.specs.declared.uri.UriFault.{UriFault}
 use Rattle.wamp_ids.specs.declared.uri.UriFault.TheVariants.{TooLong, Space, Hash, EmptyPart, Memory}
 
@@ -32,20 +34,29 @@ is_wamp (Some part) = bytes_eq part (codes "wamp")
 abbrev pub is_reserved : List ℕ → Bool
 is_reserved text = is_wamp (slice_get (parts text) 0)
 
--- the URI of a text, or why there is none: the first cause that fits
-abbrev pub uri_of : List ℕ → Result (List ℕ) UriFault
-uri_of text =
+abbrev pub is_exact : Match → Bool
+is_exact Exact = true
+is_exact Prefix = false
+is_exact Wildcard = false
+
+-- the value, unless the text breaks a rule of its match: then the first cause that fits. An exact text has no empty component
+abbrev pub unless_faulty : {A : Type 0} → Match → List ℕ → A → Result A UriFault
+unless_faulty matching text value =
     if nat_lt 1024 (length text) then Err TooLong
     else (if has_space text then Err Space
     else (if has_hash text then Err Hash
-    else (if has_empty_part text then Err EmptyPart
-    else Ok text)))
+    else (if is_exact matching && has_empty_part text then Err EmptyPart
+    else Ok value)))
+
+-- the URI of a text, or why there is none: a URI is what an exact pattern is
+abbrev pub uri_of : List ℕ → Result (List ℕ) UriFault
+uri_of text = unless_faulty Exact text text
 
 abbrev pub IsUri : List ℕ → Type 0
 IsUri text = uri_of text ≡ Ok text
 
 -- what is answered is what is wanted; where memory runs out, a URI was wanted
-abbrev pub Reads : Result (List ℕ) UriFault → Result (List ℕ) UriFault → Type 0
+abbrev pub Reads : {A : Type 0} → Result A UriFault → Result A UriFault → Type 0
 Reads (Err Memory) wanted = IsOk wanted
 Reads given wanted = wanted ≡ given
 

@@ -1,16 +1,18 @@
 ghost use Rattle.std.specs.Prelude.{◌≡◌, List, ℕ, IsTrue, ◌↔◌, IfOk, slice_get, option_map};
 ghost use Rattle.std.specs.Cow.{cow_str_bytes};
 ghost use Rattle.std.specs.Str.Iter.{split_text, split_has_more, split_pattern};
-ghost use Rattle.wamp_ids.specs.Uri.{parts, is_reserved, number_of, uri_of, Reads, IsUri, has_space, has_empty_part};
+ghost use Rattle.wamp_ids.specs.Uri.{parts, is_reserved, number_of, uri_of, unless_faulty, is_wamp, Reads, IsUri, has_space};
+ghost use Rattle.wamp_ids.specs.Uri.{has_empty_part};
 
 use crate::memory::Memory;
+use crate::policy::Match;
 use std::alloc::{AllocError, Global};
 use std::borrow::CowStr;
 use std::marker::Model;
 use std::str::Split;
 use thiserror::Error;
 
-/// The greatest length of a URI, in octets.
+/// The greatest length of a URI and of a pattern, in octets.
 const LONGEST: usize = 1024;
 
 /// Why a text is no URI, or no URI was made of it.
@@ -74,18 +76,7 @@ impl<'a> Uri<'a> {
     pub fn of(text: &'a str) -> Result<Uri<'a>, UriFault>
         ensures { result ≡ uri_of text.now }
     {
-        if text.len() > LONGEST {
-            return Err(UriFault::TooLong);
-        }
-        if has_space(text) {
-            return Err(UriFault::Space);
-        }
-        if text.as_bytes().contains(&b'#') {
-            return Err(UriFault::Hash);
-        }
-        if has_empty_part(text) {
-            return Err(UriFault::EmptyPart);
-        }
+        check(text, Match::Exact)?;
         Ok(Uri {
             text: CowStr::Borrowed(text),
         })
@@ -130,10 +121,7 @@ impl<'a> Uri<'a> {
     pub fn is_reserved(&self) -> bool
         ensures { result ≡ is_reserved self.now }
     {
-        match self.part(0) {
-            Some(part) => part == "wamp",
-            None => false,
-        }
+        is_wamp(self.part(0))
     }
 
     /// An equal URI with a text of its own. Where memory runs out there is none, and nothing has changed.
@@ -150,6 +138,35 @@ impl<'a> Uri<'a> {
         ensures { IsTrue result ↔ (self.now ≡ other.now) }
     {
         self.as_str() == other.as_str()
+    }
+}
+
+// Whether a text with this match is a pattern, or the first cause why it is none; takes no memory.
+pub(crate) fn check(text: &str, matching: Match) -> Result<(), UriFault>
+    ensures { result ≡ unless_faulty matching text.now tt }
+{
+    if text.len() > LONGEST {
+        return Err(UriFault::TooLong);
+    }
+    if has_space(text) {
+        return Err(UriFault::Space);
+    }
+    if text.as_bytes().contains(&b'#') {
+        return Err(UriFault::Hash);
+    }
+    if matching == Match::Exact && has_empty_part(text) {
+        return Err(UriFault::EmptyPart);
+    }
+    Ok(())
+}
+
+// Whether this first component makes a text the router's own.
+pub(crate) fn is_wamp(part: Option<&str>) -> bool
+    ensures { result ≡ is_wamp (option_map (λ text. text.now) part.entry) }
+{
+    match part {
+        Some(part) => part == "wamp",
+        None => false,
     }
 }
 

@@ -1,5 +1,5 @@
 -- What is known of each message that the code holds (WAMP specification, "IDs" and
--- "Protocol Messages"; payloads: docs/PROTOCOL.md, "Payloads").
+-- "Protocol Messages"; payloads: docs/PROTOCOL.md, "Reading").
 use Rattle.std.specs.Prelude.{ℕ, IsTrue, ⊤}
 use Rattle.std.specs.Str.{IsUtf8}
 use Rattle.wamp_ids.specs.Id.{is_id}

@@ -1,0 +1,3 @@
+pub mod Matching
+pub mod Ranking
+pub mod Table

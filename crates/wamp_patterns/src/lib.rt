@@ -1,0 +1,13 @@
+//! Patterns of URIs: which URIs a pattern matches, which of the matching patterns serves, and a table by patterns.
+#![tactic(auto)]
+
+pub mod laws;
+mod matching;
+mod memory;
+mod ranking;
+mod table;
+
+pub use matching::matches;
+pub use memory::Memory;
+pub use ranking::better;
+pub use table::PatternTable;
