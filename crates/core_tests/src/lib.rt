@@ -4,12 +4,20 @@
 
 #[cfg(test)]
 mod acceptor;
+#[cfg(test)]
+mod codec;
 mod count;
+#[cfg(test)]
+mod log;
 #[cfg(test)]
 mod machine;
 mod number;
+mod octet;
 #[cfg(test)]
 mod packets;
+mod refuses;
 
 pub use count::Count;
 pub use number::Number;
+pub use octet::Octet;
+pub use refuses::Refuses;

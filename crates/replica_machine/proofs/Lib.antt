@@ -3,3 +3,4 @@ pub mod Places
 pub mod Numbering
 pub mod Wanted
 pub mod Replaying
+pub mod Applying

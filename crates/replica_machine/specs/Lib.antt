@@ -3,3 +3,4 @@ pub mod Roll
 pub mod Replay
 pub mod Laws
 pub mod Examples
+pub mod Log

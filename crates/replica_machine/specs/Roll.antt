@@ -1,6 +1,7 @@
 -- Which entries of a log take effect, by where each node stands behind the log: what a roll keeps as it goes along.
-use Rattle.std.specs.Prelude.{ℕ, ◌+◌, Bool, true, false, not, ◌&&◌, ◌==◌, nat_lt, nat_le, Option, Some, None, List, [], ◌∷◌, ◌++◌, fold}
-use Rattle.std.specs.Prelude.{if◌then◌else◌}
+use Rattle.std.specs.Prelude.{◌≡◌, ℕ, ◌+◌, ◌<◌, Bool, true, false, not, ◌&&◌, ◌==◌, nat_lt, nat_le, Option, Some, None, List, [], ◌∷◌}
+use Rattle.std.specs.Prelude.{◌++◌, fold}
+use Rattle.std.specs.Prelude.{slice_index_or, if◌then◌else◌}
 use Rattle.paxos_packets.specs.declared.entry.Entry.{Entry}
 use Rattle.paxos_packets.specs.declared.entry.Entry.TheVariants.{Noop, Boot, Lost, Item}
 use Rattle.replica_machine.specs.declared.roll.Standing.{Standing}
@@ -78,3 +79,11 @@ taken_in (Gone b) = 0
 abbrev pub effective_behind : {B : Type 0} → List (Entry B) → List (Entry B) → List (Entry B)
 effective_behind log [] = []
 effective_behind log (e ∷ es) = (if takes_effect log e then e ∷ [] else []) ++ effective_behind (log ++ e ∷ []) es
+
+-- where the node stands by a roll: the standings of all nodes as a list, by their numbers from 0 to 255
+abbrev pub standing_in : List Standing → ℕ → Standing
+standing_in roll n = slice_index_or roll n Unknown
+
+-- by the roll each node stands as it does behind the log
+abbrev pub IsRollOf : {B : Type 0} → List (Entry B) → List Standing → Type 0
+IsRollOf log roll = (n : ℕ) → n < 256 → standing_in roll n ≡ standing n log

@@ -4,10 +4,12 @@
 
 mod input;
 pub mod laws;
+mod log;
 mod machine;
 mod roll;
 
 pub use input::Input;
+pub use log::{AppliedLog, LearnFault, Step};
 pub use machine::{Failed, Machine};
-pub use paxos_packets::{Body, Entry, Transport};
-pub use roll::Standing;
+pub use paxos_packets::{Body, Entry, Slot, Transport};
+pub use roll::{Roll, Standing};

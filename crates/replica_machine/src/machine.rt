@@ -4,13 +4,19 @@ ghost use Rattle.replica_machine.specs.declared.input.Input.{Input};
 
 use crate::input::Input;
 use paxos_packets::{Body, Transport};
-use std::alloc::AllocFailed;
+use std::alloc::{AllocError, AllocFailed};
 use thiserror::Error;
 
 /// The machine or the log has failed, be it for want of memory: it answers nothing else from then on.
 #[derive(Clone, Copy, Debug, PartialEq, Eq, Drop, Error)]
 #[error("the machine has failed")]
 pub struct Failed;
+
+impl From<AllocError> for Failed {
+    fn from(_: AllocError) -> Failed {
+        Failed
+    }
+}
 
 impl<T: Drop> From<AllocFailed<T>> for Failed {
     fn from(_: AllocFailed<T>) -> Failed {

@@ -1,3 +1,11 @@
+ghost use Rattle.std.specs.Prelude.{◌≡◌, ℕ, ◌<◌, ◌&&◌, ◌==◌, List, if◌then◌else◌};
+ghost use Rattle.paxos_packets.specs.declared.entry.Entry.{Entry};
+ghost use Rattle.replica_machine.specs.Roll.{is_new_boot, is_live, is_next, gone, standing_after, standing_in, IsRollOf, takes_effect};
+ghost use Rattle.replica_machine.specs.Roll.{live_in, taken_in};
+
+use paxos_packets::Entry;
+use std::marker::Model;
+
 /// Where a node stands behind a log.
 #[derive(Clone, Copy, Debug, PartialEq, Eq)]
 pub enum Standing {
@@ -7,4 +15,171 @@ pub enum Standing {
     Live { boot: u64, taken: u64 },
     /// The node is lost in this boot, its greatest.
     Gone { boot: u64 },
+}
+
+impl Standing {
+    // Whether a Boot of the node with this number takes effect.
+    fn is_new_boot(self, boot: u64) -> bool
+        ensures { result ≡ is_new_boot self boot }
+    {
+        match self {
+            Standing::Unknown => true,
+            Standing::Live { boot: last, .. } => last < boot,
+            Standing::Gone { boot: last } => last < boot,
+        }
+    }
+
+    // Whether the boot is live, so that a Lost of it takes effect.
+    fn is_live(self, boot: u64) -> bool
+        ensures { result ≡ is_live self boot }
+    {
+        match self {
+            Standing::Unknown => false,
+            Standing::Live { boot: live, .. } => live == boot,
+            Standing::Gone { .. } => false,
+        }
+    }
+
+    // Whether an Item of the boot with this number takes effect.
+    fn is_next(self, boot: u64, seq: u64) -> bool
+        ensures { result ≡ is_next self boot seq }
+    {
+        match self {
+            Standing::Unknown => false,
+            Standing::Live { boot: live, taken } => live == boot && taken < seq && seq - taken == 1,
+            Standing::Gone { .. } => false,
+        }
+    }
+
+    // The standing behind a Lost of the live boot.
+    fn gone(self) -> Standing
+        ensures { result ≡ gone self }
+    {
+        match self {
+            Standing::Unknown => Standing::Unknown,
+            Standing::Live { boot, .. } => Standing::Gone { boot },
+            Standing::Gone { boot } => Standing::Gone { boot },
+        }
+    }
+}
+
+/// Where each node stands behind a log, for every number that a node may have. It tells in constant time, whatever the log's
+/// length, whether one more entry takes effect.
+#[derive(Debug, Drop)]
+pub struct Roll {
+    standings: [Standing; 256],
+}
+
+impl Model for Roll {
+    ghost use Rattle.std.specs.Prelude.{List};
+    ghost use Rattle.replica_machine.specs.declared.roll.Standing.{Standing};
+
+    ghost Value = { List Standing };
+
+    ghost view = { λ r. r.standings };
+}
+
+impl Roll {
+    /// The roll of the log that has no entry. Takes no memory.
+    pub fn new() -> Roll
+        ensures { (n : ℕ) → n < 256 → standing_in result n ≡ Standing.Unknown }
+    {
+        Roll {
+            standings: [Standing::Unknown; 256],
+        }
+    }
+
+    // Where the node stands.
+    fn standing(&self, node: u8) -> Standing
+        ensures { result ≡ standing_in self.now node }
+    {
+        self.standings[node as usize]
+    }
+
+    // Lets the node stand so.
+    fn put(&mut self, node: u8, standing: Standing)
+        ensures { (n : ℕ) → n < 256 → standing_in self.new n ≡ (if node == n then standing else standing_in self.old n) }
+    {
+        self.standings[node as usize] = standing;
+    }
+
+    /// Goes on over one entry more, and tells whether it takes effect. Takes no memory, and constant time.
+    pub fn take<B>(&mut self, entry: &Entry<B>) -> bool
+        ensures standings { (n : ℕ) → n < 256 → standing_in self.new n ≡ standing_after n (standing_in self.old n) entry.now }
+        ensures took { (log : List (Entry B)) → IsRollOf log self.old → result ≡ takes_effect log entry.now }
+    {
+        match entry {
+            Entry::Noop => false,
+            Entry::Boot { node, boot } => self.take_boot(*node, *boot),
+            Entry::Lost { node, boot } => self.take_lost(*node, *boot),
+            Entry::Item {
+                node,
+                boot,
+                seq,
+                ..
+            } => self.take_item(*node, *boot, *seq),
+        }
+    }
+
+    // Goes on over a Boot.
+    fn take_boot(&mut self, node: u8, boot: u64) -> bool
+        ensures standings { (n : ℕ) → n < 256 → standing_in self.new n
+            ≡ (if (node == n) && is_new_boot (standing_in self.old n) boot then Standing.Live boot 0 else standing_in self.old n) }
+        ensures took { result ≡ is_new_boot (standing_in self.old node) boot }
+    {
+        let took = self.standing(node).is_new_boot(boot);
+        if took {
+            self.put(node, Standing::Live { boot, taken: 0 });
+        }
+        took
+    }
+
+    // Goes on over a Lost.
+    fn take_lost(&mut self, node: u8, boot: u64) -> bool
+        ensures standings { (n : ℕ) → n < 256 → standing_in self.new n
+            ≡ (if (node == n) && is_live (standing_in self.old n) boot then gone (standing_in self.old n) else standing_in self.old n) }
+        ensures took { result ≡ is_live (standing_in self.old node) boot }
+    {
+        let standing = self.standing(node);
+        let took = standing.is_live(boot);
+        if took {
+            self.put(node, standing.gone());
+        }
+        took
+    }
+
+    // Goes on over an Item.
+    fn take_item(&mut self, node: u8, boot: u64, seq: u64) -> bool
+        ensures standings { (n : ℕ) → n < 256 → standing_in self.new n
+            ≡ (if (node == n) && is_next (standing_in self.old n) boot seq then Standing.Live boot seq else standing_in self.old n) }
+        ensures took { result ≡ is_next (standing_in self.old node) boot seq }
+    {
+        let took = self.standing(node).is_next(boot, seq);
+        if took {
+            self.put(node, Standing::Live { boot, taken: seq });
+        }
+        took
+    }
+
+    /// The live boot of the node, `None` where it has none. Takes no memory.
+    pub fn live(&self, node: u8) -> Option<u64>
+        ensures { result ≡ live_in (standing_in self.now node) }
+    {
+        match self.standing(node) {
+            Standing::Unknown => None,
+            Standing::Live { boot, .. } => Some(boot),
+            Standing::Gone { .. } => None,
+        }
+    }
+
+    /// How many Items of the node's live boot took effect, 0 where it has none. Takes no memory.
+    pub fn taken(&self, node: u8) -> u64
+        ensures { result ≡ taken_in (standing_in self.now node) }
+    {
+        match self.standing(node) {
+            Standing::Unknown => 0,
+            Standing::Live { taken, .. } => taken,
+            Standing::Gone { .. } => 0,
+        }
+    }
 }

@@ -1,0 +1,137 @@
+use crate::{Number, Octet};
+use command_codec::{CodecFault, Entry, put_entry, take_entry};
+use std::alloc::Global;
+use std::test::Fail;
+
+fn spelled(alloc: Global, entry: &Entry<Number>) -> Result<Vec<u8>, CodecFault> {
+    let mut out = Vec::new(alloc);
+    put_entry::<Number, Octet>(entry, &mut out)?;
+    Ok(out)
+}
+
+// An Item of node 2 in its boot 1, of its transport 1.
+fn item(seq: u64, value: u32) -> Entry<Number> {
+    Entry::Item {
+        node: 2,
+        boot: 1,
+        seq,
+        transport: 1,
+        body: Number::new(value),
+    }
+}
+
+// The number of the fault that the octets answer, 0 where they are an entry.
+fn fault_of(alloc: Global, octets: &[u8]) -> u8 {
+    match take_entry::<Number, Octet>(alloc, octets) {
+        Ok(_) => 0,
+        Err(fault) => fault.number(),
+    }
+}
+
+#[test]
+fn entries_have_their_octets(rt: HostRuntime) -> Result<(), Fail> {
+    let alloc = rt.alloc();
+    assert_eq!(rt; spelled(alloc, &Entry::Noop)?.as_slice(), [0].as_slice());
+    assert_eq!(rt;
+        spelled(alloc, &Entry::Boot { node: 2, boot: 1 })?.as_slice(),
+        [1, 2, 0, 0, 0, 0, 0, 0, 0, 1].as_slice()
+    );
+    assert_eq!(rt;
+        spelled(alloc, &Entry::Lost { node: 7, boot: 258 })?.as_slice(),
+        [2, 7, 0, 0, 0, 0, 0, 0, 1, 2].as_slice()
+    );
+    let octets = [
+        3, 2, 0, 0, 0, 0, 0, 0, 0, 1, 0, 0, 0, 0, 0, 0, 0, 5, 0, 0, 0, 1, 9,
+    ];
+    assert_eq!(rt; spelled(alloc, &item(5, 9))?.as_slice(), octets.as_slice());
+    Ok(())
+}
+
+#[test]
+fn octets_are_read_as_entries(rt: HostRuntime) {
+    let alloc = rt.alloc();
+    let table: [(&[u8], u8); 18] = [
+        (&[], 41),
+        (&[0], 0),
+        (&[0, 0], 44),
+        (&[1, 2, 0, 0, 0, 0, 0, 0, 0, 1], 0),
+        (&[1, 2, 0, 0, 0, 0, 0, 0, 0], 41),
+        (&[1, 2, 0, 0, 0, 0, 0, 0, 0, 1, 0], 44),
+        (&[9, 2, 0, 0, 0, 0, 0, 0, 0, 1], 42),
+        (&[1, 8, 0, 0, 0, 0, 0, 0, 0, 1], 43),
+        (&[1, 0], 43),
+        (&[1, 1, 0, 1], 43),
+        (&[1, 1, 0, 0], 41),
+        (&[2, 1, 0, 0, 0, 0, 0, 0, 0, 0], 43),
+        (
+            &[
+                3, 2, 0, 0, 0, 0, 0, 0, 0, 1, 0, 0, 0, 0, 0, 0, 0, 1, 0, 0, 0, 1, 200,
+            ],
+            0,
+        ),
+        (
+            &[
+                3, 2, 0, 0, 0, 0, 0, 0, 0, 1, 0, 0, 0, 0, 0, 0, 0, 1, 0, 0, 0, 1,
+            ],
+            41,
+        ),
+        (
+            &[
+                3, 2, 0, 0, 0, 0, 0, 0, 0, 1, 0, 0, 0, 0, 0, 0, 0, 1, 0, 0, 0, 1, 200, 0,
+            ],
+            44,
+        ),
+        (
+            &[
+                3, 2, 0, 0, 0, 0, 0, 0, 0, 1, 0, 0, 0, 0, 0, 0, 0, 1, 0, 0, 0, 0,
+            ],
+            43,
+        ),
+        (&[3, 2, 0, 0, 0, 0, 0, 0, 0, 1, 0, 1], 43),
+        (&[3, 2, 0, 0, 0, 0, 0, 0, 0, 1, 0, 0], 41),
+    ];
+    for (octets, number) in &table {
+        assert_eq!(rt; fault_of(alloc, octets), *number);
+    }
+}
+
+#[test]
+fn an_entry_is_read_again(rt: HostRuntime) -> Result<(), Fail> {
+    let alloc = rt.alloc();
+    let octets = spelled(alloc, &item(281_474_976_710_655, 255))?;
+    let Entry::Item { seq, body, .. } = take_entry::<Number, Octet>(alloc, &octets)? else {
+        return Ok(());
+    };
+    assert_eq!(rt; seq, 281_474_976_710_655);
+    assert_eq!(rt; body.get(), 255);
+    Ok(())
+}
+
+#[test]
+fn an_entry_without_a_spelling_puts_nothing(rt: HostRuntime) -> Result<(), Fail> {
+    let mut out = vec![in rt.alloc(); 5u8, 6]?;
+    assert_eq!(rt;
+        put_entry::<Number, Octet>(&Entry::Boot { node: 8, boot: 1 }, &mut out),
+        Err(CodecFault::Range)
+    );
+    assert_eq!(rt;
+        put_entry::<Number, Octet>(
+            &Entry::Lost {
+                node: 1,
+                boot: 281_474_976_710_656
+            },
+            &mut out
+        ),
+        Err(CodecFault::Range)
+    );
+    assert_eq!(rt;
+        put_entry::<Number, Octet>(&item(0, 1), &mut out),
+        Err(CodecFault::Range)
+    );
+    assert_eq!(rt;
+        put_entry::<Number, Octet>(&item(1, 256), &mut out),
+        Err(CodecFault::Range)
+    );
+    assert_eq!(rt; out.as_slice(), [5, 6].as_slice());
+    Ok(())
+}

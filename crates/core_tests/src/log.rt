@@ -1,0 +1,149 @@
+use crate::{Count, Number, Refuses};
+use replica_machine::{AppliedLog, Entry, LearnFault, Machine, Roll, Slot};
+use std::test::Fail;
+
+// The Boot of node 1, or its Item with this number, which holds ten times the number.
+fn entry(seq: u32) -> Entry<Number> {
+    if seq == 0 {
+        Entry::Boot { node: 1, boot: 1 }
+    } else {
+        Entry::Item {
+            node: 1,
+            boot: 1,
+            seq: u64::from(seq),
+            transport: 1,
+            body: Number::new(seq.saturating_mul(10)),
+        }
+    }
+}
+
+// A slot of a table, by its place from 0.
+fn slot(place: usize) -> Result<Slot, LearnFault> {
+    Slot::new((place as u64).saturating_add(1)).ok_or(LearnFault::Failed)
+}
+
+// Learns a table's entries in the slots 1 and on, the last one first, but for the first `from`.
+fn learn_behind<M: Machine<Body = Number>>(
+    log: &mut AppliedLog<M>,
+    table: &[u32],
+    from: usize,
+) -> Result<(), LearnFault> {
+    for place in (from..table.len()).rev() {
+        log.learn(slot(place)?, entry(table[place]))?;
+    }
+    Ok(())
+}
+
+// A Boot, then Items 1, 1 again, 3, 2 and 3.
+const OUT_OF_ORDER: [u32; 6] = [0, 1, 1, 3, 2, 3];
+
+// The slot that is applied next, whether its entry took effect, and the sum that was said; nothing where none is learned.
+fn step(log: &mut AppliedLog<Count>) -> Result<Option<(u64, bool, Option<u64>)>, Fail> {
+    let Some(step) = log.advance()? else {
+        return Ok(None);
+    };
+    Ok(Some((
+        step.slot.get(),
+        step.took,
+        step.says.first().map(|say| say.1),
+    )))
+}
+
+#[test]
+fn items_out_of_order_are_skipped(rt: HostRuntime) -> Result<(), Fail> {
+    let mut log = AppliedLog::new(rt.alloc(), Count::new(rt.alloc()));
+    learn_behind(&mut log, &OUT_OF_ORDER, 1)?;
+    assert_eq!(rt; step(&mut log)?, None);
+    log.learn(slot(0)?, entry(0))?;
+    let told = [
+        (1, true, None),
+        (2, true, Some(10)),
+        (3, false, None),
+        (4, false, None),
+        (5, true, Some(30)),
+        (6, true, Some(60)),
+    ];
+    for row in &told {
+        assert_eq!(rt; step(&mut log)?, Some(*row));
+    }
+    assert_eq!(rt; step(&mut log)?, None);
+    assert_eq!(rt; log.machine().sum(), 60);
+    assert_eq!(rt; log.applied().len(), 6);
+    Ok(())
+}
+
+#[test]
+fn one_entry_stands_in_a_slot(rt: HostRuntime) -> Result<(), Fail> {
+    let mut log = AppliedLog::new(rt.alloc(), Count::new(rt.alloc()));
+    learn_behind(&mut log, &[0, 1], 0)?;
+    assert_eq!(rt; step(&mut log)?, Some((1, true, None)));
+    // another entry, in a slot that is applied and in one that is not
+    assert_eq!(rt; log.learn(slot(0)?, entry(1)), Err(LearnFault::Disagree));
+    assert_eq!(rt; log.learn(slot(1)?, entry(2)), Err(LearnFault::Disagree));
+    // the same again
+    assert_eq!(rt; log.learn(slot(0)?, entry(0)), Ok(()));
+    assert_eq!(rt; log.learn(slot(1)?, entry(1)), Ok(()));
+    assert_eq!(rt; log.applied().len(), 1);
+    assert_eq!(rt; step(&mut log)?, Some((2, true, Some(10))));
+    assert_eq!(rt; LearnFault::Disagree.number(), 46);
+    assert_eq!(rt; LearnFault::Memory.number(), 47);
+    assert_eq!(rt; LearnFault::Failed.number(), 48);
+    Ok(())
+}
+
+// Advances so many times, and tells how often the log answered with a step.
+fn steps(log: &mut AppliedLog<Refuses>, times: u32) -> u32 {
+    let mut told = 0u32;
+    for _turn in 0..times {
+        if let Ok(Some(_)) = log.advance() {
+            told = told.saturating_add(1);
+        }
+    }
+    told
+}
+
+#[test]
+fn a_machine_that_refuses_spoils_the_log(rt: HostRuntime) -> Result<(), Fail> {
+    let mut log = AppliedLog::new(rt.alloc(), Refuses::new(rt.alloc(), 3));
+    learn_behind(&mut log, &OUT_OF_ORDER, 0)?;
+    // of the six slots the first, second and fifth take effect; the sixth is refused
+    assert_eq!(rt; steps(&mut log, 5), 5);
+    for _again in 0..3u8 {
+        assert_eq!(rt; log.advance().err().map(|failed| failed.number()), Some(48));
+    }
+    assert_eq!(rt; log.learn(slot(0)?, entry(0)), Err(LearnFault::Failed));
+    assert_eq!(rt; log.applied().len(), 5);
+    assert_eq!(rt; log.machine().taken(), 3);
+    Ok(())
+}
+
+#[test]
+fn a_roll_goes_along_with_a_log(rt: HostRuntime) {
+    let mut roll = Roll::new();
+    assert_eq!(rt; roll.live(3), None);
+    let table: [(Entry<Number>, bool); 6] = [
+        (Entry::Noop, false),
+        (Entry::Boot { node: 3, boot: 2 }, true),
+        (Entry::Boot { node: 3, boot: 2 }, false),
+        (Entry::Lost { node: 3, boot: 1 }, false),
+        (Entry::Lost { node: 3, boot: 2 }, true),
+        (Entry::Boot { node: 255, boot: 9 }, true),
+    ];
+    for (entry, took) in &table {
+        assert_eq!(rt; roll.take(entry), *took);
+    }
+    assert_eq!(rt; roll.live(3), None);
+    assert_eq!(rt; roll.live(255), Some(9));
+    assert_eq!(rt;
+        roll.take(&Entry::<Number>::Item {
+            node: 255,
+            boot: 9,
+            seq: 1,
+            transport: 1,
+            body: Number::new(1)
+        }),
+        true
+    );
+    assert_eq!(rt; roll.taken(255), 1);
+    assert_eq!(rt; roll.taken(3), 0);
+}

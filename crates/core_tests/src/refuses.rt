@@ -1,0 +1,74 @@
+ghost use Rattle.std.specs.Prelude.{◌≡◌, ℕ, ◌+◌, Bool, false, [], IfOk, OnOk, OnErr};
+
+use crate::number::Number;
+use paxos_packets::Transport;
+use replica_machine::{Failed, Input, Machine};
+use std::alloc::Global;
+use std::marker::Model;
+
+/// A machine that counts its inputs and says nothing. It takes so many of them, and refuses the next and each after it.
+#[derive(Drop)]
+pub struct Refuses {
+    alloc: Global,
+    takes: u64,
+    taken: u64,
+    failed: bool,
+}
+
+impl Model for Refuses {
+    ghost Value = { ℕ × Bool };
+
+    ghost view = { λ r. (r.taken, r.failed) };
+}
+
+impl Refuses {
+    /// A machine that takes `takes` inputs.
+    pub fn new(alloc: Global, takes: u64) -> Refuses
+        ensures { result ≡ (0, false) }
+    {
+        Refuses {
+            alloc,
+            takes,
+            taken: 0,
+            failed: false,
+        }
+    }
+
+    /// How many inputs it has taken.
+    pub fn taken(&self) -> u64
+        ensures { result ≡ self.now.0 }
+    {
+        self.taken
+    }
+}
+
+impl Machine for Refuses {
+    type Body = Number;
+
+    type Say = Transport;
+
+    ghost Content = { ℕ };
+
+    ghost content = { λ r. r.0 };
+
+    ghost has_failed = { λ r. r.1 };
+
+    ghost next = { λ taken input. taken + 1 };
+
+    ghost says = { λ taken input. [] };
+
+    ghost to = { λ y. y };
+
+    fn apply(&mut self, _input: &Input<Number>) -> Result<Vec<Transport>, Failed> {
+        if self.failed || self.taken >= self.takes {
+            self.failed = true;
+            return Err(Failed);
+        }
+        self.taken += 1;
+        Ok(Vec::new(self.alloc))
+    }
+
+    fn to(say: &Transport) -> Transport {
+        *say
+    }
+}
