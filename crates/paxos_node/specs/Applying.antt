@@ -1,5 +1,5 @@
 -- Learned entries are applied in the order of slots, none skipped; and a node that is down, or that has just begun
--- (docs/CONSENSUS.md, "Learn" and "One node").
+-- (docs/CONSENSUS.md, "One node" and "Events").
 use Rattle.std.specs.Prelude.{ℕ, suc, Bool, true, false, ◌&&◌, ◌==◌, None, List, [], ◌∷◌, ◌++◌, filter, length, if◌then◌else◌}
 use Rattle.paxos_packets.specs.declared.entry.Entry.{Entry}
 use Rattle.paxos_packets.specs.declared.entry.Entry.TheVariants.{Noop, Boot, Lost, Item}

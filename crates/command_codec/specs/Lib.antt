@@ -1,0 +1,5 @@
+pub mod Fault
+pub mod Number
+pub mod Coder
+pub mod Entry
+pub mod Laws
