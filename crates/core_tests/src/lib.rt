@@ -8,6 +8,8 @@ mod acceptor;
 mod codec;
 mod count;
 #[cfg(test)]
+mod keeper;
+#[cfg(test)]
 mod log;
 #[cfg(test)]
 mod machine;

@@ -1,0 +1,136 @@
+use crate::Number;
+use acceptor_keeper::{Keeper, KeeperFault, MemKeeper};
+use paxos_packets::{Ballot, Change, Entry, Rows, Slot, Vote, Votes};
+use std::alloc::Global;
+use std::process::Abort;
+use std::test::Fail;
+
+// What a keeper answered: its fault's number or 0, the boot number, the round promised, and the rounds of the votes in slots 1 to 3,
+// each 0 where there is none.
+type Answer = (u8, u64, u64, [u64; 3]);
+
+fn round_in(votes: &Votes<Number>, slot: u64) -> u64 {
+    let Some(slot) = Slot::new(slot) else {
+        return 0;
+    };
+    match votes.find(slot) {
+        Some(vote) => vote.ballot.round,
+        None => 0,
+    }
+}
+
+fn answer(loaded: &Result<Rows<Number>, KeeperFault>) -> Answer {
+    let rows = match loaded {
+        Ok(rows) => rows,
+        Err(fault) => return (fault.number(), 0, 0, [0, 0, 0]),
+    };
+    let promised = match rows.promised {
+        Some(ballot) => ballot.round,
+        None => 0,
+    };
+    let votes = &rows.votes;
+    (
+        0,
+        rows.boot,
+        promised,
+        [round_in(votes, 1), round_in(votes, 2), round_in(votes, 3)],
+    )
+}
+
+fn number(done: Result<(), KeeperFault>) -> u8 {
+    match done {
+        Ok(()) => 0,
+        Err(fault) => fault.number(),
+    }
+}
+
+// A promise of this round of node 1, and votes for Boot (1, 1) in this ballot, in these slots.
+fn change(alloc: Global, round: u64, slots: &[u64]) -> Result<Change<Number>, Fail> {
+    let ballot = Ballot { round, node: 1 };
+    let mut votes = Votes::new(alloc);
+    for slot in slots {
+        votes.put(Vote {
+            slot: Slot::new(*slot).ok_or("a slot")?,
+            ballot,
+            entry: Entry::Boot { node: 1, boot: 1 },
+        })?;
+    }
+    Ok(Change {
+        promised: Some(ballot),
+        votes,
+    })
+}
+
+#[test]
+fn what_is_committed_is_loaded(rt: HostRuntime) -> Result<(), Fail> {
+    let alloc = rt.alloc();
+    let mut keeper: MemKeeper<Number> = MemKeeper::new(alloc);
+    assert_eq!(rt; answer(&keeper.boot()), (0, 1, 0, [0, 0, 0]));
+    assert_eq!(rt; number(keeper.commit(&change(alloc, 1, &[])?)), 0);
+    assert_eq!(rt; number(keeper.commit(&change(alloc, 1, &[1])?)), 0);
+    let mut keeper = keeper.reopen();
+    assert_eq!(rt; answer(&keeper.load()), (0, 1, 1, [1, 0, 0]));
+    assert_eq!(rt; answer(&keeper.boot()), (0, 2, 1, [1, 0, 0]));
+    assert_eq!(rt; keeper.failures(), 0);
+    Ok(())
+}
+
+#[test]
+fn a_vote_replaces_that_of_its_slot(rt: HostRuntime) -> Result<(), Fail> {
+    let alloc = rt.alloc();
+    let mut keeper: MemKeeper<Number> = MemKeeper::new(alloc);
+    assert_eq!(rt; number(keeper.commit(&change(alloc, 1, &[2])?)), 0);
+    assert_eq!(rt; number(keeper.commit(&change(alloc, 2, &[3, 2, 1])?)), 0);
+    assert_eq!(rt; number(keeper.commit(&change(alloc, 3, &[3])?)), 0);
+    assert_eq!(rt; answer(&keeper.load()), (0, 0, 3, [2, 2, 3]));
+    Ok(())
+}
+
+// A keeper that fails at its kth commit, of two with the rounds 1 and 2 in slots 1 and 2: what these answer, and what is loaded once it
+// is opened again.
+fn fails(
+    rt: &impl Abort,
+    alloc: Global,
+    k: u64,
+    after: bool,
+    wants: (u8, u8, Answer),
+) -> Result<(), Fail> {
+    let mut keeper: MemKeeper<Number> = MemKeeper::failing(alloc, k, after);
+    assert_eq!(rt; answer(&keeper.boot()), (0, 1, 0, [0, 0, 0]));
+    assert_eq!(rt; number(keeper.commit(&change(alloc, 1, &[1])?)), wants.0);
+    assert_eq!(rt; number(keeper.commit(&change(alloc, 2, &[2])?)), wants.1);
+    assert_eq!(rt; answer(&keeper.load()), (65, 0, 0, [0, 0, 0]));
+    assert_eq!(rt; answer(&keeper.boot()), (65, 0, 0, [0, 0, 0]));
+    assert_eq!(rt; keeper.failures(), 1);
+    let mut keeper = keeper.reopen();
+    assert_eq!(rt; answer(&keeper.load()), wants.2);
+    assert_eq!(rt; number(keeper.commit(&change(alloc, 3, &[3])?)), 0);
+    Ok(())
+}
+
+#[test]
+fn the_first_commit_fails(rt: HostRuntime) -> Result<(), Fail> {
+    let alloc = rt.alloc();
+    fails(&rt, alloc, 1, false, (61, 65, (0, 1, 0, [0, 0, 0])))?;
+    fails(&rt, alloc, 1, true, (61, 65, (0, 1, 1, [1, 0, 0])))
+}
+
+#[test]
+fn the_second_commit_fails(rt: HostRuntime) -> Result<(), Fail> {
+    let alloc = rt.alloc();
+    fails(&rt, alloc, 2, false, (0, 61, (0, 1, 1, [1, 0, 0])))?;
+    fails(&rt, alloc, 2, true, (0, 61, (0, 1, 2, [1, 2, 0])))
+}
+
+#[test]
+fn faults_have_their_numbers(rt: HostRuntime) {
+    let numbers = [
+        KeeperFault::Store.number(),
+        KeeperFault::Damaged.number(),
+        KeeperFault::Version.number(),
+        KeeperFault::Memory.number(),
+        KeeperFault::Failed.number(),
+        KeeperFault::Boots.number(),
+    ];
+    assert_eq!(rt; numbers, [61, 62, 63, 64, 65, 66]);
+}
