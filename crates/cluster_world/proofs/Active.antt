@@ -103,7 +103,7 @@ promise_moved {B} members at n x sent to b floor inv may asked =
       role =
           role_promise (promises (with_node at n y)) (sent ++ new) n x.rows.promised b may x.proposer.role
           (role_grows g n (λ c o f p. asks c f p) (λ v o p. offers v p) x.rows.promised x.proposer.role ok.role);
-      heard = λ h i. vote_of_grows g (ok.heard h i);
+      heard = λ t i k q. vote_of_grows g (ok.heard t i k q);
       learned = λ f i. chosen_grows g (ok.learned f i);
     })
   where
@@ -190,7 +190,7 @@ accept_moved {B} members at n x sent v inv may known =
       role =
           role_accept (promises (with_node at n y)) (sent ++ new) n x.rows.promised v.ballot may x.proposer.role
           (role_grows g n (λ c o f p. asks c f p) (λ v o p. offers v p) x.rows.promised x.proposer.role ok.role);
-      heard = λ h i. vote_of_grows g (ok.heard h i);
+      heard = λ t i k q. vote_of_grows g (ok.heard t i k q);
       learned = λ f i. chosen_grows g (ok.learned f i);
     })
   where
@@ -295,7 +295,7 @@ begin_moved {B} members at n x sent b floor many inv may owner =
             subst (λ (z : CountedPromise B). Tells (promises (with_node at n y)) (sent ++ new) z.node b floor z.votes) (has_one h)
             (own_tells g n x.rows b floor mine (promise_lt x.rows.promised b may) none ok.rows);
       };
-      heard = λ h i. vote_of_grows g (ok.heard h i);
+      heard = λ t i k q. vote_of_grows g (ok.heard t i k q);
       learned = λ f i. chosen_grows g (ok.learned f i);
     })
   where
@@ -377,7 +377,7 @@ offer_moved {B} members at n x sent b next table e many inv lead safe =
             (has_cases table (v ∷ []) h);
         owned = λ w h. ⊎_elim (λ o. lead.owned w o) (λ d. ap (λ (z : Vote B). z.ballot) (sym (has_one d))) (has_cases table (v ∷ []) h);
       };
-      heard = λ h i. vote_of_grows g (ok.heard h i);
+      heard = λ t i k q. vote_of_grows g (ok.heard t i k q);
       learned = λ f i. chosen_grows g (ok.learned f i);
     })
   where

@@ -85,7 +85,7 @@ plain_ok members promised k x p =
             known = λ u h. absurd (in_none x.rows.votes u p.votes h);
           };
       role = subst (λ r. Rattle.cluster_world.proofs.Invariant.RoleOk promised x.rows.promised [] k r) (sym p.role) tt;
-      heard = λ h i. absurd (in_none x.learner.heard h p.heard i);
+      heard = λ t i j q. absurd (in_none x.learner.heard t p.heard i);
       learned = λ f i. absurd (in_none x.learner.learned f p.learned i);
     }
 

@@ -5,7 +5,7 @@ use Rattle.cluster_world.proofs.Invariant.{vote, Sent, Known, Carried, Backs, Sa
 use Rattle.cluster_world.proofs.Invariant.{RoleFree, Grows, AllSafe}
 use Rattle.paxos_proposer.specs.declared.role.Role.{Role}
 use Rattle.paxos_proposer.specs.declared.role.Role.TheVariants.{Idle, Preparing, Leading}
-use Rattle.paxos_learner.specs.declared.hearings.Hearing.{Hearing}
+use Rattle.paxos_learner.specs.declared.tallies.Place.{Place}
 use Rattle.paxos_packets.specs.declared.ballot.Ballot.{Ballot}
 use Rattle.paxos_packets.specs.declared.packet.Kind.{Kind}
 use Rattle.paxos_packets.specs.declared.packet.Packet.{Packet}
@@ -96,8 +96,8 @@ pub chosen_grows : {B : Type 0} {members : ℕ} {promised now : ℕ → Option B
     → Grows promised now sent later → IsChosen members sent slot entry → IsChosen members later slot entry
 chosen_grows g c = record { ballot = c.ballot; quorum = c.quorum; most = c.most; voted = λ k m q. sent_grows g (c.voted k m q) }
 
-pub vote_of_grows : {B : Type 0} {promised now : ℕ → Option Ballot} {sent later : List (Packet B)} {h : Hearing}
-    → Grows promised now sent later → VoteOf sent h → VoteOf later h
+pub vote_of_grows : {B : Type 0} {promised now : ℕ → Option Ballot} {sent later : List (Packet B)} {p : Place} {k : ℕ}
+    → Grows promised now sent later → VoteOf sent p k → VoteOf later p k
 vote_of_grows g c = record { entry = c.entry; is = sent_grows g c.is }
 
 pub role_free_grows : {B : Type 0} (members : ℕ) {promised now : ℕ → Option Ballot} {sent later : List (Packet B)}

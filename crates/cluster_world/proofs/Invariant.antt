@@ -1,12 +1,12 @@
 -- What holds in every world.
 use Rattle.std.proofs.Common.{◌≡◌, ℕ, suc, ◌<◌, ◌≤◌, Bool, true, List, [], ◌∷◌, Option, Some}
 use Rattle.cluster_world.proofs.Order.{Lt, Le, Reaches, Over}
-use Rattle.paxos_packets.specs.Members.{IsMajority, IsMember}
+use Rattle.paxos_packets.specs.Members.{IsMajority, IsMember, is_in}
 use Rattle.cluster_world.specs.Has.{Has}
 use Rattle.paxos_proposer.specs.declared.promises.CountedPromise.{CountedPromise}
 use Rattle.paxos_proposer.specs.declared.role.Role.{Role}
 use Rattle.paxos_proposer.specs.declared.role.Role.TheVariants.{Idle, Preparing, Leading}
-use Rattle.paxos_learner.specs.declared.hearings.Hearing.{Hearing}
+use Rattle.paxos_learner.specs.declared.tallies.Place.{Place}
 use Rattle.paxos_learner.specs.declared.learned.LearnedEntry.{LearnedEntry}
 use Rattle.paxos_node.specs.declared.state.NodeState.{NodeState}
 use Rattle.paxos_proposer.specs.Proposer.{slot_end, next_vote}
@@ -135,15 +135,15 @@ pub record RowsOk {B : Type 0} (sent : List (Packet B)) (k : ℕ) (rows : Rows B
   pub low : (u : Vote B) → Has rows.votes u → Reaches rows.promised u.ballot
   pub known : (u : Vote B) → Has rows.votes u → Known sent (Accept u)
 
-pub record VoteOf {B : Type 0} (sent : List (Packet B)) (h : Hearing) : Type 0 where
+pub record VoteOf {B : Type 0} (sent : List (Packet B)) (p : Place) (k : ℕ) : Type 0 where
   pub entry : Entry B
-  pub is : Sent sent h.node (Accepted (vote h.slot h.ballot entry))
+  pub is : Sent sent k (Accepted (vote p.slot p.ballot entry))
 
 pub record NodeOk {B : Type 0} (members : ℕ) (promised : ℕ → Option Ballot) (sent : List (Packet B)) (k : ℕ) (x : NodeState B) : Type 0
   where
     pub rows : RowsOk sent k x.rows
     pub role : RoleOk promised x.rows.promised sent k x.proposer.role
-    pub heard : (h : Hearing) → Has x.learner.heard h → VoteOf sent h
+    pub heard : (t : Place × List Bool) → Has x.learner.heard t → (j : ℕ) → is_in t.1 j ≡ true → VoteOf sent t.0 j
     pub learned : (f : LearnedEntry B) → Has x.learner.learned f → IsChosen members sent f.slot f.entry
 
 abbrev pub promises : {B : Type 0} → (ℕ → NodeState B) → ℕ → Option Ballot

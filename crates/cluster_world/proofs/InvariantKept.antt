@@ -113,7 +113,7 @@ module _ {B : Type 0} (members : ℕ) (promised now : ℕ → Option Ballot) (se
       record {
         rows = rows_kept k d x.rows ok.rows;
         role = role_kept k d x.rows.promised x.proposer.role ok.role;
-        heard = λ h i. vote_of_grows g (ok.heard h i);
+        heard = λ t i k q. vote_of_grows g (ok.heard t i k q);
         learned = λ f i. chosen_grows g (ok.learned f i);
       }
 

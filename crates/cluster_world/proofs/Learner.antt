@@ -1,50 +1,82 @@
 -- Votes are counted, and entries learned.
-use Rattle.std.proofs.Common.{◌≡◌, ◌⊎◌, inl, inr, ⊎_elim, ℕ, Bool, true, false, not, ◌&&◌, eqb, refl, ap, subst, List, [], ◌∷◌, ◌++◌}
+use Rattle.std.proofs.Common.{◌≡◌, ◌⊎◌, inl, inr, ⊎_elim, ℕ, zero, suc, Bool, true, false, not, ◌&&◌, eqb, refl, sym, ap, ◌∙◌, subst, List, [], ◌∷◌, ◌++◌}
 use Rattle.std.proofs.Common.{Option, Some, None}
 use Rattle.std.specs.Prelude.{nat_lt, option_map, ◌==◌}
 use Rattle.std.specs.List.{find}
-use Rattle.std.proofs.lemmas.Bool.{cond_both, and_parts, or_cases, eqb-true, ltb-true}
-use Rattle.cluster_world.proofs.Order.{same_parts}
+use Rattle.std.proofs.lemmas.Bool.{cond_both, cases_eq, eqb-true, ltb-true}
+use Rattle.std.proofs.lemmas.List.{get_or-set_other}
+use Rattle.std.specs.Option.{unwrap_or}
+use Rattle.std.specs.Map.{lookup}
 use Rattle.cluster_world.proofs.Lists.{has_cons, has_one, has_first, has_cases}
 use Rattle.paxos_packets.specs.Entry.{entry_equality, same_entry}
 use Rattle.cluster_world.proofs.Invariant.{vote, Sent, Known, IsChosen, VoteOf, PacketsOk, NodeOk}
 use Rattle.cluster_world.proofs.OneChosen.{chosen_one}
 use Rattle.cluster_world.specs.Has.{Has, here, there}
-use Rattle.paxos_packets.specs.Body.{IsEquality}
+use Rattle.paxos_packets.specs.Ballot.{same_ballot, ballot_sound}
+use Rattle.paxos_packets.specs.Body.{IsEquality, numbers_joined}
+use Rattle.paxos_packets.specs.Members.{is_in, no_nodes, set_with}
 use Rattle.paxos_packets.specs.declared.ballot.Ballot.{Ballot}
 use Rattle.paxos_packets.specs.declared.entry.Entry.{Entry}
 use Rattle.paxos_packets.specs.declared.packet.Packet.{Packet}
 use Rattle.paxos_packets.specs.declared.vote.Vote.{Vote}
 use Rattle.paxos_packets.specs.declared.packet.Kind.TheVariants.{Accept, Accepted}
-use Rattle.paxos_learner.specs.declared.hearings.Hearing.{Hearing}
+use Rattle.paxos_learner.specs.declared.tallies.Place.{Place}
+use Rattle.paxos_learner.specs.Tallies.{Heard, same_place, place_of, nodes_heard, insert_entry}
 use Rattle.paxos_learner.specs.declared.learned.LearnedEntry.{LearnedEntry}
 use Rattle.paxos_learner.specs.declared.state.LearnerState.{LearnerState}
-use Rattle.paxos_learner.specs.Learner.{is_hearing, heard_from, learned_at, is_learned, put_learned, learn, hears, is_other, disagrees}
+use Rattle.paxos_learner.specs.Learner.{learned_at, is_learned, put_learned, learn, hears, is_other, disagrees}
 use Rattle.paxos_learner.specs.Learner.{has_most, learn_chosen, count_vote, vote_disagrees}
 use Rattle.paxos_node.specs.Turn.{with_learner}
 use Rattle.paxos_node.specs.declared.state.NodeState.{NodeState}
 
-same_heard : (slot : ℕ) (b : Ballot) (k : ℕ) (h : Hearing) → is_hearing slot b k h ≡ true → h ≡ record { slot = slot; ballot = b; node = k }
-same_heard slot b k h e =
-    let p = and_parts (eqb h.slot slot) (eqb h.ballot.round b.round && (eqb h.ballot.node b.node && eqb h.node k)) e in
-    let q = and_parts (eqb h.ballot.round b.round) (eqb h.ballot.node b.node && eqb h.node k) p.1 in
-    let r = and_parts (eqb h.ballot.node b.node) (eqb h.node k) q.1 in
-    λ i.
-    record {
-      slot = eqb-true h.slot slot p.0 i;
-      ballot = same_parts h.ballot b (eqb-true h.ballot.round b.round q.0) (eqb-true h.ballot.node b.node r.0) i;
-      node = eqb-true h.node k r.1 i;
-    }
-
 off : false ≡ true → ⊥
 off e = cc
 
-heard_has : (hs : List Hearing) (slot : ℕ) (b : Ballot) (k : ℕ) → heard_from hs slot b k ≡ true
-    → Has hs (record { slot = slot; ballot = b; node = k })
-heard_has [] slot b k e = absurd (off e)
-heard_has (h ∷ hs) slot b k e =
-    ⊎_elim (λ s. subst (λ z. Has (h ∷ hs) z) (same_heard slot b k h s) here) (λ r. there (heard_has hs slot b k r))
-    (or_cases (is_hearing slot b k h) (heard_from hs slot b k) e)
+place_sound : (p q : Place) → same_place p q ≡ true → p ≡ q
+place_sound p q e =
+    let k = numbers_joined p.slot q.slot (same_ballot p.ballot q.ballot) e in
+    let b = ballot_sound p.ballot q.ballot k.1 in
+    λ i. record { slot = k.0 i; ballot = b i }
+
+no_node : (k : ℕ) → is_in no_nodes k ≡ false
+no_node zero = refl
+no_node (suc zero) = refl
+no_node (suc (suc zero)) = refl
+no_node (suc (suc (suc zero))) = refl
+no_node (suc (suc (suc (suc zero)))) = refl
+no_node (suc (suc (suc (suc (suc zero))))) = refl
+no_node (suc (suc (suc (suc (suc (suc zero)))))) = refl
+no_node (suc (suc (suc (suc (suc (suc (suc zero))))))) = refl
+no_node (suc (suc (suc (suc (suc (suc (suc (suc k)))))))) = refl
+
+-- a node that was heard at a place stands in its tally
+heard_at : (hs : Heard) (p : Place) (k : ℕ) → is_in (nodes_heard p hs) k ≡ true
+    → (t : Place × List Bool) × Has hs t × (t.0 ≡ p) × (is_in t.1 k ≡ true)
+heard_at [] p k e = absurd (off (sym (no_node k) ∙ e))
+heard_at (t ∷ hs) p k e =
+    cond_both (same_place p t.0) (Some t.1) (lookup (same_place p) hs) (λ o. is_in (unwrap_or o no_nodes) k ≡ true → Goal)
+    (λ s f. (t, here, sym (place_sound p t.0 s), f))
+    (λ s f. let r = heard_at hs p k f in (r.0, there r.1, r.2, r.3))
+    e
+  where
+    Goal : Type 0
+    Goal = (u : Place × List Bool) × Has (t ∷ hs) u × (u.0 ≡ p) × (is_in u.1 k ≡ true)
+
+-- a tally after one more was heard is one that stood, or that of its place
+tally_cases : (hs : Heard) (p : Place) (set : List Bool) (u : Place × List Bool) → Has (insert_entry same_place hs p set) u
+    → Has hs u ⊎ ((p ≡ u.0) × (set ≡ u.1))
+tally_cases [] p set u h = let e = has_one h in inr (ap (λ z. z.0) e, ap (λ z. z.1) e)
+tally_cases (t ∷ hs) p set u h =
+    cond_both (same_place p t.0) ((t.0, set) ∷ hs) (t ∷ insert_entry same_place hs p set) (λ l. Has l u → Goal)
+    (λ s i. ⊎_elim (λ e. inr (place_sound p t.0 s ∙ ap (λ z. z.0) e, ap (λ z. z.1) e)) (λ r. inl (there r)) (has_cons i))
+    (λ s i. ⊎_elim (λ e. inl (has_first hs e)) (λ r. ⊎_elim (λ o. inl (there o)) inr (tally_cases hs p set u r)) (has_cons i))
+    h
+  where
+    Goal : Type 0
+    Goal = Has (t ∷ hs) u ⊎ ((p ≡ u.0) × (set ≡ u.1))
+
+with_cases : (set : List Bool) (n k : ℕ) → is_in (set_with set n) k ≡ true → (k ≡ n) ⊎ (is_in set k ≡ true)
+with_cases set n k e = ⊎_elim inl (λ d. inr (sym (get_or-set_other set n k true false d) ∙ e)) (cases_eq k n)
 
 pub learned_cases : {B : Type 0} (f : LearnedEntry B) (gs : List (LearnedEntry B)) (u : LearnedEntry B) → Has (put_learned f gs) u
     → (f ≡ u) ⊎ Has gs u
@@ -73,7 +105,7 @@ learned_at_has {B} slot (f ∷ fs) e h =
 
 -- what a learner knows is so
 pub record LearnerOk {B : Type 0} (members : ℕ) (sent : List (Packet B)) (l : LearnerState B) : Type 0 where
-  pub heard : (h : Hearing) → Has l.heard h → VoteOf sent h
+  pub heard : (t : Place × List Bool) → Has l.heard t → (k : ℕ) → is_in t.1 k ≡ true → VoteOf sent t.0 k
   pub learned : (f : LearnedEntry B) → Has l.learned f → IsChosen members sent f.slot f.entry
 
 module _ {B : Type 0} (members : ℕ) (promised : ℕ → Option Ballot) (sent : List (Packet B)) (n : ℕ) where
@@ -103,17 +135,21 @@ module _ {B : Type 0} (members : ℕ) (promised : ℕ → Option Ballot) (sent :
   hears_ok : (l : LearnerState B) (k : ℕ) (v : Vote B) → LearnerOk members sent l → Sent sent k (Accepted v)
       → LearnerOk members sent (hears k v l)
   hears_ok l k v ok s =
-      cond_both (heard_from l.heard v.slot v.ballot k) l (record { heard = l.heard ++ h ∷ []; learned = l.learned })
-      (λ y. LearnerOk members sent y)
-      (λ t. ok)
-      (λ t. record {
+      record {
         learned = ok.learned;
-        heard = λ g i. ⊎_elim (λ o. ok.heard g o)
-            (λ d. subst (λ z. VoteOf sent z) (has_one d) (record { entry = v.entry; is = s })) (has_cases l.heard (h ∷ []) i);
-      })
+        heard = λ t i j q. ⊎_elim (λ o. ok.heard t o j q)
+            (λ e. subst (λ z. VoteOf sent z j) e.0 (cast j (subst (λ z. is_in z j ≡ true) (sym e.1) q)))
+            (tally_cases l.heard p (set_with (nodes_heard p l.heard) k) t i);
+      }
     where
-      h : Hearing
-      h = record { slot = v.slot; ballot = v.ballot; node = k }
+      p : Place
+      p = place_of v
+
+      cast : (j : ℕ) → is_in (set_with (nodes_heard p l.heard) k) j ≡ true → VoteOf sent p j
+      cast j q =
+          ⊎_elim (λ e. subst (λ z. VoteOf sent p z) (sym e) (record { entry = v.entry; is = s }))
+          (λ r. let h = heard_at l.heard p j r in subst (λ z. VoteOf sent z j) h.2 (ok.heard h.0 h.1 j h.3))
+          (with_cases (nodes_heard p l.heard) k j q)
 
   -- a majority was heard
   most_chosen : (l : LearnerState B) (v : Vote B) → PacketsOk members promised sent → LearnerOk members sent l → Known sent (Accept v)
@@ -121,9 +157,10 @@ module _ {B : Type 0} (members : ℕ) (promised : ℕ → Option Ballot) (sent :
   most_chosen l v packets ok known t =
       record {
         ballot = v.ballot;
-        quorum = heard_from l.heard v.slot v.ballot;
+        quorum = is_in (nodes_heard (place_of v) l.heard);
         most = ltb-true _ _ t;
-        voted = λ k m q. let o = ok.heard (record { slot = v.slot; ballot = v.ballot; node = k }) (heard_has l.heard v.slot v.ballot k q) in
+        voted = λ k m q. let h = heard_at l.heard (place_of v) k q in
+            let o = subst (λ z. VoteOf sent z k) h.2 (ok.heard h.0 h.1 k h.3) in
             subst (λ e. Sent sent k (Accepted (vote v.slot v.ballot e)))
             (packets.one (vote v.slot v.ballot o.entry) v (packets.voted k (vote v.slot v.ballot o.entry) o.is) known refl refl) o.is;
       }

@@ -66,7 +66,7 @@ module _ {B : Type 0} (members : ℕ) (promised now : ℕ → Option Ballot) (se
           known = λ u h. known_grows g (ok.rows.known u h);
         };
         role = role_grows g n (λ b o f p. old_asks b f p) (λ v o p. old_offers v p) x.rows.promised x.proposer.role ok.role;
-        heard = λ h i. vote_of_grows g (ok.heard h i);
+        heard = λ t i k q. vote_of_grows g (ok.heard t i k q);
         learned = λ f i. chosen_grows g (ok.learned f i);
       }
 

@@ -117,7 +117,7 @@ module _ {B : Type 0} (same : B → B → Bool) (equal : IsEquality same) (membe
       record {
         going =
             silent members many at n o.node (down o.node.rows) (before ++ o.packets) ok.inv refl
-            (record { rows = m.rows; role = tt; heard = λ h i. absurd (elim i [ ]); learned = λ f i. absurd (elim i [ ]) });
+            (record { rows = m.rows; role = tt; heard = λ t i k q. absurd (elim i [ ]); learned = λ f i. absurd (elim i [ ]) });
         free = tt;
         log = logged_nil members (before ++ o.packets);
         agrees = λ e. e;
@@ -131,7 +131,7 @@ module _ {B : Type 0} (same : B → B → Bool) (equal : IsEquality same) (membe
             (record {
               rows = record { reached = m.rows.reached; tops = m.rows.tops; low = m.rows.low; known = m.rows.known };
               role = tt;
-              heard = λ h i. absurd (elim i [ ]);
+              heard = λ t i k q. absurd (elim i [ ]);
               learned = λ f i. absurd (elim i [ ]);
             });
         free = tt;

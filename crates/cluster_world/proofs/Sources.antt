@@ -28,7 +28,7 @@ use Rattle.paxos_proposer.specs.Proposer.{slot_end, new_ballot, step_down, nacke
 use Rattle.paxos_proposer.specs.Reports.{is_counted, reports, best, past_reports, entry_or_noop, called_in, called_for}
 use Rattle.paxos_learner.specs.declared.learned.LearnedEntry.{LearnedEntry}
 use Rattle.paxos_learner.specs.declared.state.LearnerState.{LearnerState}
-use Rattle.paxos_learner.specs.Learner.{is_learned, put_learned, heard_from, learn, hears, has_most, count_vote, run_with, run_from}
+use Rattle.paxos_learner.specs.Learner.{is_learned, put_learned, learn, hears, has_most, count_vote, run_with, run_from}
 use Rattle.replica_machine.specs.Roll.{is_wanted}
 use Rattle.paxos_node.specs.declared.event.Event.{Event}
 use Rattle.paxos_node.specs.declared.event.Event.TheVariants.{Take, Tick, Start, Suspect, Deliver, Crash, Restart}
@@ -121,10 +121,7 @@ module _ {B : Type 0} (G : Entry B → Type 0) where
       (learned_cases (record { slot = slot; entry = e }) l.learned f h))
 
   hears_good : (k : ℕ) (v : Vote B) (l : LearnerState B) → LearnedGood l.learned → LearnedGood (hears k v l).learned
-  hears_good k v l ok =
-      cond_both (heard_from l.heard v.slot v.ballot k) l
-      (record { heard = l.heard ++ record { slot = v.slot; ballot = v.ballot; node = k } ∷ []; learned = l.learned })
-      (λ (y : LearnerState B). LearnedGood y.learned) (λ t. ok) (λ t. ok)
+  hears_good k v l ok = ok
 
   count_good : (members k : ℕ) (v : Vote B) (l : LearnerState B) → LearnedGood l.learned → G v.entry → LearnedGood (count_vote members k v l).learned
   count_good members k v l ok g =

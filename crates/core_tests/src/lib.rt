@@ -10,6 +10,8 @@ mod count;
 #[cfg(test)]
 mod keeper;
 #[cfg(test)]
+mod learner;
+#[cfg(test)]
 mod log;
 #[cfg(test)]
 mod machine;

@@ -3,33 +3,21 @@
 use Rattle.std.specs.Prelude.{ℕ, suc, Bool, true, false, not, ◌&&◌, nat_lt, ◌==◌, Option, Some, None, option_map, List, [], ◌∷◌, ◌++◌}
 use Rattle.std.specs.Prelude.{if◌then◌else◌}
 use Rattle.std.specs.List.{list_any, find}
-use Rattle.paxos_packets.specs.Members.{is_majority}
+use Rattle.paxos_packets.specs.Members.{is_in, is_majority}
 use Rattle.paxos_packets.specs.Entry.{same_entry}
-use Rattle.paxos_packets.specs.declared.ballot.Ballot.{Ballot}
 use Rattle.paxos_packets.specs.declared.entry.Entry.{Entry}
 use Rattle.paxos_packets.specs.declared.vote.Vote.{Vote}
 use Rattle.paxos_learner.specs.declared.learned.LearnedEntry.{LearnedEntry}
-use Rattle.paxos_learner.specs.declared.hearings.Hearing.{Hearing}
+use Rattle.paxos_learner.specs.Tallies.{place_of, nodes_heard, hear}
 use Rattle.paxos_learner.specs.declared.state.LearnerState.{LearnerState}
 
 -- a learner that has just begun
 abbrev pub unheard : {B : Type 0} → LearnerState B
 unheard = record { heard = []; learned = [] }
 
--- votes that were heard
-
-abbrev pub is_hearing : ℕ → Ballot → ℕ → Hearing → Bool
-is_hearing slot ballot node h =
-    (h.slot == slot) && ((h.ballot.round == ballot.round) && ((h.ballot.node == ballot.node) && (h.node == node)))
-
--- a vote of this node in this ballot and slot was heard
-abbrev pub heard_from : List Hearing → ℕ → Ballot → ℕ → Bool
-heard_from heard slot ballot node = list_any (is_hearing slot ballot node) heard
-
+-- a vote of this node was heard
 abbrev pub hears : {B : Type 0} → ℕ → Vote B → LearnerState B → LearnerState B
-hears node v l =
-    if heard_from l.heard v.slot v.ballot node then l
-    else record { heard = l.heard ++ record { slot = v.slot; ballot = v.ballot; node = node } ∷ []; learned = l.learned }
+hears node v l = record { heard = hear node (place_of v) l.heard; learned = l.learned }
 
 -- entries that were learned
 
@@ -50,6 +38,11 @@ learn slot entry l =
     if is_learned slot l.learned then l
     else record { heard = l.heard; learned = put_learned (record { slot = slot; entry = entry }) l.learned }
 
+-- the same, of the learned entries alone
+abbrev pub learn_among : {B : Type 0} → ℕ → Entry B → List (LearnedEntry B) → List (LearnedEntry B)
+learn_among slot entry learned =
+    if is_learned slot learned then learned else put_learned (record { slot = slot; entry = entry }) learned
+
 -- it is another entry than the one that was learned there
 abbrev pub is_other : {B : Type 0} → (B → B → Bool) → Entry B → Option (Entry B) → Bool
 is_other same entry None = false
@@ -62,7 +55,7 @@ disagrees same slot entry l = is_other same entry (learned_at slot l.learned)
 
 -- a majority is heard to have cast this vote
 abbrev pub has_most : {B : Type 0} → ℕ → Vote B → LearnerState B → Bool
-has_most members v l = is_majority members (heard_from l.heard v.slot v.ballot)
+has_most members v l = is_majority members (is_in (nodes_heard (place_of v) l.heard))
 
 abbrev pub learn_chosen : {B : Type 0} → ℕ → Vote B → LearnerState B → LearnerState B
 learn_chosen members v l = if has_most members v l then learn v.slot v.entry l else l
@@ -83,3 +76,18 @@ abbrev pub run_from : {B : Type 0} → ℕ → List (LearnedEntry B) → List (E
 run_from slot [] = []
 run_from slot (l ∷ ls) =
     run_with (l.slot == slot) (nat_lt l.slot slot) l.entry (run_from (if l.slot == slot then suc slot else slot) ls)
+
+-- a learner that knows the members
+
+pub record State (B : Type 0) : Type 0 where
+  pub members : ℕ
+  pub learner : LearnerState B
+
+abbrev pub begun : {B : Type 0} → ℕ → State B
+begun members = record { members = members; learner = unheard }
+
+abbrev pub voted : {B : Type 0} → ℕ → Vote B → State B → State B
+voted node v s = record { members = s.members; learner = count_vote s.members node v s.learner }
+
+abbrev pub told : {B : Type 0} → ℕ → Entry B → State B → State B
+told slot entry s = record { members = s.members; learner = learn slot entry s.learner }

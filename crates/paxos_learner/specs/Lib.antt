@@ -1,1 +1,4 @@
+pub mod Fault
+pub mod Learned
 pub mod Learner
+pub mod Tallies

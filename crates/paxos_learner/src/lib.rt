@@ -2,10 +2,14 @@
 //! 2.3).
 #![tactic(auto)]
 
-mod hearings;
+mod fault;
 mod learned;
+mod learner;
 mod state;
+mod tallies;
 
-pub use hearings::{Hearing, Hearings};
+pub use fault::LearnerFault;
 pub use learned::{LearnedEntries, LearnedEntry};
+pub use learner::Learner;
 pub use state::LearnerState;
+pub use tallies::{Place, Tallies};

@@ -1,9 +1,9 @@
-use crate::hearings::Hearings;
 use crate::learned::LearnedEntries;
+use crate::tallies::Tallies;
 
 /// One member as a learner. It is lost in a crash.
-#[derive(Debug, Drop)]
+#[derive(Drop)]
 pub struct LearnerState<B> {
-    pub heard: Hearings,
+    pub heard: Tallies,
     pub learned: LearnedEntries<B>,
 }

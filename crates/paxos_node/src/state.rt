@@ -3,7 +3,7 @@ use paxos_packets::{Entries, Rows};
 use paxos_proposer::ProposerState;
 
 /// One node, between two events. All but the rows is lost in a crash.
-#[derive(Debug, Drop)]
+#[derive(Drop)]
 pub struct NodeState<B> {
     /// What it has committed.
     pub rows: Rows<B>,

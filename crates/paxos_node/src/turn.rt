@@ -3,7 +3,7 @@ use crate::state::NodeState;
 use paxos_packets::{Change, Entries};
 
 /// What an event makes of a node, so far or at its end.
-#[derive(Debug, Drop)]
+#[derive(Drop)]
 pub struct Turn<B> {
     /// The node.
     pub node: NodeState<B>,

@@ -1,6 +1,6 @@
 -- Members, sets of nodes and majorities (Lamport 2001, section 2.1).
-use Rattle.std.specs.Prelude.{ℕ, zero, suc, ◌+◌, ◌*◌, ◌<◌, ◌≤◌, Bool, false, ◌&&◌, nat_lt, nat_le, ◌==◌}
-use Rattle.std.specs.Prelude.{List, [], ◌∷◌, ◌++◌, slice_index_or, if◌then◌else◌}
+use Rattle.std.specs.Prelude.{ℕ, zero, suc, ◌+◌, ◌*◌, ◌<◌, ◌≤◌, Bool, true, false, ◌&&◌, nat_lt, nat_le, ◌==◌}
+use Rattle.std.specs.Prelude.{List, [], ◌∷◌, ◌++◌, slice_index_or, slice_set, replicate, if◌then◌else◌}
 
 -- how many of the nodes 1 to n the test names
 abbrev pub count_nodes : (ℕ → Bool) → ℕ → ℕ
@@ -25,6 +25,13 @@ abbrev pub others : ℕ → ℕ → List ℕ
 others me zero = []
 others me (suc n) = others me n ++ (if suc n == me then [] else suc n ∷ [])
 
--- a set of nodes, as the list that says of each number from 0 to 7 whether it is in the set: whether the node is in it
+-- a set of nodes, as the list that says of each number from 0 to 7 whether it is in the set: no node, and whether one is in it
+abbrev pub no_nodes : List Bool
+no_nodes = replicate 8 false
+
 abbrev pub is_in : List Bool → ℕ → Bool
 is_in set node = slice_index_or set node false
+
+-- with the node; a number above 7 is that of no node
+abbrev pub set_with : List Bool → ℕ → List Bool
+set_with set node = slice_set set node true

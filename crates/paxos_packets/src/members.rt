@@ -1,6 +1,6 @@
 ghost use Rattle.std.specs.Prelude.{◌≡◌, ℕ, ◌<◌, ◌≤◌, [], ◌∷◌, ◌++◌, length, ◌&&◌, ◌||◌, ◌==◌, ◌↔◌, nat_lt, Bool};
 ghost use Rattle.std.specs.Prelude.{false, IsTrue, IsSome, IfSome};
-ghost use Rattle.paxos_packets.specs.Members.{IsMajority, is_majority, is_member, others, is_in};
+ghost use Rattle.paxos_packets.specs.Members.{IsMajority, is_majority, is_member, others, is_in, no_nodes, set_with};
 
 use arrayvec::ArrayVec;
 use std::marker::Model;
@@ -24,18 +24,31 @@ impl Model for NodeSet {
 impl NodeSet {
     /// The set without any node. Takes no memory.
     pub fn new() -> NodeSet
-        ensures { (node : ℕ) → is_in result node ≡ false }
+        ensures value { result ≡ no_nodes }
+        ensures meaning { (node : ℕ) → is_in result node ≡ false }
     {
         NodeSet { has: [false; 8] }
     }
 
     /// Puts the node into the set; a number above 7 is that of no node, and changes nothing.
     pub fn insert(&mut self, node: u8)
-        ensures { (other : ℕ) → is_in self.new other ≡ (is_in self.old other || ((other == node) && nat_lt other 8)) }
+        ensures value { self.new ≡ set_with self.old node }
+        ensures meaning { (other : ℕ) → is_in self.new other ≡ (is_in self.old other || ((other == node) && nat_lt other 8)) }
     {
         if node < 8 {
             self.has[node as usize] = true;
         }
+    }
+
+    /// The set with the node; a number above 7 is that of no node.
+    pub fn with(self, node: u8) -> NodeSet
+        ensures { result ≡ set_with self node }
+    {
+        let mut has = self.has;
+        if node < 8 {
+            has[node as usize] = true;
+        }
+        NodeSet { has }
     }
 
     /// Whether the node is in the set.
