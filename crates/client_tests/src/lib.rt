@@ -7,6 +7,8 @@ mod frames;
 #[cfg(test)]
 mod ids;
 #[cfg(test)]
+mod listener;
+#[cfg(test)]
 mod messages;
 #[cfg(test)]
 mod pattern_tables;
@@ -14,5 +16,7 @@ mod pattern_tables;
 mod patterns;
 #[cfg(test)]
 mod realm;
+#[cfg(test)]
+mod sessions;
 #[cfg(test)]
 mod values;

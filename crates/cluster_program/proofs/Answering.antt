@@ -10,8 +10,7 @@ use Rattle.wamp_rawsocket.specs.Splitter.{whole, faulty, front_of}
 use Rattle.wamp_rawsocket.proofs.Streams.{whole_leaves_less, frames_at_whole, frames_at_fault, frames_at_end}
 use Rattle.realm_machine.specs.Config.{Config}
 use Rattle.realm_machine.specs.declared.act.Act.TheVariants.{Said, Hung}
-use Rattle.realm_machine.specs.declared.links.Session.{Session}
-use Rattle.realm_machine.specs.Links.{session_of, without_transport}
+use Rattle.realm_sessions.specs.Links.{by_transport, without_transport}
 use Rattle.realm_machine.specs.Content.{Content, quiet, and_then, with_links}
 use Rattle.realm_machine.specs.Leaving.{leave_session}
 use Rattle.realm_machine.specs.Step.{next, says}
@@ -122,14 +121,15 @@ fault_puts (Transport number) (Some held) new config limit c draw onward old mor
     rw same (broken_puts _ onward old (due_at_fault config limit c draw held more t.1.0 t.1.1))
 
 -- a client that hung up is told nothing
-unheard_leaving : (c : Content) (session : Option Session) (limit : ℕ) (after : Run)
-    → told limit (and_then (leave_session c client session) (λ (d : Content). quiet (with_links d (without_transport d.links client)))).says
-    after ≡ after
+unheard_leaving : (c : Content) (session : Option (Option ℕ)) (limit : ℕ) (after : Run)
+    → told limit (and_then (leave_session c client session)
+    (λ (d : Content). quiet (with_links d (without_transport d.sessions.list client)))).says after ≡ after
 unheard_leaving c None limit after = refl
-unheard_leaving c (Some session) limit after = refl
+unheard_leaving c (Some None) limit after = refl
+unheard_leaving c (Some (Some session)) limit after = refl
 
 pub hung_unheard : (config : Config) (c : Content) (limit : ℕ) (after : Run) → told limit (says config c client Hung) after ≡ after
-hung_unheard config c limit after = unheard_leaving c (session_of c.links client) limit after
+hung_unheard config c limit after = unheard_leaving c (by_transport c.sessions.list client) limit after
 
 -- where no whole frame is there, nothing is due
 pub no_frame_due : (held new : Option (List ℕ)) (config : Config) (limit : ℕ) (c : Content) (draw : ℕ)

@@ -28,7 +28,8 @@ use Rattle.cluster_program.proofs.Running.{ended_whole, stops_open, writes_nothi
 
 -- what is due once the transport is connected
 abbrev connected : List ℕ → ℕ → List ℕ → Run
-connected name limit more = answered (config_of name) limit (next (config_of name) empty client Connect) 1 (frames_of more)
+connected name limit more =
+    answered (config_of name) limit (next (config_of name) (empty (config_of name).limits) client Connect) 1 (frames_of more)
 
 first_due : (name : List ℕ) (limit : ℕ) (s : Service) (more : List ℕ) → IsFirst name limit s
     → opened (config_of name) limit more ≡ behind s.replies.octets (due_at s Connect (connected name limit more))
@@ -62,7 +63,7 @@ connected_owed name limit s v progress old new more f p =
 
 connected_idle : (name : List ℕ) (limit : ℕ) → connected name limit [] ≡ ends silent
 connected_idle name limit =
-    let c : Content = next (config_of name) empty client Connect in
+    let c : Content = next (config_of name) (empty (config_of name).limits) client Connect in
     ap (answered (config_of name) limit c 1) (frames_at_end [] refl) ∙ hung_unheard (config_of name) c limit (ends silent)
 
 pub opens_writes : (name : List ℕ) (limit : ℕ) (s v : Service) (progress : Progress) (old new : Option (List ℕ)) → IsFirst name limit s

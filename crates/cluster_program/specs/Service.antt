@@ -16,7 +16,7 @@ use Rattle.cluster_program.specs.Stream.{broken_off, Run, ends, behind, client, 
 
 -- the realm's content; what it was does not matter once the realm failed, since the run ends then
 abbrev pub content_of : Service → Content
-content_of s = unwrap_or s.realm.content empty
+content_of s = unwrap_or s.realm.content (empty s.realm.config.limits)
 
 -- what is due once these octets come, too
 abbrev pub due_of : Config → ℕ → Content → ℕ → Option (List ℕ) → List ℕ → Run
@@ -59,7 +59,7 @@ held_len (Some held) = length held
 -- a service before anything came
 pub record IsFirst (name : List ℕ) (limit : ℕ) (s : Service) : Type 0 where
   pub config : s.realm.config ≡ config_of name
-  pub content : s.realm.content ≡ Some empty
+  pub content : s.realm.content ≡ Some (empty (config_of name).limits)
   pub draw : s.draw ≡ 1
   pub held : s.splitter ≡ Some []
   pub limits : s.replies.limit ≡ limit

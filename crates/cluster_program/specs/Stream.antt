@@ -87,7 +87,8 @@ answered config limit c draw (frame kind.Pong payload others) = answered config 
 -- the transport is open: it is connected to the realm, and then its frames are answered
 abbrev pub opened : Config → ℕ → List ℕ → Run
 opened config limit octets =
-    told limit (says config empty client Connect) (answered config limit (next config empty client Connect) 1 (frames_of octets))
+    told limit (says config (empty config.limits) client Connect)
+    (answered config limit (next config (empty config.limits) client Connect) 1 (frames_of octets))
 
 abbrev pub greeted : Config → Answer → List ℕ → Run
 greeted config (Terms limit answer) octets = behind answer (opened config limit octets)

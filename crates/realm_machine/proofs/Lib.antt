@@ -1,5 +1,2 @@
-pub mod Pairs
-pub mod SoundLinks
 pub mod SoundTopics
 pub mod SoundSteps
-pub mod FreeIds

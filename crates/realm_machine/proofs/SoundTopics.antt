@@ -12,7 +12,7 @@ use Rattle.realm_machine.specs.declared.topics.Subscription.{Subscription}
 use Rattle.realm_machine.specs.Topics.{Topics, no_topics, is_on, has_member, subscription_on, add_member, with_member}
 use Rattle.realm_machine.specs.Topics.{with_subscription, without_member, has_members, without_session}
 use Rattle.realm_machine.specs.Laws.{IsSoundSubscription, AreSoundTopics}
-use Rattle.realm_machine.proofs.Pairs.{AllPairs-nil, AllPairs-map, AllPairs-weaker, All-none, All-both, All-not_found, All-found}
+use Rattle.realm_sessions.proofs.Pairs.{AllPairs-nil, AllPairs-map, AllPairs-weaker, All-none, All-both, All-not_found, All-found}
 
 abbrev Rise : Subscription → Subscription → Type 0
 Rise a b = a.id < b.id

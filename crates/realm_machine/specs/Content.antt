@@ -6,19 +6,22 @@ use Rattle.paxos_packets.specs.declared.transport.Transport.{Transport}
 use Rattle.wamp_messages.specs.declared.message.Message.{Message}
 use Rattle.wamp_messages.specs.declared.message.RequestKind.{RequestKind}
 use Rattle.realm_machine.specs.declared.act.Say.{Say}
-use Rattle.realm_machine.specs.declared.links.Link.{Link}
+use Rattle.realm_sessions.specs.declared.links.Link.{Link}
+use Rattle.realm_sessions.specs.Sessions.{Sessions, with_list}
+use Rattle.realm_machine.specs.declared.config.Limits.{Limits}
 use Rattle.realm_machine.specs.Topics.{Topics, no_topics}
 use Rattle.realm_machine.specs.Sayings.{say, refusal}
 
 pub record Content : Type 0 where
-  pub links : List Link
+  pub sessions : Sessions
   pub topics : Topics
 
-abbrev pub empty : Content
-empty = record { links = []; topics = no_topics }
+-- nothing, under these limits
+abbrev pub empty : Limits → Content
+empty limits = record { sessions = record { limit = limits.sessions; list = [] }; topics = no_topics }
 
 abbrev pub with_links : Content → List Link → Content
-with_links c links = record c { links = links }
+with_links c links = record { sessions = with_list c.sessions links; topics = c.topics }
 
 abbrev pub with_topics : Content → Topics → Content
 with_topics c topics = record c { topics = topics }

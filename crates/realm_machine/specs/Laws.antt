@@ -3,26 +3,17 @@ use Rattle.std.specs.Prelude.{◌≡◌, ◌≢◌, ℕ, ◌<◌, ◌≤◌, ◌
 use Rattle.paxos_packets.specs.declared.transport.Transport.{Transport}
 use Rattle.wamp_ids.specs.Id.{last_id, is_id}
 use Rattle.realm_machine.specs.declared.act.Act.{Act}
-use Rattle.realm_machine.specs.declared.links.Link.{Link}
+use Rattle.realm_sessions.specs.Links.{is_taken, session_count}
+use Rattle.realm_sessions.specs.Sessions.{opened}
+use Rattle.realm_sessions.specs.Laws.{AreSoundLinks}
 use Rattle.realm_machine.specs.declared.topics.Subscription.{Subscription}
 use Rattle.realm_machine.specs.Config.{Config}
-use Rattle.realm_machine.specs.Links.{has_id, is_taken, session_count, new_session_id}
 use Rattle.realm_machine.specs.Topics.{Topics}
 use Rattle.realm_machine.specs.Content.{Content, empty}
-use Rattle.realm_machine.specs.Opening.{open_session, welcome}
+use Rattle.realm_machine.specs.Opening.{open_at, welcomed}
 use Rattle.realm_machine.specs.Step.{next}
 
 -- ---- what every realm keeps
-
--- not the sessions of one id
-abbrev pub AreOtherSessions : Link → Link → Type 0
-AreOtherSessions a b = (id : ℕ) → has_id id a ≡ true → has_id id b ≡ true → ⊥
-
-pub record AreSoundLinks (links : List Link) : Type 0 where
-  -- each transport stands there once
-  pub transports : AllPairs (λ (a b : Link). a.transport ≢ b.transport) links
-  -- no two sessions have one id
-  pub sessions : AllPairs AreOtherSessions links
 
 pub record IsSoundSubscription (subscription : Subscription) : Type 0 where
   -- each member stands in it once
@@ -40,8 +31,10 @@ pub record AreSoundTopics (topics : Topics) : Type 0 where
   pub one_each : AllPairs (λ (a b : Subscription). a.topic ≢ b.topic) topics.list
   pub subscriptions : All IsSoundSubscription topics.list
 
-pub record IsSound (c : Content) : Type 0 where
-  pub links : AreSoundLinks c.links
+pub record IsSound (config : Config) (c : Content) : Type 0 where
+  -- the sessions are held to the limit of the configuration
+  pub limit : c.sessions.limit ≡ config.limits.sessions
+  pub links : AreSoundLinks c.sessions.list
   pub topics : AreSoundTopics c.topics
 
 -- the content after acts at transports
@@ -49,24 +42,20 @@ abbrev pub after : Config → Content → List (Transport × Act) → Content
 after config c acts = fold (λ c act. next config c act.0 act.1) c acts
 
 abbrev pub EmptyIsSound : Type 0
-EmptyIsSound = IsSound empty
+EmptyIsSound = (config : Config) → IsSound config (empty config.limits)
 
 abbrev pub EachActKeepsSound : Type 0
-EachActKeepsSound = (config : Config) (c : Content) (t : Transport) (act : Act) → IsSound c → IsSound (next config c t act)
+EachActKeepsSound = (config : Config) (c : Content) (t : Transport) (act : Act) → IsSound config c → IsSound config (next config c t act)
 
 abbrev pub EveryRealmIsSound : Type 0
-EveryRealmIsSound = (config : Config) (acts : List (Transport × Act)) → IsSound (after config empty acts)
+EveryRealmIsSound = (config : Config) (acts : List (Transport × Act)) → IsSound config (after config (empty config.limits) acts)
 
 -- ---- a session has an id
 
--- a free id is found for a session while fewer than 2^53 are open
-abbrev pub FreeIdIsFound : Type 0
-FreeIdIsFound = (links : List Link) (draw : ℕ) → is_id draw ≡ true → session_count links < last_id
-    → (id : ℕ) × (is_id id ≡ true) × (is_taken links id ≡ false) × (new_session_id links draw ≡ Some id)
-
--- so a HELLO to this realm opens a session with an id of its own while it may have one more: it is never refused for want of an id
+-- a HELLO to this realm opens a session with an id of its own while it may have one more: it is never refused for want of an id
 abbrev pub OpensWhereRoom : Type 0
 OpensWhereRoom = (config : Config) (c : Content) (t : Transport) (draw : ℕ) (canceling : Bool) → is_id draw ≡ true
-    → config.limits.sessions < 2 ^ 32 → session_count c.links < config.limits.sessions
-    → (id : ℕ) × (is_id id ≡ true) × (is_taken c.links id ≡ false)
-    × (open_session config c t draw config.name canceling ≡ welcome c t canceling (Some id))
+    → config.limits.sessions < 2 ^ 32 → c.sessions.limit ≡ config.limits.sessions
+    → session_count c.sessions.list < config.limits.sessions
+    → (id : ℕ) × (is_id id ≡ true) × (is_taken c.sessions.list id ≡ false)
+    × (open_at config c t draw config.name canceling ≡ welcomed c t (opened c.sessions t canceling (Some id)))

@@ -2,23 +2,27 @@
 use Rattle.std.specs.Prelude.{ℕ, List, [], ◌∷◌, Option, None, Some}
 use Rattle.paxos_packets.specs.declared.transport.Transport.{Transport}
 use Rattle.wamp_messages.specs.declared.message.Message.TheVariants.{Goodbye}
-use Rattle.realm_machine.specs.declared.links.Session.{Session}
-use Rattle.realm_machine.specs.Links.{session_of, set_session, without_transport}
+use Rattle.realm_sessions.specs.Links.{by_transport, set_session, without_transport}
+use Rattle.realm_sessions.specs.Sessions.{with_list}
 use Rattle.realm_machine.specs.Topics.{without_session}
 use Rattle.realm_machine.specs.Sayings.{say, shut, abort, protocol_violation, goodbye_and_out}
 use Rattle.realm_machine.specs.Content.{Content, Step, quiet, reply, and_then, with_links}
 
 -- the session leaves what it is subscribed to; its transport stays, without a session
-abbrev pub leave_session : Content → Transport → Option Session → Step
+abbrev pub leave_session : Content → Transport → Option (Option ℕ) → Step
 leave_session c t None = quiet c
-leave_session c t (Some session) = quiet (record c { links = set_session c.links t None; topics = without_session c.topics session.id })
+leave_session c t (Some None) = quiet c
+leave_session c t (Some (Some session)) = quiet (record {
+  sessions = with_list c.sessions (set_session c.sessions.list t None);
+  topics = without_session c.topics session;
+})
 
 abbrev pub leave : Content → Transport → Step
-leave c t = leave_session c t (session_of c.links t)
+leave c t = leave_session c t (by_transport c.sessions.list t)
 
 -- the transport goes, after its session has left; one that is not connected has none, and nothing changes
 abbrev pub remove : Content → Transport → Step
-remove c t = and_then (leave c t) (λ d. quiet (with_links d (without_transport d.links t)))
+remove c t = and_then (leave c t) (λ d. quiet (with_links d (without_transport d.sessions.list t)))
 
 -- the transport is sent why, and closed
 abbrev pub stop : Content → Transport → List ℕ → Step

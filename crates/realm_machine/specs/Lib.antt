@@ -1,4 +1,3 @@
-pub mod Links
 pub mod Topics
 pub mod Sayings
 pub mod Config

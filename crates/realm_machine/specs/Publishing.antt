@@ -6,7 +6,7 @@ use Rattle.wamp_values.specs.declared.args.Args.{Args}
 use Rattle.wamp_messages.specs.declared.message.RequestKind.TheVariants as kind
 use Rattle.wamp_messages.specs.declared.message.Message.TheVariants.{Published, Event}
 use Rattle.realm_machine.specs.declared.act.Say.{Say}
-use Rattle.realm_machine.specs.declared.links.Link.{Link}
+use Rattle.realm_sessions.specs.declared.links.Link.{Link}
 use Rattle.realm_machine.specs.declared.requester.Requester.{Requester}
 use Rattle.realm_machine.specs.declared.topics.Subscription.{Subscription}
 use Rattle.realm_machine.specs.Topics.{is_uri, is_on}
@@ -29,7 +29,7 @@ events_of links topic publication args except subscription =
 
 -- the events of a publication: subscriptions by ascending id
 abbrev pub events : Content → List ℕ → ℕ → Args → Option ℕ → List Say
-events c topic publication args except = flat_map (events_of c.links topic publication args except) c.topics.list
+events c topic publication args except = flat_map (events_of c.sessions.list topic publication args except) c.topics.list
 
 -- a topic that clients may publish to: a URI that is not the router's own
 abbrev pub is_open_topic : List ℕ → Bool

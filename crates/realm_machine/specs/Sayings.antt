@@ -7,8 +7,8 @@ use Rattle.wamp_messages.specs.declared.message.Message.{Message}
 use Rattle.wamp_messages.specs.declared.message.Message.TheVariants.{Abort, Error}
 use Rattle.realm_machine.specs.declared.act.Out.TheVariants.{Send, Close}
 use Rattle.realm_machine.specs.declared.act.Say.{Say}
-use Rattle.realm_machine.specs.declared.links.Link.{Link}
-use Rattle.realm_machine.specs.Links.{transport_of}
+use Rattle.realm_sessions.specs.declared.links.Link.{Link}
+use Rattle.realm_sessions.specs.Links.{transport_of}
 
 abbrev pub say : Transport → Message → Say
 say t message = record { transport = t; out = Send message }

@@ -1,5 +1,5 @@
 -- What each act does, by what the client sends: one case for each row of the realm's table (docs/PROTOCOL.md, "The realm").
-use Rattle.std.specs.Prelude.{ℕ, Bool, List, Option, None, Some, find, if◌then◌else◌}
+use Rattle.std.specs.Prelude.{ℕ, Bool, List, Option, None, Some, if◌then◌else◌}
 use Rattle.paxos_packets.specs.declared.transport.Transport.{Transport}
 use Rattle.wamp_messages.specs.declared.message.RequestKind.{RequestKind}
 use Rattle.wamp_messages.specs.declared.message.RequestKind.TheVariants as kind
@@ -13,15 +13,13 @@ use Rattle.wamp_messages.specs.declared.read_result.Read.TheVariants.{Good, Unfi
 use Rattle.realm_machine.specs.declared.act.Act.{Act}
 use Rattle.realm_machine.specs.declared.act.Act.TheVariants.{Connect, Said, Hung}
 use Rattle.realm_machine.specs.declared.act.Say.{Say}
-use Rattle.realm_machine.specs.declared.links.Session.{Session}
-use Rattle.realm_machine.specs.declared.links.Link.{Link}
 use Rattle.realm_machine.specs.declared.requester.Requester.{Requester}
 use Rattle.realm_machine.specs.Config.{Config}
-use Rattle.realm_machine.specs.Links.{is_of, connect}
+use Rattle.realm_sessions.specs.Links.{by_transport, connect}
 use Rattle.realm_machine.specs.Sayings.{invalid_argument}
 use Rattle.realm_machine.specs.Content.{Content, Step, quiet, refuse, with_links}
 use Rattle.realm_machine.specs.Leaving.{remove, violation, aborted, goodbye}
-use Rattle.realm_machine.specs.Opening.{open_session}
+use Rattle.realm_machine.specs.Opening.{open_at}
 use Rattle.realm_machine.specs.Subscribing.{subscribe}
 use Rattle.realm_machine.specs.Publishing.{publish}
 
@@ -56,31 +54,31 @@ on_request config c requester (Event subscription publication topic args) = viol
 
 -- a client without a session: whatever it sends but HELLO and ABORT breaks the protocol
 abbrev pub on_opening : Config → Content → Transport → ℕ → Message → Step
-on_opening config c t draw (Hello realm canceling) = open_session config c t draw realm canceling
+on_opening config c t draw (Hello realm canceling) = open_at config c t draw realm canceling
 on_opening config c t draw (Abort reason args) = aborted c t
 on_opening config c t draw message = violation c t
 
-abbrev pub on_message : Config → Content → Transport → Option Session → ℕ → Message → Step
+abbrev pub on_message : Config → Content → Transport → Option ℕ → ℕ → Message → Step
 on_message config c t None draw message = on_opening config c t draw message
 on_message config c t (Some session) draw message =
-    on_request config c (record { transport = t; session = session.id; draw = draw }) message
+    on_request config c (record { transport = t; session = session; draw = draw }) message
 
-abbrev pub on_read : Config → Content → Transport → Option Session → ℕ → Read → Step
+abbrev pub on_read : Config → Content → Transport → Option ℕ → ℕ → Read → Step
 on_read config c t session draw (Good message) = on_message config c t session draw message
 on_read config c t None draw (Unfit kind request is_quiet) = violation c t
 on_read config c t (Some session) draw (Unfit kind request is_quiet) = on_unfit c t kind request is_quiet
 on_read config c t session draw (Bad fault) = violation c t
 
--- at a transport that has this link, or that is not connected
-abbrev pub on_link : Config → Content → Transport → ℕ → Read → Option Link → Step
-on_link config c t draw read None = quiet c
-on_link config c t draw read (Some link) = on_read config c t link.session draw read
+-- at a transport that is connected, with a session or without one, or that is not connected
+abbrev pub on_transport : Config → Content → Transport → ℕ → Read → Option (Option ℕ) → Step
+on_transport config c t draw read None = quiet c
+on_transport config c t draw read (Some session) = on_read config c t session draw read
 
 -- ---- acts
 
 abbrev pub on_act : Config → Content → Transport → Act → Step
-on_act config c t Connect = quiet (with_links c (connect c.links t))
-on_act config c t (Said draw read) = on_link config c t draw read (find (is_of t) c.links)
+on_act config c t Connect = quiet (with_links c (connect c.sessions.list t))
+on_act config c t (Said draw read) = on_transport config c t draw read (by_transport c.sessions.list t)
 on_act config c t Hung = remove c t
 
 -- the content after an act at a transport, and what is said

@@ -2,11 +2,12 @@ ghost use Rattle.std.specs.Prelude.{◌≡◌};
 ghost use Rattle.realm_machine.specs.Content.{Does, empty, reply, refuse};
 
 use crate::act::Say;
-use crate::links::Links;
+use crate::config::Limits;
 use crate::memory::Memory;
 use crate::sayings::refusal;
 use crate::topics::Topics;
 use paxos_packets::Transport;
+use realm_sessions::Sessions;
 use std::alloc::Global;
 use std::marker::Model;
 use wamp_ids::Id;
@@ -17,7 +18,7 @@ use wamp_messages::{Message, RequestKind};
 #[derive(Drop)]
 pub struct Content {
     pub alloc: Global,
-    pub links: Links,
+    pub sessions: Sessions,
     pub topics: Topics,
 }
 
@@ -26,17 +27,17 @@ impl Model for Content {
 
     ghost Value = { Content };
 
-    ghost view = { λ a. record { links = a.links; topics = a.topics } };
+    ghost view = { λ a. record { sessions = a.sessions; topics = a.topics } };
 }
 
 impl Content {
-    // No transport and no subscription.
-    pub fn new(alloc: Global) -> Content
-        ensures { result ≡ empty }
+    // No transport and no subscription, under these limits.
+    pub fn new(alloc: Global, limits: Limits) -> Content
+        ensures { result ≡ empty limits }
     {
         Content {
             alloc,
-            links: Links::new(alloc),
+            sessions: Sessions::new(alloc, limits.sessions),
             topics: Topics::new(alloc),
         }
     }

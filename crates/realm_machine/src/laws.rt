@@ -1,5 +1,5 @@
 //! Laws of the realm's step, each the contract of a function that does nothing.
-ghost use Rattle.realm_machine.specs.Laws.{EmptyIsSound, EachActKeepsSound, EveryRealmIsSound, FreeIdIsFound, OpensWhereRoom};
+ghost use Rattle.realm_machine.specs.Laws.{EmptyIsSound, EachActKeepsSound, EveryRealmIsSound, OpensWhereRoom};
 
 /// What every realm keeps, whatever acts come to it: each transport is connected once, no two sessions have one id, the ids
 /// of subscriptions rise and none is above the last one that was handed out, each topic has one subscription, and each
@@ -10,9 +10,8 @@ pub fn realms_are_sound()
     ensures all_acts { EveryRealmIsSound }
 {}
 
-/// While fewer than 2^53 sessions are open, the search for a new session's id ends at one that no session has; so a HELLO is
-/// never refused for want of an id. Takes no memory.
+/// While a realm may have one session more, the search for its id ends at one that no session has; so a HELLO is never refused
+/// for want of an id. Takes no memory.
 pub fn session_ids_are_found()
-    ensures found { FreeIdIsFound }
-    ensures opens { OpensWhereRoom }
+    ensures { OpensWhereRoom }
 {}

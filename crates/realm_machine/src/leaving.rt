@@ -15,9 +15,9 @@ impl Content {
     pub fn leave(&mut self, transport: Transport) -> Result<Vec<Say>, Memory>
         ensures { Does result self.new (leave self.old transport) }
     {
-        if let Some(session) = self.links.session_of(transport) {
-            self.links.set_session(transport, None);
-            self.topics.leave(session.id);
+        if let Some(Some(session)) = self.sessions.by_transport(transport) {
+            self.sessions.close(transport);
+            self.topics.leave(session);
         }
         Ok(Vec::new(self.alloc))
     }
@@ -27,7 +27,7 @@ impl Content {
         ensures { Does result self.new (remove self.old transport) }
     {
         let says = self.leave(transport)?;
-        self.links.remove(transport);
+        self.sessions.remove(transport);
         Ok(says)
     }
 

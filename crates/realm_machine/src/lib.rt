@@ -8,7 +8,6 @@ mod config;
 mod content;
 pub mod laws;
 mod leaving;
-mod links;
 mod memory;
 mod opening;
 mod publishing;

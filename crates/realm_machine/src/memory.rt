@@ -1,3 +1,4 @@
+use realm_sessions::RealmFault;
 use std::alloc::{AllocError, AllocFailed};
 
 // No memory was left: the realm fails for it.
@@ -24,6 +25,13 @@ impl From<wamp_ids::Memory> for Memory {
 
 impl From<wamp_values::Memory> for Memory {
     fn from(_error: wamp_values::Memory) -> Memory {
+        Memory
+    }
+}
+
+// What of a part's faults reaches this: want of memory alone.
+impl From<RealmFault> for Memory {
+    fn from(_error: RealmFault) -> Memory {
         Memory
     }
 }

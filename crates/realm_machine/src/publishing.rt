@@ -6,11 +6,11 @@ ghost use Rattle.realm_machine.specs.Publishing.{is_open_topic, is_receiver, pub
 
 use crate::act::Say;
 use crate::content::Content;
-use crate::links::Links;
 use crate::memory::Memory;
 use crate::requester::Requester;
 use crate::sayings::INVALID_URI;
 use crate::topics::Subscription;
+use realm_sessions::Sessions;
 use wamp_ids::{Id, Text, Uri};
 use wamp_messages::{Message, RequestKind};
 use wamp_values::Args;
@@ -74,7 +74,14 @@ impl Content {
     {
         for subscription in self.topics.as_slice() {
             if subscription.is_on(topic) {
-                add_events_of(&self.links, says, subscription, publication, args, except)?;
+                add_events_of(
+                    &self.sessions,
+                    says,
+                    subscription,
+                    publication,
+                    args,
+                    except,
+                )?;
             }
         }
         Ok(())
@@ -83,7 +90,7 @@ impl Content {
 
 // The events for the members of one subscription.
 fn add_events_of(
-    links: &Links,
+    sessions: &Sessions,
     says: &mut Vec<Say>,
     subscription: &Subscription,
     publication: Id,
@@ -91,12 +98,12 @@ fn add_events_of(
     except: &Option<Id>,
 ) -> Result<(), Memory>
     ensures { OnOk result (says.new.items
-        ≡ says.old.items ++ flat_map (event_to links.now publication args.now except.now
+        ≡ says.old.items ++ flat_map (event_to sessions.now.list publication args.now except.now
         subscription.now.id) subscription.now.members) }
 {
     for member in subscription.members.as_slice() {
         add_event(
-            links,
+            sessions,
             says,
             subscription.id,
             *member,
@@ -110,7 +117,7 @@ fn add_events_of(
 
 // The event for one member, unless it is left out.
 fn add_event(
-    links: &Links,
+    sessions: &Sessions,
     says: &mut Vec<Say>,
     subscription: Id,
     member: Id,
@@ -119,12 +126,12 @@ fn add_event(
     except: &Option<Id>,
 ) -> Result<(), Memory>
     ensures { OnOk result (says.new.items
-        ≡ says.old.items ++ event_to links.now publication args.now except.now subscription member) }
+        ≡ says.old.items ++ event_to sessions.now.list publication args.now except.now subscription member) }
 {
     if !is_for(except, member) {
         return Ok(());
     }
-    if let Some(transport) = links.transport_of(member) {
+    if let Some(transport) = sessions.by_id(member) {
         let args = args.copy()?;
         says.push(Say::send(
             transport,

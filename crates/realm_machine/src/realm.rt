@@ -31,14 +31,14 @@ impl Realm {
     /// A realm of this name, with no transport. Takes no memory.
     pub fn new(alloc: Global, name: String, limits: Limits) -> Realm
         ensures config { result.config ≡ record { name = string_bytes name; limits = limits } }
-        ensures content { result.content ≡ Some empty }
+        ensures content { result.content ≡ Some (empty limits) }
     {
         Realm {
             config: Config {
                 name: Text::from(name),
                 limits,
             },
-            content: Some(Content::new(alloc)),
+            content: Some(Content::new(alloc, limits)),
         }
     }
 

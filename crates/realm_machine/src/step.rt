@@ -1,12 +1,12 @@
 // What an act does, by what the client sends.
-ghost use Rattle.std.specs.Prelude.{◌≡◌, Some};
+ghost use Rattle.std.specs.Prelude.{◌≡◌, Some, None};
+ghost use Rattle.realm_sessions.specs.Links.{by_transport};
 ghost use Rattle.realm_machine.specs.Content.{Does};
 ghost use Rattle.realm_machine.specs.Step.{refuse_unfit, on_unfit, on_error, on_request, on_opening, on_message, on_read, on_act};
 
 use crate::act::{Act, Say};
 use crate::config::Config;
 use crate::content::Content;
-use crate::links::Session;
 use crate::memory::Memory;
 use crate::requester::Requester;
 use crate::sayings::INVALID_ARGUMENT;
@@ -26,14 +26,13 @@ impl Content {
     {
         match act {
             Act::Connect => {
-                self.links.connect(transport)?;
+                self.sessions.connect(transport)?;
                 Ok(Vec::new(self.alloc))
             }
             Act::Said { draw, read } => {
-                let Some(link) = self.links.link_of(transport) else {
+                let Some(session) = self.sessions.by_transport(transport) else {
                     return Ok(Vec::new(self.alloc));
                 };
-                let session = link.session;
                 self.on_read(config, transport, session, *draw, read)
             }
             Act::Hung => self.remove(transport),
@@ -44,10 +43,11 @@ impl Content {
         &mut self,
         config: &Config,
         transport: Transport,
-        session: Option<Session>,
+        session: Option<Id>,
         draw: Id,
         read: &Read,
     ) -> Result<Vec<Say>, Memory>
+        requires { by_transport self.old.sessions.list transport ≡ Some session }
         ensures { Does result self.new (on_read config.now self.old transport session draw read.now) }
     {
         match read {
@@ -109,10 +109,11 @@ impl Content {
         &mut self,
         config: &Config,
         transport: Transport,
-        session: Option<Session>,
+        session: Option<Id>,
         draw: Id,
         message: &Message,
     ) -> Result<Vec<Say>, Memory>
+        requires { by_transport self.old.sessions.list transport ≡ Some session }
         ensures { Does result self.new (on_message config.now self.old transport session draw
             message.now) }
     {
@@ -120,7 +121,7 @@ impl Content {
             Some(session) => {
                 let requester = Requester {
                     transport,
-                    session: session.id,
+                    session,
                     draw,
                 };
                 self.on_request(config, requester, message)
@@ -137,11 +138,12 @@ impl Content {
         draw: Id,
         message: &Message,
     ) -> Result<Vec<Say>, Memory>
+        requires { by_transport self.old.sessions.list transport ≡ Some None }
         ensures { Does result self.new (on_opening config.now self.old transport draw message.now) }
     {
         match message {
             Message::Hello { realm, canceling } => {
-                self.open_session(config, transport, draw, realm, *canceling)
+                self.open_at(config, transport, draw, realm, *canceling)
             }
             Message::Abort { .. } => self.aborted(transport),
             _ => self.violation(transport),

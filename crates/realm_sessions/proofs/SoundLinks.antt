@@ -7,13 +7,13 @@ use Rattle.std.proofs.lemmas.List.Elements.{All-weaker}
 use Rattle.std.proofs.lemmas.List.Kept.{AllPairs-filter}
 use Rattle.std.proofs.lemmas.List.Quantifiers.{all_pairs_push}
 use Rattle.paxos_packets.specs.declared.transport.Transport.{Transport}
-use Rattle.realm_machine.specs.declared.links.Session.{Session}
-use Rattle.realm_machine.specs.declared.links.Link.{Link}
+use Rattle.realm_sessions.specs.declared.links.Session.{Session}
+use Rattle.realm_sessions.specs.declared.links.Link.{Link}
 use Rattle.paxos_packets.specs.Transport.{same_transport}
-use Rattle.realm_machine.specs.Links.{is_of, is_session, has_id, is_taken, is_connected, connect, put_session}
-use Rattle.realm_machine.specs.Links.{set_session, without_transport}
-use Rattle.realm_machine.specs.Laws.{AreOtherSessions, AreSoundLinks}
-use Rattle.realm_machine.proofs.Pairs.{AllPairs-nil, AllPairs-map, All-none}
+use Rattle.realm_sessions.specs.Links.{is_of, is_session, has_id, is_taken, is_connected, connect, put_session}
+use Rattle.realm_sessions.specs.Links.{set_session, without_transport}
+use Rattle.realm_sessions.specs.Laws.{AreOtherSessions, AreSoundLinks}
+use Rattle.realm_sessions.proofs.Pairs.{AllPairs-nil, AllPairs-map, All-none}
 
 pub same_is : (a b : Transport) → same_transport a b ≡ true → a ≡ b
 same_is a b h =

@@ -1,12 +1,12 @@
 -- Connected transports in the order in which they came, and their sessions (WAMP specification, "Sessions").
 use Rattle.std.specs.Prelude.{ℕ, zero, suc, ◌==◌, Bool, true, false, not, List, [], ◌∷◌, ◌++◌, length, map, filter, find, Option}
-use Rattle.std.specs.Prelude.{None, Some, option_map, option_and_then, if◌then◌else◌}
+use Rattle.std.specs.Prelude.{None, Some, option_map, if◌then◌else◌}
 use Rattle.std.specs.List.{list_any}
 use Rattle.wamp_ids.specs.Id.{id_after}
 use Rattle.paxos_packets.specs.declared.transport.Transport.{Transport}
 use Rattle.paxos_packets.specs.Transport.{same_transport}
-use Rattle.realm_machine.specs.declared.links.Session.{Session}
-use Rattle.realm_machine.specs.declared.links.Link.{Link}
+use Rattle.realm_sessions.specs.declared.links.Session.{Session}
+use Rattle.realm_sessions.specs.declared.links.Link.{Link}
 
 -- the link of this transport
 abbrev pub is_of : Transport → Link → Bool
@@ -30,13 +30,33 @@ has_session link = is_open link.session
 abbrev pub is_connected : List Link → Transport → Bool
 is_connected links t = list_any (is_of t) links
 
--- the transport's session, if it has one
-abbrev pub session_of : List Link → Transport → Option Session
-session_of links t = option_and_then (λ (link : Link). link.session) (find (is_of t) links)
+-- the id of a link's session
+abbrev pub id_of : Link → Option ℕ
+id_of link = option_map (λ (session : Session). session.id) link.session
+
+-- the id of the transport's session, none where it is connected without one
+abbrev pub by_transport : List Link → Transport → Option (Option ℕ)
+by_transport links t = option_map id_of (find (is_of t) links)
 
 -- where a session's transport is
 abbrev pub transport_of : List Link → ℕ → Option Transport
 transport_of links id = option_map (λ (link : Link). link.transport) (find (has_id id) links)
+
+abbrev pub is_canceling : Option Session → Bool
+is_canceling None = false
+is_canceling (Some session) = session.canceling
+
+abbrev pub found_canceling : Option Link → Bool
+found_canceling None = false
+found_canceling (Some link) = is_canceling link.session
+
+-- the session announced call canceling
+abbrev pub announces : List Link → ℕ → Bool
+announces links id = found_canceling (find (has_id id) links)
+
+-- the transports that a node took
+abbrev pub of_origin : List Link → ℕ → List Transport
+of_origin links node = map (λ (link : Link). link.transport) (filter (λ (link : Link). link.transport.node == node) links)
 
 abbrev pub is_taken : List Link → ℕ → Bool
 is_taken links id = list_any (has_id id) links

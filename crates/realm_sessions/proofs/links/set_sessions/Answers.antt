@@ -1,6 +1,6 @@
 use Rattle.std.proofs.lemmas.List.Edits.{map_over_more}
-use Rattle.realm_machine.specs.Links.{put_session}
-use Rattle.realm_machine.proofs.links.set_sessions.Goals as goal
+use Rattle.realm_sessions.specs.Links.{put_session}
+use Rattle.realm_sessions.proofs.links.set_sessions.Goals as goal
 
 pub loop-place-preserved : goal.loop-place-preserved
 loop-place-preserved c =

@@ -1,6 +1,6 @@
 use Rattle.std.proofs.Common.{◌≡◌, ◌++◌, map, take, drop}
-use Rattle.realm_machine.specs.Links.{put_session}
-use Rattle.realm_machine.proofs.links.set_sessions.Given as goal
+use Rattle.realm_sessions.specs.Links.{put_session}
+use Rattle.realm_sessions.proofs.links.set_sessions.Given as goal
 
 -- the elements before the place are changed, the others are not
 abbrev pub invariant-loop-place : goal.invariant-loop-place

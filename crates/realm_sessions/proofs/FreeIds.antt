@@ -1,19 +1,18 @@
 -- A free id is found among as many ids as there are links and one more: so many ids in a row differ, and each session takes one of them.
-use Rattle.std.proofs.Common.{◌≡◌, ℕ, zero, suc, ◌+◌, ◌<◌, ◌≤◌, ◌==◌, Bool, true, false, not, ◌||◌, nat_lt, nat_le, List, [], ◌∷◌}
-use Rattle.std.proofs.Common.{length, filter, Option, None, Some, bytes_eq, refl, sym, ap, subst, ◌∙◌, ◌⊎◌, ⊎_elim, inl, inr, arith}
-use Rattle.std.proofs.Common.{if◌then◌else◌}
+use Rattle.std.proofs.Common.{◌≡◌, ℕ, zero, suc, ◌+◌, ◌<◌, ◌≤◌, ◌==◌, Bool, true, false, ◌||◌, nat_lt, nat_le, List, [], ◌∷◌}
+use Rattle.std.proofs.Common.{length, filter, Option, None, Some, Result, Ok, Err, refl, sym, ap, subst, ◌∙◌, ◌⊎◌, ⊎_elim, inl, inr, arith}
 use Rattle.std.proofs.lemmas.Bool.{cond_both, cond-true, cond-false, cases_lt, lt-ltb, le-ltb, le-leb, leb-true, eqb-true, and_parts}
-use Rattle.std.proofs.lemmas.Bool.{and_from, false_from_ne_true, not_from_true}
-use Rattle.std.proofs.lemmas.Slice.Eq.{bytes_eq-Decides}
+use Rattle.std.proofs.lemmas.Bool.{and_from, false_from_ne_true}
 use Rattle.wamp_ids.specs.Id.{last_id, is_id, id_after}
-use Rattle.realm_machine.specs.declared.links.Session.{Session}
-use Rattle.realm_machine.specs.declared.links.Link.{Link}
-use Rattle.realm_machine.specs.Links.{is_session, is_open, has_id, has_session, is_taken, free_from, new_session_id, session_count}
-use Rattle.realm_machine.specs.Sayings.{limit, no_such_realm}
-use Rattle.realm_machine.specs.Leaving.{stop}
-use Rattle.realm_machine.specs.Opening.{welcome}
-use Rattle.realm_machine.specs.Laws.{FreeIdIsFound, OpensWhereRoom}
-use Rattle.realm_machine.proofs.SoundSteps.{found_free}
+use Rattle.realm_sessions.specs.declared.links.Session.{Session}
+use Rattle.realm_sessions.specs.declared.links.Link.{Link}
+use Rattle.realm_sessions.specs.Links.{is_session, is_open, has_id, has_session, is_taken, free_from, new_session_id, session_count}
+use Rattle.realm_sessions.specs.Sessions.{Sessions, Opened, opened, open_session}
+use Rattle.realm_sessions.specs.Laws.{AreSoundLinks, OpenKeepsSound, FreeIdIsFound, OpensWhereRoom, LimitWhereFull}
+use Rattle.realm_sessions.specs.declared.fault.RealmFault.{RealmFault}
+use Rattle.realm_sessions.specs.declared.fault.RealmFault.TheVariants.{Limit}
+use Rattle.paxos_packets.specs.declared.transport.Transport.{Transport}
+use Rattle.realm_sessions.proofs.SoundLinks.{opened_sound}
 
 -- ---- counting
 
@@ -206,6 +205,19 @@ not_crowded links draw low high few none =
     (λ fits. omega (arith, full (suc (length links)) (omega arith) fits, few_sessions links))
     (cases_lt last_id (suc (length links)))
 
+some_is : {x y : ℕ} → Some x ≡ Some y → x ≡ y
+some_is h = cc
+
+-- the id that is found is free
+found_free : (turns : ℕ) (used : ℕ → Bool) (from id : ℕ) → free_from turns used from ≡ Some id → used id ≡ false
+found_free zero used from id h = absurd (none h)
+  where
+    none : None ≡ Some id → ⊥
+    none p = cc
+found_free (suc turns) used from id h =
+    cond_both (used from) (free_from turns used (id_after from)) (Some from) (λ (o : Option ℕ). o ≡ Some id → used id ≡ false)
+    (λ _ later. found_free turns used (id_after from) id later) (λ free here. ap used (sym (some_is here)) ∙ free) h
+
 pub free_id_found : FreeIdIsFound
 free_id_found links draw ok few = found (new_session_id links draw) refl
   where
@@ -218,18 +230,51 @@ free_id_found links draw ok few = found (new_session_id links draw) refl
         let turns = suc (length links) in
         (id, found_is_id turns (is_taken links) draw id ok e, found_free turns (is_taken links) draw id e, e)
 
+abbrev full : Sessions → Opened
+full sessions = record { sessions = sessions; answer = Err Limit }
+
 pub open_where_room : OpensWhereRoom
-open_where_room config c t draw canceling ok few room =
-    let found = free_id_found c.links draw ok (omega arith) in
-    let id = new_session_id c.links draw in
-    let named : not (bytes_eq config.name config.name) ≡ false =
-    not_from_true (bytes_eq config.name config.name) ((bytes_eq-Decides config.name config.name).1 refl) in
-    let inner = if nat_lt (session_count c.links) config.limits.sessions then welcome c t canceling id else stop c t limit in (
+open_where_room sessions t draw canceling ok few room =
+    let found = free_id_found sessions.list draw ok (omega arith) in
+    let id = new_session_id sessions.list draw in (
       found.0,
       found.1,
       found.2,
-      cond-false (not (bytes_eq config.name config.name)) (stop c t no_such_realm) inner named
-          ∙ (cond-true (nat_lt (session_count c.links) config.limits.sessions) (welcome c t canceling id) (stop c t limit)
-          (lt-ltb (session_count c.links) config.limits.sessions room)
-          ∙ ap (welcome c t canceling) found.3),
+      cond-true (nat_lt (session_count sessions.list) sessions.limit) (opened sessions t canceling id) (full sessions)
+          (lt-ltb (session_count sessions.list) sessions.limit room)
+          ∙ ap (opened sessions t canceling) found.3,
     )
+
+is_not_limit : (answer : Result ℕ RealmFault) (id : ℕ) → answer ≡ Ok id → answer ≡ Err Limit → ⊥
+is_not_limit answer id is refused = cc
+
+pub limit_where_full : LimitWhereFull
+limit_where_full sessions t draw canceling ok few = (
+  λ refused. ⊎_elim
+      (λ room. let found = open_where_room sessions t draw canceling ok few room in
+      absurd (is_not_limit (open_session sessions t draw canceling).answer found.0 (ap (λ (o : Opened). o.answer) found.3) refused))
+      (λ high. high)
+      (cases_lt (session_count sessions.list) sessions.limit),
+  λ high. ap (λ (o : Opened). o.answer)
+      (cond-false (nat_lt (session_count sessions.list) sessions.limit)
+      (opened sessions t canceling (new_session_id sessions.list draw)) (full sessions)
+      (le-ltb (session_count sessions.list) sessions.limit high)),
+)
+
+-- ---- opening keeps what is sound
+
+opened_with : (sessions : Sessions) (t : Transport) (canceling : Bool) (id : Option ℕ)
+    → ((n : ℕ) → id ≡ Some n → is_taken sessions.list n ≡ false) → AreSoundLinks sessions.list
+    → AreSoundLinks (opened sessions t canceling id).sessions.list
+opened_with sessions t canceling None free ok = ok
+opened_with sessions t canceling (Some id) free ok =
+    opened_sound sessions.list t (record { id = id; canceling = canceling; last_invocation = None }) (free id refl) ok
+
+pub open_sound : OpenKeepsSound
+open_sound sessions t draw canceling ok =
+    let id = new_session_id sessions.list draw in
+    cond_both (nat_lt (session_count sessions.list) sessions.limit) (opened sessions t canceling id) (full sessions)
+    (λ (o : Opened). AreSoundLinks o.sessions.list)
+    (λ _. opened_with sessions t canceling id
+    (λ n h. found_free (suc (length sessions.list)) (is_taken sessions.list) draw n h) ok)
+    (λ _. ok)

@@ -1,0 +1,28 @@
+-- The faults of a realm's parts, and their URIs (WAMP specification, "Predefined URIs"; the limit's is this profile's).
+use Rattle.std.specs.Prelude.{ℕ, List, Option, None, Some, codes}
+use Rattle.realm_sessions.specs.declared.fault.RealmFault.{RealmFault}
+use Rattle.realm_sessions.specs.declared.fault.RealmFault.TheVariants.{InvalidUri, InvalidArgument, Limit, AlreadyExists}
+use Rattle.realm_sessions.specs.declared.fault.RealmFault.TheVariants.{NoSuchRegistration, NoSuchSubscription, NoSuchProcedure}
+use Rattle.realm_sessions.specs.declared.fault.RealmFault.TheVariants.{NotOpen, Memory}
+
+abbrev pub number_of : RealmFault → ℕ
+number_of InvalidUri = 101
+number_of InvalidArgument = 102
+number_of Limit = 103
+number_of AlreadyExists = 104
+number_of NoSuchRegistration = 105
+number_of NoSuchSubscription = 106
+number_of NoSuchProcedure = 107
+number_of NotOpen = 108
+number_of Memory = 109
+
+abbrev pub uri_of : RealmFault → Option (List ℕ)
+uri_of InvalidUri = Some (codes "wamp.error.invalid_uri")
+uri_of InvalidArgument = Some (codes "wamp.error.invalid_argument")
+uri_of Limit = Some (codes "cluster.error.limit")
+uri_of AlreadyExists = Some (codes "wamp.error.procedure_already_exists")
+uri_of NoSuchRegistration = Some (codes "wamp.error.no_such_registration")
+uri_of NoSuchSubscription = Some (codes "wamp.error.no_such_subscription")
+uri_of NoSuchProcedure = Some (codes "wamp.error.no_such_procedure")
+uri_of NotOpen = None
+uri_of Memory = None

@@ -1,0 +1,55 @@
+-- Laws of sessions: what each change keeps, and that a new session has an id.
+use Rattle.std.specs.Prelude.{◌≡◌, ◌≢◌, ℕ, ◌<◌, ◌≤◌, ◌^◌, ◌↔◌, Bool, true, false, List, [], AllPairs, None, Some}
+use Rattle.std.specs.Prelude.{Err}
+use Rattle.paxos_packets.specs.declared.transport.Transport.{Transport}
+use Rattle.wamp_ids.specs.Id.{last_id, is_id}
+use Rattle.realm_sessions.specs.declared.fault.RealmFault.TheVariants.{Limit}
+use Rattle.realm_sessions.specs.declared.links.Link.{Link}
+use Rattle.realm_sessions.specs.Links.{has_id, is_taken, session_count, new_session_id, connect, set_session, without_transport}
+use Rattle.realm_sessions.specs.Sessions.{Sessions, open_session, opened}
+
+-- not the sessions of one id
+abbrev pub AreOtherSessions : Link → Link → Type 0
+AreOtherSessions a b = (id : ℕ) → has_id id a ≡ true → has_id id b ≡ true → ⊥
+
+pub record AreSoundLinks (links : List Link) : Type 0 where
+  -- each transport stands there once
+  pub transports : AllPairs (λ (a b : Link). a.transport ≢ b.transport) links
+  -- no two sessions have one id
+  pub sessions : AllPairs AreOtherSessions links
+
+abbrev pub NoneAreSound : Type 0
+NoneAreSound = AreSoundLinks []
+
+abbrev pub ConnectKeepsSound : Type 0
+ConnectKeepsSound = (links : List Link) (t : Transport) → AreSoundLinks links → AreSoundLinks (connect links t)
+
+abbrev pub OpenKeepsSound : Type 0
+OpenKeepsSound = (sessions : Sessions) (t : Transport) (draw : ℕ) (canceling : Bool) → AreSoundLinks sessions.list
+    → AreSoundLinks (open_session sessions t draw canceling).sessions.list
+
+abbrev pub CloseKeepsSound : Type 0
+CloseKeepsSound = (links : List Link) (t : Transport) → AreSoundLinks links → AreSoundLinks (set_session links t None)
+
+abbrev pub RemoveKeepsSound : Type 0
+RemoveKeepsSound = (links : List Link) (t : Transport) → AreSoundLinks links → AreSoundLinks (without_transport links t)
+
+-- ---- a session has an id
+
+-- a free id is found for a session while fewer than 2^53 are open
+abbrev pub FreeIdIsFound : Type 0
+FreeIdIsFound = (links : List Link) (draw : ℕ) → is_id draw ≡ true → session_count links < last_id
+    → (id : ℕ) × (is_id id ≡ true) × (is_taken links id ≡ false) × (new_session_id links draw ≡ Some id)
+
+-- so a session is opened, with an id of its own, where one more may be: none is ever refused for want of an id
+abbrev pub OpensWhereRoom : Type 0
+OpensWhereRoom = (sessions : Sessions) (t : Transport) (draw : ℕ) (canceling : Bool) → is_id draw ≡ true
+    → sessions.limit < 2 ^ 32 → session_count sessions.list < sessions.limit
+    → (id : ℕ) × (is_id id ≡ true) × (is_taken sessions.list id ≡ false)
+    × (open_session sessions t draw canceling ≡ opened sessions t canceling (Some id))
+
+-- and the limit is the fault exactly where as many are open as may be
+abbrev pub LimitWhereFull : Type 0
+LimitWhereFull = (sessions : Sessions) (t : Transport) (draw : ℕ) (canceling : Bool) → is_id draw ≡ true
+    → sessions.limit < 2 ^ 32
+    → ((open_session sessions t draw canceling).answer ≡ Err Limit) ↔ (sessions.limit ≤ session_count sessions.list)

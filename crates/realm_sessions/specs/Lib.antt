@@ -1,0 +1,4 @@
+pub mod Fault
+pub mod Links
+pub mod Sessions
+pub mod Laws

@@ -1,0 +1,37 @@
+-- The sessions of a realm, of which only so many may be open (WAMP specification, "Session Establishment"; the limit is this
+-- profile's: docs/PROTOCOL.md, "The realm").
+use Rattle.std.specs.Prelude.{ℕ, Bool, nat_lt, List, Option, None, Some, Result, Ok, Err, if◌then◌else◌}
+use Rattle.paxos_packets.specs.declared.transport.Transport.{Transport}
+use Rattle.realm_sessions.specs.declared.links.Link.{Link}
+use Rattle.realm_sessions.specs.declared.fault.RealmFault.{RealmFault}
+use Rattle.realm_sessions.specs.declared.fault.RealmFault.TheVariants.{Limit}
+use Rattle.realm_sessions.specs.Links.{session_count, new_session_id, set_session}
+
+pub record Sessions : Type 0 where
+  -- so many may be open at a time
+  pub limit : ℕ
+  -- the connected transports in the order in which they came
+  pub list : List Link
+
+abbrev pub with_list : Sessions → List Link → Sessions
+with_list sessions list = record { limit = sessions.limit; list = list }
+
+-- what becomes of the sessions where one is asked for, and what is answered
+pub record Opened : Type 0 where
+  pub sessions : Sessions
+  pub answer : Result ℕ RealmFault
+
+-- the session of this id; that one is found is a law (Laws: `OpensWhereRoom`)
+abbrev pub opened : Sessions → Transport → Bool → Option ℕ → Opened
+opened sessions t canceling None = record { sessions = sessions; answer = Err Limit }
+opened sessions t canceling (Some id) = record {
+  sessions = with_list sessions (set_session sessions.list t
+      (Some (record { id = id; canceling = canceling; last_invocation = None })));
+  answer = Ok id;
+}
+
+-- a session for a connected transport that has none: its id is the draw, or the next free one upwards
+abbrev pub open_session : Sessions → Transport → ℕ → Bool → Opened
+open_session sessions t draw canceling =
+    if nat_lt (session_count sessions.list) sessions.limit then opened sessions t canceling (new_session_id sessions.list draw)
+    else record { sessions = sessions; answer = Err Limit }

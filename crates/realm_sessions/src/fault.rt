@@ -1,0 +1,85 @@
+ghost use Rattle.std.specs.Prelude.{◌≡◌, option_map};
+ghost use Rattle.realm_sessions.specs.Fault.{number_of, uri_of};
+
+use std::alloc::{AllocError, AllocFailed};
+use thiserror::Error;
+
+/// Why a part of a realm refuses what is asked of it.
+#[derive(Clone, Copy, Debug, PartialEq, Eq, Hash, Error)]
+pub enum RealmFault {
+    #[error("the URI is none, or is the router's own")]
+    InvalidUri,
+    #[error("an argument is invalid")]
+    InvalidArgument,
+    #[error("no more are allowed")]
+    Limit,
+    #[error("the procedure is registered already")]
+    AlreadyExists,
+    #[error("there is no such registration")]
+    NoSuchRegistration,
+    #[error("there is no such subscription")]
+    NoSuchSubscription,
+    #[error("there is no such procedure")]
+    NoSuchProcedure,
+    #[error("no such call is open")]
+    NotOpen,
+    #[error("out of memory")]
+    Memory,
+}
+
+impl RealmFault {
+    /// The fault's number, 101 to 109.
+    pub fn number(self) -> u8
+        ensures { result ≡ number_of self }
+    {
+        match self {
+            RealmFault::InvalidUri => 101,
+            RealmFault::InvalidArgument => 102,
+            RealmFault::Limit => 103,
+            RealmFault::AlreadyExists => 104,
+            RealmFault::NoSuchRegistration => 105,
+            RealmFault::NoSuchSubscription => 106,
+            RealmFault::NoSuchProcedure => 107,
+            RealmFault::NotOpen => 108,
+            RealmFault::Memory => 109,
+        }
+    }
+
+    /// The URI under which a client is told of the fault (WAMP specification, "Predefined URIs"; the limit's is this
+    /// profile's): the first seven have one. Takes no memory.
+    pub fn uri(self) -> Option<&'static str>
+        ensures { option_map (λ text. text.now) result ≡ uri_of self }
+    {
+        match self {
+            RealmFault::InvalidUri => Some("wamp.error.invalid_uri"),
+            RealmFault::InvalidArgument => Some("wamp.error.invalid_argument"),
+            RealmFault::Limit => Some("cluster.error.limit"),
+            RealmFault::AlreadyExists => Some("wamp.error.procedure_already_exists"),
+            RealmFault::NoSuchRegistration => Some("wamp.error.no_such_registration"),
+            RealmFault::NoSuchSubscription => Some("wamp.error.no_such_subscription"),
+            RealmFault::NoSuchProcedure => Some("wamp.error.no_such_procedure"),
+            RealmFault::NotOpen => None,
+            RealmFault::Memory => None,
+        }
+    }
+}
+
+impl From<AllocError> for RealmFault {
+    ghost use Rattle.realm_sessions.specs.declared.fault.RealmFault.TheVariants.{Memory};
+
+    ghost from_gives = { λ _ e. e ≡ Memory };
+
+    fn from(_error: AllocError) -> RealmFault {
+        RealmFault::Memory
+    }
+}
+
+impl<T: Drop> From<AllocFailed<T>> for RealmFault {
+    ghost use Rattle.realm_sessions.specs.declared.fault.RealmFault.TheVariants.{Memory};
+
+    ghost from_gives = { λ _ e. e ≡ Memory };
+
+    fn from(_error: AllocFailed<T>) -> RealmFault {
+        RealmFault::Memory
+    }
+}

@@ -1,0 +1,12 @@
+//! The connected transports of a realm and their sessions (WAMP specification, "Sessions"), and the faults of a realm's parts.
+#![tactic(auto)]
+
+mod fault;
+pub mod laws;
+mod links;
+mod sessions;
+
+pub use fault::RealmFault;
+pub use links::{Link, Session};
+pub use paxos_packets::Transport;
+pub use sessions::Sessions;
