@@ -1,0 +1,3 @@
+pub mod Consuming
+pub mod Putting
+pub mod Sending

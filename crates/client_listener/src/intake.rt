@@ -1,0 +1,93 @@
+ghost use Rattle.std.specs.Prelude.{◌≡◌, [], Some, IfOk, IfErr};
+ghost use Rattle.client_listener.specs.Intake.{item_of, Feeds, Fills, Takes, Makes};
+
+use crate::fault::ListenFault;
+use crate::items::FromClient;
+use bytes::BytesMut;
+use std::alloc::Global;
+use std::io::Read;
+use std::marker::Model;
+use wamp_messages::read;
+use wamp_rawsocket::{Frame, FrameFault, FrameKind, Splitter};
+
+/// How many octets one read takes at the most.
+const CHUNK: usize = 1 << 16;
+
+// What a client's octets are read into, and cut into frames. A clause sees what the splitter holds.
+#[derive(Drop)]
+pub(crate) struct Intake {
+    alloc: Global,
+    splitter: Splitter,
+    // What one read gave, kept for its room.
+    chunk: BytesMut,
+}
+
+impl Model for Intake {
+    ghost use Rattle.std.specs.Prelude.{◌<◌, ◌+◌, length, ℕ, List, Option};
+
+    ghost Value = { Option (List ℕ) };
+
+    ghost view = { λ intake. intake.splitter };
+
+    ghost invariant = { λ intake. 0 < length intake.chunk.items + intake.chunk.spare };
+}
+
+impl Intake {
+    pub fn new(alloc: Global) -> Result<Intake, ListenFault>
+        ensures ok { IfOk result (λ intake. intake ≡ Some []) }
+        ensures err { IfErr result (λ fault. fault ≡ ListenFault.Memory) }
+    {
+        Ok(Intake {
+            alloc,
+            splitter: Splitter::new(alloc),
+            chunk: BytesMut::with_capacity(alloc, CHUNK)?,
+        })
+    }
+
+    // Reads once. Answers whether the reader gave anything, or ended.
+    pub fn fill<R: Read>(&mut self, reader: &mut R) -> Result<bool, ListenFault>
+        ensures { Fills result (R.remaining reader.old) (R.remaining reader.new) self.old self.new }
+    {
+        self.chunk.clear();
+        match self.chunk.read_from(reader) {
+            Ok(0) => Ok(false),
+            Ok(_) => feed(&mut self.splitter, self.chunk.as_slice()),
+            Err(_) => Err(ListenFault::Read),
+        }
+    }
+
+    // The next whole frame, if one is there.
+    pub fn next(&mut self) -> Result<Option<Frame>, ListenFault>
+        ensures { Takes result self.old self.new }
+    {
+        match self.splitter.next() {
+            Ok(next) => Ok(next),
+            Err(FrameFault::Memory) => Err(ListenFault::Memory),
+            Err(_) => Err(ListenFault::Frame),
+        }
+    }
+
+    // The item that is put for a frame, if one is.
+    pub fn item(&self, frame: Frame) -> Result<Option<FromClient>, ListenFault>
+        ensures { Makes result (item_of frame.kind frame.payload) }
+    {
+        match frame.kind {
+            FrameKind::Message => Ok(Some(FromClient::Read(read(
+                self.alloc,
+                frame.payload.as_slice(),
+            )?))),
+            FrameKind::Ping => Ok(Some(FromClient::Ping(frame.payload))),
+            FrameKind::Pong => Ok(None),
+        }
+    }
+}
+
+// Hands what was read to the splitter.
+fn feed(splitter: &mut Splitter, octets: &[u8]) -> Result<bool, ListenFault>
+    ensures { Feeds result octets.now splitter.old splitter.new }
+{
+    match splitter.feed(octets) {
+        Ok(()) => Ok(true),
+        Err(_) => Err(ListenFault::Memory),
+    }
+}

@@ -1,0 +1,19 @@
+//! What stands between a client's socket and a node's thread: the handshake, what the client sends as items of a ring, and
+//! what it is sent out of another.
+#![tactic(auto)]
+
+mod fault;
+mod handshake;
+mod intake;
+mod items;
+mod outbox;
+mod patience;
+mod reading;
+mod turns;
+mod writing;
+
+pub use fault::ListenFault;
+pub use handshake::{greet, read_handshake};
+pub use items::{FromClient, ToClient};
+pub use reading::{put_transport, read_transport};
+pub use writing::{take_transport, write_transport};

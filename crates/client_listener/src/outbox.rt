@@ -1,0 +1,117 @@
+ghost use Rattle.std.specs.Prelude.{◌≡◌, [], Ok, true};
+ghost use Rattle.std.specs.Bool.{OnTrue};
+ghost use Rattle.wamp_messages.specs.Writing.{text_of};
+ghost use Rattle.client_listener.specs.Outbox.{Frames, Hears, Empties};
+
+use crate::fault::ListenFault;
+use crate::handshake::write_out;
+use crate::items::ToClient;
+use std::alloc::Global;
+use std::io::Write;
+use std::marker::Model;
+use wamp_messages::{Message, write_into};
+use wamp_rawsocket::{FrameFault, FrameKind, append_frame};
+
+/// How many octets of frames may wait while further items are taken.
+const FULL: usize = 1 << 16;
+
+// The frames that wait to be written to one client.
+#[derive(Drop)]
+pub(crate) struct Outbox {
+    limit: u32,
+    frames: Vec<u8>,
+    // The text of one message, kept for its room.
+    text: Vec<u8>,
+}
+
+impl Model for Outbox {
+    ghost use Rattle.client_listener.specs.Waiting.{Waiting};
+
+    ghost Value = { Waiting };
+
+    ghost view = { λ outbox. record { limit = outbox.limit; octets = outbox.frames.items } };
+}
+
+impl Outbox {
+    // No frames, for a client that takes payloads of up to `limit` octets. It takes no memory.
+    pub fn new(alloc: Global, limit: u32) -> Outbox
+        ensures { result ≡ record { limit = limit; octets = [] } }
+    {
+        Outbox {
+            limit,
+            frames: Vec::new(alloc),
+            text: Vec::new(alloc),
+        }
+    }
+
+    // Whether further items may be taken before the frames are written: the transport stays open, and few octets wait.
+    pub fn may_wait(&self, heard: &Result<bool, ListenFault>) -> bool
+        ensures { OnTrue result (heard.now ≡ Ok true) }
+    {
+        matches!(heard, Ok(true)) && self.frames.len() <= FULL
+    }
+
+    // Puts the frame of an item behind the others. Answers whether the transport stays open.
+    pub fn hear(&mut self, item: &ToClient) -> Result<bool, ListenFault>
+        ensures hears { Hears self.old.limit item.now result self.old.octets self.new.octets }
+        ensures limit { self.new.limit ≡ self.old.limit }
+    {
+        match item {
+            ToClient::Send(message) => {
+                self.send(message)?;
+                Ok(true)
+            }
+            ToClient::Pong(payload) => {
+                append(
+                    &mut self.frames,
+                    FrameKind::Pong,
+                    payload.as_slice(),
+                    self.limit,
+                )?;
+                Ok(true)
+            }
+            ToClient::Close => Ok(false),
+        }
+    }
+
+    // Puts the frame of a message behind the others.
+    fn send(&mut self, message: &Message) -> Result<(), ListenFault>
+        ensures frames { Frames self.old.limit FrameKind.Message (text_of message.now) result self.old.octets self.new.octets }
+        ensures limit { self.new.limit ≡ self.old.limit }
+    {
+        self.text.clear();
+        write_into(message, &mut self.text)?;
+        append(
+            &mut self.frames,
+            FrameKind::Message,
+            self.text.as_slice(),
+            self.limit,
+        )
+    }
+
+    // Writes all that waits, and flushes the writer, also where nothing waits.
+    pub fn write_to<W: Write>(&mut self, writer: &mut W) -> Result<(), ListenFault>
+        ensures empties { Empties result self.old.octets self.new.octets (W.contents writer.old) (W.contents writer.new) }
+        ensures limit { self.new.limit ≡ self.old.limit }
+    {
+        write_out(writer, self.frames.as_slice())?;
+        self.frames.clear();
+        Ok(())
+    }
+}
+
+// Appends a frame, if the client takes payloads of its length.
+fn append(
+    frames: &mut Vec<u8>,
+    kind: FrameKind,
+    payload: &[u8],
+    limit: u32,
+) -> Result<(), ListenFault>
+    ensures { Frames limit kind payload.now result frames.old.items frames.new.items }
+{
+    match append_frame(frames, kind, payload, limit) {
+        Ok(()) => Ok(()),
+        Err(FrameFault::TooLong) => Err(ListenFault::Wide),
+        Err(_) => Err(ListenFault::Memory),
+    }
+}

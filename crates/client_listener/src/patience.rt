@@ -1,0 +1,38 @@
+use std::thread;
+use std::time::{Clock, Duration};
+
+/// How often a thread only gives way before it begins to sleep.
+const YIELDS: u32 = 64;
+
+/// How long it sleeps first, and at the most, in microseconds.
+const FIRST_PAUSE: u64 = 50;
+
+const LONGEST_PAUSE: u64 = 1000;
+
+// How long a thread waits between vain tries: it gives way some times, and then sleeps for longer and longer.
+#[derive(Drop)]
+pub(crate) struct Patience {
+    yields: u32,
+    pause: u64,
+}
+
+impl Patience {
+    // As before the first vain try.
+    pub fn new() -> Patience {
+        Patience {
+            yields: YIELDS,
+            pause: FIRST_PAUSE,
+        }
+    }
+
+    // Waits behind a vain try.
+    pub fn wait(&mut self, clock: &impl Clock) {
+        if self.yields > 0 {
+            self.yields -= 1;
+            thread::yield_now();
+            return;
+        }
+        thread::sleep(clock, Duration::from_micros(self.pause));
+        self.pause = self.pause.saturating_mul(2).min(LONGEST_PAUSE);
+    }
+}
