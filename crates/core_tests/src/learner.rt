@@ -8,12 +8,11 @@ const FIRST: Ballot = Ballot { round: 1, node: 1 };
 
 const SECOND: Ballot = Ballot { round: 2, node: 2 };
 
-// Whether this is what the learner learned in the slot; `None` where it learned nothing.
-fn is_learned(learner: &Learner<Number>, slot: Slot, want: Option<&Entry<Number>>) -> bool {
-    match (learner.learned(slot), want) {
-        (Some(entry), Some(wanted)) => entry.same(wanted),
-        (None, None) => true,
-        _ => false,
+// Whether the learner learned this entry in the slot.
+fn has_learned(learner: &Learner<Number>, slot: Slot, wanted: &Entry<Number>) -> bool {
+    match learner.learned(slot) {
+        Some(entry) => entry.same(wanted),
+        None => false,
     }
 }
 
@@ -27,9 +26,9 @@ fn a_majority_in_one_ballot_learns(rt: HostRuntime) -> Result<(), Fail> {
     learner.vote(1, FIRST, slot, &entry)?;
     learner.vote(2, SECOND, slot, &entry)?;
     learner.vote(4, FIRST, slot, &entry)?;
-    assert!(rt; is_learned(&learner, slot, None));
+    assert!(rt; learner.learned(slot).is_none());
     learner.vote(3, FIRST, slot, &entry)?;
-    assert!(rt; is_learned(&learner, slot, Some(&entry)));
+    assert!(rt; has_learned(&learner, slot, &entry));
     Ok(())
 }
 
@@ -48,7 +47,7 @@ fn another_entry_disagrees(rt: HostRuntime) -> Result<(), Fail> {
         learner.vote(2, FIRST, slot, &other),
         Err(LearnerFault::Disagree)
     );
-    assert!(rt; is_learned(&learner, slot, Some(&entry)));
+    assert!(rt; has_learned(&learner, slot, &entry));
     assert_eq!(rt; LearnerFault::Disagree.number(), 55);
     assert_eq!(rt; LearnerFault::Memory.number(), 56);
     Ok(())
@@ -60,13 +59,16 @@ fn what_is_told_ahead_is_found(rt: HostRuntime) -> Result<(), Fail> {
     let first = Slot::new(1).ok_or("slot 1")?;
     let second = Slot::new(2).ok_or("slot 2")?;
     let fourth = Slot::new(4).ok_or("slot 4")?;
+    let nothing = Entry::Noop;
+    let started = Entry::Boot { node: 2, boot: 1 };
+    let ahead = Entry::Boot { node: 3, boot: 1 };
     let mut learner = Learner::new(rt.alloc(), members);
-    learner.tell(second, &Entry::Boot { node: 2, boot: 1 })?;
-    learner.tell(fourth, &Entry::Boot { node: 3, boot: 1 })?;
-    assert!(rt; is_learned(&learner, first, None));
-    learner.tell(first, &Entry::Noop)?;
-    assert!(rt; is_learned(&learner, first, Some(&Entry::Noop)));
-    assert!(rt; is_learned(&learner, second, Some(&Entry::Boot { node: 2, boot: 1 })));
-    assert!(rt; is_learned(&learner, fourth, Some(&Entry::Boot { node: 3, boot: 1 })));
+    learner.tell(second, &started)?;
+    learner.tell(fourth, &ahead)?;
+    assert!(rt; learner.learned(first).is_none());
+    learner.tell(first, &nothing)?;
+    assert!(rt; has_learned(&learner, first, &nothing));
+    assert!(rt; has_learned(&learner, second, &started));
+    assert!(rt; has_learned(&learner, fourth, &ahead));
     Ok(())
 }

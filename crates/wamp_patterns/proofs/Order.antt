@@ -63,8 +63,8 @@ is_equal Greater h = cc
 pub kept_as_one : (a b : PatternValue) → IsTrue (same_pattern a b) ↔ (a ≡ b)
 kept_as_one a b = (
   λ h. let equal : pattern_cmp a b ≡ Equal = is_equal (pattern_cmp a b) h in
-    let ranks : a.matching ≡ b.matching = same_rank a.matching b.matching (then_first (nat_cmp (rank a.matching) (rank b.matching)) _ equal) in
-    let texts : a.text ≡ b.text = same_text a.text b.text (then_second (nat_cmp (rank a.matching) (rank b.matching)) _ equal) in
-    λ i. record { text = texts i; matching = ranks i },
+      let ranks : a.matching ≡ b.matching = same_rank a.matching b.matching (then_first (nat_cmp (rank a.matching) (rank b.matching)) _ equal) in
+      let texts : a.text ≡ b.text = same_text a.text b.text (then_second (nat_cmp (rank a.matching) (rank b.matching)) _ equal) in
+      λ i. record { text = texts i; matching = ranks i },
   λ e. subst (λ (c : PatternValue). is_eq (pattern_cmp a c) ≡ true) e (ap is_eq (tied_itself pattern_total a)),
 )
