@@ -1,0 +1,6 @@
+//! Tests of what stands between a client's socket and a node's thread, over public calls. A crate with tests is proved twice, so they
+//! stand here.
+#![tactic(auto)]
+
+#[cfg(test)]
+mod listener;
