@@ -1,4 +1,4 @@
-mod Lengths
 mod Json
 mod Values
 mod RoundTrip
+mod FirstFault

@@ -1,19 +1,31 @@
 -- A message's value has held numbers and ordered keys, and nests no deeper than JSON is read.
-use Rattle.std.proofs.Common.{ℕ, ◌<◌, ◌≤◌, ◌^◌, Bool, true, false, List, Option, Some, None, refl, arith}
+use Rattle.std.proofs.Common.{ℕ, ◌<◌, ◌≤◌, ◌^◌, Bool, true, false, List, Option, Some, None, codes, refl, arith}
 use Rattle.std.specs.List.Sorted.{IsStrictlySortedBy}
 use Rattle.serde_json.specs.Data.{depth}
 use Rattle.serde_json.specs.Read.{max_depth}
 use Rattle.wamp_ids.specs.declared.policy.Match.{Match}
 use Rattle.wamp_ids.specs.declared.policy.Match.TheVariants.{Exact, Prefix, Wildcard}
+use Rattle.wamp_ids.specs.declared.policy.Invoke.{Invoke}
+use Rattle.wamp_ids.specs.declared.policy.Invoke.TheVariants.{Single, First, Last, RoundRobin}
+use Rattle.wamp_ids.specs.declared.policy.Mode.{Mode}
+use Rattle.wamp_ids.specs.declared.policy.Mode.TheVariants.{Skip, Kill, KillNoWait}
 use Rattle.wamp_values.specs.Payload.{IsPlain}
 use Rattle.wamp_values.proofs.Plain.{args_are_plain, args_nest}
-use Rattle.wamp_messages.specs.declared.message.RequestKind.{RequestKind}
-use Rattle.wamp_messages.specs.declared.message.RequestKind.TheVariants as kind
+use Rattle.wamp_elements.specs.declared.request_kind.RequestKind.{RequestKind}
+use Rattle.wamp_elements.specs.declared.request_kind.RequestKind.TheVariants as kind
+use Rattle.wamp_elements.specs.RequestKind.{code_of}
+use Rattle.wamp_elements.specs.Parts.{nothing, label_details}
 use Rattle.wamp_messages.specs.declared.message.Message.{Message}
 use Rattle.wamp_messages.specs.declared.message.Message.TheVariants.{Hello, Welcome, Abort, Goodbye, Error, Publish, Published}
-use Rattle.wamp_messages.specs.declared.message.Message.TheVariants.{Subscribe, Subscribed, Event}
-use Rattle.wamp_messages.specs.Writing.{value_of, nothing, code_of, hello_details, welcome_details, broker, dealer}
-use Rattle.wamp_messages.specs.Writing.{publish_options, match_options, event_details}
+use Rattle.wamp_messages.specs.declared.message.Message.TheVariants.{Subscribe, Subscribed, Event, Unsubscribe, Unsubscribed}
+use Rattle.wamp_messages.specs.declared.message.Message.TheVariants.{Register, Registered, Unregister, Unregistered}
+use Rattle.wamp_messages.specs.declared.message.Message.TheVariants.{Call, Cancel, Reply, Invocation, Interrupt, Yield}
+use Rattle.wamp_messages.specs.Session.{hello_details, welcome_details, broker, dealer}
+use Rattle.wamp_messages.specs.Publish.{publish_options}
+use Rattle.wamp_messages.specs.Subscribe.{match_options}
+use Rattle.wamp_messages.specs.Register.{shared_options, register_options}
+use Rattle.wamp_messages.specs.Call.{mode_options, cancel_options}
+use Rattle.wamp_messages.specs.Writing.{value_of}
 use Rattle.wamp_messages.specs.Message.{IsId, HasParts}
 
 id_is_held : (n : ℕ) → IsId n → n < 2 ^ 64
@@ -53,10 +65,33 @@ match_is_plain Exact = (tt, tt)
 match_is_plain Prefix = ((tt, tt), (tt, tt))
 match_is_plain Wildcard = ((tt, tt), (tt, tt))
 
-event_is_plain : (topic : Option (List ℕ)) → IsPlain (event_details topic)
+label_is_plain : (key : List ℕ) (label : Option (List ℕ)) → IsPlain (label_details key label)
 unfolding IsStrictlySortedBy
-event_is_plain None = (tt, tt)
-event_is_plain (Some topic) = ((tt, tt), (tt, tt))
+label_is_plain key None = (tt, tt)
+label_is_plain key (Some label) = ((tt, tt), (tt, tt))
+
+shared_is_plain : (invoke : List ℕ) (matching : Match) → IsPlain (shared_options invoke matching)
+unfolding IsStrictlySortedBy
+shared_is_plain invoke Exact = ((tt, tt), (tt, tt))
+shared_is_plain invoke Prefix = (((refl, tt), (tt, tt)), (tt, (tt, tt)))
+shared_is_plain invoke Wildcard = (((refl, tt), (tt, tt)), (tt, (tt, tt)))
+
+register_is_plain : (invoke : Invoke) (matching : Match) → IsPlain (register_options invoke matching)
+register_is_plain Single matching = match_is_plain matching
+register_is_plain First matching = shared_is_plain (codes "first") matching
+register_is_plain Last matching = shared_is_plain (codes "last") matching
+register_is_plain RoundRobin matching = shared_is_plain (codes "roundrobin") matching
+
+mode_is_plain : (mode : Mode) → IsPlain (mode_options mode)
+unfolding IsStrictlySortedBy
+mode_is_plain Skip = ((tt, tt), (tt, tt))
+mode_is_plain Kill = ((tt, tt), (tt, tt))
+mode_is_plain KillNoWait = ((tt, tt), (tt, tt))
+
+cancel_is_plain : (mode : Mode) → IsPlain (cancel_options mode)
+cancel_is_plain Skip = mode_is_plain Skip
+cancel_is_plain Kill = mode_is_plain Kill
+cancel_is_plain KillNoWait = nothing_is_plain
 
 code_is_held : (k : RequestKind) → code_of k < 2 ^ 64
 code_is_held kind.Publish = omega arith
@@ -69,38 +104,125 @@ code_is_held kind.Unregister = omega arith
 code_is_held kind.Invocation = omega arith
 
 pub value_is_plain : (m : Message) → HasParts m → IsPlain (value_of m)
-value_is_plain (Hello realm canceling) h = (omega arith, (tt, (hello_is_plain canceling, tt)))
-value_is_plain (Welcome session) h = (omega arith, (id_is_held session h, (welcome_is_plain, tt)))
-value_is_plain (Abort reason args) h = (omega arith, (nothing_is_plain, (tt, args_are_plain args h)))
-value_is_plain (Goodbye reason) h = (omega arith, (nothing_is_plain, (tt, tt)))
-value_is_plain (Error kind request error args) h =
-    (omega arith, (code_is_held kind, (id_is_held request h.0, (nothing_is_plain, (tt, args_are_plain args h.1)))))
-value_is_plain (Publish request acknowledge exclude_me topic args) h =
-    (omega arith, (id_is_held request h.0, (publish_is_plain acknowledge exclude_me, (tt, args_are_plain args h.1))))
-value_is_plain (Published request publication) h =
-    (omega arith, (id_is_held request h.0, (id_is_held publication h.1, tt)))
-value_is_plain (Subscribe request matching topic) h =
-    (omega arith, (id_is_held request h, (match_is_plain matching, (tt, tt))))
-value_is_plain (Subscribed request subscription) h =
-    (omega arith, (id_is_held request h.0, (id_is_held subscription h.1, tt)))
-value_is_plain (Event subscription publication topic args) h =
-    (omega arith, (id_is_held subscription h.0, (id_is_held publication h.1.0, (event_is_plain topic, args_are_plain args h.1.1))))
+value_is_plain (Hello hello) h = (omega arith, (tt, (hello_is_plain hello.canceling, tt)))
+value_is_plain (Welcome welcome) h = (omega arith, (id_is_held welcome.session h, (welcome_is_plain, tt)))
+value_is_plain (Abort abort) h = (omega arith, (nothing_is_plain, (tt, args_are_plain abort.args h)))
+value_is_plain (Goodbye goodbye) h = (omega arith, (nothing_is_plain, (tt, tt)))
+value_is_plain (Error error) h = (
+  omega arith,
+  (code_is_held error.kind, (id_is_held error.request h.0, (nothing_is_plain, (tt, args_are_plain error.args h.1)))),
+)
+value_is_plain (Publish publish) h = (
+  omega arith,
+  (
+    id_is_held publish.request h.0,
+    (publish_is_plain publish.acknowledge publish.exclude_me, (tt, args_are_plain publish.args h.1)),
+  ),
+)
+value_is_plain (Published published) h =
+    (omega arith, (id_is_held published.request h.0, (id_is_held published.publication h.1, tt)))
+value_is_plain (Subscribe subscribe) h =
+    (omega arith, (id_is_held subscribe.request h, (match_is_plain subscribe.matching, (tt, tt))))
+value_is_plain (Subscribed subscribed) h =
+    (omega arith, (id_is_held subscribed.request h.0, (id_is_held subscribed.subscription h.1, tt)))
+value_is_plain (Event event) h = (
+  omega arith,
+  (
+    id_is_held event.subscription h.0,
+    (id_is_held event.publication h.1.0, (label_is_plain (codes "topic") event.topic, args_are_plain event.args h.1.1)),
+  ),
+)
+value_is_plain (Unsubscribe unsubscribe) h =
+    (omega arith, (id_is_held unsubscribe.request h.0, (id_is_held unsubscribe.subscription h.1, tt)))
+value_is_plain (Unsubscribed unsubscribed) h = (omega arith, (id_is_held unsubscribed.request h, tt))
+value_is_plain (Register register) h =
+    (omega arith, (id_is_held register.request h, (register_is_plain register.invoke register.matching, (tt, tt))))
+value_is_plain (Registered registered) h =
+    (omega arith, (id_is_held registered.request h.0, (id_is_held registered.registration h.1, tt)))
+value_is_plain (Unregister unregister) h =
+    (omega arith, (id_is_held unregister.request h.0, (id_is_held unregister.registration h.1, tt)))
+value_is_plain (Unregistered unregistered) h = (omega arith, (id_is_held unregistered.request h, tt))
+value_is_plain (Call call) h =
+    (omega arith, (id_is_held call.request h.0, (nothing_is_plain, (tt, args_are_plain call.args h.1))))
+value_is_plain (Cancel cancel) h = (omega arith, (id_is_held cancel.request h, (cancel_is_plain cancel.mode, tt)))
+value_is_plain (Reply reply) h = (omega arith, (id_is_held reply.request h.0, (nothing_is_plain, args_are_plain reply.args h.1)))
+value_is_plain (Invocation invocation) h = (
+  omega arith,
+  (
+    id_is_held invocation.request h.0,
+    (
+      id_is_held invocation.registration h.1.0,
+      (label_is_plain (codes "procedure") invocation.procedure, args_are_plain invocation.args h.1.1),
+    ),
+  ),
+)
+value_is_plain (Interrupt interrupt) h = (omega arith, (id_is_held interrupt.request h, (mode_is_plain interrupt.mode, tt)))
+value_is_plain (Yield yielded) h =
+    (omega arith, (id_is_held yielded.request h.0, (nothing_is_plain, args_are_plain yielded.args h.1)))
+
+-- ---- how deep it nests
+
+hello_nests : (canceling : Bool) → depth (hello_details canceling) ≤ 4
+hello_nests false = omega arith
+hello_nests true = omega arith
+
+publish_nests : (acknowledge exclude_me : Bool) → depth (publish_options acknowledge exclude_me) ≤ 1
+publish_nests false false = omega arith
+publish_nests false true = omega arith
+publish_nests true false = omega arith
+publish_nests true true = omega arith
+
+match_nests : (matching : Match) → depth (match_options matching) ≤ 1
+match_nests Exact = omega arith
+match_nests Prefix = omega arith
+match_nests Wildcard = omega arith
+
+shared_nests : (invoke : List ℕ) (matching : Match) → depth (shared_options invoke matching) ≤ 1
+shared_nests invoke Exact = omega arith
+shared_nests invoke Prefix = omega arith
+shared_nests invoke Wildcard = omega arith
+
+register_nests : (invoke : Invoke) (matching : Match) → depth (register_options invoke matching) ≤ 1
+register_nests Single matching = match_nests matching
+register_nests First matching = shared_nests (codes "first") matching
+register_nests Last matching = shared_nests (codes "last") matching
+register_nests RoundRobin matching = shared_nests (codes "roundrobin") matching
+
+mode_nests : (mode : Mode) → depth (mode_options mode) ≤ 1
+mode_nests Skip = omega arith
+mode_nests Kill = omega arith
+mode_nests KillNoWait = omega arith
+
+cancel_nests : (mode : Mode) → depth (cancel_options mode) ≤ 1
+cancel_nests Skip = omega arith
+cancel_nests Kill = omega arith
+cancel_nests KillNoWait = omega arith
+
+label_nests : (key : List ℕ) (label : Option (List ℕ)) → depth (label_details key label) ≤ 1
+label_nests key None = omega arith
+label_nests key (Some label) = omega arith
 
 pub value_nests : (m : Message) → HasParts m → depth (value_of m) ≤ max_depth
-value_nests (Hello realm false) h = omega arith
-value_nests (Hello realm true) h = omega arith
-value_nests (Welcome session) h = omega arith
-value_nests (Abort reason args) h = omega (arith, args_nest args h)
-value_nests (Goodbye reason) h = omega arith
-value_nests (Error kind request error args) h = omega (arith, args_nest args h.1)
-value_nests (Publish request false false topic args) h = omega (arith, args_nest args h.1)
-value_nests (Publish request false true topic args) h = omega (arith, args_nest args h.1)
-value_nests (Publish request true false topic args) h = omega (arith, args_nest args h.1)
-value_nests (Publish request true true topic args) h = omega (arith, args_nest args h.1)
-value_nests (Published request publication) h = omega arith
-value_nests (Subscribe request Exact topic) h = omega arith
-value_nests (Subscribe request Prefix topic) h = omega arith
-value_nests (Subscribe request Wildcard topic) h = omega arith
-value_nests (Subscribed request subscription) h = omega arith
-value_nests (Event subscription publication None args) h = omega (arith, args_nest args h.1.1)
-value_nests (Event subscription publication (Some topic) args) h = omega (arith, args_nest args h.1.1)
+value_nests (Hello hello) h = omega (arith, hello_nests hello.canceling)
+value_nests (Welcome welcome) h = omega arith
+value_nests (Abort abort) h = omega (arith, args_nest abort.args h)
+value_nests (Goodbye goodbye) h = omega arith
+value_nests (Error error) h = omega (arith, args_nest error.args h.1)
+value_nests (Publish publish) h = omega (arith, args_nest publish.args h.1, publish_nests publish.acknowledge publish.exclude_me)
+value_nests (Published published) h = omega arith
+value_nests (Subscribe subscribe) h = omega (arith, match_nests subscribe.matching)
+value_nests (Subscribed subscribed) h = omega arith
+value_nests (Event event) h = omega (arith, args_nest event.args h.1.1, label_nests (codes "topic") event.topic)
+value_nests (Unsubscribe unsubscribe) h = omega arith
+value_nests (Unsubscribed unsubscribed) h = omega arith
+value_nests (Register register) h = omega (arith, register_nests register.invoke register.matching)
+value_nests (Registered registered) h = omega arith
+value_nests (Unregister unregister) h = omega arith
+value_nests (Unregistered unregistered) h = omega arith
+value_nests (Call call) h = omega (arith, args_nest call.args h.1)
+value_nests (Cancel cancel) h = omega (arith, cancel_nests cancel.mode)
+value_nests (Reply reply) h = omega (arith, args_nest reply.args h.1)
+value_nests (Invocation invocation) h =
+    omega (arith, args_nest invocation.args h.1.1, label_nests (codes "procedure") invocation.procedure)
+value_nests (Interrupt interrupt) h = omega (arith, mode_nests interrupt.mode)
+value_nests (Yield yielded) h = omega (arith, args_nest yielded.args h.1)

@@ -1,7 +1,13 @@
-pub mod Fault
-pub mod Options
+pub mod ReadResult
+pub mod Session
+pub mod Error
+pub mod Publish
+pub mod Subscribe
+pub mod Register
+pub mod Call
+pub mod Layouts
 pub mod Reading
-pub mod Elements
+pub mod Faults
 pub mod Writing
 pub mod Message
 pub mod Laws

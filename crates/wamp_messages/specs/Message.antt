@@ -6,7 +6,9 @@ use Rattle.wamp_ids.specs.Id.{is_id}
 use Rattle.wamp_values.specs.Args.{IsArgs}
 use Rattle.wamp_messages.specs.declared.message.Message.{Message}
 use Rattle.wamp_messages.specs.declared.message.Message.TheVariants.{Hello, Welcome, Abort, Goodbye, Error, Publish, Published}
-use Rattle.wamp_messages.specs.declared.message.Message.TheVariants.{Subscribe, Subscribed, Event}
+use Rattle.wamp_messages.specs.declared.message.Message.TheVariants.{Subscribe, Subscribed, Event, Unsubscribe, Unsubscribed}
+use Rattle.wamp_messages.specs.declared.message.Message.TheVariants.{Register, Registered, Unregister, Unregistered}
+use Rattle.wamp_messages.specs.declared.message.Message.TheVariants.{Call, Cancel, Reply, Invocation, Interrupt, Yield}
 use Rattle.wamp_messages.specs.Writing.{text_of}
 
 abbrev pub IsId : ℕ → Type 0
@@ -14,16 +16,28 @@ IsId n = IsTrue (is_id n)
 
 -- the ids are ids, and the arguments are payloads of the right kind
 abbrev pub HasParts : Message → Type 0
-HasParts (Hello realm canceling) = ⊤
-HasParts (Welcome session) = IsId session
-HasParts (Abort reason args) = IsArgs args
-HasParts (Goodbye reason) = ⊤
-HasParts (Error kind request error args) = IsId request × IsArgs args
-HasParts (Publish request acknowledge exclude_me topic args) = IsId request × IsArgs args
-HasParts (Published request publication) = IsId request × IsId publication
-HasParts (Subscribe request matching topic) = IsId request
-HasParts (Subscribed request subscription) = IsId request × IsId subscription
-HasParts (Event subscription publication topic args) = IsId subscription × (IsId publication × IsArgs args)
+HasParts (Hello hello) = ⊤
+HasParts (Welcome welcome) = IsId welcome.session
+HasParts (Abort abort) = IsArgs abort.args
+HasParts (Goodbye goodbye) = ⊤
+HasParts (Error error) = IsId error.request × IsArgs error.args
+HasParts (Publish publish) = IsId publish.request × IsArgs publish.args
+HasParts (Published published) = IsId published.request × IsId published.publication
+HasParts (Subscribe subscribe) = IsId subscribe.request
+HasParts (Subscribed subscribed) = IsId subscribed.request × IsId subscribed.subscription
+HasParts (Event event) = IsId event.subscription × (IsId event.publication × IsArgs event.args)
+HasParts (Unsubscribe unsubscribe) = IsId unsubscribe.request × IsId unsubscribe.subscription
+HasParts (Unsubscribed unsubscribed) = IsId unsubscribed.request
+HasParts (Register register) = IsId register.request
+HasParts (Registered registered) = IsId registered.request × IsId registered.registration
+HasParts (Unregister unregister) = IsId unregister.request × IsId unregister.registration
+HasParts (Unregistered unregistered) = IsId unregistered.request
+HasParts (Call call) = IsId call.request × IsArgs call.args
+HasParts (Cancel cancel) = IsId cancel.request
+HasParts (Reply reply) = IsId reply.request × IsArgs reply.args
+HasParts (Invocation invocation) = IsId invocation.request × (IsId invocation.registration × IsArgs invocation.args)
+HasParts (Interrupt interrupt) = IsId interrupt.request
+HasParts (Yield yielded) = IsId yielded.request × IsArgs yielded.args
 
 -- besides, all of its texts are UTF-8
 pub record IsMessage (m : Message) : Type 0 where

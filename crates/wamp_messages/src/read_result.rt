@@ -1,5 +1,8 @@
-use crate::fault::MessageFault;
+ghost use Rattle.std.specs.Prelude.{◌≡◌, ◌↔◌, IfOk, IsTrue};
+
+use crate::memory::Memory;
 use crate::message::Message;
+use wamp_elements::MessageFault;
 use wamp_ids::Id;
 
 /// The kinds of message that may be unfit: of the right form, with an option or a payload that this router refuses.
@@ -7,7 +10,10 @@ use wamp_ids::Id;
 pub enum UnfitKind {
     Publish,
     Subscribe,
-    /// What answers an invocation: for now an ERROR on one.
+    Register,
+    Call,
+    Cancel,
+    /// What answers an invocation: a YIELD, or an ERROR on one.
     Yield,
 }
 
@@ -25,4 +31,48 @@ pub enum Read {
     },
     /// No message: its sender breaks the protocol.
     Bad(MessageFault),
+}
+
+impl Read {
+    /// An equal one. Where memory runs out there is none, and nothing has changed.
+    pub fn copy(&self) -> Result<Read, Memory>
+        ensures { IfOk result (λ made. made ≡ self.now) }
+    {
+        Ok(match self {
+            Read::Good(message) => Read::Good(message.copy()?),
+            Read::Unfit {
+                kind,
+                request,
+                quiet,
+            } => Read::Unfit {
+                kind: *kind,
+                request: *request,
+                quiet: *quiet,
+            },
+            Read::Bad(fault) => Read::Bad(*fault),
+        })
+    }
+
+    /// Whether the two are equal; takes no memory.
+    pub fn same(&self, other: &Read) -> bool
+        ensures { IsTrue result ↔ (self.now ≡ other.now) }
+    {
+        match (self, other) {
+            (Read::Good(message), Read::Good(other)) => message.same(other),
+            (
+                Read::Unfit {
+                    kind,
+                    request,
+                    quiet,
+                },
+                Read::Unfit {
+                    kind: other_kind,
+                    request: other_request,
+                    quiet: other_quiet,
+                },
+            ) => *kind == *other_kind && *request == *other_request && *quiet == *other_quiet,
+            (Read::Bad(fault), Read::Bad(other)) => *fault == *other,
+            _ => false,
+        }
+    }
 }

@@ -1,0 +1,3 @@
+mod Lengths
+pub mod FirstFault
+pub mod ArgsAgain

@@ -1,0 +1,7 @@
+pub mod Codes
+pub mod Fault
+pub mod RequestKind
+pub mod Elements
+pub mod Layouts
+pub mod Options
+pub mod Parts

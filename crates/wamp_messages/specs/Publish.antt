@@ -1,0 +1,82 @@
+-- The messages of publications and events (WAMP specification, "Publish and Subscribe"; the keys, and what is taken where one is
+-- missing: docs/PROTOCOL.md, "Messages").
+use Rattle.std.specs.Prelude.{ℕ, Bool, true, false, not, List, Option, Some, None, codes, unwrap_or}
+use Rattle.serde_json.specs.Data.{Data, string, boolean, array, object, Items, no_items, item, no_members, member}
+use Rattle.wamp_values.specs.Args.{args_items}
+use Rattle.wamp_values.specs.declared.args.Args.{Args}
+use Rattle.wamp_elements.specs.Codes as code
+use Rattle.wamp_elements.specs.Parts.{whole, only, nothing, label_details}
+use Rattle.wamp_elements.specs.Options.{flag_in}
+use Rattle.wamp_elements.specs.declared.layouts.TwoIds.{TwoIds}
+use Rattle.wamp_elements.specs.declared.layouts.Labelled.{Labelled}
+use Rattle.wamp_elements.specs.Layouts.{taken, two_ids, two_ids_of, id_dictionary_text_args, Asked, asked_of, two_ids_label_args, labelled_of}
+use Rattle.wamp_messages.specs.declared.publish.Publish.{Publish}
+use Rattle.wamp_messages.specs.declared.publish.Published.{Published}
+use Rattle.wamp_messages.specs.declared.publish.Event.{Event}
+use Rattle.wamp_messages.specs.declared.message.Message.TheVariants as message
+use Rattle.wamp_messages.specs.declared.read_result.UnfitKind.TheVariants as unfit
+use Rattle.wamp_messages.specs.declared.read_result.Read.{Read}
+use Rattle.wamp_messages.specs.declared.read_result.Read.TheVariants.{Good, Unfit}
+use Rattle.wamp_messages.specs.ReadResult.{read_as}
+
+-- ---- PUBLISH: Request, Options, Topic, Args
+
+-- options hold exactly the keys that differ from what is taken where they are missing
+abbrev pub publish_options : Bool → Bool → Data
+publish_options false true = nothing
+publish_options true true = only (codes "acknowledge") (boolean true)
+publish_options false false = only (codes "exclude_me") (boolean false)
+publish_options true false = object (member (codes "acknowledge") (boolean true) (member (codes "exclude_me") (boolean false) no_members))
+
+abbrev pub publish_value : Publish → Data
+publish_value publish =
+    array
+    (item (whole code.publish)
+    (item (whole publish.request)
+    (item (publish_options publish.acknowledge publish.exclude_me) (item (string publish.topic) (args_items publish.args)))))
+
+abbrev pub publish_with : ℕ → Option Bool → Option Bool → List ℕ → Option Args → Read
+publish_with request (Some acknowledge) (Some exclude_me) topic (Some args) =
+    Good (message.Publish (record { request = request; acknowledge = acknowledge; exclude_me = exclude_me; topic = topic; args = args }))
+publish_with request acknowledge exclude_me topic args = Unfit unfit.Publish request (not (unwrap_or acknowledge false))
+
+abbrev pub publish_read : Asked → Read
+publish_read asked =
+    publish_with asked.request (flag_in (codes "acknowledge") false asked.options)
+    (flag_in (codes "exclude_me") true asked.options) asked.uri asked.args
+
+abbrev pub publish_in : Items → Read
+publish_in ds = read_as publish_read (taken id_dictionary_text_args asked_of ds)
+
+-- ---- PUBLISHED: Request, Publication
+
+abbrev pub published_value : Published → Data
+published_value published =
+    array (item (whole code.published) (item (whole published.request) (item (whole published.publication) no_items)))
+
+abbrev pub published_read : TwoIds → Read
+published_read ids = Good (message.Published (record { request = ids.first; publication = ids.second }))
+
+abbrev pub published_in : Items → Read
+published_in ds = read_as published_read (taken two_ids two_ids_of ds)
+
+-- ---- EVENT: Subscription, Publication, Details, Args
+
+abbrev pub event_value : Event → Data
+event_value event =
+    array
+    (item (whole code.event)
+    (item (whole event.subscription)
+    (item (whole event.publication) (item (label_details (codes "topic") event.topic) (args_items event.args)))))
+
+abbrev pub event_read : Labelled → Read
+event_read labelled =
+    Good (message.Event (record {
+      subscription = labelled.first;
+      publication = labelled.second;
+      topic = labelled.label;
+      args = labelled.args;
+    }))
+
+abbrev pub event_in : Items → Read
+event_in ds = read_as event_read (taken (two_ids_label_args (codes "topic")) (labelled_of (codes "topic")) ds)
