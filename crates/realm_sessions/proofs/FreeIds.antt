@@ -16,23 +16,23 @@ use Rattle.realm_sessions.proofs.SoundLinks.{opened_sound}
 
 -- ---- counting
 
-abbrev bit : Bool → ℕ
+abbrev pub bit : Bool → ℕ
 bit true = 1
 bit false = 0
 
 -- how many numbers below k pass
-abbrev hits : (ℕ → Bool) → ℕ → ℕ
+abbrev pub hits : (ℕ → Bool) → ℕ → ℕ
 hits p zero = 0
 hits p (suc k) = bit (p k) + hits p k
 
-hits_none : (p : ℕ → Bool) (k : ℕ) → ((j : ℕ) → j < k → p j ≡ false) → hits p k ≡ 0
+pub hits_none : (p : ℕ → Bool) (k : ℕ) → ((j : ℕ) → j < k → p j ≡ false) → hits p k ≡ 0
 hits_none p zero h = refl
 hits_none p (suc k) h =
     let here : bit (p k) ≡ 0 = ap bit (h k (omega arith)) in
     let rest : hits p k ≡ 0 = hits_none p k (λ j below. h j (omega arith)) in
     omega (arith, here, rest)
 
-hits_all : (p : ℕ → Bool) (k : ℕ) → ((j : ℕ) → j < k → p j ≡ true) → hits p k ≡ k
+pub hits_all : (p : ℕ → Bool) (k : ℕ) → ((j : ℕ) → j < k → p j ≡ true) → hits p k ≡ k
 hits_all p zero h = refl
 hits_all p (suc k) h =
     let here : bit (p k) ≡ 1 = ap bit (h k (omega arith)) in
@@ -44,7 +44,7 @@ one_more p k true e none rest =
     let here : bit (p k) ≡ 1 = ap bit e in let zero_left : hits p k ≡ 0 = none refl in omega (arith, here, zero_left)
 one_more p k false e none rest = let here : bit (p k) ≡ 0 = ap bit e in omega (arith, here, rest)
 
-hits_one : (p : ℕ → Bool) (k : ℕ) → ((i j : ℕ) → i < j → j < k → p i ≡ true → p j ≡ true → ⊥) → hits p k ≤ 1
+pub hits_one : (p : ℕ → Bool) (k : ℕ) → ((i j : ℕ) → i < j → j < k → p i ≡ true → p j ≡ true → ⊥) → hits p k ≤ 1
 hits_one p zero h = omega arith
 hits_one p (suc k) h =
     one_more p k (p k) refl
@@ -55,7 +55,7 @@ bit_or : (a b : Bool) → bit (a || b) ≤ bit a + bit b
 bit_or true b = omega arith
 bit_or false b = omega arith
 
-hits_or : (p q : ℕ → Bool) (k : ℕ) → hits (λ j. p j || q j) k ≤ hits p k + hits q k
+pub hits_or : (p q : ℕ → Bool) (k : ℕ) → hits (λ j. p j || q j) k ≤ hits p k + hits q k
 hits_or p q zero = omega arith
 hits_or p q (suc k) =
     let here : bit (p k || q k) ≤ bit (p k) + bit (q k) = bit_or (p k) (q k) in
@@ -64,7 +64,7 @@ hits_or p q (suc k) =
 
 -- ---- of different ids, each session takes one at the most
 
-abbrev AreDifferent : (ℕ → ℕ) → ℕ → Type 0
+abbrev pub AreDifferent : (ℕ → ℕ) → ℕ → Type 0
 AreDifferent f k = (i j : ℕ) → i < j → j < k → f i ≡ f j → ⊥
 
 one_session : (f : ℕ → ℕ) (k : ℕ) → AreDifferent f k → (session : Option Session)
@@ -100,7 +100,7 @@ few_sessions (link ∷ links) =
 -- ---- ids in a row
 
 -- the id so many places on
-abbrev ahead : ℕ → ℕ → ℕ
+abbrev pub ahead : ℕ → ℕ → ℕ
 ahead zero id = id
 ahead (suc j) id = ahead j (id_after id)
 
@@ -112,7 +112,7 @@ after_cases id =
     (cases_lt id last_id)
 
 -- so many places on, before or behind the greatest id
-abbrev IsAhead : ℕ → ℕ → ℕ → Type 0
+abbrev pub IsAhead : ℕ → ℕ → ℕ → Type 0
 IsAhead j id found = ((id + j ≤ last_id) × (found ≡ id + j)) ⊎ ((last_id < id + j) × (found + last_id ≡ id + j))
 
 ahead_next : (j id next found : ℕ) → id ≤ last_id → suc j < last_id → ((id < last_id) × (next ≡ id + 1)) ⊎ ((last_id ≤ id) × (next ≡ 1))
@@ -131,7 +131,7 @@ after_low id = ⊎_elim (λ near. omega (arith, near.1)) (λ far. omega (arith, 
 after_high : (id : ℕ) → id_after id ≤ last_id
 after_high id = ⊎_elim (λ near. omega (arith, near.0, near.1)) (λ far. omega (arith, far.1)) (after_cases id)
 
-is_ahead : (j id : ℕ) → 1 ≤ id → id ≤ last_id → j < last_id → IsAhead j id (ahead j id)
+pub is_ahead : (j id : ℕ) → 1 ≤ id → id ≤ last_id → j < last_id → IsAhead j id (ahead j id)
 is_ahead zero id low high few = inl (omega arith, omega arith)
 is_ahead (suc j) id low high few =
     ahead_next j id (id_after id) (ahead j (id_after id)) high few (after_cases id)
@@ -144,7 +144,7 @@ apart i j id found low before few (inr p) (inl q) = omega (arith, p.0, p.1, q.0,
 apart i j id found low before few (inr p) (inr q) = omega (arith, p.0, p.1, q.0, q.1)
 
 -- as many ids in a row as there are differ
-differ : (id k : ℕ) → 1 ≤ id → id ≤ last_id → k ≤ last_id → AreDifferent (λ j. ahead j id) k
+pub differ : (id k : ℕ) → 1 ≤ id → id ≤ last_id → k ≤ last_id → AreDifferent (λ j. ahead j id) k
 differ id k low high few i j before below same =
     apart i j id (ahead j id) low before (omega arith)
     (subst (λ (n : ℕ). IsAhead i id n) same (is_ahead i id low high (omega arith))) (is_ahead j id low high (omega arith))
@@ -157,7 +157,7 @@ each_turn used id turns here later zero below = here
 each_turn used id turns here later (suc j) below = later j (omega arith)
 
 -- where nothing is found, all ids in a row are used
-all_used : (turns : ℕ) (used : ℕ → Bool) (id : ℕ) → free_from turns used id ≡ None → (j : ℕ) → j < turns → used (ahead j id) ≡ true
+pub all_used : (turns : ℕ) (used : ℕ → Bool) (id : ℕ) → free_from turns used id ≡ None → (j : ℕ) → j < turns → used (ahead j id) ≡ true
 all_used zero used id h = λ j below. absurd (omega arith)
 all_used (suc turns) used id h =
     cond_both (used id) (free_from turns used (id_after id)) (Some id)
@@ -167,12 +167,12 @@ all_used (suc turns) used id h =
     neither : (n : ℕ) → Some n ≡ None → ⊥
     neither n p = cc
 
-after_is_id : (id : ℕ) → is_id (id_after id) ≡ true
+pub after_is_id : (id : ℕ) → is_id (id_after id) ≡ true
 after_is_id id =
     and_from (nat_le 1 (id_after id)) (nat_le (id_after id) last_id) (le-leb 1 (id_after id) (after_low id))
     (le-leb (id_after id) last_id (after_high id))
 
-found_is_id : (turns : ℕ) (used : ℕ → Bool) (from id : ℕ) → is_id from ≡ true → free_from turns used from ≡ Some id → is_id id ≡ true
+pub found_is_id : (turns : ℕ) (used : ℕ → Bool) (from id : ℕ) → is_id from ≡ true → free_from turns used from ≡ Some id → is_id id ≡ true
 found_is_id zero used from id ok h = absurd (neither h)
   where
     neither : None ≡ Some id → ⊥
@@ -209,7 +209,7 @@ some_is : {x y : ℕ} → Some x ≡ Some y → x ≡ y
 some_is h = cc
 
 -- the id that is found is free
-found_free : (turns : ℕ) (used : ℕ → Bool) (from id : ℕ) → free_from turns used from ≡ Some id → used id ≡ false
+pub found_free : (turns : ℕ) (used : ℕ → Bool) (from id : ℕ) → free_from turns used from ≡ Some id → used id ≡ false
 found_free zero used from id h = absurd (none h)
   where
     none : None ≡ Some id → ⊥

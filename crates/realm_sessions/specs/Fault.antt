@@ -1,5 +1,6 @@
 -- The faults of a realm's parts, and their URIs (WAMP specification, "Predefined URIs"; the limit's is this profile's).
-use Rattle.std.specs.Prelude.{ℕ, List, Option, None, Some, codes}
+use Rattle.std.specs.Prelude.{◌≡◌, ℕ, List, Option, None, Some, Result, Ok, Err, codes}
+use Rattle.std.specs.Result.{IsOk}
 use Rattle.realm_sessions.specs.declared.fault.RealmFault.{RealmFault}
 use Rattle.realm_sessions.specs.declared.fault.RealmFault.TheVariants.{InvalidUri, InvalidArgument, Limit, AlreadyExists}
 use Rattle.realm_sessions.specs.declared.fault.RealmFault.TheVariants.{NoSuchRegistration, NoSuchSubscription, NoSuchProcedure}
@@ -26,3 +27,8 @@ uri_of NoSuchSubscription = Some (codes "wamp.error.no_such_subscription")
 uri_of NoSuchProcedure = Some (codes "wamp.error.no_such_procedure")
 uri_of NotOpen = None
 uri_of Memory = None
+
+-- what is answered is what is wanted; where memory runs out, no refusal was wanted
+abbrev pub Answers : {A : Type 0} → Result A RealmFault → Result A RealmFault → Type 0
+Answers (Err Memory) wanted = IsOk wanted
+Answers given wanted = given ≡ wanted

@@ -1,12 +1,13 @@
 -- Laws of sessions: what each change keeps, and that a new session has an id.
-use Rattle.std.specs.Prelude.{◌≡◌, ◌≢◌, ℕ, ◌<◌, ◌≤◌, ◌^◌, ◌↔◌, Bool, true, false, List, [], AllPairs, None, Some}
+use Rattle.std.specs.Prelude.{◌≡◌, ◌≢◌, ℕ, ◌<◌, ◌≤◌, ◌^◌, ◌↔◌, Bool, true, false, List, [], AllPairs, Option, None, Some}
 use Rattle.std.specs.Prelude.{Err}
 use Rattle.paxos_packets.specs.declared.transport.Transport.{Transport}
 use Rattle.wamp_ids.specs.Id.{last_id, is_id}
 use Rattle.realm_sessions.specs.declared.fault.RealmFault.TheVariants.{Limit}
 use Rattle.realm_sessions.specs.declared.links.Link.{Link}
 use Rattle.realm_sessions.specs.Links.{has_id, is_taken, session_count, new_session_id, connect, set_session, without_transport}
-use Rattle.realm_sessions.specs.Sessions.{Sessions, open_session, opened}
+use Rattle.realm_sessions.specs.Links.{by_transport, transport_of, announces, has_number, free_invocation, set_invocation}
+use Rattle.realm_sessions.specs.Sessions.{Sessions, open_session, opened, next_invocation}
 
 -- not the sessions of one id
 abbrev pub AreOtherSessions : Link → Link → Type 0
@@ -34,6 +35,10 @@ CloseKeepsSound = (links : List Link) (t : Transport) → AreSoundLinks links �
 abbrev pub RemoveKeepsSound : Type 0
 RemoveKeepsSound = (links : List Link) (t : Transport) → AreSoundLinks links → AreSoundLinks (without_transport links t)
 
+abbrev pub InvokeKeepsSound : Type 0
+InvokeKeepsSound = (sessions : Sessions) (id : ℕ) (taken : List ℕ) → AreSoundLinks sessions.list
+    → AreSoundLinks (next_invocation sessions id taken).sessions.list
+
 -- ---- a session has an id
 
 -- a free id is found for a session while fewer than 2^53 are open
@@ -53,3 +58,22 @@ abbrev pub LimitWhereFull : Type 0
 LimitWhereFull = (sessions : Sessions) (t : Transport) (draw : ℕ) (canceling : Bool) → is_id draw ≡ true
     → sessions.limit < 2 ^ 32
     → ((open_session sessions t draw canceling).answer ≡ Err Limit) ↔ (sessions.limit ≤ session_count sessions.list)
+
+-- ---- an invocation has an id
+
+-- the next invocation's id is an id that is not taken
+abbrev pub FreeInvocationIsFree : Type 0
+FreeInvocationIsFree = (taken : List ℕ) (last : Option ℕ) (id : ℕ) → free_invocation taken last ≡ Some id
+    → (is_id id ≡ true) × (has_number taken id ≡ false)
+
+-- and there is none exactly where all 2^53 are taken
+abbrev pub NoneWhereAllAreTaken : Type 0
+NoneWhereAllAreTaken = (taken : List ℕ) (last : Option ℕ)
+    → (free_invocation taken last ≡ None) ↔ ((id : ℕ) → is_id id ≡ true → has_number taken id ≡ true)
+
+-- that a session is invoked changes neither where the sessions are nor what they announced
+abbrev pub InvokeKeepsPlaces : Type 0
+InvokeKeepsPlaces = (links : List Link) (id invocation : ℕ)
+    → ((t : Transport) → by_transport (set_invocation links id invocation) t ≡ by_transport links t)
+    × ((other : ℕ) → transport_of (set_invocation links id invocation) other ≡ transport_of links other)
+    × ((other : ℕ) → announces (set_invocation links id invocation) other ≡ announces links other)

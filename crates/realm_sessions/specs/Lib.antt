@@ -1,4 +1,5 @@
 pub mod Fault
 pub mod Links
+pub mod Members
 pub mod Sessions
 pub mod Laws

@@ -86,3 +86,41 @@ set_session links t session = map (put_session t session) links
 -- the transport is connected no more
 abbrev pub without_transport : List Link → Transport → List Link
 without_transport links t = filter (λ link. not (is_of t link)) links
+
+abbrev pub found_session : Option Link → Option Session
+found_session None = None
+found_session (Some link) = link.session
+
+-- the session of this id
+abbrev pub session_with : List Link → ℕ → Option Session
+session_with links id = found_session (find (has_id id) links)
+
+-- the list has this id
+abbrev pub has_number : List ℕ → ℕ → Bool
+has_number ids id = list_any (λ other. other == id) ids
+
+-- ids of invocations begin at 1 and go round
+abbrev pub invocation_after : Option ℕ → ℕ
+invocation_after None = 1
+invocation_after (Some last) = id_after last
+
+-- the first id behind the last invocation's that is not taken
+abbrev pub free_invocation : List ℕ → Option ℕ → Option ℕ
+free_invocation taken last = free_from (suc (length taken)) (has_number taken) (invocation_after last)
+
+-- a session's next invocation
+abbrev pub invocation_of : List ℕ → Option Session → Option ℕ
+invocation_of taken None = None
+invocation_of taken (Some session) = free_invocation taken session.last_invocation
+
+abbrev pub invoked : ℕ → Option Session → Option Session
+invoked invocation None = None
+invoked invocation (Some session) = Some (record { id = session.id; canceling = session.canceling; last_invocation = Some invocation })
+
+abbrev pub put_invocation : ℕ → ℕ → Link → Link
+put_invocation id invocation link =
+    if has_id id link then record { transport = link.transport; session = invoked invocation link.session } else link
+
+-- the session's last invocation is this one now
+abbrev pub set_invocation : List Link → ℕ → ℕ → List Link
+set_invocation links id invocation = map (put_invocation id invocation) links

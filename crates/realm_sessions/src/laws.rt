@@ -1,6 +1,7 @@
 //! Laws of sessions, each the contract of a function that does nothing.
 ghost use Rattle.realm_sessions.specs.Laws.{NoneAreSound, ConnectKeepsSound, OpenKeepsSound, CloseKeepsSound, RemoveKeepsSound};
-ghost use Rattle.realm_sessions.specs.Laws.{FreeIdIsFound, OpensWhereRoom, LimitWhereFull};
+ghost use Rattle.realm_sessions.specs.Laws.{InvokeKeepsSound, FreeIdIsFound, OpensWhereRoom, LimitWhereFull};
+ghost use Rattle.realm_sessions.specs.Laws.{FreeInvocationIsFree, NoneWhereAllAreTaken, InvokeKeepsPlaces};
 
 /// Each transport is connected once, and no two sessions have one id: so it is at first, and each change keeps it. Takes no
 /// memory.
@@ -10,6 +11,7 @@ pub fn sessions_are_sound()
     ensures opened { OpenKeepsSound }
     ensures close { CloseKeepsSound }
     ensures remove { RemoveKeepsSound }
+    ensures invoke { InvokeKeepsSound }
 {}
 
 /// While fewer than 2^53 sessions are open, the search for a new session's id ends at one that no session has; so `open` never
@@ -18,4 +20,12 @@ pub fn session_ids_are_found()
     ensures found { FreeIdIsFound }
     ensures opens { OpensWhereRoom }
     ensures limit { LimitWhereFull }
+{}
+
+/// The id of an invocation is free, and is found unless all 2^53 are taken; handing it out changes neither where sessions are
+/// nor what they announced. Takes no memory.
+pub fn invocation_ids_are_found()
+    ensures free { FreeInvocationIsFree }
+    ensures none { NoneWhereAllAreTaken }
+    ensures places { InvokeKeepsPlaces }
 {}

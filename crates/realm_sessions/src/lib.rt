@@ -4,9 +4,11 @@
 mod fault;
 pub mod laws;
 mod links;
+mod members;
 mod sessions;
 
 pub use fault::RealmFault;
 pub use links::{Link, Session};
+pub use members::Members;
 pub use paxos_packets::Transport;
 pub use sessions::Sessions;

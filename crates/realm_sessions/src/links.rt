@@ -1,6 +1,8 @@
-ghost use Rattle.std.specs.Prelude.{◌≡◌, map, find, option_map};
+ghost use Rattle.std.specs.Prelude.{◌≡◌, false, map, find, IfSome, option_map};
 ghost use Rattle.realm_sessions.specs.Links.{is_of, has_id, is_taken, is_connected, new_session_id, session_count};
 ghost use Rattle.realm_sessions.specs.Links.{put_session, set_session, without_transport};
+ghost use Rattle.realm_sessions.specs.Links.{session_with, has_number, invocation_after, free_invocation};
+ghost use Rattle.realm_sessions.specs.Links.{put_invocation, set_invocation};
 
 use paxos_packets::Transport;
 use wamp_ids::Id;
@@ -120,4 +122,76 @@ pub fn remove_link(links: &mut Vec<Link>, transport: Transport)
     ensures { links.new.items ≡ without_transport links.old.items transport }
 {
     links.retain(|link| !link.is_of(transport));
+}
+
+// The session of this id.
+pub fn session_with(links: &[Link], id: Id) -> Option<Session>
+    ensures { result ≡ session_with links.now id }
+{
+    match link_with(links, id) {
+        Some(link) => link.session,
+        None => None,
+    }
+}
+
+// Whether the id is among these.
+fn has_number(ids: &[Id], id: Id) -> bool
+    ensures { result ≡ has_number ids.now id }
+{
+    ids.iter().any(|other| *other == id)
+}
+
+// The first id behind the last invocation's that is not taken. Goes over `taken` once more for each id that is taken.
+pub fn free_invocation(taken: &[Id], last: Option<Id>) -> Option<Id>
+    ensures first { result ≡ free_invocation taken.now last }
+    ensures free { IfSome result (λ id. has_number taken.now id ≡ false) }
+{
+    let mut id = invocation_after(last);
+    for _other in taken {
+        if !has_number(taken, id) {
+            return Some(id);
+        }
+        id = id.next();
+    }
+    if has_number(taken, id) {
+        None
+    } else {
+        Some(id)
+    }
+}
+
+fn invocation_after(last: Option<Id>) -> Id
+    ensures { result ≡ invocation_after last }
+{
+    match last {
+        Some(last) => last.next(),
+        None => Id::new(1).unwrap(),
+    }
+}
+
+// The session's last invocation is this one now.
+pub fn set_invocations(links: &mut [Link], id: Id, invocation: Id)
+    ensures { links.new ≡ set_invocation links.old id invocation }
+{
+    for place in 0..links.len() {
+        let link = with_invocation(&links[place], id, invocation);
+        links[place] = link;
+    }
+}
+
+// The link, with this invocation as its session's last one if it has this id.
+fn with_invocation(link: &Link, id: Id, invocation: Id) -> Link
+    ensures { result ≡ put_invocation id invocation link.now }
+{
+    match link.session {
+        Some(session) if session.id == id => Link {
+            transport: link.transport,
+            session: Some(Session {
+                id: session.id,
+                canceling: session.canceling,
+                last_invocation: Some(invocation),
+            }),
+        },
+        _ => *link,
+    }
 }

@@ -1,13 +1,13 @@
-ghost use Rattle.std.specs.Prelude.{◌≡◌, [], Some, None, OnOk, OnErr, IfOk, IsOkUnless};
+ghost use Rattle.std.specs.Prelude.{◌≡◌, [], Some, None, false, IfSome, OnOk, OnErr, IfOk, IsOkUnless};
 ghost use Rattle.realm_sessions.specs.declared.fault.RealmFault.TheVariants as fault;
 ghost use Rattle.realm_sessions.specs.Links.{by_transport, transport_of, announces, of_origin};
-ghost use Rattle.realm_sessions.specs.Links.{connect, set_session, without_transport};
-ghost use Rattle.realm_sessions.specs.Sessions.{with_list, open_session};
+ghost use Rattle.realm_sessions.specs.Links.{connect, set_session, without_transport, has_number};
+ghost use Rattle.realm_sessions.specs.Sessions.{with_list, open_session, next_invocation};
 
 use crate::fault::RealmFault;
 use crate::links::{
-    Link, Session, is_connected, link_of, link_with, new_id, remove_link, session_count,
-    set_sessions,
+    Link, Session, free_invocation, is_connected, link_of, link_with, new_id, remove_link,
+    session_count, session_with, set_invocations, set_sessions,
 };
 use paxos_packets::Transport;
 use std::alloc::Global;
@@ -17,6 +17,7 @@ use wamp_ids::Id;
 /// The connected transports of a realm in the order in which they came, and their sessions, of which only so many may be open.
 ///
 /// Cost: each call goes over the transports once, `open` a few times more, and once more for each id that it finds taken.
+/// `next_invocation` goes over them twice.
 #[derive(Drop)]
 pub struct Sessions {
     limit: u32,
@@ -98,6 +99,21 @@ impl Sessions {
         ensures { self.new ≡ with_list self.old (without_transport self.old.list transport) }
     {
         remove_link(&mut self.list, transport);
+    }
+
+    /// The id of the session's next invocation, which is its last one now: the first one behind its last that is not `taken`;
+    /// ids begin at 1 and go round (WAMP specification, "IDs"). `None` without that session, and otherwise only where all 2^53
+    /// are taken (`laws`); nothing has changed then. Goes over `taken` once, and once more for each id that it finds taken.
+    /// Takes no memory.
+    pub fn next_invocation(&mut self, id: Id, taken: &[Id]) -> Option<Id>
+        ensures answer { result ≡ (next_invocation self.old id taken.now).answer }
+        ensures sessions { self.new ≡ (next_invocation self.old id taken.now).sessions }
+        ensures free { IfSome result (λ invocation. has_number taken.now invocation ≡ false) }
+    {
+        let session = session_with(&self.list, id)?;
+        let invocation = free_invocation(taken, session.last_invocation)?;
+        set_invocations(&mut self.list, id, invocation);
+        Some(invocation)
     }
 
     /// The connected transports and their sessions, in the order in which they came. Takes no memory.

@@ -1,0 +1,2 @@
+pub mod SoundCalls
+pub mod EndedCalls

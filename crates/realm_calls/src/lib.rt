@@ -1,0 +1,7 @@
+//! The open calls of a realm (WAMP specification, "Remote Procedure Calls").
+#![tactic(auto)]
+
+mod calls;
+pub mod laws;
+
+pub use calls::{Calls, Cancelled, Open};

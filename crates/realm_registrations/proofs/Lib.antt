@@ -1,0 +1,4 @@
+pub mod Changes
+pub mod Tests
+pub mod SoundRegistrations
+pub mod Calling

@@ -1,0 +1,10 @@
+//! The registrations of a realm: which sessions are called for a procedure (WAMP specification, "Registering and Unregistering",
+//! "Pattern-based Registrations", "Shared Registration").
+#![tactic(auto)]
+
+pub mod laws;
+mod registration;
+mod registry;
+
+pub use registration::{Chosen, Registration};
+pub use registry::Registrations;

@@ -1,0 +1,6 @@
+use Rattle.realm_sessions.proofs.FreeInvocations.{free_invocation_free, none_all_taken}
+use Rattle.realm_sessions.proofs.Invoking.{invoked_places}
+use Rattle.realm_sessions.proofs.laws.invocation_ids_are_found.Goals as goal
+
+pub returns : goal.returns
+returns c = record { free = free_invocation_free; none = none_all_taken; places = invoked_places }

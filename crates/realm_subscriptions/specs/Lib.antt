@@ -1,0 +1,6 @@
+pub mod Subscription
+pub mod Subscriptions
+pub mod Subscribing
+pub mod Leaving
+pub mod Receiving
+pub mod Laws
