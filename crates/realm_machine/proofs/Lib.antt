@@ -1,2 +1,1 @@
-pub mod SoundTopics
 pub mod SoundSteps

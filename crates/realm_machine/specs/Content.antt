@@ -1,29 +1,40 @@
 -- The realm's content, and steps: what comes of it and what is said (WAMP specification, "Sessions"; docs/PROTOCOL.md, "The realm").
-use Rattle.std.specs.Prelude.{◌≡◌, ℕ, List, [], ◌∷◌, ◌++◌, Result, IfOk}
+use Rattle.std.specs.Prelude.{◌≡◌, ℕ, List, [], ◌∷◌, ◌++◌, Option, None, Some, Result, IfOk}
 use Rattle.std.specs.declared.vec.Vec.{Vec}
 use Rattle.std.specs.declared.alloc.Global.{Global}
 use Rattle.paxos_packets.specs.declared.transport.Transport.{Transport}
 use Rattle.wamp_messages.specs.declared.message.Message.{Message}
-use Rattle.wamp_messages.specs.declared.message.RequestKind.{RequestKind}
+use Rattle.wamp_elements.specs.declared.request_kind.RequestKind.{RequestKind}
 use Rattle.realm_machine.specs.declared.act.Say.{Say}
 use Rattle.realm_sessions.specs.declared.links.Link.{Link}
+use Rattle.realm_sessions.specs.declared.fault.RealmFault.{RealmFault}
+use Rattle.realm_sessions.specs.Fault.{uri_of}
 use Rattle.realm_sessions.specs.Sessions.{Sessions, with_list}
+use Rattle.realm_registrations.specs.Registry.{Registry, no_registrations}
+use Rattle.realm_subscriptions.specs.Subscriptions.{Subscriptions, no_subscriptions}
 use Rattle.realm_machine.specs.declared.config.Limits.{Limits}
-use Rattle.realm_machine.specs.Topics.{Topics, no_topics}
 use Rattle.realm_machine.specs.Sayings.{say, refusal}
 
 pub record Content : Type 0 where
   pub sessions : Sessions
-  pub topics : Topics
+  pub registry : Registry
+  pub topics : Subscriptions
 
 -- nothing, under these limits
 abbrev pub empty : Limits → Content
-empty limits = record { sessions = record { limit = limits.sessions; list = [] }; topics = no_topics }
+empty limits = record {
+  sessions = record { limit = limits.sessions; list = [] };
+  registry = no_registrations limits.registrations;
+  topics = no_subscriptions limits.subscriptions;
+}
 
 abbrev pub with_links : Content → List Link → Content
-with_links c links = record { sessions = with_list c.sessions links; topics = c.topics }
+with_links c links = record c { sessions = with_list c.sessions links }
 
-abbrev pub with_topics : Content → Topics → Content
+abbrev pub with_registry : Content → Registry → Content
+with_registry c registry = record c { registry = registry }
+
+abbrev pub with_topics : Content → Subscriptions → Content
 with_topics c topics = record c { topics = topics }
 
 -- the content after a step, and what is said in it
@@ -42,6 +53,14 @@ reply c t message = record { content = c; says = say t message ∷ [] }
 -- a request is refused for this error
 abbrev pub refuse : Content → Transport → RequestKind → ℕ → List ℕ → Step
 refuse c t kind request error = reply c t (refusal kind request error)
+
+abbrev pub refuse_by : Content → Transport → RequestKind → ℕ → Option (List ℕ) → Step
+refuse_by c t kind request None = quiet c
+refuse_by c t kind request (Some error) = refuse c t kind request error
+
+-- a request is refused for a part's fault, by its URI; the faults without one refuse no request
+abbrev pub refuse_for : Content → Transport → RequestKind → ℕ → RealmFault → Step
+refuse_for c t kind request fault = refuse_by c t kind request (uri_of fault)
 
 -- one step, then another on what the first leaves
 abbrev pub and_then : Step → (Content → Step) → Step

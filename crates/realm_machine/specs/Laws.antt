@@ -6,36 +6,23 @@ use Rattle.realm_machine.specs.declared.act.Act.{Act}
 use Rattle.realm_sessions.specs.Links.{is_taken, session_count}
 use Rattle.realm_sessions.specs.Sessions.{opened}
 use Rattle.realm_sessions.specs.Laws.{AreSoundLinks}
-use Rattle.realm_machine.specs.declared.topics.Subscription.{Subscription}
+use Rattle.realm_registrations.specs.Laws.{AreSoundRegistrations}
+use Rattle.realm_subscriptions.specs.Laws.{AreSoundSubscriptions}
 use Rattle.realm_machine.specs.Config.{Config}
-use Rattle.realm_machine.specs.Topics.{Topics}
 use Rattle.realm_machine.specs.Content.{Content, empty}
 use Rattle.realm_machine.specs.Opening.{open_at, welcomed}
 use Rattle.realm_machine.specs.Step.{next}
 
 -- ---- what every realm keeps
 
-pub record IsSoundSubscription (subscription : Subscription) : Type 0 where
-  -- each member stands in it once
-  pub members : AllPairs (λ (a b : ℕ). a ≢ b) subscription.members
-  -- it has one
-  pub held : 0 < length subscription.members
-
-pub record AreSoundTopics (topics : Topics) : Type 0 where
-  -- ids rise
-  pub ids : AllPairs (λ (a b : Subscription). a.id < b.id) topics.list
-  -- none is above the last one that was handed out, and that is an id
-  pub handed_out : All (λ (subscription : Subscription). subscription.id ≤ topics.last) topics.list
-  pub last : topics.last ≤ last_id
-  -- each topic has one subscription
-  pub one_each : AllPairs (λ (a b : Subscription). a.topic ≢ b.topic) topics.list
-  pub subscriptions : All IsSoundSubscription topics.list
-
 pub record IsSound (config : Config) (c : Content) : Type 0 where
-  -- the sessions are held to the limit of the configuration
+  -- sessions, subscriptions and registrations are held to the limits of the configuration
   pub limit : c.sessions.limit ≡ config.limits.sessions
+  pub topics_limit : c.topics.limit ≡ config.limits.subscriptions
+  pub registry_limit : c.registry.limit ≡ config.limits.registrations
   pub links : AreSoundLinks c.sessions.list
-  pub topics : AreSoundTopics c.topics
+  pub registry : AreSoundRegistrations c.registry
+  pub topics : AreSoundSubscriptions c.topics
 
 -- the content after acts at transports
 abbrev pub after : Config → Content → List (Transport × Act) → Content
@@ -58,4 +45,4 @@ OpensWhereRoom = (config : Config) (c : Content) (t : Transport) (draw : ℕ) (c
     → config.limits.sessions < 2 ^ 32 → c.sessions.limit ≡ config.limits.sessions
     → session_count c.sessions.list < config.limits.sessions
     → (id : ℕ) × (is_id id ≡ true) × (is_taken c.sessions.list id ≡ false)
-    × (open_at config c t draw config.name canceling ≡ welcomed c t (opened c.sessions t canceling (Some id)))
+    × (open_at config c t draw (record { realm = config.name; canceling = canceling }) ≡ welcomed c t (opened c.sessions t canceling (Some id)))

@@ -4,17 +4,19 @@ use Rattle.paxos_packets.specs.declared.transport.Transport.{Transport}
 use Rattle.wamp_messages.specs.declared.message.Message.TheVariants.{Goodbye}
 use Rattle.realm_sessions.specs.Links.{by_transport, set_session, without_transport}
 use Rattle.realm_sessions.specs.Sessions.{with_list}
-use Rattle.realm_machine.specs.Topics.{without_session}
+use Rattle.realm_registrations.specs.Registry as registrations
+use Rattle.realm_subscriptions.specs.Leaving as subscriptions
 use Rattle.realm_machine.specs.Sayings.{say, shut, abort, protocol_violation, goodbye_and_out}
 use Rattle.realm_machine.specs.Content.{Content, Step, quiet, reply, and_then, with_links}
 
--- the session leaves what it is subscribed to; its transport stays, without a session
+-- the session leaves its registrations and its subscriptions; its transport stays, without a session
 abbrev pub leave_session : Content → Transport → Option (Option ℕ) → Step
 leave_session c t None = quiet c
 leave_session c t (Some None) = quiet c
 leave_session c t (Some (Some session)) = quiet (record {
   sessions = with_list c.sessions (set_session c.sessions.list t None);
-  topics = without_session c.topics session;
+  registry = registrations.leave c.registry session;
+  topics = subscriptions.leave c.topics session;
 })
 
 abbrev pub leave : Content → Transport → Step
@@ -35,4 +37,4 @@ abbrev pub aborted : Content → Transport → Step
 aborted c t = and_then (remove c t) (λ d. record { content = d; says = shut t ∷ [] })
 
 abbrev pub goodbye : Content → Transport → Step
-goodbye c t = and_then (leave c t) (λ d. reply d t (Goodbye goodbye_and_out))
+goodbye c t = and_then (leave c t) (λ d. reply d t (Goodbye (record { reason = goodbye_and_out })))

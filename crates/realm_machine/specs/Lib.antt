@@ -1,10 +1,11 @@
-pub mod Topics
 pub mod Sayings
 pub mod Config
 pub mod Content
 pub mod Leaving
 pub mod Opening
 pub mod Subscribing
+pub mod Registering
+pub mod Unsubscribing
 pub mod Publishing
 pub mod Step
 pub mod Realm

@@ -1,7 +1,8 @@
 -- How a client opens a session (WAMP specification, "Session Establishment"; the refusals and their order are this profile's:
 -- docs/PROTOCOL.md, "The realm").
-use Rattle.std.specs.Prelude.{ℕ, Bool, not, List, Result, Ok, Err, bytes_eq, if◌then◌else◌}
+use Rattle.std.specs.Prelude.{ℕ, not, Result, Ok, Err, bytes_eq, if◌then◌else◌}
 use Rattle.paxos_packets.specs.declared.transport.Transport.{Transport}
+use Rattle.wamp_messages.specs.declared.session.Hello.{Hello}
 use Rattle.wamp_messages.specs.declared.message.Message.TheVariants.{Welcome}
 use Rattle.realm_sessions.specs.declared.fault.RealmFault.{RealmFault}
 use Rattle.realm_sessions.specs.Sessions.{Sessions, Opened, open_session}
@@ -12,14 +13,14 @@ use Rattle.realm_machine.specs.Leaving.{stop}
 
 -- the content with these sessions, and what the client is told; a session is refused for the limit alone
 abbrev pub welcome : Content → Transport → Sessions → Result ℕ RealmFault → Step
-welcome c t sessions (Ok id) = reply (record { sessions = sessions; topics = c.topics }) t (Welcome id)
+welcome c t sessions (Ok id) = reply (record c { sessions = sessions }) t (Welcome (record { session = id }))
 welcome c t sessions (Err fault) = stop c t limit
 
 abbrev pub welcomed : Content → Transport → Opened → Step
 welcomed c t opened = welcome c t opened.sessions opened.answer
 
 -- at a transport without a session
-abbrev pub open_at : Config → Content → Transport → ℕ → List ℕ → Bool → Step
-open_at config c t draw realm canceling =
-    if not (bytes_eq realm config.name) then stop c t no_such_realm
-    else welcomed c t (open_session c.sessions t draw canceling)
+abbrev pub open_at : Config → Content → Transport → ℕ → Hello → Step
+open_at config c t draw hello =
+    if not (bytes_eq hello.realm config.name) then stop c t no_such_realm
+    else welcomed c t (open_session c.sessions t draw hello.canceling)

@@ -2,7 +2,7 @@
 use Rattle.std.specs.Prelude.{ℕ, List, [], ◌∷◌, Option, None, Some, codes}
 use Rattle.paxos_packets.specs.declared.transport.Transport.{Transport}
 use Rattle.wamp_values.specs.declared.args.Args.TheVariants.{Nothing}
-use Rattle.wamp_messages.specs.declared.message.RequestKind.{RequestKind}
+use Rattle.wamp_elements.specs.declared.request_kind.RequestKind.{RequestKind}
 use Rattle.wamp_messages.specs.declared.message.Message.{Message}
 use Rattle.wamp_messages.specs.declared.message.Message.TheVariants.{Abort, Error}
 use Rattle.realm_machine.specs.declared.act.Out.TheVariants.{Send, Close}
@@ -31,6 +31,9 @@ invalid_uri = codes "wamp.error.invalid_uri"
 abbrev pub invalid_argument : List ℕ
 invalid_argument = codes "wamp.error.invalid_argument"
 
+abbrev pub no_such_subscription : List ℕ
+no_such_subscription = codes "wamp.error.no_such_subscription"
+
 abbrev pub limit : List ℕ
 limit = codes "cluster.error.limit"
 
@@ -45,7 +48,7 @@ goodbye_and_out = codes "wamp.close.goodbye_and_out"
 
 -- a request is refused
 abbrev pub refusal : RequestKind → ℕ → List ℕ → Message
-refusal kind request error = Error kind request error Nothing
+refusal kind request error = Error (record { kind = kind; request = request; error = error; args = Nothing })
 
 abbrev pub abort : List ℕ → Message
-abort reason = Abort reason Nothing
+abort reason = Abort (record { reason = reason; args = Nothing })

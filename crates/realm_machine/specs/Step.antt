@@ -1,11 +1,13 @@
 -- What each act does, by what the client sends: one case for each row of the realm's table (docs/PROTOCOL.md, "The realm").
 use Rattle.std.specs.Prelude.{ℕ, Bool, List, Option, None, Some, if◌then◌else◌}
 use Rattle.paxos_packets.specs.declared.transport.Transport.{Transport}
-use Rattle.wamp_messages.specs.declared.message.RequestKind.{RequestKind}
-use Rattle.wamp_messages.specs.declared.message.RequestKind.TheVariants as kind
+use Rattle.wamp_elements.specs.declared.request_kind.RequestKind.{RequestKind}
+use Rattle.wamp_elements.specs.declared.request_kind.RequestKind.TheVariants as kind
 use Rattle.wamp_messages.specs.declared.message.Message.{Message}
 use Rattle.wamp_messages.specs.declared.message.Message.TheVariants.{Hello, Welcome, Abort, Goodbye, Error, Publish, Published}
-use Rattle.wamp_messages.specs.declared.message.Message.TheVariants.{Subscribe, Subscribed, Event}
+use Rattle.wamp_messages.specs.declared.message.Message.TheVariants.{Subscribe, Subscribed, Event, Unsubscribe, Unsubscribed}
+use Rattle.wamp_messages.specs.declared.message.Message.TheVariants.{Register, Registered, Unregister, Unregistered}
+use Rattle.wamp_messages.specs.declared.message.Message.TheVariants.{Call, Cancel, Reply, Invocation, Interrupt, Yield}
 use Rattle.wamp_messages.specs.declared.read_result.UnfitKind.{UnfitKind}
 use Rattle.wamp_messages.specs.declared.read_result.UnfitKind.TheVariants as unfit
 use Rattle.wamp_messages.specs.declared.read_result.Read.{Read}
@@ -21,12 +23,17 @@ use Rattle.realm_machine.specs.Content.{Content, Step, quiet, refuse, with_links
 use Rattle.realm_machine.specs.Leaving.{remove, violation, aborted, goodbye}
 use Rattle.realm_machine.specs.Opening.{open_at}
 use Rattle.realm_machine.specs.Subscribing.{subscribe}
+use Rattle.realm_machine.specs.Unsubscribing.{unsubscribe}
 use Rattle.realm_machine.specs.Publishing.{publish}
+use Rattle.realm_machine.specs.Registering.{register, unregister}
 
--- an unfit answer to an invocation changes nothing: there are no calls yet
+-- an unfit request that is not served yet breaks the protocol, and an unfit answer to an invocation changes nothing: there are no calls yet
 abbrev pub refuse_unfit : Content → Transport → UnfitKind → ℕ → Step
 refuse_unfit c t unfit.Publish request = refuse c t kind.Publish request invalid_argument
 refuse_unfit c t unfit.Subscribe request = refuse c t kind.Subscribe request invalid_argument
+refuse_unfit c t unfit.Register request = refuse c t kind.Register request invalid_argument
+refuse_unfit c t unfit.Call request = violation c t
+refuse_unfit c t unfit.Cancel request = violation c t
 refuse_unfit c t unfit.Yield request = quiet c
 
 -- an unfit request, of a client with a session
@@ -38,24 +45,35 @@ abbrev pub on_error : Content → Transport → RequestKind → Step
 on_error c t kind.Invocation = quiet c
 on_error c t kind = violation c t
 
--- a client with a session, and the last four kinds are those that only the router sends
+-- a client with a session; four kinds are not served yet, and the last ten are those that only the router sends
 abbrev pub on_request : Config → Content → Requester → Message → Step
-on_request config c requester (Hello realm canceling) = violation c requester.transport
-on_request config c requester (Abort reason args) = aborted c requester.transport
+on_request config c requester (Hello hello) = violation c requester.transport
+on_request config c requester (Abort reason) = aborted c requester.transport
 on_request config c requester (Goodbye reason) = goodbye c requester.transport
-on_request config c requester (Error kind request error args) = on_error c requester.transport kind
-on_request config c requester (Publish request acknowledge exclude_me topic args) =
-    publish c requester request acknowledge exclude_me topic args
-on_request config c requester (Subscribe request matching topic) = subscribe config c requester request matching topic
-on_request config c requester (Welcome session) = violation c requester.transport
-on_request config c requester (Published request publication) = violation c requester.transport
-on_request config c requester (Subscribed request subscription) = violation c requester.transport
-on_request config c requester (Event subscription publication topic args) = violation c requester.transport
+on_request config c requester (Error error) = on_error c requester.transport error.kind
+on_request config c requester (Publish asked) = publish c requester asked
+on_request config c requester (Subscribe asked) = subscribe c requester asked
+on_request config c requester (Unsubscribe asked) = unsubscribe c requester asked
+on_request config c requester (Register asked) = register c requester asked
+on_request config c requester (Unregister asked) = unregister c requester asked
+on_request config c requester (Call asked) = violation c requester.transport
+on_request config c requester (Cancel asked) = violation c requester.transport
+on_request config c requester (Yield asked) = violation c requester.transport
+on_request config c requester (Welcome welcome) = violation c requester.transport
+on_request config c requester (Published published) = violation c requester.transport
+on_request config c requester (Subscribed subscribed) = violation c requester.transport
+on_request config c requester (Event event) = violation c requester.transport
+on_request config c requester (Unsubscribed unsubscribed) = violation c requester.transport
+on_request config c requester (Registered registered) = violation c requester.transport
+on_request config c requester (Unregistered unregistered) = violation c requester.transport
+on_request config c requester (Reply reply) = violation c requester.transport
+on_request config c requester (Invocation invocation) = violation c requester.transport
+on_request config c requester (Interrupt interrupt) = violation c requester.transport
 
 -- a client without a session: whatever it sends but HELLO and ABORT breaks the protocol
 abbrev pub on_opening : Config → Content → Transport → ℕ → Message → Step
-on_opening config c t draw (Hello realm canceling) = open_at config c t draw realm canceling
-on_opening config c t draw (Abort reason args) = aborted c t
+on_opening config c t draw (Hello hello) = open_at config c t draw hello
+on_opening config c t draw (Abort reason) = aborted c t
 on_opening config c t draw message = violation c t
 
 abbrev pub on_message : Config → Content → Transport → Option ℕ → ℕ → Message → Step

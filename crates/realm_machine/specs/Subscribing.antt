@@ -1,37 +1,33 @@
--- How a client subscribes to a topic (WAMP specification, "Publish and Subscribe"; the limits, the refusals and their order
--- are this profile's: docs/PROTOCOL.md, "The realm").
-use Rattle.std.specs.Prelude.{ℕ, ◌+◌, List, Option, None, Some, if◌then◌else◌}
-use Rattle.wamp_ids.specs.declared.policy.Match.{Match}
-use Rattle.wamp_ids.specs.declared.policy.Match.TheVariants.{Exact, Prefix, Wildcard}
-use Rattle.wamp_messages.specs.declared.message.RequestKind.TheVariants as kind
-use Rattle.wamp_messages.specs.declared.message.Message.TheVariants.{Subscribed}
+-- How a client subscribes to a pattern of topics (WAMP specification, "Publish and Subscribe", "Pattern-based Subscriptions"; the refusals
+-- and their order are this profile's: docs/PROTOCOL.md, "The realm").
+use Rattle.std.specs.Prelude.{ℕ, Result, Ok, Err}
+use Rattle.wamp_ids.specs.declared.uri.UriFault.{UriFault}
+use Rattle.wamp_ids.specs.Pattern.{PatternValue, pattern_of}
+use Rattle.wamp_elements.specs.declared.request_kind.RequestKind.TheVariants as kind
+use Rattle.wamp_messages.specs.declared.subscribe.Subscribe.{Subscribe}
+use Rattle.wamp_messages.specs.declared.message.Message.TheVariants as message
+use Rattle.realm_sessions.specs.declared.fault.RealmFault.{RealmFault}
+use Rattle.realm_subscriptions.specs.Subscriptions.{Subscriptions}
+use Rattle.realm_subscriptions.specs.Subscribing.{Subscribed}
+use Rattle.realm_subscriptions.specs.Subscribing as subscriptions
 use Rattle.realm_machine.specs.declared.requester.Requester.{Requester}
-use Rattle.realm_machine.specs.declared.topics.Subscription.{Subscription}
-use Rattle.realm_machine.specs.Config.{Config}
-use Rattle.realm_machine.specs.Topics.{is_uri, has_member, subscription_on, is_full, with_member, with_subscription}
-use Rattle.realm_machine.specs.Sayings.{invalid_uri, invalid_argument, limit}
+use Rattle.realm_machine.specs.Sayings.{invalid_uri, limit}
 use Rattle.realm_machine.specs.Content.{Content, Step, reply, refuse, with_topics}
 
-abbrev pub subscribed : Content → Requester → ℕ → ℕ → Step
-subscribed c requester request id = reply c requester.transport (Subscribed request id)
+-- the content with these subscriptions, and what the client is told; a session is refused for the limit alone
+abbrev pub subscribed : Content → Requester → ℕ → Subscriptions → Result ℕ RealmFault → Step
+subscribed c requester request topics (Ok id) =
+    reply (with_topics c topics) requester.transport (message.Subscribed (record { request = request; subscription = id }))
+subscribed c requester request topics (Err fault) = refuse c requester.transport kind.Subscribe request limit
 
--- to a topic with this subscription, or with none
-abbrev pub subscribe_to : Config → Content → Requester → ℕ → List ℕ → Option Subscription → Step
-subscribe_to config c requester request topic (Some subscription) =
-    if has_member requester.session subscription then subscribed c requester request subscription.id
-    else (if is_full config.limits.subscriptions c.topics requester.session then refuse c requester.transport kind.Subscribe request limit
-    else subscribed (with_topics c (with_member c.topics requester.session topic)) requester request subscription.id)
-subscribe_to config c requester request topic None =
-    if is_full config.limits.subscriptions c.topics requester.session then refuse c requester.transport kind.Subscribe request limit
-    else subscribed (with_topics c (with_subscription c.topics requester.session topic)) requester request (c.topics.last + 1)
+abbrev pub answer_subscribe : Content → Requester → ℕ → Subscribed → Step
+answer_subscribe c requester request due = subscribed c requester request due.subscriptions due.answer
 
-abbrev pub subscribe_exact : Config → Content → Requester → ℕ → List ℕ → Step
-subscribe_exact config c requester request topic =
-    if is_uri topic then subscribe_to config c requester request topic (subscription_on c.topics topic)
-    else refuse c requester.transport kind.Subscribe request invalid_uri
+abbrev pub subscribe_to : Content → Requester → ℕ → Result PatternValue UriFault → Step
+subscribe_to c requester request (Ok pattern) =
+    answer_subscribe c requester request (subscriptions.subscribe c.topics requester.session pattern)
+subscribe_to c requester request (Err fault) = refuse c requester.transport kind.Subscribe request invalid_uri
 
--- other matches are refused until patterns are served
-abbrev pub subscribe : Config → Content → Requester → ℕ → Match → List ℕ → Step
-subscribe config c requester request Exact topic = subscribe_exact config c requester request topic
-subscribe config c requester request Prefix topic = refuse c requester.transport kind.Subscribe request invalid_argument
-subscribe config c requester request Wildcard topic = refuse c requester.transport kind.Subscribe request invalid_argument
+-- a text that is no pattern with this match is refused
+abbrev pub subscribe : Content → Requester → Subscribe → Step
+subscribe c requester asked = subscribe_to c requester asked.request (pattern_of asked.topic asked.matching)

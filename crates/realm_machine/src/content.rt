@@ -1,13 +1,14 @@
 ghost use Rattle.std.specs.Prelude.{◌≡◌};
-ghost use Rattle.realm_machine.specs.Content.{Does, empty, reply, refuse};
+ghost use Rattle.realm_machine.specs.Content.{Does, empty, reply, refuse, refuse_for};
 
 use crate::act::Say;
 use crate::config::Limits;
 use crate::memory::Memory;
 use crate::sayings::refusal;
-use crate::topics::Topics;
 use paxos_packets::Transport;
-use realm_sessions::Sessions;
+use realm_registrations::Registrations;
+use realm_sessions::{RealmFault, Sessions};
+use realm_subscriptions::Subscriptions;
 use std::alloc::Global;
 use std::marker::Model;
 use wamp_ids::Id;
@@ -19,7 +20,8 @@ use wamp_messages::{Message, RequestKind};
 pub struct Content {
     pub alloc: Global,
     pub sessions: Sessions,
-    pub topics: Topics,
+    pub registry: Registrations,
+    pub topics: Subscriptions,
 }
 
 impl Model for Content {
@@ -27,18 +29,19 @@ impl Model for Content {
 
     ghost Value = { Content };
 
-    ghost view = { λ a. record { sessions = a.sessions; topics = a.topics } };
+    ghost view = { λ a. record { sessions = a.sessions; registry = a.registry; topics = a.topics } };
 }
 
 impl Content {
-    // No transport and no subscription, under these limits.
+    // No transport, no registration and no subscription, under these limits.
     pub fn new(alloc: Global, limits: Limits) -> Content
         ensures { result ≡ empty limits }
     {
         Content {
             alloc,
             sessions: Sessions::new(alloc, limits.sessions),
-            topics: Topics::new(alloc),
+            registry: Registrations::new(alloc, limits.registrations),
+            topics: Subscriptions::new(alloc, limits.subscriptions),
         }
     }
 
@@ -61,5 +64,21 @@ impl Content {
     {
         let message = refusal(self.alloc, kind, request, error)?;
         self.reply(transport, message)
+    }
+
+    // The request is refused for this fault of a part.
+    pub fn refuse_for(
+        &self,
+        transport: Transport,
+        kind: RequestKind,
+        request: Id,
+        fault: RealmFault,
+    ) -> Result<Vec<Say>, Memory>
+        ensures { Does result self.now (refuse_for self.now transport kind request fault) }
+    {
+        match fault.uri() {
+            Some(error) => self.refuse(transport, kind, request, error),
+            None => Ok(Vec::new(self.alloc)),
+        }
     }
 }

@@ -2,8 +2,9 @@
 ghost use Rattle.realm_machine.specs.Laws.{EmptyIsSound, EachActKeepsSound, EveryRealmIsSound, OpensWhereRoom};
 
 /// What every realm keeps, whatever acts come to it: each transport is connected once, no two sessions have one id, the ids
-/// of subscriptions rise and none is above the last one that was handed out, each topic has one subscription, and each
-/// subscription has members, each of them once. Takes no memory.
+/// of subscriptions rise and none is above the last one that was handed out, each text and match has one subscription, and
+/// each subscription has members, each of them once; the same of registrations and their callees, of which there is one under
+/// `single`. The parts are held to the limits of the configuration. Takes no memory.
 pub fn realms_are_sound()
     ensures empty { EmptyIsSound }
     ensures each_act { EachActKeepsSound }

@@ -8,15 +8,16 @@ use crate::memory::Memory;
 use crate::sayings::{GOODBYE_AND_OUT, PROTOCOL_VIOLATION, abort};
 use paxos_packets::Transport;
 use wamp_ids::Text;
-use wamp_messages::Message;
+use wamp_messages::{Goodbye, Message};
 
 impl Content {
-    // The transport's session leaves what it is subscribed to, and is no more; the transport stays.
+    // The transport's session leaves its registrations and its subscriptions, and is no more; the transport stays.
     pub fn leave(&mut self, transport: Transport) -> Result<Vec<Say>, Memory>
         ensures { Does result self.new (leave self.old transport) }
     {
         if let Some(Some(session)) = self.sessions.by_transport(transport) {
             self.sessions.close(transport);
+            self.registry.leave(session);
             self.topics.leave(session);
         }
         Ok(Vec::new(self.alloc))
@@ -64,7 +65,7 @@ impl Content {
     {
         let mut says = self.leave(transport)?;
         let reason = Text::new(self.alloc, GOODBYE_AND_OUT)?;
-        says.push(Say::send(transport, Message::Goodbye { reason }))?;
+        says.push(Say::send(transport, Message::Goodbye(Goodbye { reason })))?;
         Ok(says)
     }
 }

@@ -1,4 +1,4 @@
-//! One realm of a WAMP router as a machine: sessions, subscriptions and publications (WAMP specification, basic profile).
+//! One realm of a WAMP router as a machine: sessions, registrations, subscriptions and publications (WAMP specification, basic profile).
 //! What a client does goes in as an act, what is said to transports comes out as sayings; docs/PROTOCOL.md, "The realm",
 //! has the rules.
 #![tactic(auto)]
@@ -12,11 +12,12 @@ mod memory;
 mod opening;
 mod publishing;
 mod realm;
+mod registering;
 mod requester;
 mod sayings;
 mod step;
 mod subscribing;
-mod topics;
+mod unsubscribing;
 
 pub use act::{Act, Out, Say};
 pub use config::Limits;

@@ -10,8 +10,8 @@ use crate::content::Content;
 use crate::memory::Memory;
 use crate::sayings::{LIMIT, NO_SUCH_REALM};
 use paxos_packets::Transport;
-use wamp_ids::{Id, Text};
-use wamp_messages::Message;
+use wamp_ids::Id;
+use wamp_messages::{Hello, Message, Welcome};
 
 impl Content {
     // A client at a connected transport without a session asks for one.
@@ -20,18 +20,16 @@ impl Content {
         config: &Config,
         transport: Transport,
         draw: Id,
-        realm: &Text,
-        canceling: bool,
+        hello: &Hello,
     ) -> Result<Vec<Say>, Memory>
         requires { by_transport self.old.sessions.list transport ≡ Some None }
-        ensures { Does result self.new (open_at config.now self.old transport draw realm.now
-            canceling) }
+        ensures { Does result self.new (open_at config.now self.old transport draw hello.now) }
     {
-        if !config.is_named(realm) {
+        if !config.is_named(&hello.realm) {
             return self.stop(transport, NO_SUCH_REALM);
         }
-        match self.sessions.open(transport, draw, canceling) {
-            Ok(session) => self.reply(transport, Message::Welcome { session }),
+        match self.sessions.open(transport, draw, hello.canceling) {
+            Ok(session) => self.reply(transport, Message::Welcome(Welcome { session })),
             Err(_) => self.stop(transport, LIMIT),
         }
     }

@@ -11,7 +11,7 @@ use std::alloc::Global;
 use std::marker::Model;
 use wamp_ids::Text;
 
-/// One realm of a router: its sessions, and its subscriptions with their members.
+/// One realm of a router: its sessions, its registrations with their callees, and its subscriptions with their members.
 #[derive(Drop)]
 pub struct Realm {
     config: Config,
@@ -47,7 +47,8 @@ impl Realm {
     /// An error comes only for want of memory. The realm is failed then, and answers the same to each later act.
     ///
     /// Cost: an act goes over the connected transports to find its own, one that opens or ends a session a few times more. A
-    /// SUBSCRIBE and a session's end go over the subscriptions and their members, a PUBLISH over the subscriptions and, for
+    /// SUBSCRIBE and a session's end go over the subscriptions and their members, a REGISTER, an UNREGISTER and a session's end
+    /// over the registrations and their callees, a PUBLISH over the subscriptions and, for
     /// each receiver, over the transports.
     pub fn act(&mut self, transport: Transport, act: &Act) -> Result<Vec<Say>, Failed>
         ensures act { Acts self.old.config self.old.content transport act.now result self.new.content }

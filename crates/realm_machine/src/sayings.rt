@@ -6,13 +6,15 @@ use crate::memory::Memory;
 use paxos_packets::Transport;
 use std::alloc::Global;
 use wamp_ids::{Id, Text};
-use wamp_messages::{Message, RequestKind};
+use wamp_messages::{Abort, Error, Message, RequestKind};
 use wamp_values::Args;
 
 // The URIs of errors (WAMP specification, "Predefined URIs"; the limit's is this profile's).
 pub const INVALID_URI: &str = "wamp.error.invalid_uri";
 
 pub const INVALID_ARGUMENT: &str = "wamp.error.invalid_argument";
+
+pub const NO_SUCH_SUBSCRIPTION: &str = "wamp.error.no_such_subscription";
 
 pub const LIMIT: &str = "cluster.error.limit";
 
@@ -53,20 +55,20 @@ pub fn refusal(
 ) -> Result<Message, Memory>
     ensures { IfOk result (λ message. message ≡ refusal kind request error.now) }
 {
-    Ok(Message::Error {
+    Ok(Message::Error(Error {
         kind,
         request,
         error: Text::new(alloc, error)?,
         args: Args::Nothing,
-    })
+    }))
 }
 
 // The ABORT for this reason.
 pub fn abort(alloc: Global, reason: &str) -> Result<Message, Memory>
     ensures { IfOk result (λ message. message ≡ abort reason.now) }
 {
-    Ok(Message::Abort {
+    Ok(Message::Abort(Abort {
         reason: Text::new(alloc, reason)?,
         args: Args::Nothing,
-    })
+    }))
 }

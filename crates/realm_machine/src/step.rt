@@ -65,13 +65,13 @@ impl Content {
     }
 
     fn on_unfit(
-        &self,
+        &mut self,
         transport: Transport,
         kind: UnfitKind,
         request: Id,
         is_quiet: bool,
     ) -> Result<Vec<Say>, Memory>
-        ensures { Does result self.now (on_unfit self.now transport kind request is_quiet) }
+        ensures { Does result self.new (on_unfit self.old transport kind request is_quiet) }
     {
         if is_quiet {
             Ok(Vec::new(self.alloc))
@@ -81,12 +81,12 @@ impl Content {
     }
 
     fn refuse_unfit(
-        &self,
+        &mut self,
         transport: Transport,
         kind: UnfitKind,
         request: Id,
     ) -> Result<Vec<Say>, Memory>
-        ensures { Does result self.now (refuse_unfit self.now transport kind request) }
+        ensures { Does result self.new (refuse_unfit self.old transport kind request) }
     {
         match kind {
             UnfitKind::Publish => self.refuse(
@@ -101,6 +101,14 @@ impl Content {
                 request,
                 INVALID_ARGUMENT,
             ),
+            UnfitKind::Register => self.refuse(
+                transport,
+                RequestKind::Register,
+                request,
+                INVALID_ARGUMENT,
+            ),
+            UnfitKind::Call => self.violation(transport),
+            UnfitKind::Cancel => self.violation(transport),
             UnfitKind::Yield => Ok(Vec::new(self.alloc)),
         }
     }
@@ -142,15 +150,13 @@ impl Content {
         ensures { Does result self.new (on_opening config.now self.old transport draw message.now) }
     {
         match message {
-            Message::Hello { realm, canceling } => {
-                self.open_at(config, transport, draw, realm, *canceling)
-            }
-            Message::Abort { .. } => self.aborted(transport),
+            Message::Hello(hello) => self.open_at(config, transport, draw, hello),
+            Message::Abort(_) => self.aborted(transport),
             _ => self.violation(transport),
         }
     }
 
-    // A client with a session. The last four kinds are those that only the router sends.
+    // A client with a session. Four kinds are not served yet, and the last ten are those that only the router sends.
     fn on_request(
         &mut self,
         config: &Config,
@@ -161,26 +167,28 @@ impl Content {
     {
         let transport = requester.transport;
         match message {
-            Message::Hello { .. } => self.violation(transport),
-            Message::Abort { .. } => self.aborted(transport),
-            Message::Goodbye { .. } => self.goodbye(transport),
-            Message::Error { kind, .. } => self.on_error(transport, *kind),
-            Message::Publish {
-                request,
-                acknowledge,
-                exclude_me,
-                topic,
-                args,
-            } => self.publish(requester, *request, *acknowledge, *exclude_me, topic, args),
-            Message::Subscribe {
-                request,
-                matching,
-                topic,
-            } => self.subscribe(config, requester, *request, *matching, topic),
-            Message::Welcome { .. } => self.violation(transport),
-            Message::Published { .. } => self.violation(transport),
-            Message::Subscribed { .. } => self.violation(transport),
-            Message::Event { .. } => self.violation(transport),
+            Message::Hello(_) => self.violation(transport),
+            Message::Abort(_) => self.aborted(transport),
+            Message::Goodbye(_) => self.goodbye(transport),
+            Message::Error(error) => self.on_error(transport, error.kind),
+            Message::Publish(asked) => self.publish(requester, asked),
+            Message::Subscribe(asked) => self.subscribe(requester, asked),
+            Message::Unsubscribe(asked) => self.unsubscribe(requester, asked),
+            Message::Register(asked) => self.register(requester, asked),
+            Message::Unregister(asked) => self.unregister(requester, asked),
+            Message::Call(_) => self.violation(transport),
+            Message::Cancel(_) => self.violation(transport),
+            Message::Yield(_) => self.violation(transport),
+            Message::Welcome(_) => self.violation(transport),
+            Message::Published(_) => self.violation(transport),
+            Message::Subscribed(_) => self.violation(transport),
+            Message::Event(_) => self.violation(transport),
+            Message::Unsubscribed(_) => self.violation(transport),
+            Message::Registered(_) => self.violation(transport),
+            Message::Unregistered(_) => self.violation(transport),
+            Message::Reply(_) => self.violation(transport),
+            Message::Invocation(_) => self.violation(transport),
+            Message::Interrupt(_) => self.violation(transport),
         }
     }
 

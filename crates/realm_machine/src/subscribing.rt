@@ -1,105 +1,37 @@
-// How a client subscribes to a topic.
-ghost use Rattle.std.specs.Prelude.{◌≡◌, Some, None};
+// How a client subscribes to a pattern of topics.
 ghost use Rattle.realm_machine.specs.Content.{Does, refuse};
-ghost use Rattle.wamp_messages.specs.declared.message.RequestKind.TheVariants as kind;
-ghost use Rattle.realm_machine.specs.Subscribing.{subscribe, subscribe_exact, subscribe_to, subscribed};
+ghost use Rattle.wamp_elements.specs.declared.request_kind.RequestKind.TheVariants as kind;
+ghost use Rattle.realm_machine.specs.Subscribing.{subscribe};
 
 use crate::act::Say;
-use crate::config::Config;
 use crate::content::Content;
 use crate::memory::Memory;
 use crate::requester::Requester;
-use crate::sayings::{INVALID_ARGUMENT, INVALID_URI, LIMIT};
-use crate::topics::is_topic;
-use wamp_ids::{Id, Match, Text};
-use wamp_messages::{Message, RequestKind};
+use crate::sayings::{INVALID_URI, LIMIT};
+use realm_sessions::RealmFault;
+use wamp_ids::{Id, Pattern};
+use wamp_messages::{Message, RequestKind, Subscribe, Subscribed};
 
 impl Content {
-    // A client asks for a topic's events.
-    pub fn subscribe(
-        &mut self,
-        config: &Config,
-        requester: Requester,
-        request: Id,
-        matching: Match,
-        topic: &Text,
-    ) -> Result<Vec<Say>, Memory>
-        ensures { Does result self.new (subscribe config.now self.old requester request matching
-            topic.now) }
+    // A client asks for the events of the topics that a pattern matches.
+    pub fn subscribe(&mut self, requester: Requester, asked: &Subscribe) -> Result<Vec<Say>, Memory>
+        ensures { Does result self.new (subscribe self.old requester asked.now) }
     {
-        match matching {
-            Match::Exact => self.subscribe_exact(config, requester, request, topic),
-            Match::Prefix => self.refuse_subscribe(requester, request, INVALID_ARGUMENT),
-            Match::Wildcard => self.refuse_subscribe(requester, request, INVALID_ARGUMENT),
-        }
-    }
-
-    fn subscribe_exact(
-        &mut self,
-        config: &Config,
-        requester: Requester,
-        request: Id,
-        topic: &Text,
-    ) -> Result<Vec<Say>, Memory>
-        ensures { Does result self.new (subscribe_exact config.now self.old requester request
-            topic.now) }
-    {
-        if !is_topic(topic) {
+        let request = asked.request;
+        let Ok(pattern) = Pattern::of(asked.topic.as_str(), asked.matching) else {
             return self.refuse_subscribe(requester, request, INVALID_URI);
-        }
-        let Some(subscription) = self.topics.subscription_on(topic) else {
-            return self.subscribe_anew(config, requester, request, topic);
         };
-        let id = subscription.id;
-        if subscription.has_member(requester.session) {
-            return self.subscribed(requester, request, id);
+        match self.topics.subscribe(requester.session, &pattern) {
+            Ok(subscription) => self.reply(
+                requester.transport,
+                Message::Subscribed(Subscribed {
+                    request,
+                    subscription,
+                }),
+            ),
+            Err(RealmFault::Memory) => Err(Memory),
+            Err(_) => self.refuse_subscribe(requester, request, LIMIT),
         }
-        if self
-            .topics
-            .is_full(config.limits.subscriptions, requester.session)
-        {
-            return self.refuse_subscribe(requester, request, LIMIT);
-        }
-        self.topics.add_member(requester.session, topic)?;
-        self.subscribed(requester, request, id)
-    }
-
-    // The same where the topic has no subscription.
-    fn subscribe_anew(
-        &mut self,
-        config: &Config,
-        requester: Requester,
-        request: Id,
-        topic: &Text,
-    ) -> Result<Vec<Say>, Memory>
-        ensures { Does result self.new (subscribe_to config.now self.old requester request
-            topic.now None) }
-    {
-        if self
-            .topics
-            .is_full(config.limits.subscriptions, requester.session)
-        {
-            return self.refuse_subscribe(requester, request, LIMIT);
-        }
-        let id = self.topics.add_subscription(requester.session, topic)?;
-        self.subscribed(requester, request, id)
-    }
-
-    fn subscribed(
-        &self,
-        requester: Requester,
-        request: Id,
-        subscription: Id,
-    ) -> Result<Vec<Say>, Memory>
-        ensures { Does result self.now (subscribed self.now requester request subscription) }
-    {
-        self.reply(
-            requester.transport,
-            Message::Subscribed {
-                request,
-                subscription,
-            },
-        )
     }
 
     fn refuse_subscribe(
