@@ -1,5 +1,4 @@
--- The frame of what a node hands to a client's transport, and how frames are gathered. But for the first definitions this is
--- for private clauses.
+-- The frame of what a node hands to a client's transport, and how frames are gathered.
 use Rattle.std.specs.Prelude.{◌≡◌, ℕ, nat_lt, Bool, true, false, not, List, [], ◌++◌, length, Option, Result, Ok, Err}
 use Rattle.std.specs.Io.KnownBytes.{Appends}
 use Rattle.wamp_messages.specs.Writing.{text_of}
@@ -33,7 +32,7 @@ goes limit (Send message) = not (is_wide limit (Send message))
 goes limit (Pong payload) = not (is_wide limit (Pong payload))
 goes limit Close = false
 
--- ---- for private clauses
+-- ---- the frames that wait to be written
 
 -- a frame was put behind the others, or it is too wide, or memory ran out
 abbrev pub Frames : ℕ → FrameKind → List ℕ → Result (Unit {0}) ListenFault → List ℕ → List ℕ → Type 0

@@ -2,6 +2,6 @@
 use Rattle.std.specs.Prelude.{ℕ, List}
 
 -- the longest payload that the client takes, and the octets of the frames
-pub record Waiting : Type 0 where
+pub record WaitingFrames : Type 0 where
   pub limit : ℕ
   pub octets : List ℕ

@@ -57,8 +57,8 @@ fn read_octet<R: Read>(reader: &mut R) -> Result<Option<u8>, ListenFault>
     }
 }
 
-// Writes these octets, and flushes the writer.
-pub(crate) fn write_out<W: Write>(writer: &mut W, octets: &[u8]) -> Result<(), ListenFault>
+/// Writes these octets, and flushes the writer. `Write` where it failed.
+pub fn write_out<W: Write>(writer: &mut W, octets: &[u8]) -> Result<(), ListenFault>
     ensures { Writes result octets.now (W.contents writer.old) (W.contents writer.new) }
 {
     if writer.write_all(octets).is_err() || writer.flush().is_err() {

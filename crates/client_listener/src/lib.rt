@@ -13,7 +13,8 @@ mod turns;
 mod writing;
 
 pub use fault::ListenFault;
-pub use handshake::{greet, read_handshake};
+pub use handshake::{greet, read_handshake, write_out};
 pub use items::{FromClient, ToClient};
+pub use outbox::Outbox;
 pub use reading::{put_transport, read_transport};
 pub use writing::{take_transport, write_transport};

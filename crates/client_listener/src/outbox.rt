@@ -1,4 +1,4 @@
-ghost use Rattle.std.specs.Prelude.{◌≡◌, [], Ok, true};
+ghost use Rattle.std.specs.Prelude.{◌≡◌, [], length, Ok, true, OnErr};
 ghost use Rattle.std.specs.Bool.{OnTrue};
 ghost use Rattle.wamp_messages.specs.Writing.{text_of};
 ghost use Rattle.client_listener.specs.Outbox.{Frames, Hears, Empties};
@@ -15,9 +15,10 @@ use wamp_rawsocket::{FrameFault, FrameKind, append_frame};
 /// How many octets of frames may wait while further items are taken.
 const FULL: usize = 1 << 16;
 
-// The frames that wait to be written to one client.
+/// The frames that wait to be written to one client. A clause sees the longest payload that the client takes, and the octets
+/// of the frames.
 #[derive(Drop)]
-pub(crate) struct Outbox {
+pub struct Outbox {
     limit: u32,
     frames: Vec<u8>,
     // The text of one message, kept for its room.
@@ -25,15 +26,15 @@ pub(crate) struct Outbox {
 }
 
 impl Model for Outbox {
-    ghost use Rattle.client_listener.specs.Waiting.{Waiting};
+    ghost use Rattle.client_listener.specs.Waiting.{WaitingFrames};
 
-    ghost Value = { Waiting };
+    ghost Value = { WaitingFrames };
 
     ghost view = { λ outbox. record { limit = outbox.limit; octets = outbox.frames.items } };
 }
 
 impl Outbox {
-    // No frames, for a client that takes payloads of up to `limit` octets. It takes no memory.
+    /// No frames, for a client that takes payloads of up to `limit` octets. It takes no memory.
     pub fn new(alloc: Global, limit: u32) -> Outbox
         ensures { result ≡ record { limit = limit; octets = [] } }
     {
@@ -44,15 +45,22 @@ impl Outbox {
         }
     }
 
+    /// How many octets wait to be written.
+    pub fn len(&self) -> usize
+        ensures { result ≡ length self.now.octets }
+    {
+        self.frames.len()
+    }
+
     // Whether further items may be taken before the frames are written: the transport stays open, and few octets wait.
-    pub fn may_wait(&self, heard: &Result<bool, ListenFault>) -> bool
+    pub(crate) fn may_wait(&self, heard: &Result<bool, ListenFault>) -> bool
         ensures { OnTrue result (heard.now ≡ Ok true) }
     {
         matches!(heard, Ok(true)) && self.frames.len() <= FULL
     }
 
     // Puts the frame of an item behind the others. Answers whether the transport stays open.
-    pub fn hear(&mut self, item: &ToClient) -> Result<bool, ListenFault>
+    pub(crate) fn hear(&mut self, item: &ToClient) -> Result<bool, ListenFault>
         ensures hears { Hears self.old.limit item.now result self.old.octets self.new.octets }
         ensures limit { self.new.limit ≡ self.old.limit }
     {
@@ -62,20 +70,27 @@ impl Outbox {
                 Ok(true)
             }
             ToClient::Pong(payload) => {
-                append(
-                    &mut self.frames,
-                    FrameKind::Pong,
-                    payload.as_slice(),
-                    self.limit,
-                )?;
+                self.put(FrameKind::Pong, payload.as_slice())?;
                 Ok(true)
             }
             ToClient::Close => Ok(false),
         }
     }
 
-    // Puts the frame of a message behind the others.
-    fn send(&mut self, message: &Message) -> Result<(), ListenFault>
+    /// Puts a frame behind the others.
+    ///
+    /// `Wide` where its payload is longer than the client takes, and `Memory`; nothing is put then. The payload is copied once.
+    /// (WAMP specification, "RawSocket Transport", "Framing".)
+    pub fn put(&mut self, kind: FrameKind, payload: &[u8]) -> Result<(), ListenFault>
+        ensures frames { Frames self.old.limit kind payload.now result self.old.octets self.new.octets }
+        ensures limit { self.new.limit ≡ self.old.limit }
+    {
+        append(&mut self.frames, kind, payload, self.limit)
+    }
+
+    /// Puts the frame of a message behind the others, with the faults of [`Outbox::put`]. The message is written once, into memory
+    /// that is kept, and copied once.
+    pub fn send(&mut self, message: &Message) -> Result<(), ListenFault>
         ensures frames { Frames self.old.limit FrameKind.Message (text_of message.now) result self.old.octets self.new.octets }
         ensures limit { self.new.limit ≡ self.old.limit }
     {
@@ -89,9 +104,10 @@ impl Outbox {
         )
     }
 
-    // Writes all that waits, and flushes the writer, also where nothing waits.
+    /// Writes all that waits, and flushes the writer, also where nothing waits. `Write` where the writer failed.
     pub fn write_to<W: Write>(&mut self, writer: &mut W) -> Result<(), ListenFault>
         ensures empties { Empties result self.old.octets self.new.octets (W.contents writer.old) (W.contents writer.new) }
+        ensures err { OnErr result (self.new ≡ self.old) }
         ensures limit { self.new.limit ≡ self.old.limit }
     {
         write_out(writer, self.frames.as_slice())?;

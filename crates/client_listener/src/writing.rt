@@ -88,6 +88,7 @@ fn take_next<W: Write, P: Protocol<ToClient>>(
     };
     *patience = Patience::new();
     let heard = outbox.hear(&item);
+    drop(item);
     if outbox.may_wait(&heard) {
         return Ok(true);
     }

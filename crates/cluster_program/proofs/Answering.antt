@@ -3,7 +3,7 @@ use Rattle.std.proofs.Common.{◌≡◌, ℕ, ◌<◌, List, [], Option, None, S
 use Rattle.wamp_ids.specs.Id.{id_after}
 use Rattle.wamp_messages.specs.Reading.{read_of}
 use Rattle.wamp_rawsocket.specs.declared.fault.FrameFault.{FrameFault}
-use Rattle.wamp_rawsocket.specs.declared.frame.Frame.{Frame}
+use Rattle.wamp_rawsocket.specs.declared.frame.FrameRef.{FrameRef}
 use Rattle.wamp_rawsocket.specs.declared.frame.FrameKind.{FrameKind}
 use Rattle.wamp_rawsocket.specs.declared.frame.FrameKind.TheVariants as kind
 use Rattle.wamp_rawsocket.specs.Splitter.{whole, faulty, front_of}
@@ -46,56 +46,56 @@ due_at_fault config limit c draw held more shown e = ap (answered config limit c
 
 -- ---- by what the splitter gave
 
-same_fault : (given : Result (Option Frame) RunFault) (a b : RunFault) → given ≡ Err a → given ≡ Err b → a ≡ b
+same_fault : (given : Result (Option FrameRef) RunFault) (a b : RunFault) → given ≡ Err a → given ≡ Err b → a ≡ b
 same_fault given a b p q = cc
 
-never_fault : (given : Result (Option Frame) RunFault) (next : Option Frame) (fault : RunFault) → given ≡ Ok next → given ≡ Err fault → ⊥
+never_fault : (given : Result (Option FrameRef) RunFault) (next : Option FrameRef) (fault : RunFault) → given ≡ Ok next → given ≡ Err fault → ⊥
 never_fault given next fault p q = cc
 
-message_at : (frame : Frame) (held rest : List ℕ) (s t : Service) (result : Result Progress RunFault) (more : List ℕ)
-    → front_of held ≡ whole kind.Message frame.payload rest → s.splitter ≡ Some rest
-    → Performs result s (Said s.draw (read_of frame.payload)) (id_after s.draw) t
+message_at : (frame : FrameRef) (held rest : List ℕ) (s t : Service) (result : Result Progress RunFault) (more : List ℕ)
+    → front_of held ≡ whole kind.Message frame.payload.now rest → s.splitter ≡ Some rest
+    → Performs result s (Said s.draw (read_of frame.payload.now)) (id_after s.draw) t
     → Puts result (due_of s.realm.config s.replies.limit (content_of s) s.draw (Some held) more) (due t more) s.replies.octets t.replies.octets
 message_at frame held rest s t (Ok progress) more front left p =
     let a = p.has_acted in
     puts_same (Ok progress) _ _ _ _ s.replies.octets t.replies.octets
-    (due_at_message s.realm.config s.replies.limit (content_of s) s.draw held frame.payload rest more front)
+    (due_at_message s.realm.config s.replies.limit (content_of s) s.draw held frame.payload.now rest more front)
     (rw (a.config, a.limit, a.content, a.next_draw, a.held, left) refl)
-    (p.puts (due_of s.realm.config s.replies.limit (next s.realm.config (content_of s) client (Said s.draw (read_of frame.payload)))
+    (p.puts (due_of s.realm.config s.replies.limit (next s.realm.config (content_of s) client (Said s.draw (read_of frame.payload.now)))
     (id_after s.draw) (Some rest) more))
 message_at frame held rest s t (Err fault) more front left p =
     let onward : Run = due_of s.realm.config s.replies.limit
-    (next s.realm.config (content_of s) client (Said s.draw (read_of frame.payload))) (id_after s.draw) (Some rest) more in
+    (next s.realm.config (content_of s) client (Said s.draw (read_of frame.payload.now))) (id_after s.draw) (Some rest) more in
     puts_fault fault _ onward (due t more) s.replies.octets t.replies.octets
     (puts_same (Err fault) _ _ _ _ s.replies.octets t.replies.octets
-    (due_at_message s.realm.config s.replies.limit (content_of s) s.draw held frame.payload rest more front) refl (p.puts onward))
+    (due_at_message s.realm.config s.replies.limit (content_of s) s.draw held frame.payload.now rest more front) refl (p.puts onward))
 
-pub message_puts : (frame : Frame) (held : Option (List ℕ)) (s t : Service) (result : Result Progress RunFault) (more : List ℕ)
+pub message_puts : (frame : FrameRef) (held : Option (List ℕ)) (s t : Service) (result : Result Progress RunFault) (more : List ℕ)
     → Takes (Ok (Some frame)) held s.splitter → frame.kind ≡ kind.Message
-    → Performs result s (Said s.draw (read_of frame.payload)) (id_after s.draw) t
+    → Performs result s (Said s.draw (read_of frame.payload.now)) (id_after s.draw) t
     → Puts result (due_of s.realm.config s.replies.limit (content_of s) s.draw held more) (due t more) s.replies.octets t.replies.octets
 message_puts frame None s t result more took k p = absurd (never_fault (Ok (Some frame)) (Some frame) (Transport 82) refl took)
 message_puts frame (Some held) s t result more took k p =
-    message_at frame held took.0 s t result more (took.1 ∙ ap (λ (k : FrameKind). whole k frame.payload took.0) k) took.2 p
+    message_at frame held took.0 s t result more (took.1 ∙ ap (λ (k : FrameKind). whole k frame.payload.now took.0) k) took.2 p
 
-pub ping_puts : (frame : Frame) (held new : Option (List ℕ)) (result : Result Progress RunFault) (config : Config) (limit : ℕ) (c : Content)
+pub ping_puts : (frame : FrameRef) (held new : Option (List ℕ)) (result : Result Progress RunFault) (config : Config) (limit : ℕ) (c : Content)
     (draw : ℕ) (old put more : List ℕ)
     → Takes (Ok (Some frame)) held new → frame.kind ≡ kind.Ping
-    → ((onward : Run) → Puts result (framed limit kind.Pong frame.payload onward) onward old put)
+    → ((onward : Run) → Puts result (framed limit kind.Pong frame.payload.now onward) onward old put)
     → Puts result (due_of config limit c draw held more) (due_of config limit c draw new more) old put
 ping_puts frame None new result config limit c draw old put more t k p = absurd (never_fault (Ok (Some frame)) (Some frame) (Transport 82) refl t)
 ping_puts frame (Some held) new result config limit c draw old put more t k p =
-    puts_same result _ _ _ _ old put (due_at_ping config limit c draw held frame.payload t.0 more
-    (t.1 ∙ ap (λ (k : FrameKind). whole k frame.payload t.0) k))
+    puts_same result _ _ _ _ old put (due_at_ping config limit c draw held frame.payload.now t.0 more
+    (t.1 ∙ ap (λ (k : FrameKind). whole k frame.payload.now t.0) k))
     (rw t.2 refl) (p (due_of config limit c draw (Some t.0) more))
 
-pub pong_puts : (frame : Frame) (held new : Option (List ℕ)) (config : Config) (limit : ℕ) (c : Content) (draw : ℕ) (old more : List ℕ)
+pub pong_puts : (frame : FrameRef) (held new : Option (List ℕ)) (config : Config) (limit : ℕ) (c : Content) (draw : ℕ) (old more : List ℕ)
     → Takes (Ok (Some frame)) held new → frame.kind ≡ kind.Pong
     → Puts (Ok Onward) (due_of config limit c draw held more) (due_of config limit c draw new more) old old
 pong_puts frame None new config limit c draw old more t k = absurd (never_fault (Ok (Some frame)) (Some frame) (Transport 82) refl t)
 pong_puts frame (Some held) new config limit c draw old more t k =
-    puts_none _ _ old (due_at_pong config limit c draw held frame.payload t.0 more
-    (t.1 ∙ ap (λ (k : FrameKind). whole k frame.payload t.0) k) ∙ rw t.2 refl)
+    puts_none _ _ old (due_at_pong config limit c draw held frame.payload.now t.0 more
+    (t.1 ∙ ap (λ (k : FrameKind). whole k frame.payload.now t.0) k) ∙ rw t.2 refl)
 
 -- a fault of the frames ends the run
 broken_puts : (due onward : Run) (old : List ℕ) → due ≡ ends broken_off → Puts (Err (Transport 82)) due onward old old
@@ -133,13 +133,13 @@ hung_unheard config c limit after = unheard_leaving c (by_transport c.sessions.l
 
 -- where no whole frame is there, nothing is due
 pub no_frame_due : (held new : Option (List ℕ)) (config : Config) (limit : ℕ) (c : Content) (draw : ℕ)
-    → Takes (Ok None) held new → due_of config limit c draw new [] ≡ ends silent
+    → Takes (Ok None) held new → due_of config limit c draw held [] ≡ ends silent
 no_frame_due None new config limit c draw t = absurd (never_fault (Ok None) None (Transport 82) refl t)
 no_frame_due (Some held) new config limit c draw t =
-    rw (t.1, append-nil) (ap (answered config limit c draw) (frames_at_end held t.0)) ∙ hung_unheard config c limit (ends silent)
+    rw append-nil (ap (answered config limit c draw) (frames_at_end held t.0)) ∙ hung_unheard config c limit (ends silent)
 
 -- ---- what is held grows shorter
 
-pub frame_shrinks : (frame : Frame) (held new : Option (List ℕ)) → Takes (Ok (Some frame)) held new → held_len new < held_len held
+pub frame_shrinks : (frame : FrameRef) (held new : Option (List ℕ)) → Takes (Ok (Some frame)) held new → held_len new < held_len held
 frame_shrinks frame None new t = absurd (never_fault (Ok (Some frame)) (Some frame) (Transport 82) refl t)
-frame_shrinks frame (Some held) new t = rw t.2 (whole_leaves_less held frame.payload t.0 frame.kind t.1)
+frame_shrinks frame (Some held) new t = rw t.2 (whole_leaves_less held frame.payload.now t.0 frame.kind t.1)

@@ -1,7 +1,7 @@
 -- What serves one client, and what it owes the client. This is for private clauses: what is due (Stream), in terms of what is at hand.
 use Rattle.std.specs.Prelude.{◌≡◌, ℕ, List, [], ◌++◌, length, Option, None, Some, unwrap_or, Result, Ok, Err, OnOk}
 use Rattle.wamp_rawsocket.specs.declared.fault.FrameFault.{FrameFault}
-use Rattle.wamp_rawsocket.specs.declared.frame.Frame.{Frame}
+use Rattle.wamp_rawsocket.specs.declared.frame.FrameRef.{FrameRef}
 use Rattle.wamp_rawsocket.specs.Splitter.{partial, whole, faulty, front_of, frames_of}
 use Rattle.realm_machine.specs.declared.act.Act.{Act}
 use Rattle.realm_machine.specs.Config.{Config}
@@ -65,10 +65,10 @@ pub record IsFirst (name : List ℕ) (limit : ℕ) (s : Service) : Type 0 where
   pub limits : s.replies.limit ≡ limit
   pub no_replies : s.replies.octets ≡ []
 
--- a splitter gives the frame at its front, none where no whole one is there, or shows a fault
-abbrev pub Takes : Result (Option Frame) RunFault → Option (List ℕ) → Option (List ℕ) → Type 0
+-- a splitter shows the frame at its front, none where no whole one is there, or a fault; and what it holds behind it
+abbrev pub Takes : Result (Option FrameRef) RunFault → Option (List ℕ) → Option (List ℕ) → Type 0
 Takes result None new = result ≡ Err (Transport 82)
-Takes (Ok (Some frame)) (Some held) new = (rest : List ℕ) × (front_of held ≡ whole frame.kind frame.payload rest) × (new ≡ Some rest)
+Takes (Ok (Some frame)) (Some held) new = (rest : List ℕ) × (front_of held ≡ whole frame.kind frame.payload.now rest) × (new ≡ Some rest)
 Takes (Ok None) (Some held) new = (front_of held ≡ partial) × (new ≡ Some held)
 Takes (Err Memory) (Some held) new = Unit {0}
 Takes (Err fault) (Some held) new = (fault ≡ Transport 82) × ((shown : FrameFault) × (front_of held ≡ faulty shown))

@@ -1,6 +1,6 @@
 ghost use Rattle.std.specs.Prelude.{◌≡◌, ◌<◌, ◌++◌, ℕ, List, [], IfOk, OnOk, IfErr, option_map};
 ghost use Rattle.wamp_ids.specs.Id.{id_after};
-ghost use Rattle.wamp_messages.specs.Reading.{read_of};
+ghost use Rattle.wamp_rawsocket.specs.Splitter.{passed};
 ghost use Rattle.cluster_program.specs.Stream.{silent, ends};
 ghost use Rattle.cluster_program.specs.Replies.{Answers};
 ghost use Rattle.cluster_program.specs.Service.{IsFirst, Takes, Performs, due, held_len};
@@ -11,8 +11,8 @@ use crate::replies::{CLIENT, Replies};
 use realm_machine::{Act, Limits, Realm};
 use std::alloc::Global;
 use wamp_ids::Id;
-use wamp_messages::read;
-use wamp_rawsocket::{Frame, FrameFault, FrameKind, Splitter};
+use wamp_messages::{Read, read};
+use wamp_rawsocket::{FrameKind, FrameRef, Splitter};
 
 // How much the realm holds at the most.
 const LIMITS: Limits = Limits {
@@ -77,34 +77,43 @@ impl Service {
         ensures waits { result ≡ Ok Progress.Waiting → due self.new [] ≡ ends silent }
         ensures shrinks { result ≡ Ok Progress.Onward → held_len self.new.splitter < held_len self.old.splitter }
     {
-        let Some(frame) = next_frame(&mut self.splitter)? else {
+        let Some(frame) = front(&self.splitter)? else {
             return Ok(Progress::Waiting);
         };
         match frame.kind {
-            FrameKind::Message => self.answer_message(frame.payload.as_slice()),
-            FrameKind::Ping => self.replies.put(FrameKind::Pong, frame.payload.as_slice()),
-            FrameKind::Pong => Ok(Progress::Onward),
+            FrameKind::Message => {
+                let read = read(self.alloc, frame.payload)?;
+                self.splitter.pass();
+                self.answer_message(read)
+            }
+            FrameKind::Ping => {
+                let put = self.replies.put(FrameKind::Pong, frame.payload);
+                self.splitter.pass();
+                put
+            }
+            FrameKind::Pong => {
+                self.splitter.pass();
+                Ok(Progress::Onward)
+            }
         }
     }
 
-    // Answers a message, with this draw; the next one has the next.
-    fn answer_message(&mut self, payload: &[u8]) -> Result<Progress, RunFault>
-        ensures { Performs result self.old (Act.Said self.old.draw (read_of payload.now)) (id_after self.old.draw) self.new }
+    // Answers what a message was read as, with this draw; the next one has the next.
+    fn answer_message(&mut self, read: Read) -> Result<Progress, RunFault>
+        ensures { Performs result self.old (Act.Said self.old.draw read) (id_after self.old.draw) self.new }
     {
-        let read = read(self.alloc, payload)?;
         let draw = self.draw;
         self.draw = draw.next();
         self.act(&Act::Said { draw, read })
     }
 }
 
-// The next whole frame, if one is there.
-fn next_frame(splitter: &mut Splitter) -> Result<Option<Frame>, RunFault>
-    ensures { Takes result splitter.old splitter.new }
+// The next whole frame, where it lies, if one is there.
+fn front(splitter: &Splitter) -> Result<Option<FrameRef<'_>>, RunFault>
+    ensures { Takes result splitter.now (option_map passed splitter.now) }
 {
-    match splitter.next() {
-        Ok(next) => Ok(next),
-        Err(FrameFault::Memory) => Err(RunFault::Memory),
+    match splitter.front() {
+        Ok(front) => Ok(front),
         Err(_) => Err(RunFault::Transport(FRAME)),
     }
 }

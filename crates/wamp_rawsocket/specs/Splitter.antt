@@ -1,10 +1,12 @@
 -- How a stream of octets is cut into frames: WAMP specification, "RawSocket Transport", "Framing".
 -- That a fault ends the stream for good is this project's profile.
-use Rattle.std.specs.Prelude.{◌≡◌, ℕ, zero, suc, List, [], ◌∷◌, ◌++◌, Option, Some, None, Result, Ok, Err, length, take, drop, nat_lt, if◌then◌else◌}
+use Rattle.std.specs.Prelude.{◌≡◌, ◌≤◌, ◌+◌, ℕ, zero, suc, List, [], ◌∷◌, ◌++◌, Option, Some, None, Result, Ok, Err, length, take, drop, nat_lt, if◌then◌else◌}
 use Rattle.wamp_rawsocket.specs.declared.fault.FrameFault.{FrameFault}
 use Rattle.wamp_rawsocket.specs.declared.fault.FrameFault.TheVariants.{Memory, Failed}
 use Rattle.wamp_rawsocket.specs.declared.frame.Frame.{Frame}
 use Rattle.wamp_rawsocket.specs.declared.frame.FrameKind.{FrameKind}
+use Rattle.wamp_rawsocket.specs.declared.frame.FrameRef.{FrameRef}
+use Rattle.wamp_rawsocket.specs.declared.splitter.Measured.{Measured}
 use Rattle.wamp_rawsocket.specs.Frame.{frame_octets, header_of, length_of}
 
 -- what stands at the front of a stream: too few octets to tell, a whole frame and the octets behind it, or a fault
@@ -49,6 +51,30 @@ HoldsFrame (Some octets) = IsWhole (front_of octets)
 abbrev pub Gives : Result (Option Frame) FrameFault → Option (List ℕ) → Option (List ℕ) → Type 0
 Gives (Err Memory) old new = HoldsFrame old × (new ≡ old)
 Gives result old new = next_of old ≡ (result, new)
+
+-- an answer of `front` as one of `next`
+abbrev pub shown : Result (Option FrameRef) FrameFault → Result (Option Frame) FrameFault
+shown (Ok None) = Ok None
+shown (Ok (Some front)) = Ok (Some (record { kind = front.kind; payload = front.payload.now }))
+shown (Err fault) = Err fault
+
+-- what is left behind the frame at this front of these octets, if one is there
+abbrev pub left_at : Front → List ℕ → List ℕ
+left_at partial octets = octets
+left_at (whole kind payload rest) octets = rest
+left_at (faulty fault) octets = octets
+
+-- what a splitter holds once it went behind the frame at its front
+abbrev pub passed : List ℕ → List ℕ
+passed octets = left_at (front_of octets) octets
+
+-- what the first four octets say of the frame that they begin
+abbrev pub Measures : Result (Option Measured) FrameFault → List ℕ → Type 0
+Measures (Ok None) octets = front_of octets ≡ partial
+Measures (Ok (Some frame)) octets =
+    (front_of octets ≡ whole frame.kind (drop 4 (take (4 + frame.length) octets)) (drop (4 + frame.length) octets))
+    × (4 + frame.length ≤ length octets)
+Measures (Err fault) octets = front_of octets ≡ faulty fault
 
 -- a stream cut into frames: up to a rest that is no whole frame, or up to a fault, behind which nothing is read
 pub data Frames : Type 0 where

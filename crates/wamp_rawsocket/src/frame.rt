@@ -42,6 +42,13 @@ pub struct Frame {
     pub payload: Bytes,
 }
 
+/// A frame that still lies among the octets that were fed.
+#[derive(Clone, Copy, Debug)]
+pub struct FrameRef<'a> {
+    pub kind: FrameKind,
+    pub payload: &'a [u8],
+}
+
 /// Appends a frame to `out`: the octet of its kind, its payload's length in three octets, the
 /// highest first, and the payload.
 ///

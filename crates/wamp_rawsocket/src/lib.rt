@@ -10,7 +10,7 @@ pub mod laws;
 mod splitter;
 
 pub use fault::FrameFault;
-pub use frame::{Frame, FrameKind, append_frame, put_frame};
+pub use frame::{Frame, FrameKind, FrameRef, append_frame, put_frame};
 pub use handshake::answer;
 pub use handshake_answer::Answer;
 pub use splitter::Splitter;

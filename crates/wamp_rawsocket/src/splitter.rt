@@ -1,9 +1,9 @@
 ghost use Rattle.std.specs.Prelude.{◌≡◌, ◌↔◌, ◌++◌, [], Option, List, ℕ, option_map, MatchOption, OnOk, OnErr, IsOkUnless};
 ghost use Rattle.wamp_rawsocket.specs.Frame.{header_of};
-ghost use Rattle.wamp_rawsocket.specs.Splitter.{Gives};
+ghost use Rattle.wamp_rawsocket.specs.Splitter.{Gives, next_of, shown, passed, Measures};
 
 use crate::fault::FrameFault;
-use crate::frame::{Frame, FrameKind, HEADER_LEN};
+use crate::frame::{Frame, FrameKind, FrameRef, HEADER_LEN};
 use bytes::{Buf, BytesMut};
 use std::alloc::Global;
 use std::marker::Model;
@@ -69,15 +69,10 @@ impl Splitter {
         let Some(held) = &mut self.octets else {
             return Err(FrameFault::Failed);
         };
-        let [octet, high, middle, low, rest @ ..] = held.as_slice() else {
-            return Ok(None);
-        };
-        let length = u32::from_be_bytes([0, *high, *middle, *low]);
-        let available = rest.len();
-        match read_header(*octet, length) {
-            Ok(kind) if available < length as usize => Ok(None),
-            Ok(kind) => {
-                let mut payload = held.freeze_to(HEADER_LEN + length as usize)?;
+        match measure(held.as_slice()) {
+            Ok(None) => Ok(None),
+            Ok(Some(Measured { kind, length })) => {
+                let mut payload = held.freeze_to(HEADER_LEN + length)?;
                 payload.advance(HEADER_LEN);
                 Ok(Some(Frame { kind, payload }))
             }
@@ -86,6 +81,62 @@ impl Splitter {
                 Err(fault)
             }
         }
+    }
+
+    /// The frame that `next` would give, left where it lies, or `None`, or the fault that `next`
+    /// would answer. It takes no memory, and changes nothing: [`pass`](Splitter::pass) goes on.
+    pub fn front(&self) -> Result<Option<FrameRef<'_>>, FrameFault>
+        ensures { shown result ≡ (next_of self.now).0 }
+    {
+        let Some(held) = &self.octets else {
+            return Err(FrameFault::Failed);
+        };
+        match measure(held.as_slice()) {
+            Ok(None) => Ok(None),
+            Ok(Some(Measured { kind, length })) => Ok(Some(FrameRef {
+                kind,
+                payload: &held.as_slice()[..HEADER_LEN + length][HEADER_LEN..],
+            })),
+            Err(fault) => Err(fault),
+        }
+    }
+
+    /// Goes behind the frame that `front` shows; where it shows none, nothing changes. It takes no
+    /// memory, and copies nothing: the next octets that are fed take the place of what was passed.
+    pub fn pass(&mut self)
+        ensures { self.new ≡ option_map passed self.old }
+    {
+        let Some(held) = &mut self.octets else {
+            return;
+        };
+        if let Ok(Some(Measured { length, .. })) = measure(held.as_slice()) {
+            held.advance(HEADER_LEN + length);
+        }
+    }
+}
+
+// What a whole frame's first four octets say.
+#[derive(Clone, Copy)]
+struct Measured {
+    kind: FrameKind,
+    length: usize,
+}
+
+// What the first four octets say of the frame that they begin, where it is whole.
+fn measure(octets: &[u8]) -> Result<Option<Measured>, FrameFault>
+    ensures { Measures result octets.now }
+{
+    let [octet, high, middle, low, rest @ ..] = octets else {
+        return Ok(None);
+    };
+    let length = u32::from_be_bytes([0, *high, *middle, *low]);
+    match read_header(*octet, length) {
+        Ok(kind) if rest.len() < length as usize => Ok(None),
+        Ok(kind) => Ok(Some(Measured {
+            kind,
+            length: length as usize,
+        })),
+        Err(fault) => Err(fault),
     }
 }
 
