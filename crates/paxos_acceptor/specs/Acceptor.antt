@@ -19,6 +19,8 @@ use Rattle.paxos_acceptor.specs.declared.verdict.Verdict.{Verdict}
 pub record State (B : Type 0) : Type 0 where
   -- what the member has committed
   pub rows : Rows B
+  -- for how many more votes there is room
+  pub room : ℕ
   -- whether a change that was committed could not be taken over for want of memory
   pub failed : Bool
 

@@ -1,16 +1,18 @@
-ghost use Rattle.std.specs.Prelude.{◌≡◌, true, false, IfOk, IsErr, OnOk, OnErr};
+ghost use Rattle.std.specs.Prelude.{◌≡◌, ◌≤◌, true, false, length, IfOk, IsErr, OnOk, OnErr};
 ghost use Rattle.paxos_acceptor.specs.Acceptor.{adopted, judged, no_change, may_promise, may_accept, refused, prepared, voted};
 
 use crate::fault::Memory;
 use crate::verdict::{Answer, Verdict};
-use paxos_packets::{Ballot, Body, Change, Kind, Packet, Rows, Vote, Votes};
+use paxos_packets::{Ballot, Body, Change, KeptVotes, Kind, Packet, Rows, Vote, Votes};
 use std::alloc::Global;
 use std::marker::Model;
 
 /// The rows of one member, and what they allow it to promise and to vote for.
 #[derive(Debug, Drop)]
 pub struct Acceptor<B> {
-    rows: Rows<B>,
+    boot: u64,
+    promised: Option<Ballot>,
+    votes: KeptVotes<B>,
     failed: bool,
 }
 
@@ -19,25 +21,63 @@ impl<B> Model for Acceptor<B> {
 
     ghost Value = { State B };
 
-    ghost view = { λ a. record { rows = a.rows; failed = a.failed } };
+    ghost view = { λ a. record {
+      rows = record { boot = a.boot; promised = a.promised; votes = a.votes.votes };
+      room = a.votes.room;
+      failed = a.failed;
+    } };
 }
 
 impl<B> Acceptor<B> {
     /// The acceptor with these rows. Takes no memory.
     pub fn of(rows: Rows<B>) -> Acceptor<B>
-        ensures { result ≡ record { rows = rows; failed = false } }
+        ensures rows { result.rows ≡ rows }
+        ensures failed { result.failed ≡ false }
     {
         Acceptor {
-            rows,
+            boot: rows.boot,
+            promised: rows.promised,
+            votes: KeptVotes::of(rows.votes),
             failed: false,
         }
     }
 
-    /// What the member has committed.
-    pub fn rows(&self) -> &Rows<B>
-        ensures { result.now ≡ self.now.rows }
+    /// What the member has committed. Takes no memory.
+    pub fn into_rows(self) -> Rows<B>
+        ensures { result ≡ self.rows }
     {
-        &self.rows
+        let Acceptor {
+            boot,
+            promised,
+            votes,
+            ..
+        } = self;
+        Rows {
+            boot,
+            promised,
+            votes: votes.into_votes(),
+        }
+    }
+
+    /// How often the member was started.
+    pub fn boot(&self) -> u64
+        ensures { result ≡ self.now.rows.boot }
+    {
+        self.boot
+    }
+
+    /// The greatest ballot that the member has promised, if any.
+    pub fn promised(&self) -> Option<Ballot>
+        ensures { result ≡ self.now.rows.promised }
+    {
+        self.promised
+    }
+
+    /// The votes that the member has cast, by ascending slot.
+    pub fn votes(&self) -> &[Vote<B>]
+        ensures { result.now ≡ self.now.rows.votes }
+    {
+        self.votes.as_slice()
     }
 
     /// Whether `adopt` has answered `Memory`, so that the rows are behind what is committed.
@@ -45,6 +85,21 @@ impl<B> Acceptor<B> {
         ensures { result ≡ self.now.failed }
     {
         self.failed
+    }
+
+    // The answer to a Prepare or an Accept that the promise forbids.
+    fn refuse(&self, alloc: Global, ballot: Ballot) -> Verdict<B>
+        ensures { result ≡ refused self.now.rows ballot }
+    {
+        Verdict {
+            change: no_change(alloc),
+            answer: Answer::ToSender {
+                kind: Kind::Nack {
+                    ballot,
+                    promised: self.promised.unwrap_or(ballot),
+                },
+            },
+        }
     }
 }
 
@@ -62,8 +117,8 @@ impl<B: Body> Acceptor<B> {
             return Err(Memory);
         }
         match &packet.kind {
-            Kind::Prepare { ballot, first } => plan_prepare(alloc, &self.rows, *ballot, *first),
-            Kind::Accept { vote } => plan_accept(alloc, &self.rows, vote),
+            Kind::Prepare { ballot, first } => self.plan_prepare(alloc, *ballot, *first),
+            Kind::Accept { vote } => self.plan_accept(alloc, vote),
             Kind::Promise { .. }
             | Kind::Accepted { .. }
             | Kind::Nack { .. }
@@ -79,21 +134,84 @@ impl<B: Body> Acceptor<B> {
     /// Takes over what was committed: the promise, and each vote in its slot. With `Memory` the rows stay as they were and the acceptor
     /// is failed: it is to be made anew, by `of`, from the rows that are committed. A failed acceptor answers `Memory`.
     pub fn adopt(&mut self, change: Change<B>) -> Result<(), Memory>
-        ensures ok { OnOk result (self.new ≡ record { rows = adopted self.old.rows change; failed = false }) }
-        ensures err { OnErr result (self.new ≡ record { rows = self.old.rows; failed = true }) }
+        ensures rows { OnOk result (self.new.rows ≡ adopted self.old.rows change) }
+        ensures stands { OnOk result (self.new.failed ≡ false) }
+        ensures err_rows { OnErr result (self.new.rows ≡ self.old.rows) }
+        ensures err_failed { OnErr result (self.new.failed ≡ true) }
         ensures failed { self.old.failed ≡ true → IsErr result }
     {
         if self.failed {
             return Err(Memory);
         }
-        if self.rows.votes.put_all(change.votes).is_err() {
+        if self.make_room(change.votes.as_slice().len()).is_err() {
             self.failed = true;
             return Err(Memory);
         }
-        if change.promised.is_some() {
-            self.rows.promised = change.promised;
-        }
+        self.adopt_in_room(change);
         Ok(())
+    }
+
+    /// Takes the memory for so many votes more. After `Memory` as well as without it the rows are as they were.
+    pub fn make_room(&mut self, votes: usize) -> Result<(), Memory>
+        ensures ok { OnOk result (votes ≤ self.new.room) }
+        ensures rows { self.new.rows ≡ self.old.rows }
+        ensures failed { self.new.failed ≡ self.old.failed }
+    {
+        self.votes.make_room(votes)?;
+        Ok(())
+    }
+
+    /// `adopt` where there is room for the votes of the change. Takes no memory, and copies nothing.
+    pub fn adopt_in_room(&mut self, change: Change<B>)
+        requires { length change.votes ≤ self.old.room }
+        ensures rows { self.new.rows ≡ adopted self.old.rows change }
+        ensures failed { self.new.failed ≡ self.old.failed }
+    {
+        self.votes.put_all_in_room(change.votes);
+        if change.promised.is_some() {
+            self.promised = change.promised;
+        }
+    }
+
+    // The case Prepare.
+    fn plan_prepare(&self, alloc: Global, ballot: Ballot, first: u64) -> Result<Verdict<B>, Memory>
+        ensures { IfOk result (λ verdict. verdict ≡ prepared self.now.rows ballot first) }
+    {
+        if !may_promise(self.promised, ballot) {
+            return Ok(self.refuse(alloc, ballot));
+        }
+        let votes = self.votes.copy_from(alloc, first)?;
+        Ok(Verdict {
+            change: Change {
+                promised: Some(ballot),
+                votes: Votes::new(alloc),
+            },
+            answer: Answer::ToSender {
+                kind: Kind::Promise { ballot, votes },
+            },
+        })
+    }
+
+    // The case Accept.
+    fn plan_accept(&self, alloc: Global, vote: &Vote<B>) -> Result<Verdict<B>, Memory>
+        ensures { IfOk result (λ verdict. verdict ≡ voted self.now.rows vote.now) }
+    {
+        if !may_accept(self.promised, vote.ballot) {
+            return Ok(self.refuse(alloc, vote.ballot));
+        }
+        let mut votes = Votes::new(alloc);
+        votes.put(vote.copy(alloc)?)?;
+        Ok(Verdict {
+            change: Change {
+                promised: Some(vote.ballot),
+                votes,
+            },
+            answer: Answer::ToOthers {
+                kind: Kind::Accepted {
+                    vote: vote.copy(alloc)?,
+                },
+            },
+        })
     }
 }
 
@@ -124,65 +242,4 @@ fn may_accept(promised: Option<Ballot>, ballot: Ballot) -> bool
         Some(promised) => !ballot.is_below(&promised),
         None => true,
     }
-}
-
-// The answer to a Prepare or an Accept that the promise forbids.
-fn refuse<B>(alloc: Global, rows: &Rows<B>, ballot: Ballot) -> Verdict<B>
-    ensures { result ≡ refused rows.now ballot }
-{
-    Verdict {
-        change: no_change(alloc),
-        answer: Answer::ToSender {
-            kind: Kind::Nack {
-                ballot,
-                promised: rows.promised.unwrap_or(ballot),
-            },
-        },
-    }
-}
-
-// The case Prepare.
-fn plan_prepare<B: Body>(
-    alloc: Global,
-    rows: &Rows<B>,
-    ballot: Ballot,
-    first: u64,
-) -> Result<Verdict<B>, Memory>
-    ensures { IfOk result (λ verdict. verdict ≡ prepared rows.now ballot first) }
-{
-    if !may_promise(rows.promised, ballot) {
-        return Ok(refuse(alloc, rows, ballot));
-    }
-    let votes = rows.votes.copy_from(alloc, first)?;
-    Ok(Verdict {
-        change: Change {
-            promised: Some(ballot),
-            votes: Votes::new(alloc),
-        },
-        answer: Answer::ToSender {
-            kind: Kind::Promise { ballot, votes },
-        },
-    })
-}
-
-// The case Accept.
-fn plan_accept<B: Body>(alloc: Global, rows: &Rows<B>, vote: &Vote<B>) -> Result<Verdict<B>, Memory>
-    ensures { IfOk result (λ verdict. verdict ≡ voted rows.now vote.now) }
-{
-    if !may_accept(rows.promised, vote.ballot) {
-        return Ok(refuse(alloc, rows, vote.ballot));
-    }
-    let mut votes = Votes::new(alloc);
-    votes.put(vote.copy(alloc)?)?;
-    Ok(Verdict {
-        change: Change {
-            promised: Some(vote.ballot),
-            votes,
-        },
-        answer: Answer::ToOthers {
-            kind: Kind::Accepted {
-                vote: vote.copy(alloc)?,
-            },
-        },
-    })
 }

@@ -9,10 +9,11 @@ use Rattle.paxos_packets.specs.Body.{number_same}
 use Rattle.paxos_packets.specs.declared.entry.Entry.{Entry}
 use Rattle.paxos_packets.specs.declared.vote.Vote.{Vote}
 use Rattle.paxos_learner.specs.declared.learned.LearnedEntry.{LearnedEntry}
-use Rattle.paxos_learner.specs.declared.state.LearnerState.{LearnerState}
+use Rattle.paxos_learner.specs.Learner.{LearnerState}
 use Rattle.paxos_learner.specs.declared.tallies.Place.{Place}
 use Rattle.paxos_learner.specs.Tallies.{Heard, same_place, place_of, nodes_heard, hear, insert_entry}
 use Rattle.paxos_learner.specs.Learner.{learned_at, is_learned, put_learned, learn, learn_among, is_other, hears, has_most, count_vote, vote_disagrees}
+use Rattle.paxos_learner.proofs.Ahead.{learned_is}
 use Rattle.std.specs.Option.{unwrap_or}
 use Rattle.std.specs.Map.{lookup}
 use Rattle.paxos_packets.specs.Members.{is_majority, is_in, no_nodes, set_with}
@@ -46,7 +47,7 @@ one_is_few m (suc (suc (suc (suc (suc (suc (suc (suc k)))))))) l h =
 
 -- what was heard at a place after one more vote there
 
-place_same : (p : Place) → same_place p p ≡ true
+pub place_same : (p : Place) → same_place p p ≡ true
 place_same p = and_from _ _ (number_same p.slot) (ballot_same p.ballot)
 
 put_there : (p : Place) (set : List Bool) (heard : Heard) → lookup (same_place p) (insert_entry same_place heard p set) ≡ Some set
@@ -71,15 +72,6 @@ heard_before members node p heard l h m n =
 
 -- what is learned
 
-learned_is : {B : Type 0} (slot : ℕ) (ls : List (LearnedEntry B)) → is_learned slot ls ≡ is_some (learned_at slot ls)
-learned_is slot [] = refl
-learned_is {B} slot (l ∷ ls) = go (eqb l.slot slot) (learned_is slot ls)
-  where
-    go : (b : Bool) → is_learned slot ls ≡ is_some (learned_at slot ls)
-        → (b || is_learned slot ls) ≡ is_some (option_map (λ (m : LearnedEntry B). m.entry) (cond b (Some l) (find (λ m. m.slot == slot) ls)))
-    go true h = refl
-    go false h = h
-
 pub learn_known : {B : Type 0} (slot : ℕ) (e d : Entry B) (ls : List (LearnedEntry B)) → Some d ≡ learned_at slot ls → ls ≡ learn_among slot e ls
 learn_known slot e d ls h = let k : is_learned slot ls ≡ true = learned_is slot ls ∙ sym (ap is_some h) in rw k refl
 
@@ -96,7 +88,7 @@ learn_parts slot e l = go (is_learned slot l.learned)
     go true = refl
     go false = refl
 
-most_then : {B : Type 0} (members node : ℕ) (v : Vote B) (l : LearnerState B)
+pub most_then : {B : Type 0} (members node : ℕ) (v : Vote B) (l : LearnerState B)
     → has_most members v (hears node v l) ≡ is_majority members (is_in (set_with (nodes_heard (place_of v) l.heard) node))
 most_then members node v l = ap (λ (set : List Bool). is_majority members (is_in set)) (heard_then node (place_of v) l.heard)
 

@@ -1,15 +1,22 @@
 -- One member as a learner: an entry is learned where a majority is heard to have voted for it in one ballot, or where a
 -- member tells that it was (Lamport 2001, section 2.3).
-use Rattle.std.specs.Prelude.{ℕ, suc, Bool, true, false, not, ◌&&◌, nat_lt, ◌==◌, Option, Some, None, option_map, List, [], ◌∷◌, ◌++◌}
+use Rattle.std.specs.Prelude.{◌≡◌, ℕ, suc, Bool, true, false, not, ◌&&◌, nat_lt, ◌==◌, Option, Some, None, option_map, List, [], ◌∷◌}
 use Rattle.std.specs.Prelude.{if◌then◌else◌}
-use Rattle.std.specs.List.{list_any, find}
+use Rattle.std.specs.List.{find}
 use Rattle.paxos_packets.specs.Members.{is_in, is_majority}
 use Rattle.paxos_packets.specs.Entry.{same_entry}
 use Rattle.paxos_packets.specs.declared.entry.Entry.{Entry}
 use Rattle.paxos_packets.specs.declared.vote.Vote.{Vote}
 use Rattle.paxos_learner.specs.declared.learned.LearnedEntry.{LearnedEntry}
-use Rattle.paxos_learner.specs.Tallies.{place_of, nodes_heard, hear}
-use Rattle.paxos_learner.specs.declared.state.LearnerState.{LearnerState}
+pub use Rattle.paxos_learner.specs.Learned.{is_learned}
+use Rattle.paxos_learner.specs.Learned.{Shelf, has_place}
+use Rattle.paxos_learner.specs.Tallies.{Heard, Table, place_of, nodes_heard, hear}
+
+-- what a learner heard and learned; it is lost in a crash
+pub record LearnerState (B : Type 0) : Type 0 where
+  pub heard : Heard
+  -- by ascending slot
+  pub learned : List (LearnedEntry B)
 
 -- a learner that has just begun
 abbrev pub unheard : {B : Type 0} → LearnerState B
@@ -23,9 +30,6 @@ hears node v l = record { heard = hear node (place_of v) l.heard; learned = l.le
 
 abbrev pub learned_at : {B : Type 0} → ℕ → List (LearnedEntry B) → Option (Entry B)
 learned_at slot learned = option_map (λ l. l.entry) (find (λ l. l.slot == slot) learned)
-
-abbrev pub is_learned : {B : Type 0} → ℕ → List (LearnedEntry B) → Bool
-is_learned slot learned = list_any (λ l. l.slot == slot) learned
 
 -- by ascending slot
 abbrev pub put_learned : {B : Type 0} → LearnedEntry B → List (LearnedEntry B) → List (LearnedEntry B)
@@ -82,6 +86,31 @@ run_from slot (l ∷ ls) =
 pub record State (B : Type 0) : Type 0 where
   pub members : ℕ
   pub learner : LearnerState B
+
+-- for how many places more votes may be heard, and which slots ahead have a place for their entry
+pub record Room : Type 0 where
+  pub votes : ℕ
+  pub places : List ℕ
+
+-- what callers see of a learner
+pub record Held (B : Type 0) : Type 0 where
+  pub state : State B
+  pub room : Room
+
+abbrev pub held_of : {B : Type 0} → ℕ → Table → Shelf B → Held B
+held_of members table shelf =
+    record {
+      state = record { members = members; learner = record { heard = table.heard; learned = shelf.learned } };
+      room = record { votes = table.room; places = shelf.places };
+    }
+
+-- an entry was learned in the slot, or there is a place for one
+abbrev pub has_room_at : {B : Type 0} → ℕ → Held B → Bool
+has_room_at slot l = has_place slot l.state.learner.learned l.room.places
+
+-- no slot loses its place
+abbrev pub KeepsRoom : {B : Type 0} → Held B → Held B → Type 0
+KeepsRoom old new = (slot : ℕ) → has_room_at slot old ≡ true → has_room_at slot new ≡ true
 
 abbrev pub begun : {B : Type 0} → ℕ → State B
 begun members = record { members = members; learner = unheard }

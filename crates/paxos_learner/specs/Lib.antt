@@ -1,4 +1,5 @@
 pub mod Fault
+pub mod Hearing
 pub mod Learned
 pub mod Learner
 pub mod Tallies

@@ -1,5 +1,5 @@
 -- Votes that were heard, counted for each ballot in each slot: which nodes cast one there.
-use Rattle.std.proofs.Common.{◌≡◌, ℕ, Bool, true, ◌&&◌, List}
+use Rattle.std.proofs.Common.{ℕ, Bool, ◌&&◌, List}
 use Rattle.std.specs.Prelude.{◌==◌}
 use Rattle.std.specs.Option.{unwrap_or}
 use Rattle.std.specs.Map.{lookup}
@@ -12,6 +12,11 @@ use Rattle.paxos_learner.specs.declared.tallies.Place.{Place}
 -- each place with the nodes that were heard there, in the order in which the places were first heard
 abbrev pub Heard : Type 0
 Heard = List (Place × List Bool)
+
+-- what callers see: what was heard, and for how many places more there is room
+pub record Table : Type 0 where
+  pub heard : Heard
+  pub room : ℕ
 
 abbrev pub same_place : Place → Place → Bool
 same_place p q = (p.slot == q.slot) && same_ballot p.ballot q.ballot

@@ -1,5 +1,6 @@
-ghost use Rattle.std.specs.Prelude.{◌≡◌, [], None, OnOk, OnErr, IsOkUnless, option_copied};
+ghost use Rattle.std.specs.Prelude.{◌≡◌, ℕ, true, [], None, OnOk, OnErr, IsOkUnless, option_copied};
 ghost use Rattle.paxos_learner.specs.declared.fault.LearnerFault.TheVariants.{Memory};
+ghost use Rattle.paxos_learner.specs.Learned.{has_place, placed, AreRising, KeepsPlaces};
 ghost use Rattle.paxos_learner.specs.Learner.{learned_at, put_learned};
 
 use crate::fault::LearnerFault;
@@ -15,29 +16,29 @@ pub struct LearnedEntry<B> {
     pub entry: Entry<B>,
 }
 
-/// What was learned, by ascending slot: a run from slot 1 on without a gap, and what stands ahead of it.
+/// What was learned, by ascending slot: a run from slot 1 on without a gap, and what stands ahead of it. A slot ahead may have a place
+/// that is kept free for its entry, so that putting it there takes no memory.
 #[derive(Drop)]
 pub struct LearnedEntries<B> {
     run: Vec<Entry<B>>,
-    ahead: BTreeMap<u64, Entry<B>>,
+    ahead: BTreeMap<u64, Option<Entry<B>>>,
 }
 
 impl<B> Model for LearnedEntries<B> {
-    ghost use Rattle.std.specs.Prelude.{List, length};
-    ghost use Rattle.paxos_learner.specs.Learned.{run_then, AreAbove};
-    ghost use Rattle.paxos_learner.specs.declared.learned.LearnedEntry.{LearnedEntry};
+    ghost use Rattle.std.specs.Prelude.{length};
+    ghost use Rattle.paxos_learner.specs.Learned.{Shelf, shelf_of, AreRising};
 
-    ghost Value = { List (LearnedEntry B) };
+    ghost Value = { Shelf B };
 
-    ghost view = { λ l. run_then l.run.items l.ahead.entries };
+    ghost view = { λ l. shelf_of l.run.items l.ahead.entries };
 
-    ghost invariant = { λ l. AreAbove (length l.run.items) l.ahead.entries };
+    ghost invariant = { λ l. AreRising (length l.run.items) l.ahead.entries };
 }
 
 impl<B> LearnedEntries<B> {
-    /// Nothing was learned. Takes no memory; `put` will, from `alloc`.
+    /// Nothing was learned. Takes no memory; `put` and `keep_place` will, from `alloc`.
     pub fn new(alloc: Global) -> LearnedEntries<B>
-        ensures { result ≡ [] }
+        ensures { result ≡ record { learned = []; places = [] } }
     {
         LearnedEntries {
             run: Vec::new(alloc),
@@ -48,12 +49,12 @@ impl<B> LearnedEntries<B> {
     /// The entry that was learned in the slot. Takes no memory, and a constant number of steps in the run; ahead of it, a number that
     /// is logarithmic in the number of entries there.
     pub fn find(&self, slot: Slot) -> Option<&Entry<B>>
-        ensures { option_copied result ≡ learned_at slot self.now }
+        ensures { option_copied result ≡ learned_at slot self.now.learned }
     {
         let number = slot.get();
         match self.run.get(number as usize - 1) {
             Some(entry) => Some(entry),
-            None => self.ahead.get(&number),
+            None => find_ahead(&self.ahead, number),
         }
     }
 }
@@ -61,28 +62,56 @@ impl<B> LearnedEntries<B> {
 impl<B: Drop> LearnedEntries<B> {
     /// Puts the entry into a slot in which none was learned. With `Memory` the entries are as they were.
     pub fn put(&mut self, slot: Slot, entry: Entry<B>) -> Result<(), LearnerFault>
-        requires { learned_at slot self.old ≡ None }
-        ensures ok { OnOk result (self.new ≡ put_learned (record { slot = slot; entry = entry }) self.old) }
-        ensures err { OnErr result (self.new ≡ self.old) }
+        requires { learned_at slot self.old.learned ≡ None }
+        ensures ok { OnOk result (self.new.learned ≡ put_learned (record { slot = slot; entry = entry }) self.old.learned) }
+        ensures err { OnErr result (self.new.learned ≡ self.old.learned) }
+        ensures places { KeepsPlaces self.old self.new }
         ensures memory { IsOkUnless result Memory }
     {
-        let number = slot.get();
-        if number != self.run.len() as u64 + 1 {
-            let Ok(_) = self.ahead.insert(number, entry) else {
-                return Err(LearnerFault::Memory);
-            };
+        self.keep_place(slot)?;
+        self.put_in_place(slot, entry);
+        Ok(())
+    }
+
+    /// Keeps a place for the entry of the slot, unless it was learned. It takes a number of steps that is logarithmic in the number of
+    /// places ahead of the run.
+    pub fn keep_place(&mut self, slot: Slot) -> Result<(), LearnerFault>
+        ensures ok { OnOk result (has_place slot self.new.learned self.new.places ≡ true) }
+        ensures learned { self.new.learned ≡ self.old.learned }
+        ensures places { KeepsPlaces self.old self.new }
+        ensures memory { IsOkUnless result Memory }
+    {
+        if self.find(slot).is_some() {
             return Ok(());
         }
-        let Ok(()) = self.run.push(entry) else {
+        let number = slot.get();
+        if self.ahead.contains_key(&number) {
+            return Ok(());
+        }
+        let Ok(_) = self.ahead.insert(number, None) else {
             return Err(LearnerFault::Memory);
         };
-        self.close_ranks();
         Ok(())
+    }
+
+    /// Puts the entry into its place, where none was learned in the slot. Takes no memory that is wanted: the run grows as far as there
+    /// is some.
+    pub fn put_in_place(&mut self, slot: Slot, entry: Entry<B>)
+        requires free { learned_at slot self.old.learned ≡ None }
+        requires place { has_place slot self.old.learned self.old.places ≡ true }
+        ensures learned { self.new.learned ≡ put_learned (record { slot = slot; entry = entry }) self.old.learned }
+        ensures places { KeepsPlaces self.old self.new }
+    {
+        let Ok(_) = self.ahead.insert(slot.get(), Some(entry)) else {
+            unreachable!()
+        };
+        self.close_ranks();
     }
 
     // What stands ahead without a gap behind the run moves into it, as far as there is memory.
     fn close_ranks(&mut self)
-        ensures { self.new ≡ self.old }
+        ensures learned { self.new.learned ≡ self.old.learned }
+        ensures places { KeepsPlaces self.old self.new }
     {
         for _ in 0..self.ahead.len() {
             if !self.move_first() {
@@ -93,19 +122,30 @@ impl<B: Drop> LearnedEntries<B> {
 
     // The first entry ahead moves to the run's end, if it is the next one and there is memory. Whether it did.
     fn move_first(&mut self) -> bool
-        ensures { self.new ≡ self.old }
+        ensures learned { self.new.learned ≡ self.old.learned }
+        ensures places { KeepsPlaces self.old self.new }
     {
         let next = self.run.len() as u64 + 1;
-        let Some((first, _)) = self.ahead.first_key_value() else {
+        let Some((first, place)) = self.ahead.first_key_value() else {
             return false;
         };
-        if *first != next || self.run.reserve(1).is_err() {
+        if *first != next || place.is_none() || self.run.reserve(1).is_err() {
             return false;
         }
-        let Some((_, entry)) = self.ahead.pop_first() else {
-            return false;
+        let Some((_, Some(entry))) = self.ahead.pop_first() else {
+            unreachable!()
         };
         self.run.push_reserved(entry);
         true
+    }
+}
+
+fn find_ahead<B>(ahead: &BTreeMap<u64, Option<Entry<B>>>, number: u64) -> Option<&Entry<B>>
+    requires { AreRising 0 ahead.now.entries }
+    ensures { option_copied result ≡ learned_at number (placed ahead.now.entries) }
+{
+    match ahead.get(&number) {
+        Some(place) => place.as_ref(),
+        None => None,
     }
 }

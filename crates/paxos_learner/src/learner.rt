@@ -1,12 +1,15 @@
-ghost use Rattle.std.specs.Prelude.{◌≡◌, ◌↔◌, true, None, Err, OnOk, OnErr, option_copied};
-ghost use Rattle.paxos_learner.specs.declared.fault.LearnerFault.TheVariants.{Disagree};
+ghost use Rattle.std.specs.Prelude.{◌≡◌, ◌↔◌, ◌+◌, ◌<◌, ◌≤◌, true, Err, OnOk, OnErr, IsOkUnless, option_copied};
+ghost use Rattle.paxos_learner.specs.declared.fault.LearnerFault.TheVariants.{Disagree, Memory};
+ghost use Rattle.paxos_packets.specs.Members.{is_in, is_majority};
+ghost use Rattle.paxos_learner.specs.Learned.{has_place, KeepsPlaces};
+ghost use Rattle.paxos_learner.specs.Tallies.{nodes_heard};
 ghost use Rattle.paxos_learner.specs.Learner.{learned_at, learn_among, is_other, begun, told, voted, disagrees, vote_disagrees};
+ghost use Rattle.paxos_learner.specs.Learner.{has_room_at, KeepsRoom};
 
 use crate::fault::LearnerFault;
 use crate::learned::LearnedEntries;
-use crate::state::LearnerState;
 use crate::tallies::{Place, Tallies};
-use paxos_packets::{Ballot, Body, Entry, Members, Slot};
+use paxos_packets::{Ballot, Body, Entry, Members, NodeSet, Slot, Vote};
 use std::alloc::Global;
 use std::marker::Model;
 
@@ -15,38 +18,53 @@ use std::marker::Model;
 pub struct Learner<B> {
     alloc: Global,
     members: Members,
-    state: LearnerState<B>,
+    heard: Tallies,
+    learned: LearnedEntries<B>,
 }
 
 impl<B> Model for Learner<B> {
-    ghost use Rattle.paxos_learner.specs.Learner.{State};
+    ghost use Rattle.paxos_learner.specs.Learner.{Held, held_of};
 
-    ghost Value = { State B };
+    ghost Value = { Held B };
 
-    ghost view = { λ l. record { members = l.members; learner = l.state } };
+    ghost view = { λ l. held_of l.members l.heard l.learned };
 }
 
 impl<B> Learner<B> {
     /// A learner of these members that heard and learned nothing. Takes no memory; the other calls will, from `alloc`.
     pub fn new(alloc: Global, members: Members) -> Learner<B>
-        ensures { result ≡ begun members }
+        ensures { result.state ≡ begun members }
     {
         Learner {
             alloc,
             members,
-            state: LearnerState {
-                heard: Tallies::new(alloc),
-                learned: LearnedEntries::new(alloc),
-            },
+            heard: Tallies::new(alloc),
+            learned: LearnedEntries::new(alloc),
         }
     }
 
     /// The entry that was learned in the slot. Takes no memory. Behind slots that are all learned it takes a constant number of steps;
     /// above a gap, a number that is logarithmic in the number of entries above it.
     pub fn learned(&self, slot: Slot) -> Option<&Entry<B>>
-        ensures { option_copied result ≡ learned_at slot self.now.learner.learned }
+        ensures { option_copied result ≡ learned_at slot self.now.state.learner.learned }
     {
-        self.state.learned.find(slot)
+        self.learned.find(slot)
+    }
+}
+
+impl<B> Learner<B> {
+    // The members that were heard to have voted there.
+    pub(crate) fn nodes(&self, place: &Place) -> NodeSet
+        ensures { result ≡ nodes_heard place.now self.now.state.learner.heard }
+    {
+        self.heard.nodes(place)
+    }
+
+    // Whether these are more than half of the members.
+    pub(crate) fn has_majority(&self, nodes: NodeSet) -> bool
+        ensures { result ≡ is_majority self.now.state.members (is_in nodes) }
+    {
+        self.members.majority(nodes)
     }
 }
 
@@ -60,20 +78,20 @@ impl<B: Body> Learner<B> {
         slot: Slot,
         entry: &Entry<B>,
     ) -> Result<(), LearnerFault>
-        ensures ok { OnOk result (self.new ≡ voted node (record { slot = slot; ballot = ballot; entry = entry.now }) self.old) }
-        ensures err { OnErr result (self.new ≡ self.old) }
-        ensures disagree { (result ≡ Err Disagree) ↔ (vote_disagrees B.same self.old.members node
-            (record { slot = slot; ballot = ballot; entry = entry.now }) self.old.learner ≡ true) }
+        ensures ok { OnOk result (self.new.state ≡ voted node (record { slot = slot; ballot = ballot; entry = entry.now }) self.old.state) }
+        ensures err { OnErr result (self.new.state ≡ self.old.state) }
+        ensures disagree { (result ≡ Err Disagree) ↔ (vote_disagrees B.same self.old.state.members node
+            (record { slot = slot; ballot = ballot; entry = entry.now }) self.old.state.learner ≡ true) }
     {
         let place = Place { slot, ballot };
-        let nodes = self.state.heard.nodes(&place).with(node);
+        let nodes = self.heard.nodes(&place).with(node);
         if !self.members.majority(nodes) {
-            return self.state.heard.hear(node, &place);
+            return self.heard.hear(node, &place);
         }
         // Of three members or more one is no majority, so the place was heard before, and its count takes no memory.
         let _count = self.members.count();
-        learn(self.alloc, &mut self.state.learned, slot, entry)?;
-        let Ok(()) = self.state.heard.hear(node, &place) else {
+        learn(self.alloc, &mut self.learned, slot, entry)?;
+        let Ok(()) = self.heard.hear(node, &place) else {
             unreachable!()
         };
         Ok(())
@@ -82,11 +100,71 @@ impl<B: Body> Learner<B> {
     /// A member tells that it learned the entry in the slot. `Disagree` where another was learned there. After a fault the learner is as
     /// it was.
     pub fn tell(&mut self, slot: Slot, entry: &Entry<B>) -> Result<(), LearnerFault>
-        ensures ok { OnOk result (self.new ≡ told slot entry.now self.old) }
-        ensures err { OnErr result (self.new ≡ self.old) }
-        ensures disagree { (result ≡ Err Disagree) ↔ (disagrees B.same slot entry.now self.old.learner ≡ true) }
+        ensures ok { OnOk result (self.new.state ≡ told slot entry.now self.old.state) }
+        ensures err { OnErr result (self.new.state ≡ self.old.state) }
+        ensures disagree { (result ≡ Err Disagree) ↔ (disagrees B.same slot entry.now self.old.state.learner ≡ true) }
     {
-        learn(self.alloc, &mut self.state.learned, slot, entry)
+        learn(self.alloc, &mut self.learned, slot, entry)
+    }
+}
+
+impl<B: Drop> Learner<B> {
+    /// Makes room for votes in so many slots and ballots in which none was heard. With `Memory` there is the room of before.
+    pub fn make_room(&mut self, votes: usize) -> Result<(), LearnerFault>
+        ensures ok { OnOk result (votes ≤ self.new.room.votes) }
+        ensures state { self.new.state ≡ self.old.state }
+        ensures places { KeepsRoom self.old self.new }
+        ensures memory { IsOkUnless result Memory }
+    {
+        self.heard.make_room(votes)
+    }
+
+    /// Makes room for the entry of the slot. With `Memory` there is the room of before. It takes a number of steps that is logarithmic in
+    /// the number of slots above a gap.
+    pub fn make_room_at(&mut self, slot: Slot) -> Result<(), LearnerFault>
+        ensures ok { OnOk result (has_room_at slot self.new ≡ true) }
+        ensures state { self.new.state ≡ self.old.state }
+        ensures votes { self.new.room.votes ≡ self.old.room.votes }
+        ensures places { KeepsRoom self.old self.new }
+        ensures memory { IsOkUnless result Memory }
+    {
+        self.learned.keep_place(slot)
+    }
+
+    /// The vote of this member, as `vote` takes it, where there is room for it. It takes no memory that is wanted, copies nothing, and is
+    /// no place for disagreement: a slot keeps the entry that was learned there.
+    pub fn vote_in_room(&mut self, node: u8, vote: Vote<B>)
+        requires votes { 0 < self.old.room.votes }
+        requires place { has_room_at vote.slot self.old ≡ true }
+        ensures state { self.new.state ≡ voted node vote self.old.state }
+        ensures votes { self.old.room.votes ≤ self.new.room.votes + 1 }
+        ensures places { KeepsRoom self.old self.new }
+    {
+        let Vote {
+            slot,
+            ballot,
+            entry,
+        } = vote;
+        let place = Place { slot, ballot };
+        let voters = self.heard.nodes(&place).with(node);
+        let Ok(()) = self.heard.hear(node, &place) else {
+            unreachable!()
+        };
+        if !self.members.majority(voters) {
+            return;
+        }
+        learn_in_place(&mut self.learned, slot, entry);
+    }
+
+    /// What a member tells, as `tell` takes it, where there is room for it. It takes no memory that is wanted, copies nothing, and is no
+    /// place for disagreement: a slot keeps the entry that was learned there.
+    pub fn tell_in_room(&mut self, slot: Slot, entry: Entry<B>)
+        requires { has_room_at slot self.old ≡ true }
+        ensures state { self.new.state ≡ told slot entry self.old.state }
+        ensures votes { self.new.room.votes ≡ self.old.room.votes }
+        ensures places { KeepsRoom self.old self.new }
+    {
+        learn_in_place(&mut self.learned, slot, entry);
     }
 }
 
@@ -97,9 +175,9 @@ fn learn<B: Body>(
     slot: Slot,
     entry: &Entry<B>,
 ) -> Result<(), LearnerFault>
-    ensures ok { OnOk result (learned.new ≡ learn_among slot entry.now learned.old) }
-    ensures err { OnErr result (learned.new ≡ learned.old) }
-    ensures disagree { (result ≡ Err Disagree) ↔ (is_other B.same entry.now (learned_at slot learned.old) ≡ true) }
+    ensures ok { OnOk result (learned.new.learned ≡ learn_among slot entry.now learned.old.learned) }
+    ensures err { OnErr result (learned.new.learned ≡ learned.old.learned) }
+    ensures disagree { (result ≡ Err Disagree) ↔ (is_other B.same entry.now (learned_at slot learned.old.learned) ≡ true) }
 {
     if let Some(known) = learned.find(slot) {
         if known.same(entry) {
@@ -111,4 +189,16 @@ fn learn<B: Body>(
         return Err(LearnerFault::Memory);
     };
     learned.put(slot, copy)
+}
+
+// The entry is learned in its place, unless one was learned in the slot.
+fn learn_in_place<B: Drop>(learned: &mut LearnedEntries<B>, slot: Slot, entry: Entry<B>)
+    requires { has_place slot learned.old.learned learned.old.places ≡ true }
+    ensures learned { learned.new.learned ≡ learn_among slot entry learned.old.learned }
+    ensures places { KeepsPlaces learned.old learned.new }
+{
+    if let Some(_known) = learned.find(slot) {
+        return;
+    }
+    learned.put_in_place(slot, entry);
 }

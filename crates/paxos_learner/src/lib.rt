@@ -3,13 +3,13 @@
 #![tactic(auto)]
 
 mod fault;
+mod hearing;
 mod learned;
 mod learner;
-mod state;
 mod tallies;
 
 pub use fault::LearnerFault;
+pub use hearing::{Hearing, News};
 pub use learned::{LearnedEntries, LearnedEntry};
 pub use learner::Learner;
-pub use state::LearnerState;
 pub use tallies::{Place, Tallies};

@@ -1,4 +1,4 @@
-ghost use Rattle.std.specs.Prelude.{◌≡◌, [], None, OnOk, OnErr, IsOkUnless};
+ghost use Rattle.std.specs.Prelude.{◌≡◌, ◌+◌, ◌<◌, ◌≤◌, [], None, IsOk, OnOk, OnErr, IsOkUnless};
 ghost use Rattle.std.specs.Map.{lookup};
 ghost use Rattle.paxos_learner.specs.declared.fault.LearnerFault.TheVariants.{Memory};
 ghost use Rattle.paxos_learner.specs.Tallies.{hear, nodes_heard, insert_entry, same_place};
@@ -23,17 +23,18 @@ pub struct Tallies {
 }
 
 impl Model for Tallies {
-    ghost use Rattle.paxos_learner.specs.Tallies.{Heard};
+    ghost use Rattle.indexmap.specs.IndexMap.{spare};
+    ghost use Rattle.paxos_learner.specs.Tallies.{Table};
 
-    ghost Value = { Heard };
+    ghost Value = { Table };
 
-    ghost view = { λ t. t.table.entries };
+    ghost view = { λ t. record { heard = t.table.entries; room = spare t.table } };
 }
 
 impl Tallies {
     /// No vote was heard. Takes no memory; `hear` will, from `alloc`.
     pub fn new(alloc: Global) -> Tallies
-        ensures { result ≡ [] }
+        ensures { result.heard ≡ [] }
     {
         Tallies {
             table: IndexMap::new(alloc),
@@ -42,7 +43,7 @@ impl Tallies {
 
     /// The members that were heard to have voted there. Takes no memory, and a constant number of steps.
     pub fn nodes(&self, place: &Place) -> NodeSet
-        ensures { result ≡ nodes_heard place.now self.now }
+        ensures { result ≡ nodes_heard place.now self.now.heard }
     {
         match self.table.get(place) {
             Some(nodes) => *nodes,
@@ -50,23 +51,59 @@ impl Tallies {
         }
     }
 
-    /// A vote of this member is heard there. With `Memory`, which only comes where none was heard there before, the tallies are as they
-    /// were. Takes a constant number of steps, but where the table grows.
-    pub fn hear(&mut self, node: u8, place: &Place) -> Result<(), LearnerFault>
-        ensures ok { OnOk result (self.new ≡ hear node place.now self.old) }
-        ensures err { OnErr result (self.new ≡ self.old) }
+    /// The members that were heard to have voted there, if the place was heard of. Takes no memory, and a constant number of steps.
+    pub fn find(&self, place: &Place) -> Option<NodeSet>
+        ensures { result ≡ lookup (same_place place.now) self.now.heard }
+    {
+        match self.table.get(place) {
+            Some(nodes) => Some(*nodes),
+            None => None,
+        }
+    }
+
+    /// Makes room for the votes of so many places more.
+    pub fn make_room(&mut self, places: usize) -> Result<(), LearnerFault>
+        ensures ok { OnOk result (places ≤ self.new.room) }
+        ensures heard { self.new.heard ≡ self.old.heard }
         ensures memory { IsOkUnless result Memory }
-        ensures absent { OnErr result (lookup (same_place place.now) self.old ≡ None) }
+    {
+        match self.table.reserve(places) {
+            Ok(()) => Ok(()),
+            Err(_) => Err(LearnerFault::Memory),
+        }
+    }
+
+    /// A vote of this member is heard there. With `Memory`, which only comes where none was heard there before, and never where there is
+    /// room, the tallies are as they were. Takes a constant number of steps, but where the table grows.
+    pub fn hear(&mut self, node: u8, place: &Place) -> Result<(), LearnerFault>
+        ensures ok { OnOk result (self.new.heard ≡ hear node place.now self.old.heard) }
+        ensures err { OnErr result (self.new.heard ≡ self.old.heard) }
+        ensures memory { IsOkUnless result Memory }
+        ensures absent { OnErr result (lookup (same_place place.now) self.old.heard ≡ None) }
+        ensures succeeds { 0 < self.old.room → IsOk result }
+        ensures room { self.old.room ≤ self.new.room + 1 }
     {
         let nodes = self.nodes(place).with(node);
         self.put(*place, nodes)
     }
 
+    // The members that voted at the place are these, where there is room for a place more.
+    pub(crate) fn put_in_room(&mut self, place: Place, nodes: NodeSet)
+        requires { 0 < self.old.room }
+        ensures { self.new.heard ≡ insert_entry same_place self.old.heard place nodes }
+    {
+        let Ok(()) = self.put(place, nodes) else {
+            unreachable!()
+        };
+    }
+
     fn put(&mut self, place: Place, nodes: NodeSet) -> Result<(), LearnerFault>
-        ensures ok { OnOk result (self.new ≡ insert_entry same_place self.old place nodes) }
-        ensures err { OnErr result (self.new ≡ self.old) }
+        ensures ok { OnOk result (self.new.heard ≡ insert_entry same_place self.old.heard place nodes) }
+        ensures err { OnErr result (self.new.heard ≡ self.old.heard) }
         ensures memory { IsOkUnless result Memory }
-        ensures absent { OnErr result (lookup (same_place place) self.old ≡ None) }
+        ensures absent { OnErr result (lookup (same_place place) self.old.heard ≡ None) }
+        ensures succeeds { 0 < self.old.room → IsOk result }
+        ensures room { self.old.room ≤ self.new.room + 1 }
     {
         match self.table.insert(place, nodes) {
             Ok(_) => Ok(()),

@@ -1,8 +1,10 @@
 pub mod Ballot
 pub mod Body
 pub mod Entry
+pub mod Kept
 pub mod List
 pub mod Members
 pub mod Packet
+pub mod Rows
 pub mod Transport
 pub mod Vote

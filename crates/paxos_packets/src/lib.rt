@@ -5,6 +5,7 @@
 mod ballot;
 mod body;
 mod entry;
+mod kept;
 pub mod laws;
 mod list;
 mod members;
@@ -17,6 +18,7 @@ mod vote;
 pub use ballot::Ballot;
 pub use body::{Body, Memory};
 pub use entry::{Entries, Entry};
+pub use kept::KeptVotes;
 pub use members::{Members, NodeSet};
 pub use packet::{Kind, Packet};
 pub use rows::{Change, Rows};

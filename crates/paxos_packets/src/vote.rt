@@ -52,6 +52,14 @@ impl<B> Votes<B> {
         }
     }
 
+    // These votes, which ascend.
+    pub(crate) fn of(list: Vec<Vote<B>>) -> Votes<B>
+        requires { IsAscending list.items }
+        ensures { result ≡ list.items }
+    {
+        Votes { list }
+    }
+
     /// The votes, by ascending slot.
     pub fn as_slice(&self) -> &[Vote<B>]
         ensures votes { result.now ≡ self.now }
@@ -175,7 +183,7 @@ fn seek<B>(votes: &[Vote<B>], slot: u64) -> Result<usize, usize>
 }
 
 // Copies of the votes from the slot with this number on.
-fn copy_behind<B: Body>(
+pub(crate) fn copy_behind<B: Body>(
     alloc: Global,
     votes: &[Vote<B>],
     first: u64,
@@ -189,7 +197,7 @@ fn copy_behind<B: Body>(
 }
 
 // The vote in the slot, if there is one.
-fn find_in<B>(votes: &[Vote<B>], slot: u64) -> Option<&Vote<B>>
+pub(crate) fn find_in<B>(votes: &[Vote<B>], slot: u64) -> Option<&Vote<B>>
     requires { IsAscending votes.now }
     ensures { option_copied result ≡ vote_in slot votes.now }
 {
@@ -225,8 +233,20 @@ fn put_all_in<B: Drop>(votes: &mut Vec<Vote<B>>, more: Vec<Vote<B>>) -> Result<(
     ensures ascending { IsAscending votes.new.items }
 {
     votes.reserve(more.len())?;
-    for vote in more {
-        put_in(votes, vote)?;
-    }
+    put_all_in_room(votes, more);
     Ok(())
+}
+
+// Puts each of the votes, in order, where there is room for so many more.
+pub(crate) fn put_all_in_room<B: Drop>(votes: &mut Vec<Vote<B>>, more: Vec<Vote<B>>)
+    requires ascends { IsAscending votes.old.items }
+    requires room { vec_len votes.old + length more.items ≤ vec_capacity votes.old }
+    ensures votes { votes.new.items ≡ put_votes more.items votes.old.items }
+    ensures ascending { IsAscending votes.new.items }
+{
+    for vote in more {
+        let Ok(()) = put_in(votes, vote) else {
+            unreachable!()
+        };
+    }
 }

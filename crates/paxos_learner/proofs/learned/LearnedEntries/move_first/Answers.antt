@@ -1,25 +1,39 @@
-use Rattle.std.proofs.Common.{◌≡◌, ◌+◌, length, ◌∙◌, sym, arith}
-use Rattle.paxos_learner.specs.Learned.{run_then, AreAbove}
-use Rattle.paxos_learner.proofs.Ahead.{moved, moved_above, same_first}
+use Rattle.std.proofs.Common.{◌≡◌, ◌+◌, length, List, [], ◌∷◌, ◌++◌, Some, Option, ◌∙◌, sym, ap, subst, arith, ℕ}
+use Rattle.paxos_packets.specs.declared.entry.Entry.{Entry}
+use Rattle.paxos_learner.specs.Learned.{run_then, shelf_of, Shelf, KeepsPlaces}
+use Rattle.paxos_learner.proofs.Ahead.{moved, keeps_moved, same_first}
 use Rattle.paxos_learner.proofs.learned.LearnedEntries.move_first.Goals as goal
 
-is_next : (g : _) → (c : goal.After-push_reserved g) → c.in-Some-pop_first.field-0-0 ≡ length c.self.inside.run.items + 1
+is_next : (g : _) → (c : goal.After-push_reserved g) → c.in-Some-default-Some.field-0-0 ≡ length c.self.inside.run.items + 1
 is_next g c =
-    let k = same_first c.self.inside.ahead.entries c.pop_first.new.self.entries c.in-Some.first.now c.in-Some-pop_first.field-0-0
-    c.in-Some.field-0-1.now c.in-Some-pop_first.entry c.in-Some.ensures.first c.in-Some-pop_first.ensures.removal in
+    let k = same_first c.self.inside.ahead.entries c.pop_first.new.self.entries c.in-Some.first.now c.in-Some-default-Some.field-0-0
+    c.in-Some.place.now c.in-Some-default-Some.field-0-1 c.in-Some.ensures.first c.in-Some-default-Some.ensures.removal in
     omega (arith, k, c.if-first-next.false, c.len.ensures)
 
-pub invariant_of-self-2 : goal.invariant_of-self-2
-invariant_of-self-2 g c =
-    let above : AreAbove (length c.push_reserved.new.self.items) c.pop_first.new.self.entries = rw (c.push_reserved.ensures.items, c.reserve.ensures.items)
-    (moved_above c.in-Some-pop_first.field-0-0 c.in-Some-pop_first.entry c.self.inside.run.items c.pop_first.new.self.entries (is_next g c)
-    c.in-Some-pop_first.ensures.all_above) in
-    above
+pub returns-clause-learned : goal.returns-clause-learned
+returns-clause-learned g c =
+    let ahead : c.self.inside.ahead.entries ≡ (c.in-Some-default-Some.field-0-0, Some c.in-Some-default-Some.entry) ∷ c.pop_first.new.self.entries =
+    c.in-Some-default-Some.ensures.removal ∙ ap (λ (x : Option (Entry g.row.B.Denot)). (c.in-Some-default-Some.field-0-0, x) ∷ c.pop_first.new.self.entries)
+    c.in-Some-default-Some.field-0-1-is in
+    let items : c.push_reserved.new.self.items ≡ c.self.inside.run.items ++ c.in-Some-default-Some.entry ∷ [] =
+    c.push_reserved.ensures.items ∙ ap (λ (r : List (Entry g.row.B.Denot)). r ++ c.in-Some-default-Some.entry ∷ []) c.reserve.ensures.items in
+    ap (λ (r : List (Entry g.row.B.Denot)). run_then r c.pop_first.new.self.entries) items
+    ∙ moved 1 c.in-Some-default-Some.field-0-0 c.in-Some-default-Some.entry c.self.inside.run.items c.pop_first.new.self.entries
+    (omega (arith, is_next g c))
+    ∙ ap (λ (es : List (ℕ × Option (Entry g.row.B.Denot))). run_then c.self.inside.run.items es) (sym ahead)
+    ∙ ap (λ (s : Shelf g.row.B.Denot). s.learned) c.self.view_is
 
-pub returns : goal.returns
-returns g c =
-    let same : run_then c.push_reserved.new.self.items c.pop_first.new.self.entries ≡ run_then c.self.inside.run.items c.self.inside.ahead.entries = rw
-    (c.push_reserved.ensures.items, c.reserve.ensures.items, c.in-Some-pop_first.ensures.removal)
-    (moved 1 c.in-Some-pop_first.field-0-0 c.in-Some-pop_first.entry c.self.inside.run.items c.pop_first.new.self.entries
-    (omega (arith, is_next g c))) in
-    same ∙ c.self.view_is
+pub returns-clause-places : goal.returns-clause-places
+returns-clause-places g c =
+    let ahead : c.self.inside.ahead.entries ≡ (c.in-Some-default-Some.field-0-0, Some c.in-Some-default-Some.entry) ∷ c.pop_first.new.self.entries =
+    c.in-Some-default-Some.ensures.removal ∙ ap (λ (x : Option (Entry g.row.B.Denot)). (c.in-Some-default-Some.field-0-0, x) ∷ c.pop_first.new.self.entries)
+    c.in-Some-default-Some.field-0-1-is in
+    let items : c.push_reserved.new.self.items ≡ c.self.inside.run.items ++ c.in-Some-default-Some.entry ∷ [] =
+    c.push_reserved.ensures.items ∙ ap (λ (r : List (Entry g.row.B.Denot)). r ++ c.in-Some-default-Some.entry ∷ []) c.reserve.ensures.items in
+    let before : shelf_of c.self.inside.run.items ((c.in-Some-default-Some.field-0-0, Some c.in-Some-default-Some.entry) ∷ c.pop_first.new.self.entries)
+    ≡ c.args.self.now = ap (λ (es : List (ℕ × Option (Entry g.row.B.Denot))). shelf_of c.self.inside.run.items es) (sym ahead) ∙ c.self.view_is in
+    subst (λ (s : Shelf g.row.B.Denot). KeepsPlaces s (shelf_of c.push_reserved.new.self.items c.pop_first.new.self.entries)) before
+    (subst (λ (r : List (Entry g.row.B.Denot)). KeepsPlaces
+    (shelf_of c.self.inside.run.items ((c.in-Some-default-Some.field-0-0, Some c.in-Some-default-Some.entry) ∷ c.pop_first.new.self.entries))
+    (shelf_of r c.pop_first.new.self.entries)) (sym items)
+    (keeps_moved c.in-Some-default-Some.field-0-0 c.in-Some-default-Some.entry c.self.inside.run.items c.pop_first.new.self.entries (is_next g c)))

@@ -1,6 +1,6 @@
 use Rattle.std.proofs.Common.{◌≡◌, ◌≤◌, ◌+◌, length, vec_len, vec_capacity}
 use Rattle.paxos_packets.specs.Vote.{IsAscending, put_votes}
-use Rattle.paxos_packets.proofs.vote.put_all_in.Given as goal
+use Rattle.paxos_packets.proofs.vote.put_all_in_room.Given as goal
 
 abbrev pub invariant-loop-vote : goal.invariant-loop-vote
 invariant-loop-vote g l =

@@ -1,0 +1,189 @@
+ghost use Rattle.std.specs.Prelude.{◌≡◌, ◌∷◌, [], ◌++◌, ℕ, IfOk, OnOk, OnErr, IsOkUnless, option_copied};
+ghost use Rattle.std.specs.Map.{lookup};
+ghost use Rattle.std.specs.Option.{unwrap_or};
+ghost use Rattle.paxos_learner.specs.declared.fault.LearnerFault.TheVariants.{Memory};
+ghost use Rattle.paxos_learner.specs.declared.hearing.News.TheVariants.{Cast, Told};
+ghost use Rattle.paxos_learner.specs.Hearing.{after, and_news, over, gain};
+ghost use Rattle.paxos_learner.specs.Learner.{learned_at, is_other, disagrees, vote_disagrees};
+ghost use Rattle.paxos_learner.specs.Tallies.{nodes_heard, same_place};
+
+use crate::fault::LearnerFault;
+use crate::learned::LearnedEntries;
+use crate::learner::Learner;
+use crate::tallies::{Place, Tallies};
+use paxos_packets::{Body, Entry, NodeSet, Slot, Vote};
+use std::alloc::Global;
+use std::marker::Model;
+
+/// What a learner hears.
+#[derive(Debug, Drop)]
+pub enum News<B> {
+    /// The member cast the vote.
+    Cast { node: u8, vote: Vote<B> },
+    /// A member tells that it learned the entry in the slot.
+    Told { slot: Slot, entry: Entry<B> },
+}
+
+/// A learner, and what it is to hear: an event is planned on it, and the learner stays as it is. It keeps what changes, and copies no
+/// more of the learner.
+#[derive(Drop)]
+pub struct Hearing<'a, B> {
+    alloc: Global,
+    learner: &'a Learner<B>,
+    news: Vec<News<B>>,
+    // The sets of members at the places where one was heard, and the entries that were not learned before.
+    changed: Tallies,
+    gained: LearnedEntries<B>,
+}
+
+impl<'a, B> Model for Hearing<'a, B> {
+    ghost use Rattle.paxos_learner.specs.Hearing.{Draft, IsOver, hear_all};
+
+    ghost Value = { Draft B };
+
+    ghost view = { λ h. record { before = h.learner.now.state; news = h.news.items } };
+
+    ghost invariant = { λ h. IsOver h.changed.heard h.gained.learned h.learner.now.state.learner
+        (hear_all h.news.items h.learner.now.state).learner };
+}
+
+impl<'a, B> Hearing<'a, B> {
+    /// The learner, which is to hear nothing. Takes no memory; the other calls will, from `alloc`.
+    pub fn of(alloc: Global, learner: &'a Learner<B>) -> Hearing<'a, B>
+        ensures before { result.before ≡ learner.now.state }
+        ensures news { result.news ≡ [] }
+    {
+        Hearing {
+            alloc,
+            learner,
+            news: Vec::new(alloc),
+            changed: Tallies::new(alloc),
+            gained: LearnedEntries::new(alloc),
+        }
+    }
+
+    /// The entry that would be learned in the slot. It is found as `Learner::learned` finds it.
+    pub fn learned(&self, slot: Slot) -> Option<&Entry<B>>
+        ensures { option_copied result ≡ learned_at slot (after self.now).learner.learned }
+    {
+        find_over(self.learner, &self.gained, slot)
+    }
+}
+
+impl<'a, B: Drop> Hearing<'a, B> {
+    /// What is to be heard, in its order.
+    pub fn into_news(self) -> Vec<News<B>>
+        ensures { result.items ≡ self.entry.news }
+    {
+        let Hearing { news, .. } = self;
+        news
+    }
+}
+
+impl<'a, B: Body> Hearing<'a, B> {
+    /// The learner is to hear this vote of the member. Whether another entry than the one that a majority voted for would be learned in
+    /// its slot. With `Memory` it is to hear what it was before. Takes a constant number of steps, but where what changes is moved to
+    /// larger memory, and copies the vote once, and its entry once more where it is learned.
+    pub fn vote(&mut self, node: u8, vote: &Vote<B>) -> Result<bool, LearnerFault>
+        ensures ok { OnOk result (self.new ≡ and_news (Cast node vote.now) self.old) }
+        ensures other { IfOk result (λ other. other ≡ vote_disagrees B.same (after self.old).members node vote.now (after self.old).learner) }
+        ensures err { OnErr result (self.new ≡ self.old) }
+        ensures memory { IsOkUnless result Memory }
+    {
+        let place = Place {
+            slot: vote.slot,
+            ballot: vote.ballot,
+        };
+        let nodes = nodes_over(self.learner, &self.changed, &place).with(node);
+        let Ok(copy) = vote.copy(self.alloc) else {
+            return Err(LearnerFault::Memory);
+        };
+        if self.news.reserve(1).is_err() {
+            return Err(LearnerFault::Memory);
+        }
+        self.changed.make_room(1)?;
+        if !self.learner.has_majority(nodes) {
+            self.changed.put_in_room(place, nodes);
+            self.news.push_reserved(News::Cast { node, vote: copy });
+            return Ok(false);
+        }
+        let other = gain(
+            self.alloc,
+            self.learner,
+            &mut self.gained,
+            vote.slot,
+            &vote.entry,
+        )?;
+        self.changed.put_in_room(place, nodes);
+        self.news.push_reserved(News::Cast { node, vote: copy });
+        Ok(other)
+    }
+
+    /// The learner is to be told the entry of the slot. Whether another would be learned there. With `Memory` it is to hear what it was
+    /// before.
+    pub fn tell(&mut self, slot: Slot, entry: &Entry<B>) -> Result<bool, LearnerFault>
+        ensures ok { OnOk result (self.new ≡ and_news (Told slot entry.now) self.old) }
+        ensures other { IfOk result (λ other. other ≡ disagrees B.same slot entry.now (after self.old).learner) }
+        ensures err { OnErr result (self.new ≡ self.old) }
+        ensures memory { IsOkUnless result Memory }
+    {
+        let Ok(copy) = entry.copy(self.alloc) else {
+            return Err(LearnerFault::Memory);
+        };
+        if self.news.reserve(1).is_err() {
+            return Err(LearnerFault::Memory);
+        }
+        let other = gain(self.alloc, self.learner, &mut self.gained, slot, entry)?;
+        self.news.push_reserved(News::Told { slot, entry: copy });
+        Ok(other)
+    }
+}
+
+// The members that would have been heard to vote there.
+fn nodes_over<B>(learner: &Learner<B>, changed: &Tallies, place: &Place) -> NodeSet
+    ensures { result ≡ unwrap_or (lookup (same_place place.now) changed.now.heard) (nodes_heard place.now learner.now.state.learner.heard) }
+{
+    match changed.find(place) {
+        Some(nodes) => nodes,
+        None => learner.nodes(place),
+    }
+}
+
+// The entry that would be learned in the slot.
+fn find_over<'a, B>(
+    learner: &'a Learner<B>,
+    gained: &'a LearnedEntries<B>,
+    slot: Slot,
+) -> Option<&'a Entry<B>>
+    ensures { option_copied result ≡ over slot gained.now.learned learner.now.state.learner.learned }
+{
+    match gained.find(slot) {
+        Some(entry) => Some(entry),
+        None => learner.learned(slot),
+    }
+}
+
+// The entry is gained, unless one would be learned in the slot. Whether that is another.
+fn gain<B: Body>(
+    alloc: Global,
+    learner: &Learner<B>,
+    gained: &mut LearnedEntries<B>,
+    slot: Slot,
+    entry: &Entry<B>,
+) -> Result<bool, LearnerFault>
+    ensures ok { OnOk result (gained.new.learned
+        ≡ gain slot entry.now (over slot gained.old.learned learner.now.state.learner.learned) gained.old.learned) }
+    ensures other { IfOk result (λ other. other
+        ≡ is_other B.same entry.now (over slot gained.old.learned learner.now.state.learner.learned)) }
+    ensures err { OnErr result (gained.new.learned ≡ gained.old.learned) }
+    ensures memory { IsOkUnless result Memory }
+{
+    if let Some(known) = find_over(learner, gained, slot) {
+        return Ok(!known.same(entry));
+    }
+    let Ok(copy) = entry.copy(alloc) else {
+        return Err(LearnerFault::Memory);
+    };
+    gained.put(slot, copy)?;
+    Ok(false)
+}
