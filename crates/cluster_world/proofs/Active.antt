@@ -1,5 +1,5 @@
 -- Moves that promise, vote or propose.
-use Rattle.std.proofs.Common.{◌≡◌, ⊎_elim, ℕ, suc, ◌<◌, ◌≤◌, true, false, refl, sym, ap, ◌∙◌, subst, arith, List, [], ◌∷◌, ◌++◌, Option}
+use Rattle.std.proofs.Common.{max, ◌≡◌, ⊎_elim, ℕ, suc, ◌<◌, ◌≤◌, true, false, refl, sym, ap, ◌∙◌, subst, arith, List, [], ◌∷◌, ◌++◌, Option}
 use Rattle.std.proofs.Common.{Some}
 use Rattle.std.proofs.lemmas.Bool.{cond_both}
 use Rattle.cluster_world.proofs.Order.{Lt, Le, Reaches, Over, reach, le_refl, lt_not_le, le_cases, le_from_test}
@@ -13,9 +13,8 @@ use Rattle.cluster_world.proofs.AcceptorTests.{accept_le, accept_up, accept_over
 use Rattle.cluster_world.proofs.AcceptorTests.{from_has, has_from, sent_to_others, sent_one, others_sent}
 use Rattle.paxos_packets.specs.Ballot.{below}
 use Rattle.paxos_proposer.specs.declared.promises.CountedPromise.{CountedPromise}
-use Rattle.paxos_proposer.specs.declared.role.Role.{Role}
-use Rattle.paxos_proposer.specs.declared.role.Role.TheVariants.{Idle, Preparing, Leading}
-use Rattle.paxos_node.specs.declared.state.NodeState.{NodeState}
+use Rattle.paxos_proposer.specs.Role.{Role, Idle, Preparing, Leading}
+use Rattle.paxos_node.specs.Node.{NodeState}
 use Rattle.paxos_packets.specs.Packet.{packet, to_others}
 use Rattle.paxos_acceptor.specs.Acceptor.{with_promise, may_promise, may_accept}
 use Rattle.paxos_node.specs.Turn.{with_role, promised_at, voted_at}
@@ -267,7 +266,7 @@ abbrev pub begun_at : {B : Type 0} → ℕ → Ballot → ℕ → NodeState B �
 begun_at n b floor x =
     record x {
       rows = with_promise b x.rows;
-      proposer = record { role = asking n b floor (votes_from floor x.rows.votes); seen = x.proposer.seen };
+      proposer = record { role = asking n b floor (votes_from floor x.rows.votes); seen = max x.proposer.seen b.round };
     }
 
 pub begin_moved : {B : Type 0} (members : ℕ) (at : ℕ → NodeState B) (n : ℕ) (x : NodeState B) (sent : List (Packet B)) (b : Ballot)

@@ -16,8 +16,7 @@ use Rattle.replica_machine.specs.Roll.{standing, live_in}
 use Rattle.replica_machine.proofs.Places.{live_boot_is}
 use Rattle.paxos_node.specs.declared.event.Event.{Event}
 use Rattle.paxos_node.specs.declared.event.Event.TheVariants.{Take, Tick, Start, Suspect, Deliver, Crash, Restart}
-use Rattle.paxos_node.specs.declared.state.NodeState.{NodeState}
-use Rattle.paxos_node.specs.declared.turn.Turn.{Turn}
+use Rattle.paxos_node.specs.Node.{NodeState, Turn}
 use Rattle.paxos_node.specs.Applying.{started, first_rows}
 use Rattle.paxos_node.specs.Events.{takes, new_item, has_room, is_pending, new_lost_of, new_lost, owner, possible, outcome_of, taken_by}
 use Rattle.paxos_node.specs.Events.{suspected_by, made_by}
@@ -109,7 +108,7 @@ module _ {B : Type 0} (same : B → B → Bool) where
   made_boot (Restart m) x p n b h =
       record {
         node = sym (names (has_one h));
-        was = down x.up (and_parts (not x.up) (nat_lt x.rows.boot Rattle.paxos_node.specs.Events.last_number) p).0;
+        was = down x.up (and_parts (not x.up) (nat_lt x.rows.boot Rattle.paxos_packets.specs.Rows.last_boot) p).0;
         boot = sym (boots (has_one h));
       }
     where

@@ -29,14 +29,12 @@ use Rattle.paxos_packets.specs.declared.packet.Kind.TheVariants.{Prepare, Promis
 use Rattle.paxos_acceptor.specs.Acceptor.{may_promise, may_accept}
 use Rattle.std.specs.Option.{unwrap_or}
 use Rattle.paxos_proposer.specs.declared.promises.CountedPromise.{CountedPromise}
-use Rattle.paxos_proposer.specs.declared.role.Role.{Role}
-use Rattle.paxos_proposer.specs.declared.role.Role.TheVariants.{Idle, Preparing, Leading}
+use Rattle.paxos_proposer.specs.Role.{Role, Idle, Preparing, Leading}
 use Rattle.paxos_proposer.specs.Proposer.{round_of, new_ballot, step_down, nacked, is_leading}
 use Rattle.paxos_proposer.specs.Reports.{is_counted, reports, past_reports, called_for}
 use Rattle.paxos_learner.specs.declared.learned.LearnedEntry.{LearnedEntry}
 use Rattle.paxos_learner.specs.Learner.{is_learned, learn, disagrees, vote_disagrees}
-use Rattle.paxos_node.specs.declared.state.NodeState.{NodeState}
-use Rattle.paxos_node.specs.declared.turn.Turn.{Turn}
+use Rattle.paxos_node.specs.Node.{NodeState, Turn}
 use Rattle.paxos_node.specs.Turn.{with_role, with_pending, with_learner, promised_at, counted_at, send, promise, count, hear_learned, cast}
 use Rattle.paxos_node.specs.Proposals.{propose, lead, stands, propose_new, propose_each, forwarded, push}
 use Rattle.paxos_node.specs.Replies.{saw, refuse, on_prepare, on_accept, count_promise, on_promise_as, on_nack, on_forward, told_from, on_packet}

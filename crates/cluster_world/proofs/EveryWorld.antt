@@ -19,15 +19,14 @@ use Rattle.paxos_packets.specs.Body.{IsEquality}
 use Rattle.paxos_packets.specs.declared.entry.Entry.{Entry}
 use Rattle.paxos_packets.specs.declared.packet.Kind.{Kind}
 use Rattle.paxos_packets.specs.declared.packet.Packet.{Packet}
-use Rattle.paxos_proposer.specs.declared.role.Role.{Role}
-use Rattle.paxos_proposer.specs.declared.role.Role.TheVariants.{Idle}
+use Rattle.paxos_proposer.specs.Role.{Role, Idle}
 use Rattle.paxos_node.specs.declared.event.Event.{Event}
 use Rattle.paxos_node.specs.declared.event.Event.TheVariants.{Take, Tick, Start, Suspect, Deliver, Crash, Restart}
-use Rattle.paxos_node.specs.declared.state.NodeState.{NodeState}
-use Rattle.paxos_node.specs.declared.turn.Turn.{Turn}
+use Rattle.paxos_node.specs.Node.{NodeState, Turn}
 use Rattle.paxos_node.specs.Turn.{begun}
 use Rattle.paxos_node.specs.Applying.{started, first_rows}
-use Rattle.paxos_node.specs.Events.{last_number, owner, possible, outcome_of, new_lost}
+use Rattle.paxos_packets.specs.Rows.{last_boot}
+use Rattle.paxos_node.specs.Events.{owner, possible, outcome_of, new_lost}
 use Rattle.cluster_world.specs.World.{World, absent, node_at, put_node, founded, first_world, is_among, was_sent, done, next, play, played}
 
 pub record WorldOk {B : Type 0} (members : ℕ) (w : World B) : Type 0 where
@@ -164,7 +163,7 @@ absent_cannot (Start n) h = off h
 absent_cannot (Suspect n other) h = off h
 absent_cannot (Deliver p) h = off h
 absent_cannot (Crash n) h = off h
-absent_cannot (Restart n) h = let l = ltb-true last_number last_number h in omega arith
+absent_cannot (Restart n) h = let l = ltb-true last_boot last_boot h in omega arith
 
 pub within : {B : Type 0} (nodes : List (NodeState B)) (e : Event B) (k : ℕ) → possible e (node_at nodes k) ≡ true → Within nodes k
 within nodes e zero h = absurd (absent_cannot e h)

@@ -3,8 +3,7 @@ use Rattle.std.proofs.Common.{◌≡◌, ℕ, suc, refl, sym, ap, ◌∙◌, sub
 use Rattle.cluster_world.proofs.Order.{Reaches, Over, reach, over, le_refl, reach_over}
 use Rattle.cluster_world.proofs.Invariant.{vote, Sent, Known, Carried, Backs, Safe, Clear, Free, Tells, Told, IsChosen, VoteOf, RoleOk}
 use Rattle.cluster_world.proofs.Invariant.{RoleFree, Grows, AllSafe}
-use Rattle.paxos_proposer.specs.declared.role.Role.{Role}
-use Rattle.paxos_proposer.specs.declared.role.Role.TheVariants.{Idle, Preparing, Leading}
+use Rattle.paxos_proposer.specs.Role.{Role, Idle, Preparing, Leading}
 use Rattle.paxos_learner.specs.declared.tallies.Place.{Place}
 use Rattle.paxos_packets.specs.declared.ballot.Ballot.{Ballot}
 use Rattle.paxos_packets.specs.declared.packet.Kind.{Kind}

@@ -15,9 +15,9 @@ use Rattle.paxos_packets.specs.Transport.{same_transport}
 use Rattle.replica_machine.proofs.Replaying.{sayings_append}
 use Rattle.paxos_node.specs.declared.event.Event.{Event}
 use Rattle.paxos_node.specs.declared.event.Event.TheVariants.{Take, Tick, Start, Suspect, Deliver, Crash, Restart}
-use Rattle.paxos_node.specs.declared.state.NodeState.{NodeState}
-use Rattle.paxos_node.specs.declared.turn.Turn.{Turn}
-use Rattle.paxos_node.specs.Applying.{started, raised}
+use Rattle.paxos_node.specs.Node.{NodeState, Turn}
+use Rattle.paxos_packets.specs.Rows.{raised}
+use Rattle.paxos_node.specs.Applying.{started}
 use Rattle.paxos_node.specs.Events.{owner, possible, outcome_of}
 use Rattle.cluster_world.specs.World.{Applied, World, node_at, put_node, first_world, was_sent, done, next, play, played, log_of, handed_at}
 use Rattle.cluster_world.specs.World.{handed_in, handed}
@@ -48,7 +48,7 @@ event_cases same members (Crash n) x p = inl (record { was = p; from = up_from s
 event_cases same members (Restart n) x p =
     inr
     (record {
-      was = down x.up (and_parts (not x.up) (nat_lt x.rows.boot Rattle.paxos_node.specs.Events.last_number) p).0;
+      was = down x.up (and_parts (not x.up) (nat_lt x.rows.boot Rattle.paxos_packets.specs.Rows.last_boot) p).0;
       is = refl;
       news = refl;
     })

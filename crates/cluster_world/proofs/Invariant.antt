@@ -4,11 +4,10 @@ use Rattle.cluster_world.proofs.Order.{Lt, Le, Reaches, Over}
 use Rattle.paxos_packets.specs.Members.{IsMajority, IsMember, is_in}
 use Rattle.cluster_world.specs.Has.{Has}
 use Rattle.paxos_proposer.specs.declared.promises.CountedPromise.{CountedPromise}
-use Rattle.paxos_proposer.specs.declared.role.Role.{Role}
-use Rattle.paxos_proposer.specs.declared.role.Role.TheVariants.{Idle, Preparing, Leading}
+use Rattle.paxos_proposer.specs.Role.{Role, Idle, Preparing, Leading}
 use Rattle.paxos_learner.specs.declared.tallies.Place.{Place}
 use Rattle.paxos_learner.specs.declared.learned.LearnedEntry.{LearnedEntry}
-use Rattle.paxos_node.specs.declared.state.NodeState.{NodeState}
+use Rattle.paxos_node.specs.Node.{NodeState}
 use Rattle.paxos_proposer.specs.Proposer.{slot_end, next_vote}
 use Rattle.paxos_packets.specs.declared.ballot.Ballot.{Ballot}
 use Rattle.paxos_packets.specs.declared.packet.Kind.{Kind}

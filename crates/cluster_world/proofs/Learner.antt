@@ -23,11 +23,11 @@ use Rattle.paxos_packets.specs.declared.packet.Kind.TheVariants.{Accept, Accepte
 use Rattle.paxos_learner.specs.declared.tallies.Place.{Place}
 use Rattle.paxos_learner.specs.Tallies.{Heard, same_place, place_of, nodes_heard, insert_entry}
 use Rattle.paxos_learner.specs.declared.learned.LearnedEntry.{LearnedEntry}
-use Rattle.paxos_learner.specs.declared.state.LearnerState.{LearnerState}
+use Rattle.paxos_learner.specs.Learner.{LearnerState}
 use Rattle.paxos_learner.specs.Learner.{learned_at, is_learned, put_learned, learn, hears, is_other, disagrees}
 use Rattle.paxos_learner.specs.Learner.{has_most, learn_chosen, count_vote, vote_disagrees}
 use Rattle.paxos_node.specs.Turn.{with_learner}
-use Rattle.paxos_node.specs.declared.state.NodeState.{NodeState}
+use Rattle.paxos_node.specs.Node.{NodeState}
 
 off : false ≡ true → ⊥
 off e = cc

@@ -22,18 +22,16 @@ use Rattle.paxos_packets.specs.declared.packet.Kind.TheVariants.{Prepare, Promis
 use Rattle.paxos_acceptor.specs.Acceptor.{may_promise, may_accept}
 use Rattle.std.specs.Option.{unwrap_or}
 use Rattle.paxos_proposer.specs.declared.promises.CountedPromise.{CountedPromise}
-use Rattle.paxos_proposer.specs.declared.role.Role.{Role}
-use Rattle.paxos_proposer.specs.declared.role.Role.TheVariants.{Idle, Preparing, Leading}
+use Rattle.paxos_proposer.specs.Role.{Role, Idle, Preparing, Leading}
 use Rattle.paxos_proposer.specs.Proposer.{slot_end, new_ballot, step_down, nacked, next_vote, is_leading}
 use Rattle.paxos_proposer.specs.Reports.{is_counted, reports, best, past_reports, entry_or_noop, called_in, called_for}
 use Rattle.paxos_learner.specs.declared.learned.LearnedEntry.{LearnedEntry}
-use Rattle.paxos_learner.specs.declared.state.LearnerState.{LearnerState}
+use Rattle.paxos_learner.specs.Learner.{LearnerState}
 use Rattle.paxos_learner.specs.Learner.{is_learned, put_learned, learn, hears, has_most, count_vote, run_with, run_from}
 use Rattle.replica_machine.specs.Roll.{is_wanted}
 use Rattle.paxos_node.specs.declared.event.Event.{Event}
 use Rattle.paxos_node.specs.declared.event.Event.TheVariants.{Take, Tick, Start, Suspect, Deliver, Crash, Restart}
-use Rattle.paxos_node.specs.declared.state.NodeState.{NodeState}
-use Rattle.paxos_node.specs.declared.turn.Turn.{Turn}
+use Rattle.paxos_node.specs.Node.{NodeState, Turn}
 use Rattle.paxos_node.specs.Turn.{with_role, with_pending, begun, voted_at, counted_at, send, promise, cast}
 use Rattle.paxos_node.specs.Proposals.{offer, propose_as, propose, propose_all, lead, stands, propose_new, propose_each, forwarded, push}
 use Rattle.paxos_node.specs.Replies.{saw, refuse, on_prepare, on_accept, count_promise, on_promise_as, told_from, on_packet}

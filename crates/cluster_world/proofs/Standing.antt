@@ -16,14 +16,12 @@ use Rattle.paxos_packets.specs.declared.vote.Vote.{Vote}
 use Rattle.paxos_packets.specs.declared.packet.Kind.TheVariants.{Prepare, Promise, Accept, Accepted, Nack, Forward, Ask, Learned}
 use Rattle.paxos_acceptor.specs.Acceptor.{may_promise, may_accept}
 use Rattle.paxos_proposer.specs.declared.promises.CountedPromise.{CountedPromise}
-use Rattle.paxos_proposer.specs.declared.role.Role.{Role}
-use Rattle.paxos_proposer.specs.declared.role.Role.TheVariants.{Idle, Preparing, Leading}
+use Rattle.paxos_proposer.specs.Role.{Role, Idle, Preparing, Leading}
 use Rattle.paxos_proposer.specs.Proposer.{slot_end, next_vote, new_ballot, is_leading}
 use Rattle.paxos_proposer.specs.Reports.{is_counted, reports, called_for}
 use Rattle.paxos_node.specs.declared.event.Event.{Event}
 use Rattle.paxos_node.specs.declared.event.Event.TheVariants.{Take, Tick, Start, Suspect, Deliver, Crash, Restart}
-use Rattle.paxos_node.specs.declared.state.NodeState.{NodeState}
-use Rattle.paxos_node.specs.declared.turn.Turn.{Turn}
+use Rattle.paxos_node.specs.Node.{NodeState, Turn}
 use Rattle.paxos_node.specs.Turn.{with_role, with_pending, begun, send, promise, cast}
 use Rattle.paxos_node.specs.Proposals.{offer, propose_as, propose, propose_all, lead, stands, propose_new, propose_each, forwarded, push}
 use Rattle.paxos_node.specs.Replies.{saw, refuse, count_promise, on_promise_as, on_packet}
@@ -164,8 +162,8 @@ up_from same members (Deliver q) x u p =
 up_from same members (Crash n) x u p = record { boot_is = refl; case = inr refl }
 up_from same members (Restart n) x u p = absurd (no (sym (ap not u) ∙ lift p))
   where
-    lift : (not x.up && nat_lt x.rows.boot Rattle.paxos_node.specs.Events.last_number) ≡ true → not x.up ≡ true
-    lift h = (Rattle.std.proofs.lemmas.Bool.and_parts (not x.up) (nat_lt x.rows.boot Rattle.paxos_node.specs.Events.last_number) h).0
+    lift : (not x.up && nat_lt x.rows.boot Rattle.paxos_packets.specs.Rows.last_boot) ≡ true → not x.up ≡ true
+    lift h = (Rattle.std.proofs.lemmas.Bool.and_parts (not x.up) (nat_lt x.rows.boot Rattle.paxos_packets.specs.Rows.last_boot) h).0
 
     no : false ≡ true → ⊥
     no e = cc

@@ -11,10 +11,10 @@ use Rattle.replica_machine.specs.Replay.{Machine, sayings_behind}
 use Rattle.paxos_packets.specs.Transport.{same_transport}
 use Rattle.paxos_node.specs.declared.event.Event.{Event}
 use Rattle.paxos_node.specs.declared.event.Event.TheVariants.{Take, Tick, Start, Suspect, Deliver, Crash, Restart}
-use Rattle.paxos_node.specs.declared.state.NodeState.{NodeState}
-use Rattle.paxos_node.specs.declared.turn.Turn.{Turn}
+use Rattle.paxos_node.specs.Node.{NodeState, Turn}
 use Rattle.paxos_node.specs.Applying.{down, started, first_rows}
-use Rattle.paxos_node.specs.Events.{last_number, owner, possible, outcome_of, made_by}
+use Rattle.paxos_packets.specs.Rows.{last_boot}
+use Rattle.paxos_node.specs.Events.{owner, possible, outcome_of, made_by}
 
 -- the entries that a node applied in one event: in which boot, behind which log
 pub record Applied (B : Type 0) : Type 0 where
@@ -33,7 +33,7 @@ pub record World (B : Type 0) : Type 0 where
 
 -- what is no member: down for ever, since no boot is left
 abbrev pub absent : {B : Type 0} → NodeState B
-absent = down (record { boot = last_number; promised = None; votes = [] })
+absent = down (record { boot = last_boot; promised = None; votes = [] })
 
 abbrev pub node_at : {B : Type 0} → List (NodeState B) → ℕ → NodeState B
 node_at nodes zero = absent

@@ -17,18 +17,18 @@ use Rattle.paxos_packets.specs.declared.vote.Vote.{Vote}
 use Rattle.paxos_packets.proofs.Placing.{put_ascending}
 use Rattle.paxos_acceptor.specs.Acceptor.{may_promise, may_accept, with_promise, with_vote, adopted}
 use Rattle.paxos_proposer.specs.declared.promises.CountedPromise.{CountedPromise}
-use Rattle.paxos_proposer.specs.declared.role.Role.{Role}
-use Rattle.paxos_proposer.specs.declared.role.Role.TheVariants.{Idle, Preparing, Leading}
+use Rattle.paxos_proposer.specs.Role.{Role, Idle, Preparing, Leading}
 use Rattle.paxos_proposer.specs.Proposer.{slot_end, next_vote, new_ballot, is_leading}
 use Rattle.paxos_proposer.specs.Reports.{is_counted, reports, called_for}
 use Rattle.paxos_node.specs.declared.event.Event.{Event}
 use Rattle.paxos_node.specs.declared.event.Event.TheVariants.{Take, Tick, Start, Suspect, Deliver, Crash, Restart}
-use Rattle.paxos_node.specs.declared.turn.Turn.{Turn}
+use Rattle.paxos_node.specs.Node.{Turn}
 use Rattle.paxos_node.specs.Turn.{with_role, with_pending, begun, send, promise, vote, cast}
 use Rattle.paxos_node.specs.Proposals.{offer, propose_as, propose, propose_all, lead, stands, propose_new, propose_each, forwarded, push}
 use Rattle.paxos_node.specs.Replies.{saw, refuse, count_promise, on_promise_as, on_packet}
 use Rattle.paxos_node.specs.Applying.{note, ends, go_down, apply_all, settle}
-use Rattle.paxos_node.specs.Events.{last_number, takes, with_item, on_take, again, on_tick, begin, starts, on_start, has_room, suspected}
+use Rattle.paxos_packets.specs.Rows.{last_boot}
+use Rattle.paxos_node.specs.Events.{takes, with_item, on_take, again, on_tick, begin, starts, on_start, has_room, suspected}
 use Rattle.paxos_node.specs.Events.{new_lost, possible, outcome_of}
 use Rattle.paxos_learner.specs.Learner.{run_from}
 use Rattle.paxos_node.specs.Laws.{CommitsItsChange}
@@ -272,4 +272,4 @@ commits_its_change {B} same members e x up p = (of e p).is
         (packets same members q.addressee x.rows q.sender q.kind (record (begun x) { node = saw q.kind x })
         (record { is = refl; ascends = tt }))
     of (Crash n) h = record { is = refl; ascends = tt }
-    of (Restart n) h = absurd (off (sym (ap not up) ∙ (and_parts (not x.up) (nat_lt x.rows.boot last_number) h).0))
+    of (Restart n) h = absurd (off (sym (ap not up) ∙ (and_parts (not x.up) (nat_lt x.rows.boot last_boot) h).0))

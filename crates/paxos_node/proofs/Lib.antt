@@ -1,1 +1,3 @@
 mod Committing
+pub mod Judging
+pub mod Seeing

@@ -7,8 +7,7 @@ use Rattle.paxos_packets.specs.declared.rows.Rows.{Rows}
 use Rattle.paxos_proposer.specs.Proposer.{round_of, resting}
 use Rattle.paxos_learner.specs.Learner.{unheard, run_from}
 use Rattle.replica_machine.specs.Roll.{takes_effect, is_wanted}
-use Rattle.paxos_node.specs.declared.state.NodeState.{NodeState}
-use Rattle.paxos_node.specs.declared.turn.Turn.{Turn}
+use Rattle.paxos_node.specs.Node.{NodeState, Turn}
 
 -- a node that has only its rows
 abbrev pub down : {B : Type 0} → Rows B → NodeState B
@@ -27,12 +26,9 @@ started me rows =
       taken = 0;
     }
 
--- the rows of a node's first start, and those of a boot more
+-- the rows of a node's first start
 abbrev pub first_rows : {B : Type 0} → Rows B
 first_rows = record { boot = 1; promised = None; votes = [] }
-
-abbrev pub raised : {B : Type 0} → Rows B → Rows B
-raised rows = record { boot = suc rows.boot; promised = rows.promised; votes = rows.votes }
 
 -- the entry is the next one of the log, and what it settles is no longer pending
 abbrev pub note : {B : Type 0} → Entry B → Turn B → Turn B

@@ -1,10 +1,11 @@
 -- One node in one event: a function of the event and the node alone (docs/CONSENSUS.md, "Events").
-use Rattle.std.specs.Prelude.{ℕ, suc, Bool, false, not, ◌&&◌, nat_lt, ◌==◌, Option, Some, None, is_some, List, [], ◌∷◌, ◌++◌, map}
+use Rattle.std.specs.Prelude.{ℕ, suc, max, Bool, false, not, ◌&&◌, nat_lt, ◌==◌, Option, Some, None, is_some, List, [], ◌∷◌, ◌++◌, map}
 use Rattle.std.specs.Prelude.{filter, length, if◌then◌else◌}
 use Rattle.std.specs.List.{list_any, flat_map}
 use Rattle.paxos_packets.specs.Members.{others}
 use Rattle.paxos_packets.specs.Entry.{same_entry}
 use Rattle.paxos_packets.specs.Packet.{packet, to_others}
+use Rattle.paxos_packets.specs.Rows.{last_boot, raised}
 use Rattle.paxos_packets.specs.Vote.{votes_from}
 use Rattle.paxos_packets.specs.declared.ballot.Ballot.{Ballot}
 use Rattle.paxos_packets.specs.declared.entry.Entry.{Entry}
@@ -13,8 +14,7 @@ use Rattle.paxos_packets.specs.declared.vote.Vote.{Vote}
 use Rattle.paxos_packets.specs.declared.packet.Kind.TheVariants.{Prepare, Accept, Ask}
 use Rattle.paxos_packets.specs.declared.packet.Packet.{Packet}
 use Rattle.paxos_acceptor.specs.Acceptor.{with_promise}
-use Rattle.paxos_proposer.specs.declared.role.Role.{Role}
-use Rattle.paxos_proposer.specs.declared.role.Role.TheVariants.{Idle, Preparing, Leading}
+use Rattle.paxos_proposer.specs.Role.{Role, Idle, Preparing, Leading}
 use Rattle.paxos_proposer.specs.Proposer.{new_ballot, rounds_spent, asking}
 use Rattle.paxos_proposer.specs.Reports.{is_counted}
 use Rattle.paxos_learner.specs.declared.learned.LearnedEntry.{LearnedEntry}
@@ -22,14 +22,13 @@ use Rattle.paxos_learner.specs.Learner.{is_learned}
 use Rattle.replica_machine.specs.Roll.{standing, live_in}
 use Rattle.paxos_node.specs.declared.event.Event.{Event}
 use Rattle.paxos_node.specs.declared.event.Event.TheVariants.{Take, Tick, Start, Suspect, Deliver, Crash, Restart}
-use Rattle.paxos_node.specs.declared.state.NodeState.{NodeState}
-use Rattle.paxos_node.specs.declared.turn.Turn.{Turn}
+use Rattle.paxos_node.specs.Node.{NodeState, Turn}
 use Rattle.paxos_node.specs.Turn.{with_pending, begun, send, and_promise}
 use Rattle.paxos_node.specs.Proposals.{push}
 use Rattle.paxos_node.specs.Replies.{saw, on_packet}
-use Rattle.paxos_node.specs.Applying.{started, raised, go_down, settle}
+use Rattle.paxos_node.specs.Applying.{started, go_down, settle}
 
--- the greatest boot and the greatest number of an act, and how many entries may be pending
+-- the greatest number of an act, and how many entries may be pending
 unfoldable pub last_number : ℕ
 last_number = 281474976710655
 
@@ -75,14 +74,14 @@ ask members me o = send (to_others members me (Ask (suc (length o.node.applied))
 abbrev pub on_tick : {B : Type 0} → (B → B → Bool) → ℕ → ℕ → Turn B → Turn B
 on_tick same members me o = ask members me (push same members me (send (again members me o.node.proposer.role o.node.learner.learned) o))
 
--- Start: a ballot above all that it saw
+-- Start: a ballot above all that it saw, which it has seen then
 
 abbrev pub begin : {B : Type 0} → ℕ → ℕ → Ballot → ℕ → Turn B → Turn B
 begin members me b first o =
     record o {
       node = record o.node {
         rows = with_promise b o.node.rows;
-        proposer = record { role = asking me b first (votes_from first o.node.rows.votes); seen = o.node.proposer.seen };
+        proposer = record { role = asking me b first (votes_from first o.node.rows.votes); seen = max o.node.proposer.seen b.round };
       };
       change = and_promise b o.change;
       packets = o.packets ++ to_others members me (Prepare b first);
@@ -136,7 +135,7 @@ possible (Start n) x = x.up
 possible (Suspect n other) x = x.up
 possible (Deliver p) x = x.up
 possible (Crash n) x = x.up
-possible (Restart n) x = not x.up && nat_lt x.rows.boot last_number
+possible (Restart n) x = not x.up && nat_lt x.rows.boot last_boot
 
 -- the node's part of an event, before what was learned is applied
 abbrev pub on_event : {B : Type 0} → (B → B → Bool) → ℕ → Event B → Turn B → Turn B

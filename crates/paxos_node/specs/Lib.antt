@@ -1,3 +1,4 @@
+pub mod Node
 pub mod Turn
 pub mod Proposals
 pub mod Replies

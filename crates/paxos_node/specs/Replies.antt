@@ -14,13 +14,11 @@ use Rattle.paxos_packets.specs.declared.packet.Packet.{Packet}
 use Rattle.paxos_acceptor.specs.Acceptor.{may_promise, may_accept}
 use Rattle.std.specs.Option.{unwrap_or}
 use Rattle.paxos_proposer.specs.declared.promises.CountedPromise.{CountedPromise}
-use Rattle.paxos_proposer.specs.declared.role.Role.{Role}
-use Rattle.paxos_proposer.specs.declared.role.Role.TheVariants.{Idle, Preparing, Leading}
+use Rattle.paxos_proposer.specs.Role.{Role, Idle, Preparing, Leading}
 use Rattle.paxos_proposer.specs.Proposer.{nacked, is_leading}
 use Rattle.paxos_proposer.specs.Reports.{is_counted, reports}
 use Rattle.paxos_learner.specs.declared.learned.LearnedEntry.{LearnedEntry}
-use Rattle.paxos_node.specs.declared.state.NodeState.{NodeState}
-use Rattle.paxos_node.specs.declared.turn.Turn.{Turn}
+use Rattle.paxos_node.specs.Node.{NodeState, Turn}
 use Rattle.paxos_node.specs.Turn.{with_role, send, promise, count, hear_learned, cast}
 use Rattle.paxos_node.specs.Proposals.{lead, propose_each, push}
 

@@ -9,12 +9,11 @@ use Rattle.paxos_packets.specs.declared.packet.Kind.TheVariants.{Accepted}
 use Rattle.paxos_packets.specs.declared.packet.Packet.{Packet}
 use Rattle.paxos_packets.specs.declared.rows.Change.{Change}
 use Rattle.paxos_acceptor.specs.Acceptor.{with_promise, with_vote, no_change}
-use Rattle.paxos_proposer.specs.declared.role.Role.{Role}
+use Rattle.paxos_proposer.specs.Role.{Role}
 use Rattle.paxos_proposer.specs.Proposer.{step_down}
-use Rattle.paxos_learner.specs.declared.state.LearnerState.{LearnerState}
+use Rattle.paxos_learner.specs.Learner.{LearnerState}
 use Rattle.paxos_learner.specs.Learner.{learn, disagrees, count_vote, vote_disagrees}
-use Rattle.paxos_node.specs.declared.state.NodeState.{NodeState}
-use Rattle.paxos_node.specs.declared.turn.Turn.{Turn}
+use Rattle.paxos_node.specs.Node.{NodeState, Turn}
 
 -- parts of a node
 

@@ -1,18 +1,21 @@
 //! Laws over the definitions in `specs/`, each the contract of a function that does nothing.
-ghost use Rattle.std.specs.Prelude.{◌≡◌, true, false, Some, [], ◌∷◌, ◌++◌};
+ghost use Rattle.std.specs.Prelude.{◌≡◌, ℕ, true, false, Some, [], ◌∷◌, ◌++◌};
 ghost use Rattle.paxos_packets.specs.Packet.{to_others};
 ghost use Rattle.paxos_packets.specs.declared.entry.Entry.TheVariants.{Item};
 ghost use Rattle.paxos_node.specs.declared.event.Event.TheVariants.{Take, Tick, Start};
 ghost use Rattle.paxos_packets.specs.declared.packet.Kind.TheVariants.{Prepare, Accept, Accepted, Ask};
 ghost use Rattle.paxos_node.specs.Events.{is_round_refused};
-ghost use Rattle.paxos_node.specs.Laws.{CommitsItsChange};
+ghost use Rattle.paxos_node.specs.Laws.{CommitsItsChange, JudgesAsAnAcceptor, SeesItsBallots, StaysSeen};
+ghost use Rattle.paxos_packets.specs.declared.rows.Rows.{Rows};
+ghost use Rattle.paxos_node.specs.Applying.{started};
 ghost use Rattle.paxos_node.specs.Examples.{after, ballot, boot_vote, change, first_node, asked, led, promised_to};
 ghost use Rattle.paxos_node.specs.Examples.{waiting, takes_refused, leading_at};
 
 /// Nodes by hand, computed.
 pub fn examples()
-    // a first start asks the others for promises
+    // a first start asks the others for promises, and has seen its own round
     ensures asked { asked.change ≡ change (Some (ballot 1 1)) [] }
+    ensures asked_round { asked.node.proposer.seen ≡ 1 }
     ensures asked_packets { asked.packets ≡ to_others 3 1 (Prepare (ballot 1 1) 1) }
 
     // one promise more is a majority: the leader votes for its own Boot, and proposes it
@@ -43,4 +46,16 @@ pub fn examples()
 /// One commit: what a node that is up commits in an event is all that changes its rows.
 pub fn one_commit<B>()
     ensures { CommitsItsChange B }
+{}
+
+/// A node treats each Prepare and each Accept as its acceptor does (`paxos_acceptor`, `Acceptor::plan`).
+pub fn acceptor_judges<B>()
+    ensures { JudgesAsAnAcceptor B }
+{}
+
+/// A node that is up has seen the rounds that it promised, and that of its own ballot: one that starts has, and each event leaves it so. So
+/// what it saw decides its next ballot alone (`paxos_proposer::laws::seen_promises_add_nothing`).
+pub fn ballots_are_seen<B>()
+    ensures started { (me : ℕ) (rows : Rows B) → SeesItsBallots (started me rows) }
+    ensures kept { StaysSeen B }
 {}

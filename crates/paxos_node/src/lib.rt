@@ -5,10 +5,6 @@
 mod event;
 pub mod laws;
 mod packets;
-mod state;
-mod turn;
 
 pub use event::Event;
 pub use packets::Packets;
-pub use state::NodeState;
-pub use turn::Turn;

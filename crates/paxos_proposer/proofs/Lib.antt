@@ -1,0 +1,4 @@
+pub mod Listing
+pub mod Majority
+pub mod NextBallot
+pub mod Reporting

@@ -1,2 +1,9 @@
+pub mod Fault
+pub mod Identity
+pub mod Moves
+pub mod Promises
+pub mod Proposals
 pub mod Proposer
 pub mod Reports
+pub mod Role
+pub mod State

@@ -4,9 +4,7 @@ use Rattle.paxos_packets.specs.Ballot.{below, same_ballot}
 use Rattle.paxos_packets.specs.declared.ballot.Ballot.{Ballot}
 use Rattle.paxos_packets.specs.declared.entry.Entry.{Entry}
 use Rattle.paxos_packets.specs.declared.vote.Vote.{Vote}
-use Rattle.paxos_proposer.specs.declared.role.Role.{Role}
-use Rattle.paxos_proposer.specs.declared.role.Role.TheVariants.{Idle, Preparing, Leading}
-use Rattle.paxos_proposer.specs.declared.role.ProposerState.{ProposerState}
+use Rattle.paxos_proposer.specs.Role.{Role, Idle, Preparing, Leading, ProposerState}
 
 -- the limits: rounds and slots are below these
 unfoldable pub round_end : ℕ
@@ -34,9 +32,24 @@ new_ballot me promised p = record { round = suc (max p.seen (round_of promised))
 abbrev pub rounds_spent : {B : Type 0} → ℕ → Option Ballot → ProposerState B → Bool
 rounds_spent me promised p = not (nat_lt (new_ballot me promised p).round round_end)
 
+-- where the promise was seen, what it saw decides alone
+abbrev pub own_ballot : {B : Type 0} → ℕ → ProposerState B → Ballot
+own_ballot me p = record { round = suc p.seen; node = me }
+
+abbrev pub is_spent : {B : Type 0} → ProposerState B → Bool
+is_spent p = not (nat_lt (suc p.seen) round_end)
+
+-- a round was seen
+abbrev pub raise : {B : Type 0} → ℕ → ProposerState B → ProposerState B
+raise round p = record { role = p.role; seen = max p.seen round }
+
 -- it asks for promises, its own counted
 abbrev pub asking : {B : Type 0} → ℕ → Ballot → ℕ → List (Vote B) → Role B
 asking me b first votes = Preparing b first (record { node = me; votes = votes } ∷ [])
+
+-- it does so in a ballot whose round it then saw
+abbrev pub prepared : {B : Type 0} → ℕ → Ballot → ℕ → List (Vote B) → ProposerState B → ProposerState B
+prepared me b first votes p = record { role = asking me b first votes; seen = max p.seen b.round }
 
 -- a promise above its own ballot makes it idle
 abbrev pub step_down : {B : Type 0} → Ballot → Role B → Role B
@@ -49,6 +62,17 @@ abbrev pub nacked : {B : Type 0} → Ballot → Ballot → Role B → Role B
 nacked b p Idle = Idle
 nacked b p (Preparing c first promises) = if same_ballot b c && below c p then Idle else Preparing c first promises
 nacked b p (Leading c next proposed) = if same_ballot b c && below c p then Idle else Leading c next proposed
+
+-- whether it has a ballot under way that is below this one; and whether it has this one, and it is below the promise
+abbrev pub is_below : {B : Type 0} → Ballot → Role B → Bool
+is_below b Idle = false
+is_below b (Preparing c first promises) = below c b
+is_below b (Leading c next proposed) = below c b
+
+abbrev pub is_refused : {B : Type 0} → Ballot → Ballot → Role B → Bool
+is_refused b p Idle = false
+is_refused b p (Preparing c first promises) = same_ballot b c && below c p
+is_refused b p (Leading c next proposed) = same_ballot b c && below c p
 
 abbrev pub is_leading : {B : Type 0} → Role B → Bool
 is_leading Idle = false
@@ -68,3 +92,21 @@ next_vote b next e = record { slot = next; ballot = b; entry = e }
 -- it was proposed
 abbrev pub offered : {B : Type 0} → Ballot → ℕ → List (Vote B) → Entry B → Role B
 offered b next proposed e = Leading b (suc next) (proposed ++ next_vote b next e ∷ [])
+
+-- a leader's proposal of the entry in its next slot; no other member proposes
+abbrev pub submitted : {B : Type 0} → Entry B → Role B → Role B
+submitted e Idle = Idle
+submitted e (Preparing b first promises) = Preparing b first promises
+submitted e (Leading b next proposed) = offered b next proposed e
+
+-- the slot of it
+abbrev pub next_slot : {B : Type 0} → Role B → Option ℕ
+next_slot Idle = None
+next_slot (Preparing b first promises) = None
+next_slot (Leading b next proposed) = Some next
+
+-- the ballot under way
+abbrev pub ballot_of : {B : Type 0} → Role B → Option Ballot
+ballot_of Idle = None
+ballot_of (Preparing b first promises) = Some b
+ballot_of (Leading b next proposed) = Some b

@@ -25,6 +25,12 @@ abbrev pub best : {B : Type 0} → ℕ → List (Vote B) → Option (Vote B)
 best slot [] = None
 best slot (v ∷ vs) = better slot v (best slot vs)
 
+-- of an earlier report and a later one the one with the greater ballot, and of one ballot the later
+abbrev pub greater : {B : Type 0} → Option (Vote B) → Option (Vote B) → Option (Vote B)
+greater None later = later
+greater (Some v) None = Some v
+greater (Some v) (Some w) = if below w.ballot v.ballot then Some v else Some w
+
 -- one past the greatest slot reported, and at least the first one asked for
 abbrev pub past_reports : {B : Type 0} → ℕ → List (Vote B) → ℕ
 past_reports first [] = first

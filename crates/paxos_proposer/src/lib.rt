@@ -2,8 +2,19 @@
 //! Paxos Made Simple, 2001, sections 2.2 and 3).
 #![tactic(auto)]
 
+mod fault;
+mod identity;
+pub mod laws;
+mod moves;
+mod phase;
 mod promises;
-mod role;
+mod proposals;
+mod proposer;
+mod reports;
 
-pub use promises::{CountedPromise, CountedPromises};
-pub use role::{ProposerState, Role};
+pub use fault::ProposerFault;
+pub use identity::Identity;
+pub use moves::Move;
+pub use promises::CountedPromise;
+pub use proposals::Proposals;
+pub use proposer::Proposer;

@@ -1,0 +1,79 @@
+-- A node treats Prepare and Accept as its acceptor does: what is applied at the end changes no row, and sends nothing.
+use Rattle.std.proofs.Common.{◌≡◌, ℕ, suc, Bool, true, false, cond, refl, List, [], ◌∷◌, length}
+use Rattle.std.proofs.lemmas.Bool.{cond_both}
+use Rattle.paxos_packets.specs.Packet.{packet, to_others}
+use Rattle.paxos_packets.specs.Vote.{votes_from}
+use Rattle.paxos_packets.specs.declared.ballot.Ballot.{Ballot}
+use Rattle.paxos_packets.specs.declared.entry.Entry.{Entry}
+use Rattle.paxos_packets.specs.declared.packet.Kind.TheVariants.{Prepare, Promise, Accept, Accepted}
+use Rattle.paxos_packets.specs.declared.packet.Packet.{Packet}
+use Rattle.paxos_packets.specs.declared.rows.Change.{Change}
+use Rattle.paxos_packets.specs.declared.rows.Rows.{Rows}
+use Rattle.paxos_packets.specs.declared.vote.Vote.{Vote}
+use Rattle.paxos_acceptor.specs.declared.verdict.Verdict.{Verdict}
+use Rattle.paxos_acceptor.specs.declared.verdict.Answer.TheVariants.{ToSender, ToOthers}
+use Rattle.paxos_acceptor.specs.Acceptor.{may_promise, may_accept, adopted, answers, judged, refused, promise_change, vote_change}
+use Rattle.paxos_learner.specs.Learner.{run_from}
+use Rattle.paxos_node.specs.declared.event.Event.TheVariants.{Deliver}
+use Rattle.paxos_node.specs.Node.{NodeState, Turn}
+use Rattle.paxos_node.specs.Turn.{begun, send, promise, cast}
+use Rattle.paxos_node.specs.Replies.{saw, refuse}
+use Rattle.paxos_node.specs.Applying.{note, ends, go_down, apply_all, settle}
+use Rattle.paxos_node.specs.Events.{outcome_of}
+use Rattle.paxos_node.specs.Laws.{IsJudged, JudgesAsAnAcceptor}
+
+-- a turn that gives this verdict on these rows
+record Gives {B : Type 0} (members me sender : ℕ) (rows : Rows B) (j : Verdict B) (t : Turn B) : Type 0 where
+  pub change : t.change ≡ j.change
+  pub packets : t.packets ≡ answers members me sender j.answer
+  pub now : t.node.rows ≡ adopted rows j.change
+
+module _ {B : Type 0} (members me sender : ℕ) (rows : Rows B) (j : Verdict B) where
+  abbrev G : Turn B → Type 0
+  G t = Gives members me sender rows j t
+
+  applying : (es : List (Entry B)) (t : Turn B) → G t → G (apply_all me es t)
+  applying [] t g = g
+  applying (e ∷ es) t g =
+      cond_both (ends me t.node e) (go_down (note e t)) (apply_all me es (note e t)) (λ u. G u)
+      (λ d. record { change = g.change; packets = g.packets; now = g.now })
+      (λ d. applying es (note e t) (record { change = g.change; packets = g.packets; now = g.now }))
+
+  settling : (t : Turn B) → G t → G (settle me t)
+  settling t g = applying (run_from (suc (length t.node.applied)) t.node.learner.learned) t g
+
+abbrev at : {B : Type 0} (x : NodeState B) (p : Packet B) → Turn B
+at x p = record (begun x) { node = saw p.kind x }
+
+pub judges : {B : Type 0} → JudgesAsAnAcceptor B
+judges {B} = (prepares, accepts)
+  where
+    prepares : (same : B → B → Bool) (members me sender : ℕ) (b : Ballot) (first : ℕ) (x : NodeState B)
+        → IsJudged same members (packet sender (Prepare b first) me) x
+    prepares same members me sender b first x =
+        let g = settling members me sender x.rows (judged x.rows (Prepare b first)) _ (of (may_promise x.rows.promised b)) in
+        record { change = g.change; packets = g.packets; rows = g.now }
+      where
+        t : Turn B
+        t = at x (packet sender (Prepare b first) me)
+
+        of : (c : Bool) → Gives members me sender x.rows
+            (cond c (record { change = promise_change b; answer = ToSender (Promise b (votes_from first x.rows.votes)) }) (refused x.rows b))
+            (cond c (send (packet me (Promise b (votes_from first x.rows.votes)) sender ∷ []) (promise b t)) (refuse me sender b t))
+        of true = record { change = refl; packets = refl; now = refl }
+        of false = record { change = refl; packets = refl; now = refl }
+
+    accepts : (same : B → B → Bool) (members me sender : ℕ) (v : Vote B) (x : NodeState B)
+        → IsJudged same members (packet sender (Accept v) me) x
+    accepts same members me sender v x =
+        let g = settling members me sender x.rows (judged x.rows (Accept v)) _ (of (may_accept x.rows.promised v.ballot)) in
+        record { change = g.change; packets = g.packets; rows = g.now }
+      where
+        t : Turn B
+        t = at x (packet sender (Accept v) me)
+
+        of : (c : Bool) → Gives members me sender x.rows
+            (cond c (record { change = vote_change v; answer = ToOthers (Accepted v) }) (refused x.rows v.ballot))
+            (cond c (cast same members me v t) (refuse me sender v.ballot t))
+        of true = record { change = refl; packets = refl; now = refl }
+        of false = record { change = refl; packets = refl; now = refl }

@@ -1,0 +1,40 @@
+-- Proposals of one ballot, and which entry stands among them (Lamport 2001, section 3).
+use Rattle.std.specs.Prelude.{ℕ, Bool, false, ◌&&◌, nat_lt, Option, Some, None, List, [], ◌∷◌, ◌≤◌}
+use Rattle.std.specs.List.{list_any}
+use Rattle.std.specs.Map.{lookup}
+use Rattle.paxos_packets.specs.Entry.{same_entry}
+use Rattle.paxos_packets.specs.declared.entry.Entry.{Entry}
+use Rattle.paxos_packets.specs.declared.vote.Vote.{Vote}
+use Rattle.paxos_proposer.specs.declared.identity.Identity.{Identity}
+use Rattle.paxos_proposer.specs.Identity.{identity_of, same_identity}
+use Rattle.paxos_proposer.specs.Role.{Role, Idle, Preparing, Leading}
+
+-- what callers see of proposals: the votes, and for how many more there is memory
+pub record KeptProposals (B : Type 0) : Type 0 where
+  pub votes : List (Vote B)
+  pub room : ℕ
+
+-- the entry stands in a slot behind those that are applied
+abbrev pub stands_among : {B : Type 0} → (B → B → Bool) → ℕ → Entry B → List (Vote B) → Bool
+stands_among same applied e votes = list_any (λ v. nat_lt applied v.slot && same_entry same v.entry e) votes
+
+-- it stands in a slot that was proposed in this ballot and isn't applied yet
+abbrev pub stands : {B : Type 0} → (B → B → Bool) → ℕ → Role B → Entry B → Bool
+stands same applied Idle e = false
+stands same applied (Preparing b first promises) e = false
+stands same applied (Leading b next proposed) e = stands_among same applied e proposed
+
+-- how they are found: the table has the greatest slot of each identity, or one above it
+
+abbrev pub IsUpTo : ℕ → Option ℕ → Type 0
+IsUpTo slot None = ⊥
+IsUpTo slot (Some latest) = slot ≤ latest
+
+abbrev pub AreListed : {B : Type 0} → List (Identity × ℕ) → List (Vote B) → Type 0
+AreListed table [] = Unit {0}
+AreListed table (v ∷ vs) = IsUpTo v.slot (lookup (same_identity (identity_of v.entry)) table) × AreListed table vs
+
+-- no slot that the table has is above this one
+abbrev pub IsOld : ℕ → Option ℕ → Type 0
+IsOld slot None = Unit {0}
+IsOld slot (Some latest) = latest ≤ slot

@@ -1,0 +1,384 @@
+ghost use Rattle.std.specs.Prelude.{◌≡◌, ◌↔◌, ◌≤◌, ◌+◌, true, false, Some, None, Ok, Err, IsOk, IfOk, OnOk, OnErr, IsOkUnless};
+ghost use Rattle.paxos_proposer.specs.declared.fault.ProposerFault.TheVariants.{Rounds, SlotsFull, NotLeading, Memory};
+ghost use Rattle.paxos_proposer.specs.Promises.{counts, called_by};
+ghost use Rattle.paxos_proposer.specs.Proposals.{stands};
+ghost use Rattle.paxos_proposer.specs.Proposer.{own_ballot, is_spent, is_leading, slots_spent, next_slot, ballot_of, is_below, is_refused};
+ghost use Rattle.paxos_proposer.specs.Role.{Idle};
+ghost use Rattle.paxos_proposer.specs.State.{HasRoom, role_in, with_role, begun, saw, started, after_promise, after_submit, after_nack};
+ghost use Rattle.paxos_proposer.specs.State.{stepped_down};
+
+use crate::fault::ProposerFault;
+use crate::phase::Phase;
+use crate::promises::{CountedPromise, is_counted, is_majority_with};
+use crate::proposals::Proposals;
+use crate::reports::called_for;
+use paxos_packets::{Ballot, Body, Entries, Entry, Members, Slot, Vote, Votes};
+use std::alloc::Global;
+use std::marker::Model;
+
+// The last round of a ballot.
+const LAST_ROUND: u64 = (1 << 48) - 1;
+
+/// One member as a proposer: its ballot under way with the promises of it, or, once a majority promised, with what it proposed in it;
+/// and the greatest round that it saw. It is lost in a crash.
+#[derive(Drop)]
+pub struct Proposer<B> {
+    alloc: Global,
+    me: u8,
+    members: Members,
+    seen: u64,
+    phase: Phase,
+    promises: Vec<CountedPromise<B>>,
+    proposed: Proposals<B>,
+}
+
+impl<B> Model for Proposer<B> {
+    ghost use Rattle.std.specs.Prelude.{◌-◌, vec_len, vec_capacity};
+    ghost use Rattle.paxos_proposer.specs.State.{Held, role_of, IsAboveNone};
+
+    ghost Value = { Held B };
+
+    ghost view = { λ p. record {
+      state = record {
+        me = p.me;
+        members = p.members;
+        proposer = record { role = role_of p.phase p.promises.items p.proposed.votes; seen = p.seen };
+      };
+      room = record { promises = vec_capacity p.promises - vec_len p.promises; proposals = p.proposed.room };
+    } };
+
+    ghost invariant = { λ p. IsAboveNone p.phase };
+}
+
+impl<B> Proposer<B> {
+    /// A proposer with this number, of these members, that has no ballot under way and saw no round. Takes no memory; other calls will,
+    /// from `alloc`.
+    pub fn new(alloc: Global, me: u8, members: Members) -> Proposer<B>
+        ensures { result.state ≡ begun me members }
+    {
+        Proposer {
+            alloc,
+            me,
+            members,
+            seen: 0,
+            phase: Phase::Idle,
+            promises: Vec::new(alloc),
+            proposed: Proposals::new(alloc),
+        }
+    }
+
+    /// Whether a majority has promised its ballot under way.
+    pub fn is_leading(&self) -> bool
+        ensures { result ≡ is_leading (role_in self.now) }
+    {
+        match self.phase {
+            Phase::Leading { .. } => true,
+            Phase::Idle | Phase::Preparing { .. } => false,
+        }
+    }
+
+    /// The ballot under way.
+    pub fn ballot(&self) -> Option<Ballot>
+        ensures { result ≡ ballot_of (role_in self.now) }
+    {
+        match self.phase {
+            Phase::Idle => None,
+            Phase::Preparing { ballot, .. } => Some(ballot),
+            Phase::Leading { ballot, .. } => Some(ballot),
+        }
+    }
+
+    /// The slot in which it proposes next. `NotLeading` where it does not lead, `SlotsFull` where no slot is left.
+    #[tactic(auto, unfolding(crate::specs::Proposer::slot_end))]
+    pub fn next(&self) -> Result<Slot, ProposerFault>
+        ensures ok { IfOk result (λ slot. next_slot (role_in self.now) ≡ Some slot) }
+        ensures idle { (result ≡ Err NotLeading) ↔ (is_leading (role_in self.now) ≡ false) }
+        ensures full { (result ≡ Err SlotsFull) ↔ (slots_spent (role_in self.now) ≡ true) }
+        ensures otherwise { is_leading (role_in self.now) ≡ true → slots_spent (role_in self.now) ≡ false → IsOk result }
+    {
+        match self.phase {
+            Phase::Leading { next, .. } => match Slot::new(next) {
+                Some(slot) => Ok(slot),
+                None => Err(ProposerFault::SlotsFull),
+            },
+            Phase::Idle | Phase::Preparing { .. } => Err(ProposerFault::NotLeading),
+        }
+    }
+
+    /// The ballot that `start` would begin: its round is one above the greatest that was seen. `Rounds` where there is none left.
+    #[tactic(auto, unfolding(crate::specs::Proposer::round_end))]
+    pub fn next_ballot(&self) -> Result<Ballot, ProposerFault>
+        ensures ok { IfOk result (λ ballot. ballot ≡ own_ballot self.now.state.me self.now.state.proposer) }
+        ensures rounds { (result ≡ Err Rounds) ↔ (is_spent self.now.state.proposer ≡ true) }
+        ensures otherwise { is_spent self.now.state.proposer ≡ false → IsOk result }
+    {
+        if self.seen >= LAST_ROUND {
+            return Err(ProposerFault::Rounds);
+        }
+        Ok(Ballot {
+            round: self.seen + 1,
+            node: self.me,
+        })
+    }
+
+    /// A packet with a ballot of this round came.
+    pub fn saw(&mut self, round: u64)
+        ensures state { self.new.state ≡ saw round self.old.state }
+        ensures room { self.new.room ≡ self.old.room }
+    {
+        self.seen = self.seen.max(round);
+    }
+
+    // Whether a promise of this ballot by this node is to be counted.
+    fn counts(&self, node: u8, ballot: Ballot) -> bool
+        ensures { result ≡ counts node ballot (role_in self.now) }
+    {
+        match self.phase {
+            Phase::Preparing { ballot: own, .. } => ballot == own
+                && !is_counted(&self.promises, node),
+            Phase::Idle | Phase::Leading { .. } => false,
+        }
+    }
+
+    // Whether the ballot under way is below this one.
+    fn is_below(&self, ballot: &Ballot) -> bool
+        ensures { result ≡ is_below ballot.now (role_in self.now) }
+    {
+        match &self.phase {
+            Phase::Idle => false,
+            Phase::Preparing { ballot: own, .. } => own.is_below(ballot),
+            Phase::Leading { ballot: own, .. } => own.is_below(ballot),
+        }
+    }
+
+    // Whether this ballot is under way, and below the promise.
+    fn is_refused(&self, ballot: &Ballot, promised: &Ballot) -> bool
+        ensures { result ≡ is_refused ballot.now promised.now (role_in self.now) }
+    {
+        match &self.phase {
+            Phase::Idle => false,
+            Phase::Preparing { ballot: own, .. } => ballot == own && own.is_below(promised),
+            Phase::Leading { ballot: own, .. } => ballot == own && own.is_below(promised),
+        }
+    }
+}
+
+impl<B: Drop> Proposer<B> {
+    /// Begins its next ballot with this member's own promise of it, which reports these votes: from the slot `first` on, those of its rows.
+    /// What the ballot before it had is dropped. `Rounds` where no round is left. After a fault the proposer is as it was.
+    pub fn start(&mut self, first: u64, votes: Votes<B>) -> Result<Ballot, ProposerFault>
+        requires { 1 ≤ first }
+        ensures ok { OnOk result (self.new.state ≡ started first votes self.old.state) }
+        ensures ballot { IfOk result (λ ballot. ballot ≡ own_ballot self.old.state.me self.old.state.proposer) }
+        ensures err { OnErr result (self.new.state ≡ self.old.state) }
+        ensures rounds { (result ≡ Err Rounds) ↔ (is_spent self.old.state.proposer ≡ true) }
+        ensures memory { is_spent self.old.state.proposer ≡ false → IsOkUnless result Memory }
+    {
+        let ballot = self.next_ballot()?;
+        if self.promises.reserve(1).is_err() {
+            return Err(ProposerFault::Memory);
+        }
+        self.start_in_room(first, votes);
+        Ok(ballot)
+    }
+
+    /// Proposes the entry in its next slot, which it answers. `NotLeading` where it does not lead, `SlotsFull` where no slot is left.
+    /// After a fault the proposer is as it was. Takes a constant number of steps, but where the proposals are moved to larger memory.
+    pub fn submit(&mut self, entry: Entry<B>) -> Result<Slot, ProposerFault>
+        ensures ok { OnOk result (self.new.state ≡ after_submit entry self.old.state) }
+        ensures slot { IfOk result (λ slot. next_slot (role_in self.old) ≡ Some slot) }
+        ensures err { OnErr result (self.new.state ≡ self.old.state) }
+        ensures idle { (result ≡ Err NotLeading) ↔ (is_leading (role_in self.old) ≡ false) }
+        ensures full { (result ≡ Err SlotsFull) ↔ (slots_spent (role_in self.old) ≡ true) }
+        ensures memory { is_leading (role_in self.old) ≡ true → slots_spent (role_in self.old) ≡ false → IsOkUnless result Memory }
+    {
+        let slot = self.next()?;
+        if self.proposed.reserve(1).is_err() {
+            return Err(ProposerFault::Memory);
+        }
+        self.submit_in_room(entry);
+        Ok(slot)
+    }
+
+    /// A member refused the ballot for its promise of another: the ballot under way ends if it is this one, and below that promise. Takes no
+    /// memory.
+    pub fn on_nack(&mut self, ballot: Ballot, promised: Ballot)
+        ensures state { self.new.state ≡ after_nack ballot promised self.old.state }
+        ensures promises { self.old.room.promises ≤ self.new.room.promises }
+        ensures proposals { self.old.room.proposals ≤ self.new.room.proposals }
+    {
+        if self.is_refused(&ballot, &promised) {
+            self.rest();
+        }
+    }
+
+    /// This member promised the ballot: its own ballot under way ends if it is below that. Takes no memory.
+    pub fn step_down(&mut self, ballot: Ballot)
+        ensures state { self.new.state ≡ stepped_down ballot self.old.state }
+        ensures promises { self.old.room.promises ≤ self.new.room.promises }
+        ensures proposals { self.old.room.proposals ≤ self.new.room.proposals }
+    {
+        if self.is_below(&ballot) {
+            self.rest();
+        }
+    }
+
+    /// Takes the memory for so many promises and proposals more. After a fault as well as without one the proposer is as it was.
+    pub fn make_room(&mut self, promises: usize, proposals: usize) -> Result<(), ProposerFault>
+        ensures state { self.new.state ≡ self.old.state }
+        ensures ok { OnOk result (HasRoom promises proposals self.new.room) }
+        ensures memory { IsOkUnless result Memory }
+    {
+        if self.promises.reserve(promises).is_err() || self.proposed.reserve(proposals).is_err() {
+            return Err(ProposerFault::Memory);
+        }
+        Ok(())
+    }
+
+    /// `start` where there is a round, and room for a promise. Takes no memory.
+    #[tactic(auto, unfolding(crate::specs::Proposer::round_end))]
+    pub fn start_in_room(&mut self, first: u64, votes: Votes<B>)
+        requires first { 1 ≤ first }
+        requires round { is_spent self.old.state.proposer ≡ false }
+        requires room { 1 ≤ self.old.room.promises }
+        ensures state { self.new.state ≡ started first votes self.old.state }
+        ensures promises { self.old.room.promises ≤ self.new.room.promises + 1 }
+        ensures proposals { self.old.room.proposals ≤ self.new.room.proposals }
+    {
+        self.seen += 1;
+        let ballot = Ballot {
+            round: self.seen,
+            node: self.me,
+        };
+        self.promises.clear();
+        self.proposed.clear();
+        self.promises.push_reserved(CountedPromise {
+            node: self.me,
+            votes,
+        });
+        self.phase = Phase::Preparing { ballot, first };
+    }
+
+    /// `on_promise` where there is room for a promise. What the reports call for is not looked at. Takes no memory.
+    pub fn on_promise_in_room(&mut self, node: u8, ballot: Ballot, votes: Votes<B>)
+        requires { 1 ≤ self.old.room.promises }
+        ensures state { self.new.state ≡ after_promise node ballot votes self.old.state }
+        ensures promises { self.old.room.promises ≤ self.new.room.promises + 1 }
+        ensures proposals { self.old.room.proposals ≤ self.new.room.proposals }
+    {
+        let Phase::Preparing { ballot: own, first } = self.phase else {
+            return;
+        };
+        if !self.counts(node, ballot) {
+            return;
+        }
+        if !is_majority_with(self.members, &self.promises, node) {
+            self.promises.push_reserved(CountedPromise { node, votes });
+            return;
+        }
+        self.promises.clear();
+        self.proposed.clear();
+        self.phase = Phase::Leading {
+            ballot: own,
+            next: first,
+        };
+    }
+
+    /// `submit` where the proposer leads, and there is a slot, and room for a proposal. Takes no memory, and a constant number of steps.
+    #[tactic(auto, unfolding(crate::specs::Proposer::slot_end))]
+    pub fn submit_in_room(&mut self, entry: Entry<B>)
+        requires leading { is_leading (role_in self.old) ≡ true }
+        requires slot { slots_spent (role_in self.old) ≡ false }
+        requires room { 1 ≤ self.old.room.proposals }
+        ensures state { self.new.state ≡ after_submit entry self.old.state }
+        ensures promises { self.new.room.promises ≡ self.old.room.promises }
+        ensures proposals { self.old.room.proposals ≤ self.new.room.proposals + 1 }
+    {
+        let Phase::Leading { ballot, next } = self.phase else {
+            unreachable!()
+        };
+        let Some(slot) = Slot::new(next) else {
+            unreachable!()
+        };
+        self.proposed.push_reserved(Vote {
+            slot,
+            ballot,
+            entry,
+        });
+        self.phase = Phase::Leading {
+            ballot,
+            next: next + 1,
+        };
+    }
+
+    // The ballot under way ends.
+    fn rest(&mut self)
+        ensures state { self.new.state ≡ with_role Idle self.old.state }
+        ensures promises { self.old.room.promises ≤ self.new.room.promises }
+        ensures proposals { self.old.room.proposals ≤ self.new.room.proposals }
+    {
+        self.promises.clear();
+        self.proposed.clear();
+        self.phase = Phase::Idle;
+    }
+}
+
+impl<B: Body> Proposer<B> {
+    /// Whether it proposed an equal entry in its ballot under way, in a slot behind the first `applied`. Takes no memory; for the steps see
+    /// `Proposals::stands`.
+    pub fn stands(&self, applied: u64, entry: &Entry<B>) -> bool
+        ensures { result ≡ stands B.same applied (role_in self.now) entry.now }
+    {
+        match self.phase {
+            Phase::Leading { .. } => self.proposed.stands(applied, entry),
+            Phase::Idle | Phase::Preparing { .. } => false,
+        }
+    }
+
+    /// The entries that this promise calls for where it makes the proposer lead: for each slot from the first one that was asked for to the
+    /// greatest reported, the entry that was reported with the greatest ballot, or `Noop`.
+    pub fn called_by(
+        &self,
+        node: u8,
+        ballot: Ballot,
+        votes: &Votes<B>,
+    ) -> Result<Option<Entries<B>>, ProposerFault>
+        ensures called { IfOk result (λ called. called ≡ called_by self.now.state.members node ballot votes.now (role_in self.now)) }
+        ensures memory { IsOkUnless result Memory }
+    {
+        let Phase::Preparing { first, .. } = self.phase else {
+            return Ok(None);
+        };
+        if !self.counts(node, ballot) || !is_majority_with(self.members, &self.promises, node) {
+            return Ok(None);
+        }
+        match called_for(self.alloc, first, &self.promises, votes) {
+            Ok(entries) => Ok(Some(entries)),
+            Err(_) => Err(ProposerFault::Memory),
+        }
+    }
+
+    /// A member promised the ballot, and reported these votes. It is counted where the ballot is under way, and none of that member was
+    /// counted. With a majority the proposer leads, and answers the entries that it then is to propose (`called_by`). After a fault it is as
+    /// it was.
+    pub fn on_promise(
+        &mut self,
+        node: u8,
+        ballot: Ballot,
+        votes: Votes<B>,
+    ) -> Result<Option<Entries<B>>, ProposerFault>
+        ensures ok { OnOk result (self.new.state ≡ after_promise node ballot votes self.old.state) }
+        ensures called { IfOk result (λ called. called ≡ called_by self.old.state.members node ballot votes (role_in self.old)) }
+        ensures err { OnErr result (self.new.state ≡ self.old.state) }
+        ensures memory { IsOkUnless result Memory }
+    {
+        let Ok(called) = self.called_by(node, ballot, &votes) else {
+            return Err(ProposerFault::Memory);
+        };
+        if self.promises.reserve(1).is_err() {
+            return Err(ProposerFault::Memory);
+        }
+        self.on_promise_in_room(node, ballot, votes);
+        Ok(called)
+    }
+}
