@@ -1,18 +1,10 @@
--- What a store of rows makes of them beside a change: one start more.
-use Rattle.std.specs.Prelude.{ℕ, suc, None, [], ◌≡◌, ◌⊎◌}
+-- What a store of rows finds.
+use Rattle.std.specs.Prelude.{None, [], ◌≡◌, ◌⊎◌}
 use Rattle.paxos_packets.specs.declared.rows.Rows.{Rows}
-
--- the greatest boot number
-unfoldable pub last_boot : ℕ
-last_boot = 281474976710655
 
 -- the rows of a node that was never started
 abbrev pub no_rows : {B : Type 0} → Rows B
 no_rows = record { boot = 0; promised = None; votes = [] }
-
--- the rows after one start more
-abbrev pub raised : {B : Type 0} → Rows B → Rows B
-raised rows = record { boot = suc rows.boot; promised = rows.promised; votes = rows.votes }
 
 -- what a store may find after a call that was to make `next` of what it held: all that it might find before, and that
 abbrev pub FindsOr : {K R : Type 0} → (K → R → Type 0) → K → K → R → Type 0

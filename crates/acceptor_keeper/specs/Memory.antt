@@ -1,11 +1,11 @@
 -- A store in memory, which fails at one of its commits where it is told to.
 use Rattle.std.specs.Prelude.{ℕ, suc, ◌-◌, ◌≡◌, Bool, true, false, ◌==◌, nat_le, Result, Ok, Err, if◌then◌else◌}
+use Rattle.paxos_packets.specs.Rows.{last_boot, raised}
 use Rattle.paxos_packets.specs.declared.rows.Change.{Change}
 use Rattle.paxos_packets.specs.declared.rows.Rows.{Rows}
 use Rattle.paxos_acceptor.specs.Acceptor.{adopted}
 use Rattle.acceptor_keeper.specs.declared.fault.KeeperFault.{KeeperFault}
 use Rattle.acceptor_keeper.specs.declared.fault.KeeperFault.TheVariants.{Store, Memory, Failed, Boots}
-use Rattle.acceptor_keeper.specs.Keeper.{last_boot, raised}
 
 pub record Kept (B : Type 0) : Type 0 where
   -- what is committed

@@ -1,7 +1,8 @@
 ghost use Rattle.std.specs.Prelude.{◌≡◌, ◌≢◌, ◌⊎◌, ◌-◌, ◌^◌, ◌<◌, ◌≤◌, ℕ, Bool, true, false, is_err, IfOk, OnOk, IsErrOf, Err};
 ghost use Rattle.paxos_packets.specs.declared.rows.Rows.{Rows};
 ghost use Rattle.paxos_acceptor.specs.Acceptor.{adopted};
-ghost use Rattle.acceptor_keeper.specs.Keeper.{last_boot, raised, FindsOr, FindsNoMore};
+ghost use Rattle.paxos_packets.specs.Rows.{last_boot, raised};
+ghost use Rattle.acceptor_keeper.specs.Keeper.{FindsOr, FindsNoMore};
 
 use crate::fault::KeeperFault;
 use paxos_packets::{Body, Change, Rows};

@@ -127,7 +127,7 @@ impl<B: Body> Keeper<B> for MemKeeper<B> {
         Ok(())
     }
 
-    #[tactic(auto, unfolding(crate::specs::Keeper::last_boot))]
+    #[tactic(auto, unfolding(paxos_packets::specs::Rows::last_boot))]
     fn boot(&mut self) -> Result<Rows<B>, KeeperFault>
         ensures { BootsIn result self.old self.new }
     {

@@ -1,0 +1,10 @@
+mod Texts
+mod Puts
+mod Founding
+mod Votes
+mod Trees
+mod Putting
+mod Reading
+mod Meaning
+mod Writing
+mod Keeping

@@ -1,0 +1,9 @@
+use Rattle.std.proofs.Common.{◌≡◌, []}
+use Rattle.std.specs.Vec.Iter.{into_iter_items}
+use Rattle.acceptor_store.specs.Rows.{votes_after}
+use Rattle.acceptor_store.proofs.rows.votes_in.Given as goal
+
+abbrev pub invariant-loop-row : goal.invariant-loop-row
+invariant-loop-row g l =
+    votes_after g.C.Coder.reading l.promised l.votes (into_iter_items l.row-iterator)
+    ≡ votes_after g.C.Coder.reading l.promised [] l.fn.rows.items

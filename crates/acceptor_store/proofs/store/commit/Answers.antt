@@ -1,0 +1,55 @@
+use Rattle.std.proofs.Common.{◌≡◌, refl, sym, subst, arith, rules, IsTrue}
+use Rattle.sqlite_trees.specs.Tree.{Trees}
+use Rattle.sqlite.specs.Effect.{Database}
+use Rattle.sqlite.specs.State.{HasCleanDisk, Survives}
+use Rattle.sqlite.specs.Held.{state}
+use Rattle.sqlite.proofs.StateLemmas.{survives_then}
+use Rattle.sqlite.proofs.Callers.{survives_begin}
+use Rattle.acceptor_store.specs.Store.{Wrote}
+use Rattle.acceptor_store.proofs.store.commit.Goals as goal
+
+pub returns-clause-ok : goal.returns-clause-ok
+returns-clause-ok g c clean =
+    let old = c.args.conn.now in
+    let last = c.write.new.tx.conn.now in
+    let end = c.end.new.tx.0 in
+    let begun = c.transaction-tx.ensures.begun in
+    let W = Wrote g.C.Coder.reading c.args.puts c.args.numbers.now c.args.votes.now (state g.S.Store old).now in
+    let same : end ≡ c.conn-2-1.given.0 = search rules in
+    let late : HasCleanDisk (state g.S.Store end) = search rules in
+    let early : HasCleanDisk (state g.S.Store last) = omega (arith, c.end.ensures.survives.clean) in
+    let ended = c.in_ok-end.ensures.ok late in
+    let was_open : IsTrue (state g.S.Store old).is_open = rw begun at ((c.in_ok-write.ensures.goes early (rw begun)).1 tt) in
+    let wrote : W (state g.S.Store last).now = rw begun at (c.in_ok-write.ensures.put early (rw begun)) in
+    subst (λ h. IsTrue (state g.S.Store old).is_open × IsTrue (state g.S.Store h).is_open × W (state g.S.Store h).committed) same
+    (was_open, ended.is_open, subst W (sym ended.committed_is) wrote)
+
+pub returns-clause-crash : goal.returns-clause-crash
+returns-clause-crash g c =
+    let old = c.args.conn.now in
+    let last = c.write.new.tx.conn.now in
+    let begun = c.transaction-tx.ensures.begun in
+    let W = Wrote g.C.Coder.reading c.args.puts c.args.numbers.now c.args.votes.now (state g.S.Store old).now in
+    let P = λ (trees : Trees). IsTrue (state g.S.Store old).is_open × ((db : Database) × W db × (trees ≡ db.trees)) in
+    let was_open = λ (early : HasCleanDisk (state g.S.Store last)). let it : IsTrue (state g.S.Store old).is_open = rw begun at ((c.in_ok-write.ensures.goes early (rw begun)).1 tt) in it in
+    let wrote = λ (early : HasCleanDisk (state g.S.Store last)). let it : W (state g.S.Store last).now = rw begun at (c.in_ok-write.ensures.put early (rw begun)) in it in
+    let whole = survives_then (state g.S.Store old) (state g.S.Store last) (state g.S.Store c.end.new.tx.0) (λ _. ⊥) _ P (λ _ db none. absurd none)
+    (λ clean db is. (was_open (omega (arith, c.end.ensures.survives.clean)), (_, wrote (omega (arith, c.end.ensures.survives.clean)), is)))
+    (survives_begin g.S.Store old (state g.S.Store last) (λ _. ⊥) (rw begun at c.write.ensures.survives)) c.end.ensures.survives in
+    let same : c.end.new.tx.0 ≡ c.conn-2-1.given.0 = search rules in
+    subst (λ h. Survives (state g.S.Store old) (state g.S.Store h) P) same whole
+
+pub returns-in_err-end-clause-crash : goal.returns-in_err-end-clause-crash
+returns-in_err-end-clause-crash g c =
+    let old = c.args.conn.now in
+    let last = c.write.new.tx.conn.now in
+    let begun = c.transaction-tx.ensures.begun in
+    let W = Wrote g.C.Coder.reading c.args.puts c.args.numbers.now c.args.votes.now (state g.S.Store old).now in
+    let P = λ (trees : Trees). IsTrue (state g.S.Store old).is_open × ((db : Database) × W db × (trees ≡ db.trees)) in
+    let was_open = λ (early : HasCleanDisk (state g.S.Store last)). let it : IsTrue (state g.S.Store old).is_open = rw begun at ((c.in_ok-write.ensures.goes early (rw begun)).1 tt) in it in
+    let wrote = λ (early : HasCleanDisk (state g.S.Store last)). let it : W (state g.S.Store last).now = rw begun at (c.in_ok-write.ensures.put early (rw begun)) in it in
+    let whole = survives_then (state g.S.Store old) (state g.S.Store last) (state g.S.Store c.end.new.tx.0) (λ _. ⊥) _ P (λ _ db none. absurd none)
+    (λ clean db is. (was_open (omega (arith, c.end.ensures.survives.clean)), (_, wrote (omega (arith, c.end.ensures.survives.clean)), is)))
+    (survives_begin g.S.Store old (state g.S.Store last) (λ _. ⊥) (rw begun at c.write.ensures.survives)) c.end.ensures.survives in
+    let same : c.end.new.tx.0 ≡ c.conn-2-1.given.0 = search rules in
+    subst (λ h. Survives (state g.S.Store old) (state g.S.Store h) P) same whole

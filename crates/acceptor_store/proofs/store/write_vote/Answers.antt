@@ -1,0 +1,22 @@
+use Rattle.std.proofs.Common.{◌≡◌, ◌<◌, ◌≤◌, ◌^◌, Ok}
+use Rattle.std.proofs.lemmas.Bool.{and_parts}
+use Rattle.std.proofs.lemmas.Result.{on_ok_weaker}
+use Rattle.sqlite.specs.Held.{state}
+use Rattle.command_codec.specs.Entry.{entry_reading}
+use Rattle.acceptor_store.specs.Tables.{vote_row}
+use Rattle.acceptor_store.specs.Store.{IsVote}
+use Rattle.acceptor_store.proofs.Writing.{vote_read, vote_reads}
+use Rattle.acceptor_store.proofs.store.write_vote.Goals as goal
+
+pub returns-clause-put : goal.returns-clause-put
+returns-clause-put g c clean inside rows has placed =
+    let v = c.args.vote.now in
+    let octets = c.as_slice.result.now in
+    let parts = and_parts _ _ placed in
+    let least : 1 ≤ v.slot = rw c.get.ensures.value at c.get.ensures.least in
+    let most : v.slot < 2 ^ 40 = rw c.get.ensures.value at c.get.ensures.most in
+    let read : entry_reading g.C.Coder.reading octets ≡ Ok v.entry = rw c.as_slice.ensures.value c.in_ok-spell.ensures.read in
+    let is : IsVote g.C.Coder.reading (vote_row c.get.result v.ballot.round v.ballot.node octets) v =
+    rw c.get.ensures.value (vote_read g.C.Coder.reading v octets least most parts.0 read) in
+    on_ok_weaker c.put_vote.result (vote_reads g.C.Coder.reading (state g.S.Store c.args.tx.now.conn.now).now (state g.S.Store c.put_vote.new.tx.conn.now).now rows v has)
+    (c.put_vote.ensures.put clean inside has.0 rows.promised rows.votes v has.1.has.votes is parts.1)

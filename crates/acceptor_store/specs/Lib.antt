@@ -1,0 +1,5 @@
+pub mod Tables
+pub mod Statements
+pub mod Rows
+pub mod Store
+pub mod Once

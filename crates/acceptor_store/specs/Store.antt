@@ -1,0 +1,148 @@
+-- What the trees of a store stand for (docs/CONSENSUS.md, "Store"; Lamport 2001, section 2.5), and what a keeper over them holds and finds.
+use Rattle.std.specs.Prelude.{◌≡◌, ◌<◌, ℕ, Bool, true, false, IsTrue, ◌==◌, ◌&&◌, ◌||◌, not, nat_le, if◌then◌else◌, List, [], ◌∷◌, map, Option, Some, None, unwrap_or, Result, Ok, ⊤}
+use Rattle.std.specs.Prelude.{refl}
+use Rattle.std.specs.Coded.{Coded, code_by, coded×, coded_ℕ, coded_bool, coded_option}
+use Rattle.std.specs.List.{AllByRecursion, IsDistinct}
+use Rattle.sqlite_value.specs.Order.{Row, column}
+use Rattle.sqlite_rules.specs.Lists.{Has}
+use Rattle.sqlite_trees.specs.Tree.{Trees, rowid}
+use Rattle.sqlite_trees.specs.declared.store.Store.{Ghosts}
+use Rattle.sqlite_catalog.specs.Listing.{IsSound}
+use Rattle.sqlite.specs.Effect.{Database}
+use Rattle.sqlite.specs.State.{State, HasCleanDisk}
+use Rattle.sqlite.specs.Held.{Held, held_code, state}
+use Rattle.paxos_packets.specs.Ballot.{below}
+use Rattle.paxos_packets.specs.Vote.{put_votes}
+use Rattle.paxos_packets.specs.declared.ballot.Ballot.{Ballot}
+use Rattle.paxos_packets.specs.declared.vote.Vote.{Vote}
+use Rattle.paxos_packets.specs.declared.rows.Rows.{Rows}
+use Rattle.command_codec.specs.Number.{Reading}
+use Rattle.acceptor_store.specs.declared.rows.Numbers.{Numbers}
+use Rattle.acceptor_store.specs.contracts.rows.Numbers as numbers
+use Rattle.acceptor_store.specs.Tables.{store_schema, meta_columns, vote_columns}
+use Rattle.acceptor_store.specs.Rows.{number, vote_of, is_promised, numbers_of}
+
+-- the slots ascend from above `low`
+abbrev pub AscendFrom : {B : Type 0} → ℕ → List (Vote B) → Type 0
+AscendFrom low [] = ⊤
+AscendFrom low (v ∷ vs) = (low < v.slot) × AscendFrom v.slot vs
+
+-- the number that a row goes by
+abbrev pub key_of : Row → ℕ
+key_of row = unwrap_or (number (rowid row)) 0
+
+-- the vote that a row of the tree is
+abbrev pub IsVote : {B : Type 0} → (List ℕ → Reading B) → Row → Vote B → Type 0
+IsVote reading row v = vote_of reading (vote_columns row) ≡ Some v
+
+-- the rows of the tree are these votes, by ascending slot: each is one of them and each of them is there, none comes twice, and none is
+-- above the promise
+pub record AreVotes {B : Type 0} (reading : List ℕ → Reading B) (promised : Option Ballot) (tree : List Row) (votes : List (Vote B)) : Type 0 where
+  pub each : AllByRecursion (λ row. (v : Vote B) × IsVote reading row v × Has votes v) tree
+  pub all : AllByRecursion (λ v. (row : Row) × Has tree row × IsVote reading row v) votes
+  pub once : IsDistinct (λ m n. m == n) (map key_of tree)
+  pub promised_all : AllByRecursion (λ v. is_promised promised v.ballot ≡ true) votes
+  pub ascend : AscendFrom 0 votes
+
+abbrev pub numbers_in_rows : {B : Type 0} → Rows B → Numbers
+numbers_in_rows rows = record { boot = rows.boot; promised = rows.promised }
+
+-- the one row of `meta` has these numbers
+abbrev pub HasNumbers : List Row → Numbers → Type 0
+HasNumbers tree numbers = (row : Row) × (tree ≡ row ∷ []) × (numbers_of (meta_columns row) ≡ Ok numbers)
+
+-- the trees have these rows, whatever tables they list
+pub record StandsFor {B : Type 0} (reading : List ℕ → Reading B) (trees : Trees) (rows : Rows B) : Type 0 where
+  pub meta : HasNumbers (trees 0) (numbers_in_rows rows)
+  pub votes : AreVotes reading rows.promised (trees 1) rows.votes
+
+-- the trees are a store that has these rows
+pub record Stores {B : Type 0} (reading : List ℕ → Reading B) (trees : Trees) (rows : Rows B) : Type 0 where
+  pub sound : IsSound store_schema trees
+  pub has : StandsFor reading trees rows
+
+-- the database is a store that has these rows
+abbrev pub Reads : {B : Type 0} → (List ℕ → Reading B) → Database → Rows B → Type 0
+Reads reading db rows = (db.schema ≡ store_schema) × Stores reading db.trees rows
+
+-- the rows with these numbers and these votes
+abbrev pub written : {B : Type 0} → Numbers → List (Vote B) → Rows B → Rows B
+written numbers votes rows = record { boot = numbers.boot; promised = numbers.promised; votes = put_votes votes rows.votes }
+
+-- a round from 1 to 2^48 - 1, and a node from 1 to 7
+abbrev pub is_ballot : Ballot → Bool
+is_ballot b = nat_le 1 b.round && nat_le b.round 281474976710655 && (nat_le 1 b.node && nat_le b.node 7)
+
+abbrev pub is_promise : Option Ballot → Bool
+is_promise None = true
+is_promise (Some b) = is_ballot b
+
+-- the numbers are within their ranges
+abbrev pub are_numbers : Numbers → Bool
+are_numbers numbers = nat_le numbers.boot 281474976710655 && is_promise numbers.promised
+
+-- a vote that may stand under this promise
+abbrev pub is_placed : {B : Type 0} → Option Ballot → Vote B → Bool
+is_placed promised v = is_ballot v.ballot && is_promised promised v.ballot
+
+-- the ballot is below the promise
+abbrev pub is_lower : Ballot → Option Ballot → Bool
+is_lower b None = false
+is_lower b (Some p) = below b p
+
+-- the promise after a change, where that lowers none
+abbrev pub promise_after : Option Ballot → Option Ballot → Option (Option Ballot)
+promise_after promised None = Some promised
+promise_after promised (Some b) = if not (is_ballot b) || is_lower b promised then None else Some (Some b)
+
+-- the promise is not lowered
+abbrev pub NotLowered : Option Ballot → Option Ballot → Type 0
+NotLowered old new = (b : Ballot) → is_promised old b ≡ true → is_promised new b ≡ true
+
+-- the numbers are those of the rows, or are put in their place and lower no promise
+abbrev pub Follows : {B : Type 0} → Bool → Rows B → Numbers → Type 0
+Follows puts rows numbers = (puts ≡ false → numbers ≡ numbers_in_rows rows) × NotLowered rows.promised numbers.promised
+
+-- the numbers and the votes are written over any rows that the database may have had
+abbrev pub Wrote : {B : Type 0} → (List ℕ → Reading B) → Bool → Numbers → List (Vote B) → Database → Database → Type 0
+Wrote {B} reading puts numbers votes old new =
+    (rows : Rows B) → Reads reading old rows → Follows puts rows numbers → AllByRecursion (λ v. is_placed numbers.promised v ≡ true) votes
+    → Reads reading new (written numbers votes rows)
+
+-- the transaction goes on, and what was done in it, if anything, shows that the connection was open
+abbrev pub GoesOn : Type 0 → State → State → Type 0
+GoesOn Something old new = IsTrue new.in_transaction × (Something → IsTrue old.is_open)
+
+-- whatever a crash leaves is a store that has these rows
+abbrev pub Leaves : {B : Type 0} → (List ℕ → Reading B) → State → Rows B → Type 0
+Leaves reading s rows = (trees : Trees) → s.may_leave trees → Stores reading trees rows
+
+-- what callers see of a keeper: its connection, and the numbers that it has read or written
+pub record Kept (S : Type 0) : Type 0 where
+  pub conn : Held S
+  pub known : Option Numbers
+  pub is_failed : Bool
+  -- how often the connection refused a call for another cause than memory
+  pub failures : ℕ
+
+abbrev pub kept_code : {S : Type 0} → Coded S → Coded (Kept S)
+kept_code {S} store =
+    code_by (Held S × (Option Numbers × (Bool × ℕ)))
+    (coded× (held_code store) (coded× (coded_option numbers.the_row.coded) (coded× coded_bool coded_ℕ)))
+    (λ k. (k.conn, (k.known, (k.is_failed, k.failures))))
+    (λ p. record { conn = p.0; known = p.1.0; is_failed = p.1.1.0; failures = p.1.1.1 })
+    (λ _. refl)
+
+abbrev pub Agrees : {B : Type 0} → Option Numbers → Rows B → Type 0
+Agrees None rows = ⊤
+Agrees (Some numbers) rows = numbers ≡ numbers_in_rows rows
+
+module _ {S : Type 0} (g : Ghosts S) {B : Type 0} (reading : List ℕ → Reading B) where
+  -- whatever is found when the store is opened again are these rows, where the disk has returned what was written
+  abbrev pub Holds : Kept S → Rows B → Type 0
+  Holds k rows =
+      HasCleanDisk (state g k.conn) → Leaves reading (state g k.conn) rows × Agrees k.known rows
+
+  -- stopped at this moment, a store that is opened again may find these rows
+  abbrev pub Finds : Kept S → Rows B → Type 0
+  Finds k rows = HasCleanDisk (state g k.conn) × ((trees : Trees) × (state g k.conn).may_leave trees × Stores reading trees rows)

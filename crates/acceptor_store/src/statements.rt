@@ -1,0 +1,300 @@
+ghost use Rattle.std.specs.Prelude.{◌≡◌, ◌≢◌, ◌⊎◌, ◌<◌, ◌^◌, ◌∷◌, [], ℕ, List, Option, pos, map, true, false, IsTrue, OnOk, IfOk, IfErr, Ok, Err, IsPermutation};
+ghost use Rattle.sqlite_value.specs.declared.value.Value.TheVariants.{Int, Blob};
+ghost use Rattle.sqlite_catalog.specs.Listing.{IsSound};
+ghost use Rattle.sqlite.specs.Held.{state};
+ghost use Rattle.sqlite.specs.State.{HasCleanDisk, Survives, Shows, Shown, IsUnchanged, ExecutesInside, CommitsShowing};
+ghost use Rattle.paxos_packets.specs.Vote.{put_vote};
+ghost use Rattle.paxos_packets.specs.declared.ballot.Ballot.{Ballot};
+ghost use Rattle.paxos_packets.specs.declared.vote.Vote.{Vote};
+ghost use Rattle.acceptor_store.specs.Tables.{store_schema, empty_schema, meta_schema, meta_row, vote_row, meta_columns, vote_columns};
+ghost use Rattle.acceptor_store.specs.Tables.{create_meta_text, create_vote_text, put_meta_text, put_vote_text, read_meta_text, read_votes_text};
+ghost use Rattle.acceptor_store.specs.Statements.{round_of, node_of, HasAtMost, PutsMeta, IsFounded};
+ghost use Rattle.acceptor_store.specs.Rows.{is_promised};
+ghost use Rattle.acceptor_store.specs.Store.{IsVote, AreVotes};
+
+use acceptor_keeper::KeeperFault;
+use command_codec::Coder;
+use paxos_packets::Ballot;
+use sqlite::{Alter, Connection, Error, ErrorCode, Row, Transaction, params};
+
+// Each statement of the store is a function of its own, which says what its text is.
+
+fn execute_create_meta<S: Alter>(tx: &mut Transaction<'_, S>) -> Result<usize, Error>
+    ensures same_reference { tx.new.conn.ghost_name ≡ tx.old.conn.ghost_name }
+    ensures runs { HasCleanDisk (state S.Store tx.new.conn.now) → IsTrue (state S.Store tx.old.conn.now).in_transaction
+        → ExecutesInside 0 create_meta_text [] (state S.Store tx.old.conn.now) (state S.Store tx.new.conn.now) result }
+    ensures survives { Survives (state S.Store tx.old.conn.now) (state S.Store tx.new.conn.now) (λ _. ⊥) }
+{
+    tx.execute(
+        "CREATE TABLE meta (k INTEGER PRIMARY KEY, version INTEGER NOT NULL, boot INTEGER NOT NULL, round INTEGER NOT NULL, node INTEGER NOT NULL) STRICT",
+        &[],
+    )
+}
+
+fn execute_create_vote<S: Alter>(tx: &mut Transaction<'_, S>) -> Result<usize, Error>
+    ensures same_reference { tx.new.conn.ghost_name ≡ tx.old.conn.ghost_name }
+    ensures runs { HasCleanDisk (state S.Store tx.new.conn.now) → IsTrue (state S.Store tx.old.conn.now).in_transaction
+        → ExecutesInside 0 create_vote_text [] (state S.Store tx.old.conn.now) (state S.Store tx.new.conn.now) result }
+    ensures survives { Survives (state S.Store tx.old.conn.now) (state S.Store tx.new.conn.now) (λ _. ⊥) }
+{
+    tx.execute(
+        "CREATE TABLE vote (slot INTEGER PRIMARY KEY, round INTEGER NOT NULL, node INTEGER NOT NULL, entry BLOB NOT NULL) STRICT",
+        &[],
+    )
+}
+
+fn execute_put_meta<S: Alter>(
+    tx: &mut Transaction<'_, S>,
+    boot: i64,
+    round: i64,
+    node: i64,
+) -> Result<usize, Error>
+    ensures same_reference { tx.new.conn.ghost_name ≡ tx.old.conn.ghost_name }
+    ensures runs { HasCleanDisk (state S.Store tx.new.conn.now) → IsTrue (state S.Store tx.old.conn.now).in_transaction
+        → ExecutesInside 0 put_meta_text (Int boot ∷ Int round ∷ Int node ∷ []) (state S.Store tx.old.conn.now) (state S.Store tx.new.conn.now) result }
+    ensures survives { Survives (state S.Store tx.old.conn.now) (state S.Store tx.new.conn.now) (λ _. ⊥) }
+{
+    tx.execute(
+        "INSERT OR REPLACE INTO meta VALUES (1, 1, ?1, ?2, ?3)",
+        params![boot, round, node],
+    )
+}
+
+fn execute_put_vote<S: Alter>(
+    tx: &mut Transaction<'_, S>,
+    slot: i64,
+    round: i64,
+    node: i64,
+    entry: &[u8],
+) -> Result<usize, Error>
+    ensures same_reference { tx.new.conn.ghost_name ≡ tx.old.conn.ghost_name }
+    ensures runs { HasCleanDisk (state S.Store tx.new.conn.now) → IsTrue (state S.Store tx.old.conn.now).in_transaction
+        → ExecutesInside 0 put_vote_text (Int slot ∷ Int round ∷ Int node ∷ Blob entry.now ∷ []) (state S.Store tx.old.conn.now) (state S.Store tx.new.conn.now) result }
+    ensures survives { Survives (state S.Store tx.old.conn.now) (state S.Store tx.new.conn.now) (λ _. ⊥) }
+{
+    tx.execute(
+        "INSERT OR REPLACE INTO vote VALUES (?1, ?2, ?3, ?4)",
+        params![slot, round, node, entry],
+    )
+}
+
+// What a refusal of the connection is to a keeper.
+pub(crate) fn fault_of(error: Error) -> KeeperFault
+    ensures { (result ≡ KeeperFault.Memory) ⊎ (result ≡ KeeperFault.Store) }
+{
+    match error {
+        Error::SqliteFailure(ErrorCode::OutOfMemory) => KeeperFault::Memory,
+        _ => KeeperFault::Store,
+    }
+}
+
+// The number as SQLite keeps it.
+fn signed(number: u64) -> i64
+    requires { number < 2 ^ 63 }
+    ensures { result ≡ pos number }
+{
+    number as i64
+}
+
+fn round_of(promised: &Option<Ballot>) -> u64
+    ensures { result ≡ round_of promised.now }
+{
+    match promised {
+        Some(ballot) => ballot.round,
+        None => 0,
+    }
+}
+
+fn node_in(ballot: &Ballot) -> u64
+    ensures value { result ≡ ballot.now.node }
+    ensures small { result < 256 }
+{
+    u64::from(ballot.node)
+}
+
+fn node_of(promised: &Option<Ballot>) -> u64
+    ensures value { result ≡ node_of promised.now }
+    ensures small { result < 256 }
+{
+    match promised {
+        Some(ballot) => u64::from(ballot.node),
+        None => 0,
+    }
+}
+
+// Makes the first table of an empty database.
+fn create_meta<S: Alter>(tx: &mut Transaction<'_, S>) -> Result<(), KeeperFault>
+    ensures same_reference { tx.new.conn.ghost_name ≡ tx.old.conn.ghost_name }
+    ensures made { HasCleanDisk (state S.Store tx.new.conn.now) → IsTrue (state S.Store tx.old.conn.now).in_transaction
+        → (state S.Store tx.old.conn.now).now.schema ≡ empty_schema
+        → OnOk result (((state S.Store tx.new.conn.now).now.schema ≡ meta_schema) × ((state S.Store tx.new.conn.now).now.trees 0 ≡ [])) }
+    ensures shown { HasCleanDisk (state S.Store tx.new.conn.now) → IsTrue (state S.Store tx.old.conn.now).in_transaction
+        → OnOk result (Shows (state S.Store tx.old.conn.now) (state S.Store tx.new.conn.now) (state S.Store tx.new.conn.now).now (state S.Store tx.old.conn.now).committed true) }
+    ensures survives { Survives (state S.Store tx.old.conn.now) (state S.Store tx.new.conn.now) (λ _. ⊥) }
+{
+    match execute_create_meta(tx) {
+        Ok(_) => Ok(()),
+        Err(error) => Err(fault_of(error)),
+    }
+}
+
+// Makes the second table, behind the first.
+fn create_vote<S: Alter>(tx: &mut Transaction<'_, S>) -> Result<(), KeeperFault>
+    ensures same_reference { tx.new.conn.ghost_name ≡ tx.old.conn.ghost_name }
+    ensures made { HasCleanDisk (state S.Store tx.new.conn.now) → IsTrue (state S.Store tx.old.conn.now).in_transaction
+        → (state S.Store tx.old.conn.now).now.schema ≡ meta_schema → (state S.Store tx.old.conn.now).now.trees 0 ≡ []
+        → OnOk result (((state S.Store tx.new.conn.now).now.schema ≡ store_schema) × ((state S.Store tx.new.conn.now).now.trees 0 ≡ [])
+        × ((state S.Store tx.new.conn.now).now.trees 1 ≡ [])) }
+    ensures shown { HasCleanDisk (state S.Store tx.new.conn.now) → IsTrue (state S.Store tx.old.conn.now).in_transaction
+        → OnOk result (Shows (state S.Store tx.old.conn.now) (state S.Store tx.new.conn.now) (state S.Store tx.new.conn.now).now (state S.Store tx.old.conn.now).committed true) }
+    ensures survives { Survives (state S.Store tx.old.conn.now) (state S.Store tx.new.conn.now) (λ _. ⊥) }
+{
+    match execute_create_vote(tx) {
+        Ok(_) => Ok(()),
+        Err(error) => Err(fault_of(error)),
+    }
+}
+
+// Puts the one row of `meta`, in the place of the one that is there.
+pub(crate) fn put_meta<S: Alter>(
+    tx: &mut Transaction<'_, S>,
+    boot: u64,
+    promised: &Option<Ballot>,
+) -> Result<(), KeeperFault>
+    requires boot { boot < 2 ^ 63 }
+    requires round { round_of promised.now < 2 ^ 63 }
+    ensures same_reference { tx.new.conn.ghost_name ≡ tx.old.conn.ghost_name }
+    ensures put { HasCleanDisk (state S.Store tx.new.conn.now) → IsTrue (state S.Store tx.old.conn.now).in_transaction
+        → (state S.Store tx.old.conn.now).now.schema ≡ store_schema → HasAtMost 1 ((state S.Store tx.old.conn.now).now.trees 0)
+        → OnOk result (PutsMeta (meta_row boot (round_of promised.now) (node_of promised.now))
+        (state S.Store tx.old.conn.now).now (state S.Store tx.new.conn.now).now) }
+    ensures shown { HasCleanDisk (state S.Store tx.new.conn.now) → IsTrue (state S.Store tx.old.conn.now).in_transaction
+        → OnOk result (Shows (state S.Store tx.old.conn.now) (state S.Store tx.new.conn.now) (state S.Store tx.new.conn.now).now (state S.Store tx.old.conn.now).committed true) }
+    ensures survives { Survives (state S.Store tx.old.conn.now) (state S.Store tx.new.conn.now) (λ _. ⊥) }
+    ensures fault { IfErr result (λ e. e ≢ KeeperFault.Damaged) }
+{
+    let round = signed(round_of(promised));
+    let node = signed(node_of(promised));
+    match execute_put_meta(tx, signed(boot), round, node) {
+        Ok(_) => Ok(()),
+        Err(error) => Err(fault_of(error)),
+    }
+}
+
+// Puts a row of `vote`, in the place of the one with its slot.
+pub(crate) fn put_vote<B, C: Coder<B>, S: Alter>(
+    tx: &mut Transaction<'_, S>,
+    slot: u64,
+    ballot: &Ballot,
+    entry: &[u8],
+) -> Result<(), KeeperFault>
+    requires slot { slot < 2 ^ 63 }
+    requires round { ballot.now.round < 2 ^ 63 }
+    ensures same_reference { tx.new.conn.ghost_name ≡ tx.old.conn.ghost_name }
+    ensures put { HasCleanDisk (state S.Store tx.new.conn.now) → IsTrue (state S.Store tx.old.conn.now).in_transaction
+        → (state S.Store tx.old.conn.now).now.schema ≡ store_schema
+        → (promised : Option Ballot) (votes : List (Vote B)) (v : Vote B)
+        → AreVotes C.reading promised ((state S.Store tx.old.conn.now).now.trees 1) votes
+        → IsVote C.reading (vote_row slot ballot.now.round ballot.now.node entry.now) v → is_promised promised v.ballot ≡ true
+        → OnOk result (((state S.Store tx.new.conn.now).now.schema ≡ store_schema)
+        × IsSound store_schema (state S.Store tx.new.conn.now).now.trees
+        × ((state S.Store tx.new.conn.now).now.trees 0 ≡ (state S.Store tx.old.conn.now).now.trees 0)
+        × AreVotes C.reading promised ((state S.Store tx.new.conn.now).now.trees 1) (put_vote v votes)) }
+    ensures shown { HasCleanDisk (state S.Store tx.new.conn.now) → IsTrue (state S.Store tx.old.conn.now).in_transaction
+        → OnOk result (Shows (state S.Store tx.old.conn.now) (state S.Store tx.new.conn.now) (state S.Store tx.new.conn.now).now (state S.Store tx.old.conn.now).committed true) }
+    ensures survives { Survives (state S.Store tx.old.conn.now) (state S.Store tx.new.conn.now) (λ _. ⊥) }
+    ensures fault { IfErr result (λ e. e ≢ KeeperFault.Damaged) }
+{
+    let round = signed(ballot.round);
+    let node = signed(node_in(ballot));
+    match execute_put_vote(tx, signed(slot), round, node, entry) {
+        Ok(_) => Ok(()),
+        Err(error) => Err(fault_of(error)),
+    }
+}
+
+// Makes the tables of an empty database, and the row of a node that was never started.
+pub(crate) fn found<S: Alter>(tx: &mut Transaction<'_, S>) -> Result<(), KeeperFault>
+    ensures same_reference { tx.new.conn.ghost_name ≡ tx.old.conn.ghost_name }
+    ensures founded { HasCleanDisk (state S.Store tx.new.conn.now) → IsTrue (state S.Store tx.old.conn.now).in_transaction
+        → (state S.Store tx.old.conn.now).now.schema ≡ empty_schema → OnOk result (IsFounded (state S.Store tx.new.conn.now).now) }
+    ensures shown { HasCleanDisk (state S.Store tx.new.conn.now) → IsTrue (state S.Store tx.old.conn.now).in_transaction
+        → OnOk result (Shows (state S.Store tx.old.conn.now) (state S.Store tx.new.conn.now) (state S.Store tx.new.conn.now).now (state S.Store tx.old.conn.now).committed true) }
+    ensures survives { Survives (state S.Store tx.old.conn.now) (state S.Store tx.new.conn.now) (λ _. ⊥) }
+{
+    create_meta(tx)?;
+    create_vote(tx)?;
+    put_meta(tx, 0, &None)?;
+    Ok(())
+}
+
+fn query_meta<S: Alter>(conn: &mut Connection<S>) -> Result<Vec<Row>, Error>
+    ensures shown { HasCleanDisk (state S.Store conn.new)
+        → IfOk result (λ rows. Shown read_meta_text [] (state S.Store conn.old) (state S.Store conn.new) rows.items) }
+    ensures mode { conn.old.in_transaction ≡ false → conn.new.in_transaction ≡ false }
+    ensures survives { Survives (state S.Store conn.old) (state S.Store conn.new) (CommitsShowing read_meta_text [] (state S.Store conn.old)) }
+{
+    conn.query_all("SELECT k, version, boot, round, node FROM meta", &[])
+}
+
+fn query_votes<S: Alter>(conn: &mut Connection<S>) -> Result<Vec<Row>, Error>
+    ensures shown { HasCleanDisk (state S.Store conn.new)
+        → IfOk result (λ rows. Shown read_votes_text [] (state S.Store conn.old) (state S.Store conn.new) rows.items) }
+    ensures mode { conn.old.in_transaction ≡ false → conn.new.in_transaction ≡ false }
+    ensures survives { Survives (state S.Store conn.old) (state S.Store conn.new) (CommitsShowing read_votes_text [] (state S.Store conn.old)) }
+{
+    conn.query_all(
+        "SELECT slot, round, node, entry FROM vote ORDER BY slot",
+        &[],
+    )
+}
+
+// The rows of `meta`, in some order.
+fn read_meta<S: Alter>(conn: &mut Connection<S>) -> Result<Vec<Row>, KeeperFault>
+    ensures shown { HasCleanDisk (state S.Store conn.new) → (state S.Store conn.old).now.schema ≡ store_schema
+        → IfOk result (λ rows. IsPermutation (map meta_columns ((state S.Store conn.old).now.trees 0)) rows.items) }
+    ensures same { HasCleanDisk (state S.Store conn.new) → (state S.Store conn.old).now.schema ≡ store_schema
+        → OnOk result (IsUnchanged (state S.Store conn.old) (state S.Store conn.new)) }
+    ensures mode { conn.old.in_transaction ≡ false → conn.new.in_transaction ≡ false }
+    ensures survives { Survives (state S.Store conn.old) (state S.Store conn.new) (CommitsShowing read_meta_text [] (state S.Store conn.old)) }
+    ensures fault { IfErr result (λ e. (e ≡ KeeperFault.Memory) ⊎ (e ≡ KeeperFault.Store)) }
+{
+    match query_meta(conn) {
+        Ok(rows) => Ok(rows),
+        Err(error) => Err(fault_of(error)),
+    }
+}
+
+// The rows of `vote`, in some order.
+fn read_votes<S: Alter>(conn: &mut Connection<S>) -> Result<Vec<Row>, KeeperFault>
+    ensures shown { HasCleanDisk (state S.Store conn.new) → (state S.Store conn.old).now.schema ≡ store_schema
+        → IfOk result (λ rows. IsPermutation (map vote_columns ((state S.Store conn.old).now.trees 1)) rows.items) }
+    ensures same { HasCleanDisk (state S.Store conn.new) → (state S.Store conn.old).now.schema ≡ store_schema
+        → OnOk result (IsUnchanged (state S.Store conn.old) (state S.Store conn.new)) }
+    ensures mode { conn.old.in_transaction ≡ false → conn.new.in_transaction ≡ false }
+    ensures survives { Survives (state S.Store conn.old) (state S.Store conn.new) (CommitsShowing read_votes_text [] (state S.Store conn.old)) }
+    ensures fault { IfErr result (λ e. (e ≡ KeeperFault.Memory) ⊎ (e ≡ KeeperFault.Store)) }
+{
+    match query_votes(conn) {
+        Ok(rows) => Ok(rows),
+        Err(error) => Err(fault_of(error)),
+    }
+}
+
+// The rows of both tables, each in some order.
+pub(crate) fn read_tables<S: Alter>(
+    conn: &mut Connection<S>,
+) -> Result<(Vec<Row>, Vec<Row>), KeeperFault>
+    requires { conn.old.schema ≡ store_schema }
+    ensures shown { HasCleanDisk (state S.Store conn.new) → IfOk result (λ rows.
+        IsPermutation (map meta_columns ((state S.Store conn.old).now.trees 0)) rows.0.items
+        × IsPermutation (map vote_columns ((state S.Store conn.old).now.trees 1)) rows.1.items) }
+    ensures same { HasCleanDisk (state S.Store conn.new) → OnOk result (IsUnchanged (state S.Store conn.old) (state S.Store conn.new)) }
+    ensures mode { conn.old.in_transaction ≡ false → conn.new.in_transaction ≡ false }
+    ensures survives { Survives (state S.Store conn.old) (state S.Store conn.new) (λ _. ⊥) }
+    ensures fault { IfErr result (λ e. (e ≡ KeeperFault.Memory) ⊎ (e ≡ KeeperFault.Store)) }
+{
+    let metas = read_meta(conn)?;
+    let votes = read_votes(conn)?;
+    Ok((metas, votes))
+}
