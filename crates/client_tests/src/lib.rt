@@ -3,6 +3,8 @@
 #![tactic(auto)]
 
 #[cfg(test)]
+mod calls;
+#[cfg(test)]
 mod frames;
 #[cfg(test)]
 mod ids;
@@ -15,6 +17,10 @@ mod patterns;
 #[cfg(test)]
 mod realm;
 #[cfg(test)]
+mod registrations;
+#[cfg(test)]
 mod sessions;
+#[cfg(test)]
+mod subscriptions;
 #[cfg(test)]
 mod values;

@@ -51,9 +51,14 @@ fn is_copied(alloc: Global, message: &Message, text: &str) -> Result<bool, Fail>
 
 // Whether the text is that of the message that is read of it.
 fn is_written_again(alloc: Global, text: &str) -> Result<bool, Fail> {
+    is_written_as(alloc, text, text)
+}
+
+// Whether the message that is read of the one text has the other.
+fn is_written_as(alloc: Global, text: &str, written: &str) -> Result<bool, Fail> {
     let done = read(alloc, text.as_bytes())?;
     match &done {
-        Read::Good(message) => is_copied(alloc, message, text),
+        Read::Good(message) => is_copied(alloc, message, written),
         _ => Ok(false),
     }
 }
@@ -65,19 +70,30 @@ fn faults_come_in_the_order_of_their_numbers(rt: HostRuntime) -> Result<(), Fail
         ("{}", 22),
         ("[]", 23),
         ("[5,\"x\",{}]", 23),
-        ("[34,1,1]", 23),
-        ("[48,1,{},\"p\"]", 23),
-        ("[64,1,{},\"p\"]", 23),
+        ("[4,\"x\",{}]", 23),
+        ("[71,1,{}]", 23),
         ("[33,1]", 24),
+        ("[34,1]", 24),
+        ("[66,1]", 24),
+        ("[67,1,2]", 24),
         ("[32,1,{},\"a\",[]]", 24),
         ("[32,1,[],\"a\"]", 25),
         ("[32,1.0,{},\"a\"]", 25),
         ("[32,-1,[],\"a\"]", 25),
         ("[8,33,0,{},\"a\"]", 25),
         ("[36,0,1,{},[0.5]]", 25),
+        ("[34,-1,\"1\"]", 25),
+        ("[64,1,{},7]", 25),
+        ("[66,\"1\",0]", 25),
+        ("[50,0,{},[0.5]]", 25),
+        ("[69,0,{}]", 25),
+        ("[68,1,1,{\"procedure\":1}]", 25),
         ("[32,0,{},\"a\"]", 26),
         ("[32,-1,{},\"a\"]", 26),
         ("[16,0,{},\"a\",[0.5]]", 26),
+        ("[34,0,1]", 26),
+        ("[64,0,{\"invoke\":\"random\"},\"p\"]", 26),
+        ("[70,0,{},[0.5]]", 26),
     ] {
         assert_eq!(rt; fault(rt.alloc(), text.as_bytes())?, number, "{text}");
     }
@@ -114,6 +130,39 @@ fn unfit_requests_are_told_apart_from_faults(rt: HostRuntime) -> Result<(), Fail
 }
 
 #[test]
+fn each_kind_of_unfit_request_is_told(rt: HostRuntime) -> Result<(), Fail> {
+    for (text, kind) in [
+        ("[64,1,{\"invoke\":\"random\"},\"p\"]", UnfitKind::Register),
+        ("[64,1,{\"invoke\":null},\"p\"]", UnfitKind::Register),
+        ("[64,1,{\"match\":\"fuzzy\"},\"p\"]", UnfitKind::Register),
+        ("[48,1,{},\"p\",[1.5]]", UnfitKind::Call),
+        ("[49,1,{\"mode\":\"stop\"}]", UnfitKind::Cancel),
+        ("[70,1,{},[0.5]]", UnfitKind::Yield),
+    ] {
+        assert!(rt; reads_unfit(rt.alloc(), text, kind, false)?, "{text}");
+    }
+    Ok(())
+}
+
+#[test]
+fn keys_are_written_in_their_order(rt: HostRuntime) -> Result<(), Fail> {
+    for (text, written) in [
+        (
+            "[64,1,{\"match\":\"wildcard\",\"invoke\":\"first\"},\"a..b\"]",
+            "[64,1,{\"invoke\":\"first\",\"match\":\"wildcard\"},\"a..b\"]",
+        ),
+        (
+            "[64,1,{\"match\":\"exact\",\"invoke\":\"single\"},\"a\"]",
+            "[64,1,{},\"a\"]",
+        ),
+        ("[49,1,{\"mode\":\"killnowait\"}]", "[49,1,{}]"),
+    ] {
+        assert!(rt; is_written_as(rt.alloc(), text, written)?, "{text}");
+    }
+    Ok(())
+}
+
+#[test]
 fn what_is_read_is_written_as_its_one_text(rt: HostRuntime) -> Result<(), Fail> {
     for text in [
         "[1,\"realm1\",{}]",
@@ -125,6 +174,20 @@ fn what_is_read_is_written_as_its_one_text(rt: HostRuntime) -> Result<(), Fail> 
         "[17,2,3]",
         "[32,1,{\"match\":\"prefix\"},\"com.a.x\"]",
         "[33,1,9007199254740992]",
+        "[34,3,1]",
+        "[35,3]",
+        "[64,1,{},\"a.b\"]",
+        "[64,1,{\"invoke\":\"roundrobin\"},\"a\"]",
+        "[64,1,{\"invoke\":\"last\",\"match\":\"prefix\"},\"a\"]",
+        "[65,1,1]",
+        "[66,2,9]",
+        "[67,2]",
+        "[48,7,{},\"p.q\",[1]]",
+        "[49,7,{\"mode\":\"skip\"}]",
+        "[50,7,{},[2]]",
+        "[68,1,1,{\"procedure\":\"p.q\"},[1]]",
+        "[69,1,{\"mode\":\"killnowait\"}]",
+        "[70,1,{},[2],{\"a\":1}]",
         "[36,1,500,{\"topic\":\"com.a.x-low\"},[\"hi\"]]",
         WELCOME,
     ] {

@@ -177,7 +177,7 @@ fn limits_of_one_and_refusals(rt: HostRuntime) -> Result<(), Fail> {
             1,
             6,
             "[32,4,{\"match\":\"prefix\"},\"a\"]",
-            "1 [8,32,4,{},\"wamp.error.invalid_argument\"];",
+            "1 [8,32,4,{},\"cluster.error.limit\"];",
         ),
         (
             1,
@@ -196,6 +196,285 @@ fn limits_of_one_and_refusals(rt: HostRuntime) -> Result<(), Fail> {
             1,
             9,
             "{}",
+            "1 [3,{},\"wamp.error.protocol_violation\"];1 close;",
+        ),
+    ];
+    check(&rt, rt.alloc(), 1, rows.as_slice())
+}
+
+#[test]
+fn events_name_their_topics(rt: HostRuntime) -> Result<(), Fail> {
+    let rows = [
+        (1, 1, "connect", ""),
+        (2, 1, "connect", ""),
+        (
+            1,
+            1,
+            "[1,\"realm1\",{}]",
+            "1 [2,1,{\"roles\":{\"broker\":{\"features\":{\"pattern_based_subscrip;",
+        ),
+        (
+            2,
+            2,
+            "[1,\"realm1\",{}]",
+            "2 [2,2,{\"roles\":{\"broker\":{\"features\":{\"pattern_based_subscrip;",
+        ),
+        (
+            1,
+            3,
+            "[32,1,{\"match\":\"prefix\"},\"com.a.x\"]",
+            "1 [33,1,1];",
+        ),
+        (
+            2,
+            500,
+            "[16,2,{\"acknowledge\":true},\"com.a.x-low\",[\"hi\"]]",
+            "2 [17,2,500];1 [36,1,500,{\"topic\":\"com.a.x-low\"},[\"hi\"]];",
+        ),
+        (2, 9, "[16,2,{},\"com.a\"]", ""),
+        (
+            1,
+            3,
+            "[32,2,{\"match\":\"exact\"},\"a..b\"]",
+            "1 [8,32,2,{},\"wamp.error.invalid_uri\"];",
+        ),
+        (
+            1,
+            3,
+            "[32,3,{\"match\":\"wildcard\"},\"a..b\"]",
+            "1 [33,3,2];",
+        ),
+        (
+            1,
+            3,
+            "[32,4,{\"match\":\"prefix\"},\"a b\"]",
+            "1 [8,32,4,{},\"wamp.error.invalid_uri\"];",
+        ),
+        (
+            2,
+            9,
+            "[16,2,{},\"a.x.b\"]",
+            "1 [36,2,9,{\"topic\":\"a.x.b\"}];",
+        ),
+        (1, 9, "[16,2,{},\"a.x.b\"]", ""),
+    ];
+    check(&rt, rt.alloc(), 4096, rows.as_slice())
+}
+
+#[test]
+fn one_session_in_three_matches(rt: HostRuntime) -> Result<(), Fail> {
+    let rows = [
+        (1, 1, "connect", ""),
+        (2, 1, "connect", ""),
+        (
+            1,
+            1,
+            "[1,\"realm1\",{}]",
+            "1 [2,1,{\"roles\":{\"broker\":{\"features\":{\"pattern_based_subscrip;",
+        ),
+        (
+            2,
+            2,
+            "[1,\"realm1\",{}]",
+            "2 [2,2,{\"roles\":{\"broker\":{\"features\":{\"pattern_based_subscrip;",
+        ),
+        (1, 3, "[32,1,{},\"a.b\"]", "1 [33,1,1];"),
+        (1, 3, "[32,2,{\"match\":\"prefix\"},\"a\"]", "1 [33,2,2];"),
+        (
+            1,
+            3,
+            "[32,3,{\"match\":\"wildcard\"},\"a.\"]",
+            "1 [33,3,3];",
+        ),
+        (
+            2,
+            9,
+            "[16,1,{},\"a.b\"]",
+            "1 [36,1,9,{}];1 [36,2,9,{\"topic\":\"a.b\"}];1 [36,3,9,{\"topic\":\"a.b\"}];",
+        ),
+        (1, 3, "[32,4,{},\"wamp.x\"]", "1 [33,4,4];"),
+        (
+            2,
+            9,
+            "[16,2,{\"acknowledge\":true},\"wamp.x\"]",
+            "2 [8,16,2,{},\"wamp.error.invalid_uri\"];",
+        ),
+        (2, 9, "[16,3,{},\"wamp.x\"]", ""),
+    ];
+    check(&rt, rt.alloc(), 4096, rows.as_slice())
+}
+
+#[test]
+fn patterns_of_empty_components(rt: HostRuntime) -> Result<(), Fail> {
+    let rows = [
+        (1, 1, "connect", ""),
+        (
+            1,
+            1,
+            "[1,\"realm1\",{}]",
+            "1 [2,1,{\"roles\":{\"broker\":{\"features\":{\"pattern_based_subscrip;",
+        ),
+        (1, 3, "[32,1,{\"match\":\"prefix\"},\"\"]", "1 [33,1,1];"),
+        (1, 3, "[32,2,{\"match\":\"wildcard\"},\".\"]", "1 [33,2,2];"),
+        (
+            1,
+            5,
+            "[16,4,{\"exclude_me\":false},\"a.b\",[],{\"k\":1}]",
+            "1 [36,1,5,{\"topic\":\"a.b\"},[],{\"k\":1}];1 [36,2,5,{\"topic\":\"a.b\"},[],{\"k\":1}];",
+        ),
+    ];
+    check(&rt, rt.alloc(), 4096, rows.as_slice())
+}
+
+#[test]
+fn single_subscriptions_are_left(rt: HostRuntime) -> Result<(), Fail> {
+    let rows = [
+        (1, 1, "connect", ""),
+        (
+            1,
+            1,
+            "[1,\"realm1\",{}]",
+            "1 [2,1,{\"roles\":{\"broker\":{\"features\":{\"pattern_based_subscrip;",
+        ),
+        (1, 2, "[32,1,{},\"a.b\"]", "1 [33,1,1];"),
+        (1, 2, "[32,2,{},\"a.b\"]", "1 [33,2,1];"),
+        (1, 2, "[34,3,1]", "1 [35,3];"),
+        (
+            1,
+            2,
+            "[34,4,1]",
+            "1 [8,34,4,{},\"wamp.error.no_such_subscription\"];",
+        ),
+        (1, 2, "[32,5,{},\"a.b\"]", "1 [33,5,2];"),
+        (
+            1,
+            9,
+            "[16,6,{\"exclude_me\":false},\"a.b\"]",
+            "1 [36,2,9,{}];",
+        ),
+        (
+            1,
+            2,
+            "[34,7,1]",
+            "1 [8,34,7,{},\"wamp.error.no_such_subscription\"];",
+        ),
+        (
+            1,
+            2,
+            "[35,9]",
+            "1 [3,{},\"wamp.error.protocol_violation\"];1 close;",
+        ),
+    ];
+    check(&rt, rt.alloc(), 4096, rows.as_slice())
+}
+
+#[test]
+fn a_procedure_passes_on(rt: HostRuntime) -> Result<(), Fail> {
+    let rows = [
+        (1, 1, "connect", ""),
+        (2, 1, "connect", ""),
+        (
+            1,
+            1,
+            "[1,\"realm1\",{}]",
+            "1 [2,1,{\"roles\":{\"broker\":{\"features\":{\"pattern_based_subscrip;",
+        ),
+        (
+            2,
+            2,
+            "[1,\"realm1\",{}]",
+            "2 [2,2,{\"roles\":{\"broker\":{\"features\":{\"pattern_based_subscrip;",
+        ),
+        (1, 3, "[64,1,{},\"a.b\"]", "1 [65,1,1];"),
+        (
+            2,
+            3,
+            "[64,1,{},\"a.b\"]",
+            "2 [8,64,1,{},\"wamp.error.procedure_already_exists\"];",
+        ),
+        (
+            1,
+            3,
+            "[6,{},\"x\"]",
+            "1 [6,{},\"wamp.close.goodbye_and_out\"];",
+        ),
+        (2, 3, "[64,2,{},\"a.b\"]", "2 [65,2,2];"),
+        (2, 3, "[64,3,{\"invoke\":\"last\"},\"p\"]", "2 [65,3,3];"),
+        (
+            2,
+            3,
+            "[64,4,{\"invoke\":\"last\",\"match\":\"prefix\"},\"p\"]",
+            "2 [65,4,4];",
+        ),
+        (2, 3, "[66,5,2]", "2 [67,5];"),
+        (
+            2,
+            3,
+            "[66,6,2]",
+            "2 [8,66,6,{},\"wamp.error.no_such_registration\"];",
+        ),
+        (2, 3, "[64,7,{},\"a.b\"]", "2 [65,7,5];"),
+        (2, 3, "hang up", ""),
+    ];
+    check(&rt, rt.alloc(), 4096, rows.as_slice())
+}
+
+#[test]
+fn refused_procedures(rt: HostRuntime) -> Result<(), Fail> {
+    let rows = [
+        (1, 1, "connect", ""),
+        (
+            1,
+            1,
+            "[1,\"realm1\",{}]",
+            "1 [2,1,{\"roles\":{\"broker\":{\"features\":{\"pattern_based_subscrip;",
+        ),
+        (
+            1,
+            2,
+            "[64,1,{},\"wamp.x\"]",
+            "1 [8,64,1,{},\"wamp.error.invalid_uri\"];",
+        ),
+        (
+            1,
+            2,
+            "[64,1,{\"match\":\"prefix\"},\"wamp\"]",
+            "1 [8,64,1,{},\"wamp.error.invalid_uri\"];",
+        ),
+        (
+            1,
+            2,
+            "[64,1,{},\"a..b\"]",
+            "1 [8,64,1,{},\"wamp.error.invalid_uri\"];",
+        ),
+        (
+            1,
+            2,
+            "[64,1,{\"invoke\":\"random\"},\"p\"]",
+            "1 [8,64,1,{},\"wamp.error.invalid_argument\"];",
+        ),
+        (
+            1,
+            2,
+            "[66,2,9]",
+            "1 [8,66,2,{},\"wamp.error.no_such_registration\"];",
+        ),
+        (
+            1,
+            2,
+            "[64,3,{\"match\":\"wildcard\"},\"a..b\"]",
+            "1 [65,3,1];",
+        ),
+        (
+            1,
+            2,
+            "[64,4,{},\"p\"]",
+            "1 [8,64,4,{},\"cluster.error.limit\"];",
+        ),
+        (
+            1,
+            2,
+            "[65,1,1]",
             "1 [3,{},\"wamp.error.protocol_violation\"];1 close;",
         ),
     ];

@@ -107,6 +107,44 @@ fn opens_and_closes_sessions(rt: HostRuntime) -> Result<(), Fail> {
     Ok(())
 }
 
+// The session's next invocation, 0 where there is none.
+fn next_of(sessions: &mut Sessions, session: u64, taken: &[Id]) -> u64 {
+    let Some(session) = Id::new(session) else {
+        return 0;
+    };
+    match sessions.next_invocation(session, taken) {
+        Some(invocation) => invocation.get(),
+        None => 0,
+    }
+}
+
+#[test]
+fn hands_out_ids_of_invocations(rt: HostRuntime) -> Result<(), Fail> {
+    let mut sessions = Sessions::new(rt.alloc(), 2);
+    sessions.connect(transport(1, 1))?;
+    sessions.connect(transport(1, 2))?;
+    assert_eq!(rt; opened(&mut sessions, 1, 5), 5);
+    assert_eq!(rt; opened(&mut sessions, 2, 6), 6);
+    let one = Id::new(1).ok_or("1")?;
+    let four = Id::new(4).ok_or("4")?;
+    let last = Id::new(9_007_199_254_740_992).ok_or("2^53")?;
+    for (session, taken, next) in [
+        (5, [last, four], 1),
+        (5, [last, four], 2),
+        (6, [one, four], 2),
+        (6, [one, four], 3),
+        (6, [one, four], 5),
+        (5, [one, four], 3),
+        (5, [four, one], 5),
+        (7, [one, four], 0),
+    ] {
+        let given = next_of(&mut sessions, session, &taken);
+        assert_eq!(rt; given, next, "{session}");
+    }
+    assert_eq!(rt; place_of(&sessions, 5), 11);
+    Ok(())
+}
+
 #[test]
 fn gives_the_transports_of_a_node(rt: HostRuntime) -> Result<(), Fail> {
     let mut sessions = Sessions::new(rt.alloc(), 2);

@@ -54,6 +54,11 @@ fn takes<B: Body>(
 }
 
 // An acceptor of empty rows is asked for two promises, for votes of a lower and of the promised ballot, and for a higher promise.
+// Whether this vote is the only one.
+fn has_voted<B: Body>(votes: &[Vote<B>], wanted: &Vote<B>) -> bool {
+    votes.len() == 1 && votes[0].same(wanted)
+}
+
 fn plays<B: Body>(rt: &impl Abort, alloc: Global, entry: &Entry<B>) -> Result<(), Fail> {
     let mut acceptor = Acceptor::of(Rows {
         boot: 1,
@@ -163,15 +168,17 @@ fn plays<B: Body>(rt: &impl Abort, alloc: Global, entry: &Entry<B>) -> Result<()
         none(alloc),
         Answer::Nothing,
     )?;
-    assert_eq!(rt; acceptor.rows().boot, 1);
-    assert_eq!(rt; acceptor.rows().promised, Some(high));
+    acceptor.make_room(1)?;
+    assert_eq!(rt; acceptor.boot(), 1);
+    assert_eq!(rt; acceptor.promised(), Some(high));
+    assert!(rt; has_voted(acceptor.votes(), &vote_for(alloc, first, entry)?));
+    assert!(rt; !acceptor.is_failed());
     assert!(rt;
         acceptor
-            .rows()
+            .into_rows()
             .votes
             .same(&votes_of(alloc, Some(vote_for(alloc, first, entry)?))?)
     );
-    assert!(rt; !acceptor.is_failed());
     Ok(())
 }
 

@@ -1,6 +1,6 @@
 use crate::Number;
 use paxos_learner::{Learner, LearnerFault};
-use paxos_packets::{Ballot, Body, Entry, Members, Slot};
+use paxos_packets::{Ballot, Body, Entry, Members, Slot, Vote};
 use std::process::Abort;
 use std::test::Fail;
 
@@ -70,5 +70,40 @@ fn what_is_told_ahead_is_found(rt: HostRuntime) -> Result<(), Fail> {
     assert!(rt; has_learned(&learner, first, &nothing));
     assert!(rt; has_learned(&learner, second, &started));
     assert!(rt; has_learned(&learner, fourth, &ahead));
+    Ok(())
+}
+
+#[test]
+fn what_has_room_is_taken_in(rt: HostRuntime) -> Result<(), Fail> {
+    let members = Members::new(3).ok_or("3 members")?;
+    let first = Slot::new(1).ok_or("slot 1")?;
+    let third = Slot::new(3).ok_or("slot 3")?;
+    let entry = Entry::Boot { node: 1, boot: 1 };
+    let mut learner = Learner::new(rt.alloc(), members);
+    learner.make_room(2)?;
+    learner.make_room_at(first)?;
+    learner.make_room_at(third)?;
+    learner.vote_in_room(
+        1,
+        Vote {
+            slot: first,
+            ballot: FIRST,
+            entry: Entry::Boot { node: 1, boot: 1 },
+        },
+    );
+    assert!(rt; learner.learned(first).is_none());
+    learner.tell_in_room(third, Entry::Noop);
+    learner.vote_in_room(
+        2,
+        Vote {
+            slot: first,
+            ballot: FIRST,
+            entry: Entry::Boot { node: 1, boot: 1 },
+        },
+    );
+    assert!(rt; has_learned(&learner, first, &entry));
+    assert!(rt; has_learned(&learner, third, &Entry::Noop));
+    learner.tell_in_room(first, Entry::Noop);
+    assert!(rt; has_learned(&learner, first, &entry));
     Ok(())
 }

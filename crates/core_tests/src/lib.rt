@@ -19,6 +19,8 @@ mod number;
 mod octet;
 #[cfg(test)]
 mod packets;
+#[cfg(test)]
+mod proposer;
 mod refuses;
 
 pub use count::Count;

@@ -3,8 +3,8 @@ ghost use Rattle.std.specs.Cmp.Lexicographic.{pointwise, bytes_decides};
 
 use crate::Number;
 use paxos_packets::{
-    Ballot, Body, Change, Entries, Entry, Kind, Members, Memory, NodeSet, Packet, Rows, Slot, Vote,
-    Votes, laws,
+    Ballot, Body, Change, Entries, Entry, KeptVotes, Kind, Members, Memory, NodeSet, Packet, Rows,
+    Slot, Vote, Votes, laws,
 };
 use std::alloc::Global;
 use std::marker::Model;
@@ -153,6 +153,28 @@ fn votes_stand_by_slot(rt: HostRuntime) -> Result<(), Fail> {
     more.put_all(behind)?;
     assert!(rt; more.same(&votes));
     assert_eq!(rt; more.into_vec().len(), 3);
+    Ok(())
+}
+
+#[test]
+fn votes_are_put_where_there_is_room(rt: HostRuntime) -> Result<(), Fail> {
+    let mut first = Votes::new(rt.alloc());
+    first.put(vote(2, 1, item(Number::new(1)))?)?;
+    let mut more = Votes::new(rt.alloc());
+    more.put(vote(1, 1, item(Number::new(2)))?)?;
+    more.put(vote(2, 2, item(Number::new(3)))?)?;
+    let mut wanted = Votes::new(rt.alloc());
+    wanted.put(vote(1, 1, item(Number::new(2)))?)?;
+    wanted.put(vote(2, 2, item(Number::new(3)))?)?;
+    let count = more.as_slice().len();
+    let mut kept = KeptVotes::of(first);
+    kept.make_room(count)?;
+    kept.put_all_in_room(more);
+    assert!(rt; kept.find(slot(2)?).is_some());
+    assert!(rt; kept.find(slot(3)?).is_none());
+    assert_eq!(rt; kept.as_slice().len(), 2);
+    assert_eq!(rt; kept.copy_from(rt.alloc(), 2)?.as_slice().len(), 1);
+    assert!(rt; kept.into_votes().same(&wanted));
     Ok(())
 }
 

@@ -2,7 +2,8 @@
 // out of one.
 use bytes::Bytes;
 use client_listener::{
-    FromClient, ListenFault, ToClient, greet, read_handshake, read_transport, write_transport,
+    FromClient, ListenFault, Outbox, ToClient, greet, read_handshake, read_transport,
+    write_transport,
 };
 use rtrb::{Consumer, Producer, RingBuffer};
 use std::alloc::Global;
@@ -11,6 +12,7 @@ use std::io::{Read, Write};
 use std::test::Fail;
 use std::time::{Clock, Duration};
 use wamp_messages::{Read as ReadResult, read, write};
+use wamp_rawsocket::FrameKind;
 
 // The client's frames of the stored run, and a PING.
 const ASKED: &[u8] = b"\0\0\0\x28[1,\"realm1\",{\"roles\":{\"subscriber\":{}}}]\
@@ -260,16 +262,46 @@ fn holds(alloc: Global, item: &FromClient, octets: &[u8]) -> Result<bool, Fail> 
     }
 }
 
+// Whether the next item of the ring holds this.
+fn next_holds(
+    alloc: Global,
+    consumer: &mut Consumer<FromClient>,
+    octets: &[u8],
+) -> Result<bool, Fail> {
+    let item = consumer.pop()?;
+    let held = holds(alloc, &item, octets);
+    drop(item);
+    held
+}
+
+// Takes the next item out of the ring.
+fn pass(consumer: &mut Consumer<FromClient>) -> Result<(), Fail> {
+    drop(consumer.pop()?);
+    Ok(())
+}
+
+// Puts what these octets are due into a ring of eight, and gives how that ended, and the ring's other end.
+fn ring_of(
+    alloc: Global,
+    asked: &[u8],
+) -> Result<(Result<(), ListenFault>, Consumer<FromClient>), Fail> {
+    let (producer, consumer) = RingBuffer::new(alloc, 8)?;
+    let mut asked = asked;
+    let (outcome, _finished) = read_transport(&AtOnce, alloc, &mut asked, producer, 9);
+    Ok((outcome, consumer))
+}
+
 #[test]
 fn puts_what_the_frames_hold(rt: HostRuntime) -> Result<(), Fail> {
-    let (producer, mut consumer) = RingBuffer::new(rt.alloc(), 8)?;
-    let mut asked = &b"\0\0\0\x0F[32,1,{},\"a.b\"]\x01\0\0\x02AB\x02\0\0\x01C"[..];
-    let (outcome, _finished) = read_transport(&AtOnce, rt.alloc(), &mut asked, producer, 9);
+    let asked = &b"\0\0\0\x0F[32,1,{},\"a.b\"]\x01\0\0\x02AB\x02\0\0\x01C"[..];
+    let (outcome, mut consumer) = ring_of(rt.alloc(), asked)?;
     assert_eq!(rt; outcome, Ok(()));
-    assert!(rt; consumer.pop().is_ok());
+    pass(&mut consumer)?;
     for octets in [&b"[32,1,{},\"a.b\"]"[..], b"AB"] {
-        let item = consumer.pop()?;
-        assert!(rt; holds(rt.alloc(), &item, octets)?, "{octets:?}");
+        assert!(rt;
+            next_holds(rt.alloc(), &mut consumer, octets)?,
+            "{octets:?}"
+        );
     }
     Ok(())
 }
@@ -487,5 +519,23 @@ fn ten_thousand_messages_are_written_out_of_a_ring_of_64(rt: HostRuntime) -> Res
     let outcome = write_transport(&AtOnce, rt.alloc(), consumer, &mut stream, 512, u64::MAX);
     assert_eq!(rt; outcome, Ok(()));
     assert!(rt; stream.answered.as_slice() == frames(rt.alloc())?.as_slice());
+    Ok(())
+}
+
+#[test]
+fn an_outbox_keeps_frames_until_they_are_written(rt: HostRuntime) -> Result<(), Fail> {
+    let wide = vec![in rt.alloc(); b'x'; 513]?;
+    let mut outbox = Outbox::new(rt.alloc(), 512);
+    let mut wire = Wire::new(rt.alloc(), b"", 64, Some(0));
+    assert_eq!(rt; outbox.put(FrameKind::Pong, b"ab".as_slice()), Ok(()));
+    assert_eq!(rt;
+        outbox.put(FrameKind::Message, &wide),
+        Err(ListenFault::Wide)
+    );
+    assert_eq!(rt; outbox.write_to(&mut wire), Err(ListenFault::Write));
+    assert_eq!(rt; outbox.len(), 6);
+    assert_eq!(rt; outbox.write_to(&mut wire), Ok(()));
+    assert_eq!(rt; outbox.len(), 0);
+    assert_eq!(rt; wire.answered.as_slice(), b"\x02\0\0\x02ab".as_slice());
     Ok(())
 }

@@ -1,0 +1,250 @@
+// Rows on open calls.
+ghost use Rattle.std.specs.Prelude.{◌≡◌};
+ghost use Rattle.realm_sessions.specs.Links.{has_number};
+
+use realm_calls::{Calls, Cancelled, Open};
+use realm_sessions::RealmFault;
+use std::process::Abort;
+use std::test::Fail;
+use wamp_ids::{Id, Mode};
+
+fn id(number: u64) -> Result<Id, Fail> {
+    Ok(Id::new(number).ok_or("no id")?)
+}
+
+// Two numbers as one, of which the second has so many digits.
+fn pair(first: u64, second: u64, scale: u64) -> u64 {
+    first.wrapping_mul(scale).wrapping_add(second)
+}
+
+// A call as a number: its caller's digit, then its request's.
+fn number_of(call: &Open) -> u64 {
+    pair(call.caller.get(), call.request.get(), 10)
+}
+
+// The calls' numbers, one behind the other.
+fn numbers_of(calls: &[Open]) -> u64 {
+    let mut numbers = 0;
+    for call in calls {
+        numbers = pair(numbers, number_of(call), 100);
+    }
+    numbers
+}
+
+// The ids' digits, one behind the other.
+fn digits_of(ids: &[Id]) -> u64 {
+    let mut digits = 0;
+    for id in ids {
+        digits = pair(digits, id.get(), 10);
+    }
+    digits
+}
+
+fn digit_of(interrupt: Option<Mode>) -> u64 {
+    match interrupt {
+        None => 0,
+        Some(Mode::Skip) => 1,
+        Some(Mode::Kill) => 2,
+        Some(Mode::KillNoWait) => 3,
+    }
+}
+
+// The call's number, 1 where it ended, and the mode of the INTERRUPT, from 1 on, or 0.
+fn number_of_cancelled(cancelled: &Cancelled) -> u64 {
+    let ended = if cancelled.is_ended { 1 } else { 0 };
+    let outcome = pair(ended, digit_of(cancelled.interrupt), 10);
+    pair(number_of(&cancelled.call), outcome, 100)
+}
+
+fn answer_of(given: Result<u64, RealmFault>) -> u64 {
+    match given {
+        Ok(answer) => answer,
+        Err(fault) => fault.number() as u64,
+    }
+}
+
+fn is_among(ids: &[Id], id: Id) -> bool
+    ensures { result ≡ has_number ids.now id }
+{
+    ids.iter().any(|other| *other == id)
+}
+
+// The fault's number, or 0; 1 where the request or the invocation is open.
+fn opened(calls: &mut Calls, call: &Open) -> Result<u64, Fail> {
+    let taken = calls.open_of(call.callee)?;
+    if is_among(&taken, call.invocation) || calls.has(call.caller, call.request) {
+        return Ok(1);
+    }
+    let given = calls.open(call.caller, call.request, call.callee, call.invocation);
+    Ok(answer_of(given.map(|()| 0)))
+}
+
+fn canceled(calls: &mut Calls, call: &Open, mode: Mode, announces: bool) -> u64 {
+    let given = calls.cancel(call.caller, call.request, mode, announces);
+    answer_of(given.map(|cancelled| number_of_cancelled(&cancelled)))
+}
+
+// What one step answers.
+fn step(calls: &mut Calls, word: &str, call: &Open) -> Result<u64, Fail> {
+    if word == "open" {
+        return opened(calls, call);
+    }
+    if word == "has" {
+        return Ok(if calls.has(call.caller, call.request) {
+            1
+        } else {
+            0
+        });
+    }
+    if word == "full" {
+        return Ok(if calls.is_full(call.caller) { 1 } else { 0 });
+    }
+    if word == "invocations" {
+        let found = calls.open_of(call.callee)?;
+        return Ok(digits_of(&found));
+    }
+    if word == "answer" {
+        let given = calls.answer(call.callee, call.invocation);
+        return Ok(answer_of(given.map(|call| number_of(&call))));
+    }
+    if word == "callee leaves" {
+        let ended = calls.leave_callee(call.callee)?;
+        return Ok(numbers_of(&ended));
+    }
+    if word == "caller leaves" {
+        let ended = calls.leave_caller(call.caller)?;
+        return Ok(numbers_of(&ended));
+    }
+    if word == "open calls" {
+        return Ok(numbers_of(calls.as_slice()));
+    }
+    if word == "callee" {
+        return Ok(match calls.call_of(call.caller, call.request) {
+            Some(found) => found.callee.get(),
+            None => 0,
+        });
+    }
+    Ok(stopped(calls, word, call))
+}
+
+// A cancellation: the mode, and whether the callee announced it.
+fn stopped(calls: &mut Calls, word: &str, call: &Open) -> u64 {
+    if word == "skip" {
+        return canceled(calls, call, Mode::Skip, true);
+    }
+    if word == "kill" {
+        return canceled(calls, call, Mode::Kill, true);
+    }
+    if word == "kill unannounced" {
+        return canceled(calls, call, Mode::Kill, false);
+    }
+    canceled(calls, call, Mode::KillNoWait, true)
+}
+
+// One table: the word, then caller, request, callee and invocation, and the answer.
+fn goes(
+    rt: &impl Abort,
+    calls: &mut Calls,
+    rows: &[(&'static str, u64, u64, u64, u64, u64)],
+) -> Result<(), Fail> {
+    for (word, caller, request, callee, invocation, answer) in rows {
+        let call = Open {
+            caller: id(*caller)?,
+            request: id(*request)?,
+            callee: id(*callee)?,
+            invocation: id(*invocation)?,
+        };
+        let given = step(calls, word, &call)?;
+        assert_eq!(rt;
+            given,
+            *answer,
+            "{word} {caller} {request} {callee} {invocation}"
+        );
+    }
+    Ok(())
+}
+
+#[test]
+fn opens_and_answers_calls(rt: HostRuntime) -> Result<(), Fail> {
+    let mut calls = Calls::new(rt.alloc(), 2);
+    goes(
+        &rt,
+        &mut calls,
+        &[
+            ("has", 1, 5, 9, 1, 0),
+            ("full", 1, 5, 9, 1, 0),
+            ("open", 1, 5, 9, 1, 0),
+            ("open", 1, 5, 9, 2, 1),
+            ("open", 2, 5, 9, 1, 1),
+            ("has", 1, 5, 9, 1, 1),
+            ("callee", 1, 5, 1, 1, 9),
+            ("open", 1, 6, 1, 1, 0),
+            ("full", 1, 5, 9, 1, 1),
+            ("open", 1, 7, 9, 2, 103),
+            ("full", 2, 5, 9, 1, 0),
+            ("open", 2, 5, 9, 3, 0),
+            ("open", 2, 6, 1, 2, 0),
+            ("invocations", 1, 1, 9, 1, 13),
+            ("invocations", 1, 1, 1, 1, 12),
+            ("invocations", 1, 1, 3, 1, 0),
+            ("open calls", 1, 1, 1, 1, 15_16_25_26),
+            ("answer", 1, 1, 9, 2, 108),
+            ("answer", 1, 1, 9, 3, 25),
+            ("answer", 1, 1, 9, 3, 108),
+            ("has", 2, 5, 9, 3, 0),
+            ("callee", 2, 5, 1, 1, 0),
+            ("full", 2, 5, 9, 1, 0),
+            ("open", 2, 7, 9, 3, 0),
+            ("open calls", 1, 1, 1, 1, 15_16_26_27),
+        ],
+    )
+}
+
+#[test]
+fn cancels_calls(rt: HostRuntime) -> Result<(), Fail> {
+    let mut calls = Calls::new(rt.alloc(), 4);
+    goes(
+        &rt,
+        &mut calls,
+        &[
+            ("kill", 2, 5, 1, 1, 108),
+            ("open", 2, 5, 9, 1, 0),
+            ("open", 2, 6, 9, 2, 0),
+            ("open", 2, 7, 9, 3, 0),
+            ("kill", 2, 5, 1, 1, 25_02),
+            ("kill", 2, 5, 1, 1, 25_02),
+            ("has", 2, 5, 1, 1, 1),
+            ("kill no wait", 2, 5, 1, 1, 25_13),
+            ("kill", 2, 5, 1, 1, 108),
+            ("answer", 1, 1, 9, 1, 108),
+            ("skip", 2, 6, 1, 1, 26_10),
+            ("skip", 2, 6, 1, 1, 108),
+            ("kill unannounced", 2, 7, 1, 1, 27_10),
+            ("open calls", 1, 1, 1, 1, 0),
+        ],
+    )
+}
+
+#[test]
+fn ends_the_calls_of_a_session(rt: HostRuntime) -> Result<(), Fail> {
+    let mut calls = Calls::new(rt.alloc(), 4);
+    goes(
+        &rt,
+        &mut calls,
+        &[
+            ("open", 4, 1, 5, 1, 0),
+            ("open", 4, 2, 4, 1, 0),
+            ("open", 3, 5, 4, 2, 0),
+            ("open", 2, 6, 4, 3, 0),
+            ("open", 3, 7, 2, 1, 0),
+            ("open", 4, 3, 2, 2, 0),
+            ("callee leaves", 1, 1, 4, 1, 35_26),
+            ("open calls", 1, 1, 1, 1, 41_42_37_43),
+            ("caller leaves", 4, 1, 1, 1, 41_43),
+            ("open calls", 1, 1, 1, 1, 37),
+            ("callee leaves", 1, 1, 4, 1, 0),
+            ("caller leaves", 4, 1, 1, 1, 0),
+            ("open calls", 1, 1, 1, 1, 37),
+        ],
+    )
+}

@@ -1,0 +1,348 @@
+use crate::Number;
+use paxos_packets::{Ballot, Body, Entries, Entry, Members, Slot, Vote, Votes};
+use paxos_proposer::{Move, Proposer, ProposerFault};
+use std::alloc::Global;
+use std::process::Abort;
+use std::test::Fail;
+
+// A vote that a promise reports: for the Boot of this node, in the slot and the ballot.
+#[derive(Clone, Copy)]
+struct Report {
+    slot: u64,
+    ballot: Ballot,
+    node: u8,
+}
+
+const NONE: &[Report] = &[];
+
+const fn ballot(round: u64, node: u8) -> Ballot {
+    Ballot { round, node }
+}
+
+const fn reported(slot: u64, ballot: Ballot, node: u8) -> Report {
+    Report { slot, ballot, node }
+}
+
+fn proposer(alloc: Global) -> Option<Proposer<Number>> {
+    Some(Proposer::new(alloc, 1, Members::new(3)?))
+}
+
+fn votes(alloc: Global, reports: &[Report]) -> Result<Votes<Number>, Fail> {
+    let mut votes = Votes::new(alloc);
+    for report in reports {
+        votes.put(Vote {
+            slot: Slot::new(report.slot).ok_or("a slot")?,
+            ballot: report.ballot,
+            entry: boot(report.node),
+        })?;
+    }
+    Ok(votes)
+}
+
+// The act of this number, with this body.
+fn item(body: u32) -> Entry<Number> {
+    Entry::Item {
+        node: 2,
+        boot: 1,
+        seq: 1,
+        transport: 1,
+        body: Number::new(body),
+    }
+}
+
+fn boot(node: u8) -> Entry<Number> {
+    Entry::Boot { node, boot: 1 }
+}
+
+// The nodes whose Boots these entries are, 0 for a Noop; another entry is 9.
+fn boots(alloc: Global, entries: &Entries<Number>) -> Result<Vec<u8>, Fail> {
+    let mut nodes = Vec::new(alloc);
+    for entry in entries.as_slice() {
+        nodes.push(match entry {
+            Entry::Noop => 0,
+            Entry::Boot { node, .. } => *node,
+            Entry::Lost { .. } | Entry::Item { .. } => 9,
+        })?;
+    }
+    Ok(nodes)
+}
+
+fn start(
+    alloc: Global,
+    proposer: &mut Proposer<Number>,
+    first: u64,
+) -> Result<Result<Ballot, ProposerFault>, Fail> {
+    if first == 0 {
+        return Err("no slot is numbered 0")?;
+    }
+    Ok(proposer.start(first, votes(alloc, NONE)?))
+}
+
+// Counts a promise with these reports: whether the proposer leads then, and the Boots that it is to propose.
+fn promise(
+    alloc: Global,
+    proposer: &mut Proposer<Number>,
+    node: u8,
+    ballot: Ballot,
+    reports: &[Report],
+) -> Result<Option<Vec<u8>>, Fail> {
+    let reported = votes(alloc, reports)?;
+    match proposer.on_promise(node, ballot, reported)? {
+        Some(called) => Ok(Some(boots(alloc, &called)?)),
+        None => Ok(None),
+    }
+}
+
+// A fault as its number.
+fn fault_of(fault: ProposerFault) -> u64 {
+    fault.number() as u64
+}
+
+// A ballot as one number, 0 where there is none.
+fn shown(ballot: Option<Ballot>) -> u64 {
+    match ballot {
+        Some(ballot) => ballot
+            .round
+            .wrapping_mul(10)
+            .wrapping_add(ballot.node as u64),
+        None => 0,
+    }
+}
+
+// The ballot of such a number.
+fn told(number: u64) -> Ballot {
+    Ballot {
+        round: number / 10,
+        node: (number % 10) as u8,
+    }
+}
+
+// No entry for 0, the Boot of a node up to 9, and above that an act with this body.
+fn entry_of(number: u64) -> Entry<Number> {
+    if number == 0 {
+        return Entry::Noop;
+    }
+    if number <= 9 {
+        return boot(number as u8);
+    }
+    item((number % 1_000) as u32)
+}
+
+fn started(alloc: Global, proposer: &mut Proposer<Number>, first: u64) -> Result<u64, Fail> {
+    match start(alloc, proposer, first)? {
+        Ok(ballot) => Ok(shown(Some(ballot))),
+        Err(fault) => Ok(fault_of(fault)),
+    }
+}
+
+// 0 where it does not lead by this promise, else how many entries it is to propose, and 1.
+fn promised(
+    alloc: Global,
+    proposer: &mut Proposer<Number>,
+    node: u64,
+    ballot: u64,
+) -> Result<u64, Fail> {
+    match promise(alloc, proposer, (node % 8) as u8, told(ballot), NONE)? {
+        Some(called) => Ok((called.len() as u64).wrapping_add(1)),
+        None => Ok(0),
+    }
+}
+
+fn submitted(proposer: &mut Proposer<Number>, number: u64) -> u64 {
+    match proposer.submit(entry_of(number)) {
+        Ok(slot) => slot.get(),
+        Err(fault) => fault_of(fault),
+    }
+}
+
+fn next(proposer: &Proposer<Number>) -> u64 {
+    match proposer.next() {
+        Ok(slot) => slot.get(),
+        Err(fault) => fault_of(fault),
+    }
+}
+
+// What one step answers.
+fn step(
+    alloc: Global,
+    proposer: &mut Proposer<Number>,
+    word: &str,
+    one: u64,
+    other: u64,
+) -> Result<u64, Fail> {
+    if word == "start" {
+        return started(alloc, proposer, one);
+    }
+    if word == "promise" {
+        return promised(alloc, proposer, one, other);
+    }
+    if word == "submit" {
+        return Ok(submitted(proposer, one));
+    }
+    Ok(told_step(proposer, word, one, other))
+}
+
+// What a step answers that needs no memory.
+fn told_step(proposer: &mut Proposer<Number>, word: &str, one: u64, other: u64) -> u64 {
+    if word == "saw" {
+        proposer.saw(one);
+        return 0;
+    }
+    if word == "nack" {
+        proposer.on_nack(told(one), told(other));
+        return 0;
+    }
+    if word == "step down" {
+        proposer.step_down(told(one));
+        return 0;
+    }
+    if word == "next" {
+        return next(proposer);
+    }
+    if word == "stands" {
+        return proposer.stands(one, &entry_of(other)) as u64;
+    }
+    if word == "leads" {
+        return proposer.is_leading() as u64;
+    }
+    shown(proposer.ballot())
+}
+
+// What is done, with which numbers, and what is answered.
+fn check(rt: &impl Abort, alloc: Global, rows: &[(&str, u64, u64, u64)]) -> Result<(), Fail> {
+    let mut proposer = proposer(alloc).ok_or("3 members")?;
+    for (word, one, other, answer) in rows {
+        let given = step(alloc, &mut proposer, word, *one, *other)?;
+        assert_eq!(rt; given, *answer, "{word} {one} {other}");
+    }
+    Ok(())
+}
+
+#[test]
+fn a_first_ballot_leads_by_a_majority(rt: HostRuntime) -> Result<(), Fail> {
+    let rows = [
+        ("submit", 0, 0, 53),
+        ("ballot", 0, 0, 0),
+        ("start", 1, 0, 11),
+        ("leads", 0, 0, 0),
+        ("submit", 0, 0, 53),
+        // its own was counted, and another ballot's is not
+        ("promise", 1, 11, 0),
+        ("promise", 3, 13, 0),
+        ("leads", 0, 0, 0),
+        ("promise", 2, 11, 1),
+        ("leads", 0, 0, 1),
+        ("submit", 1, 0, 1),
+        ("submit", 0, 0, 2),
+        ("next", 0, 0, 3),
+    ];
+    check(&rt, rt.alloc(), rows.as_slice())
+}
+
+#[test]
+fn rounds_and_slots_end(rt: HostRuntime) -> Result<(), Fail> {
+    let rows = [
+        ("saw", 281_474_976_710_654, 0, 0),
+        ("start", 1_099_511_627_775, 0, 2_814_749_767_106_551),
+        ("start", 1, 0, 51),
+        ("ballot", 0, 0, 2_814_749_767_106_551),
+        ("promise", 2, 2_814_749_767_106_551, 1),
+        ("submit", 1, 0, 1_099_511_627_775),
+        ("submit", 1, 0, 52),
+        ("next", 0, 0, 52),
+    ];
+    assert_eq!(rt; ProposerFault::Memory.number(), 54);
+    check(&rt, rt.alloc(), rows.as_slice())
+}
+
+#[test]
+fn a_greater_ballot_ends_its_own(rt: HostRuntime) -> Result<(), Fail> {
+    let rows = [
+        ("start", 1, 0, 11),
+        ("step down", 11, 0, 0),
+        ("nack", 11, 11, 0),
+        ("nack", 12, 22, 0),
+        ("ballot", 0, 0, 11),
+        ("nack", 11, 12, 0),
+        ("ballot", 0, 0, 0),
+        ("start", 1, 0, 21),
+        ("promise", 3, 21, 1),
+        ("step down", 22, 0, 0),
+        ("leads", 0, 0, 0),
+        ("submit", 1, 0, 53),
+    ];
+    check(&rt, rt.alloc(), rows.as_slice())
+}
+
+#[test]
+fn a_proposal_stands_until_it_is_applied(rt: HostRuntime) -> Result<(), Fail> {
+    let rows = [
+        ("stands", 0, 1, 0),
+        ("start", 1, 0, 11),
+        ("promise", 2, 11, 1),
+        ("submit", 17, 0, 1),
+        ("submit", 1, 0, 2),
+        ("stands", 0, 17, 1),
+        ("stands", 1, 17, 0),
+        ("stands", 0, 18, 0),
+        ("stands", 1, 1, 1),
+        ("stands", 1, 2, 0),
+        ("stands", 0, 0, 0),
+        ("submit", 17, 0, 3),
+        ("stands", 2, 17, 1),
+    ];
+    check(&rt, rt.alloc(), rows.as_slice())
+}
+
+// The Boots that a proposer of five members is to propose, once these two promises were counted.
+fn called_by(alloc: Global, one: &[Report], other: &[Report]) -> Result<Option<Vec<u8>>, Fail> {
+    let members = Members::new(5).ok_or("5 members")?;
+    let mut proposer = Proposer::new(alloc, 1, members);
+    proposer.saw(8);
+    let own = ballot(9, 1);
+    drop(start(alloc, &mut proposer, 2)?);
+    drop(promise(alloc, &mut proposer, 2, own, one)?);
+    promise(alloc, &mut proposer, 4, own, other)
+}
+
+#[test]
+fn the_greatest_ballot_is_called_for(rt: HostRuntime) -> Result<(), Fail> {
+    let one = [
+        reported(1, ballot(8, 2), 7),
+        reported(2, ballot(4, 2), 2),
+        reported(3, ballot(3, 3), 3),
+        reported(5, ballot(2, 2), 5),
+    ];
+    let other = [
+        reported(2, ballot(4, 1), 3),
+        reported(3, ballot(4, 1), 4),
+        reported(5, ballot(2, 2), 6),
+    ];
+    let called = called_by(rt.alloc(), &one, &other)?.ok_or("it leads")?;
+    assert_eq!(rt; called.as_slice(), [2, 4, 0, 6].as_slice());
+    Ok(())
+}
+
+#[test]
+fn gaps_are_filled(rt: HostRuntime) -> Result<(), Fail> {
+    let one = [reported(4, ballot(1, 2), 2)];
+    let called = called_by(rt.alloc(), &one, NONE)?.ok_or("it leads")?;
+    assert_eq!(rt; called.as_slice(), [0, 0, 2].as_slice());
+    Ok(())
+}
+
+// Does this move in the room made for it, and starts.
+fn moved(alloc: Global, round: u64) -> Result<u64, Fail> {
+    let mut proposer = proposer(alloc).ok_or("3 members")?;
+    let mut moves = Vec::new(alloc);
+    moves.push(Move::Saw { round })?;
+    proposer.make_room_for(&moves)?;
+    proposer.move_in_room(moves);
+    started(alloc, &mut proposer, 1)
+}
+
+#[test]
+fn moves_are_done_in_the_room_made_for_them(rt: HostRuntime) -> Result<(), Fail> {
+    assert_eq!(rt; moved(rt.alloc(), 6)?, 71);
+    Ok(())
+}
