@@ -3,4 +3,10 @@
 #![tactic(auto)]
 
 #[cfg(test)]
-mod listener;
+mod greeting;
+#[cfg(test)]
+mod reading;
+#[cfg(test)]
+mod streams;
+#[cfg(test)]
+mod writing;
