@@ -1,3 +1,4 @@
 pub mod Ahead
 pub mod Counting
+pub mod Keeping
 pub mod Overlay

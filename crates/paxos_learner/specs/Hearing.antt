@@ -1,5 +1,5 @@
 -- What a learner is to hear, and what it would be then, told of the learner as it is and of what is new.
-use Rattle.std.specs.Prelude.{◌≡◌, ℕ, Option, Some, None, List, [], ◌∷◌, ◌++◌, fold}
+use Rattle.std.specs.Prelude.{◌≡◌, ◌≤◌, ℕ, true, Option, Some, None, List, [], ◌∷◌, ◌++◌, fold, length}
 use Rattle.std.specs.Option.{option_or, unwrap_or}
 use Rattle.std.specs.Map.{lookup}
 use Rattle.paxos_packets.specs.declared.entry.Entry.{Entry}
@@ -9,7 +9,7 @@ use Rattle.paxos_learner.specs.declared.hearing.News.TheVariants.{Cast, Told}
 use Rattle.paxos_learner.specs.declared.learned.LearnedEntry.{LearnedEntry}
 use Rattle.paxos_learner.specs.declared.tallies.Place.{Place}
 use Rattle.paxos_learner.specs.Tallies.{Heard, same_place, nodes_heard}
-use Rattle.paxos_learner.specs.Learner.{LearnerState, State, learned_at, put_learned, voted, told}
+use Rattle.paxos_learner.specs.Learner.{LearnerState, State, Held, has_room_at, learned_at, put_learned, voted, told}
 
 -- a vote that was cast, or an entry that is told
 abbrev pub hear_news : {B : Type 0} → News B → State B → State B
@@ -44,3 +44,19 @@ gain slot e None gained = put_learned (record { slot = slot; entry = e }) gained
 pub record IsOver {B : Type 0} (changed : Heard) (gained : List (LearnedEntry B)) (old new : LearnerState B) : Type 0 where
   pub heard : (p : Place) → nodes_heard p new.heard ≡ unwrap_or (lookup (same_place p) changed) (nodes_heard p old.heard)
   pub learned : (slot : ℕ) → learned_at slot new.learned ≡ over slot gained old.learned
+
+-- room for it
+
+abbrev pub slot_of : {B : Type 0} → News B → ℕ
+slot_of (Cast node v) = v.slot
+slot_of (Told slot e) = slot
+
+-- there is a place for the entry of each
+abbrev pub HavePlaces : {B : Type 0} → List (News B) → Held B → Type 0
+HavePlaces [] l = Unit {0}
+HavePlaces (n ∷ ns) l = (has_room_at (slot_of n) l ≡ true) × HavePlaces ns l
+
+-- and for their votes
+pub record HasRoomFor {B : Type 0} (news : List (News B)) (l : Held B) : Type 0 where
+  pub votes : length news ≤ l.room.votes
+  pub places : HavePlaces news l

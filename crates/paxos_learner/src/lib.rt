@@ -6,6 +6,7 @@ mod fault;
 mod hearing;
 mod learned;
 mod learner;
+mod room;
 mod tallies;
 
 pub use fault::LearnerFault;

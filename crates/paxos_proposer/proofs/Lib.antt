@@ -1,3 +1,4 @@
+pub mod Drafting
 pub mod Listing
 pub mod Majority
 pub mod NextBallot

@@ -4,6 +4,7 @@ pub mod Moves
 pub mod Promises
 pub mod Proposals
 pub mod Proposer
+pub mod Proposing
 pub mod Reports
 pub mod Role
 pub mod State

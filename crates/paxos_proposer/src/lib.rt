@@ -10,6 +10,7 @@ mod phase;
 mod promises;
 mod proposals;
 mod proposer;
+mod proposing;
 mod reports;
 
 pub use fault::ProposerFault;
@@ -18,3 +19,4 @@ pub use moves::Move;
 pub use promises::CountedPromise;
 pub use proposals::Proposals;
 pub use proposer::Proposer;
+pub use proposing::{Offer, Proposing};

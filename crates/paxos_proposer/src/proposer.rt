@@ -4,6 +4,8 @@ ghost use Rattle.paxos_proposer.specs.Promises.{counts, called_by};
 ghost use Rattle.paxos_proposer.specs.Proposals.{stands};
 ghost use Rattle.paxos_proposer.specs.Proposer.{own_ballot, is_spent, is_leading, slots_spent, next_slot, ballot_of, is_below, is_refused};
 ghost use Rattle.paxos_proposer.specs.Role.{Idle};
+ghost use Rattle.paxos_proposer.specs.Proposing.{promises_of, proposals_of};
+ghost use Rattle.paxos_proposer.specs.State.{role_of, IsAboveNone};
 ghost use Rattle.paxos_proposer.specs.State.{HasRoom, role_in, with_role, begun, saw, started, after_promise, after_submit, after_nack};
 ghost use Rattle.paxos_proposer.specs.State.{stepped_down};
 
@@ -17,7 +19,7 @@ use std::alloc::Global;
 use std::marker::Model;
 
 // The last round of a ballot.
-const LAST_ROUND: u64 = (1 << 48) - 1;
+pub(crate) const LAST_ROUND: u64 = (1 << 48) - 1;
 
 /// One member as a proposer: its ballot under way with the promises of it, or, once a majority promised, with what it proposed in it;
 /// and the greatest round that it saw. It is lost in a crash.
@@ -127,6 +129,28 @@ impl<B> Proposer<B> {
         ensures room { self.new.room ≡ self.old.room }
     {
         self.seen = self.seen.max(round);
+    }
+
+    // Its number.
+    pub(crate) fn me(&self) -> u8
+        ensures { result ≡ self.now.state.me }
+    {
+        self.me
+    }
+
+    // The greatest round that it saw.
+    pub(crate) fn seen(&self) -> u64
+        ensures { result ≡ self.now.state.proposer.seen }
+    {
+        self.seen
+    }
+
+    // What it does.
+    pub(crate) fn phase(&self) -> Phase
+        ensures role { role_in self.now ≡ role_of result (promises_of (role_in self.now)) (proposals_of (role_in self.now)) }
+        ensures above { IsAboveNone result }
+    {
+        self.phase
     }
 
     // Whether a promise of this ballot by this node is to be counted.

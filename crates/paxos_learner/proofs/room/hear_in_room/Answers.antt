@@ -1,0 +1,22 @@
+use Rattle.std.proofs.Common.{◌≡◌, ℕ, suc, ◌+◌, ◌≤◌, List, ◌∷◌, length, ap, subst, ◌∙◌, arith, rules}
+use Rattle.std.specs.Vec.Iter.{into_iter_items}
+use Rattle.paxos_learner.specs.declared.hearing.News.{News}
+use Rattle.paxos_learner.specs.Hearing.{hear_all, HasRoomFor}
+use Rattle.paxos_learner.specs.Learner.{State}
+use Rattle.paxos_learner.proofs.Keeping.{kept_places}
+use Rattle.paxos_learner.proofs.room.hear_in_room.Goals as goal
+
+pub loop-one-preserved : goal.loop-one-preserved
+loop-one-preserved g c =
+    let rest : List (News g.row.B.Denot) = into_iter_items c.next.new.self in
+    let step : into_iter_items c.loop-one.one-iterator ≡ c.in-Some.one ∷ rest = search rules in
+    let room : HasRoomFor (c.in-Some.one ∷ rest) c.loop-one.learner =
+    subst (λ (ns : List (News g.row.B.Denot)). HasRoomFor ns c.loop-one.learner) step c.loop-one.invariant.1 in
+    let heard : hear_all (c.in-Some.one ∷ rest) c.loop-one.learner.state ≡ hear_all c.args.news.items c.args.learner.now.state =
+    subst (λ (ns : List (News g.row.B.Denot)). hear_all ns c.loop-one.learner.state ≡ hear_all c.args.news.items c.args.learner.now.state) step
+    c.loop-one.invariant.0 in
+    let had : suc (length rest) ≤ c.loop-one.learner.room.votes = room.votes in
+    let left : c.loop-one.learner.room.votes ≤ c.hear_one.new.learner.room.votes + 1 = c.hear_one.ensures.votes in (
+      ap (λ (s : State g.row.B.Denot). hear_all rest s) c.hear_one.ensures.state ∙ heard,
+      record { votes = omega arith; places = kept_places rest c.loop-one.learner c.hear_one.new.learner c.hear_one.ensures.places room.places.1 },
+    )

@@ -1,0 +1,26 @@
+use Rattle.std.proofs.Common.{◌≡◌, max, List, [], ◌∷◌, ◌++◌, ◌∙◌, ap, rules}
+use Rattle.paxos_proposer.specs.declared.moves.Move.{Move}
+use Rattle.paxos_proposer.specs.declared.moves.Move.TheVariants.{Saw}
+use Rattle.paxos_proposer.specs.Moves.{after_moves}
+use Rattle.paxos_proposer.specs.Proposing.{Draft, after}
+use Rattle.paxos_proposer.specs.State.{State, saw}
+use Rattle.paxos_proposer.proofs.Drafting as d
+use Rattle.paxos_proposer.proofs.proposing.Proposing.saw.Goals as goal
+
+pub invariant_of-self-2 : goal.invariant_of-self-2
+invariant_of-self-2 g c =
+    let s : State g.row.B.Denot = c.self.inside.proposer.now.state in
+    let now : State g.row.B.Denot = after_moves c.self.inside.moves.items s in
+    let items : c.push_reserved.new.self.items ≡ c.self.inside.moves.items ++ Saw c.args.round ∷ [] =
+    c.push_reserved.ensures.items ∙ ap (λ (ms : List (Move g.row.B.Denot)). ms ++ Saw c.args.round ∷ []) c.reserve.ensures.items in
+    let later : c.max-self-inside.result ≡ max c.self.inside.seen c.args.round = search rules in
+    d.told_more _ _ _ _ c.self.inside.moves.items _ (Saw c.args.round) s items c.self.invariant.1 tt
+    (d.told_saw c.self.inside.seen c.args.round _ _ _ _ s now c.self.invariant.0 later)
+
+pub returns-clause-after : goal.returns-clause-after
+returns-clause-after g c =
+    let s : State g.row.B.Denot = c.self.inside.proposer.now.state in
+    let now : State g.row.B.Denot = after_moves c.self.inside.moves.items s in
+    let items : c.push_reserved.new.self.items ≡ c.self.inside.moves.items ++ Saw c.args.round ∷ [] =
+    c.push_reserved.ensures.items ∙ ap (λ (ms : List (Move g.row.B.Denot)). ms ++ Saw c.args.round ∷ []) c.reserve.ensures.items in
+    d.after_more c.self.inside.moves.items _ (Saw c.args.round) s items ∙ ap (λ (a : Draft g.row.B.Denot). saw c.args.round (after a)) c.self.view_is

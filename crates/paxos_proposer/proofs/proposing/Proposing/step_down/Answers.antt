@@ -1,0 +1,29 @@
+use Rattle.std.proofs.Common.{◌≡◌, true, List, [], ◌∷◌, ◌++◌, ◌∙◌, ap, sym, rules}
+use Rattle.paxos_proposer.specs.declared.moves.Move.{Move}
+use Rattle.paxos_proposer.specs.declared.moves.Move.TheVariants.{SteppedDown}
+use Rattle.paxos_proposer.specs.Moves.{after_moves}
+use Rattle.paxos_proposer.specs.Proposer.{is_below}
+use Rattle.paxos_proposer.specs.Proposing.{Draft, after}
+use Rattle.paxos_proposer.specs.State.{State, stepped_down}
+use Rattle.paxos_proposer.proofs.Drafting as d
+use Rattle.paxos_proposer.proofs.proposing.Proposing.step_down.Goals as goal
+
+pub invariant_of-self-2 : goal.invariant_of-self-2
+invariant_of-self-2 g c =
+    let s : State g.row.B.Denot = c.self.inside.proposer.now.state in
+    let now : State g.row.B.Denot = after_moves c.self.inside.moves.items s in
+    let items : c.push_reserved.new.self.items ≡ c.self.inside.moves.items ++ SteppedDown c.args.ballot ∷ [] =
+    c.push_reserved.ensures.items ∙ ap (λ (ms : List (Move g.row.B.Denot)). ms ++ SteppedDown c.args.ballot ∷ []) c.reserve.ensures.items in
+    let f : c.is_below.result ≡ true = search rules in
+    let over : is_below c.args.ballot now.proposer.role ≡ true =
+    ap (λ (a : Draft g.row.B.Denot). is_below c.args.ballot (after a).proposer.role) c.self.view_is ∙ sym c.is_below.ensures ∙ f in
+    d.told_more _ _ _ _ c.self.inside.moves.items _ (SteppedDown c.args.ballot) s items c.self.invariant.1 tt
+    (d.told_rest c.self.inside.seen _ _ _ _ s now _ c.self.invariant.0 (d.goes_down c.args.ballot now.proposer.role over))
+
+pub returns-clause-after : goal.returns-clause-after
+returns-clause-after g c =
+    let s : State g.row.B.Denot = c.self.inside.proposer.now.state in
+    let now : State g.row.B.Denot = after_moves c.self.inside.moves.items s in
+    let items : c.push_reserved.new.self.items ≡ c.self.inside.moves.items ++ SteppedDown c.args.ballot ∷ [] =
+    c.push_reserved.ensures.items ∙ ap (λ (ms : List (Move g.row.B.Denot)). ms ++ SteppedDown c.args.ballot ∷ []) c.reserve.ensures.items in
+    d.after_more c.self.inside.moves.items _ (SteppedDown c.args.ballot) s items ∙ ap (λ (a : Draft g.row.B.Denot). stepped_down c.args.ballot (after a)) c.self.view_is

@@ -1,0 +1,64 @@
+-- What an event is to make of a proposer, and what the proposer would be then, told of the proposer as it is and of what is new.
+use Rattle.std.specs.Prelude.{◌≡◌, ℕ, Bool, nat_lt, Option, Some, None, List, [], ◌∷◌, ◌++◌, if◌then◌else◌}
+use Rattle.paxos_packets.specs.declared.vote.Vote.{Vote}
+use Rattle.paxos_proposer.specs.declared.phase.Phase.{Phase}
+use Rattle.paxos_proposer.specs.declared.phase.Phase.TheVariants as Kept
+use Rattle.paxos_proposer.specs.declared.promises.CountedPromise.{CountedPromise}
+use Rattle.paxos_proposer.specs.declared.proposing.Offer.{Offer}
+use Rattle.paxos_proposer.specs.declared.moves.Move.{Move}
+use Rattle.paxos_proposer.specs.Proposer.{slot_end}
+use Rattle.paxos_proposer.specs.Role.{Role, Idle, Preparing, Leading}
+use Rattle.paxos_proposer.specs.Moves.{after_moves}
+use Rattle.paxos_proposer.specs.State.{State, role_of, IsAboveNone}
+
+-- what callers see: the proposer as it is, and what is to be done to it
+pub record Draft (B : Type 0) : Type 0 where
+  pub before : State B
+  pub moves : List (Move B)
+
+-- the proposer to which it was done
+abbrev pub after : {B : Type 0} → Draft B → State B
+after d = after_moves d.moves d.before
+
+abbrev pub role_then : {B : Type 0} → Draft B → Role B
+role_then d = (after d).proposer.role
+
+abbrev pub and_move : {B : Type 0} → Move B → Draft B → Draft B
+and_move m d = record { before = d.before; moves = d.moves ++ m ∷ [] }
+
+-- where a leader proposes next, if a slot is left
+abbrev pub offer_of : {B : Type 0} → Role B → Option Offer
+offer_of Idle = None
+offer_of (Preparing b first promises) = None
+offer_of (Leading b next proposed) = if nat_lt next slot_end then Some (record { ballot = b; slot = next }) else None
+
+-- the promises and the proposals of a role
+
+abbrev pub promises_of : {B : Type 0} → Role B → List (CountedPromise B)
+promises_of Idle = []
+promises_of (Preparing b first promises) = promises
+promises_of (Leading b next proposed) = []
+
+abbrev pub proposals_of : {B : Type 0} → Role B → List (Vote B)
+proposals_of Idle = []
+proposals_of (Preparing b first promises) = []
+proposals_of (Leading b next proposed) = proposed
+
+-- what was proposed before, where the ballot goes on
+abbrev pub earlier : {B : Type 0} → Bool → Role B → List (Vote B)
+earlier goes_on r = if goes_on then proposals_of r else []
+
+-- a phase in which a majority promised
+abbrev pub led : Phase → Phase
+led Kept.Idle = Kept.Idle
+led (Kept.Preparing b first) = Kept.Leading b first
+led (Kept.Leading b next) = Kept.Leading b next
+
+-- of a proposer that was and one that is: the round, the phase and the new proposals tell what is new
+pub record IsTold {B : Type 0} (seen : ℕ) (phase : Phase) (goes_on : Bool) (votes : List (Vote B)) (old new : State B) : Type 0 where
+  pub me_is : new.me ≡ old.me
+  pub members_is : new.members ≡ old.members
+  pub seen_is : new.proposer.seen ≡ seen
+  pub promises : List (CountedPromise B)
+  pub role_is : new.proposer.role ≡ role_of phase promises (earlier goes_on old.proposer.role ++ votes)
+  pub above : IsAboveNone phase

@@ -1,0 +1,318 @@
+ghost use Rattle.std.specs.Prelude.{◌≡◌, ◌↔◌, ◌≤◌, [], true, false, is_some, Err, IsOk, IfOk, OnOk, OnErr, IsOkUnless};
+ghost use Rattle.paxos_proposer.specs.declared.fault.ProposerFault.TheVariants.{Rounds, Memory};
+ghost use Rattle.paxos_proposer.specs.declared.moves.Move.TheVariants.{Saw, Started, Promised, Nacked, SteppedDown, Submitted};
+ghost use Rattle.paxos_proposer.specs.Moves.{ArePossible};
+ghost use Rattle.paxos_proposer.specs.Promises.{called_by};
+ghost use Rattle.paxos_proposer.specs.Proposals.{stands};
+ghost use Rattle.paxos_proposer.specs.Proposer.{own_ballot, is_spent, is_leading, is_below, is_refused};
+ghost use Rattle.paxos_proposer.specs.Proposing.{after, role_then, and_move, offer_of, led};
+ghost use Rattle.paxos_proposer.specs.State.{saw, started, after_promise, after_submit, after_nack, stepped_down};
+
+use crate::fault::ProposerFault;
+use crate::moves::Move;
+use crate::phase::Phase;
+use crate::proposals::Proposals;
+use crate::proposer::{LAST_ROUND, Proposer};
+use paxos_packets::{Ballot, Body, Entries, Entry, Slot, Vote, Votes};
+use std::alloc::Global;
+use std::marker::Model;
+
+/// Where a leader proposes next.
+#[derive(Clone, Copy, Debug, PartialEq, Eq)]
+pub struct Offer {
+    /// The ballot in which it leads.
+    pub ballot: Ballot,
+    /// The slot of its next proposal.
+    pub slot: Slot,
+}
+
+/// A proposer, and what is to be done to it: an event is planned on it, and the proposer stays as it is. It keeps what changes, and copies
+/// no more of the proposer. After a fault what is to be done is as it was.
+#[derive(Drop)]
+pub struct Proposing<'a, B> {
+    alloc: Global,
+    proposer: &'a Proposer<B>,
+    moves: Vec<Move<B>>,
+    seen: u64,
+    phase: Phase,
+    // Whether what was proposed before still stands in the ballot under way, and what more is proposed in it.
+    goes_on: bool,
+    proposed: Proposals<B>,
+}
+
+impl<'a, B> Model for Proposing<'a, B> {
+    ghost use Rattle.paxos_proposer.specs.Moves.{after_moves, ArePossible};
+    ghost use Rattle.paxos_proposer.specs.Proposing.{Draft, IsTold};
+
+    ghost Value = { Draft B };
+
+    ghost view = { λ p. record { before = p.proposer.now.state; moves = p.moves.items } };
+
+    ghost invariant = { λ p. IsTold p.seen p.phase p.goes_on p.proposed.votes p.proposer.now.state
+        (after_moves p.moves.items p.proposer.now.state) × ArePossible p.moves.items p.proposer.now.state };
+}
+
+impl<'a, B> Proposing<'a, B> {
+    /// The proposer, to which nothing is to be done. Takes no memory; the other calls will, from `alloc`.
+    pub fn of(alloc: Global, proposer: &'a Proposer<B>) -> Proposing<'a, B>
+        ensures before { result.before ≡ proposer.now.state }
+        ensures moves { result.moves ≡ [] }
+    {
+        Proposing {
+            alloc,
+            proposer,
+            moves: Vec::new(alloc),
+            seen: proposer.seen(),
+            phase: proposer.phase(),
+            goes_on: true,
+            proposed: Proposals::new(alloc),
+        }
+    }
+
+    /// Whether a majority would have promised its ballot under way.
+    pub fn is_leading(&self) -> bool
+        ensures { result ≡ is_leading (role_then self.now) }
+    {
+        match self.phase {
+            Phase::Leading { .. } => true,
+            Phase::Idle | Phase::Preparing { .. } => false,
+        }
+    }
+
+    /// Where it would propose next: `None` where it would not lead, or no slot would be left.
+    #[tactic(auto, unfolding(crate::specs::Proposer::slot_end))]
+    pub fn offer(&self) -> Option<Offer>
+        ensures { result ≡ offer_of (role_then self.now) }
+    {
+        let Phase::Leading { ballot, next } = self.phase else {
+            return None;
+        };
+        let Some(slot) = Slot::new(next) else {
+            return None;
+        };
+        Some(Offer { ballot, slot })
+    }
+
+    /// The ballot that `start` would begin. `Rounds` where there is none left.
+    #[tactic(auto, unfolding(crate::specs::Proposer::round_end))]
+    pub fn next_ballot(&self) -> Result<Ballot, ProposerFault>
+        ensures ok { IfOk result (λ ballot. ballot ≡ own_ballot (after self.now).me (after self.now).proposer) }
+        ensures rounds { (result ≡ Err Rounds) ↔ (is_spent (after self.now).proposer ≡ true) }
+        ensures otherwise { is_spent (after self.now).proposer ≡ false → IsOk result }
+    {
+        if self.seen >= LAST_ROUND {
+            return Err(ProposerFault::Rounds);
+        }
+        Ok(Ballot {
+            round: self.seen + 1,
+            node: self.proposer.me(),
+        })
+    }
+
+    // Whether the ballot under way would be below this one.
+    fn is_below(&self, ballot: &Ballot) -> bool
+        ensures { result ≡ is_below ballot.now (role_then self.now) }
+    {
+        match &self.phase {
+            Phase::Idle => false,
+            Phase::Preparing { ballot: own, .. } => own.is_below(ballot),
+            Phase::Leading { ballot: own, .. } => own.is_below(ballot),
+        }
+    }
+
+    // Whether this ballot would be under way, and below the promise.
+    fn is_refused(&self, ballot: &Ballot, promised: &Ballot) -> bool
+        ensures { result ≡ is_refused ballot.now promised.now (role_then self.now) }
+    {
+        match &self.phase {
+            Phase::Idle => false,
+            Phase::Preparing { ballot: own, .. } => ballot == own && own.is_below(promised),
+            Phase::Leading { ballot: own, .. } => ballot == own && own.is_below(promised),
+        }
+    }
+}
+
+impl<'a, B: Drop> Proposing<'a, B> {
+    /// What is to be done, in its order: each is possible when its turn comes.
+    pub fn into_moves(self) -> Vec<Move<B>>
+        ensures moves { result.items ≡ self.entry.moves }
+        ensures possible { ArePossible self.entry.moves self.entry.before }
+    {
+        let Proposing { moves, .. } = self;
+        moves
+    }
+
+    /// A packet with a ballot of this round came.
+    pub fn saw(&mut self, round: u64) -> Result<(), ProposerFault>
+        ensures ok { OnOk result (self.new ≡ and_move (Saw round) self.old) }
+        ensures after { OnOk result (after self.new ≡ saw round (after self.old)) }
+        ensures err { OnErr result (self.new ≡ self.old) }
+        ensures memory { IsOkUnless result Memory }
+    {
+        if self.moves.reserve(1).is_err() {
+            return Err(ProposerFault::Memory);
+        }
+        self.moves.push_reserved(Move::Saw { round });
+        self.seen = self.seen.max(round);
+        Ok(())
+    }
+
+    /// It begins its next ballot with this member's own promise of it, which reports these votes.
+    #[tactic(auto, unfolding(crate::specs::Proposer::round_end))]
+    pub fn start(&mut self, first: u64, votes: Votes<B>) -> Result<(), ProposerFault>
+        requires first { 1 ≤ first }
+        requires round { is_spent (after self.old).proposer ≡ false }
+        ensures ok { OnOk result (self.new ≡ and_move (Started first votes) self.old) }
+        ensures after { OnOk result (after self.new ≡ started first votes (after self.old)) }
+        ensures err { OnErr result (self.new ≡ self.old) }
+        ensures memory { IsOkUnless result Memory }
+    {
+        if self.moves.reserve(1).is_err() {
+            return Err(ProposerFault::Memory);
+        }
+        self.seen += 1;
+        let ballot = Ballot {
+            round: self.seen,
+            node: self.proposer.me(),
+        };
+        self.moves.push_reserved(Move::Started { first, votes });
+        self.proposed.clear();
+        self.goes_on = false;
+        self.phase = Phase::Preparing { ballot, first };
+        Ok(())
+    }
+
+    /// A member refused the ballot for its promise of another.
+    pub fn on_nack(&mut self, ballot: Ballot, promised: Ballot) -> Result<(), ProposerFault>
+        ensures before { self.new.before ≡ self.old.before }
+        ensures after { OnOk result (after self.new ≡ after_nack ballot promised (after self.old)) }
+        ensures err { OnErr result (self.new ≡ self.old) }
+        ensures memory { IsOkUnless result Memory }
+    {
+        if !self.is_refused(&ballot, &promised) {
+            return Ok(());
+        }
+        if self.moves.reserve(1).is_err() {
+            return Err(ProposerFault::Memory);
+        }
+        self.moves.push_reserved(Move::Nacked { ballot, promised });
+        self.proposed.clear();
+        self.goes_on = false;
+        self.phase = Phase::Idle;
+        Ok(())
+    }
+
+    /// This member promised the ballot: its own ballot under way ends if it is below that.
+    pub fn step_down(&mut self, ballot: Ballot) -> Result<(), ProposerFault>
+        ensures before { self.new.before ≡ self.old.before }
+        ensures after { OnOk result (after self.new ≡ stepped_down ballot (after self.old)) }
+        ensures err { OnErr result (self.new ≡ self.old) }
+        ensures memory { IsOkUnless result Memory }
+    {
+        if !self.is_below(&ballot) {
+            return Ok(());
+        }
+        if self.moves.reserve(1).is_err() {
+            return Err(ProposerFault::Memory);
+        }
+        self.moves.push_reserved(Move::SteppedDown { ballot });
+        self.proposed.clear();
+        self.goes_on = false;
+        self.phase = Phase::Idle;
+        Ok(())
+    }
+}
+
+impl<'a, B: Body> Proposing<'a, B> {
+    /// Whether an equal entry would stand in its ballot under way, in a slot behind the first `applied`.
+    pub fn stands(&self, applied: u64, entry: &Entry<B>) -> bool
+        ensures { result ≡ stands B.same applied (role_then self.now) entry.now }
+    {
+        let Phase::Leading { .. } = self.phase else {
+            return false;
+        };
+        (self.goes_on && self.proposer.stands(applied, entry))
+            || self.proposed.stands(applied, entry)
+    }
+
+    /// A member promised the ballot, and reported these votes; nothing was done before that ends or begins a ballot. With a majority the
+    /// proposer leads, and is to propose the entries that are answered.
+    pub fn on_promise(
+        &mut self,
+        node: u8,
+        ballot: Ballot,
+        votes: Votes<B>,
+    ) -> Result<Option<Entries<B>>, ProposerFault>
+        requires { role_then self.old ≡ self.old.before.proposer.role }
+        ensures ok { OnOk result (self.new ≡ and_move (Promised node ballot votes) self.old) }
+        ensures after { OnOk result (after self.new ≡ after_promise node ballot votes (after self.old)) }
+        ensures called { IfOk result (λ called. called ≡ called_by (after self.old).members node ballot votes (role_then self.old)) }
+        ensures err { OnErr result (self.new ≡ self.old) }
+        ensures memory { IsOkUnless result Memory }
+    {
+        let called = self.proposer.called_by(node, ballot, &votes)?;
+        if self.moves.reserve(1).is_err() {
+            return Err(ProposerFault::Memory);
+        }
+        self.moves.push_reserved(Move::Promised {
+            node,
+            ballot,
+            votes,
+        });
+        let Some(entries) = called else {
+            return Ok(None);
+        };
+        self.proposed.clear();
+        self.goes_on = false;
+        self.phase = led(self.phase);
+        Ok(Some(entries))
+    }
+
+    /// It proposes the entry where it offers to.
+    #[tactic(auto, unfolding(crate::specs::Proposer::slot_end))]
+    pub fn submit(&mut self, entry: &Entry<B>) -> Result<(), ProposerFault>
+        requires { is_some (offer_of (role_then self.old)) ≡ true }
+        ensures ok { OnOk result (self.new ≡ and_move (Submitted entry.now) self.old) }
+        ensures after { OnOk result (after self.new ≡ after_submit entry.now (after self.old)) }
+        ensures err { OnErr result (self.new ≡ self.old) }
+        ensures memory { IsOkUnless result Memory }
+    {
+        let Phase::Leading { ballot, next } = self.phase else {
+            unreachable!()
+        };
+        let Some(slot) = Slot::new(next) else {
+            unreachable!()
+        };
+        let (Ok(kept), Ok(copy)) = (entry.copy(self.alloc), entry.copy(self.alloc)) else {
+            return Err(ProposerFault::Memory);
+        };
+        if self.moves.reserve(1).is_err() || self.proposed.reserve(1).is_err() {
+            return Err(ProposerFault::Memory);
+        }
+        self.moves.push_reserved(Move::Submitted { entry: copy });
+        self.proposed.push_reserved(Vote {
+            slot,
+            ballot,
+            entry: kept,
+        });
+        self.phase = Phase::Leading {
+            ballot,
+            next: next + 1,
+        };
+        Ok(())
+    }
+}
+
+// The phase behind a majority's promises.
+fn led(phase: Phase) -> Phase
+    ensures { result ≡ led phase }
+{
+    match phase {
+        Phase::Idle => Phase::Idle,
+        Phase::Preparing { ballot, first } => Phase::Leading {
+            ballot,
+            next: first,
+        },
+        Phase::Leading { ballot, next } => Phase::Leading { ballot, next },
+    }
+}
