@@ -1,0 +1,65 @@
+ghost use Rattle.std.specs.Prelude.{◌≡◌, IfOk, IfErr};
+
+use crate::body::{Body, Memory};
+use std::alloc::{AllocFailed, Global};
+use std::marker::Model;
+use std::sync::Arc;
+
+/// A body that is held once, however many votes, packets and logs have it: a copy is one holder more, not a body more.
+/// In contracts it is the body itself.
+#[derive(Debug, Drop)]
+pub struct Shared<T> {
+    held: Arc<T>,
+}
+
+impl<T> Model for Shared<T> {
+    ghost use Rattle.std.specs.Arc.{arc_value};
+
+    ghost Value = { T };
+
+    ghost view = { λ shared. arc_value shared.held };
+}
+
+impl<T> Shared<T> {
+    /// Holds the body, which comes back where there is no memory.
+    pub fn new(alloc: Global, body: T) -> Result<Shared<T>, AllocFailed<T>>
+        ensures ok { IfOk result (λ shared. shared ≡ body) }
+        ensures err { IfErr result (λ e. e.value ≡ body) }
+    {
+        Ok(Shared {
+            held: Arc::new(alloc, body)?,
+        })
+    }
+
+    /// The body. Takes no memory.
+    pub fn get(&self) -> &T
+        ensures { result.now ≡ self.now }
+    {
+        &self.held
+    }
+
+    /// One holder more. Takes constant time, and no memory; `Memory` where no holder more can be counted.
+    pub fn share(&self) -> Result<Shared<T>, Memory>
+        ensures { IfOk result (λ copy. copy ≡ self.now) }
+    {
+        Ok(Shared {
+            held: Arc::try_clone(&self.held)?,
+        })
+    }
+}
+
+impl<T: Body> Body for Shared<T> {
+    ghost same = { T.same };
+
+    fn copy(&self, _alloc: Global) -> Result<Shared<T>, Memory> {
+        self.share()
+    }
+
+    fn same(&self, other: &Shared<T>) -> bool {
+        self.get().same(other.get())
+    }
+
+    ghost reflexive = { T.reflexive };
+
+    ghost sound = { T.sound };
+}
