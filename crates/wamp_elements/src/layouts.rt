@@ -2,19 +2,17 @@
 ghost use Rattle.std.specs.Prelude.{◌≡◌, true, false, Some, None};
 ghost use Rattle.serde_json.specs.Data.{no_items, item};
 ghost use Rattle.serde_json.specs.View.{view};
-ghost use Rattle.wamp_elements.specs.RequestKind.{kind_in};
 ghost use Rattle.wamp_elements.specs.Elements.{elements};
 ghost use Rattle.wamp_elements.specs.Layouts as layout;
 ghost use Rattle.wamp_elements.specs.Layouts.{taken, checked, checked_with, args_taken, seen_named, seen_numbered, seen_request};
-ghost use Rattle.wamp_elements.specs.Layouts.{two_ids_of, named_of, numbered_of, reason_of, asked_of, labelled_of, refusal_of};
-ghost use Rattle.wamp_elements.specs.Layouts.{one_id_of, stopped_of, answer_of, answers_invocation};
+ghost use Rattle.wamp_elements.specs.Layouts.{two_ids_of, named_of, numbered_of, reason_of, asked_of, labelled_of};
+ghost use Rattle.wamp_elements.specs.Layouts.{one_id_of, stopped_of, answer_of};
 
 use crate::elements::{
-    Given, arguments, exactly_one, exactly_three, exactly_two, four, id_in, is_whole, three, two,
+    Given, arguments, exactly_one, exactly_three, exactly_two, id_in, is_whole, three, two,
 };
 use crate::fault::MessageFault;
 use crate::options::{mode_named, take_label};
-use crate::request_kind::RequestKind;
 use serde_json::Value;
 use std::vec::IntoIter;
 use wamp_ids::{Id, Mode, Text};
@@ -80,16 +78,6 @@ pub struct Labelled {
     pub second: Id,
     pub label: Option<Text>,
     pub args: Args,
-}
-
-/// The refusal of a request.
-#[derive(Drop)]
-pub struct Refusal {
-    pub kind: RequestKind,
-    pub request: Id,
-    pub error: Text,
-    /// `None` where some number is not kept exactly, in the answer to an invocation.
-    pub args: Option<Args>,
 }
 
 /// Two ids.
@@ -463,85 +451,6 @@ fn labelled_with(
             first,
             second,
             label,
-            args,
-        }),
-        None => Err(MessageFault::IdRange),
-    }
-}
-
-/// The kind of a request, its id, a dictionary, a text, and arguments.
-#[tactic(auto, using(crate::proofs::Lengths::refusal_length))]
-pub fn refused(mut rest: IntoIter<Value>) -> Result<Refusal, MessageFault>
-    ensures { result ≡ taken (layout.refusal (elements rest)) refusal_of (elements rest) }
-{
-    let Some((kind, request, details, error)) = four(&mut rest) else {
-        return Err(MessageFault::Length);
-    };
-    refusal_given(&kind, &request, &details, error, arguments(rest))
-}
-
-fn refusal_given(
-    kind: &Value,
-    request: &Value,
-    details: &Value,
-    error: Value,
-    given: Given,
-) -> Result<Refusal, MessageFault>
-    ensures { result ≡ checked_with (layout.refusal no_items).kinds
-        (refusal_of (item (view kind.now)
-        (item (view request.now) (item (view details.now) (item (view error) no_items)))))
-        (item (view kind.now)
-        (item (view request.now) (item (view details.now) (item (view error) no_items))))
-        (args_taken (answers_invocation (kind_in (view kind.now))) given) }
-{
-    match given {
-        Given::TooMany => Err(MessageFault::Length),
-        Given::Misshapen => Err(MessageFault::Shape),
-        Given::Inexact => if answers_invocation(kind) {
-            refusal_with(kind, request, details, error, None)
-        } else {
-            Err(MessageFault::Shape)
-        },
-        Given::Fit(args) => refusal_with(kind, request, details, error, Some(args)),
-    }
-}
-
-fn answers_invocation(kind: &Value) -> bool
-    ensures { result ≡ answers_invocation (kind_in (view kind.now)) }
-{
-    match RequestKind::in_element(kind) {
-        Some(kind) => kind.is_invocation(),
-        None => false,
-    }
-}
-
-fn refusal_with(
-    kind: &Value,
-    request: &Value,
-    details: &Value,
-    error: Value,
-    args: Option<Args>,
-) -> Result<Refusal, MessageFault>
-    ensures { result ≡ checked (layout.refusal no_items).kinds
-        (refusal_of (item (view kind.now)
-        (item (view request.now) (item (view details.now) (item (view error) no_items)))) args)
-        (item (view kind.now)
-        (item (view request.now) (item (view details.now) (item (view error) no_items)))) }
-{
-    let Some(kind) = RequestKind::in_element(kind) else {
-        return Err(MessageFault::Shape);
-    };
-    if !is_whole(request) || !details.is_object() {
-        return Err(MessageFault::Shape);
-    }
-    let Value::String(error) = error else {
-        return Err(MessageFault::Shape);
-    };
-    match id_in(request) {
-        Some(request) => Ok(Refusal {
-            kind,
-            request,
-            error: Text::from(error),
             args,
         }),
         None => Err(MessageFault::IdRange),

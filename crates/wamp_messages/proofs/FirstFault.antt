@@ -6,7 +6,7 @@ use Rattle.wamp_values.specs.declared.args.Args.{Args}
 use Rattle.wamp_elements.specs.Codes as code
 use Rattle.wamp_elements.specs.declared.fault.MessageFault.{MessageFault}
 use Rattle.wamp_elements.specs.declared.fault.MessageFault.TheVariants.{Kind}
-use Rattle.wamp_elements.specs.declared.layouts.Refusal.{Refusal}
+use Rattle.wamp_elements.specs.declared.refusal.Refusal.{Refusal}
 use Rattle.wamp_elements.specs.declared.request_kind.RequestKind.{RequestKind}
 use Rattle.wamp_elements.specs.Layouts.{Layout, taken, first_fault, text_dictionary, named_of, id_dictionary, numbered_of}
 use Rattle.wamp_elements.specs.Layouts.{dictionary_text, dictionary_text_args, reason_of, refusal, refusal_of, Asked, asked_of}

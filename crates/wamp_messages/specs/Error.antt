@@ -7,7 +7,7 @@ use Rattle.wamp_elements.specs.Codes as code
 use Rattle.wamp_elements.specs.Parts.{whole, nothing}
 use Rattle.wamp_elements.specs.RequestKind.{code_of}
 use Rattle.wamp_elements.specs.declared.request_kind.RequestKind.{RequestKind}
-use Rattle.wamp_elements.specs.declared.layouts.Refusal.{Refusal}
+use Rattle.wamp_elements.specs.declared.refusal.Refusal.{Refusal}
 use Rattle.wamp_elements.specs.Layouts.{taken, refusal, refusal_of}
 use Rattle.wamp_messages.specs.declared.error.Error.{Error}
 use Rattle.wamp_messages.specs.declared.message.Message.TheVariants as message
