@@ -10,16 +10,16 @@ use Rattle.wamp_ids.specs.Pattern.{PatternValue, pattern_of}
 use Rattle.wamp_values.specs.declared.args.Args.{Args}
 use Rattle.wamp_elements.specs.declared.request_kind.RequestKind.{RequestKind}
 use Rattle.wamp_elements.specs.declared.request_kind.RequestKind.TheVariants as kind
-use Rattle.wamp_messages.specs.declared.session.Hello.{Hello as HelloMessage}
-use Rattle.wamp_messages.specs.declared.publish.Publish.{Publish as PublishMessage}
-use Rattle.wamp_messages.specs.declared.subscribe.Unsubscribe.{Unsubscribe as UnsubscribeMessage}
-use Rattle.wamp_messages.specs.declared.message.Message.TheVariants as told
-use Rattle.wamp_messages.specs.declared.message.Message.{Message}
-use Rattle.wamp_messages.specs.declared.message.Message.TheVariants.{Hello, Abort, Goodbye, Error, Publish, Subscribe, Unsubscribe, Register, Unregister}
-use Rattle.wamp_messages.specs.declared.read_result.UnfitKind.{UnfitKind}
-use Rattle.wamp_messages.specs.declared.read_result.UnfitKind.TheVariants as unfit
-use Rattle.wamp_messages.specs.declared.read_result.Read.{Read}
-use Rattle.wamp_messages.specs.declared.read_result.Read.TheVariants.{Good, Unfit, Bad}
+use Rattle.wamp_kinds.specs.declared.session.Hello.{Hello as HelloMessage}
+use Rattle.wamp_kinds.specs.declared.publish.Publish.{Publish as PublishMessage}
+use Rattle.wamp_kinds.specs.declared.subscribe.Unsubscribe.{Unsubscribe as UnsubscribeMessage}
+use Rattle.wamp_kinds.specs.declared.message.Message.TheVariants as told
+use Rattle.wamp_kinds.specs.declared.message.Message.{Message}
+use Rattle.wamp_kinds.specs.declared.message.Message.TheVariants.{Hello, Abort, Goodbye, Error, Publish, Subscribe, Unsubscribe, Register, Unregister}
+use Rattle.wamp_kinds.specs.declared.read_result.UnfitKind.{UnfitKind}
+use Rattle.wamp_kinds.specs.declared.read_result.UnfitKind.TheVariants as unfit
+use Rattle.wamp_kinds.specs.declared.read_result.Read.{Read}
+use Rattle.wamp_kinds.specs.declared.read_result.Read.TheVariants.{Good, Unfit, Bad}
 use Rattle.realm_machine.specs.declared.act.Act.{Act}
 use Rattle.realm_machine.specs.declared.act.Act.TheVariants.{Connect, Said, Hung}
 use Rattle.realm_sessions.specs.declared.fault.RealmFault.{RealmFault}
@@ -47,7 +47,7 @@ use Rattle.realm_subscriptions.specs.Laws.{AreSoundSubscriptions}
 use Rattle.realm_machine.specs.Laws.{IsSound, EmptyIsSound, EachActKeepsSound, EveryRealmIsSound, OpensWhereRoom, after}
 use Rattle.wamp_ids.specs.declared.policy.Invoke.{Invoke}
 use Rattle.wamp_ids.specs.Uri.{is_reserved}
-use Rattle.wamp_messages.specs.declared.register.Unregister.{Unregister as UnregisterMessage}
+use Rattle.wamp_kinds.specs.declared.register.Unregister.{Unregister as UnregisterMessage}
 use Rattle.realm_sessions.specs.Fault.{uri_of}
 use Rattle.realm_registrations.specs.declared.registration.Registration.{Registration}
 use Rattle.realm_registrations.specs.Registration.{may_join}

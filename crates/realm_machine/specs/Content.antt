@@ -3,7 +3,7 @@ use Rattle.std.specs.Prelude.{◌≡◌, ℕ, List, [], ◌∷◌, ◌++◌, Opt
 use Rattle.std.specs.declared.vec.Vec.{Vec}
 use Rattle.std.specs.declared.alloc.Global.{Global}
 use Rattle.paxos_packets.specs.declared.transport.Transport.{Transport}
-use Rattle.wamp_messages.specs.declared.message.Message.{Message}
+use Rattle.wamp_kinds.specs.declared.message.Message.{Message}
 use Rattle.wamp_elements.specs.declared.request_kind.RequestKind.{RequestKind}
 use Rattle.realm_machine.specs.declared.act.Say.{Say}
 use Rattle.realm_sessions.specs.declared.links.Link.{Link}

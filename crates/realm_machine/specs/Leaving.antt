@@ -1,7 +1,7 @@
 -- How a client leaves, and why it is made to (WAMP specification, "Session Closing"; docs/PROTOCOL.md, "The realm").
 use Rattle.std.specs.Prelude.{ℕ, List, [], ◌∷◌, Option, None, Some}
 use Rattle.paxos_packets.specs.declared.transport.Transport.{Transport}
-use Rattle.wamp_messages.specs.declared.message.Message.TheVariants.{Goodbye}
+use Rattle.wamp_kinds.specs.declared.message.Message.TheVariants.{Goodbye}
 use Rattle.realm_sessions.specs.Links.{by_transport, set_session, without_transport}
 use Rattle.realm_sessions.specs.Sessions.{with_list}
 use Rattle.realm_registrations.specs.Registry as registrations

@@ -6,9 +6,9 @@ use Rattle.wamp_ids.specs.declared.policy.Match.TheVariants.{Exact, Prefix, Wild
 use Rattle.wamp_ids.specs.Uri.{uri_of, is_reserved}
 use Rattle.wamp_values.specs.declared.args.Args.{Args}
 use Rattle.wamp_elements.specs.declared.request_kind.RequestKind.TheVariants as kind
-use Rattle.wamp_messages.specs.declared.publish.Publish.{Publish}
-use Rattle.wamp_messages.specs.declared.publish.Event.{Event}
-use Rattle.wamp_messages.specs.declared.message.Message.TheVariants as message
+use Rattle.wamp_kinds.specs.declared.publish.Publish.{Publish}
+use Rattle.wamp_kinds.specs.declared.publish.Event.{Event}
+use Rattle.wamp_kinds.specs.declared.message.Message.TheVariants as message
 use Rattle.realm_subscriptions.specs.declared.receiving.Receiver.{Receiver}
 use Rattle.realm_subscriptions.specs.Receiving.{receivers}
 use Rattle.realm_machine.specs.declared.act.Say.{Say}

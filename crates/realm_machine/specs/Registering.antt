@@ -5,9 +5,9 @@ use Rattle.wamp_ids.specs.declared.policy.Invoke.{Invoke}
 use Rattle.wamp_ids.specs.declared.uri.UriFault.{UriFault}
 use Rattle.wamp_ids.specs.Pattern.{PatternValue, pattern_of}
 use Rattle.wamp_elements.specs.declared.request_kind.RequestKind.TheVariants as kind
-use Rattle.wamp_messages.specs.declared.register.Register.{Register}
-use Rattle.wamp_messages.specs.declared.register.Unregister.{Unregister}
-use Rattle.wamp_messages.specs.declared.message.Message.TheVariants as message
+use Rattle.wamp_kinds.specs.declared.register.Register.{Register}
+use Rattle.wamp_kinds.specs.declared.register.Unregister.{Unregister}
+use Rattle.wamp_kinds.specs.declared.message.Message.TheVariants as message
 use Rattle.realm_sessions.specs.declared.fault.RealmFault.{RealmFault}
 use Rattle.realm_registrations.specs.Registry.{Registry, Registered, Unregistered}
 use Rattle.realm_registrations.specs.Registry as registrations

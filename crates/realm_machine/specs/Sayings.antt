@@ -3,8 +3,8 @@ use Rattle.std.specs.Prelude.{ℕ, List, [], ◌∷◌, Option, None, Some, code
 use Rattle.paxos_packets.specs.declared.transport.Transport.{Transport}
 use Rattle.wamp_values.specs.declared.args.Args.TheVariants.{Nothing}
 use Rattle.wamp_elements.specs.declared.request_kind.RequestKind.{RequestKind}
-use Rattle.wamp_messages.specs.declared.message.Message.{Message}
-use Rattle.wamp_messages.specs.declared.message.Message.TheVariants.{Abort, Error}
+use Rattle.wamp_kinds.specs.declared.message.Message.{Message}
+use Rattle.wamp_kinds.specs.declared.message.Message.TheVariants.{Abort, Error}
 use Rattle.realm_machine.specs.declared.act.Out.TheVariants.{Send, Close}
 use Rattle.realm_machine.specs.declared.act.Say.{Say}
 use Rattle.realm_sessions.specs.declared.links.Link.{Link}

@@ -3,15 +3,15 @@ use Rattle.std.specs.Prelude.{ℕ, Bool, List, Option, None, Some, if◌then◌e
 use Rattle.paxos_packets.specs.declared.transport.Transport.{Transport}
 use Rattle.wamp_elements.specs.declared.request_kind.RequestKind.{RequestKind}
 use Rattle.wamp_elements.specs.declared.request_kind.RequestKind.TheVariants as kind
-use Rattle.wamp_messages.specs.declared.message.Message.{Message}
-use Rattle.wamp_messages.specs.declared.message.Message.TheVariants.{Hello, Welcome, Abort, Goodbye, Error, Publish, Published}
-use Rattle.wamp_messages.specs.declared.message.Message.TheVariants.{Subscribe, Subscribed, Event, Unsubscribe, Unsubscribed}
-use Rattle.wamp_messages.specs.declared.message.Message.TheVariants.{Register, Registered, Unregister, Unregistered}
-use Rattle.wamp_messages.specs.declared.message.Message.TheVariants.{Call, Cancel, Reply, Invocation, Interrupt, Yield}
-use Rattle.wamp_messages.specs.declared.read_result.UnfitKind.{UnfitKind}
-use Rattle.wamp_messages.specs.declared.read_result.UnfitKind.TheVariants as unfit
-use Rattle.wamp_messages.specs.declared.read_result.Read.{Read}
-use Rattle.wamp_messages.specs.declared.read_result.Read.TheVariants.{Good, Unfit, Bad}
+use Rattle.wamp_kinds.specs.declared.message.Message.{Message}
+use Rattle.wamp_kinds.specs.declared.message.Message.TheVariants.{Hello, Welcome, Abort, Goodbye, Error, Publish, Published}
+use Rattle.wamp_kinds.specs.declared.message.Message.TheVariants.{Subscribe, Subscribed, Event, Unsubscribe, Unsubscribed}
+use Rattle.wamp_kinds.specs.declared.message.Message.TheVariants.{Register, Registered, Unregister, Unregistered}
+use Rattle.wamp_kinds.specs.declared.message.Message.TheVariants.{Call, Cancel, Reply, Invocation, Interrupt, Yield}
+use Rattle.wamp_kinds.specs.declared.read_result.UnfitKind.{UnfitKind}
+use Rattle.wamp_kinds.specs.declared.read_result.UnfitKind.TheVariants as unfit
+use Rattle.wamp_kinds.specs.declared.read_result.Read.{Read}
+use Rattle.wamp_kinds.specs.declared.read_result.Read.TheVariants.{Good, Unfit, Bad}
 use Rattle.realm_machine.specs.declared.act.Act.{Act}
 use Rattle.realm_machine.specs.declared.act.Act.TheVariants.{Connect, Said, Hung}
 use Rattle.realm_machine.specs.declared.act.Say.{Say}

@@ -18,7 +18,7 @@ use Rattle.wamp_elements.proofs.FirstFault.{fault_in, taken_first}
 use Rattle.wamp_ids.specs.declared.policy.Match.{Match}
 use Rattle.wamp_ids.specs.declared.policy.Invoke.{Invoke}
 use Rattle.wamp_ids.specs.declared.policy.Mode.{Mode}
-use Rattle.wamp_messages.specs.declared.read_result.Read.{Read}
+use Rattle.wamp_kinds.specs.declared.read_result.Read.{Read}
 use Rattle.wamp_messages.specs.ReadResult.{read_as}
 use Rattle.wamp_messages.specs.Session.{hello_read, welcome_read, abort_read, goodbye_read}
 use Rattle.wamp_messages.specs.Error.{error_with, error_read}

@@ -16,12 +16,12 @@ use Rattle.wamp_values.proofs.Texts.{print_tokens}
 use Rattle.wamp_values.proofs.ReadBack.{reads_back}
 use Rattle.wamp_elements.specs.declared.request_kind.RequestKind.{RequestKind}
 use Rattle.wamp_elements.specs.declared.request_kind.RequestKind.TheVariants as kind
-use Rattle.wamp_messages.specs.declared.message.Message.{Message}
-use Rattle.wamp_messages.specs.declared.message.Message.TheVariants.{Hello, Welcome, Abort, Goodbye, Error, Publish, Published}
-use Rattle.wamp_messages.specs.declared.message.Message.TheVariants.{Subscribe, Subscribed, Event, Unsubscribe, Unsubscribed}
-use Rattle.wamp_messages.specs.declared.message.Message.TheVariants.{Register, Registered, Unregister, Unregistered}
-use Rattle.wamp_messages.specs.declared.message.Message.TheVariants.{Call, Cancel, Reply, Invocation, Interrupt, Yield}
-use Rattle.wamp_messages.specs.declared.read_result.Read.TheVariants.{Good}
+use Rattle.wamp_kinds.specs.declared.message.Message.{Message}
+use Rattle.wamp_kinds.specs.declared.message.Message.TheVariants.{Hello, Welcome, Abort, Goodbye, Error, Publish, Published}
+use Rattle.wamp_kinds.specs.declared.message.Message.TheVariants.{Subscribe, Subscribed, Event, Unsubscribe, Unsubscribed}
+use Rattle.wamp_kinds.specs.declared.message.Message.TheVariants.{Register, Registered, Unregister, Unregistered}
+use Rattle.wamp_kinds.specs.declared.message.Message.TheVariants.{Call, Cancel, Reply, Invocation, Interrupt, Yield}
+use Rattle.wamp_kinds.specs.declared.read_result.Read.TheVariants.{Good}
 use Rattle.wamp_messages.specs.Writing.{value_of, text_of}
 use Rattle.wamp_messages.specs.Reading.{by_code, read_of, message_in}
 use Rattle.wamp_messages.specs.Message.{HasParts, IsMessage}

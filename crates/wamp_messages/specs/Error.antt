@@ -9,11 +9,11 @@ use Rattle.wamp_elements.specs.RequestKind.{code_of}
 use Rattle.wamp_elements.specs.declared.request_kind.RequestKind.{RequestKind}
 use Rattle.wamp_elements.specs.declared.refusal.Refusal.{Refusal}
 use Rattle.wamp_elements.specs.Layouts.{taken, refusal, refusal_of}
-use Rattle.wamp_messages.specs.declared.error.Error.{Error}
-use Rattle.wamp_messages.specs.declared.message.Message.TheVariants as message
-use Rattle.wamp_messages.specs.declared.read_result.UnfitKind.TheVariants as unfit
-use Rattle.wamp_messages.specs.declared.read_result.Read.{Read}
-use Rattle.wamp_messages.specs.declared.read_result.Read.TheVariants.{Good, Unfit}
+use Rattle.wamp_kinds.specs.declared.error.Error.{Error}
+use Rattle.wamp_kinds.specs.declared.message.Message.TheVariants as message
+use Rattle.wamp_kinds.specs.declared.read_result.UnfitKind.TheVariants as unfit
+use Rattle.wamp_kinds.specs.declared.read_result.Read.{Read}
+use Rattle.wamp_kinds.specs.declared.read_result.Read.TheVariants.{Good, Unfit}
 use Rattle.wamp_messages.specs.ReadResult.{read_as}
 
 -- ---- ERROR: Type, Request, Details, Error, Args

@@ -4,8 +4,8 @@ use Rattle.serde_json.specs.Data.{unsigned, Data, number, array, Items, no_items
 use Rattle.wamp_elements.specs.declared.fault.MessageFault.{MessageFault}
 use Rattle.wamp_elements.specs.declared.fault.MessageFault.TheVariants.{NotJson, NotArray, Kind, Length, Shape, IdRange}
 use Rattle.wamp_elements.specs.Layouts.{Layout, has_length, has_shape, has_range}
-use Rattle.wamp_messages.specs.declared.read_result.Read.{Read}
-use Rattle.wamp_messages.specs.declared.read_result.Read.TheVariants.{Good, Unfit, Bad}
+use Rattle.wamp_kinds.specs.declared.read_result.Read.{Read}
+use Rattle.wamp_kinds.specs.declared.read_result.Read.TheVariants.{Good, Unfit, Bad}
 use Rattle.wamp_messages.specs.Layouts.{layout_of}
 use Rattle.wamp_messages.specs.Reading.{json_of}
 

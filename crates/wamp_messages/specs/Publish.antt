@@ -10,13 +10,13 @@ use Rattle.wamp_elements.specs.Options.{flag_in}
 use Rattle.wamp_elements.specs.declared.layouts.TwoIds.{TwoIds}
 use Rattle.wamp_elements.specs.declared.layouts.Labelled.{Labelled}
 use Rattle.wamp_elements.specs.Layouts.{taken, two_ids, two_ids_of, id_dictionary_text_args, Asked, asked_of, two_ids_label_args, labelled_of}
-use Rattle.wamp_messages.specs.declared.publish.Publish.{Publish}
-use Rattle.wamp_messages.specs.declared.publish.Published.{Published}
-use Rattle.wamp_messages.specs.declared.publish.Event.{Event}
-use Rattle.wamp_messages.specs.declared.message.Message.TheVariants as message
-use Rattle.wamp_messages.specs.declared.read_result.UnfitKind.TheVariants as unfit
-use Rattle.wamp_messages.specs.declared.read_result.Read.{Read}
-use Rattle.wamp_messages.specs.declared.read_result.Read.TheVariants.{Good, Unfit}
+use Rattle.wamp_kinds.specs.declared.publish.Publish.{Publish}
+use Rattle.wamp_kinds.specs.declared.publish.Published.{Published}
+use Rattle.wamp_kinds.specs.declared.publish.Event.{Event}
+use Rattle.wamp_kinds.specs.declared.message.Message.TheVariants as message
+use Rattle.wamp_kinds.specs.declared.read_result.UnfitKind.TheVariants as unfit
+use Rattle.wamp_kinds.specs.declared.read_result.Read.{Read}
+use Rattle.wamp_kinds.specs.declared.read_result.Read.TheVariants.{Good, Unfit}
 use Rattle.wamp_messages.specs.ReadResult.{read_as}
 
 -- ---- PUBLISH: Request, Options, Topic, Args

@@ -9,13 +9,13 @@ use Rattle.wamp_elements.specs.Options.{is_canceling}
 use Rattle.wamp_elements.specs.declared.layouts.Reason.{Reason}
 use Rattle.wamp_elements.specs.Layouts.{taken, text_dictionary, Named, named_of, id_dictionary, Numbered, numbered_of}
 use Rattle.wamp_elements.specs.Layouts.{dictionary_text, dictionary_text_args, reason_of}
-use Rattle.wamp_messages.specs.declared.session.Hello.{Hello}
-use Rattle.wamp_messages.specs.declared.session.Welcome.{Welcome}
-use Rattle.wamp_messages.specs.declared.session.Abort.{Abort}
-use Rattle.wamp_messages.specs.declared.session.Goodbye.{Goodbye}
-use Rattle.wamp_messages.specs.declared.message.Message.TheVariants as message
-use Rattle.wamp_messages.specs.declared.read_result.Read.{Read}
-use Rattle.wamp_messages.specs.declared.read_result.Read.TheVariants.{Good}
+use Rattle.wamp_kinds.specs.declared.session.Hello.{Hello}
+use Rattle.wamp_kinds.specs.declared.session.Welcome.{Welcome}
+use Rattle.wamp_kinds.specs.declared.session.Abort.{Abort}
+use Rattle.wamp_kinds.specs.declared.session.Goodbye.{Goodbye}
+use Rattle.wamp_kinds.specs.declared.message.Message.TheVariants as message
+use Rattle.wamp_kinds.specs.declared.read_result.Read.{Read}
+use Rattle.wamp_kinds.specs.declared.read_result.Read.TheVariants.{Good}
 use Rattle.wamp_messages.specs.ReadResult.{read_as}
 
 -- ---- HELLO: Realm, Details

@@ -9,14 +9,14 @@ use Rattle.wamp_elements.specs.Parts.{whole, only, nothing}
 use Rattle.wamp_elements.specs.Options.{match_in}
 use Rattle.wamp_elements.specs.declared.layouts.TwoIds.{TwoIds}
 use Rattle.wamp_elements.specs.Layouts.{taken, one_id, one_id_of, two_ids, two_ids_of, id_dictionary_text, Asked, asked_of}
-use Rattle.wamp_messages.specs.declared.subscribe.Subscribe.{Subscribe}
-use Rattle.wamp_messages.specs.declared.subscribe.Subscribed.{Subscribed}
-use Rattle.wamp_messages.specs.declared.subscribe.Unsubscribe.{Unsubscribe}
-use Rattle.wamp_messages.specs.declared.subscribe.Unsubscribed.{Unsubscribed}
-use Rattle.wamp_messages.specs.declared.message.Message.TheVariants as message
-use Rattle.wamp_messages.specs.declared.read_result.UnfitKind.TheVariants as unfit
-use Rattle.wamp_messages.specs.declared.read_result.Read.{Read}
-use Rattle.wamp_messages.specs.declared.read_result.Read.TheVariants.{Good, Unfit}
+use Rattle.wamp_kinds.specs.declared.subscribe.Subscribe.{Subscribe}
+use Rattle.wamp_kinds.specs.declared.subscribe.Subscribed.{Subscribed}
+use Rattle.wamp_kinds.specs.declared.subscribe.Unsubscribe.{Unsubscribe}
+use Rattle.wamp_kinds.specs.declared.subscribe.Unsubscribed.{Unsubscribed}
+use Rattle.wamp_kinds.specs.declared.message.Message.TheVariants as message
+use Rattle.wamp_kinds.specs.declared.read_result.UnfitKind.TheVariants as unfit
+use Rattle.wamp_kinds.specs.declared.read_result.Read.{Read}
+use Rattle.wamp_kinds.specs.declared.read_result.Read.TheVariants.{Good, Unfit}
 use Rattle.wamp_messages.specs.ReadResult.{read_as}
 
 -- ---- SUBSCRIBE: Request, Options, Topic

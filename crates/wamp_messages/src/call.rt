@@ -1,5 +1,5 @@
 // The messages of calls.
-ghost use Rattle.std.specs.Prelude.{◌≡◌, ◌↔◌, IfOk, OnOk, IsTrue};
+ghost use Rattle.std.specs.Prelude.{◌≡◌, OnOk};
 ghost use Rattle.wamp_values.specs.Args.{IsArgs};
 ghost use Rattle.wamp_values.specs.Tokens.{data_tokens, Appends};
 ghost use Rattle.wamp_elements.specs.Elements.{elements};
@@ -9,10 +9,6 @@ ghost use Rattle.wamp_messages.specs.Call.{call_in, call_read, call_value, cance
 ghost use Rattle.wamp_messages.specs.Call.{reply_in, reply_value, invocation_in, invocation_value, interrupt_in, interrupt_value};
 ghost use Rattle.wamp_messages.specs.Call.{mode_name, mode_options, yield_in, yield_read, yield_value};
 
-use crate::memory::Memory;
-use crate::message::Message;
-use crate::publish::{copy_label, is_same_label};
-use crate::read_result::{Read, UnfitKind};
 use json::Writer;
 use serde_json::Value;
 use std::alloc::AllocError;
@@ -22,324 +18,192 @@ use wamp_elements::{
     id_dictionary_text_args, id_mode, mode_in, put_label, put_nothing, put_text_option,
     two_ids_label_args,
 };
-use wamp_ids::{Id, Mode, Text};
+use wamp_ids::{Id, Mode};
+use wamp_kinds::{Call, Cancel, Interrupt, Invocation, Message, Read, Reply, UnfitKind, Yield};
 use wamp_values::Args;
 
-/// A client calls a procedure.
-#[derive(Drop)]
-pub struct Call {
-    pub request: Id,
-    pub procedure: Text,
-    pub args: Args,
-}
-
-/// A client cancels its call.
-#[derive(Clone, Copy, Debug, PartialEq, Eq, Drop)]
-pub struct Cancel {
-    pub request: Id,
-    pub mode: Mode,
-}
-
-/// The call's result: the message RESULT.
-#[derive(Drop)]
-pub struct Reply {
-    pub request: Id,
-    pub args: Args,
-}
-
-/// A callee is asked for a call's result; `procedure` where the registration is not an exact one.
-#[derive(Drop)]
-pub struct Invocation {
-    pub request: Id,
-    pub registration: Id,
-    pub procedure: Option<Text>,
-    pub args: Args,
-}
-
-/// A callee is told that the call is canceled.
-#[derive(Clone, Copy, Debug, PartialEq, Eq, Drop)]
-pub struct Interrupt {
-    pub request: Id,
-    pub mode: Mode,
-}
-
-/// A callee answers an invocation.
-#[derive(Drop)]
-pub struct Yield {
-    pub request: Id,
-    pub args: Args,
-}
-
-impl Call {
-    /// An equal one, as `Message::copy`.
-    pub fn copy(&self) -> Result<Call, Memory>
-        ensures { IfOk result (λ made. made ≡ self.now) }
-    {
-        Ok(Call {
-            request: self.request,
-            procedure: self.procedure.copy()?,
-            args: self.args.copy()?,
-        })
+// What the elements behind the code of CALL are read as.
+pub(crate) fn read_call(rest: IntoIter<Value>) -> Read
+    ensures { result ≡ call_in (elements rest) }
+{
+    match id_dictionary_text_args(rest) {
+        Ok(asked) => call_of(asked),
+        Err(fault) => Read::Bad(fault),
     }
+}
 
-    /// Whether the two are equal, as `Message::same`.
-    pub fn same(&self, other: &Call) -> bool
-        ensures { IsTrue result ↔ (self.now ≡ other.now) }
-    {
-        self.request == other.request
-            && self.procedure.same(&other.procedure)
-            && self.args.same(&other.args)
-    }
-
-    // What the elements behind the code are read as.
-    pub(crate) fn read(rest: IntoIter<Value>) -> Read
-        ensures { result ≡ call_in (elements rest) }
-    {
-        match id_dictionary_text_args(rest) {
-            Ok(asked) => Call::of(asked),
-            Err(fault) => Read::Bad(fault),
-        }
-    }
-
-    fn of(asked: UriRequest) -> Read
-        ensures { result ≡ call_read (seen_asked asked) }
-    {
-        let UriRequest {
+fn call_of(asked: UriRequest) -> Read
+    ensures { result ≡ call_read (seen_asked asked) }
+{
+    let UriRequest {
+        request,
+        options: _options,
+        uri,
+        args,
+    } = asked;
+    match args {
+        Some(args) => Read::Good(Message::Call(Call {
             request,
-            options: _options,
-            uri,
+            procedure: uri,
             args,
-        } = asked;
-        match args {
-            Some(args) => Read::Good(Message::Call(Call {
-                request,
-                procedure: uri,
-                args,
-            })),
-            None => Read::Unfit {
-                kind: UnfitKind::Call,
-                request,
-                quiet: false,
-            },
-        }
-    }
-
-    pub(crate) fn put(&self, out: &mut Writer) -> Result<(), AllocError>
-        ensures tokens { Appends result out.old out.new (data_tokens (call_value self.now)) }
-        ensures parts { OnOk result (IsId self.now.request × IsArgs self.now.args) }
-    {
-        begin(codes::CALL, out)?;
-        out.u64(self.request.get())?;
-        put_nothing(out)?;
-        out.string(self.procedure.as_str())?;
-        end(&self.args, out)
+        })),
+        None => Read::Unfit {
+            kind: UnfitKind::Call,
+            request,
+            quiet: false,
+        },
     }
 }
 
-impl Cancel {
-    // What the elements behind the code are read as.
-    pub(crate) fn read(rest: IntoIter<Value>) -> Read
-        ensures { result ≡ cancel_in (elements rest) }
-    {
-        match id_dictionary(rest) {
-            Ok(numbered) => Cancel::of(numbered.id, mode_in(&numbered.details)),
-            Err(fault) => Read::Bad(fault),
-        }
-    }
+pub(crate) fn put_call(call: &Call, out: &mut Writer) -> Result<(), AllocError>
+    ensures tokens { Appends result out.old out.new (data_tokens (call_value call.now)) }
+    ensures parts { OnOk result (IsId call.now.request × IsArgs call.now.args) }
+{
+    begin(codes::CALL, out)?;
+    out.u64(call.request.get())?;
+    put_nothing(out)?;
+    out.string(call.procedure.as_str())?;
+    end(&call.args, out)
+}
 
-    fn of(request: Id, mode: Option<Mode>) -> Read
-        ensures { result ≡ cancel_with request mode }
-    {
-        match mode {
-            Some(mode) => Read::Good(Message::Cancel(Cancel { request, mode })),
-            None => Read::Unfit {
-                kind: UnfitKind::Cancel,
-                request,
-                quiet: false,
-            },
-        }
-    }
-
-    pub(crate) fn put(self, out: &mut Writer) -> Result<(), AllocError>
-        ensures tokens { Appends result out.old out.new (data_tokens (cancel_value self)) }
-        ensures parts { OnOk result (IsId self.request) }
-    {
-        begin(codes::CANCEL, out)?;
-        out.u64(self.request.get())?;
-        put_cancel_options(self.mode, out)?;
-        out.end_array()
+// What the elements behind the code of CANCEL are read as.
+pub(crate) fn read_cancel(rest: IntoIter<Value>) -> Read
+    ensures { result ≡ cancel_in (elements rest) }
+{
+    match id_dictionary(rest) {
+        Ok(numbered) => cancel_of(numbered.id, mode_in(&numbered.details)),
+        Err(fault) => Read::Bad(fault),
     }
 }
 
-impl Reply {
-    /// An equal one, as `Message::copy`.
-    pub fn copy(&self) -> Result<Reply, Memory>
-        ensures { IfOk result (λ made. made ≡ self.now) }
-    {
-        Ok(Reply {
-            request: self.request,
-            args: self.args.copy()?,
-        })
-    }
-
-    /// Whether the two are equal, as `Message::same`.
-    pub fn same(&self, other: &Reply) -> bool
-        ensures { IsTrue result ↔ (self.now ≡ other.now) }
-    {
-        self.request == other.request && self.args.same(&other.args)
-    }
-
-    // What the elements behind the code are read as.
-    pub(crate) fn read(rest: IntoIter<Value>) -> Read
-        ensures { result ≡ reply_in (elements rest) }
-    {
-        match id_dictionary_args(rest, false) {
-            Ok(taken) => Read::Good(Message::Reply(Reply {
-                request: taken.request,
-                args: taken.args.unwrap_or(Args::Nothing),
-            })),
-            Err(fault) => Read::Bad(fault),
-        }
-    }
-
-    pub(crate) fn put(&self, out: &mut Writer) -> Result<(), AllocError>
-        ensures tokens { Appends result out.old out.new (data_tokens (reply_value self.now)) }
-        ensures parts { OnOk result (IsId self.now.request × IsArgs self.now.args) }
-    {
-        begin(codes::RESULT, out)?;
-        out.u64(self.request.get())?;
-        put_nothing(out)?;
-        end(&self.args, out)
+fn cancel_of(request: Id, mode: Option<Mode>) -> Read
+    ensures { result ≡ cancel_with request mode }
+{
+    match mode {
+        Some(mode) => Read::Good(Message::Cancel(Cancel { request, mode })),
+        None => Read::Unfit {
+            kind: UnfitKind::Cancel,
+            request,
+            quiet: false,
+        },
     }
 }
 
-impl Invocation {
-    /// An equal one, as `Message::copy`.
-    pub fn copy(&self) -> Result<Invocation, Memory>
-        ensures { IfOk result (λ made. made ≡ self.now) }
-    {
-        Ok(Invocation {
-            request: self.request,
-            registration: self.registration,
-            procedure: copy_label(&self.procedure)?,
-            args: self.args.copy()?,
-        })
-    }
+pub(crate) fn put_cancel(cancel: Cancel, out: &mut Writer) -> Result<(), AllocError>
+    ensures tokens { Appends result out.old out.new (data_tokens (cancel_value cancel)) }
+    ensures parts { OnOk result (IsId cancel.request) }
+{
+    begin(codes::CANCEL, out)?;
+    out.u64(cancel.request.get())?;
+    put_cancel_options(cancel.mode, out)?;
+    out.end_array()
+}
 
-    /// Whether the two are equal, as `Message::same`.
-    pub fn same(&self, other: &Invocation) -> bool
-        ensures { IsTrue result ↔ (self.now ≡ other.now) }
-    {
-        self.request == other.request
-            && self.registration == other.registration
-            && is_same_label(&self.procedure, &other.procedure)
-            && self.args.same(&other.args)
-    }
-
-    // What the elements behind the code are read as.
-    pub(crate) fn read(rest: IntoIter<Value>) -> Read
-        ensures { result ≡ invocation_in (elements rest) }
-    {
-        match two_ids_label_args(rest, "procedure") {
-            Ok(labelled) => Read::Good(Message::Invocation(Invocation {
-                request: labelled.first,
-                registration: labelled.second,
-                procedure: labelled.label,
-                args: labelled.args,
-            })),
-            Err(fault) => Read::Bad(fault),
-        }
-    }
-
-    pub(crate) fn put(&self, out: &mut Writer) -> Result<(), AllocError>
-        ensures tokens { Appends result out.old out.new (data_tokens (invocation_value self.now)) }
-        ensures parts { OnOk result
-            (IsId self.now.request × (IsId self.now.registration × IsArgs self.now.args)) }
-    {
-        begin(codes::INVOCATION, out)?;
-        out.u64(self.request.get())?;
-        out.u64(self.registration.get())?;
-        put_label("procedure", &self.procedure, out)?;
-        end(&self.args, out)
+// What the elements behind the code of RESULT are read as.
+pub(crate) fn read_reply(rest: IntoIter<Value>) -> Read
+    ensures { result ≡ reply_in (elements rest) }
+{
+    match id_dictionary_args(rest, false) {
+        Ok(taken) => Read::Good(Message::Reply(Reply {
+            request: taken.request,
+            args: taken.args.unwrap_or(Args::Nothing),
+        })),
+        Err(fault) => Read::Bad(fault),
     }
 }
 
-impl Interrupt {
-    // What the elements behind the code are read as.
-    pub(crate) fn read(rest: IntoIter<Value>) -> Read
-        ensures { result ≡ interrupt_in (elements rest) }
-    {
-        match id_mode(rest) {
-            Ok(stopped) => Read::Good(Message::Interrupt(Interrupt {
-                request: stopped.request,
-                mode: stopped.mode,
-            })),
-            Err(fault) => Read::Bad(fault),
-        }
-    }
+pub(crate) fn put_reply(reply: &Reply, out: &mut Writer) -> Result<(), AllocError>
+    ensures tokens { Appends result out.old out.new (data_tokens (reply_value reply.now)) }
+    ensures parts { OnOk result (IsId reply.now.request × IsArgs reply.now.args) }
+{
+    begin(codes::RESULT, out)?;
+    out.u64(reply.request.get())?;
+    put_nothing(out)?;
+    end(&reply.args, out)
+}
 
-    pub(crate) fn put(self, out: &mut Writer) -> Result<(), AllocError>
-        ensures tokens { Appends result out.old out.new (data_tokens (interrupt_value self)) }
-        ensures parts { OnOk result (IsId self.request) }
-    {
-        begin(codes::INTERRUPT, out)?;
-        out.u64(self.request.get())?;
-        put_mode(self.mode, out)?;
-        out.end_array()
+// What the elements behind the code of INVOCATION are read as.
+pub(crate) fn read_invocation(rest: IntoIter<Value>) -> Read
+    ensures { result ≡ invocation_in (elements rest) }
+{
+    match two_ids_label_args(rest, "procedure") {
+        Ok(labelled) => Read::Good(Message::Invocation(Invocation {
+            request: labelled.first,
+            registration: labelled.second,
+            procedure: labelled.label,
+            args: labelled.args,
+        })),
+        Err(fault) => Read::Bad(fault),
     }
 }
 
-impl Yield {
-    /// An equal one, as `Message::copy`.
-    pub fn copy(&self) -> Result<Yield, Memory>
-        ensures { IfOk result (λ made. made ≡ self.now) }
-    {
-        Ok(Yield {
-            request: self.request,
-            args: self.args.copy()?,
-        })
-    }
+pub(crate) fn put_invocation(invocation: &Invocation, out: &mut Writer) -> Result<(), AllocError>
+    ensures tokens { Appends result out.old out.new (data_tokens (invocation_value invocation.now)) }
+    ensures parts { OnOk result
+        (IsId invocation.now.request × (IsId invocation.now.registration × IsArgs invocation.now.args)) }
+{
+    begin(codes::INVOCATION, out)?;
+    out.u64(invocation.request.get())?;
+    out.u64(invocation.registration.get())?;
+    put_label("procedure", &invocation.procedure, out)?;
+    end(&invocation.args, out)
+}
 
-    /// Whether the two are equal, as `Message::same`.
-    pub fn same(&self, other: &Yield) -> bool
-        ensures { IsTrue result ↔ (self.now ≡ other.now) }
-    {
-        self.request == other.request && self.args.same(&other.args)
+// What the elements behind the code of INTERRUPT are read as.
+pub(crate) fn read_interrupt(rest: IntoIter<Value>) -> Read
+    ensures { result ≡ interrupt_in (elements rest) }
+{
+    match id_mode(rest) {
+        Ok(stopped) => Read::Good(Message::Interrupt(Interrupt {
+            request: stopped.request,
+            mode: stopped.mode,
+        })),
+        Err(fault) => Read::Bad(fault),
     }
+}
 
-    // What the elements behind the code are read as.
-    pub(crate) fn read(rest: IntoIter<Value>) -> Read
-        ensures { result ≡ yield_in (elements rest) }
-    {
-        match id_dictionary_args(rest, true) {
-            Ok(answered) => Yield::of(answered),
-            Err(fault) => Read::Bad(fault),
-        }
-    }
+pub(crate) fn put_interrupt(interrupt: Interrupt, out: &mut Writer) -> Result<(), AllocError>
+    ensures tokens { Appends result out.old out.new (data_tokens (interrupt_value interrupt)) }
+    ensures parts { OnOk result (IsId interrupt.request) }
+{
+    begin(codes::INTERRUPT, out)?;
+    out.u64(interrupt.request.get())?;
+    put_mode(interrupt.mode, out)?;
+    out.end_array()
+}
 
-    fn of(answered: Answered) -> Read
-        ensures { result ≡ yield_read answered }
-    {
-        let Answered { request, args } = answered;
-        match args {
-            Some(args) => Read::Good(Message::Yield(Yield { request, args })),
-            None => Read::Unfit {
-                kind: UnfitKind::Yield,
-                request,
-                quiet: false,
-            },
-        }
+// What the elements behind the code of YIELD are read as.
+pub(crate) fn read_yield(rest: IntoIter<Value>) -> Read
+    ensures { result ≡ yield_in (elements rest) }
+{
+    match id_dictionary_args(rest, true) {
+        Ok(answered) => yield_of(answered),
+        Err(fault) => Read::Bad(fault),
     }
+}
 
-    pub(crate) fn put(&self, out: &mut Writer) -> Result<(), AllocError>
-        ensures tokens { Appends result out.old out.new (data_tokens (yield_value self.now)) }
-        ensures parts { OnOk result (IsId self.now.request × IsArgs self.now.args) }
-    {
-        begin(codes::YIELD, out)?;
-        out.u64(self.request.get())?;
-        put_nothing(out)?;
-        end(&self.args, out)
+fn yield_of(answered: Answered) -> Read
+    ensures { result ≡ yield_read answered }
+{
+    let Answered { request, args } = answered;
+    match args {
+        Some(args) => Read::Good(Message::Yield(Yield { request, args })),
+        None => Read::Unfit {
+            kind: UnfitKind::Yield,
+            request,
+            quiet: false,
+        },
     }
+}
+
+pub(crate) fn put_yield(yielded: &Yield, out: &mut Writer) -> Result<(), AllocError>
+    ensures tokens { Appends result out.old out.new (data_tokens (yield_value yielded.now)) }
+    ensures parts { OnOk result (IsId yielded.now.request × IsArgs yielded.now.args) }
+{
+    begin(codes::YIELD, out)?;
+    out.u64(yielded.request.get())?;
+    put_nothing(out)?;
+    end(&yielded.args, out)
 }
 
 fn put_cancel_options(mode: Mode, out: &mut Writer) -> Result<(), AllocError>

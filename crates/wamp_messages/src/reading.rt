@@ -4,18 +4,19 @@ ghost use Rattle.serde_json.specs.View.{view};
 ghost use Rattle.wamp_elements.specs.Elements.{elements};
 ghost use Rattle.wamp_messages.specs.Reading.{read_of, message_in, by_code};
 
-use crate::call::{Call, Cancel, Interrupt, Invocation, Reply, Yield};
-use crate::error::Error;
-use crate::memory::Memory;
-use crate::publish::{Event, Publish, Published};
-use crate::read_result::Read;
-use crate::register::{Register, Registered, Unregister, Unregistered};
-use crate::session::{Abort, Goodbye, Hello, Welcome};
-use crate::subscribe::{Subscribe, Subscribed, Unsubscribe, Unsubscribed};
+use crate::call::{
+    read_call, read_cancel, read_interrupt, read_invocation, read_reply, read_yield,
+};
+use crate::error::read_error;
+use crate::publish::{read_event, read_publish, read_published};
+use crate::register::{read_register, read_registered, read_unregister, read_unregistered};
+use crate::session::{read_abort, read_goodbye, read_hello, read_welcome};
+use crate::subscribe::{read_subscribe, read_subscribed, read_unsubscribe, read_unsubscribed};
 use serde_json::Value;
 use std::alloc::Global;
 use std::vec::IntoIter;
 use wamp_elements::{MessageFault, codes};
+use wamp_kinds::{Memory, Read};
 
 /// What these octets are read as: a message, a request that is unfit, or why they are no message.
 ///
@@ -56,28 +57,28 @@ fn read_kind(code: u64, rest: IntoIter<Value>) -> Read
     ensures { result ≡ by_code code (elements rest) }
 {
     match code {
-        codes::HELLO => Hello::read(rest),
-        codes::WELCOME => Welcome::read(rest),
-        codes::ABORT => Abort::read(rest),
-        codes::GOODBYE => Goodbye::read(rest),
-        codes::ERROR => Error::read(rest),
-        codes::PUBLISH => Publish::read(rest),
-        codes::PUBLISHED => Published::read(rest),
-        codes::SUBSCRIBE => Subscribe::read(rest),
-        codes::SUBSCRIBED => Subscribed::read(rest),
-        codes::EVENT => Event::read(rest),
-        codes::UNSUBSCRIBE => Unsubscribe::read(rest),
-        codes::UNSUBSCRIBED => Unsubscribed::read(rest),
-        codes::REGISTER => Register::read(rest),
-        codes::REGISTERED => Registered::read(rest),
-        codes::UNREGISTER => Unregister::read(rest),
-        codes::UNREGISTERED => Unregistered::read(rest),
-        codes::CALL => Call::read(rest),
-        codes::CANCEL => Cancel::read(rest),
-        codes::RESULT => Reply::read(rest),
-        codes::INVOCATION => Invocation::read(rest),
-        codes::INTERRUPT => Interrupt::read(rest),
-        codes::YIELD => Yield::read(rest),
+        codes::HELLO => read_hello(rest),
+        codes::WELCOME => read_welcome(rest),
+        codes::ABORT => read_abort(rest),
+        codes::GOODBYE => read_goodbye(rest),
+        codes::ERROR => read_error(rest),
+        codes::PUBLISH => read_publish(rest),
+        codes::PUBLISHED => read_published(rest),
+        codes::SUBSCRIBE => read_subscribe(rest),
+        codes::SUBSCRIBED => read_subscribed(rest),
+        codes::EVENT => read_event(rest),
+        codes::UNSUBSCRIBE => read_unsubscribe(rest),
+        codes::UNSUBSCRIBED => read_unsubscribed(rest),
+        codes::REGISTER => read_register(rest),
+        codes::REGISTERED => read_registered(rest),
+        codes::UNREGISTER => read_unregister(rest),
+        codes::UNREGISTERED => read_unregistered(rest),
+        codes::CALL => read_call(rest),
+        codes::CANCEL => read_cancel(rest),
+        codes::RESULT => read_reply(rest),
+        codes::INVOCATION => read_invocation(rest),
+        codes::INTERRUPT => read_interrupt(rest),
+        codes::YIELD => read_yield(rest),
         _ => Read::Bad(MessageFault::Kind),
     }
 }

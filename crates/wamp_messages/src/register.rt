@@ -1,5 +1,5 @@
 // The messages of registrations.
-ghost use Rattle.std.specs.Prelude.{◌≡◌, ◌↔◌, option_map, IfOk, OnOk, IsTrue};
+ghost use Rattle.std.specs.Prelude.{◌≡◌, option_map, OnOk};
 ghost use Rattle.wamp_values.specs.Tokens.{data_tokens, Appends};
 ghost use Rattle.wamp_elements.specs.Elements.{elements};
 ghost use Rattle.wamp_elements.specs.Layouts.{seen_asked};
@@ -8,9 +8,6 @@ ghost use Rattle.wamp_messages.specs.Register.{register_in, register_read, regis
 ghost use Rattle.wamp_messages.specs.Register.{told_match, shared_options, invoke_and_match, registered_in, registered_value, unregister_in, unregister_value};
 ghost use Rattle.wamp_messages.specs.Register.{unregistered_in, unregistered_value};
 
-use crate::memory::Memory;
-use crate::message::Message;
-use crate::read_result::{Read, UnfitKind};
 use crate::subscribe::put_match_options;
 use json::Writer;
 use serde_json::Value;
@@ -20,169 +17,114 @@ use wamp_elements::{
     UriRequest, begin, codes, id_dictionary_text, invoke_in, match_in, one_id, open,
     put_text_option, two_ids,
 };
-use wamp_ids::{Id, Invoke, Match, Text};
+use wamp_ids::{Id, Invoke, Match};
+use wamp_kinds::{Message, Read, Register, Registered, UnfitKind, Unregister, Unregistered};
 
-/// A client offers a procedure.
-#[derive(Drop)]
-pub struct Register {
-    pub request: Id,
-    pub matching: Match,
-    pub invoke: Invoke,
-    pub procedure: Text,
-}
-
-/// The procedure is registered.
-#[derive(Clone, Copy, Debug, PartialEq, Eq, Drop)]
-pub struct Registered {
-    pub request: Id,
-    pub registration: Id,
-}
-
-/// A client withdraws a procedure.
-#[derive(Clone, Copy, Debug, PartialEq, Eq, Drop)]
-pub struct Unregister {
-    pub request: Id,
-    pub registration: Id,
-}
-
-/// It is withdrawn.
-#[derive(Clone, Copy, Debug, PartialEq, Eq, Drop)]
-pub struct Unregistered {
-    pub request: Id,
-}
-
-impl Register {
-    /// An equal one, as `Message::copy`.
-    pub fn copy(&self) -> Result<Register, Memory>
-        ensures { IfOk result (λ made. made ≡ self.now) }
-    {
-        Ok(Register {
-            request: self.request,
-            matching: self.matching,
-            invoke: self.invoke,
-            procedure: self.procedure.copy()?,
-        })
-    }
-
-    /// Whether the two are equal, as `Message::same`.
-    pub fn same(&self, other: &Register) -> bool
-        ensures { IsTrue result ↔ (self.now ≡ other.now) }
-    {
-        self.request == other.request
-            && self.matching == other.matching
-            && self.invoke == other.invoke
-            && self.procedure.same(&other.procedure)
-    }
-
-    // What the elements behind the code are read as.
-    pub(crate) fn read(rest: IntoIter<Value>) -> Read
-        ensures { result ≡ register_in (elements rest) }
-    {
-        match id_dictionary_text(rest) {
-            Ok(asked) => Register::of(asked),
-            Err(fault) => Read::Bad(fault),
-        }
-    }
-
-    fn of(asked: UriRequest) -> Read
-        ensures { result ≡ register_read (seen_asked asked) }
-    {
-        let request = asked.request;
-        let Some(matching) = match_in(&asked.options) else {
-            return unfit(request);
-        };
-        match invoke_in(&asked.options) {
-            Some(invoke) => Read::Good(Message::Register(Register {
-                request,
-                matching,
-                invoke,
-                procedure: asked.uri,
-            })),
-            None => unfit(request),
-        }
-    }
-
-    pub(crate) fn put(&self, out: &mut Writer) -> Result<(), AllocError>
-        ensures tokens { Appends result out.old out.new (data_tokens (register_value self.now)) }
-        ensures parts { OnOk result (IsId self.now.request) }
-    {
-        begin(codes::REGISTER, out)?;
-        out.u64(self.request.get())?;
-        put_register_options(self.invoke, self.matching, out)?;
-        out.string(self.procedure.as_str())?;
-        out.end_array()
+// What the elements behind the code of REGISTER are read as.
+pub(crate) fn read_register(rest: IntoIter<Value>) -> Read
+    ensures { result ≡ register_in (elements rest) }
+{
+    match id_dictionary_text(rest) {
+        Ok(asked) => register_of(asked),
+        Err(fault) => Read::Bad(fault),
     }
 }
 
-impl Registered {
-    // What the elements behind the code are read as.
-    pub(crate) fn read(rest: IntoIter<Value>) -> Read
-        ensures { result ≡ registered_in (elements rest) }
-    {
-        match two_ids(rest) {
-            Ok(ids) => Read::Good(Message::Registered(Registered {
-                request: ids.first,
-                registration: ids.second,
-            })),
-            Err(fault) => Read::Bad(fault),
-        }
-    }
-
-    pub(crate) fn put(self, out: &mut Writer) -> Result<(), AllocError>
-        ensures tokens { Appends result out.old out.new (data_tokens (registered_value self)) }
-        ensures parts { OnOk result (IsId self.request × IsId self.registration) }
-    {
-        begin(codes::REGISTERED, out)?;
-        out.u64(self.request.get())?;
-        out.u64(self.registration.get())?;
-        out.end_array()
+fn register_of(asked: UriRequest) -> Read
+    ensures { result ≡ register_read (seen_asked asked) }
+{
+    let request = asked.request;
+    let Some(matching) = match_in(&asked.options) else {
+        return unfit(request);
+    };
+    match invoke_in(&asked.options) {
+        Some(invoke) => Read::Good(Message::Register(Register {
+            request,
+            matching,
+            invoke,
+            procedure: asked.uri,
+        })),
+        None => unfit(request),
     }
 }
 
-impl Unregister {
-    // What the elements behind the code are read as.
-    pub(crate) fn read(rest: IntoIter<Value>) -> Read
-        ensures { result ≡ unregister_in (elements rest) }
-    {
-        match two_ids(rest) {
-            Ok(ids) => Read::Good(Message::Unregister(Unregister {
-                request: ids.first,
-                registration: ids.second,
-            })),
-            Err(fault) => Read::Bad(fault),
-        }
-    }
+pub(crate) fn put_register(register: &Register, out: &mut Writer) -> Result<(), AllocError>
+    ensures tokens { Appends result out.old out.new (data_tokens (register_value register.now)) }
+    ensures parts { OnOk result (IsId register.now.request) }
+{
+    begin(codes::REGISTER, out)?;
+    out.u64(register.request.get())?;
+    put_register_options(register.invoke, register.matching, out)?;
+    out.string(register.procedure.as_str())?;
+    out.end_array()
+}
 
-    pub(crate) fn put(self, out: &mut Writer) -> Result<(), AllocError>
-        ensures tokens { Appends result out.old out.new (data_tokens (unregister_value self)) }
-        ensures parts { OnOk result (IsId self.request × IsId self.registration) }
-    {
-        begin(codes::UNREGISTER, out)?;
-        out.u64(self.request.get())?;
-        out.u64(self.registration.get())?;
-        out.end_array()
+// What the elements behind the code of REGISTERED are read as.
+pub(crate) fn read_registered(rest: IntoIter<Value>) -> Read
+    ensures { result ≡ registered_in (elements rest) }
+{
+    match two_ids(rest) {
+        Ok(ids) => Read::Good(Message::Registered(Registered {
+            request: ids.first,
+            registration: ids.second,
+        })),
+        Err(fault) => Read::Bad(fault),
     }
 }
 
-impl Unregistered {
-    // What the elements behind the code are read as.
-    pub(crate) fn read(rest: IntoIter<Value>) -> Read
-        ensures { result ≡ unregistered_in (elements rest) }
-    {
-        match one_id(rest) {
-            Ok(request) => Read::Good(Message::Unregistered(Unregistered { request })),
-            Err(fault) => Read::Bad(fault),
-        }
-    }
+pub(crate) fn put_registered(registered: Registered, out: &mut Writer) -> Result<(), AllocError>
+    ensures tokens { Appends result out.old out.new (data_tokens (registered_value registered)) }
+    ensures parts { OnOk result (IsId registered.request × IsId registered.registration) }
+{
+    begin(codes::REGISTERED, out)?;
+    out.u64(registered.request.get())?;
+    out.u64(registered.registration.get())?;
+    out.end_array()
+}
 
-    pub(crate) fn put(self, out: &mut Writer) -> Result<(), AllocError>
-        ensures tokens { Appends result out.old out.new (data_tokens (unregistered_value self)) }
-        ensures parts { OnOk result (IsId self.request) }
-    {
-        begin(codes::UNREGISTERED, out)?;
-        out.u64(self.request.get())?;
-        out.end_array()
+// What the elements behind the code of UNREGISTER are read as.
+pub(crate) fn read_unregister(rest: IntoIter<Value>) -> Read
+    ensures { result ≡ unregister_in (elements rest) }
+{
+    match two_ids(rest) {
+        Ok(ids) => Read::Good(Message::Unregister(Unregister {
+            request: ids.first,
+            registration: ids.second,
+        })),
+        Err(fault) => Read::Bad(fault),
     }
+}
+
+pub(crate) fn put_unregister(unregister: Unregister, out: &mut Writer) -> Result<(), AllocError>
+    ensures tokens { Appends result out.old out.new (data_tokens (unregister_value unregister)) }
+    ensures parts { OnOk result (IsId unregister.request × IsId unregister.registration) }
+{
+    begin(codes::UNREGISTER, out)?;
+    out.u64(unregister.request.get())?;
+    out.u64(unregister.registration.get())?;
+    out.end_array()
+}
+
+// What the elements behind the code of UNREGISTERED are read as.
+pub(crate) fn read_unregistered(rest: IntoIter<Value>) -> Read
+    ensures { result ≡ unregistered_in (elements rest) }
+{
+    match one_id(rest) {
+        Ok(request) => Read::Good(Message::Unregistered(Unregistered { request })),
+        Err(fault) => Read::Bad(fault),
+    }
+}
+
+pub(crate) fn put_unregistered(
+    unregistered: Unregistered,
+    out: &mut Writer,
+) -> Result<(), AllocError>
+    ensures tokens { Appends result out.old out.new (data_tokens (unregistered_value unregistered)) }
+    ensures parts { OnOk result (IsId unregistered.request) }
+{
+    begin(codes::UNREGISTERED, out)?;
+    out.u64(unregistered.request.get())?;
+    out.end_array()
 }
 
 fn unfit(request: Id) -> Read

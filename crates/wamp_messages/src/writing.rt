@@ -4,13 +4,18 @@ ghost use Rattle.wamp_values.specs.Tokens.{data_tokens, Appends};
 ghost use Rattle.wamp_messages.specs.Writing.{text_of, value_of};
 ghost use Rattle.wamp_messages.specs.Message.{HasParts};
 ghost use Rattle.wamp_messages.specs.Reading.{read_of};
-ghost use Rattle.wamp_messages.specs.declared.read_result.Read.TheVariants.{Good};
+ghost use Rattle.wamp_kinds.specs.declared.read_result.Read.TheVariants.{Good};
 
-use crate::memory::Memory;
-use crate::message::Message;
+use crate::call::{put_call, put_cancel, put_interrupt, put_invocation, put_reply, put_yield};
+use crate::error::put_error;
+use crate::publish::{put_event, put_publish, put_published};
+use crate::register::{put_register, put_registered, put_unregister, put_unregistered};
+use crate::session::{put_abort, put_goodbye, put_hello, put_welcome};
+use crate::subscribe::{put_subscribe, put_subscribed, put_unsubscribe, put_unsubscribed};
 use json::Writer;
 use std::alloc::{AllocError, Global};
 use std::mem;
+use wamp_kinds::{Memory, Message};
 
 /// The message's one canonical text: compact JSON, in the order of its layout. Where memory runs out there is none, and nothing
 /// has changed.
@@ -48,27 +53,27 @@ fn put_message(message: &Message, out: &mut Writer) -> Result<(), AllocError>
     ensures parts { OnOk result (HasParts message.now) }
 {
     match message {
-        Message::Hello(hello) => hello.put(out),
-        Message::Welcome(welcome) => welcome.put(out),
-        Message::Abort(abort) => abort.put(out),
-        Message::Goodbye(goodbye) => goodbye.put(out),
-        Message::Error(error) => error.put(out),
-        Message::Publish(publish) => publish.put(out),
-        Message::Published(published) => published.put(out),
-        Message::Subscribe(subscribe) => subscribe.put(out),
-        Message::Subscribed(subscribed) => subscribed.put(out),
-        Message::Event(event) => event.put(out),
-        Message::Unsubscribe(unsubscribe) => unsubscribe.put(out),
-        Message::Unsubscribed(unsubscribed) => unsubscribed.put(out),
-        Message::Register(register) => register.put(out),
-        Message::Registered(registered) => registered.put(out),
-        Message::Unregister(unregister) => unregister.put(out),
-        Message::Unregistered(unregistered) => unregistered.put(out),
-        Message::Call(call) => call.put(out),
-        Message::Cancel(cancel) => cancel.put(out),
-        Message::Reply(reply) => reply.put(out),
-        Message::Invocation(invocation) => invocation.put(out),
-        Message::Interrupt(interrupt) => interrupt.put(out),
-        Message::Yield(yielded) => yielded.put(out),
+        Message::Hello(hello) => put_hello(hello, out),
+        Message::Welcome(welcome) => put_welcome(*welcome, out),
+        Message::Abort(abort) => put_abort(abort, out),
+        Message::Goodbye(goodbye) => put_goodbye(goodbye, out),
+        Message::Error(error) => put_error(error, out),
+        Message::Publish(publish) => put_publish(publish, out),
+        Message::Published(published) => put_published(*published, out),
+        Message::Subscribe(subscribe) => put_subscribe(subscribe, out),
+        Message::Subscribed(subscribed) => put_subscribed(*subscribed, out),
+        Message::Event(event) => put_event(event, out),
+        Message::Unsubscribe(unsubscribe) => put_unsubscribe(*unsubscribe, out),
+        Message::Unsubscribed(unsubscribed) => put_unsubscribed(*unsubscribed, out),
+        Message::Register(register) => put_register(register, out),
+        Message::Registered(registered) => put_registered(*registered, out),
+        Message::Unregister(unregister) => put_unregister(*unregister, out),
+        Message::Unregistered(unregistered) => put_unregistered(*unregistered, out),
+        Message::Call(call) => put_call(call, out),
+        Message::Cancel(cancel) => put_cancel(*cancel, out),
+        Message::Reply(reply) => put_reply(reply, out),
+        Message::Invocation(invocation) => put_invocation(invocation, out),
+        Message::Interrupt(interrupt) => put_interrupt(*interrupt, out),
+        Message::Yield(yielded) => put_yield(yielded, out),
     }
 }
