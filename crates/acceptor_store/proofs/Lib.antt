@@ -8,3 +8,6 @@ mod Reading
 mod Meaning
 mod Writing
 mod Keeping
+mod Within
+mod Changing
+mod Calling

@@ -3,3 +3,5 @@ pub mod Statements
 pub mod Rows
 pub mod Store
 pub mod Once
+pub mod Calls
+pub mod Changes

@@ -2,7 +2,12 @@
 //! commit.
 #![tactic(auto)]
 
+mod calls;
+mod changes;
 mod rows;
+mod sql;
 mod statements;
 mod store;
 mod tables;
+
+pub use sql::SqlKeeper;

@@ -1,7 +1,9 @@
-ghost use Rattle.std.specs.Prelude.{◌≡◌, ◌≢◌, [], Ok, Err, Some, None, option_map, option_and_then, IfOk, IfErr, OnOk, MatchOption};
+ghost use Rattle.std.specs.Prelude.{◌≡◌, ◌≢◌, true, [], Ok, Err, Some, None, option_map, option_and_then, IfOk, IfErr, OnOk, MatchOption};
 ghost use Rattle.sqlite_value.specs.Order.{column};
 ghost use Rattle.acceptor_store.specs.Rows.{number, octets, within, if_within, slot_in, boot_in, ballot_in, promise_in, entry_in};
 ghost use Rattle.acceptor_store.specs.Rows.{vote_of, is_promised, with_row, votes_after, or_damaged, numbers_of, numbers_in, rows_of};
+ghost use Rattle.acceptor_store.specs.Store.{are_numbers, numbers_in_rows};
+ghost use Rattle.acceptor_store.specs.Calls.{LiesBelow};
 
 use acceptor_keeper::KeeperFault;
 use command_codec::{CodecFault, Coder, take_entry};
@@ -212,6 +214,8 @@ pub(crate) fn read_rows<B: Drop, C: Coder<B>>(
 ) -> Result<Rows<B>, KeeperFault>
     ensures rows { IfOk result (λ rows. rows_of C.reading metas.now votes.items ≡ Ok rows) }
     ensures fault { IfErr result (λ fault. fault ≢ KeeperFault.Memory → rows_of C.reading metas.now votes.items ≡ Err fault) }
+    ensures below { IfErr result LiesBelow }
+    ensures numbers { IfOk result (λ rows. are_numbers (numbers_in_rows rows) ≡ true) }
 {
     let numbers = numbers_in(metas)?;
     let votes = votes_in::<B, C>(alloc, &numbers.promised, votes)?;

@@ -11,6 +11,7 @@ ghost use Rattle.acceptor_store.specs.Tables.{create_meta_text, create_vote_text
 ghost use Rattle.acceptor_store.specs.Statements.{round_of, node_of, HasAtMost, PutsMeta, IsFounded};
 ghost use Rattle.acceptor_store.specs.Rows.{is_promised};
 ghost use Rattle.acceptor_store.specs.Store.{IsVote, AreVotes};
+ghost use Rattle.acceptor_store.specs.Calls.{LiesBelow};
 
 use acceptor_keeper::KeeperFault;
 use command_codec::Coder;
@@ -131,6 +132,7 @@ fn create_meta<S: Alter>(tx: &mut Transaction<'_, S>) -> Result<(), KeeperFault>
     ensures shown { HasCleanDisk (state S.Store tx.new.conn.now) → IsTrue (state S.Store tx.old.conn.now).in_transaction
         → OnOk result (Shows (state S.Store tx.old.conn.now) (state S.Store tx.new.conn.now) (state S.Store tx.new.conn.now).now (state S.Store tx.old.conn.now).committed true) }
     ensures survives { Survives (state S.Store tx.old.conn.now) (state S.Store tx.new.conn.now) (λ _. ⊥) }
+    ensures fault { IfErr result (λ e. (e ≡ KeeperFault.Memory) ⊎ (e ≡ KeeperFault.Store)) }
 {
     match execute_create_meta(tx) {
         Ok(_) => Ok(()),
@@ -148,6 +150,7 @@ fn create_vote<S: Alter>(tx: &mut Transaction<'_, S>) -> Result<(), KeeperFault>
     ensures shown { HasCleanDisk (state S.Store tx.new.conn.now) → IsTrue (state S.Store tx.old.conn.now).in_transaction
         → OnOk result (Shows (state S.Store tx.old.conn.now) (state S.Store tx.new.conn.now) (state S.Store tx.new.conn.now).now (state S.Store tx.old.conn.now).committed true) }
     ensures survives { Survives (state S.Store tx.old.conn.now) (state S.Store tx.new.conn.now) (λ _. ⊥) }
+    ensures fault { IfErr result (λ e. (e ≡ KeeperFault.Memory) ⊎ (e ≡ KeeperFault.Store)) }
 {
     match execute_create_vote(tx) {
         Ok(_) => Ok(()),
@@ -172,6 +175,8 @@ pub(crate) fn put_meta<S: Alter>(
         → OnOk result (Shows (state S.Store tx.old.conn.now) (state S.Store tx.new.conn.now) (state S.Store tx.new.conn.now).now (state S.Store tx.old.conn.now).committed true) }
     ensures survives { Survives (state S.Store tx.old.conn.now) (state S.Store tx.new.conn.now) (λ _. ⊥) }
     ensures fault { IfErr result (λ e. e ≢ KeeperFault.Damaged) }
+    ensures below { IfErr result LiesBelow }
+    ensures told { IfErr result (λ e. (e ≡ KeeperFault.Memory) ⊎ (e ≡ KeeperFault.Store)) }
 {
     let round = signed(round_of(promised));
     let node = signed(node_of(promised));
@@ -204,6 +209,7 @@ pub(crate) fn put_vote<B, C: Coder<B>, S: Alter>(
         → OnOk result (Shows (state S.Store tx.old.conn.now) (state S.Store tx.new.conn.now) (state S.Store tx.new.conn.now).now (state S.Store tx.old.conn.now).committed true) }
     ensures survives { Survives (state S.Store tx.old.conn.now) (state S.Store tx.new.conn.now) (λ _. ⊥) }
     ensures fault { IfErr result (λ e. e ≢ KeeperFault.Damaged) }
+    ensures below { IfErr result LiesBelow }
 {
     let round = signed(ballot.round);
     let node = signed(node_in(ballot));
@@ -221,6 +227,7 @@ pub(crate) fn found<S: Alter>(tx: &mut Transaction<'_, S>) -> Result<(), KeeperF
     ensures shown { HasCleanDisk (state S.Store tx.new.conn.now) → IsTrue (state S.Store tx.old.conn.now).in_transaction
         → OnOk result (Shows (state S.Store tx.old.conn.now) (state S.Store tx.new.conn.now) (state S.Store tx.new.conn.now).now (state S.Store tx.old.conn.now).committed true) }
     ensures survives { Survives (state S.Store tx.old.conn.now) (state S.Store tx.new.conn.now) (λ _. ⊥) }
+    ensures fault { IfErr result (λ e. (e ≡ KeeperFault.Memory) ⊎ (e ≡ KeeperFault.Store)) }
 {
     create_meta(tx)?;
     create_vote(tx)?;

@@ -12,7 +12,8 @@ ghost use Rattle.paxos_packets.specs.declared.vote.Vote.{Vote};
 ghost use Rattle.command_codec.specs.Entry.{entry_reading, entry_spelling};
 ghost use Rattle.acceptor_store.specs.Tables.{store_schema, empty_schema};
 ghost use Rattle.acceptor_store.specs.Statements.{round_of, IsFounded};
-ghost use Rattle.acceptor_store.specs.Store.{Reads, written, is_ballot, is_promise, are_numbers, is_placed, NotLowered, Leaves, AreVotes, Follows, GoesOn, Wrote, Stores};
+ghost use Rattle.acceptor_store.specs.Calls.{LiesBelow};
+ghost use Rattle.acceptor_store.specs.Store.{Reads, numbers_in_rows, written, is_ballot, is_promise, are_numbers, is_placed, NotLowered, Leaves, AreVotes, Follows, GoesOn, Wrote, Stores};
 
 use crate::rows::{Numbers, read_rows};
 use crate::statements::{fault_of, found, put_meta, put_vote, read_tables};
@@ -68,6 +69,7 @@ fn write_vote<B, C: Coder<B>, S: Alter>(
         → OnOk result (GoesOn (Unit {0}) (state S.Store tx.old.conn.now) (state S.Store tx.new.conn.now)) }
     ensures survives { Survives (state S.Store tx.old.conn.now) (state S.Store tx.new.conn.now) (λ _. ⊥) }
     ensures fault { IfErr result (λ e. e ≡ KeeperFault.Damaged → entry_spelling C.spelling vote.now.entry ≡ None) }
+    ensures below { IfErr result LiesBelow }
 {
     spell::<B, C>(&vote.entry, octets)?;
     put_vote::<B, C, S>(tx, vote.slot.get(), &vote.ballot, octets.as_slice())
@@ -88,6 +90,7 @@ fn write_votes<B, C: Coder<B>, S: Alter>(
     ensures goes { HasCleanDisk (state S.Store tx.new.conn.now) → IsTrue (state S.Store tx.old.conn.now).in_transaction
         → OnOk result (GoesOn (votes.now ≢ []) (state S.Store tx.old.conn.now) (state S.Store tx.new.conn.now)) }
     ensures survives { Survives (state S.Store tx.old.conn.now) (state S.Store tx.new.conn.now) (λ _. ⊥) }
+    ensures below { IfErr result LiesBelow }
 {
     for vote in votes {
         write_vote::<B, C, S>(tx, vote, octets)?;
@@ -111,6 +114,7 @@ fn write_numbers<B, C: Coder<B>, S: Alter>(
     ensures survives { Survives (state S.Store tx.old.conn.now) (state S.Store tx.new.conn.now) (λ _. ⊥) }
     ensures idle { puts ≡ false → tx.new.conn.now ≡ tx.old.conn.now }
     ensures fault { IfErr result (λ e. e ≢ KeeperFault.Damaged) }
+    ensures below { IfErr result LiesBelow }
 {
     if puts {
         return put_meta(tx, numbers.boot, &numbers.promised);
@@ -137,6 +141,7 @@ fn write<B, C: Coder<B>, S: Alter>(
     ensures goes { HasCleanDisk (state S.Store tx.new.conn.now) → IsTrue (state S.Store tx.old.conn.now).in_transaction
         → OnOk result (GoesOn (Unit {0}) (state S.Store tx.old.conn.now) (state S.Store tx.new.conn.now)) }
     ensures survives { Survives (state S.Store tx.old.conn.now) (state S.Store tx.new.conn.now) (λ _. ⊥) }
+    ensures below { IfErr result LiesBelow }
 {
     write_numbers::<B, C, S>(tx, puts, numbers)?;
     write_votes::<B, C, S>(tx, votes, octets)
@@ -148,6 +153,7 @@ fn end<S: Alter>(tx: Transaction<'_, S>) -> Result<(), KeeperFault>
     ensures ok { HasCleanDisk (state S.Store tx.exit.0.now)
         → OnOk result (Shows (state S.Store tx.entry.conn.now) (state S.Store tx.exit.0.now) (state S.Store tx.entry.conn.now).now (state S.Store tx.entry.conn.now).now false) }
     ensures survives { Survives (state S.Store tx.entry.conn.now) (state S.Store tx.exit.0.now) (λ trees. trees ≡ (state S.Store tx.entry.conn.now).now.trees) }
+    ensures fault { IfErr result (λ e. (e ≡ KeeperFault.Memory) ⊎ (e ≡ KeeperFault.Store)) }
 {
     match tx.commit() {
         Ok(()) => Ok(()),
@@ -174,6 +180,7 @@ pub(crate) fn commit<B, C: Coder<B>, S: Alter>(
     ensures crash { Survives (state S.Store conn.old) (state S.Store conn.new)
         (λ trees. IsTrue (state S.Store conn.old).is_open
         × ((db : Database) × Wrote C.reading puts numbers.now votes.now (state S.Store conn.old).now db × (trees ≡ db.trees))) }
+    ensures below { IfErr result LiesBelow }
 {
     let mut tx = conn.transaction();
     write::<B, C, S>(&mut tx, puts, numbers, votes, octets)?;
@@ -189,6 +196,7 @@ pub(crate) fn found_store<S: Alter>(conn: &mut Connection<S>) -> Result<(), Keep
         → OnOk result (IsTrue (state S.Store conn.new).is_open × IsFounded (state S.Store conn.new).committed) }
     ensures crash { Survives (state S.Store conn.old) (state S.Store conn.new)
         (λ trees. (db : Database) × ((state S.Store conn.old).now.schema ≡ empty_schema → IsFounded db) × (trees ≡ db.trees)) }
+    ensures fault { IfErr result (λ e. (e ≡ KeeperFault.Memory) ⊎ (e ≡ KeeperFault.Store)) }
 {
     let mut tx = conn.transaction();
     found(&mut tx)?;
@@ -219,6 +227,8 @@ pub(crate) fn read_store<B: Body, C: Coder<B>, S: Alter>(
     ensures right { HasCleanDisk (state S.Store conn.new) → (rows : Rows B) → Leaves C.reading (state S.Store conn.old) rows
         → IfOk result (λ read. read ≡ rows) }
     ensures survives { Survives (state S.Store conn.old) (state S.Store conn.new) (λ _. ⊥) }
+    ensures below { IfErr result LiesBelow }
+    ensures numbers { IfOk result (λ rows. are_numbers (numbers_in_rows rows) ≡ true) }
 {
     check(alloc, conn)?;
     let (metas, votes) = read_tables(conn)?;
@@ -247,6 +257,7 @@ pub(crate) fn commit_rows<B, C: Coder<B>, S: Alter>(
         → (trees : Trees) → (state S.Store conn.new).may_leave trees
         → (state S.Store conn.old).may_leave trees ⊎ Stores C.reading trees (written numbers.now votes.now rows) }
     ensures clean { doubt (state S.Store conn.old).is_clean ≤ doubt (state S.Store conn.new).is_clean }
+    ensures below { IfErr result LiesBelow }
 {
     settle(conn);
     commit::<B, C, S>(conn, puts, numbers, votes, octets)?;

@@ -1,0 +1,105 @@
+-- What is held and found after the calls of a keeper.
+use Rattle.std.proofs.Common.{◌≡◌, ◌⊎◌, inl, inr, ⊎_elim, ℕ, suc, ◌+◌, ◌≤◌, true, false, List, [], Option, Some, None, refl, sym, ap, subst, ◌∙◌, arith, IsTrue}
+use Rattle.std.specs.List.{AllByRecursion}
+use Rattle.std.specs.Option.{option_or}
+use Rattle.sqlite_trees.specs.Tree.{Trees}
+use Rattle.sqlite_trees.specs.View.{doubt}
+use Rattle.sqlite_trees.specs.declared.store.Store.{Ghosts}
+use Rattle.sqlite_catalog.proofs.ReadLemmas.{lists_once}
+use Rattle.sqlite_schema.specs.declared.schema.Schema.{Schema}
+use Rattle.sqlite.specs.Effect.{Database}
+use Rattle.sqlite.specs.Held.{Held, state}
+use Rattle.sqlite.specs.State.{State, HasCleanDisk, IsLive, Survives}
+use Rattle.paxos_packets.specs.Rows.{raised}
+use Rattle.paxos_packets.specs.declared.ballot.Ballot.{Ballot}
+use Rattle.paxos_packets.specs.declared.vote.Vote.{Vote}
+use Rattle.paxos_packets.specs.declared.rows.Change.{Change}
+use Rattle.paxos_packets.specs.declared.rows.Rows.{Rows}
+use Rattle.paxos_acceptor.specs.Acceptor.{adopted}
+use Rattle.command_codec.specs.Number.{Reading}
+use Rattle.acceptor_keeper.specs.Keeper.{no_rows, FindsOr, FindsNoMore}
+use Rattle.acceptor_store.specs.declared.rows.Numbers.{Numbers}
+use Rattle.acceptor_store.specs.Tables.{store_schema, empty_schema}
+use Rattle.acceptor_store.specs.Statements.{IsFounded}
+use Rattle.acceptor_store.specs.Store.{Stores, StandsFor, AreVotes, Leaves, Holds, Finds, written, numbers_in_rows, is_placed, NotLowered, Follows}
+use Rattle.acceptor_store.specs.Once.{stored_once}
+use Rattle.acceptor_store.specs.Calls.{keeper_of}
+use Rattle.acceptor_store.proofs.Keeping.{reads_left, leaves_on}
+use Rattle.acceptor_store.proofs.Changing.{Places}
+use Rattle.std.specs.List.{IsDistinct}
+
+-- opening
+
+founded_stores : {B : Type 0} (reading : List ℕ → Reading B) (db : Database) → IsFounded db → Stores reading db.trees no_rows
+unfolding IsDistinct
+founded_stores {B} reading db is = record {
+  sound = is.sound;
+  has = record {
+    meta = (_, is.meta, refl);
+    votes = subst (λ tree. AreVotes reading None tree []) (sym is.votes) (record { each = tt; all = tt; once = tt; promised_all = tt; ascend = tt });
+  };
+}
+
+pub founded_left : {B : Type 0} (reading : List ℕ → Reading B) (s : State) → ((trees : Trees) → s.may_leave trees → trees ≡ s.committed.trees) → IsFounded s.committed
+    → Leaves reading s no_rows
+founded_left reading s crash is = reads_left reading s no_rows crash (founded_stores reading s.committed is)
+
+-- a store that has rows is not empty
+pub not_empty : {B : Type 0} (reading : List ℕ → Reading B) (s : State) (rows : Rows B) → IsLive s → s.now ≡ s.committed → IsTrue s.is_open → s.now.schema ≡ empty_schema
+    → Stores reading s.committed.trees rows → ⊥
+not_empty reading s rows live settled is_open none stores =
+    let listed : s.committed.schema ≡ store_schema = lists_once _ s.committed.schema store_schema (live is_open).1.lists stores.sound.lists in
+    let both : empty_schema ≡ store_schema = sym none ∙ ap (λ (d : Database). d.schema) settled ∙ listed in
+    let tables = ap (λ (t : Schema). t.tables) both in
+    absurd cc
+
+pub earlier : {S : Type 0} (g : Ghosts S) (old new : Held S) → doubt (state g old).is_clean ≤ doubt (state g new).is_clean → HasCleanDisk (state g new) → HasCleanDisk (state g old)
+earlier g old new clean h = omega arith
+
+-- what a change makes of rows that have the numbers
+
+pub adopts : {B : Type 0} (known next : Numbers) (change : Change B) (rows : Rows B) → Places known change next → known ≡ numbers_in_rows rows
+    → written next change.votes rows ≡ adopted rows change
+adopts known next change rows p same =
+    let boot : next.boot ≡ rows.boot = p.boot ∙ ap (λ (n : Numbers). n.boot) same in
+    let promised : next.promised ≡ option_or change.promised rows.promised = p.promised ∙ ap (λ (n : Numbers). option_or change.promised n.promised) same in
+    λ i. record { boot = boot i; promised = promised i; votes = (adopted rows change).votes }
+
+pub not_lower : {B : Type 0} (known next : Numbers) (change : Change B) (rows : Rows B) → Places known change next → known ≡ numbers_in_rows rows
+    → NotLowered rows.promised next.promised
+not_lower known next change rows p same = subst (λ (n : Numbers). NotLowered n.promised next.promised) same p.up
+
+-- one boot more
+
+pub one_more : {B : Type 0} (rows : Rows B) → ◌≡◌ {A = Rows B} (record { boot = rows.boot + 1; promised = rows.promised; votes = rows.votes }) (raised rows)
+one_more rows =
+    let up : rows.boot + 1 ≡ suc rows.boot = omega arith in
+    λ i. record { boot = up i; promised = rows.promised; votes = rows.votes }
+
+pub raises : {B : Type 0} (rows : Rows B) (n : Numbers) → n ≡ numbers_in_rows (raised rows) → Follows true rows n × (written n [] rows ≡ raised rows)
+raises {B} rows n e = subst (λ (m : Numbers). Follows true rows m × (written m [] rows ≡ raised rows)) (sym e) ((λ t. absurd cc, λ b u. u), refl)
+
+module _ {S : Type 0} (g : Ghosts S) {B : Type 0} (reading : List ℕ → Reading B) where
+  abbrev HeldBy : Held S → Option Numbers → Rows B → Type 0
+  HeldBy conn known rows = Holds g reading (keeper_of conn known) rows
+
+  abbrev FoundBy : Held S → Rows B → Type 0
+  FoundBy conn rows = Finds g reading (keeper_of conn None) rows
+
+  -- what commits nothing
+
+  pub found_no_more : (old new : Held S) → Survives (state g old) (state g new) (λ _. ⊥) → (x : Rows B) → FoundBy new x → FoundBy old x
+  found_no_more old new survives x h =
+      (earlier g old new survives.clean h.0, (h.1.0, ⊎_elim (λ was. was) (λ none. absurd none) (survives.crash h.0 h.1.0 h.1.1), h.1.2))
+
+  pub held_on : (old new : Held S) (k : Option Numbers) (rows : Rows B) → Survives (state g old) (state g new) (λ _. ⊥) → HeldBy old k rows → HeldBy new k rows
+  held_on old new k rows survives h clean =
+      let was = h (earlier g old new survives.clean clean) in
+      (leaves_on reading (state g old) (state g new) rows survives clean was.0, was.1)
+
+  -- what is found after a commit: what was found before it, or what it was to make
+  pub found_or : (old new : Held S) (next : Rows B) → HasCleanDisk (state g old)
+      → ((trees : Trees) → (state g new).may_leave trees → (state g old).may_leave trees ⊎ Stores reading trees next)
+      → (x : Rows B) → FoundBy new x → FoundBy old x ⊎ (x ≡ next)
+  found_or old new next early made x h =
+      ⊎_elim (λ was. inl (early, (h.1.0, was, h.1.2))) (λ stores. inr (stored_once reading h.1.0 next x stores h.1.2)) (made h.1.0 h.1.1)

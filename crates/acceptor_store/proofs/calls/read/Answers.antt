@@ -1,0 +1,35 @@
+use Rattle.std.proofs.Common.{◌≡◌, ◌∙◌, ap, sym, subst, true, Some}
+use Rattle.sqlite.specs.Held.{state}
+use Rattle.acceptor_store.specs.Store.{numbers_in_rows, are_numbers}
+use Rattle.acceptor_store.proofs.Keeping.{leaves_on}
+use Rattle.acceptor_store.proofs.Calling.{earlier, found_no_more, held_on}
+use Rattle.acceptor_store.proofs.calls.read.Goals as goal
+
+pub returns-clause-right : goal.returns-clause-right
+returns-clause-right g c clean rows holds =
+    c.in_ok-rows.ensures.right clean rows (holds (earlier g.S.Store c.args.conn.now c.read_store.new.conn c.read_store.ensures.survives.clean clean)).0
+
+pub returns-clause-kept : goal.returns-clause-kept
+returns-clause-kept g c rows holds clean =
+    let left = (holds (earlier g.S.Store c.args.conn.now c.read_store.new.conn c.read_store.ensures.survives.clean clean)).0 in (
+      leaves_on g.C.Coder.reading (state g.S.Store c.args.conn.now) (state g.S.Store c.read_store.new.conn) rows c.read_store.ensures.survives clean left,
+      c.numbers_in.ensures ∙ ap numbers_in_rows (c.in_ok-rows.ensures.right clean rows left),
+    )
+
+pub returns-clause-found : goal.returns-clause-found
+returns-clause-found g c x found =
+    found_no_more g.S.Store g.C.Coder.reading c.args.conn.now c.read_store.new.conn c.read_store.ensures.survives x found
+
+pub returns-in_err-rows-clause-kept : goal.returns-in_err-rows-clause-kept
+returns-in_err-rows-clause-kept g c rows holds =
+    held_on g.S.Store g.C.Coder.reading c.args.conn.now c.read_store.new.conn c.args.known.now rows c.read_store.ensures.survives holds
+
+pub returns-in_err-rows-clause-found : goal.returns-in_err-rows-clause-found
+returns-in_err-rows-clause-found g c x found =
+    found_no_more g.S.Store g.C.Coder.reading c.args.conn.now c.read_store.new.conn c.read_store.ensures.survives x found
+
+pub returns-clause-known : goal.returns-clause-known
+returns-clause-known g c = subst (λ n. are_numbers n ≡ true) (sym c.numbers_in.ensures) c.in_ok-rows.ensures.numbers
+
+pub returns-clause-told : goal.returns-clause-told
+returns-clause-told g c = ap Some c.numbers_in.ensures

@@ -1,0 +1,16 @@
+use Rattle.std.proofs.Common.{inl, inr, ⊎_elim, sym, subst}
+use Rattle.acceptor_store.specs.Store.{Holds, Finds}
+use Rattle.acceptor_store.proofs.sql.SqlKeeperKeeper.boot.Goals as goal
+
+pub returns-clause-right : goal.returns-clause-right
+returns-clause-right g c clean rows holds =
+    c.boot_from-booted.ensures.right clean rows (subst (λ k. Holds g.S.Store g.C.Coder.reading k rows) (sym c.self.view_is) holds)
+
+pub returns-clause-last : goal.returns-clause-last
+returns-clause-last g c clean rows holds spent =
+    c.boot_from-booted.ensures.last clean rows (subst (λ k. Holds g.S.Store g.C.Coder.reading k rows) (sym c.self.view_is) holds) spent
+
+pub returns-clause-found : goal.returns-clause-found
+returns-clause-found g c rows holds x found =
+    ⊎_elim (λ was. inl (subst (λ k. Finds g.S.Store g.C.Coder.reading k x) c.self.view_is was)) (λ next. inr next)
+    (c.boot_from-booted.ensures.found rows (subst (λ k. Holds g.S.Store g.C.Coder.reading k rows) (sym c.self.view_is) holds) x found)

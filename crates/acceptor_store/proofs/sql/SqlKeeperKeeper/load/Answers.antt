@@ -1,0 +1,13 @@
+use Rattle.std.proofs.Common.{sym, subst}
+use Rattle.acceptor_store.specs.Store.{Holds, Finds}
+use Rattle.acceptor_store.proofs.sql.SqlKeeperKeeper.load.Goals as goal
+
+pub returns-clause-right : goal.returns-clause-right
+returns-clause-right g c clean rows holds =
+    c.load_from.ensures.right clean rows (subst (λ k. Holds g.S.Store g.C.Coder.reading k rows) (sym c.self.view_is) holds)
+
+pub returns-clause-same : goal.returns-clause-same
+returns-clause-same g c rows holds = c.load_from.ensures.kept rows (subst (λ k. Holds g.S.Store g.C.Coder.reading k rows) (sym c.self.view_is) holds)
+
+pub returns-clause-found : goal.returns-clause-found
+returns-clause-found g c x found = subst (λ k. Finds g.S.Store g.C.Coder.reading k x) c.self.view_is (c.load_from.ensures.found x found)

@@ -1,0 +1,343 @@
+ghost use Rattle.std.specs.Prelude.{◌≡◌, ◌⊎◌, ◌<◌, ◌≤◌, ◌-◌, ◌^◌, ◌≢◌, Some, None, [], IsTrue, IfOk, IfErr, OnOk, IsErrOf, true, false};
+ghost use Rattle.std.specs.List.{AllByRecursion};
+ghost use Rattle.sqlite_trees.specs.Tree.{Trees};
+ghost use Rattle.sqlite_trees.specs.View.{doubt};
+ghost use Rattle.sqlite.specs.Effect.{Database};
+ghost use Rattle.sqlite.specs.Held.{state};
+ghost use Rattle.sqlite.specs.State.{HasCleanDisk, Survives};
+ghost use Rattle.paxos_packets.specs.Rows.{last_boot, raised};
+ghost use Rattle.paxos_packets.specs.declared.rows.Rows.{Rows};
+ghost use Rattle.paxos_acceptor.specs.Acceptor.{adopted};
+ghost use Rattle.acceptor_keeper.specs.Keeper.{no_rows, FindsOr, FindsNoMore};
+ghost use Rattle.acceptor_store.specs.Tables.{empty_schema};
+ghost use Rattle.acceptor_store.specs.Statements.{IsFounded};
+ghost use Rattle.acceptor_store.specs.Store.{Stores, Leaves, Holds, Finds, numbers_in_rows, are_numbers, is_ballot, is_placed, written, Follows, NotLowered};
+ghost use Rattle.acceptor_store.specs.Calls.{keeper_of, AreKnown, LiesBelow};
+
+use crate::changes::numbers_after;
+use crate::rows::Numbers;
+use crate::store::{commit_rows, found_store, read_store, settle};
+use crate::tables::is_empty;
+use acceptor_keeper::KeeperFault;
+use command_codec::Coder;
+use paxos_packets::{Body, Change, Rows, Vote, Votes};
+use sqlite::{Alter, Connection};
+use std::alloc::Global;
+
+// The calls of a keeper, over its connection and the numbers that it knows.
+
+/// The greatest boot number.
+const LAST_BOOT: u64 = (1 << 48) - 1;
+
+// Makes the tables of an empty database.
+fn found_anew<B, C: Coder<B>, S: Alter>(conn: &mut Connection<S>) -> Result<(), KeeperFault>
+    requires alone { conn.old.in_transaction ≡ false }
+    requires nothing { conn.old.schema ≡ empty_schema }
+    ensures alone { conn.new.in_transaction ≡ false }
+    ensures founded { HasCleanDisk (state S.Store conn.new) → OnOk result (Leaves C.reading (state S.Store conn.new) no_rows) }
+    ensures crash { Survives (state S.Store conn.old) (state S.Store conn.new)
+        (λ trees. (db : Database) × (conn.old.schema ≡ empty_schema → IsFounded db) × (trees ≡ db.trees)) }
+    ensures fault { IfErr result (λ e. (e ≡ KeeperFault.Memory) ⊎ (e ≡ KeeperFault.Store)) }
+{
+    found_store(conn)?;
+    settle(conn);
+    Ok(())
+}
+
+// Makes the tables where there is nothing yet.
+pub(crate) fn found_where_empty<B, C: Coder<B>, S: Alter>(
+    conn: &mut Connection<S>,
+) -> Result<(), KeeperFault>
+    requires { conn.old.in_transaction ≡ false }
+    ensures alone { conn.new.in_transaction ≡ false }
+    ensures founded { conn.old.schema ≡ empty_schema → HasCleanDisk (state S.Store conn.new)
+        → OnOk result (Leaves C.reading (state S.Store conn.new) no_rows) }
+    ensures again { IsTrue (state S.Store conn.old).is_open → (rows : Rows B) → Stores C.reading (state S.Store conn.old).committed.trees rows
+        → OnOk result (Leaves C.reading (state S.Store conn.new) rows) }
+    ensures crash { Survives (state S.Store conn.old) (state S.Store conn.new)
+        (λ trees. (db : Database) × (conn.old.schema ≡ empty_schema → IsFounded db) × (trees ≡ db.trees)) }
+    ensures fault { IfErr result (λ e. (e ≡ KeeperFault.Memory) ⊎ (e ≡ KeeperFault.Store)) }
+{
+    settle(conn);
+    if is_empty(conn.schema()) {
+        return found_anew::<B, C, S>(conn);
+    }
+    Ok(())
+}
+
+// The numbers among the rows.
+fn numbers_in<B>(rows: &Rows<B>) -> Numbers
+    ensures { result ≡ numbers_in_rows rows.now }
+{
+    Numbers {
+        boot: rows.boot,
+        promised: rows.promised,
+    }
+}
+
+// The rows, whose numbers are known from then on.
+fn read<B: Body, C: Coder<B>, S: Alter>(
+    alloc: Global,
+    conn: &mut Connection<S>,
+    known: &mut Option<Numbers>,
+) -> Result<Rows<B>, KeeperFault>
+    requires alone { conn.old.in_transaction ≡ false }
+    requires known { AreKnown known.old }
+    ensures alone { conn.new.in_transaction ≡ false }
+    ensures known { AreKnown known.new }
+    ensures held { IfOk result (Holds S.Store C.reading (keeper_of conn.new known.new)) }
+    ensures right { HasCleanDisk (state S.Store conn.new) → (rows : Rows B) → Holds S.Store C.reading (keeper_of conn.old known.old) rows
+        → IfOk result (λ read. read ≡ rows) }
+    ensures kept { (rows : Rows B) → Holds S.Store C.reading (keeper_of conn.old known.old) rows → Holds S.Store C.reading (keeper_of conn.new known.new) rows }
+    ensures found { FindsNoMore (Finds S.Store C.reading) (keeper_of conn.old known.old) (keeper_of conn.new known.new) }
+    ensures clean { doubt (state S.Store conn.old).is_clean ≤ doubt (state S.Store conn.new).is_clean }
+    ensures told { IfOk result (λ rows. known.new ≡ Some (numbers_in_rows rows)) }
+    ensures fault { IfErr result LiesBelow }
+{
+    let rows = read_store::<B, C, S>(alloc, conn)?;
+    *known = Some(numbers_in(&rows));
+    Ok(rows)
+}
+
+// The numbers that the store has.
+fn numbers<B: Body, C: Coder<B>, S: Alter>(
+    alloc: Global,
+    conn: &mut Connection<S>,
+    known: &mut Option<Numbers>,
+) -> Result<Numbers, KeeperFault>
+    requires alone { conn.old.in_transaction ≡ false }
+    requires known { AreKnown known.old }
+    ensures alone { conn.new.in_transaction ≡ false }
+    ensures known { AreKnown known.new }
+    ensures kept { (rows : Rows B) → Holds S.Store C.reading (keeper_of conn.old known.old) rows → Holds S.Store C.reading (keeper_of conn.new known.new) rows }
+    ensures found { FindsNoMore (Finds S.Store C.reading) (keeper_of conn.old known.old) (keeper_of conn.new known.new) }
+    ensures clean { doubt (state S.Store conn.old).is_clean ≤ doubt (state S.Store conn.new).is_clean }
+    ensures told { IfOk result (λ numbers. known.new ≡ Some numbers) }
+    ensures fault { IfErr result LiesBelow }
+{
+    if let Some(numbers) = *known {
+        return Ok(numbers);
+    }
+    let rows = read::<B, C, S>(alloc, conn, known)?;
+    Ok(numbers_in(&rows))
+}
+
+// Whether these are the same numbers.
+fn are_same(left: &Numbers, right: &Numbers) -> bool
+    ensures { IsTrue result → left.now ≡ right.now }
+{
+    left == right
+}
+
+// Commits the numbers, where they are not those that are known, and the votes.
+fn commit_over<B, C: Coder<B>, S: Alter>(
+    conn: &mut Connection<S>,
+    known: &Numbers,
+    numbers: &Numbers,
+    votes: &[Vote<B>],
+    octets: &mut Vec<u8>,
+) -> Result<(), KeeperFault>
+    requires alone { conn.old.in_transaction ≡ false }
+    requires numbers { are_numbers numbers.now ≡ true }
+    requires ballots { AllByRecursion (λ v. is_ballot v.ballot ≡ true) votes.now }
+    ensures alone { conn.new.in_transaction ≡ false }
+    ensures ok { HasCleanDisk (state S.Store conn.new) → (rows : Rows B) → Leaves C.reading (state S.Store conn.old) rows
+        → known.now ≡ numbers_in_rows rows → NotLowered rows.promised numbers.now.promised → AllByRecursion (λ v. is_placed numbers.now.promised v ≡ true) votes.now
+        → OnOk result (Leaves C.reading (state S.Store conn.new) (written numbers.now votes.now rows)) }
+    ensures found { HasCleanDisk (state S.Store conn.new) → (rows : Rows B) → Leaves C.reading (state S.Store conn.old) rows
+        → known.now ≡ numbers_in_rows rows → NotLowered rows.promised numbers.now.promised → AllByRecursion (λ v. is_placed numbers.now.promised v ≡ true) votes.now
+        → (trees : Trees) → (state S.Store conn.new).may_leave trees
+        → (state S.Store conn.old).may_leave trees ⊎ Stores C.reading trees (written numbers.now votes.now rows) }
+    ensures clean { doubt (state S.Store conn.old).is_clean ≤ doubt (state S.Store conn.new).is_clean }
+    ensures fault { IfErr result LiesBelow }
+{
+    if !are_same(numbers, known) {
+        return commit_rows::<B, C, S>(conn, true, numbers, votes, octets);
+    }
+    if votes.is_empty() {
+        return Ok(());
+    }
+    commit_rows::<B, C, S>(conn, false, numbers, votes, octets)
+}
+
+// Commits the numbers.
+fn put_numbers<B: Body, C: Coder<B>, S: Alter>(
+    alloc: Global,
+    conn: &mut Connection<S>,
+    numbers: &Numbers,
+    octets: &mut Vec<u8>,
+) -> Result<(), KeeperFault>
+    requires alone { conn.old.in_transaction ≡ false }
+    requires numbers { are_numbers numbers.now ≡ true }
+    ensures alone { conn.new.in_transaction ≡ false }
+    ensures ok { HasCleanDisk (state S.Store conn.new) → (rows : Rows B) → Leaves C.reading (state S.Store conn.old) rows → Follows true rows numbers.now
+        → OnOk result (Leaves C.reading (state S.Store conn.new) (written numbers.now [] rows)) }
+    ensures found { HasCleanDisk (state S.Store conn.new) → (rows : Rows B) → Leaves C.reading (state S.Store conn.old) rows → Follows true rows numbers.now
+        → (trees : Trees) → (state S.Store conn.new).may_leave trees
+        → (state S.Store conn.old).may_leave trees ⊎ Stores C.reading trees (written numbers.now [] rows) }
+    ensures clean { doubt (state S.Store conn.old).is_clean ≤ doubt (state S.Store conn.new).is_clean }
+    ensures fault { IfErr result LiesBelow }
+{
+    let none: Votes<B> = Votes::new(alloc);
+    commit_rows::<B, C, S>(conn, true, numbers, none.as_slice(), octets)
+}
+
+// Commits the change, where it has a place.
+fn write<B: Body, C: Coder<B>, S: Alter>(
+    alloc: Global,
+    conn: &mut Connection<S>,
+    known: &mut Option<Numbers>,
+    change: &Change<B>,
+    octets: &mut Vec<u8>,
+) -> Result<(), KeeperFault>
+    requires alone { conn.old.in_transaction ≡ false }
+    requires known { AreKnown known.old }
+    ensures alone { conn.new.in_transaction ≡ false }
+    ensures known { AreKnown known.new }
+    ensures ok { OnOk result ((rows : Rows B) → Holds S.Store C.reading (keeper_of conn.old known.old) rows
+        → Holds S.Store C.reading (keeper_of conn.new known.new) (adopted rows change.now)) }
+    ensures found { (rows : Rows B) → Holds S.Store C.reading (keeper_of conn.old known.old) rows
+        → FindsOr (Finds S.Store C.reading) (keeper_of conn.old known.old) (keeper_of conn.new known.new) (adopted rows change.now) }
+    ensures fault { IfErr result LiesBelow }
+{
+    let before = numbers::<B, C, S>(alloc, conn, known)?;
+    let Some(next) = numbers_after(&before, change) else {
+        return Err(KeeperFault::Damaged);
+    };
+    commit_over::<B, C, S>(conn, &before, &next, change.votes.as_slice(), octets)?;
+    *known = Some(next);
+    Ok(())
+}
+
+// Raises the boot number, and commits that.
+#[tactic(auto, unfolding(paxos_packets::specs::Rows::last_boot))]
+fn raise<B: Body, C: Coder<B>, S: Alter>(
+    alloc: Global,
+    conn: &mut Connection<S>,
+    known: &mut Option<Numbers>,
+    octets: &mut Vec<u8>,
+) -> Result<Rows<B>, KeeperFault>
+    requires alone { conn.old.in_transaction ≡ false }
+    requires known { AreKnown known.old }
+    ensures alone { conn.new.in_transaction ≡ false }
+    ensures known { AreKnown known.new }
+    ensures held { IfOk result (Holds S.Store C.reading (keeper_of conn.new known.new)) }
+    ensures right { HasCleanDisk (state S.Store conn.new) → (rows : Rows B) → Holds S.Store C.reading (keeper_of conn.old known.old) rows
+        → IfOk result (λ booted. booted ≡ raised rows) }
+    ensures within { IfOk result (λ rows. rows.boot ≤ last_boot) }
+    ensures last { HasCleanDisk (state S.Store conn.new) → (rows : Rows B) → Holds S.Store C.reading (keeper_of conn.old known.old) rows
+        → IsErrOf result KeeperFault.Boots → last_boot ≤ rows.boot }
+    ensures found { (rows : Rows B) → Holds S.Store C.reading (keeper_of conn.old known.old) rows
+        → FindsOr (Finds S.Store C.reading) (keeper_of conn.old known.old) (keeper_of conn.new known.new) (raised rows) }
+    ensures fault { IfErr result (λ e. e ≢ KeeperFault.Failed) }
+{
+    let mut rows = read::<B, C, S>(alloc, conn, known)?;
+    if rows.boot >= LAST_BOOT {
+        return Err(KeeperFault::Boots);
+    }
+    rows.boot += 1;
+    let numbers = numbers_in(&rows);
+    put_numbers::<B, C, S>(alloc, conn, &numbers, octets)?;
+    *known = Some(numbers);
+    Ok(rows)
+}
+
+// Counts a refusal of the connection, and tells the fault.
+fn told(fault: KeeperFault, failures: &mut u64) -> KeeperFault
+    ensures fault { (result ≡ fault) ⊎ (result ≡ KeeperFault.Failed) }
+    ensures store { result ≡ KeeperFault.Store → failures.old < failures.new }
+    ensures counts { failures.old ≤ failures.new }
+    ensures spent { result ≡ KeeperFault.Failed → (fault ≡ KeeperFault.Failed) ⊎ (failures.old ≡ 2 ^ 64 - 1) }
+{
+    if fault != KeeperFault::Store {
+        return fault;
+    }
+    if *failures == u64::MAX {
+        return KeeperFault::Failed;
+    }
+    *failures += 1;
+    KeeperFault::Store
+}
+
+// The rows; refusals of the connection are counted.
+pub(crate) fn load_from<B: Body, C: Coder<B>, S: Alter>(
+    alloc: Global,
+    conn: &mut Connection<S>,
+    known: &mut Option<Numbers>,
+    failures: &mut u64,
+) -> Result<Rows<B>, KeeperFault>
+    requires alone { conn.old.in_transaction ≡ false }
+    requires known { AreKnown known.old }
+    ensures alone { conn.new.in_transaction ≡ false }
+    ensures known { AreKnown known.new }
+    ensures held { IfOk result (Holds S.Store C.reading (keeper_of conn.new known.new)) }
+    ensures right { HasCleanDisk (state S.Store conn.new) → (rows : Rows B) → Holds S.Store C.reading (keeper_of conn.old known.old) rows
+        → IfOk result (λ read. read ≡ rows) }
+    ensures kept { (rows : Rows B) → Holds S.Store C.reading (keeper_of conn.old known.old) rows → Holds S.Store C.reading (keeper_of conn.new known.new) rows }
+    ensures found { FindsNoMore (Finds S.Store C.reading) (keeper_of conn.old known.old) (keeper_of conn.new known.new) }
+    ensures spent { IsErrOf result KeeperFault.Failed → failures.old ≡ 2 ^ 64 - 1 }
+    ensures store { IsErrOf result KeeperFault.Store → failures.old < failures.new }
+    ensures counts { failures.old ≤ failures.new }
+{
+    match read::<B, C, S>(alloc, conn, known) {
+        Ok(rows) => Ok(rows),
+        Err(fault) => Err(told(fault, failures)),
+    }
+}
+
+// Commits the change; refusals of the connection are counted.
+pub(crate) fn commit_to<B: Body, C: Coder<B>, S: Alter>(
+    alloc: Global,
+    conn: &mut Connection<S>,
+    known: &mut Option<Numbers>,
+    change: &Change<B>,
+    octets: &mut Vec<u8>,
+    failures: &mut u64,
+) -> Result<(), KeeperFault>
+    requires alone { conn.old.in_transaction ≡ false }
+    requires known { AreKnown known.old }
+    ensures alone { conn.new.in_transaction ≡ false }
+    ensures known { AreKnown known.new }
+    ensures ok { OnOk result ((rows : Rows B) → Holds S.Store C.reading (keeper_of conn.old known.old) rows
+        → Holds S.Store C.reading (keeper_of conn.new known.new) (adopted rows change.now)) }
+    ensures found { (rows : Rows B) → Holds S.Store C.reading (keeper_of conn.old known.old) rows
+        → FindsOr (Finds S.Store C.reading) (keeper_of conn.old known.old) (keeper_of conn.new known.new) (adopted rows change.now) }
+    ensures spent { IsErrOf result KeeperFault.Failed → failures.old ≡ 2 ^ 64 - 1 }
+    ensures store { IsErrOf result KeeperFault.Store → failures.old < failures.new }
+    ensures counts { failures.old ≤ failures.new }
+{
+    match write::<B, C, S>(alloc, conn, known, change, octets) {
+        Ok(()) => Ok(()),
+        Err(fault) => Err(told(fault, failures)),
+    }
+}
+
+// Begins a boot; refusals of the connection are counted.
+pub(crate) fn boot_from<B: Body, C: Coder<B>, S: Alter>(
+    alloc: Global,
+    conn: &mut Connection<S>,
+    known: &mut Option<Numbers>,
+    octets: &mut Vec<u8>,
+    failures: &mut u64,
+) -> Result<Rows<B>, KeeperFault>
+    requires alone { conn.old.in_transaction ≡ false }
+    requires known { AreKnown known.old }
+    ensures alone { conn.new.in_transaction ≡ false }
+    ensures known { AreKnown known.new }
+    ensures held { IfOk result (Holds S.Store C.reading (keeper_of conn.new known.new)) }
+    ensures right { HasCleanDisk (state S.Store conn.new) → (rows : Rows B) → Holds S.Store C.reading (keeper_of conn.old known.old) rows
+        → IfOk result (λ booted. booted ≡ raised rows) }
+    ensures within { IfOk result (λ rows. rows.boot ≤ last_boot) }
+    ensures last { HasCleanDisk (state S.Store conn.new) → (rows : Rows B) → Holds S.Store C.reading (keeper_of conn.old known.old) rows
+        → IsErrOf result KeeperFault.Boots → last_boot ≤ rows.boot }
+    ensures found { (rows : Rows B) → Holds S.Store C.reading (keeper_of conn.old known.old) rows
+        → FindsOr (Finds S.Store C.reading) (keeper_of conn.old known.old) (keeper_of conn.new known.new) (raised rows) }
+    ensures spent { IsErrOf result KeeperFault.Failed → failures.old ≡ 2 ^ 64 - 1 }
+    ensures store { IsErrOf result KeeperFault.Store → failures.old < failures.new }
+    ensures counts { failures.old ≤ failures.new }
+{
+    match raise::<B, C, S>(alloc, conn, known, octets) {
+        Ok(rows) => Ok(rows),
+        Err(fault) => Err(told(fault, failures)),
+    }
+}

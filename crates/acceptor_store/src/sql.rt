@@ -1,0 +1,184 @@
+ghost use Rattle.std.specs.Prelude.{◌≡◌, ◌⊎◌, IsTrue, IfOk, IfErr, None, true, false};
+ghost use Rattle.sqlite_trees.specs.Tree.{Trees};
+ghost use Rattle.sqlite.specs.Effect.{Database};
+ghost use Rattle.sqlite.specs.Held.{state};
+ghost use Rattle.sqlite.specs.State.{HasCleanDisk, Survives};
+ghost use Rattle.paxos_packets.specs.declared.rows.Rows.{Rows};
+ghost use Rattle.acceptor_keeper.specs.Keeper.{no_rows};
+ghost use Rattle.acceptor_store.specs.Tables.{empty_schema};
+ghost use Rattle.acceptor_store.specs.Statements.{IsFounded};
+ghost use Rattle.acceptor_store.specs.Once.{stored_once};
+ghost use Rattle.acceptor_store.specs.Store.{Stores, Holds, Finds};
+
+use crate::calls::{boot_from, commit_to, found_where_empty, load_from};
+use crate::rows::Numbers;
+use crate::store::settle;
+use acceptor_keeper::{Keeper, KeeperFault};
+use command_codec::Coder;
+use paxos_packets::{Body, Change, Rows};
+use sqlite::{Alter, Connection};
+use std::alloc::Global;
+use std::marker::{Model, PhantomData};
+
+/// A keeper whose rows are two tables of a SQLite database, one transaction a commit.
+///
+/// It knows the numbers of `meta` from its last read or commit, and keeps one buffer for the octets of an entry; it holds no votes.
+pub struct SqlKeeper<B, C: Coder<B>, S: Alter> {
+    alloc: Global,
+    conn: Connection<S>,
+    known: Option<Numbers>,
+    octets: Vec<u8>,
+    failed: bool,
+    failures: u64,
+    of: PhantomData<(B, C)>,
+}
+
+impl<B, C: Coder<B>, S: Alter> Model for SqlKeeper<B, C, S> {
+    ghost use Rattle.acceptor_store.specs.Store.{Kept, kept_code};
+
+    ghost Value = { Kept S };
+
+    ghost coded = { kept_code S.code };
+
+    ghost view = { λ k. record { conn = k.conn; known = k.known; is_failed = k.failed; failures = k.failures } };
+
+    ghost use Rattle.std.specs.Prelude.{◌≡◌, false};
+    ghost use Rattle.acceptor_store.specs.Calls.{AreKnown};
+
+    ghost invariant = { λ k. (k.conn.in_transaction ≡ false) × AreKnown k.known };
+}
+
+impl<B, C: Coder<B>, S: Alter + Drop> Drop for SqlKeeper<B, C, S> {
+    fn drop(self) {
+        let SqlKeeper {
+            alloc: _,
+            conn: _,
+            known: _,
+            octets: _,
+            failed: _,
+            failures: _,
+            of: _,
+        } = self;
+    }
+}
+
+impl<B: Body, C: Coder<B>, S: Alter> SqlKeeper<B, C, S> {
+    /// A keeper over the database of this connection, in which it makes the two tables where there is nothing yet; it judges nothing else,
+    /// `load` does. SQLite's own open has read each page, so the whole takes time linear in the file; this call takes none.
+    ///
+    /// With a fault, `Store` or `Memory`, the connection is handed back, and the database is still empty, or has the two tables.
+    pub fn open(
+        alloc: Global,
+        conn: Connection<S>,
+    ) -> Result<SqlKeeper<B, C, S>, (KeeperFault, Connection<S>)>
+        requires { conn.in_transaction ≡ false }
+        ensures fresh { IfOk result (λ k. (k.is_failed ≡ false) × (k.failures ≡ 0) × (k.known ≡ None)) }
+        ensures founded { IfOk result (λ k. conn.schema ≡ empty_schema → Holds S.Store C.reading k no_rows) }
+        ensures again { IfOk result (λ k. (rows : Rows B) → IsTrue (state S.Store conn).is_open
+            → Stores C.reading (state S.Store conn).committed.trees rows → Holds S.Store C.reading k rows) }
+        ensures fault { IfErr result (λ e. (e.0 ≡ KeeperFault.Memory) ⊎ (e.0 ≡ KeeperFault.Store)) }
+        ensures alone { IfErr result (λ e. e.1.in_transaction ≡ false) }
+        ensures left { IfErr result (λ e. Survives (state S.Store conn) (state S.Store e.1)
+            (λ trees. (db : Database) × (conn.schema ≡ empty_schema → IsFounded db) × (trees ≡ db.trees))) }
+    {
+        let mut conn = conn;
+        match found_where_empty::<B, C, S>(&mut conn) {
+            Ok(()) => Ok(SqlKeeper {
+                alloc,
+                conn,
+                known: None,
+                octets: Vec::new(alloc),
+                failed: false,
+                failures: 0,
+                of: PhantomData,
+            }),
+            Err(fault) => Err((fault, conn)),
+        }
+    }
+
+    /// The connection, with which the store may be opened again: what it held is committed there.
+    pub fn close(self) -> Connection<S>
+        ensures same { result ≡ self.conn }
+        ensures alone { result.in_transaction ≡ false }
+        ensures stored { HasCleanDisk (state S.Store result) → IsTrue (state S.Store result).is_open → (rows : Rows B) → Holds S.Store C.reading self rows
+            → Stores C.reading (state S.Store result).committed.trees rows }
+    {
+        let SqlKeeper {
+            alloc: _,
+            conn,
+            known: _,
+            octets: _,
+            failed: _,
+            failures: _,
+            of: _,
+        } = self;
+        settle(&conn);
+        conn
+    }
+}
+
+impl<B: Body, C: Coder<B>, S: Alter> Keeper<B> for SqlKeeper<B, C, S> {
+    ghost holds = { Holds S.Store C.reading };
+
+    ghost finds = { Finds S.Store C.reading };
+
+    ghost is_faithful = { λ k. HasCleanDisk (state S.Store k.conn) };
+
+    ghost is_failed = { λ k. k.is_failed };
+
+    ghost failures = { λ k. k.failures };
+
+    /// One pass over each table; a row is let go as it is read.
+    fn load(&mut self) -> Result<Rows<B>, KeeperFault> {
+        if self.failed {
+            return Err(KeeperFault::Failed);
+        }
+        load_from::<B, C, S>(
+            self.alloc,
+            &mut self.conn,
+            &mut self.known,
+            &mut self.failures,
+        )
+    }
+
+    /// One transaction and one sync, with a statement for `meta` where the promise changes and one for each vote, which takes the place of
+    /// the one in its slot. No table is read (but by the first commit of a keeper that has loaded nothing yet): time logarithmic in the
+    /// votes stored, and memory for one entry. An empty change touches nothing.
+    fn commit(&mut self, change: &Change<B>) -> Result<(), KeeperFault> {
+        if self.failed {
+            return Err(KeeperFault::Failed);
+        }
+        let done = commit_to::<B, C, S>(
+            self.alloc,
+            &mut self.conn,
+            &mut self.known,
+            change,
+            &mut self.octets,
+            &mut self.failures,
+        );
+        self.failed = done.is_err();
+        done
+    }
+
+    /// A load, one statement and one sync.
+    fn boot(&mut self) -> Result<Rows<B>, KeeperFault> {
+        if self.failed {
+            return Err(KeeperFault::Failed);
+        }
+        let booted = boot_from::<B, C, S>(
+            self.alloc,
+            &mut self.conn,
+            &mut self.known,
+            &mut self.octets,
+            &mut self.failures,
+        );
+        self.failed = booted.is_err();
+        booted
+    }
+
+    fn failures(&self) -> u64 {
+        self.failures
+    }
+
+    ghost only = { λ k rows found holds finds. stored_once C.reading finds.1.0 rows found ((holds finds.0).0 finds.1.0 finds.1.1) finds.1.2 };
+}
