@@ -1,3 +1,6 @@
 mod Committing
+pub mod Adoption
 pub mod Judging
+pub mod Parts
+pub mod Rolling
 pub mod Seeing

@@ -3,8 +3,16 @@
 #![tactic(auto)]
 
 mod event;
+mod fault;
 pub mod laws;
+mod moves;
+mod node;
+mod outcome;
 mod packets;
+mod waiting;
 
 pub use event::Event;
+pub use fault::NodeFault;
+pub use node::Node;
+pub use outcome::Outcome;
 pub use packets::Packets;

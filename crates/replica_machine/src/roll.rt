@@ -1,7 +1,7 @@
 ghost use Rattle.std.specs.Prelude.{◌≡◌, ℕ, ◌<◌, ◌&&◌, ◌==◌, List, if◌then◌else◌};
 ghost use Rattle.paxos_packets.specs.declared.entry.Entry.{Entry};
 ghost use Rattle.replica_machine.specs.Roll.{is_new_boot, is_live, is_next, gone, standing_after, standing_in, IsRollOf, takes_effect};
-ghost use Rattle.replica_machine.specs.Roll.{live_in, taken_in};
+ghost use Rattle.replica_machine.specs.Roll.{live_in, taken_in, is_wanted, was_taken};
 
 use paxos_packets::Entry;
 use std::marker::Model;
@@ -47,6 +47,17 @@ impl Standing {
         match self {
             Standing::Unknown => false,
             Standing::Live { boot: live, taken } => live == boot && taken < seq && seq - taken == 1,
+            Standing::Gone { .. } => false,
+        }
+    }
+
+    // Whether the Item of the live boot with this number took effect.
+    fn was_taken(self, boot: u64, seq: u64) -> bool
+        ensures { result ≡ was_taken self boot seq }
+    {
+        match self {
+            Standing::Unknown => false,
+            Standing::Live { boot: live, taken } => live == boot && seq <= taken,
             Standing::Gone { .. } => false,
         }
     }
@@ -118,6 +129,24 @@ impl Roll {
                 seq,
                 ..
             } => self.take_item(*node, *boot, *seq),
+        }
+    }
+
+    /// Whether the entry stays pending: it is no Boot or Item that took effect, and no Lost whose boot is not live. Takes no memory, and
+    /// constant time.
+    pub fn wants<B>(&self, entry: &Entry<B>) -> bool
+        ensures { (log : List (Entry B)) → IsRollOf log self.now → result ≡ is_wanted log entry.now }
+    {
+        match entry {
+            Entry::Noop => false,
+            Entry::Boot { node, boot } => self.standing(*node).is_new_boot(*boot),
+            Entry::Lost { node, boot } => self.standing(*node).is_live(*boot),
+            Entry::Item {
+                node,
+                boot,
+                seq,
+                ..
+            } => !self.standing(*node).was_taken(*boot, *seq),
         }
     }
 

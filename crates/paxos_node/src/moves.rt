@@ -1,0 +1,21 @@
+use paxos_learner::News;
+use paxos_packets::Entry;
+use paxos_proposer::Move;
+use std::marker::Model;
+
+/// What an event does to the parts of a node, beside what it commits and applies.
+#[derive(Debug, Drop)]
+pub struct Moves<B> {
+    // What is done to the proposer, what the learner hears, and the entry that becomes pending.
+    pub(crate) proposer: Vec<Move<B>>,
+    pub(crate) news: Vec<News<B>>,
+    pub(crate) added: Option<Entry<B>>,
+}
+
+impl<B> Model for Moves<B> {
+    ghost use Rattle.paxos_node.specs.Steps.{Steps};
+
+    ghost Value = { Steps B };
+
+    ghost view = { λ m. record { proposer = m.proposer.items; news = m.news.items; added = m.added } };
+}

@@ -1,0 +1,223 @@
+ghost use Rattle.std.specs.Prelude.{◌≡◌, ◌<◌, true, false, nat_lt, length, IfOk, OnOk, OnErr, IsOkUnless, Err};
+ghost use Rattle.paxos_node.specs.declared.fault.NodeFault.TheVariants.{Memory};
+ghost use Rattle.paxos_node.specs.Adopting.{adopted, Fits};
+ghost use Rattle.paxos_node.specs.Applying.{down, started};
+ghost use Rattle.paxos_node.specs.Held.{HasRoom};
+ghost use Rattle.paxos_proposer.specs.Proposer.{round_of};
+
+use crate::fault::NodeFault;
+use crate::moves::Moves;
+use crate::outcome::Outcome;
+use crate::packets::Packets;
+use crate::waiting::{apply_all, wait};
+use paxos_acceptor::Acceptor;
+use paxos_learner::Learner;
+use paxos_packets::{Ballot, Body, Entries, Entry, Members, Rows, Vote};
+use paxos_proposer::Proposer;
+use replica_machine::Roll;
+use std::alloc::Global;
+use std::marker::Model;
+
+/// One node of the cluster: acceptor, proposer and learner, with the log that it applies and the entries that wait for a slot.
+#[derive(Drop)]
+pub struct Node<B> {
+    alloc: Global,
+    me: u8,
+    members: Members,
+    acceptor: Acceptor<B>,
+    is_up: bool,
+    proposer: Proposer<B>,
+    learner: Learner<B>,
+    // How many of the first slots that the learner learned are applied, and where each node stands behind them.
+    applied: usize,
+    roll: Roll,
+    pending: Vec<Entry<B>>,
+    taken: u64,
+    // Whether `adopt` has answered `Memory`.
+    failed: bool,
+}
+
+impl<B> Model for Node<B> {
+    ghost use Rattle.std.specs.Prelude.{◌≡◌, ◌-◌, length, vec_len, vec_capacity};
+    ghost use Rattle.replica_machine.specs.Roll.{IsRollOf};
+    ghost use Rattle.paxos_node.specs.Adopting.{first_learned};
+    ghost use Rattle.paxos_node.specs.Held.{Held};
+
+    ghost Value = { Held B };
+
+    ghost view = { λ n. record {
+      me = n.me;
+      members = n.members;
+      state = record {
+        rows = n.acceptor.rows;
+        up = n.is_up;
+        proposer = n.proposer.state.proposer;
+        learner = n.learner.state.learner;
+        applied = first_learned n.applied n.learner.state.learner.learned;
+        pending = n.pending.items;
+        taken = n.taken;
+      };
+      room = record {
+        votes = n.acceptor.room;
+        proposer = n.proposer.room;
+        learner = n.learner.room;
+        pending = vec_capacity n.pending - vec_len n.pending;
+      };
+      failed = n.failed;
+    } };
+
+    ghost invariant = { λ n. (n.proposer.state.me ≡ n.me) × (n.proposer.state.members ≡ n.members) × (n.learner.state.members ≡ n.members)
+        × (length (first_learned n.applied n.learner.state.learner.learned) ≡ n.applied)
+        × IsRollOf (first_learned n.applied n.learner.state.learner.learned) n.roll };
+}
+
+impl<B> Node<B> {
+    /// Whether the node is up.
+    pub fn is_up(&self) -> bool
+        ensures { result ≡ self.now.state.up }
+    {
+        self.is_up
+    }
+
+    /// How many entries it has applied.
+    pub fn applied(&self) -> u64
+        ensures { result ≡ length self.now.state.applied }
+    {
+        self.applied as u64
+    }
+
+    /// Whether entries of its own wait for a slot.
+    pub fn has_pending(&self) -> bool
+        ensures { result ≡ nat_lt 0 (length self.now.state.pending) }
+    {
+        0 < self.pending.len()
+    }
+
+    /// How often the node was started.
+    pub fn boot(&self) -> u64
+        ensures { result ≡ self.now.state.rows.boot }
+    {
+        self.acceptor.boot()
+    }
+
+    /// The greatest ballot that the node has promised, if any.
+    pub fn promised(&self) -> Option<Ballot>
+        ensures { result ≡ self.now.state.rows.promised }
+    {
+        self.acceptor.promised()
+    }
+
+    /// The votes that the node has cast, by ascending slot.
+    pub fn votes(&self) -> &[Vote<B>]
+        ensures { result.now ≡ self.now.state.rows.votes }
+    {
+        self.acceptor.votes()
+    }
+}
+
+impl<B: Drop> Node<B> {
+    /// What the node has committed. Takes no memory.
+    pub fn into_rows(self) -> Rows<B>
+        ensures { result ≡ self.state.rows }
+    {
+        let Node { acceptor, .. } = self;
+        acceptor.into_rows()
+    }
+
+    /// The node with this number, of these members, that begins with these rows.
+    pub fn of(alloc: Global, me: u8, members: Members, rows: Rows<B>) -> Result<Node<B>, NodeFault>
+        ensures me { IfOk result (λ node. node.me ≡ me) }
+        ensures members { IfOk result (λ node. node.members ≡ members) }
+        ensures state { IfOk result (λ node. node.state ≡ started me rows) }
+        ensures failed { IfOk result (λ node. node.failed ≡ false) }
+        ensures memory { IsOkUnless result Memory }
+    {
+        let boot = rows.boot;
+        let mut pending = Vec::new(alloc);
+        if pending.reserve(1).is_err() {
+            return Err(NodeFault::Memory);
+        }
+        pending.push_reserved(Entry::Boot { node: me, boot });
+        let mut proposer = Proposer::new(alloc, me, members);
+        proposer.saw(round_of(rows.promised));
+        Ok(Node {
+            alloc,
+            me,
+            members,
+            acceptor: Acceptor::of(rows),
+            is_up: true,
+            proposer,
+            learner: Learner::new(alloc, members),
+            applied: 0,
+            roll: Roll::new(),
+            pending,
+            taken: 0,
+            failed: false,
+        })
+    }
+}
+
+impl<B: Body> Node<B> {
+    /// Becomes what was planned, once that is committed, where there is room for it; answers the packets that are to be sent, and the entries
+    /// that it applied. Takes no memory, and copies nothing.
+    pub fn adopt_in_room(&mut self, outcome: Outcome<B>) -> (Packets<B>, Entries<B>)
+        requires room { HasRoom outcome self.old }
+        requires fits { Fits self.old.me self.old.members outcome self.old.state }
+        ensures state { self.new.state ≡ adopted self.old.me self.old.members outcome self.old.state }
+        ensures me { self.new.me ≡ self.old.me }
+        ensures members { self.new.members ≡ self.old.members }
+        ensures failed { self.new.failed ≡ self.old.failed }
+        ensures packets { result.0 ≡ outcome.packets }
+        ensures applied { result.1 ≡ outcome.applied }
+    {
+        let Outcome {
+            change,
+            packets,
+            applied,
+            is_down,
+            moves,
+        } = outcome;
+        self.acceptor.adopt_in_room(change);
+        if is_down {
+            self.go_down();
+            return (packets, applied);
+        }
+        let Moves {
+            proposer,
+            news,
+            added,
+        } = moves;
+        self.proposer.move_in_room(proposer);
+        self.learner.hear_in_room(news);
+        wait(&mut self.pending, &mut self.taken, added);
+        apply_all(&mut self.roll, &mut self.pending, applied.as_slice());
+        self.applied += applied.as_slice().len();
+        (packets, applied)
+    }
+
+    // It has only its rows.
+    fn go_down(&mut self)
+        ensures state { self.new.state ≡ down self.old.state.rows }
+        ensures me { self.new.me ≡ self.old.me }
+        ensures members { self.new.members ≡ self.old.members }
+        ensures failed { self.new.failed ≡ self.old.failed }
+    {
+        self.is_up = false;
+        self.proposer = Proposer::new(self.alloc, self.me, self.members);
+        self.learner = Learner::new(self.alloc, self.members);
+        self.applied = 0;
+        self.roll = Roll::new();
+        self.pending.clear();
+        self.taken = 0;
+    }
+}
+
+// The round of a promise.
+fn round_of(promised: Option<Ballot>) -> u64
+    ensures { result ≡ round_of promised }
+{
+    match promised {
+        Some(promised) => promised.round,
+        None => 0,
+    }
+}

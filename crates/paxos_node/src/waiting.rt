@@ -1,0 +1,65 @@
+//! The entries that wait for a slot, and where each node stands, while learned entries are applied.
+
+ghost use Rattle.std.specs.Prelude.{◌≡◌, ◌≤◌, ◌-◌, [], ◌∷◌, ◌++◌, List, filter, vec_len, vec_capacity};
+ghost use Rattle.paxos_packets.specs.declared.entry.Entry.{Entry};
+ghost use Rattle.replica_machine.specs.Roll.{IsRollOf, is_wanted};
+ghost use Rattle.paxos_node.specs.Adopting.{pending_with, counted_with, taken_with, pending_behind};
+ghost use Rattle.paxos_node.specs.Held.{additions};
+
+use paxos_packets::Entry;
+use replica_machine::Roll;
+
+// The entries are applied, one by one: what each settles is no longer pending.
+pub(crate) fn apply_all<B: Drop>(roll: &mut Roll, pending: &mut Vec<Entry<B>>, entries: &[Entry<B>])
+    ensures roll { (log : List (Entry B)) → IsRollOf log roll.old → IsRollOf (log ++ entries.now) roll.new }
+    ensures pending { (log : List (Entry B)) → IsRollOf log roll.old
+        → pending.new.items ≡ pending_behind log entries.now pending.old.items }
+{
+    for entry in entries {
+        apply(roll, pending, entry);
+    }
+}
+
+// The entry is applied.
+fn apply<B: Drop>(roll: &mut Roll, pending: &mut Vec<Entry<B>>, entry: &Entry<B>)
+    ensures roll { (log : List (Entry B)) → IsRollOf log roll.old → IsRollOf (log ++ entry.now ∷ []) roll.new }
+    ensures pending { (log : List (Entry B)) → IsRollOf log roll.old
+        → pending.new.items ≡ filter (is_wanted (log ++ entry.now ∷ [])) pending.old.items }
+{
+    advance(roll, entry);
+    keep_wanted(roll, pending);
+}
+
+fn advance<B>(roll: &mut Roll, entry: &Entry<B>)
+    ensures { (log : List (Entry B)) → IsRollOf log roll.old → IsRollOf (log ++ entry.now ∷ []) roll.new }
+{
+    let _took = roll.take(entry);
+}
+
+fn keep_wanted<B: Drop>(roll: &Roll, pending: &mut Vec<Entry<B>>)
+    ensures { (log : List (Entry B)) → IsRollOf log roll.now → pending.new.items ≡ filter (is_wanted log) pending.old.items }
+{
+    pending.retain(|entry| roll.wants(entry));
+}
+
+// The entry waits for a slot; an Item counts by its number.
+pub(crate) fn wait<B>(pending: &mut Vec<Entry<B>>, taken: &mut u64, added: Option<Entry<B>>)
+    requires { additions added ≤ vec_capacity pending.old - vec_len pending.old }
+    ensures pending { pending.new.items ≡ pending_with added pending.old.items }
+    ensures taken { taken.new ≡ counted_with added taken.old }
+{
+    let Some(entry) = added else {
+        return;
+    };
+    *taken = taken_with(&entry, *taken);
+    pending.push_reserved(entry);
+}
+
+fn taken_with<B>(entry: &Entry<B>, taken: u64) -> u64
+    ensures { result ≡ taken_with entry.now taken }
+{
+    match entry {
+        Entry::Noop | Entry::Boot { .. } | Entry::Lost { .. } => taken,
+        Entry::Item { seq, .. } => *seq,
+    }
+}
