@@ -4,7 +4,7 @@ use std::process::Abort;
 use std::test::Fail;
 use wamp_messages::{Memory, read, write};
 
-fn realm_of(alloc: Global, limit: u32) -> Result<Realm, Fail> {
+pub fn realm_of(alloc: Global, limit: u32) -> Result<Realm, Fail> {
     let name = String::from_str(alloc, "realm1")?;
     let limits = Limits {
         sessions: limit,
@@ -25,7 +25,7 @@ fn act(realm: &mut Realm, number: u32, act: &Act) -> Result<Vec<Say>, Failed> {
 }
 
 // `connect`, `hang up`, or the text of a message.
-fn parsed(alloc: Global, draw: u64, text: &str) -> Result<Act, Memory> {
+pub fn parsed(alloc: Global, draw: u64, text: &str) -> Result<Act, Memory> {
     if text == "connect" {
         return Ok(Act::Connect);
     }
@@ -47,7 +47,7 @@ fn spelled(alloc: Global, out: &Out) -> Result<Vec<u8>, Memory> {
 }
 
 // `NUMBER TEXT;` for each saying, a text cut behind 60 octets.
-fn in_one_text(alloc: Global, says: &[Say]) -> Result<Vec<u8>, Fail> {
+pub fn in_one_text(alloc: Global, says: &[Say]) -> Result<Vec<u8>, Fail> {
     let mut all = Vec::new(alloc);
     for say in says {
         let octets = spelled(alloc, &say.out)?;
@@ -73,7 +73,7 @@ fn replies(
 }
 
 // What a transport does, with the draw for it, and what the realm says then; in a realm with this limit.
-fn check(
+pub fn check(
     rt: &impl Abort,
     alloc: Global,
     limit: u32,

@@ -1,5 +1,9 @@
 -- What a service owes once a frame was taken.
-use Rattle.std.proofs.Common.{◌≡◌, ℕ, ◌<◌, List, [], Option, None, Some, Result, Ok, Err, refl, sym, ◌∙◌, ap, append-nil}
+use Rattle.std.proofs.Common.{◌≡◌, ℕ, ◌<◌, false, List, [], ◌∷◌, Option, None, Some, Result, Ok, Err, refl, sym, ◌∙◌, ap, append-nil}
+use Rattle.std.specs.List.{All}
+use Rattle.std.proofs.lemmas.Bool.{cond-false}
+use Rattle.std.proofs.lemmas.List.Elements.{All-head, All-tail}
+use Rattle.paxos_packets.specs.Transport.{same_transport}
 use Rattle.wamp_ids.specs.Id.{id_after}
 use Rattle.wamp_messages.specs.Reading.{read_of}
 use Rattle.wamp_rawsocket.specs.declared.fault.FrameFault.{FrameFault}
@@ -10,15 +14,15 @@ use Rattle.wamp_rawsocket.specs.Splitter.{whole, faulty, front_of}
 use Rattle.wamp_rawsocket.proofs.Streams.{whole_leaves_less, frames_at_whole, frames_at_fault, frames_at_end}
 use Rattle.realm_machine.specs.Config.{Config}
 use Rattle.realm_machine.specs.declared.act.Act.TheVariants.{Said, Hung}
-use Rattle.realm_sessions.specs.Links.{by_transport, without_transport}
-use Rattle.realm_machine.specs.Content.{Content, quiet, and_then, with_links}
-use Rattle.realm_machine.specs.Leaving.{leave_session}
+use Rattle.realm_machine.specs.declared.act.Say.{Say}
+use Rattle.realm_machine.specs.Content.{Content}
+use Rattle.realm_machine.proofs.Unheard as hung
 use Rattle.realm_machine.specs.Step.{next, says}
 use Rattle.cluster_program.specs.declared.fault.RunFault.{RunFault}
 use Rattle.cluster_program.specs.declared.fault.RunFault.TheVariants.{Line, Store, Memory, Transport}
 use Rattle.cluster_program.specs.declared.progress.Progress.{Progress}
 use Rattle.cluster_program.specs.declared.progress.Progress.TheVariants.{Onward}
-use Rattle.cluster_program.specs.Stream.{Run, ends, silent, broken_off, client, framed, told, answered}
+use Rattle.cluster_program.specs.Stream.{Run, ends, silent, broken_off, client, framed, heard, told, answered}
 use Rattle.cluster_program.specs.Replies.{Puts}
 use Rattle.cluster_program.specs.declared.service.Service.{Service}
 use Rattle.cluster_program.specs.Service.{content_of, due_of, due, held_len, Takes, Performs}
@@ -120,16 +124,18 @@ fault_puts (Transport number) (Some held) new config limit c draw onward old mor
     let same : number ≡ 82 = cc in
     rw same (broken_puts _ onward old (due_at_fault config limit c draw held more t.1.0 t.1.1))
 
--- a client that hung up is told nothing
-unheard_leaving : (c : Content) (session : Option (Option ℕ)) (limit : ℕ) (after : Run)
-    → told limit (and_then (leave_session c client session)
-    (λ (d : Content). quiet (with_links d (without_transport d.sessions.list client)))).says after ≡ after
-unheard_leaving c None limit after = refl
-unheard_leaving c (Some None) limit after = refl
-unheard_leaving c (Some (Some session)) limit after = refl
+-- what is said to others is no due
+unheard : (limit : ℕ) (said : List Say) (after : Run) → All (λ (it : Say). same_transport it.transport client ≡ false) said
+    → told limit said after ≡ after
+unheard limit [] after others = refl
+unheard limit (first ∷ rest) after others =
+    let IsOther = λ (it : Say). same_transport it.transport client ≡ false in
+    cond-false (same_transport first.transport client) (heard limit first.out (told limit rest after)) (told limit rest after)
+    (All-head IsOther first rest others) ∙ unheard limit rest after (All-tail IsOther first rest others)
 
+-- a client that hung up is told nothing
 pub hung_unheard : (config : Config) (c : Content) (limit : ℕ) (after : Run) → told limit (says config c client Hung) after ≡ after
-hung_unheard config c limit after = unheard_leaving c (by_transport c.sessions.list client) limit after
+hung_unheard config c limit after = unheard limit (says config c client Hung) after (hung.hung_unheard config c client)
 
 -- where no whole frame is there, nothing is due
 pub no_frame_due : (held new : Option (List ℕ)) (config : Config) (limit : ℕ) (c : Content) (draw : ℕ)

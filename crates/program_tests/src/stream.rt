@@ -19,6 +19,24 @@ const ANSWERED: &[u8] = b"\x7F\xB1\0\0\
 \0\0\0\x12[36,1,3,{},[\"hi\"]]\
 \0\0\0\x23[6,{},\"wamp.close.goodbye_and_out\"]";
 
+// The client's octets of a run in which it calls itself.
+const CALLING: &[u8] = b"\x7F\xF1\0\0\
+\0\0\0\x46[1,\"realm1\",{\"roles\":{\"callee\":{\"features\":{\"call_canceling\":true}}}}]\
+\0\0\0\x0D[64,1,{},\"p\"]\
+\0\0\0\x11[48,2,{},\"p\",[1]]\
+\0\0\0\x0D[70,1,{},[2]]\
+\0\0\0\x0D[48,3,{},\"p\"]\
+\0\0\0\x09[49,3,{}]";
+
+// The router's octets of that run behind those of WELCOME.
+const CALLED: &[u8] = b"\
+\0\0\0\x08[65,1,1]\
+\0\0\0\x0F[68,1,1,{},[1]]\
+\0\0\0\x0D[50,2,{},[2]]\
+\0\0\0\x0B[68,2,1,{}]\
+\0\0\0\x1C[69,2,{\"mode\":\"killnowait\"}]\
+\0\0\0\x21[8,48,3,{},\"wamp.error.canceled\"]";
+
 // A reader that gives at most so many octets at a time, and fails once.
 #[derive(Drop)]
 struct Pieces<'a> {
@@ -111,6 +129,17 @@ fn answers_the_stored_run_in_any_pieces(rt: HostRuntime) {
         let (written, outcome) = answers(&rt, ASKED, most);
         assert_eq!(rt; outcome, Ok(()), "by {most}");
         assert_eq!(rt; written.as_slice(), ANSWERED, "by {most}");
+    }
+}
+
+#[test]
+fn answers_a_client_that_calls_itself(rt: HostRuntime) {
+    for most in [1, 7, CALLING.len()] {
+        let (written, outcome) = answers(&rt, CALLING, most);
+        assert_eq!(rt; outcome, Ok(()), "by {most}");
+        assert!(rt; written.as_slice().ends_with(CALLED), "by {most}");
+        // The handshake's answer and WELCOME stand before.
+        assert_eq!(rt; written.len(), CALLED.len().wrapping_add(217), "by {most}");
     }
 }
 

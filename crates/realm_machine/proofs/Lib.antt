@@ -1,1 +1,2 @@
 pub mod SoundSteps
+pub mod Unheard

@@ -16,6 +16,7 @@ use Rattle.wamp_kinds.specs.declared.subscribe.Unsubscribe.{Unsubscribe as Unsub
 use Rattle.wamp_kinds.specs.declared.message.Message.TheVariants as told
 use Rattle.wamp_kinds.specs.declared.message.Message.{Message}
 use Rattle.wamp_kinds.specs.declared.message.Message.TheVariants.{Hello, Abort, Goodbye, Error, Publish, Subscribe, Unsubscribe, Register, Unregister}
+use Rattle.wamp_kinds.specs.declared.message.Message.TheVariants.{Call, Cancel, Yield, Reply}
 use Rattle.wamp_kinds.specs.declared.read_result.UnfitKind.{UnfitKind}
 use Rattle.wamp_kinds.specs.declared.read_result.UnfitKind.TheVariants as unfit
 use Rattle.wamp_kinds.specs.declared.read_result.Read.{Read}
@@ -25,7 +26,9 @@ use Rattle.realm_machine.specs.declared.act.Act.TheVariants.{Connect, Said, Hung
 use Rattle.realm_sessions.specs.declared.fault.RealmFault.{RealmFault}
 use Rattle.realm_sessions.specs.declared.fault.RealmFault.TheVariants as fault
 use Rattle.realm_sessions.specs.Laws.{AreSoundLinks}
-use Rattle.realm_sessions.specs.Links.{by_transport, session_count, new_session_id}
+use Rattle.realm_sessions.specs.Links.{by_transport, of_origin, session_count, new_session_id}
+use Rattle.replica_machine.specs.declared.input.Input.{Input}
+use Rattle.replica_machine.specs.declared.input.Input.TheVariants.{Boot, Lost, Item}
 use Rattle.realm_sessions.specs.Sessions.{Sessions, Opened, opened, open_session}
 use Rattle.realm_machine.specs.declared.requester.Requester.{Requester}
 use Rattle.realm_machine.specs.Config.{Config}
@@ -35,16 +38,16 @@ use Rattle.realm_subscriptions.specs.Subscription.{is_member}
 use Rattle.realm_subscriptions.specs.Subscribing.{Subscribed}
 use Rattle.realm_subscriptions.specs.Subscribing as subscriptions
 use Rattle.realm_subscriptions.specs.Leaving as left
-use Rattle.realm_machine.specs.Sayings.{limit, no_such_realm, no_such_subscription, invalid_uri}
+use Rattle.realm_machine.specs.Sayings.{limit, no_such_realm, no_such_procedure, no_such_subscription, invalid_uri, invalid_argument}
 use Rattle.realm_machine.specs.Content.{Content, Step, empty, quiet, reply, refuse, refuse_by, with_topics, with_registry}
-use Rattle.realm_machine.specs.Leaving.{leave_session, leave, remove, stop, violation, aborted, goodbye}
+use Rattle.realm_machine.specs.Leaving.{leave_session, leave, remove, stop, violation, aborted, goodbye, one_gone, all_gone}
 use Rattle.realm_machine.specs.Opening.{welcome, welcomed, open_at}
 use Rattle.realm_machine.specs.Subscribing.{subscribed, subscribe_to}
 use Rattle.realm_machine.specs.Unsubscribing.{unsubscribe}
 use Rattle.realm_machine.specs.Publishing.{is_open_topic, publish}
-use Rattle.realm_machine.specs.Step.{on_unfit, on_error, on_request, on_opening, on_message, on_read, on_transport, on_act}
+use Rattle.realm_machine.specs.Step.{refuse_unless, on_unfit, on_error, on_request, on_opening, on_message, on_read, on_transport, on_act, next, after_input}
 use Rattle.realm_subscriptions.specs.Laws.{AreSoundSubscriptions}
-use Rattle.realm_machine.specs.Laws.{IsSound, EmptyIsSound, EachActKeepsSound, EveryRealmIsSound, OpensWhereRoom, after}
+use Rattle.realm_machine.specs.Laws.{IsSound, EmptyIsSound, EachInputKeepsSound, EveryRealmIsSound, OpensWhereRoom, after}
 use Rattle.wamp_ids.specs.declared.policy.Invoke.{Invoke}
 use Rattle.wamp_ids.specs.Uri.{is_reserved}
 use Rattle.wamp_kinds.specs.declared.register.Unregister.{Unregister as UnregisterMessage}
@@ -57,6 +60,21 @@ use Rattle.realm_registrations.specs.Registry as registrations
 use Rattle.realm_registrations.specs.Laws.{AreSoundRegistrations}
 use Rattle.realm_registrations.proofs.SoundRegistrations as sound_registry
 use Rattle.realm_machine.specs.Registering.{registered, register_for, unregistered, unregister}
+use Rattle.wamp_ids.specs.Uri.{uri_of as read_uri}
+use Rattle.wamp_ids.specs.declared.policy.Mode.{Mode}
+use Rattle.wamp_values.specs.declared.args.Args.TheVariants.{Nothing}
+use Rattle.wamp_kinds.specs.declared.error.Error as error
+use Rattle.wamp_kinds.specs.declared.call.Call.{Call as CallMessage}
+use Rattle.realm_sessions.specs.Links.{announces, invocation_of, session_with}
+use Rattle.realm_sessions.specs.Sessions.{invoked_with, next_invocation}
+use Rattle.realm_registrations.specs.declared.registration.Chosen.{Chosen}
+use Rattle.realm_calls.specs.declared.calls.Open.{Open}
+use Rattle.realm_calls.specs.declared.calls.Cancelled.{Cancelled}
+use Rattle.realm_calls.specs.Calls.{Calls, has, open_of, cancel_one, without_cancelled}
+use Rattle.realm_calls.specs.Calls as calls
+use Rattle.realm_machine.specs.Calling.{refuse_call, invoke, call_chosen, call_open, call_read, call_text, on_call, cancel_found, replied, reply_to, failure}
+use Rattle.std.specs.Prelude.{find}
+use Rattle.realm_sessions.proofs.Invoking.{invoked_links}
 use Rattle.realm_sessions.proofs.SoundLinks as links
 use Rattle.realm_sessions.proofs.FreeIds.{open_sound}
 use Rattle.realm_sessions.proofs.FreeIds as free
@@ -75,6 +93,7 @@ left_sound config c t (Some (Some session)) ok = record {
   limit = ok.limit;
   topics_limit = ok.topics_limit;
   registry_limit = ok.registry_limit;
+  calls_limit = ok.calls_limit;
   links = links.closed_sound c.sessions.list t ok.links;
   registry = sound_registry.leave_sound c.registry session ok.registry;
   topics = topics.leave_sound c.topics session ok.topics;
@@ -90,6 +109,7 @@ remove_sound config c t ok =
       limit = gone.limit;
       topics_limit = gone.topics_limit;
       registry_limit = gone.registry_limit;
+      calls_limit = gone.calls_limit;
       links = links.removed_sound (leave c t).content.sessions.list t gone.links;
       registry = gone.registry;
       topics = gone.topics;
@@ -116,6 +136,7 @@ welcome_sound config c t sessions (Ok id) same fine ok =
       limit = same;
       topics_limit = ok.topics_limit;
       registry_limit = ok.registry_limit;
+      calls_limit = ok.calls_limit;
       links = fine;
       registry = ok.registry;
       topics = ok.topics;
@@ -172,6 +193,7 @@ subscribed_sound config c r request changed (Ok id) same fine ok =
       limit = ok.limit;
       topics_limit = same;
       registry_limit = ok.registry_limit;
+      calls_limit = ok.calls_limit;
       links = ok.links;
       registry = ok.registry;
       topics = fine;
@@ -197,6 +219,7 @@ unsubscribe_sound config c r asked ok =
       limit = ok.limit;
       topics_limit = ok.topics_limit;
       registry_limit = ok.registry_limit;
+      calls_limit = ok.calls_limit;
       links = ok.links;
       registry = ok.registry;
       topics = topics.unsubscribe_sound c.topics r.session asked.subscription ok.topics;
@@ -225,6 +248,7 @@ with_registry_sound config c changed same fine ok =
       limit = ok.limit;
       topics_limit = ok.topics_limit;
       registry_limit = same;
+      calls_limit = ok.calls_limit;
       links = ok.links;
       registry = fine;
       topics = ok.topics;
@@ -299,26 +323,106 @@ unregister_sound config c r asked ok =
     (unregister_limit c.registry r.session asked.registration ∙ ok.registry_limit)
     (sound_registry.unregister_sound c.registry r.session asked.registration ok.registry) ok
 
+-- ---- calls
+
+with_calls_sound : (config : Config) (c : Content) (calls : Calls) → calls.limit ≡ config.limits.calls → IsSound config c
+    → IsSound config (record c { calls = calls })
+with_calls_sound config c calls same ok =
+    record {
+      limit = ok.limit;
+      topics_limit = ok.topics_limit;
+      registry_limit = ok.registry_limit;
+      calls_limit = same;
+      links = ok.links;
+      registry = ok.registry;
+      topics = ok.topics;
+    }
+
+invoked_sound : (config : Config) (c : Content) (r : Requester) (asked : CallMessage) (chosen : Chosen) (o : Option ℕ) → IsSound config c
+    → Keeps config (invoke c r asked chosen (invoked_with c.sessions chosen.callee o))
+invoked_sound config c r asked chosen None ok = ok
+invoked_sound config c r asked chosen (Some id) ok =
+    record {
+      limit = ok.limit;
+      topics_limit = ok.topics_limit;
+      registry_limit = ok.registry_limit;
+      calls_limit = ok.calls_limit;
+      links = invoked_links c.sessions.list chosen.callee id ok.links;
+      registry = sound_registry.turn_sound c.registry chosen.registration ok.registry;
+      topics = ok.topics;
+    }
+
+chosen_sound : (config : Config) (c : Content) (r : Requester) (asked : CallMessage) (o : Option Chosen) → IsSound config c
+    → Keeps config (call_chosen c r asked o)
+chosen_sound config c r asked None ok = ok
+chosen_sound config c r asked (Some chosen) ok =
+    let taken = open_of c.calls.list chosen.callee in
+    cond_both (calls.is_full c.calls r.session) (refuse_call c r asked limit)
+    (invoke c r asked chosen (next_invocation c.sessions chosen.callee taken)) (Keeps config)
+    (λ _. ok)
+    (λ _. invoked_sound config c r asked chosen (invocation_of taken (session_with c.sessions.list chosen.callee)) ok)
+
+call_read_sound : (config : Config) (c : Content) (r : Requester) (asked : CallMessage) (o : Result (List ℕ) UriFault) → IsSound config c
+    → Keeps config (call_read c r asked o)
+call_read_sound config c r asked (Ok uri) ok =
+    cond_both (is_reserved uri) (refuse_call c r asked no_such_procedure) (call_open c r asked uri) (Keeps config)
+    (λ _. ok) (λ _. chosen_sound config c r asked (registrations.choose c.registry uri) ok)
+call_read_sound config c r asked (Err fault) ok = ok
+
+call_sound : (config : Config) (c : Content) (r : Requester) (asked : CallMessage) → IsSound config c → Keeps config (on_call c r asked)
+call_sound config c r asked ok =
+    cond_both (has c.calls.list r.session asked.request) (violation c r.transport) (call_text c r asked) (Keeps config)
+    (λ _. violation_sound config c r.transport ok) (λ _. call_read_sound config c r asked (read_uri asked.procedure) ok)
+
+-- canceling changes no limit
+canceled_limit : (list : Calls) (it : Cancelled) → (without_cancelled list it).limit ≡ list.limit
+canceled_limit list it =
+    cond_both it.is_ended (calls.with_list list (calls.end list.list it.call)) list (λ (l : Calls). l.limit ≡ list.limit) (λ _. refl) (λ _. refl)
+
+cancel_sound : (config : Config) (c : Content) (r : Requester) (mode : Mode) (o : Option Open) → IsSound config c
+    → Keeps config (cancel_found c r mode o)
+cancel_sound config c r mode None ok = ok
+cancel_sound config c r mode (Some call) ok =
+    let it = cancel_one call mode (announces c.sessions.list call.callee) in
+    with_calls_sound config c (without_cancelled c.calls it) (canceled_limit c.calls it ∙ ok.calls_limit) ok
+
+replied_sound : (config : Config) (c : Content) (answer : ℕ → Message) (o : Option Open) → IsSound config c
+    → Keeps config (replied c answer o)
+replied_sound config c answer None ok = ok
+replied_sound config c answer (Some call) ok = with_calls_sound config c (calls.with_list c.calls (calls.end c.calls.list call)) ok.calls_limit ok
+
+reply_sound : (config : Config) (c : Content) (callee request : ℕ) (answer : ℕ → Message) → IsSound config c
+    → Keeps config (reply_to c callee request answer)
+reply_sound config c callee request answer ok =
+    replied_sound config c answer (find (calls.is_invocation callee request) c.calls.list) ok
+
 -- ---- by what the client sends
 
-unfit_sound : (config : Config) (c : Content) (t : Transport) (k : UnfitKind) (request : ℕ) (is_quiet : Bool) → IsSound config c
-    → Keeps config (on_unfit c t k request is_quiet)
-unfit_sound config c t k request true ok = ok
-unfit_sound config c t unfit.Publish request false ok = ok
-unfit_sound config c t unfit.Subscribe request false ok = ok
-unfit_sound config c t unfit.Register request false ok = ok
-unfit_sound config c t unfit.Call request false ok = violation_sound config c t ok
-unfit_sound config c t unfit.Cancel request false ok = violation_sound config c t ok
-unfit_sound config c t unfit.Yield request false ok = ok
+unless_sound : (config : Config) (c : Content) (r : Requester) (k : RequestKind) (request : ℕ) (is_quiet : Bool) → IsSound config c
+    → Keeps config (refuse_unless c r k request is_quiet)
+unless_sound config c r k request true ok = ok
+unless_sound config c r k request false ok = ok
 
-error_sound : (config : Config) (c : Content) (t : Transport) (k : RequestKind) → IsSound config c → Keeps config (on_error c t k)
-error_sound config c t kind.Invocation ok = ok
-error_sound config c t k ok = violation_sound config c t ok
+unfit_sound : (config : Config) (c : Content) (r : Requester) (k : UnfitKind) (request : ℕ) (is_quiet : Bool) → IsSound config c
+    → Keeps config (on_unfit c r k request is_quiet)
+unfit_sound config c r unfit.Publish request is_quiet ok = unless_sound config c r kind.Publish request is_quiet ok
+unfit_sound config c r unfit.Subscribe request is_quiet ok = unless_sound config c r kind.Subscribe request is_quiet ok
+unfit_sound config c r unfit.Register request is_quiet ok = unless_sound config c r kind.Register request is_quiet ok
+unfit_sound config c r unfit.Call request is_quiet ok =
+    cond_both (has c.calls.list r.session request) (violation c r.transport) (refuse_unless c r kind.Call request is_quiet) (Keeps config)
+    (λ _. violation_sound config c r.transport ok) (λ _. unless_sound config c r kind.Call request is_quiet ok)
+unfit_sound config c r unfit.Cancel request is_quiet ok = unless_sound config c r kind.Cancel request is_quiet ok
+unfit_sound config c r unfit.Yield request is_quiet ok = reply_sound config c r.session request (failure invalid_argument Nothing) ok
+
+error_sound : (config : Config) (c : Content) (r : Requester) (k : RequestKind) (it : error.Error) → IsSound config c
+    → Keeps config (on_error c r k it)
+error_sound config c r kind.Invocation it ok = reply_sound config c r.session it.request (failure it.error it.args) ok
+error_sound config c r k it ok = violation_sound config c r.transport ok
 
 request_sound : (config : Config) (c : Content) (r : Requester) (message : Message) → IsSound config c → Keeps config (on_request config c r message)
 request_sound config c r (Abort reason) ok = aborted_sound config c r.transport ok
 request_sound config c r (Goodbye reason) ok = goodbye_sound config c r.transport ok
-request_sound config c r (Error error) ok = error_sound config c r.transport error.kind ok
+request_sound config c r (Error it) ok = error_sound config c r it.kind it ok
 request_sound config c r (Publish asked) ok = publish_sound config c r asked ok
 request_sound config c r (Subscribe asked) ok =
     subscribe_to_sound config c r asked.request (pattern_of asked.topic asked.matching) ok
@@ -326,6 +430,11 @@ request_sound config c r (Unsubscribe asked) ok = unsubscribe_sound config c r a
 request_sound config c r (Register asked) ok =
     register_for_sound config c r asked.request asked.invoke (pattern_of asked.procedure asked.matching) ok
 request_sound config c r (Unregister asked) ok = unregister_sound config c r asked ok
+request_sound config c r (Call asked) ok = call_sound config c r asked ok
+request_sound config c r (Cancel asked) ok =
+    cancel_sound config c r asked.mode (calls.call_of c.calls.list r.session asked.request) ok
+request_sound config c r (Yield asked) ok =
+    reply_sound config c r.session asked.request (λ request. Reply (record { request = request; args = asked.args })) ok
 request_sound config c r message ok = violation_sound config c r.transport ok
 
 opening_sound : (config : Config) (c : Content) (t : Transport) (draw : ℕ) (message : Message) → IsSound config c
@@ -344,7 +453,8 @@ read_sound : (config : Config) (c : Content) (t : Transport) (session : Option �
     → Keeps config (on_read config c t session draw read)
 read_sound config c t session draw (Good message) ok = message_sound config c t session draw message ok
 read_sound config c t None draw (Unfit k request is_quiet) ok = violation_sound config c t ok
-read_sound config c t (Some session) draw (Unfit k request is_quiet) ok = unfit_sound config c t k request is_quiet ok
+read_sound config c t (Some session) draw (Unfit k request is_quiet) ok =
+    unfit_sound config c (record { transport = t; session = session; draw = draw }) k request is_quiet ok
 read_sound config c t session draw (Bad fault) ok = violation_sound config c t ok
 
 transport_sound : (config : Config) (c : Content) (t : Transport) (draw : ℕ) (read : Read) (session : Option (Option ℕ)) → IsSound config c
@@ -359,17 +469,19 @@ empty_sound config = record {
   limit = refl;
   topics_limit = refl;
   registry_limit = refl;
+  calls_limit = refl;
   links = links.nothing_sound;
   registry = sound_registry.nothing_sound config.limits.registrations;
   topics = topics.nothing_sound config.limits.subscriptions;
 }
 
-pub act_sound : EachActKeepsSound
+act_sound : (config : Config) (c : Content) (t : Transport) (act : Act) → IsSound config c → IsSound config (next config c t act)
 act_sound config c t Connect ok =
     record {
       limit = ok.limit;
       topics_limit = ok.topics_limit;
       registry_limit = ok.registry_limit;
+      calls_limit = ok.calls_limit;
       links = links.connected_sound c.sessions.list t ok.links;
       registry = ok.registry;
       topics = ok.topics;
@@ -377,12 +489,24 @@ act_sound config c t Connect ok =
 act_sound config c t (Said draw read) ok = transport_sound config c t draw read (by_transport c.sessions.list t) ok
 act_sound config c t Hung ok = remove_sound config c t ok
 
-after_sound : (config : Config) (acts : List (Transport × Act)) (c : Content) → IsSound config c → IsSound config (after config c acts)
+one_gone_sound : (config : Config) (c : Content) (t : Transport) → IsSound config c → Keeps config (one_gone c t)
+one_gone_sound config c t ok = remove_sound config c t ok
+
+all_gone_sound : (config : Config) (ts : List Transport) (c : Content) → IsSound config c → Keeps config (all_gone ts c)
+all_gone_sound config [] c ok = ok
+all_gone_sound config (t ∷ ts) c ok = all_gone_sound config ts (one_gone c t).content (one_gone_sound config c t ok)
+
+pub input_sound : EachInputKeepsSound
+input_sound config c (Boot node boot) ok = all_gone_sound config (of_origin c.sessions.list node) c ok
+input_sound config c (Lost node boot) ok = all_gone_sound config (of_origin c.sessions.list node) c ok
+input_sound config c (Item t act) ok = act_sound config c t act ok
+
+after_sound : (config : Config) (inputs : List (Input Act)) (c : Content) → IsSound config c → IsSound config (after config c inputs)
 after_sound config [] c ok = ok
-after_sound config (act ∷ acts) c ok = after_sound config acts (on_act config c act.0 act.1).content (act_sound config c act.0 act.1 ok)
+after_sound config (input ∷ inputs) c ok = after_sound config inputs (after_input config c input) (input_sound config c input ok)
 
 pub realm_sound : EveryRealmIsSound
-realm_sound config acts = after_sound config acts (empty config.limits) (empty_sound config)
+realm_sound config inputs = after_sound config inputs (empty config.limits) (empty_sound config)
 
 pub open_where_room : OpensWhereRoom
 open_where_room config c t draw canceling ok few same room =

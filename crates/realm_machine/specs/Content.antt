@@ -12,6 +12,9 @@ use Rattle.realm_sessions.specs.Fault.{uri_of}
 use Rattle.realm_sessions.specs.Sessions.{Sessions, with_list}
 use Rattle.realm_registrations.specs.Registry.{Registry, no_registrations}
 use Rattle.realm_subscriptions.specs.Subscriptions.{Subscriptions, no_subscriptions}
+use Rattle.realm_calls.specs.declared.calls.Open.{Open}
+use Rattle.realm_calls.specs.Calls.{Calls}
+use Rattle.realm_calls.specs.Calls as calls
 use Rattle.realm_machine.specs.declared.config.Limits.{Limits}
 use Rattle.realm_machine.specs.Sayings.{say, refusal}
 
@@ -19,6 +22,7 @@ pub record Content : Type 0 where
   pub sessions : Sessions
   pub registry : Registry
   pub topics : Subscriptions
+  pub calls : Calls
 
 -- nothing, under these limits
 abbrev pub empty : Limits → Content
@@ -26,6 +30,7 @@ empty limits = record {
   sessions = record { limit = limits.sessions; list = [] };
   registry = no_registrations limits.registrations;
   topics = no_subscriptions limits.subscriptions;
+  calls = record { limit = limits.calls; list = [] };
 }
 
 abbrev pub with_links : Content → List Link → Content
@@ -36,6 +41,9 @@ with_registry c registry = record c { registry = registry }
 
 abbrev pub with_topics : Content → Subscriptions → Content
 with_topics c topics = record c { topics = topics }
+
+abbrev pub with_calls : Content → List Open → Content
+with_calls c list = record c { calls = calls.with_list c.calls list }
 
 -- the content after a step, and what is said in it
 pub record Step : Type 0 where

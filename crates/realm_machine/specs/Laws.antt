@@ -1,8 +1,12 @@
--- Laws of the realm's step, over every configuration and every list of acts (docs/PROTOCOL.md, "The realm").
+-- Laws of the realm's step, over every configuration and every list of inputs (docs/PROTOCOL.md, "The realm").
 use Rattle.std.specs.Prelude.{◌≡◌, ◌≢◌, ℕ, ◌<◌, ◌≤◌, ◌^◌, Bool, true, false, List, length, fold, All, AllPairs, Some}
 use Rattle.paxos_packets.specs.declared.transport.Transport.{Transport}
+use Rattle.replica_machine.specs.declared.input.Input.{Input}
 use Rattle.wamp_ids.specs.Id.{last_id, is_id}
+use Rattle.paxos_packets.specs.Transport.{same_transport}
 use Rattle.realm_machine.specs.declared.act.Act.{Act}
+use Rattle.realm_machine.specs.declared.act.Act.TheVariants.{Hung}
+use Rattle.realm_machine.specs.declared.act.Say.{Say}
 use Rattle.realm_sessions.specs.Links.{is_taken, session_count}
 use Rattle.realm_sessions.specs.Sessions.{opened}
 use Rattle.realm_sessions.specs.Laws.{AreSoundLinks}
@@ -11,31 +15,32 @@ use Rattle.realm_subscriptions.specs.Laws.{AreSoundSubscriptions}
 use Rattle.realm_machine.specs.Config.{Config}
 use Rattle.realm_machine.specs.Content.{Content, empty}
 use Rattle.realm_machine.specs.Opening.{open_at, welcomed}
-use Rattle.realm_machine.specs.Step.{next}
+use Rattle.realm_machine.specs.Step.{says, after_input}
 
 -- ---- what every realm keeps
 
 pub record IsSound (config : Config) (c : Content) : Type 0 where
-  -- sessions, subscriptions and registrations are held to the limits of the configuration
+  -- sessions, subscriptions, registrations and calls are held to the limits of the configuration
   pub limit : c.sessions.limit ≡ config.limits.sessions
   pub topics_limit : c.topics.limit ≡ config.limits.subscriptions
   pub registry_limit : c.registry.limit ≡ config.limits.registrations
+  pub calls_limit : c.calls.limit ≡ config.limits.calls
   pub links : AreSoundLinks c.sessions.list
   pub registry : AreSoundRegistrations c.registry
   pub topics : AreSoundSubscriptions c.topics
 
--- the content after acts at transports
-abbrev pub after : Config → Content → List (Transport × Act) → Content
-after config c acts = fold (λ c act. next config c act.0 act.1) c acts
+-- the content after these inputs
+abbrev pub after : Config → Content → List (Input Act) → Content
+after config c inputs = fold (λ c input. after_input config c input) c inputs
 
 abbrev pub EmptyIsSound : Type 0
 EmptyIsSound = (config : Config) → IsSound config (empty config.limits)
 
-abbrev pub EachActKeepsSound : Type 0
-EachActKeepsSound = (config : Config) (c : Content) (t : Transport) (act : Act) → IsSound config c → IsSound config (next config c t act)
+abbrev pub EachInputKeepsSound : Type 0
+EachInputKeepsSound = (config : Config) (c : Content) (input : Input Act) → IsSound config c → IsSound config (after_input config c input)
 
 abbrev pub EveryRealmIsSound : Type 0
-EveryRealmIsSound = (config : Config) (acts : List (Transport × Act)) → IsSound config (after config (empty config.limits) acts)
+EveryRealmIsSound = (config : Config) (inputs : List (Input Act)) → IsSound config (after config (empty config.limits) inputs)
 
 -- ---- a session has an id
 
@@ -46,3 +51,10 @@ OpensWhereRoom = (config : Config) (c : Content) (t : Transport) (draw : ℕ) (c
     → session_count c.sessions.list < config.limits.sessions
     → (id : ℕ) × (is_id id ≡ true) × (is_taken c.sessions.list id ≡ false)
     × (open_at config c t draw (record { realm = config.name; canceling = canceling }) ≡ welcomed c t (opened c.sessions t canceling (Some id)))
+
+-- ---- who hangs up
+
+-- whoever hangs up is told nothing, whatever ends with its session
+abbrev pub HungUpIsToldNothing : Type 0
+HungUpIsToldNothing = (config : Config) (c : Content) (t : Transport)
+    → All (λ (it : Say). same_transport it.transport t ≡ false) (says config c t Hung)

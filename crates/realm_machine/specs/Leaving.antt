@@ -1,24 +1,77 @@
 -- How a client leaves, and why it is made to (WAMP specification, "Session Closing"; docs/PROTOCOL.md, "The realm").
-use Rattle.std.specs.Prelude.{ℕ, List, [], ◌∷◌, Option, None, Some}
+use Rattle.std.specs.Prelude.{ℕ, List, [], ◌∷◌, ◌++◌, Option, None, Some, if◌then◌else◌}
+use Rattle.std.specs.List.{flat_map}
 use Rattle.paxos_packets.specs.declared.transport.Transport.{Transport}
-use Rattle.wamp_kinds.specs.declared.message.Message.TheVariants.{Goodbye}
-use Rattle.realm_sessions.specs.Links.{by_transport, set_session, without_transport}
-use Rattle.realm_sessions.specs.Sessions.{with_list}
+use Rattle.wamp_ids.specs.declared.policy.Mode.{Mode}
+use Rattle.wamp_ids.specs.declared.policy.Mode.TheVariants.{KillNoWait}
+use Rattle.wamp_elements.specs.declared.request_kind.RequestKind.TheVariants as kind
+use Rattle.wamp_kinds.specs.declared.message.Message.{Message}
+use Rattle.wamp_kinds.specs.declared.message.Message.TheVariants.{Interrupt}
+use Rattle.realm_sessions.specs.declared.links.Link.{Link}
+use Rattle.realm_sessions.specs.Links.{by_transport, announces, of_origin, set_session, without_transport}
 use Rattle.realm_registrations.specs.Registry as registrations
 use Rattle.realm_subscriptions.specs.Leaving as subscriptions
-use Rattle.realm_machine.specs.Sayings.{say, shut, abort, protocol_violation, goodbye_and_out}
-use Rattle.realm_machine.specs.Content.{Content, Step, quiet, reply, and_then, with_links}
+use Rattle.realm_calls.specs.declared.calls.Open.{Open}
+use Rattle.realm_calls.specs.Calls.{calls_to, calls_by, without_callee, without_caller}
+use Rattle.realm_machine.specs.declared.act.Say.{Say}
+use Rattle.realm_machine.specs.Sayings.{say, shut, to_session, refusal, abort, goodbye as goodbye_for, canceled}
+use Rattle.realm_machine.specs.Sayings.{protocol_violation, goodbye_and_out, system_shutdown}
+use Rattle.realm_machine.specs.Content.{Content, Step, quiet, reply, and_then, with_links, with_calls}
 
--- the session leaves its registrations and its subscriptions; its transport stays, without a session
+-- ---- calls end with a session
+
+-- the caller is told that its call is canceled
+abbrev pub end_for_caller : List Link → Open → List Say
+end_for_caller links call = to_session links call.caller (refusal kind.Call call.request canceled)
+
+abbrev pub interrupt : Open → Mode → Message
+interrupt call mode = Interrupt (record { request = call.invocation; mode = mode })
+
+-- the callee is told that nobody waits for its answer, if it announced call canceling
+abbrev pub end_for_callee : List Link → Open → List Say
+end_for_callee links call =
+    if announces links call.callee then to_session links call.callee (interrupt call KillNoWait) else []
+
+-- the calls to the session by others end, in order of opening
+abbrev pub end_calls_to : Content → ℕ → Step
+end_calls_to c session = record {
+  content = with_calls c (without_callee c.calls.list session);
+  says = flat_map (end_for_caller c.sessions.list) (calls_to c.calls.list session);
+}
+
+-- its calls to others end, in order of opening; those to itself end silently
+abbrev pub end_calls_by : Content → ℕ → Step
+end_calls_by c session = record {
+  content = with_calls c (without_caller c.calls.list session);
+  says = flat_map (end_for_callee c.sessions.list) (calls_by c.calls.list session);
+}
+
+-- ---- a session leaves
+
+-- its transport stays, without a session
+abbrev pub closed : Content → Transport → Content
+closed c t = with_links c (set_session c.sessions.list t None)
+
+-- the session's registrations, then its subscriptions
+abbrev pub withdraw : Content → ℕ → Content
+withdraw c session = record {
+  sessions = c.sessions;
+  registry = registrations.leave c.registry session;
+  topics = subscriptions.leave c.topics session;
+  calls = c.calls;
+}
+
+-- its calls end, and others are told of them
+abbrev pub end_session : Content → ℕ → Step
+end_session c session = and_then (end_calls_to c session) (λ d. and_then (end_calls_by d session) (λ e. quiet (withdraw e session)))
+
+-- the session is told nothing itself, since its transport is without it by then
 abbrev pub leave_session : Content → Transport → Option (Option ℕ) → Step
 leave_session c t None = quiet c
 leave_session c t (Some None) = quiet c
-leave_session c t (Some (Some session)) = quiet (record {
-  sessions = with_list c.sessions (set_session c.sessions.list t None);
-  registry = registrations.leave c.registry session;
-  topics = subscriptions.leave c.topics session;
-})
+leave_session c t (Some (Some session)) = end_session (closed c t) session
 
+-- *Leave*: the calls to it, the calls by it, its registrations, its subscriptions
 abbrev pub leave : Content → Transport → Step
 leave c t = leave_session c t (by_transport c.sessions.list t)
 
@@ -37,4 +90,28 @@ abbrev pub aborted : Content → Transport → Step
 aborted c t = and_then (remove c t) (λ d. record { content = d; says = shut t ∷ [] })
 
 abbrev pub goodbye : Content → Transport → Step
-goodbye c t = and_then (leave c t) (λ d. reply d t (Goodbye (record { reason = goodbye_and_out })))
+goodbye c t = and_then (leave c t) (λ d. reply d t (goodbye_for goodbye_and_out))
+
+-- ---- a node is gone
+
+-- a session that ends so is told why
+abbrev pub told_shutdown : Transport → Option ℕ → List Say
+told_shutdown t None = []
+told_shutdown t (Some session) = say t (goodbye_for system_shutdown) ∷ []
+
+-- what a transport of the node is told, that had this session or none
+abbrev pub farewell : Transport → Option (Option ℕ) → List Say
+farewell t None = []
+farewell t (Some session) = told_shutdown t session ++ shut t ∷ []
+
+abbrev pub one_gone : Content → Transport → Step
+one_gone c t = and_then (remove c t) (λ d. record { content = d; says = farewell t (by_transport c.sessions.list t) })
+
+-- one transport after the other, each with the session that it has then
+abbrev pub all_gone : List Transport → Content → Step
+all_gone [] c = quiet c
+all_gone (t ∷ ts) c = and_then (one_gone c t) (all_gone ts)
+
+-- the transports that a node took, in the order in which they came
+abbrev pub gone : Content → ℕ → Step
+gone c node = all_gone (of_origin c.sessions.list node) c

@@ -7,6 +7,7 @@ pub mod Subscribing
 pub mod Registering
 pub mod Unsubscribing
 pub mod Publishing
+pub mod Calling
 pub mod Step
 pub mod Realm
 pub mod Laws

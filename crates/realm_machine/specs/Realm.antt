@@ -1,5 +1,5 @@
 -- A realm as a machine: what it holds, and what a call of it answers.
-use Rattle.std.specs.Prelude.{◌≡◌, Option, None, Some, Result, Ok, Err}
+use Rattle.std.specs.Prelude.{◌≡◌, ℕ, Option, None, Some, Result, Ok, Err}
 use Rattle.std.specs.declared.vec.Vec.{Vec}
 use Rattle.std.specs.declared.alloc.Global.{Global}
 use Rattle.paxos_packets.specs.declared.transport.Transport.{Transport}
@@ -7,6 +7,7 @@ use Rattle.realm_machine.specs.declared.act.Act.{Act}
 use Rattle.realm_machine.specs.declared.act.Say.{Say}
 use Rattle.realm_machine.specs.Config.{Config}
 use Rattle.realm_machine.specs.Content.{Content}
+use Rattle.realm_machine.specs.Leaving.{gone}
 use Rattle.realm_machine.specs.Step.{next, says}
 
 -- a realm: what it is made with, and its content, unknown once it failed for want of memory
@@ -20,3 +21,10 @@ Acts config None t act (Ok list) new = ⊥
 Acts config None t act (Err e) new = new ≡ None
 Acts config (Some c) t act (Ok list) new = (list.items ≡ says config c t act) × (new ≡ Some (next config c t act))
 Acts config (Some c) t act (Err e) new = new ≡ None
+
+-- what the call `gone` answers, and how it leaves the content
+abbrev pub Goes : {E : Type 0} → Option Content → ℕ → Result (Vec Say Global) E → Option Content → Type 0
+Goes None node (Ok list) new = ⊥
+Goes None node (Err e) new = new ≡ None
+Goes (Some c) node (Ok list) new = (list.items ≡ (gone c node).says) × (new ≡ Some (gone c node).content)
+Goes (Some c) node (Err e) new = new ≡ None

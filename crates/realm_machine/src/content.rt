@@ -1,11 +1,13 @@
-ghost use Rattle.std.specs.Prelude.{◌≡◌};
+ghost use Rattle.std.specs.Prelude.{◌≡◌, IfOk};
 ghost use Rattle.realm_machine.specs.Content.{Does, empty, reply, refuse, refuse_for};
+ghost use Rattle.realm_machine.specs.Sayings.{say_to};
 
 use crate::act::Say;
 use crate::config::Limits;
 use crate::memory::Memory;
 use crate::sayings::refusal;
 use paxos_packets::Transport;
+use realm_calls::Calls;
 use realm_registrations::Registrations;
 use realm_sessions::{RealmFault, Sessions};
 use realm_subscriptions::Subscriptions;
@@ -22,6 +24,7 @@ pub struct Content {
     pub sessions: Sessions,
     pub registry: Registrations,
     pub topics: Subscriptions,
+    pub calls: Calls,
 }
 
 impl Model for Content {
@@ -29,11 +32,11 @@ impl Model for Content {
 
     ghost Value = { Content };
 
-    ghost view = { λ a. record { sessions = a.sessions; registry = a.registry; topics = a.topics } };
+    ghost view = { λ a. record { sessions = a.sessions; registry = a.registry; topics = a.topics; calls = a.calls } };
 }
 
 impl Content {
-    // No transport, no registration and no subscription, under these limits.
+    // No transport, no registration, no subscription and no call, under these limits.
     pub fn new(alloc: Global, limits: Limits) -> Content
         ensures { result ≡ empty limits }
     {
@@ -42,6 +45,7 @@ impl Content {
             sessions: Sessions::new(alloc, limits.sessions),
             registry: Registrations::new(alloc, limits.registrations),
             topics: Subscriptions::new(alloc, limits.subscriptions),
+            calls: Calls::new(alloc, limits.calls),
         }
     }
 
@@ -50,6 +54,16 @@ impl Content {
         ensures { Does result self.now (reply self.now transport message) }
     {
         Ok(vec![in self.alloc; Say::send(transport, message)]?)
+    }
+
+    // The transport is sent the message, if there is one.
+    pub fn say_to(&self, place: &Option<Transport>, message: Message) -> Result<Vec<Say>, Memory>
+        ensures { IfOk result (λ says. says.items ≡ say_to place.now message) }
+    {
+        match place {
+            Some(transport) => self.reply(*transport, message),
+            None => Ok(Vec::new(self.alloc)),
+        }
     }
 
     // The request is refused for this error.

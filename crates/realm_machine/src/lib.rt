@@ -1,9 +1,11 @@
-//! One realm of a WAMP router as a machine: sessions, registrations, subscriptions and publications (WAMP specification, basic profile).
+//! One realm of a WAMP router as a machine: sessions, registrations, subscriptions,
+//! publications and calls (WAMP specification, basic profile; canceling, patterns, shared registrations).
 //! What a client does goes in as an act, what is said to transports comes out as sayings; docs/PROTOCOL.md, "The realm",
 //! has the rules.
 #![tactic(auto)]
 
 mod act;
+mod calling;
 mod config;
 mod content;
 pub mod laws;

@@ -1,6 +1,6 @@
 ghost use Rattle.std.specs.Prelude.{◌≡◌, Some, string_bytes};
 ghost use Rattle.realm_machine.specs.Content.{empty};
-ghost use Rattle.realm_machine.specs.Realm.{Acts};
+ghost use Rattle.realm_machine.specs.Realm.{Acts, Goes};
 
 use crate::act::{Act, Say};
 use crate::config::{Config, Limits};
@@ -11,7 +11,8 @@ use std::alloc::Global;
 use std::marker::Model;
 use wamp_ids::Text;
 
-/// One realm of a router: its sessions, its registrations with their callees, and its subscriptions with their members.
+/// One realm of a router: its sessions, its registrations with their callees, its subscriptions with their members, and its open
+/// calls.
 #[derive(Drop)]
 pub struct Realm {
     config: Config,
@@ -48,8 +49,8 @@ impl Realm {
     ///
     /// Cost: an act goes over the connected transports to find its own, one that opens or ends a session a few times more. A
     /// SUBSCRIBE and a session's end go over the subscriptions and their members, a REGISTER, an UNREGISTER and a session's end
-    /// over the registrations and their callees, a PUBLISH over the subscriptions and, for
-    /// each receiver, over the transports.
+    /// over the registrations and their callees, a PUBLISH over the subscriptions and, for each receiver, over the transports. A
+    /// CALL goes over the registrations and the open calls, a CANCEL, a YIELD and a session's end over the open calls.
     pub fn act(&mut self, transport: Transport, act: &Act) -> Result<Vec<Say>, Failed>
         ensures act { Acts self.old.config self.old.content transport act.now result self.new.content }
         ensures config { self.new.config ≡ self.old.config }
@@ -58,6 +59,25 @@ impl Realm {
             return Err(Failed);
         };
         let Ok(says) = content.on_act(&self.config, transport, act) else {
+            return Err(Failed);
+        };
+        self.content = Some(content);
+        Ok(says)
+    }
+
+    /// What the end of this node makes the realm say: its transports go, one after the other, in the order in which they came.
+    ///
+    /// An error comes only for want of memory. The realm is failed then, and answers the same to each later act.
+    ///
+    /// Cost: that of an end of a session for each transport of the node.
+    pub fn gone(&mut self, node: u8) -> Result<Vec<Say>, Failed>
+        ensures gone { Goes self.old.content node result self.new.content }
+        ensures config { self.new.config ≡ self.old.config }
+    {
+        let Some(mut content) = self.content.take() else {
+            return Err(Failed);
+        };
+        let Ok(says) = content.gone(node) else {
             return Err(Failed);
         };
         self.content = Some(content);

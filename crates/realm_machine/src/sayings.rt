@@ -1,12 +1,12 @@
 ghost use Rattle.std.specs.Prelude.{◌≡◌, IfOk};
-ghost use Rattle.realm_machine.specs.Sayings.{say, shut, refusal, abort};
+ghost use Rattle.realm_machine.specs.Sayings.{say, shut, refusal, abort, goodbye};
 
 use crate::act::{Out, Say};
 use crate::memory::Memory;
 use paxos_packets::Transport;
 use std::alloc::Global;
 use wamp_ids::{Id, Text};
-use wamp_messages::{Abort, Error, Message, RequestKind};
+use wamp_messages::{Abort, Error, Goodbye, Message, RequestKind};
 use wamp_values::Args;
 
 // The URIs of errors (WAMP specification, "Predefined URIs"; the limit's is this profile's).
@@ -20,9 +20,15 @@ pub const LIMIT: &str = "cluster.error.limit";
 
 pub const NO_SUCH_REALM: &str = "wamp.error.no_such_realm";
 
+pub const NO_SUCH_PROCEDURE: &str = "wamp.error.no_such_procedure";
+
+pub const CANCELED: &str = "wamp.error.canceled";
+
 pub const PROTOCOL_VIOLATION: &str = "wamp.error.protocol_violation";
 
 pub const GOODBYE_AND_OUT: &str = "wamp.close.goodbye_and_out";
+
+pub const SYSTEM_SHUTDOWN: &str = "wamp.close.system_shutdown";
 
 impl Say {
     /// The transport is sent the message.
@@ -70,5 +76,14 @@ pub fn abort(alloc: Global, reason: &str) -> Result<Message, Memory>
     Ok(Message::Abort(Abort {
         reason: Text::new(alloc, reason)?,
         args: Args::Nothing,
+    }))
+}
+
+// The GOODBYE for this reason.
+pub fn goodbye(alloc: Global, reason: &str) -> Result<Message, Memory>
+    ensures { IfOk result (λ message. message ≡ goodbye reason.now) }
+{
+    Ok(Message::Goodbye(Goodbye {
+        reason: Text::new(alloc, reason)?,
     }))
 }

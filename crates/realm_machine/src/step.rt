@@ -2,7 +2,9 @@
 ghost use Rattle.std.specs.Prelude.{◌≡◌, Some, None};
 ghost use Rattle.realm_sessions.specs.Links.{by_transport};
 ghost use Rattle.realm_machine.specs.Content.{Does};
-ghost use Rattle.realm_machine.specs.Step.{refuse_unfit, on_unfit, on_error, on_request, on_opening, on_message, on_read, on_act};
+ghost use Rattle.realm_machine.specs.Calling.{unfit_call};
+ghost use Rattle.wamp_elements.specs.declared.request_kind.RequestKind.TheVariants as kind;
+ghost use Rattle.realm_machine.specs.Step.{refuse_unless, on_unfit, on_error, on_request, on_opening, on_message, on_read, on_act};
 
 use crate::act::{Act, Say};
 use crate::config::Config;
@@ -12,7 +14,7 @@ use crate::requester::Requester;
 use crate::sayings::INVALID_ARGUMENT;
 use paxos_packets::Transport;
 use wamp_ids::Id;
-use wamp_messages::{Message, Read, RequestKind, UnfitKind};
+use wamp_messages::{Error, Message, Read, RequestKind, UnfitKind};
 
 impl Content {
     // The step of an act.
@@ -57,60 +59,76 @@ impl Content {
                 request,
                 quiet,
             } => match session {
-                Some(_) => self.on_unfit(transport, *kind, *request, *quiet),
+                Some(session) => {
+                    let requester = Requester {
+                        transport,
+                        session,
+                        draw,
+                    };
+                    self.on_unfit(requester, *kind, *request, *quiet)
+                }
                 None => self.violation(transport),
             },
             Read::Bad(_) => self.violation(transport),
         }
     }
 
+    // An unfit CALL of an open request, and an unfit answer to an invocation, are so however quiet they are.
     fn on_unfit(
         &mut self,
-        transport: Transport,
+        requester: Requester,
         kind: UnfitKind,
         request: Id,
         is_quiet: bool,
     ) -> Result<Vec<Say>, Memory>
-        ensures { Does result self.new (on_unfit self.old transport kind request is_quiet) }
+        ensures { Does result self.new (on_unfit self.old requester kind request is_quiet) }
     {
-        if is_quiet {
-            Ok(Vec::new(self.alloc))
-        } else {
-            self.refuse_unfit(transport, kind, request)
+        match kind {
+            UnfitKind::Publish => {
+                self.refuse_unless(requester, RequestKind::Publish, request, is_quiet)
+            }
+            UnfitKind::Subscribe => {
+                self.refuse_unless(requester, RequestKind::Subscribe, request, is_quiet)
+            }
+            UnfitKind::Register => {
+                self.refuse_unless(requester, RequestKind::Register, request, is_quiet)
+            }
+            UnfitKind::Call => self.unfit_call(requester, request, is_quiet),
+            UnfitKind::Cancel => {
+                self.refuse_unless(requester, RequestKind::Cancel, request, is_quiet)
+            }
+            UnfitKind::Yield => self.unfit_yield(requester, request),
         }
     }
 
-    fn refuse_unfit(
+    fn unfit_call(
         &mut self,
-        transport: Transport,
-        kind: UnfitKind,
+        requester: Requester,
         request: Id,
+        is_quiet: bool,
     ) -> Result<Vec<Say>, Memory>
-        ensures { Does result self.new (refuse_unfit self.old transport kind request) }
+        ensures { Does result self.new (unfit_call self.old requester request
+            (refuse_unless self.old requester kind.Call request is_quiet)) }
     {
-        match kind {
-            UnfitKind::Publish => self.refuse(
-                transport,
-                RequestKind::Publish,
-                request,
-                INVALID_ARGUMENT,
-            ),
-            UnfitKind::Subscribe => self.refuse(
-                transport,
-                RequestKind::Subscribe,
-                request,
-                INVALID_ARGUMENT,
-            ),
-            UnfitKind::Register => self.refuse(
-                transport,
-                RequestKind::Register,
-                request,
-                INVALID_ARGUMENT,
-            ),
-            UnfitKind::Call => self.violation(transport),
-            UnfitKind::Cancel => self.violation(transport),
-            UnfitKind::Yield => Ok(Vec::new(self.alloc)),
+        if self.calls.has(requester.session, request) {
+            return self.violation(requester.transport);
         }
+        self.refuse_unless(requester, RequestKind::Call, request, is_quiet)
+    }
+
+    fn refuse_unless(
+        &self,
+        requester: Requester,
+        kind: RequestKind,
+        request: Id,
+        is_quiet: bool,
+    ) -> Result<Vec<Say>, Memory>
+        ensures { Does result self.now (refuse_unless self.now requester kind request is_quiet) }
+    {
+        if is_quiet {
+            return Ok(Vec::new(self.alloc));
+        }
+        self.refuse(requester.transport, kind, request, INVALID_ARGUMENT)
     }
 
     fn on_message(
@@ -156,7 +174,7 @@ impl Content {
         }
     }
 
-    // A client with a session. Four kinds are not served yet, and the last ten are those that only the router sends.
+    // A client with a session. The last ten kinds are those that only the router sends.
     fn on_request(
         &mut self,
         config: &Config,
@@ -170,20 +188,20 @@ impl Content {
             Message::Hello(_) => self.violation(transport),
             Message::Abort(_) => self.aborted(transport),
             Message::Goodbye(_) => self.goodbye(transport),
-            Message::Error(error) => self.on_error(transport, error.kind),
+            Message::Error(error) => self.on_error(requester, error),
             Message::Publish(asked) => self.publish(requester, asked),
             Message::Subscribe(asked) => self.subscribe(requester, asked),
             Message::Unsubscribe(asked) => self.unsubscribe(requester, asked),
             Message::Register(asked) => self.register(requester, asked),
             Message::Unregister(asked) => self.unregister(requester, asked),
-            Message::Call(_) => self.violation(transport),
-            Message::Cancel(_) => self.violation(transport),
-            Message::Yield(_) => self.violation(transport),
+            Message::Call(call) => self.on_call(requester, call),
+            Message::Cancel(cancel) => self.on_cancel(requester, cancel),
+            Message::Yield(answer) => self.on_yield(requester, answer),
             Message::Welcome(_) => self.violation(transport),
             Message::Published(_) => self.violation(transport),
             Message::Subscribed(_) => self.violation(transport),
-            Message::Event(_) => self.violation(transport),
             Message::Unsubscribed(_) => self.violation(transport),
+            Message::Event(_) => self.violation(transport),
             Message::Registered(_) => self.violation(transport),
             Message::Unregistered(_) => self.violation(transport),
             Message::Reply(_) => self.violation(transport),
@@ -192,13 +210,15 @@ impl Content {
         }
     }
 
-    // An ERROR answers an invocation, of which none is open yet, or breaks the protocol.
-    fn on_error(&mut self, transport: Transport, kind: RequestKind) -> Result<Vec<Say>, Memory>
-        ensures { Does result self.new (on_error self.old transport kind) }
+    // An ERROR answers an invocation, or breaks the protocol.
+    fn on_error(&mut self, requester: Requester, error: &Error) -> Result<Vec<Say>, Memory>
+        ensures { Does result self.new (on_error self.old requester error.now.kind error.now) }
     {
-        match kind {
-            RequestKind::Invocation => Ok(Vec::new(self.alloc)),
-            _ => self.violation(transport),
+        match error.kind {
+            RequestKind::Invocation => {
+                self.on_failure(requester, error.request, error.error.as_str(), &error.args)
+            }
+            _ => self.violation(requester.transport),
         }
     }
 }

@@ -1,0 +1,396 @@
+use crate::realm::{check, in_one_text, parsed, realm_of};
+use realm_machine::{Failed, Realm, Say, Transport};
+use std::alloc::Global;
+use std::process::Abort;
+use std::test::Fail;
+
+const HELLO: &str = "[1,\"realm1\",{}]";
+
+// A HELLO that announces call canceling.
+const HELLO_CANCELING: &str =
+    "[1,\"realm1\",{\"roles\":{\"callee\":{\"features\":{\"call_canceling\":true}}}}]";
+
+#[test]
+fn canceled_calls(rt: HostRuntime) -> Result<(), Fail> {
+    let rows = [
+        (1, 1, "connect", ""),
+        (2, 1, "connect", ""),
+        (
+            1,
+            1,
+            HELLO_CANCELING,
+            "1 [2,1,{\"roles\":{\"broker\":{\"features\":{\"pattern_based_subscrip;",
+        ),
+        (
+            2,
+            2,
+            HELLO,
+            "2 [2,2,{\"roles\":{\"broker\":{\"features\":{\"pattern_based_subscrip;",
+        ),
+        (1, 3, "[64,1,{},\"p.q\"]", "1 [65,1,1];"),
+        (2, 3, "[48,7,{},\"p.q\",[1]]", "1 [68,1,1,{},[1]];"),
+        (
+            2,
+            3,
+            "[49,7,{\"mode\":\"kill\"}]",
+            "1 [69,1,{\"mode\":\"kill\"}];",
+        ),
+        (1, 3, "[70,1,{},[2]]", "2 [50,7,{},[2]];"),
+        (2, 3, "[48,8,{},\"p.q\"]", "1 [68,2,1,{}];"),
+        (
+            2,
+            3,
+            "[49,8,{}]",
+            "1 [69,2,{\"mode\":\"killnowait\"}];2 [8,48,8,{},\"wamp.error.canceled\"];",
+        ),
+        (1, 3, "[70,2,{}]", ""),
+        (2, 3, "[48,9,{},\"p.q\"]", "1 [68,3,1,{}];"),
+        (
+            2,
+            3,
+            "[49,9,{\"mode\":\"skip\"}]",
+            "2 [8,48,9,{},\"wamp.error.canceled\"];",
+        ),
+        (2, 3, "[49,9,{\"mode\":\"skip\"}]", ""),
+        (2, 3, "[48,10,{},\"p.q\"]", "1 [68,4,1,{}];"),
+        (
+            2,
+            3,
+            "[49,10,{\"mode\":\"stop\"}]",
+            "2 [8,49,10,{},\"wamp.error.invalid_argument\"];",
+        ),
+        (1, 3, "[70,4,{}]", "2 [50,10,{}];"),
+    ];
+    check(&rt, rt.alloc(), 4096, rows.as_slice())
+}
+
+#[test]
+fn callees_take_turns(rt: HostRuntime) -> Result<(), Fail> {
+    let rows = [
+        (1, 1, "connect", ""),
+        (2, 1, "connect", ""),
+        (3, 1, "connect", ""),
+        (
+            1,
+            1,
+            HELLO,
+            "1 [2,1,{\"roles\":{\"broker\":{\"features\":{\"pattern_based_subscrip;",
+        ),
+        (
+            2,
+            2,
+            HELLO,
+            "2 [2,2,{\"roles\":{\"broker\":{\"features\":{\"pattern_based_subscrip;",
+        ),
+        (
+            3,
+            3,
+            HELLO,
+            "3 [2,3,{\"roles\":{\"broker\":{\"features\":{\"pattern_based_subscrip;",
+        ),
+        (
+            1,
+            3,
+            "[64,1,{\"invoke\":\"roundrobin\"},\"p\"]",
+            "1 [65,1,1];",
+        ),
+        (
+            2,
+            3,
+            "[64,1,{\"invoke\":\"roundrobin\"},\"p\"]",
+            "2 [65,1,1];",
+        ),
+        (1, 3, "[48,1,{},\"p\"]", "1 [68,1,1,{}];"),
+        (
+            3,
+            3,
+            "[64,1,{\"invoke\":\"roundrobin\"},\"p\"]",
+            "3 [65,1,1];",
+        ),
+        (1, 3, "[48,2,{},\"p\"]", "2 [68,1,1,{}];"),
+        (1, 3, "[48,3,{},\"p\"]", "1 [68,2,1,{}];"),
+        (
+            1,
+            3,
+            "[48,4,{},\"p\"]",
+            "1 [8,48,4,{},\"cluster.error.limit\"];",
+        ),
+        (2, 3, "[48,4,{},\"p\"]", "3 [68,1,1,{}];"),
+        (
+            2,
+            3,
+            "[64,2,{\"invoke\":\"first\"},\"p\"]",
+            "2 [8,64,2,{},\"wamp.error.procedure_already_exists\"];",
+        ),
+        (
+            2,
+            3,
+            "[64,3,{\"invoke\":\"random\"},\"p\"]",
+            "2 [8,64,3,{},\"wamp.error.invalid_argument\"];",
+        ),
+        (
+            2,
+            3,
+            "[48,4,{},\"p\"]",
+            "1 [8,48,2,{},\"wamp.error.canceled\"];2 [3,{},\"wamp.error.protocol_violation\"];2 close;",
+        ),
+    ];
+    check(&rt, rt.alloc(), 3, rows.as_slice())
+}
+
+#[test]
+fn unfit_calls_and_answers(rt: HostRuntime) -> Result<(), Fail> {
+    let rows = [
+        (1, 1, "connect", ""),
+        (2, 1, "connect", ""),
+        (
+            1,
+            1,
+            HELLO,
+            "1 [2,1,{\"roles\":{\"broker\":{\"features\":{\"pattern_based_subscrip;",
+        ),
+        (
+            2,
+            2,
+            HELLO,
+            "2 [2,2,{\"roles\":{\"broker\":{\"features\":{\"pattern_based_subscrip;",
+        ),
+        (
+            2,
+            3,
+            "[48,1,{},\"p\",[1.5]]",
+            "2 [8,48,1,{},\"wamp.error.invalid_argument\"];",
+        ),
+        (
+            2,
+            3,
+            "[48,2,{},\"p..q\"]",
+            "2 [8,48,2,{},\"wamp.error.invalid_uri\"];",
+        ),
+        (
+            2,
+            3,
+            "[48,9007199254740992,{},\"p\"]",
+            "2 [8,48,9007199254740992,{},\"wamp.error.no_such_procedure\"];",
+        ),
+        (1, 3, "[64,1,{\"match\":\"prefix\"},\"wam\"]", "1 [65,1,1];"),
+        (
+            2,
+            3,
+            "[48,3,{},\"wamp.x\"]",
+            "2 [8,48,3,{},\"wamp.error.no_such_procedure\"];",
+        ),
+        (
+            2,
+            3,
+            "[48,3,{},\"wamx\"]",
+            "1 [68,1,1,{\"procedure\":\"wamx\"}];",
+        ),
+        (
+            1,
+            3,
+            "[70,1,{},[0.5]]",
+            "2 [8,48,3,{},\"wamp.error.invalid_argument\"];",
+        ),
+        (
+            2,
+            3,
+            "[48,3,{},\"wamy\",[],{\"k\":1}]",
+            "1 [68,2,1,{\"procedure\":\"wamy\"},[],{\"k\":1}];",
+        ),
+        (1, 3, "[66,2,1]", "1 [67,2];"),
+        (
+            1,
+            3,
+            "[8,68,2,{},\"a.failure\",[7]]",
+            "2 [8,48,3,{},\"a.failure\",[7]];",
+        ),
+        (1, 3, "[8,68,2,{},\"a.failure\"]", ""),
+        (
+            2,
+            3,
+            "[48,9007199254740993,{},\"p\"]",
+            "2 [3,{},\"wamp.error.protocol_violation\"];2 close;",
+        ),
+    ];
+    check(&rt, rt.alloc(), 4096, rows.as_slice())
+}
+
+#[test]
+fn one_open_call(rt: HostRuntime) -> Result<(), Fail> {
+    let rows = [
+        (1, 1, "connect", ""),
+        (2, 1, "connect", ""),
+        (
+            1,
+            1,
+            HELLO,
+            "1 [2,1,{\"roles\":{\"broker\":{\"features\":{\"pattern_based_subscrip;",
+        ),
+        (1, 3, "[64,4,{},\"p\"]", "1 [65,4,1];"),
+        (1, 3, "[48,5,{},\"p\"]", "1 [68,1,1,{}];"),
+        (
+            1,
+            3,
+            "[48,6,{},\"p\"]",
+            "1 [8,48,6,{},\"cluster.error.limit\"];",
+        ),
+        (1, 3, "[49,5,{}]", "1 [8,48,5,{},\"wamp.error.canceled\"];"),
+        (2, 2, HELLO, "2 [3,{},\"cluster.error.limit\"];2 close;"),
+        (1, 3, "[48,5,{},\"p\"]", "1 [68,2,1,{}];"),
+        (
+            1,
+            3,
+            "[48,5,{},\"p\",[1.5]]",
+            "1 [3,{},\"wamp.error.protocol_violation\"];1 close;",
+        ),
+    ];
+    check(&rt, rt.alloc(), 1, rows.as_slice())
+}
+
+#[test]
+fn callers_and_callees_leave(rt: HostRuntime) -> Result<(), Fail> {
+    let rows = [
+        (1, 1, "connect", ""),
+        (2, 1, "connect", ""),
+        (
+            1,
+            1,
+            HELLO_CANCELING,
+            "1 [2,1,{\"roles\":{\"broker\":{\"features\":{\"pattern_based_subscrip;",
+        ),
+        (
+            2,
+            2,
+            HELLO,
+            "2 [2,2,{\"roles\":{\"broker\":{\"features\":{\"pattern_based_subscrip;",
+        ),
+        (1, 3, "[64,1,{},\"p\"]", "1 [65,1,1];"),
+        (2, 3, "[48,3,{},\"p\"]", "1 [68,1,1,{}];"),
+        (
+            1,
+            3,
+            "[6,{},\"wamp.close.close_realm\"]",
+            "2 [8,48,3,{},\"wamp.error.canceled\"];1 [6,{},\"wamp.close.goodbye_and_out\"];",
+        ),
+        (
+            1,
+            5,
+            HELLO_CANCELING,
+            "1 [2,5,{\"roles\":{\"broker\":{\"features\":{\"pattern_based_subscrip;",
+        ),
+        (1, 3, "[64,1,{},\"p\"]", "1 [65,1,2];"),
+        (2, 3, "[48,3,{},\"p\"]", "1 [68,1,2,{}];"),
+        (2, 3, "hang up", "1 [69,1,{\"mode\":\"killnowait\"}];"),
+        (1, 3, "[70,1,{}]", ""),
+    ];
+    check(&rt, rt.alloc(), 4096, rows.as_slice())
+}
+
+#[test]
+fn a_violation_ends_calls_both_ways(rt: HostRuntime) -> Result<(), Fail> {
+    let rows = [
+        (1, 1, "connect", ""),
+        (2, 1, "connect", ""),
+        (3, 1, "connect", ""),
+        (4, 1, "connect", ""),
+        (
+            1,
+            1,
+            HELLO,
+            "1 [2,1,{\"roles\":{\"broker\":{\"features\":{\"pattern_based_subscrip;",
+        ),
+        (
+            2,
+            2,
+            HELLO_CANCELING,
+            "2 [2,2,{\"roles\":{\"broker\":{\"features\":{\"pattern_based_subscrip;",
+        ),
+        (
+            3,
+            3,
+            HELLO,
+            "3 [2,3,{\"roles\":{\"broker\":{\"features\":{\"pattern_based_subscrip;",
+        ),
+        (
+            4,
+            4,
+            HELLO,
+            "4 [2,4,{\"roles\":{\"broker\":{\"features\":{\"pattern_based_subscrip;",
+        ),
+        (1, 3, "[64,1,{},\"s\"]", "1 [65,1,1];"),
+        (2, 3, "[64,1,{},\"e\"]", "2 [65,1,2];"),
+        (1, 3, "[48,1,{},\"e\"]", "2 [68,1,2,{}];"),
+        (1, 3, "[48,2,{},\"s\"]", "1 [68,1,1,{}];"),
+        (3, 3, "[48,5,{},\"s\"]", "1 [68,2,1,{}];"),
+        (4, 3, "[48,6,{},\"s\"]", "1 [68,3,1,{}];"),
+        (
+            1,
+            3,
+            "[36,1,1,{}]",
+            "3 [8,48,5,{},\"wamp.error.canceled\"];4 [8,48,6,{},\"wamp.error.canceled\"];2 [69,1,{\"mode\":\"killnowait\"}];1 [3,{},\"wamp.error.protocol_violation\"];1 close;",
+        ),
+    ];
+    check(&rt, rt.alloc(), 4096, rows.as_slice())
+}
+
+// The act at the transport of this node, with the draw 1 or of a session.
+fn act_at(
+    alloc: Global,
+    realm: &mut Realm,
+    node: u8,
+    number: u32,
+    draw: u64,
+    text: &str,
+) -> Result<Vec<u8>, Fail> {
+    let act = parsed(alloc, draw, text)?;
+    let transport = Transport {
+        node,
+        boot: 1,
+        number,
+    };
+    let says = realm.act(transport, &act)?;
+    in_one_text(alloc, says.as_slice())
+}
+
+fn gone(realm: &mut Realm, node: u8) -> Result<Vec<Say>, Failed> {
+    realm.gone(node)
+}
+
+// What a transport does, by node and number; and what the end of the node 3 makes the realm say then.
+fn check_gone(
+    rt: &impl Abort,
+    alloc: Global,
+    rows: &[(u8, u32, u64, &str)],
+    says: &str,
+) -> Result<(), Fail> {
+    let mut realm = realm_of(alloc, 4096)?;
+    for (node, number, draw, text) in rows {
+        let _said = act_at(alloc, &mut realm, *node, *number, *draw, text)?;
+    }
+    let said = gone(&mut realm, 3)?;
+    let octets = in_one_text(alloc, said.as_slice())?;
+    assert!(rt; octets.as_slice() == says.as_bytes());
+    let said = gone(&mut realm, 3)?;
+    assert!(rt; said.is_empty());
+    Ok(())
+}
+
+#[test]
+fn a_node_is_gone(rt: HostRuntime) -> Result<(), Fail> {
+    let rows = [
+        (2, 9, 1, "connect"),
+        (3, 1, 1, "connect"),
+        (3, 2, 1, "connect"),
+        (2, 9, 1, HELLO),
+        (3, 1, 2, HELLO),
+        (3, 1, 3, "[64,1,{},\"p\"]"),
+        (2, 9, 3, "[48,3,{},\"p\"]"),
+    ];
+    check_gone(
+        &rt,
+        rt.alloc(),
+        rows.as_slice(),
+        "9 [8,48,3,{},\"wamp.error.canceled\"];1 [6,{},\"wamp.close.system_shutdown\"];1 close;2 close;",
+    )
+}
