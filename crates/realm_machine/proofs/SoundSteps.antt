@@ -1,13 +1,11 @@
 -- What every realm keeps is kept by each step, one lemma for each part of it.
 use Rattle.std.proofs.Common.{◌≡◌, ℕ, ◌<◌, Bool, true, false, not, if◌then◌else◌, nat_lt, List, [], ◌∷◌, ◌^◌, Result, Ok, Err}
 use Rattle.std.proofs.Common.{Option, None, Some, bytes_eq, refl, sym, ap, subst, ◌∙◌, ◌+◌}
-use Rattle.std.proofs.lemmas.Bool.{cond_both, cond-false, or_parts, not-false, not_from_true, ltb-true}
+use Rattle.std.proofs.lemmas.Bool.{cond_both, cond-false, not_from_true}
 use Rattle.std.proofs.lemmas.Slice.Eq.{bytes_eq-Decides}
 use Rattle.paxos_packets.specs.declared.transport.Transport.{Transport}
-use Rattle.wamp_ids.specs.Id.{last_id}
 use Rattle.wamp_ids.specs.declared.uri.UriFault.{UriFault}
 use Rattle.wamp_ids.specs.Pattern.{PatternValue, pattern_of}
-use Rattle.wamp_values.specs.declared.args.Args.{Args}
 use Rattle.wamp_elements.specs.declared.request_kind.RequestKind.{RequestKind}
 use Rattle.wamp_elements.specs.declared.request_kind.RequestKind.TheVariants as kind
 use Rattle.wamp_kinds.specs.declared.session.Hello.{Hello as HelloMessage}
@@ -45,7 +43,7 @@ use Rattle.realm_machine.specs.Opening.{welcome, welcomed, open_at}
 use Rattle.realm_machine.specs.Subscribing.{subscribed, subscribe_to}
 use Rattle.realm_machine.specs.Unsubscribing.{unsubscribe}
 use Rattle.realm_machine.specs.Publishing.{is_open_topic, publish}
-use Rattle.realm_machine.specs.Step.{refuse_unless, on_unfit, on_error, on_request, on_opening, on_message, on_read, on_transport, on_act, next, after_input}
+use Rattle.realm_machine.specs.Step.{refuse_unless, on_unfit, on_error, on_request, on_opening, on_message, on_read, on_transport, next, after_input}
 use Rattle.realm_subscriptions.specs.Laws.{AreSoundSubscriptions}
 use Rattle.realm_machine.specs.Laws.{IsSound, EmptyIsSound, EachInputKeepsSound, EveryRealmIsSound, OpensWhereRoom, after}
 use Rattle.wamp_ids.specs.declared.policy.Invoke.{Invoke}

@@ -1,6 +1,6 @@
 -- How a client calls a procedure, cancels a call, and answers an invocation (WAMP specification, "Remote Procedure Calls",
 -- "Call Canceling"; the limits, the refusals and their order are this profile's: docs/PROTOCOL.md, "The realm").
-use Rattle.std.specs.Prelude.{ℕ, Bool, List, [], ◌∷◌, ◌++◌, find, Option, None, Some, Result, Ok, Err, if◌then◌else◌}
+use Rattle.std.specs.Prelude.{ℕ, List, [], ◌∷◌, ◌++◌, find, Option, None, Some, Result, Ok, Err, if◌then◌else◌}
 use Rattle.paxos_packets.specs.declared.transport.Transport.{Transport}
 use Rattle.wamp_ids.specs.declared.policy.Match.{Match}
 use Rattle.wamp_ids.specs.declared.policy.Match.TheVariants.{Exact, Prefix, Wildcard}

@@ -1,8 +1,8 @@
 -- Laws of the realm's step, over every configuration and every list of inputs (docs/PROTOCOL.md, "The realm").
-use Rattle.std.specs.Prelude.{◌≡◌, ◌≢◌, ℕ, ◌<◌, ◌≤◌, ◌^◌, Bool, true, false, List, length, fold, All, AllPairs, Some}
+use Rattle.std.specs.Prelude.{◌≡◌, ℕ, ◌<◌, ◌^◌, Bool, true, false, List, fold, All, Some}
 use Rattle.paxos_packets.specs.declared.transport.Transport.{Transport}
 use Rattle.replica_machine.specs.declared.input.Input.{Input}
-use Rattle.wamp_ids.specs.Id.{last_id, is_id}
+use Rattle.wamp_ids.specs.Id.{is_id}
 use Rattle.paxos_packets.specs.Transport.{same_transport}
 use Rattle.realm_machine.specs.declared.act.Act.{Act}
 use Rattle.realm_machine.specs.declared.act.Act.TheVariants.{Hung}
@@ -12,10 +12,13 @@ use Rattle.realm_sessions.specs.Sessions.{opened}
 use Rattle.realm_sessions.specs.Laws.{AreSoundLinks}
 use Rattle.realm_registrations.specs.Laws.{AreSoundRegistrations}
 use Rattle.realm_subscriptions.specs.Laws.{AreSoundSubscriptions}
+use Rattle.realm_calls.specs.declared.calls.Open.{Open}
+use Rattle.realm_calls.specs.Laws.{AreSoundCalls}
 use Rattle.realm_machine.specs.Config.{Config}
 use Rattle.realm_machine.specs.Content.{Content, empty}
 use Rattle.realm_machine.specs.Opening.{open_at, welcomed}
 use Rattle.realm_machine.specs.Step.{says, after_input}
+use Rattle.realm_machine.specs.Trace.{Letter, trace, begins_with_answer, has_two_answers}
 
 -- ---- what every realm keeps
 
@@ -41,6 +44,27 @@ EachInputKeepsSound = (config : Config) (c : Content) (input : Input Act) → Is
 
 abbrev pub EveryRealmIsSound : Type 0
 EveryRealmIsSound = (config : Config) (inputs : List (Input Act)) → IsSound config (after config (empty config.limits) inputs)
+
+-- ---- calls
+
+-- final replies answer calls: a trace does not begin with one, and has no two side by side
+pub record IsTrace (letters : List Letter) : Type 0 where
+  pub begins : begins_with_answer letters ≡ false
+  pub one : has_two_answers letters ≡ false
+
+abbrev pub RepliesAnswerCalls : Type 0
+RepliesAnswerCalls = (config : Config) (inputs : List (Input Act)) (t : Transport) (request : ℕ)
+    → IsTrace (trace config t request (empty config.limits) inputs)
+
+pub record AreSoundOpenCalls (c : Content) : Type 0 where
+  -- no two open calls have one caller and request, nor one callee and invocation
+  pub calls : AreSoundCalls c.calls.list
+  -- callers and callees are sessions that are there
+  pub callers : All (λ (call : Open). is_taken c.sessions.list call.caller ≡ true) c.calls.list
+  pub callees : All (λ (call : Open). is_taken c.sessions.list call.callee ≡ true) c.calls.list
+
+abbrev pub EveryOpenCallIsSound : Type 0
+EveryOpenCallIsSound = (config : Config) (inputs : List (Input Act)) → AreSoundOpenCalls (after config (empty config.limits) inputs)
 
 -- ---- a session has an id
 

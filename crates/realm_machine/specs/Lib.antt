@@ -9,5 +9,6 @@ pub mod Unsubscribing
 pub mod Publishing
 pub mod Calling
 pub mod Step
+pub mod Trace
 pub mod Realm
 pub mod Laws

@@ -1,5 +1,5 @@
 -- How a client leaves one of its subscriptions (WAMP specification, "Publish and Subscribe"; docs/PROTOCOL.md, "The realm").
-use Rattle.std.specs.Prelude.{ℕ, if◌then◌else◌}
+use Rattle.std.specs.Prelude.{if◌then◌else◌}
 use Rattle.wamp_elements.specs.declared.request_kind.RequestKind.TheVariants as kind
 use Rattle.wamp_kinds.specs.declared.subscribe.Unsubscribe.{Unsubscribe}
 use Rattle.wamp_kinds.specs.declared.message.Message.TheVariants as message

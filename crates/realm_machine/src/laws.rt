@@ -1,4 +1,5 @@
 //! Laws of the realm's step, each the contract of a function that does nothing.
+ghost use Rattle.realm_machine.specs.Laws.{RepliesAnswerCalls, EveryOpenCallIsSound};
 ghost use Rattle.realm_machine.specs.Laws.{EmptyIsSound, EachInputKeepsSound, EveryRealmIsSound, OpensWhereRoom, HungUpIsToldNothing};
 
 /// What every realm keeps, whatever acts come to it and whichever nodes begin or are lost: each transport is connected once, no two sessions have one id, the ids
@@ -20,4 +21,15 @@ pub fn session_ids_are_found()
 /// A client that hangs up is told nothing: only others are told of the calls that end with its session. Takes no memory.
 pub fn the_hung_up_are_told_nothing()
     ensures { HungUpIsToldNothing }
+{}
+
+/// Final replies answer calls: of a transport and a request, each stands behind a CALL, and no two behind one. Takes no memory.
+pub fn replies_answer_calls()
+    ensures { RepliesAnswerCalls }
+{}
+
+/// No two open calls have one caller and request, nor one callee and invocation, and their callers and callees are sessions that
+/// are there. Takes no memory.
+pub fn open_calls_are_sound()
+    ensures { EveryOpenCallIsSound }
 {}

@@ -1,0 +1,77 @@
+-- What stands in a list.
+use Rattle.std.proofs.Common.{◌≡◌, ◌⊎◌, inl, inr, ⊎_elim, Bool, true, false, ◌||◌, refl, sym, ◌∙◌, ap, subst, List, [], ◌∷◌}
+use Rattle.std.proofs.Common.{Some, None, find, filter}
+use Rattle.std.specs.List.{All, AllPairs, list_any}
+use Rattle.std.proofs.lemmas.Bool.{cond_both, false≢true}
+use Rattle.std.proofs.lemmas.List.Elements.{All-head, All-tail}
+use Rattle.realm_sessions.proofs.Pairs.{AllPairs-head, AllPairs-tail}
+
+pub data Has {A : Type 0} : List A → A → Type 0 where
+  in_front : {x : A} {xs : List A} → Has (x ∷ xs) x
+  further : {x y : A} {xs : List A} → Has xs x → Has (y ∷ xs) x
+
+pub has_cons : {A : Type 0} {y : A} {xs : List A} {x : A} → Has (y ∷ xs) x → (y ≡ x) ⊎ Has xs x
+has_cons in_front = inl refl
+has_cons (further h) = inr h
+
+pub has_nil : {A : Type 0} {x : A} → Has {A = A} [] x → ⊥
+has_nil h = elim h [ ]
+
+pub has_first : {A : Type 0} {y x : A} (ys : List A) → y ≡ x → Has (y ∷ ys) x
+has_first {A} {y} ys e = subst (λ z. Has (y ∷ ys) z) e in_front
+
+pub has_filter : {A : Type 0} (test : A → Bool) (xs : List A) {x : A} → Has (filter test xs) x → Has xs x
+has_filter test [] h = h
+has_filter test (y ∷ xs) {x} h =
+    cond_both (test y) (y ∷ filter test xs) (filter test xs) (λ zs. Has zs x → Has (y ∷ xs) x)
+    (λ e g. ⊎_elim (λ s. has_first xs s) (λ r. further (has_filter test xs r)) (has_cons g))
+    (λ e g. further (has_filter test xs g))
+    h
+
+pub any_has : {A : Type 0} (p : A → Bool) {xs : List A} {x : A} → Has xs x → p x ≡ true → list_any p xs ≡ true
+any_has p (in_front {x = x} {xs = xs}) t = ap (λ b. b || list_any p xs) t
+any_has p (further {x = x} {y = y} {xs = xs} h) t = both (p y) (list_any p xs) (any_has p h t)
+  where
+    both : (a b : Bool) → b ≡ true → (a || b) ≡ true
+    both true b e = refl
+    both false b e = e
+
+or_either : (a b : Bool) → (a || b) ≡ true → (a ≡ true) ⊎ (b ≡ true)
+or_either true b h = inl refl
+or_either false b h = inr h
+
+pub has_any : {A : Type 0} (p : A → Bool) (xs : List A) → list_any p xs ≡ true → (x : A) × Has xs x × (p x ≡ true)
+has_any p [] h = absurd (false≢true h)
+has_any p (x ∷ xs) h =
+    ⊎_elim (λ t. (x, in_front, t)) (λ r. let z = has_any p xs r in (z.0, further z.1, z.2)) (or_either (p x) (list_any p xs) h)
+
+some_is : {A : Type 0} {x y : A} → Some x ≡ Some y → x ≡ y
+some_is h = cc
+
+pub find_has : {A : Type 0} (p : A → Bool) (xs : List A) {x : A} → find p xs ≡ Some x → Has xs x × (p x ≡ true)
+find_has p [] {x} h = absurd (none h)
+  where
+    none : None ≡ Some x → ⊥
+    none e = cc
+find_has p (y ∷ xs) {x} h =
+    cond_both (p y) (Some y) (find p xs) (λ o. o ≡ Some x → Has (y ∷ xs) x × (p x ≡ true))
+    (λ t e. (has_first xs (some_is e), ap p (sym (some_is e)) ∙ t))
+    (λ f e. let z = find_has p xs e in (further z.0, z.1))
+    h
+
+-- ---- from facts of each element, and of each two
+
+pub All-has : {A : Type 0} (P : A → Type 0) {xs : List A} {x : A} → All P xs → Has xs x → P x
+All-has P all (in_front {x = x} {xs = xs}) = All-head P x xs all
+All-has P all (further {x = x} {y = y} {xs = xs} h) = All-has P (All-tail P y xs all) h
+
+-- where no two are as R denies, two that are as R denies are one
+pub two_are_one : {A : Type 0} (R : A → A → Type 0) {xs : List A} {x y : A} → AllPairs R xs → Has xs x → Has xs y
+    → (R x y → ⊥) → (R y x → ⊥) → x ≡ y
+two_are_one R {y = y} pairs (in_front {x = x} {xs = xs}) h off back =
+    ⊎_elim (λ e. e) (λ r. absurd (off (All-has (R x) (AllPairs-head R x xs pairs) r))) (has_cons h)
+two_are_one R {y = y} pairs (further {x = x} {y = z} {xs = xs} g) h off back =
+    ⊎_elim
+    (λ e. absurd (back (subst (λ w. R w x) e (All-has (R z) (AllPairs-head R z xs pairs) g))))
+    (λ r. two_are_one R (AllPairs-tail R z xs pairs) g r off back)
+    (has_cons h)
