@@ -1,11 +1,7 @@
-//! Tests of what a client meets, from ids to the realm, over the crates' public surfaces. A crate with tests is proved twice, so
-//! they stand here.
+//! Tests of what a client meets below the realm, from ids to frames, over the crates' public surfaces. A crate with tests is proved
+//! twice, so they stand here.
 #![tactic(auto)]
 
-#[cfg(test)]
-mod calling;
-#[cfg(test)]
-mod calls;
 #[cfg(test)]
 mod frames;
 #[cfg(test)]
@@ -16,13 +12,5 @@ mod messages;
 mod pattern_tables;
 #[cfg(test)]
 mod patterns;
-#[cfg(test)]
-mod realm;
-#[cfg(test)]
-mod registrations;
-#[cfg(test)]
-mod sessions;
-#[cfg(test)]
-mod subscriptions;
 #[cfg(test)]
 mod values;

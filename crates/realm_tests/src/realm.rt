@@ -15,15 +15,6 @@ pub fn realm_of(alloc: Global, limit: u32) -> Result<Realm, Fail> {
     Ok(Realm::new(alloc, name, limits))
 }
 
-fn act(realm: &mut Realm, number: u32, act: &Act) -> Result<Vec<Say>, Failed> {
-    let transport = Transport {
-        node: 1,
-        boot: 1,
-        number,
-    };
-    realm.act(transport, act)
-}
-
 // `connect`, `hang up`, or the text of a message.
 pub fn parsed(alloc: Global, draw: u64, text: &str) -> Result<Act, Memory> {
     if text == "connect" {
@@ -46,19 +37,41 @@ fn spelled(alloc: Global, out: &Out) -> Result<Vec<u8>, Memory> {
     }
 }
 
-// `NUMBER TEXT;` for each saying, a text cut behind 60 octets.
+// Appends `NUMBER TEXT;`, the text cut behind 60 octets.
+fn append(alloc: Global, all: &mut Vec<u8>, say: &Say) -> Result<(), Fail> {
+    let number = format!(in alloc; "{} ", say.transport.number)?;
+    all.extend_from_slice(number.as_bytes())?;
+    let octets = spelled(alloc, &say.out)?;
+    all.extend_from_slice(&octets[..octets.len().min(60)])?;
+    all.push(b';')?;
+    Ok(())
+}
+
+// `NUMBER TEXT;` for each saying.
 pub fn in_one_text(alloc: Global, says: &[Say]) -> Result<Vec<u8>, Fail> {
     let mut all = Vec::new(alloc);
     for say in says {
-        let octets = spelled(alloc, &say.out)?;
-        let number = format!(in alloc; "{} ", say.transport.number)?;
-        all.extend_from_slice(number.as_bytes())?;
-        for octet in octets.iter().take(60) {
-            all.push(*octet)?;
-        }
-        all.push(b';')?;
+        append(alloc, &mut all, say)?;
     }
     Ok(all)
+}
+
+fn transport(number: u32) -> Transport {
+    Transport {
+        node: 1,
+        boot: 1,
+        number,
+    }
+}
+
+fn act(realm: &mut Realm, transport: Transport, act: &Act) -> Result<Vec<Say>, Failed> {
+    realm.act(transport, act)
+}
+
+// What is said to the act of a transport.
+fn told(alloc: Global, realm: &mut Realm, number: u32, said: &Act) -> Result<Vec<u8>, Fail> {
+    let says = act(realm, transport(number), said)?;
+    in_one_text(alloc, says.as_slice())
 }
 
 fn replies(
@@ -68,8 +81,8 @@ fn replies(
     draw: u64,
     text: &str,
 ) -> Result<Vec<u8>, Fail> {
-    let says = act(realm, number, &parsed(alloc, draw, text)?)?;
-    in_one_text(alloc, says.as_slice())
+    let said = parsed(alloc, draw, text)?;
+    told(alloc, realm, number, &said)
 }
 
 // What a transport does, with the draw for it, and what the realm says then; in a realm with this limit.
