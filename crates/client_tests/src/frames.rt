@@ -1,3 +1,4 @@
+use std::alloc::Global;
 use std::test::Fail;
 use wamp_rawsocket::{
     Answer, Frame, FrameFault, FrameKind, Splitter, answer, append_frame, put_frame,
@@ -70,27 +71,48 @@ fn waits_for_the_longest_payload(rt: HostRuntime) -> Result<(), Fail> {
     Ok(())
 }
 
+// Appends a PONG for a PING, and any other frame as it came.
+fn reply(replies: &mut Vec<u8>, frame: &Frame) -> Result<(), FrameFault> {
+    let kind = match frame.kind {
+        FrameKind::Ping => FrameKind::Pong,
+        kind => kind,
+    };
+    append_frame(replies, kind, frame.payload.as_slice(), 3)
+}
+
+// Feeds one piece, and replies to each frame that is whole.
+fn reply_to(
+    splitter: &mut Splitter,
+    piece: &[u8],
+    replies: &mut Vec<u8>,
+) -> Result<(), FrameFault> {
+    splitter.feed(piece)?;
+    for _ in 0..4 {
+        let Some(frame) = splitter.next()? else {
+            break;
+        };
+        reply(replies, &frame)?;
+    }
+    Ok(())
+}
+
+// The replies to what comes in pieces of this length.
+fn replies_by(alloc: Global, octets: &[u8], length: usize) -> Result<Vec<u8>, Fail> {
+    let mut splitter = Splitter::new(alloc);
+    let mut replies = Vec::new(alloc);
+    for piece in octets.chunks(length.max(1)) {
+        reply_to(&mut splitter, piece, &mut replies)?;
+    }
+    Ok(replies)
+}
+
 #[test]
 fn splits_frames_in_any_pieces(rt: HostRuntime) -> Result<(), Fail> {
-    let octets = b"\x01\0\0\x02AB\0\0\0\x03[6]\x01\0\0\0";
-    let want = b"\x02\0\0\x02AB\0\0\0\x03[6]\x02\0\0\0";
-    for piece in [1, 3, octets.len()] {
-        let mut splitter = Splitter::new(rt.alloc());
-        let mut replies = Vec::new(rt.alloc());
-        for part in octets.chunks(piece) {
-            splitter.feed(part)?;
-            for _ in 0..4 {
-                let Some(frame) = splitter.next()? else {
-                    break;
-                };
-                let kind = match frame.kind {
-                    FrameKind::Ping => FrameKind::Pong,
-                    kind => kind,
-                };
-                append_frame(&mut replies, kind, frame.payload.as_slice(), 3)?;
-            }
-        }
-        assert_eq!(rt; replies.as_slice(), want.as_slice(), "by {piece}");
+    let octets = b"\x01\0\0\x02AB\0\0\0\x03[6]\x01\0\0\0".as_slice();
+    let want = b"\x02\0\0\x02AB\0\0\0\x03[6]\x02\0\0\0".as_slice();
+    for length in [1, 3, octets.len()] {
+        let replies = replies_by(rt.alloc(), octets, length)?;
+        assert_eq!(rt; replies.as_slice(), want, "by {length}");
     }
     Ok(())
 }

@@ -7,8 +7,6 @@ mod frames;
 #[cfg(test)]
 mod ids;
 #[cfg(test)]
-mod messages;
-#[cfg(test)]
 mod pattern_tables;
 #[cfg(test)]
 mod patterns;

@@ -1,8 +1,13 @@
 // Rows on which URIs a pattern matches, which pattern serves, and tables by patterns.
 use std::alloc::Global;
+use std::process::Abort;
 use std::test::Fail;
-use wamp_ids::{Match, Pattern, Uri};
+use wamp_ids::{Match, Pattern, Uri, UriFault};
 use wamp_patterns::{Memory, PatternTable, better, matches};
+
+fn is_matched(text: &str, matching: Match, uri: &str) -> Result<bool, UriFault> {
+    Ok(matches(&Pattern::of(text, matching)?, &Uri::of(uri)?))
+}
 
 #[test]
 fn matches_by_the_three_rules(rt: HostRuntime) -> Result<(), Fail> {
@@ -19,34 +24,89 @@ fn matches_by_the_three_rules(rt: HostRuntime) -> Result<(), Fail> {
         ("", Match::Wildcard, "a", true),
         ("", Match::Wildcard, "a.b", false),
     ] {
-        let found = matches(&Pattern::of(text, matching)?, &Uri::of(uri)?);
+        let found = is_matched(text, matching, uri)?;
         assert_eq!(rt; found, expected, "{text} at {uri}");
     }
-    let prefix = Pattern::of("a", Match::Prefix)?;
-    assert!(rt; better(&Pattern::of("a.", Match::Prefix)?, &prefix));
-    assert!(rt; better(&prefix, &Pattern::of("a.", Match::Wildcard)?));
     Ok(())
 }
 
-type Row = (&'static str, Match, u8);
-
-fn table_of(alloc: Global, rows: &[Row]) -> Result<PatternTable<u8>, Fail> {
-    let mut table = PatternTable::new(alloc);
-    for (text, matching, value) in rows {
-        let pattern = Pattern::of(text, *matching)?;
-        if let Err((_value, memory)) = table.put(&pattern, *value) {
-            return Err(Fail::from(memory));
-        }
-    }
-    Ok(table)
+fn is_better(one: (&str, Match), other: (&str, Match)) -> Result<bool, UriFault> {
+    Ok(better(&Pattern::of(one.0, one.1)?, &Pattern::of(other.0, other.1)?))
 }
 
-fn best_of(table: &PatternTable<u8>, uri: &str) -> Result<Option<u8>, Fail> {
-    Ok(table.best(&Uri::of(uri)?).copied())
+#[test]
+fn the_longer_prefix_is_better_and_any_prefix_than_a_wildcard(rt: HostRuntime) -> Result<(), Fail> {
+    for (one, other) in [
+        (("a.", Match::Prefix), ("a", Match::Prefix)),
+        (("a", Match::Prefix), ("a.", Match::Wildcard)),
+    ] {
+        assert!(rt; is_better(one, other)?);
+    }
+    Ok(())
+}
+
+// The value that stood there, or that is found, or the fault's number; 0 where there is none.
+fn answer(table: &mut PatternTable<u8>, word: &str, pattern: &Pattern<'_>, value: u8) -> u8 {
+    if word == "get" {
+        return table.get(pattern).copied().unwrap_or(0);
+    }
+    if word == "remove" {
+        return table.remove(pattern).unwrap_or(0);
+    }
+    match table.put(pattern, value) {
+        Ok(old) => old.unwrap_or(0),
+        Err((_value, memory)) => memory.number(),
+    }
+}
+
+fn best(table: &PatternTable<u8>, uri: &str) -> Result<u8, UriFault> {
+    Ok(table.best(&Uri::of(uri)?).copied().unwrap_or(0))
+}
+
+// The values of all patterns that match, a digit for each.
+fn all(table: &PatternTable<u8>, uri: &str) -> Result<u64, Fail> {
+    let mut digits: u64 = 0;
+    for value in table.all(&Uri::of(uri)?)? {
+        digits = digits.wrapping_mul(10).wrapping_add(*value as u64);
+    }
+    Ok(digits)
+}
+
+// What one step answers.
+fn step(
+    table: &mut PatternTable<u8>,
+    word: &str,
+    text: &str,
+    matching: Match,
+    value: u8,
+) -> Result<u64, Fail> {
+    if word == "all" {
+        return all(table, text);
+    }
+    if word == "best" {
+        return Ok(best(table, text)? as u64);
+    }
+    let pattern = Pattern::of(text, matching)?;
+    Ok(answer(table, word, &pattern, value) as u64)
+}
+
+// What is done with which text, match and value, and what is answered.
+fn check(
+    rt: &impl Abort,
+    alloc: Global,
+    rows: &[(&str, &str, Match, u8, u64)],
+) -> Result<(), Fail> {
+    let mut table = PatternTable::new(alloc);
+    for (word, text, matching, value, answer) in rows {
+        let given = step(&mut table, word, text, *matching, *value)?;
+        assert_eq!(rt; given, *answer, "{word} {text} {value}");
+    }
+    Ok(())
 }
 
 #[test]
 fn one_of_two_wildcards_serves(rt: HostRuntime) -> Result<(), Fail> {
+    let wildcard = Match::Wildcard;
     for (one, other, uri, serves) in [
         ("a1.b2..d4.e5", "a1.b2.c33..e5", "a1.b2.c33.d4.e5", 2),
         (
@@ -57,78 +117,96 @@ fn one_of_two_wildcards_serves(rt: HostRuntime) -> Result<(), Fail> {
         ),
         ("a.b...", "a..c.d.e", "a.b.c.d.e", 1),
     ] {
-        let first = (one, Match::Wildcard, 1);
-        let second = (other, Match::Wildcard, 2);
-        let table = table_of(rt.alloc(), &[first, second])?;
-        assert_eq!(rt; best_of(&table, uri)?, Some(serves), "{uri}");
-        let table = table_of(rt.alloc(), &[second, first])?;
-        assert_eq!(rt; best_of(&table, uri)?, Some(serves), "{uri}");
+        let rows = [
+            ("put", one, wildcard, 1, 0),
+            ("put", other, wildcard, 2, 0),
+            ("best", uri, wildcard, 0, serves),
+            ("remove", one, wildcard, 0, 1),
+            ("put", one, wildcard, 1, 0),
+            ("best", uri, wildcard, 0, serves),
+        ];
+        check(&rt, rt.alloc(), rows.as_slice())?;
     }
     Ok(())
 }
 
-const WILDCARD: Row = ("a.", Match::Wildcard, 1);
-
-const SHORT: Row = ("a", Match::Prefix, 2);
-
-const LONG: Row = ("a.", Match::Prefix, 3);
-
-const EXACT: Row = ("a.b", Match::Exact, 4);
-
 #[test]
 fn the_next_serves_once_the_best_is_removed(rt: HostRuntime) -> Result<(), Fail> {
-    for rows in [
-        [WILDCARD, SHORT, LONG, EXACT],
-        [EXACT, LONG, SHORT, WILDCARD],
-    ] {
-        let mut table = table_of(rt.alloc(), &rows)?;
-        for (text, matching, value) in [EXACT, LONG, SHORT, WILDCARD] {
-            assert_eq!(rt; best_of(&table, "a.b")?, Some(value), "{text}");
-            let pattern = Pattern::of(text, matching)?;
-            assert_eq!(rt; table.remove(&pattern), Some(value), "{text}");
-            assert_eq!(rt; table.remove(&pattern), None, "{text}");
-        }
-        assert_eq!(rt; best_of(&table, "a.b")?, None);
-    }
-    Ok(())
+    let rows = [
+        ("put", "a.", Match::Wildcard, 1, 0),
+        ("put", "a", Match::Prefix, 2, 0),
+        ("put", "a.", Match::Prefix, 3, 0),
+        ("put", "a.b", Match::Exact, 4, 0),
+        ("best", "a.b", Match::Exact, 0, 4),
+        ("remove", "a.b", Match::Exact, 0, 4),
+        ("remove", "a.b", Match::Exact, 0, 0),
+        ("best", "a.b", Match::Exact, 0, 3),
+        ("remove", "a.", Match::Prefix, 0, 3),
+        ("remove", "a.", Match::Prefix, 0, 0),
+        ("best", "a.b", Match::Exact, 0, 2),
+        ("remove", "a", Match::Prefix, 0, 2),
+        ("remove", "a", Match::Prefix, 0, 0),
+        ("best", "a.b", Match::Exact, 0, 1),
+        ("remove", "a.", Match::Wildcard, 0, 1),
+        ("remove", "a.", Match::Wildcard, 0, 0),
+        ("best", "a.b", Match::Exact, 0, 0),
+    ];
+    check(&rt, rt.alloc(), rows.as_slice())
+}
+
+#[test]
+fn the_order_of_putting_is_no_rank(rt: HostRuntime) -> Result<(), Fail> {
+    let rows = [
+        ("put", "a.b", Match::Exact, 4, 0),
+        ("put", "a.", Match::Prefix, 3, 0),
+        ("put", "a", Match::Prefix, 2, 0),
+        ("put", "a.", Match::Wildcard, 1, 0),
+        ("best", "a.b", Match::Exact, 0, 4),
+        ("remove", "a.b", Match::Exact, 0, 4),
+        ("best", "a.b", Match::Exact, 0, 3),
+        ("remove", "a.", Match::Prefix, 0, 3),
+        ("best", "a.b", Match::Exact, 0, 2),
+        ("remove", "a", Match::Prefix, 0, 2),
+        ("best", "a.b", Match::Exact, 0, 1),
+        ("remove", "a.", Match::Wildcard, 0, 1),
+        ("best", "a.b", Match::Exact, 0, 0),
+    ];
+    check(&rt, rt.alloc(), rows.as_slice())
 }
 
 #[test]
 fn gives_all_that_match_in_order(rt: HostRuntime) -> Result<(), Fail> {
-    let table = table_of(
-        rt.alloc(),
-        &[
-            ("a.", Match::Wildcard, 7),
-            ("a", Match::Prefix, 3),
-            (".", Match::Wildcard, 5),
-            ("b", Match::Prefix, 8),
-            ("a.b", Match::Exact, 1),
-            ("", Match::Prefix, 2),
-            (".b", Match::Wildcard, 6),
-            ("a.c", Match::Exact, 9),
-            ("a.", Match::Prefix, 4),
-        ],
-    )?;
-    let found = table.all(&Uri::of("a.b")?)?;
-    let mut values = Vec::new(rt.alloc());
-    for value in &found {
-        values.push(**value)?;
-    }
-    assert_eq!(rt; values.as_slice(), [1, 2, 3, 4, 5, 6, 7].as_slice());
-    Ok(())
+    let rows = [
+        ("put", "a.", Match::Wildcard, 7, 0),
+        ("put", "a", Match::Prefix, 3, 0),
+        ("put", ".", Match::Wildcard, 5, 0),
+        ("put", "b", Match::Prefix, 8, 0),
+        ("put", "a.b", Match::Exact, 1, 0),
+        ("put", "", Match::Prefix, 2, 0),
+        ("put", ".b", Match::Wildcard, 6, 0),
+        ("put", "a.c", Match::Exact, 9, 0),
+        ("put", "a.", Match::Prefix, 4, 0),
+        ("all", "a.b", Match::Exact, 0, 1_234_567),
+    ];
+    check(&rt, rt.alloc(), rows.as_slice())
 }
 
 #[test]
 fn puts_one_value_for_a_text_and_match(rt: HostRuntime) -> Result<(), Fail> {
-    let mut table = table_of(rt.alloc(), &[EXACT, LONG])?;
-    let pattern = Pattern::of("a.b", Match::Exact)?;
-    assert_eq!(rt; table.get(&pattern).copied(), Some(4));
-    assert_eq!(rt; table.put(&pattern, 5), Ok(Some(4)));
-    assert_eq!(rt; table.get(&pattern).copied(), Some(5));
-    let other = Pattern::of("a.b", Match::Prefix)?;
-    assert_eq!(rt; table.get(&other).copied(), None);
-    assert_eq!(rt; table.put(&other, 6), Ok(None));
-    assert_eq!(rt; table.get(&pattern).copied(), Some(5));
+    let rows = [
+        ("put", "a.b", Match::Exact, 4, 0),
+        ("put", "a.", Match::Prefix, 3, 0),
+        ("get", "a.b", Match::Exact, 0, 4),
+        ("put", "a.b", Match::Exact, 5, 4),
+        ("get", "a.b", Match::Exact, 0, 5),
+        ("get", "a.b", Match::Prefix, 0, 0),
+        ("put", "a.b", Match::Prefix, 6, 0),
+        ("get", "a.b", Match::Exact, 0, 5),
+    ];
+    check(&rt, rt.alloc(), rows.as_slice())
+}
+
+#[test]
+fn want_of_memory_has_number_36(rt: HostRuntime) {
     assert_eq!(rt; Memory.number(), 36);
-    Ok(())
 }

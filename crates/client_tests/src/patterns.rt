@@ -1,6 +1,6 @@
 // Rows on patterns.
 use std::test::Fail;
-use wamp_ids::{Match, Pattern};
+use wamp_ids::{Match, Pattern, UriFault};
 
 fn fault_of(rt: &HostRuntime, text: &str, matching: Match) -> u8 {
     match Pattern::read(rt.alloc(), text, matching) {
@@ -51,8 +51,12 @@ fn patterns_have_at_most_1024_octets(rt: HostRuntime) -> Result<(), Fail> {
     Ok(())
 }
 
+fn is_reserved(text: &str, matching: Match) -> Result<bool, UriFault> {
+    Ok(Pattern::of(text, matching)?.is_reserved())
+}
+
 #[test]
-fn takes_patterns_apart(rt: HostRuntime) -> Result<(), Fail> {
+fn some_patterns_are_reserved(rt: HostRuntime) -> Result<(), Fail> {
     for (text, matching, reserved) in [
         ("wamp.x", Match::Exact, true),
         ("wamp", Match::Exact, true),
@@ -63,22 +67,36 @@ fn takes_patterns_apart(rt: HostRuntime) -> Result<(), Fail> {
         ("wamp..x", Match::Wildcard, true),
         (".wamp", Match::Wildcard, false),
     ] {
-        assert_eq!(rt;
-            Pattern::of(text, matching)?.is_reserved(),
-            reserved,
-            "{text}"
-        );
+        assert_eq!(rt; is_reserved(text, matching)?, reserved, "{text}");
     }
+    Ok(())
+}
+
+#[test]
+fn takes_patterns_apart(rt: HostRuntime) -> Result<(), Fail> {
     let pattern = Pattern::read(rt.alloc(), "a..é", Match::Wildcard)?;
     assert_eq!(rt; pattern.parts().count(), 3);
-    assert_eq!(rt; pattern.part(1), Some(""));
-    assert_eq!(rt; pattern.part(2), Some("é"));
-    assert_eq!(rt; pattern.part(3), None);
-    let copy = pattern.copy(rt.alloc())?;
+    for (place, part) in [(0, Some("a")), (1, Some("")), (2, Some("é")), (3, None)] {
+        assert_eq!(rt; pattern.part(place), part, "{place}");
+    }
+    Ok(())
+}
+
+fn is_same(pattern: &Pattern<'_>, text: &str, matching: Match) -> Result<bool, UriFault> {
+    Ok(pattern.same(&Pattern::of(text, matching)?))
+}
+
+#[test]
+fn a_copied_pattern_is_the_same(rt: HostRuntime) -> Result<(), Fail> {
+    let copy = Pattern::of("a..é", Match::Wildcard)?.copy(rt.alloc())?;
     assert_eq!(rt; copy.as_str(), "a..é");
     assert_eq!(rt; copy.matching(), Match::Wildcard);
-    assert!(rt; pattern.same(&copy));
-    assert!(rt; !pattern.same(&Pattern::of("a..é", Match::Prefix)?));
-    assert!(rt; !pattern.same(&Pattern::of("a..", Match::Wildcard)?));
+    for (text, matching, same) in [
+        ("a..é", Match::Wildcard, true),
+        ("a..é", Match::Prefix, false),
+        ("a..", Match::Wildcard, false),
+    ] {
+        assert_eq!(rt; is_same(&copy, text, matching)?, same, "{text}");
+    }
     Ok(())
 }

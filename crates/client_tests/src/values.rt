@@ -3,6 +3,7 @@ use json::Writer;
 use serde_json::Value;
 use std::alloc::Global;
 use std::test::Fail;
+use wamp_ids::Text;
 use wamp_values::{
     Args, Arguments, ArgumentsKw, Found, Memory, Payload, ValueFault, bool_option, text_at,
     text_option,
@@ -31,47 +32,48 @@ fn payload(alloc: Global, text: &str) -> Result<Payload, Fail> {
     Ok(Payload::check(Value::from_str(alloc, text)?)?)
 }
 
+// The number of the fault, or 0 where the value is a payload.
+fn fault_of(value: Value) -> u8 {
+    match Payload::check(value) {
+        Ok(_) => 0,
+        Err(fault) => fault.number(),
+    }
+}
+
 #[test]
 fn numbers_are_i64_or_u64(rt: HostRuntime) -> Result<(), Fail> {
-    for text in [
-        "0",
-        "18446744073709551615",
-        "-9223372036854775808",
-        "[{\"a\":-1}]",
-        "\"1.5\"",
+    for (text, number) in [
+        ("0", 0),
+        ("18446744073709551615", 0),
+        ("-9223372036854775808", 0),
+        ("[{\"a\":-1}]", 0),
+        ("\"1.5\"", 0),
+        ("1.5", 11),
+        ("1.0", 11),
+        ("-0", 11),
+        ("1e2", 11),
+        ("18446744073709551616", 11),
+        ("-9223372036854775809", 11),
+        ("[{\"a\":[0.5]}]", 11),
     ] {
-        let value = Value::from_str(rt.alloc(), text)?;
-        assert!(rt; Payload::check(value).is_ok(), "{text}");
-    }
-    for text in [
-        "1.5",
-        "1.0",
-        "-0",
-        "1e2",
-        "18446744073709551616",
-        "-9223372036854775809",
-        "[{\"a\":[0.5]}]",
-    ] {
-        let value = Value::from_str(rt.alloc(), text)?;
-        assert_eq!(rt;
-            Payload::check(value).err(),
-            Some(ValueFault::Number),
-            "{text}"
-        );
+        let given = fault_of(Value::from_str(rt.alloc(), text)?);
+        assert_eq!(rt; given, number, "{text}");
     }
     Ok(())
 }
 
 #[test]
 fn nests_at_most_126_deep(rt: HostRuntime) -> Result<(), Fail> {
-    let alloc = rt.alloc();
-    for (open, close) in [("[", "]"), ("{\"a\":", "}")] {
-        let fault = |inside: &str, depth: usize| -> Result<Option<ValueFault>, Fail> {
-            Ok(Payload::check(nested(alloc, open, inside, close, depth)?).err())
-        };
-        assert_eq!(rt; fault("0", 126)?, None);
-        assert_eq!(rt; fault("0", 127)?, Some(ValueFault::Deep));
-        assert_eq!(rt; fault("1.5", 127)?, Some(ValueFault::Number));
+    for (open, inside, close, depth, number) in [
+        ("[", "0", "]", 126, 0),
+        ("[", "0", "]", 127, 13),
+        ("[", "1.5", "]", 127, 11),
+        ("{\"a\":", "0", "}", 126, 0),
+        ("{\"a\":", "0", "}", 127, 13),
+        ("{\"a\":", "1.5", "}", 127, 11),
+    ] {
+        let given = fault_of(nested(rt.alloc(), open, inside, close, depth)?);
+        assert_eq!(rt; given, number, "{open} {inside} {depth}");
     }
     Ok(())
 }
@@ -115,43 +117,87 @@ fn writes_compact_text(rt: HostRuntime) -> Result<(), Fail> {
     Ok(())
 }
 
+// Whether the payload is written as this text.
+fn is_text_of(alloc: Global, payload: &Payload, text: &str) -> Result<bool, Fail> {
+    let mut out = Vec::new(alloc);
+    payload.write_into(&mut out)?;
+    Ok(out.as_slice() == text.as_bytes())
+}
+
+// Whether the first is the same as the second, and the second as the first.
+fn are_same(alloc: Global, one: &Payload, text: &str) -> Result<(bool, bool), Fail> {
+    let other = payload(alloc, text)?;
+    Ok((one.same(&other), other.same(one)))
+}
+
 #[test]
 fn a_copy_is_equal(rt: HostRuntime) -> Result<(), Fail> {
-    let first = payload(rt.alloc(), "{\"a\":[1,\"x\",null],\"b\":true}")?;
-    let second = first.copy()?;
-    assert!(rt; first.same(&second));
-    let mut out = Vec::new(rt.alloc());
-    second.write_into(&mut out)?;
-    assert!(rt; out.as_slice() == "{\"a\":[1,\"x\",null],\"b\":true}".as_bytes());
-    for other in [
-        "{\"a\":[1,\"x\",null],\"c\":true}",
-        "{\"a\":[1,\"x\"],\"b\":true}",
-        "{\"a\":[1,\"x\",null]}",
-        "null",
+    let copy = payload(rt.alloc(), "{\"a\":[1,\"x\",null],\"b\":true}")?.copy()?;
+    for (text, same) in [
+        ("{\"a\":[1,\"x\",null],\"b\":true}", (true, true)),
+        ("{\"a\":[1,\"x\",null],\"c\":true}", (false, false)),
+        ("{\"a\":[1,\"x\"],\"b\":true}", (false, false)),
+        ("{\"a\":[1,\"x\",null]}", (false, false)),
+        ("null", (false, false)),
     ] {
-        let other = payload(rt.alloc(), other)?;
-        assert!(rt; !first.same(&other));
-        assert!(rt; !other.same(&first));
+        assert_eq!(rt; are_same(rt.alloc(), &copy, text)?, same, "{text}");
+    }
+    assert!(rt; is_text_of(rt.alloc(), &copy, "{\"a\":[1,\"x\",null],\"b\":true}")?);
+    Ok(())
+}
+
+const OPTIONS: &str = "{\"match\":\"prefix\",\"acknowledge\":true}";
+
+fn text_of(found: &Found<Text>) -> &str {
+    match found {
+        Found::Is(text) => text.as_str(),
+        Found::Other => "other",
+        Found::Absent => "absent",
+    }
+}
+
+#[test]
+fn finds_texts(rt: HostRuntime) -> Result<(), Fail> {
+    let options = Value::from_str(rt.alloc(), OPTIONS)?;
+    for (key, want) in [
+        ("match", "prefix"),
+        ("acknowledge", "other"),
+        ("none", "absent"),
+    ] {
+        let found = text_option(rt.alloc(), &options, key)?;
+        assert!(rt; text_of(&found) == want, "{key}");
     }
     Ok(())
 }
 
+fn text_found<'a>(options: &'a Value, key: &str) -> &'a str {
+    match text_at(options, key) {
+        Found::Is(text) => text,
+        Found::Other => "other",
+        Found::Absent => "absent",
+    }
+}
+
+fn bool_found(options: &Value, key: &str) -> &'static str {
+    match bool_option(options, key) {
+        Found::Is(true) => "true",
+        Found::Is(false) => "false",
+        Found::Other => "other",
+        Found::Absent => "absent",
+    }
+}
+
 #[test]
 fn finds_options(rt: HostRuntime) -> Result<(), Fail> {
-    let alloc = rt.alloc();
-    let options = Value::from_str(alloc, "{\"match\":\"prefix\",\"acknowledge\":true}")?;
-    match text_option(alloc, &options, "match")? {
-        Found::Is(text) => assert!(rt; text.as_str() == "prefix"),
-        _ => assert!(rt; false, "the text is there"),
+    let options = Value::from_str(rt.alloc(), OPTIONS)?;
+    for (key, text, truth) in [
+        ("match", "prefix", "other"),
+        ("acknowledge", "other", "true"),
+        ("none", "absent", "absent"),
+    ] {
+        assert!(rt; text_found(&options, key) == text, "{key}");
+        assert!(rt; bool_found(&options, key) == truth, "{key}");
     }
-    assert!(rt; matches!(text_option(alloc, &options, "acknowledge")?, Found::Other));
-    assert!(rt; matches!(text_option(alloc, &options, "none")?, Found::Absent));
-    assert!(rt; matches!(text_at(&options, "match"), Found::Is("prefix")));
-    assert!(rt; matches!(text_at(&options, "acknowledge"), Found::Other));
-    assert!(rt; matches!(text_at(&options, "none"), Found::Absent));
-    assert!(rt; matches!(bool_option(&options, "acknowledge"), Found::Is(true)));
-    assert!(rt; matches!(bool_option(&options, "match"), Found::Other));
-    assert!(rt; matches!(bool_option(&options, "none"), Found::Absent));
     Ok(())
 }
 
@@ -185,12 +231,18 @@ fn arguments_are_an_array_and_an_object(rt: HostRuntime) -> Result<(), Fail> {
     Ok(())
 }
 
+fn list_is_copied(list: &Arguments) -> Result<bool, Memory> {
+    Ok(list.same(&list.copy()?))
+}
+
+fn dict_is_copied(dict: &ArgumentsKw) -> Result<bool, Memory> {
+    Ok(dict.same(&dict.copy()?))
+}
+
 #[test]
 fn arguments_are_copied(rt: HostRuntime) -> Result<(), Fail> {
-    let list = list(rt.alloc(), "[\"hi\"]")?;
-    assert!(rt; list.same(&list.copy()?));
-    let dict = dict(rt.alloc(), "{\"a\":1}")?;
-    assert!(rt; dict.same(&dict.copy()?));
+    assert!(rt; list_is_copied(&list(rt.alloc(), "[\"hi\"]")?)?);
+    assert!(rt; dict_is_copied(&dict(rt.alloc(), "{\"a\":1}")?)?);
     Ok(())
 }
 

@@ -16,8 +16,13 @@ fn fault_number(done: &Read) -> u8 {
     }
 }
 
+// What is read. It has no contract, so that nothing is known of the value: a proof carries what is known through each drop.
+fn read_of(alloc: Global, octets: &[u8]) -> Result<Read, Memory> {
+    read(alloc, octets)
+}
+
 fn fault(alloc: Global, octets: &[u8]) -> Result<u8, Fail> {
-    let done = read(alloc, octets)?;
+    let done = read_of(alloc, octets)?;
     Ok(fault_number(&done))
 }
 
@@ -34,7 +39,7 @@ fn is_unfit(done: &Read, wanted: UnfitKind, silent: bool) -> bool {
 }
 
 fn reads_unfit(alloc: Global, text: &str, kind: UnfitKind, quiet: bool) -> Result<bool, Fail> {
-    let done = read(alloc, text.as_bytes())?;
+    let done = read_of(alloc, text.as_bytes())?;
     Ok(is_unfit(&done, kind, quiet))
 }
 
@@ -43,24 +48,45 @@ fn is_spelled(alloc: Global, message: &Message, text: &str) -> Result<bool, Fail
     Ok(octets.as_slice() == text.as_bytes())
 }
 
+// A copy, of which nothing is known either.
+fn copy_of(message: &Message) -> Result<Message, Memory> {
+    message.copy()
+}
+
+fn is_same(copy: &Message, message: &Message) -> bool {
+    copy.same(message)
+}
+
 // Whether the copy is equal, and has the text.
+fn is_copy(alloc: Global, copy: &Message, message: &Message, text: &str) -> Result<bool, Fail> {
+    if !is_same(copy, message) {
+        return Ok(false);
+    }
+    is_spelled(alloc, copy, text)
+}
+
 fn is_copied(alloc: Global, message: &Message, text: &str) -> Result<bool, Fail> {
-    let copy = message.copy()?;
-    Ok(copy.same(message) && is_spelled(alloc, &copy, text)?)
+    let copy = copy_of(message)?;
+    is_copy(alloc, &copy, message, text)
+}
+
+// Whether this is a message, and has the text.
+fn is_good(alloc: Global, done: &Read, text: &str) -> Result<bool, Fail> {
+    match done {
+        Read::Good(message) => is_copied(alloc, message, text),
+        _ => Ok(false),
+    }
+}
+
+// Whether the message that is read of the one text has the other.
+fn is_written_as(alloc: Global, text: &str, written: &str) -> Result<bool, Fail> {
+    let done = read_of(alloc, text.as_bytes())?;
+    is_good(alloc, &done, written)
 }
 
 // Whether the text is that of the message that is read of it.
 fn is_written_again(alloc: Global, text: &str) -> Result<bool, Fail> {
     is_written_as(alloc, text, text)
-}
-
-// Whether the message that is read of the one text has the other.
-fn is_written_as(alloc: Global, text: &str, written: &str) -> Result<bool, Fail> {
-    let done = read(alloc, text.as_bytes())?;
-    match &done {
-        Read::Good(message) => is_copied(alloc, message, written),
-        _ => Ok(false),
-    }
 }
 
 #[test]

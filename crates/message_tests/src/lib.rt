@@ -1,0 +1,5 @@
+//! Tests of messages as they are read and written, over public surfaces. A crate with tests is proved twice, so they stand here.
+#![tactic(auto)]
+
+#[cfg(test)]
+mod messages;
