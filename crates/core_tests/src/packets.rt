@@ -4,7 +4,7 @@ ghost use Rattle.std.specs.Cmp.Lexicographic.{pointwise, bytes_decides};
 use crate::Number;
 use paxos_packets::{
     Ballot, Body, Change, Entries, Entry, KeptVotes, Kind, Members, Memory, NodeSet, Packet, Rows,
-    Shared, Slot, Vote, Votes, laws,
+    Slot, Vote, Votes, laws,
 };
 use std::alloc::Global;
 use std::marker::Model;
@@ -45,12 +45,6 @@ fn text_of(alloc: Global, octets: &[u8]) -> Result<Text, Memory>
     Ok(Text {
         octets: Vec::from_slice(alloc, octets)?,
     })
-}
-
-fn shared_of(alloc: Global, octets: &[u8]) -> Result<Shared<Text>, Memory>
-    ensures { IfOk result (λ text. text ≡ octets.now) }
-{
-    Ok(Shared::new(alloc, text_of(alloc, octets)?)?)
 }
 
 fn item<B: Drop>(body: B) -> Entry<B> {
@@ -274,22 +268,6 @@ fn large_bodies_are_copied(rt: HostRuntime) -> Result<(), Fail> {
     let body = text_of(rt.alloc(), b"a.b")?;
     let other = text_of(rt.alloc(), b"a.c")?;
     copies_are_told_apart(&rt, rt.alloc(), kinds(rt.alloc(), &body, &other)?)
-}
-
-#[test]
-fn shared_bodies_are_copied(rt: HostRuntime) -> Result<(), Fail> {
-    let body = shared_of(rt.alloc(), b"a.b")?;
-    let other = shared_of(rt.alloc(), b"a.c")?;
-    copies_are_told_apart(&rt, rt.alloc(), kinds(rt.alloc(), &body, &other)?)
-}
-
-#[test]
-fn a_shared_body_outlives_its_first_holder(rt: HostRuntime) -> Result<(), Fail> {
-    let first = shared_of(rt.alloc(), b"a.b")?;
-    let second = first.share()?;
-    drop(first);
-    assert_eq!(rt; second.get().octets.as_slice(), b"a.b".as_slice());
-    Ok(())
 }
 
 #[test]
