@@ -1,4 +1,4 @@
-use crate::realm::{check, in_one_text, parsed, realm_of};
+use crate::realm::{check, in_one_text, realm_of, replies};
 use realm_machine::{Failed, Realm, Say, Transport};
 use std::alloc::Global;
 use std::process::Abort;
@@ -334,27 +334,22 @@ fn a_violation_ends_calls_both_ways(rt: HostRuntime) -> Result<(), Fail> {
     check(&rt, rt.alloc(), 4096, rows.as_slice())
 }
 
-// The act at the transport of this node, with the draw 1 or of a session.
-fn act_at(
-    alloc: Global,
-    realm: &mut Realm,
-    node: u8,
-    number: u32,
-    draw: u64,
-    text: &str,
-) -> Result<Vec<u8>, Fail> {
-    let act = parsed(alloc, draw, text)?;
-    let transport = Transport {
+fn at(node: u8, number: u32) -> Transport {
+    Transport {
         node,
         boot: 1,
         number,
-    };
-    let says = realm.act(transport, &act)?;
-    in_one_text(alloc, says.as_slice())
+    }
 }
 
 fn gone(realm: &mut Realm, node: u8) -> Result<Vec<Say>, Failed> {
     realm.gone(node)
+}
+
+// What is said at the end of this node.
+fn told_gone(alloc: Global, realm: &mut Realm, node: u8) -> Result<Vec<u8>, Fail> {
+    let says = gone(realm, node)?;
+    in_one_text(alloc, says.as_slice())
 }
 
 // What a transport does, by node and number; and what the end of the node 3 makes the realm say then.
@@ -366,13 +361,12 @@ fn check_gone(
 ) -> Result<(), Fail> {
     let mut realm = realm_of(alloc, 4096)?;
     for (node, number, draw, text) in rows {
-        let _said = act_at(alloc, &mut realm, *node, *number, *draw, text)?;
+        let _said = replies(alloc, &mut realm, at(*node, *number), *draw, text)?;
     }
-    let said = gone(&mut realm, 3)?;
-    let octets = in_one_text(alloc, said.as_slice())?;
-    assert!(rt; octets.as_slice() == says.as_bytes());
-    let said = gone(&mut realm, 3)?;
-    assert!(rt; said.is_empty());
+    let said = told_gone(alloc, &mut realm, 3)?;
+    assert!(rt; said.as_slice() == says.as_bytes());
+    let again = told_gone(alloc, &mut realm, 3)?;
+    assert!(rt; again.is_empty());
     Ok(())
 }
 

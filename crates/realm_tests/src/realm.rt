@@ -16,7 +16,7 @@ pub fn realm_of(alloc: Global, limit: u32) -> Result<Realm, Fail> {
 }
 
 // `connect`, `hang up`, or the text of a message.
-pub fn parsed(alloc: Global, draw: u64, text: &str) -> Result<Act, Memory> {
+fn parsed(alloc: Global, draw: u64, text: &str) -> Result<Act, Memory> {
     if text == "connect" {
         return Ok(Act::Connect);
     }
@@ -69,20 +69,25 @@ fn act(realm: &mut Realm, transport: Transport, act: &Act) -> Result<Vec<Say>, F
 }
 
 // What is said to the act of a transport.
-fn told(alloc: Global, realm: &mut Realm, number: u32, said: &Act) -> Result<Vec<u8>, Fail> {
-    let says = act(realm, transport(number), said)?;
+fn told(
+    alloc: Global,
+    realm: &mut Realm,
+    transport: Transport,
+    said: &Act,
+) -> Result<Vec<u8>, Fail> {
+    let says = act(realm, transport, said)?;
     in_one_text(alloc, says.as_slice())
 }
 
-fn replies(
+pub fn replies(
     alloc: Global,
     realm: &mut Realm,
-    number: u32,
+    transport: Transport,
     draw: u64,
     text: &str,
 ) -> Result<Vec<u8>, Fail> {
     let said = parsed(alloc, draw, text)?;
-    told(alloc, realm, number, &said)
+    told(alloc, realm, transport, &said)
 }
 
 // What a transport does, with the draw for it, and what the realm says then; in a realm with this limit.
@@ -94,7 +99,7 @@ pub fn check(
 ) -> Result<(), Fail> {
     let mut realm = realm_of(alloc, limit)?;
     for (number, draw, text, says) in rows {
-        let octets = replies(alloc, &mut realm, *number, *draw, text)?;
+        let octets = replies(alloc, &mut realm, transport(*number), *draw, text)?;
         assert!(rt; octets.as_slice() == says.as_bytes(), "{number} {text}");
     }
     Ok(())
