@@ -13,6 +13,7 @@ use Rattle.paxos_learner.specs.Learner as learning
 use Rattle.paxos_node.specs.declared.outcome.Outcome.{Outcome}
 use Rattle.paxos_node.specs.Node.{NodeState}
 use Rattle.paxos_node.specs.Applying.{down}
+use Rattle.paxos_node.specs.Held.{additions}
 use Rattle.paxos_node.specs.Adopting.{stays_up, adopted, first_learned}
 
 -- who it is stays
@@ -48,6 +49,12 @@ heard_one (Told slot e) s = refl
 pub heard_stay : {B : Type 0} (ns : List (News B)) (s : learning.State B) → (hear_all ns s).members ≡ s.members
 heard_stay [] s = refl
 heard_stay (n ∷ ns) s = heard_stay ns (hear_news n s) ∙ heard_one n s
+
+-- one entry at most becomes pending
+
+pub one_added : {B : Type 0} (o : Option (Entry B)) → additions o ≤ 1
+one_added None = omega arith
+one_added (Some e) = omega arith
 
 -- both parts of a list
 

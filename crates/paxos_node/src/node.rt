@@ -158,6 +158,31 @@ impl<B: Drop> Node<B> {
 }
 
 impl<B: Body> Node<B> {
+    /// Takes all memory that adopting this outcome needs. With `Memory` as well as without it the node is as it was.
+    pub fn make_room(&mut self, outcome: &Outcome<B>) -> Result<(), NodeFault>
+        ensures ok { OnOk result (HasRoom outcome.now self.new) }
+        ensures state { self.new.state ≡ self.old.state }
+        ensures me { self.new.me ≡ self.old.me }
+        ensures members { self.new.members ≡ self.old.members }
+        ensures failed { self.new.failed ≡ self.old.failed }
+        ensures memory { IsOkUnless result Memory }
+    {
+        let votes = outcome.change.votes.as_slice().len();
+        let Ok(()) = self.acceptor.make_room(votes) else {
+            return Err(NodeFault::Memory);
+        };
+        let Ok(()) = self.proposer.make_room_for(&outcome.moves.proposer) else {
+            return Err(NodeFault::Memory);
+        };
+        let Ok(()) = self.learner.make_room_for(&outcome.moves.news) else {
+            return Err(NodeFault::Memory);
+        };
+        let Ok(()) = self.pending.reserve(1) else {
+            return Err(NodeFault::Memory);
+        };
+        Ok(())
+    }
+
     /// Becomes what was planned, once that is committed, where there is room for it; answers the packets that are to be sent, and the entries
     /// that it applied. Takes no memory, and copies nothing.
     pub fn adopt_in_room(&mut self, outcome: Outcome<B>) -> (Packets<B>, Entries<B>)
@@ -193,6 +218,31 @@ impl<B: Body> Node<B> {
         apply_all(&mut self.roll, &mut self.pending, applied.as_slice());
         self.applied += applied.as_slice().len();
         (packets, applied)
+    }
+
+    /// Makes room, and adopts the outcome. With `Memory` the node is as it was and failed: it is to be made anew, by `of`, from the rows that
+    /// are committed. A failed node answers `Memory`.
+    pub fn adopt(&mut self, outcome: Outcome<B>) -> Result<(Packets<B>, Entries<B>), NodeFault>
+        requires { Fits self.old.me self.old.members outcome self.old.state }
+        ensures ok { OnOk result (self.new.state ≡ adopted self.old.me self.old.members outcome self.old.state) }
+        ensures packets { IfOk result (λ sent. sent.0 ≡ outcome.packets) }
+        ensures applied { IfOk result (λ sent. sent.1 ≡ outcome.applied) }
+        ensures ok_failed { OnOk result (self.new.failed ≡ false) }
+        ensures me { self.new.me ≡ self.old.me }
+        ensures members { self.new.members ≡ self.old.members }
+        ensures err { OnErr result (self.new.state ≡ self.old.state) }
+        ensures err_failed { OnErr result (self.new.failed ≡ true) }
+        ensures failed { self.old.failed ≡ true → result ≡ Err Memory }
+        ensures memory { IsOkUnless result Memory }
+    {
+        if self.failed {
+            return Err(NodeFault::Memory);
+        }
+        let Ok(()) = self.make_room(&outcome) else {
+            self.failed = true;
+            return Err(NodeFault::Memory);
+        };
+        Ok(self.adopt_in_room(outcome))
     }
 
     // It has only its rows.
