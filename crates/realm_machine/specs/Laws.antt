@@ -1,82 +1,12 @@
--- Laws of the realm's step, over every configuration and every list of inputs (docs/PROTOCOL.md, "The realm").
-use Rattle.std.specs.Prelude.{◌≡◌, ℕ, ◌<◌, ◌^◌, Bool, true, false, List, fold, All, Some}
+-- Laws of the realm's step that the program's theorem stands on (docs/PROTOCOL.md, "The realm").
+use Rattle.std.specs.Prelude.{◌≡◌, false, All}
 use Rattle.paxos_packets.specs.declared.transport.Transport.{Transport}
-use Rattle.replica_machine.specs.declared.input.Input.{Input}
-use Rattle.wamp_ids.specs.Id.{is_id}
 use Rattle.paxos_packets.specs.Transport.{same_transport}
-use Rattle.realm_machine.specs.declared.act.Act.{Act}
 use Rattle.realm_machine.specs.declared.act.Act.TheVariants.{Hung}
 use Rattle.realm_machine.specs.declared.act.Say.{Say}
-use Rattle.realm_sessions.specs.Links.{is_taken, session_count}
-use Rattle.realm_sessions.specs.Sessions.{opened}
-use Rattle.realm_sessions.specs.Laws.{AreSoundLinks}
-use Rattle.realm_registrations.specs.Laws.{AreSoundRegistrations}
-use Rattle.realm_subscriptions.specs.Laws.{AreSoundSubscriptions}
-use Rattle.realm_calls.specs.declared.calls.Open.{Open}
-use Rattle.realm_calls.specs.Laws.{AreSoundCalls}
 use Rattle.realm_machine.specs.Config.{Config}
-use Rattle.realm_machine.specs.Content.{Content, empty}
-use Rattle.realm_machine.specs.Opening.{open_at, welcomed}
-use Rattle.realm_machine.specs.Step.{says, after_input}
-use Rattle.realm_machine.specs.Trace.{Letter, trace, begins_with_answer, has_two_answers}
-
--- ---- what every realm keeps
-
-pub record IsSound (config : Config) (c : Content) : Type 0 where
-  -- sessions, subscriptions, registrations and calls are held to the limits of the configuration
-  pub limit : c.sessions.limit ≡ config.limits.sessions
-  pub topics_limit : c.topics.limit ≡ config.limits.subscriptions
-  pub registry_limit : c.registry.limit ≡ config.limits.registrations
-  pub calls_limit : c.calls.limit ≡ config.limits.calls
-  pub links : AreSoundLinks c.sessions.list
-  pub registry : AreSoundRegistrations c.registry
-  pub topics : AreSoundSubscriptions c.topics
-
--- the content after these inputs
-abbrev pub after : Config → Content → List (Input Act) → Content
-after config c inputs = fold (λ c input. after_input config c input) c inputs
-
-abbrev pub EmptyIsSound : Type 0
-EmptyIsSound = (config : Config) → IsSound config (empty config.limits)
-
-abbrev pub EachInputKeepsSound : Type 0
-EachInputKeepsSound = (config : Config) (c : Content) (input : Input Act) → IsSound config c → IsSound config (after_input config c input)
-
-abbrev pub EveryRealmIsSound : Type 0
-EveryRealmIsSound = (config : Config) (inputs : List (Input Act)) → IsSound config (after config (empty config.limits) inputs)
-
--- ---- calls
-
--- final replies answer calls: a trace does not begin with one, and has no two side by side
-pub record IsTrace (letters : List Letter) : Type 0 where
-  pub begins : begins_with_answer letters ≡ false
-  pub one : has_two_answers letters ≡ false
-
-abbrev pub RepliesAnswerCalls : Type 0
-RepliesAnswerCalls = (config : Config) (inputs : List (Input Act)) (t : Transport) (request : ℕ)
-    → IsTrace (trace config t request (empty config.limits) inputs)
-
-pub record AreSoundOpenCalls (c : Content) : Type 0 where
-  -- no two open calls have one caller and request, nor one callee and invocation
-  pub calls : AreSoundCalls c.calls.list
-  -- callers and callees are sessions that are there
-  pub callers : All (λ (call : Open). is_taken c.sessions.list call.caller ≡ true) c.calls.list
-  pub callees : All (λ (call : Open). is_taken c.sessions.list call.callee ≡ true) c.calls.list
-
-abbrev pub EveryOpenCallIsSound : Type 0
-EveryOpenCallIsSound = (config : Config) (inputs : List (Input Act)) → AreSoundOpenCalls (after config (empty config.limits) inputs)
-
--- ---- a session has an id
-
--- a HELLO to this realm opens a session with an id of its own while it may have one more: it is never refused for want of an id
-abbrev pub OpensWhereRoom : Type 0
-OpensWhereRoom = (config : Config) (c : Content) (t : Transport) (draw : ℕ) (canceling : Bool) → is_id draw ≡ true
-    → config.limits.sessions < 2 ^ 32 → c.sessions.limit ≡ config.limits.sessions
-    → session_count c.sessions.list < config.limits.sessions
-    → (id : ℕ) × (is_id id ≡ true) × (is_taken c.sessions.list id ≡ false)
-    × (open_at config c t draw (record { realm = config.name; canceling = canceling }) ≡ welcomed c t (opened c.sessions t canceling (Some id)))
-
--- ---- who hangs up
+use Rattle.realm_machine.specs.Content.{Content}
+use Rattle.realm_machine.specs.Step.{says}
 
 -- whoever hangs up is told nothing, whatever ends with its session
 abbrev pub HungUpIsToldNothing : Type 0

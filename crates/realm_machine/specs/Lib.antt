@@ -9,6 +9,5 @@ pub mod Unsubscribing
 pub mod Publishing
 pub mod Calling
 pub mod Step
-pub mod Trace
 pub mod Realm
 pub mod Laws

@@ -1,7 +1,7 @@
 //! One realm of a WAMP router as a machine: sessions, registrations, subscriptions,
 //! publications and calls (WAMP specification, basic profile; canceling, patterns, shared registrations).
 //! What a client does goes in as an act, what is said to transports comes out as sayings; docs/PROTOCOL.md, "The realm",
-//! has the rules.
+//! has the rules. The laws on sessions, registrations, subscriptions and calls stand in the crate `realm_laws`.
 #![tactic(auto)]
 
 mod act;

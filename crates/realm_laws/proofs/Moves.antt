@@ -1,6 +1,7 @@
--- An open call is paid for by its final reply: of the open calls under a request of a transport no step makes more, and where it says a
--- final reply one call fewer is open.
-use Rattle.std.proofs.Common.{◌≡◌, inl, inr, ⊎_elim, ℕ, ◌+◌, ◌≤◌, ◌==◌, Bool, true, false, not, ◌&&◌, refl, sym, ◌∙◌, ap, subst, List, []}
+-- An open call is paid for by its final reply: of the open calls under a request of a transport no step makes more,
+-- and where it says a final reply one call fewer is open.
+use Rattle.std.proofs.Common.{◌≡◌, inl, inr, ⊎_elim, ℕ, ◌+◌, ◌≤◌, ◌==◌, Bool, true, false, not, ◌&&◌, refl, sym, ◌∙◌}
+use Rattle.std.proofs.Common.{ap, subst, List, []}
 use Rattle.std.proofs.Common.{◌∷◌, ◌++◌, filter, Option, Some, None, arith}
 use Rattle.std.specs.List.{flat_map}
 use Rattle.std.proofs.lemmas.Bool.{cond_both, and_parts, and_from, eq-eqb, both_ways, false≢true}
@@ -23,12 +24,13 @@ use Rattle.realm_machine.specs.Sayings.{protocol_violation, goodbye_and_out}
 use Rattle.realm_machine.specs.Content.{Content, Step, quiet, and_then, with_links, with_calls}
 use Rattle.realm_machine.specs.Leaving.{end_for_caller, end_for_callee, interrupt, leave_session, leave}
 use Rattle.realm_machine.specs.Leaving.{remove, stop, violation, aborted, goodbye, farewell, one_gone, all_gone}
-use Rattle.realm_machine.specs.Trace.{is_final_message, is_final}
-use Rattle.realm_machine.proofs.Has.{Has, has_filter, has_cons, has_nil}
-use Rattle.realm_machine.proofs.Counts.{bit, count, bit_le, count_append, count_le, count_filter, count_split, count_flat}
-use Rattle.realm_machine.proofs.Counts.{count_flat_none}
-use Rattle.realm_machine.proofs.Standing.{at, IsEmptyAt, one_id, place_at, session_at, empty_at, cleared_at, cleared_empty, set_taken}
-use Rattle.realm_machine.proofs.Standing.{removed_at, removed_taken}
+use Rattle.realm_laws.specs.Trace.{is_final_message, is_final}
+use Rattle.realm_laws.proofs.Has.{Has, has_filter, has_cons, has_nil}
+use Rattle.realm_laws.proofs.Counts.{bit, count, bit_le, count_append, count_le, count_filter, count_split, count_flat}
+use Rattle.realm_laws.proofs.Counts.{count_flat_none}
+use Rattle.realm_laws.proofs.Standing.{at, IsEmptyAt, one_id, place_at, session_at, empty_at, cleared_at, cleared_empty}
+use Rattle.realm_laws.proofs.Standing.{set_taken}
+use Rattle.realm_laws.proofs.Standing.{removed_at, removed_taken}
 
 -- the call is under this request, and its caller stands at this transport
 abbrev pub holds : List Link → Transport → ℕ → Open → Bool
@@ -63,7 +65,8 @@ silent_at None m off t r = refl
 silent_at (Some u) m off t r =
     let none : finals t r (say_to (Some u) m) ≡ 0 = ap (λ b. bit (b && same_transport u t) + 0) (off r) in none
 
-pub silent_to : (links : List Link) (s : ℕ) (m : Message) → ((q : ℕ) → is_final_message q m ≡ false) → IsSilent (to_session links s m)
+pub silent_to : (links : List Link) (s : ℕ) (m : Message) → ((q : ℕ) → is_final_message q m ≡ false)
+    → IsSilent (to_session links s m)
 silent_to links s m off = silent_at (transport_of links s) m off
 
 pub silent_both : (a b : List Say) → IsSilent a → IsSilent b → IsSilent (a ++ b)
@@ -76,13 +79,15 @@ silent_both a b first second t r =
 -- ---- moves
 
 pub still_moves : (c d : Content) (said : List Say) → Base d → d.calls.list ≡ c.calls.list
-    → ((t : Transport) (call : Open) → Has c.calls.list call → at d.sessions.list t call.caller ≡ true → at c.sessions.list t call.caller ≡ true)
+    → ((t : Transport) (call : Open) → Has c.calls.list call → at d.sessions.list t call.caller ≡ true
+    → at c.sessions.list t call.caller ≡ true)
     → IsSilent said → Moves c (record { content = d; says = said })
 still_moves c d said base same fewer silent = record {
   base = base;
   pays = λ t r.
       let none : finals t r said ≡ 0 = silent t r in
-      let all : opens d t r ≡ count (holds d.sessions.list t r) c.calls.list = ap (count (holds d.sessions.list t r)) same in
+      let all : opens d t r ≡ count (holds d.sessions.list t r) c.calls.list =
+      ap (count (holds d.sessions.list t r)) same in
       let less : count (holds d.sessions.list t r) c.calls.list ≤ opens c t r =
       count_le (holds d.sessions.list t r) (holds c.sessions.list t r) c.calls.list
       (λ call h holds'. let parts = and_parts (call.request == r) (at d.sessions.list t call.caller) holds' in
@@ -91,20 +96,23 @@ still_moves c d said base same fewer silent = record {
 }
 
 -- the content stays, and nothing final is said
-pub said_moves : (c : Content) (said : List Say) → Base c → IsSilent said → Moves c (record { content = c; says = said })
+pub said_moves : (c : Content) (said : List Say) → Base c → IsSilent said
+    → Moves c (record { content = c; says = said })
 said_moves c said base silent = still_moves c c said base refl (λ t call h stands. stands) silent
 
 pub quiet_moves : (c : Content) → Base c → Moves c (quiet c)
 quiet_moves c base = said_moves c [] base (λ t r. refl)
 
-pub moves_then : (c : Content) (a : Step) (f : Content → Step) → Moves c a → Moves a.content (f a.content) → Moves c (and_then a f)
+pub moves_then : (c : Content) (a : Step) (f : Content → Step) → Moves c a → Moves a.content (f a.content)
+    → Moves c (and_then a f)
 moves_then c a f first second = record {
   base = second.base;
   pays = λ t r.
       let both : finals t r (a.says ++ (f a.content).says) ≡ finals t r a.says + finals t r (f a.content).says =
       count_append (is_final t r) a.says (f a.content).says in
       let one : opens a.content t r + finals t r a.says ≤ opens c t r = first.pays t r in
-      let two : opens (f a.content).content t r + finals t r (f a.content).says ≤ opens a.content t r = second.pays t r in
+      let two : opens (f a.content).content t r + finals t r (f a.content).says ≤ opens a.content t r =
+      second.pays t r in
       omega (arith, both, one, two);
 }
 
@@ -115,14 +123,16 @@ pub told_pays : (links : List Link) (call : Open) (m : Message) → ((q : ℕ) �
     → (t : Transport) (r : ℕ) → finals t r (to_session links call.caller m) ≤ bit (holds links t r call)
 told_pays links call m is t r = told (transport_of links call.caller) refl
   where
-    told : (o : Option Transport) → transport_of links call.caller ≡ o → finals t r (say_to o m) ≤ bit (holds links t r call)
+    told : (o : Option Transport) → transport_of links call.caller ≡ o
+        → finals t r (say_to o m) ≤ bit (holds links t r call)
     told None e = omega arith
     told (Some u) e =
         let less : bit (is_final_message r m && same_transport u t) ≤ bit (holds links t r call) =
         bit_le (is_final_message r m && same_transport u t) (holds links t r call)
         (λ h. let parts = and_parts (is_final_message r m) (same_transport u t) h in
         and_from (call.request == r) (at links t call.caller) (sym (is r) ∙ parts.0)
-        (subst (λ (v : Transport). at links v call.caller ≡ true) (same_is u t parts.1) (place_at links call.caller u e))) in
+        (subst (λ (v : Transport). at links v call.caller ≡ true) (same_is u t parts.1)
+        (place_at links call.caller u e))) in
         let is_one : finals t r (say_to (Some u) m) ≡ bit (is_final_message r m && same_transport u t) + 0 = refl in
         omega (arith, is_one, less)
 
@@ -159,7 +169,8 @@ callee_off true false h e = absurd (false≢true h)
 callee_off false by h e = refl
 
 -- of the calls that are left none is by the session or to it
-others_left : (list : List Open) (session : ℕ) (call : Open) → Has (without_caller (without_callee list session) session) call
+others_left : (list : List Open) (session : ℕ) (call : Open)
+    → Has (without_caller (without_callee list session) session) call
     → ((call.caller == session) ≡ false) × ((call.callee == session) ≡ false)
 others_left list session call h =
     let by : (call.caller == session) ≡ false = not_is (call.caller == session)
@@ -191,22 +202,26 @@ left_moves c t session base found = record { base = left_base; pays = left_pays 
     stays : (s : ℕ) → (s == session) ≡ false → is_taken links s ≡ true → is_taken cleared s ≡ true
     stays s off taken =
         set_taken links t None s
-        (λ stands. both_ways (s == session) off (eq-eqb s session (one_id links t s session base.links stands (session_at links t session found))))
+        (λ stands. both_ways (s == session) off
+        (eq-eqb s session (one_id links t s session base.links stands (session_at links t session found))))
         taken
 
     was : {call : Open} → Has left call → Has list call
-    was h = has_filter (λ it. not (is_to session it)) list (has_filter (λ (it : Open). not (it.caller == session)) others h)
+    was h =
+        has_filter (λ it. not (is_to session it)) list (has_filter (λ (it : Open). not (it.caller == session)) others h)
 
     left_base : Base (leave_session c t (Some (Some session))).content
     left_base = record {
       links = closed_sound links t base.links;
       known = λ call h. stays call.caller (others_left list session call h).0 (base.known call (was h));
       served = λ call h. stays call.callee (others_left list session call h).1 (base.served call (was h));
-      calls = kept_sound (λ (it : Open). not (it.caller == session)) others (kept_sound (λ it. not (is_to session it)) list base.calls);
+      calls = kept_sound (λ (it : Open). not (it.caller == session)) others
+          (kept_sound (λ it. not (is_to session it)) list base.calls);
     }
 
     left_pays : (u : Transport) (r : ℕ)
-        → opens (leave_session c t (Some (Some session))).content u r + finals u r (leave_session c t (Some (Some session))).says ≤ opens c u r
+        → opens (leave_session c t (Some (Some session))).content u r
+        + finals u r (leave_session c t (Some (Some session))).says ≤ opens c u r
     left_pays u r =
         let to = flat_map (end_for_caller cleared) (calls_to list session) in
         let by = flat_map (end_for_callee cleared) (calls_by others session) in
@@ -214,12 +229,15 @@ left_moves c t session base found = record { base = left_base; pays = left_pays 
         count_flat (is_final u r) (holds cleared u r) (end_for_caller cleared) (calls_to list session)
         (λ call. told_pays cleared call (refusal kind.Call call.request canceled) (λ q. refl) u r) in
         let none : finals u r by ≡ 0 =
-        count_flat_none (is_final u r) (end_for_callee cleared) (calls_by others session) (λ call. silent_end cleared call u r) in
-        let first : finals u r (to ++ (by ++ [])) ≡ finals u r to + finals u r (by ++ []) = count_append (is_final u r) to (by ++ []) in
+        count_flat_none (is_final u r) (end_for_callee cleared) (calls_by others session)
+        (λ call. silent_end cleared call u r) in
+        let first : finals u r (to ++ (by ++ [])) ≡ finals u r to + finals u r (by ++ []) =
+        count_append (is_final u r) to (by ++ []) in
         let second : finals u r (by ++ []) ≡ finals u r by + 0 = count_append (is_final u r) by [] in
         let fewer : count (holds cleared u r) left ≤ count (holds cleared u r) others =
         count_filter (holds cleared u r) (λ (call : Open). not (call.caller == session)) others in
-        let split : count (holds cleared u r) others + count (holds cleared u r) (calls_to list session) ≤ count (holds cleared u r) list =
+        let split : count (holds cleared u r) others + count (holds cleared u r) (calls_to list session)
+        ≤ count (holds cleared u r) list =
         count_split (holds cleared u r) (λ call. not (is_to session call)) (is_to session) list
         (λ call off on. both_ways (not (is_to session call)) (ap not on) off) in
         let less : count (holds cleared u r) list ≤ opens c u r =

@@ -12,9 +12,12 @@ use Rattle.wamp_elements.specs.declared.request_kind.RequestKind.{RequestKind}
 use Rattle.wamp_elements.specs.declared.request_kind.RequestKind.TheVariants as kind
 use Rattle.wamp_kinds.specs.declared.error.Error as error
 use Rattle.wamp_kinds.specs.declared.message.Message.{Message}
-use Rattle.wamp_kinds.specs.declared.message.Message.TheVariants.{Hello, Welcome, Abort, Goodbye, Error, Publish, Published}
-use Rattle.wamp_kinds.specs.declared.message.Message.TheVariants.{Subscribe, Subscribed, Unsubscribe, Unsubscribed, Event, Register}
-use Rattle.wamp_kinds.specs.declared.message.Message.TheVariants.{Registered, Unregister, Unregistered, Call, Cancel, Reply, Invocation}
+use Rattle.wamp_kinds.specs.declared.message.Message.TheVariants.{Hello, Welcome, Abort, Goodbye, Error, Publish}
+use Rattle.wamp_kinds.specs.declared.message.Message.TheVariants.{Published}
+use Rattle.wamp_kinds.specs.declared.message.Message.TheVariants.{Subscribe, Subscribed, Unsubscribe, Unsubscribed}
+use Rattle.wamp_kinds.specs.declared.message.Message.TheVariants.{Event, Register}
+use Rattle.wamp_kinds.specs.declared.message.Message.TheVariants.{Registered, Unregister, Unregistered, Call, Cancel}
+use Rattle.wamp_kinds.specs.declared.message.Message.TheVariants.{Reply, Invocation}
 use Rattle.wamp_kinds.specs.declared.message.Message.TheVariants.{Interrupt, Yield}
 use Rattle.wamp_kinds.specs.declared.read_result.UnfitKind.{UnfitKind}
 use Rattle.wamp_kinds.specs.declared.read_result.UnfitKind.TheVariants as unfit
@@ -33,17 +36,21 @@ use Rattle.realm_machine.specs.Sayings.{invalid_argument}
 use Rattle.realm_machine.specs.Content.{Content, Step, empty, quiet, refuse}
 use Rattle.realm_machine.specs.Step.{on_unfit, on_error, on_request, on_opening, on_read, on_transport}
 use Rattle.realm_machine.specs.Step.{step, after_input, said_at}
-use Rattle.realm_machine.specs.Trace.{Letter, Asked, Answered, is_call_of, is_call_read, asks, is_final, asked, letters, trace}
-use Rattle.realm_machine.specs.Trace.{begins_with_answer, has_two_answers}
-use Rattle.realm_machine.specs.Laws.{RepliesAnswerCalls, after, EveryOpenCallIsSound}
+use Rattle.realm_laws.specs.Trace.{Letter, Asked, Answered, is_call_of, is_call_read, asks, is_final, asked, letters}
+use Rattle.realm_laws.specs.Trace.{trace}
+use Rattle.realm_laws.specs.Trace.{begins_with_answer, has_two_answers}
+use Rattle.realm_laws.specs.Laws.{RepliesAnswerCalls, after, EveryOpenCallIsSound}
 use Rattle.std.specs.List.{All}
-use Rattle.realm_machine.proofs.Has.{Has, in_front, further, has_nil}
-use Rattle.realm_machine.proofs.Counts.{bit, count_length}
-use Rattle.realm_machine.proofs.Standing.{at, session_at}
-use Rattle.realm_machine.proofs.Moves.{opens, finals, Base, Moves, said_moves, quiet_moves, remove_moves, violation_moves, aborted_moves}
-use Rattle.realm_machine.proofs.Moves.{goodbye_moves, all_gone_moves}
-use Rattle.realm_machine.proofs.Arms.{connect_moves, open_moves, subscribe_moves, unsubscribe_moves, publish_moves, register_moves, unregister_moves, yield_moves}
-use Rattle.realm_machine.proofs.Arms.{failure_moves, on_cancel_moves, Owes, call_owes, unfit_call_owes}
+use Rattle.realm_laws.proofs.Has.{Has, in_front, further, has_nil}
+use Rattle.realm_laws.proofs.Counts.{bit, count_length}
+use Rattle.realm_laws.proofs.Standing.{at, session_at}
+use Rattle.realm_laws.proofs.Moves.{opens, finals, Base, Moves, said_moves, quiet_moves, remove_moves, violation_moves}
+use Rattle.realm_laws.proofs.Moves.{aborted_moves}
+use Rattle.realm_laws.proofs.Moves.{goodbye_moves, all_gone_moves}
+use Rattle.realm_laws.proofs.Arms.{connect_moves, open_moves, subscribe_moves, unsubscribe_moves, publish_moves}
+use Rattle.realm_laws.proofs.Arms.{register_moves}
+use Rattle.realm_laws.proofs.Arms.{unregister_moves}
+use Rattle.realm_laws.proofs.CallArms.{yield_moves, failure_moves, on_cancel_moves, Owes, call_owes, unfit_call_owes}
 
 -- what a step owes, where its input asks as this test says
 record Steps (c : Content) (asking : Transport → ℕ → Bool) (s : Step) : Type 0 where
@@ -86,7 +93,8 @@ Asking t m u q = is_call_of q m && same_transport t u
 abbrev requester_of : Transport → ℕ → ℕ → Requester
 requester_of t session draw = record { transport = t; session = session; draw = draw }
 
-error_moves : (c : Content) (requester : Requester) (k : RequestKind) (it : error.Error) → Base c → Moves c (on_error c requester k it)
+error_moves : (c : Content) (requester : Requester) (k : RequestKind) (it : error.Error) → Base c
+    → Moves c (on_error c requester k it)
 error_moves c requester kind.Invocation it base = failure_moves c requester it.request it.error it.args base
 error_moves c requester kind.Publish it base = violation_moves c requester.transport base
 error_moves c requester kind.Subscribe it base = violation_moves c requester.transport base
@@ -166,7 +174,8 @@ refused_moves c t k request is_quiet silent base =
 abbrev AskingUnfit : Transport → UnfitKind → ℕ → Transport → ℕ → Bool
 AskingUnfit t kind request u q = is_call_read q (Unfit kind request false) && same_transport t u
 
-unfit_step : (c : Content) (t : Transport) (session draw : ℕ) (k : UnfitKind) (request : ℕ) (is_quiet : Bool) → Base c → Once c
+unfit_step : (c : Content) (t : Transport) (session draw : ℕ) (k : UnfitKind) (request : ℕ) (is_quiet : Bool) → Base c
+    → Once c
     → at c.sessions.list t session ≡ true
     → Steps c (AskingUnfit t k request) (on_unfit c (requester_of t session draw) k request is_quiet)
 unfit_step c t session draw unfit.Publish request is_quiet base once here =
@@ -176,7 +185,8 @@ unfit_step c t session draw unfit.Subscribe request is_quiet base once here =
 unfit_step c t session draw unfit.Register request is_quiet base once here =
     moves_step c _ _ once (refused_moves c t kind.Register request is_quiet (λ u q. refl) base)
 unfit_step c t session draw unfit.Call request is_quiet base once here =
-    owes_step c t request _ (unfit_call_owes c (requester_of t session draw) request is_quiet base (once t request) here)
+    owes_step c t request _
+    (unfit_call_owes c (requester_of t session draw) request is_quiet base (once t request) here)
 unfit_step c t session draw unfit.Cancel request is_quiet base once here =
     moves_step c _ _ once (refused_moves c t kind.Cancel request is_quiet (λ u q. refl) base)
 unfit_step c t session draw unfit.Yield request is_quiet base once here =
@@ -198,13 +208,17 @@ read_step config c t None draw (Bad fault) e base once = moves_step c _ _ once (
 read_step config c t (Some session) draw (Bad fault) e base once = moves_step c _ _ once (violation_moves c t base)
 
 transport_step : (config : Config) (c : Content) (t : Transport) (draw : ℕ) (read : Read) (o : Option (Option ℕ))
-    → by_transport c.sessions.list t ≡ o → Base c → Once c → Steps c (AskingRead t read) (on_transport config c t draw read o)
+    → by_transport c.sessions.list t ≡ o → Base c → Once c
+    → Steps c (AskingRead t read) (on_transport config c t draw read o)
 transport_step config c t draw read None e base once = moves_step c _ _ once (quiet_moves c base)
 transport_step config c t draw read (Some session) e base once = read_step config c t session draw read e base once
 
-step_goes : (config : Config) (c : Content) (input : Input Act) → Base c → Once c → Steps c (λ t r. asks t r input) (step config c input)
-step_goes config c (Boot node boot) base once = moves_step c _ _ once (all_gone_moves (of_origin c.sessions.list node) c base)
-step_goes config c (Lost node boot) base once = moves_step c _ _ once (all_gone_moves (of_origin c.sessions.list node) c base)
+step_goes : (config : Config) (c : Content) (input : Input Act) → Base c → Once c
+    → Steps c (λ t r. asks t r input) (step config c input)
+step_goes config c (Boot node boot) base once =
+    moves_step c _ _ once (all_gone_moves (of_origin c.sessions.list node) c base)
+step_goes config c (Lost node boot) base once =
+    moves_step c _ _ once (all_gone_moves (of_origin c.sessions.list node) c base)
 step_goes config c (Item t Connect) base once = moves_step c _ _ once (connect_moves c t base)
 step_goes config c (Item t (Said draw read)) base once =
     transport_step config c t draw read (by_transport c.sessions.list t) refl base once
@@ -214,10 +228,14 @@ once_after : (config : Config) (c : Content) (input : Input Act) → Base c → 
 once_after config c input base once t r =
     let s = step_goes config c input base once in by_asking (asks t r input) refl s
   where
-    by_asking : (b : Bool) → asks t r input ≡ b → Steps c (λ t r. asks t r input) (step config c input) → opens (after_input config c input) t r ≤ 1
-    by_asking true e s = let h : opens (after_input config c input) t r + finals t r (said_at config c input) ≤ 1 = s.owed t r e in omega (arith, h)
+    by_asking : (b : Bool) → asks t r input ≡ b → Steps c (λ t r. asks t r input) (step config c input)
+        → opens (after_input config c input) t r ≤ 1
+    by_asking true e s =
+        let h : opens (after_input config c input) t r + finals t r (said_at config c input) ≤ 1 =
+        s.owed t r e in omega (arith, h)
     by_asking false e s =
-        let h : opens (after_input config c input) t r + finals t r (said_at config c input) ≤ opens c t r = s.paid t r e in
+        let h : opens (after_input config c input) t r + finals t r (said_at config c input) ≤ opens c t r =
+        s.paid t r e in
         let most : opens c t r ≤ 1 = once t r in
         omega (arith, h, most)
 
@@ -229,7 +247,8 @@ answers_calls pending [] = true
 answers_calls pending (Asked ∷ letters) = answers_calls true letters
 answers_calls pending (Answered ∷ letters) = pending && answers_calls false letters
 
-answered : (n k : ℕ) (p : Bool) (rest : List Letter) → k + n ≤ bit p → ((q : Bool) → k ≤ bit q → answers_calls q rest ≡ true)
+answered : (n k : ℕ) (p : Bool) (rest : List Letter) → k + n ≤ bit p
+    → ((q : Bool) → k ≤ bit q → answers_calls q rest ≡ true)
     → answers_calls p (replicate n Answered ++ rest) ≡ true
 answered zero k p rest few go = go p (omega (arith, few))
 answered (suc zero) k true rest few go = let none : k + 1 ≤ 1 = few in go false (omega (arith, none))
@@ -242,7 +261,8 @@ behind : (a : Bool) (n k : ℕ) (p : Bool) (rest : List Letter) → (a ≡ true 
 behind true n k p rest owed paid go = answered n k true rest (owed refl) go
 behind false n k p rest owed paid go = answered n k p rest (paid refl) go
 
-trace_from : (config : Config) (t : Transport) (r : ℕ) (inputs : List (Input Act)) (c : Content) (pending : Bool) → Once c → Base c
+trace_from : (config : Config) (t : Transport) (r : ℕ) (inputs : List (Input Act)) (c : Content) (pending : Bool)
+    → Once c → Base c
     → opens c t r ≤ bit pending → answers_calls pending (trace config t r c inputs) ≡ true
 trace_from config t r [] c pending once base most = refl
 trace_from config t r (input ∷ inputs) c pending once base most =
@@ -252,8 +272,10 @@ trace_from config t r (input ∷ inputs) c pending once base most =
     behind (asks t r input) (length (filter (is_final t r) said)) (opens (after_input config c input) t r) pending
     (trace config t r (after_input config c input) inputs)
     (λ e. let h : opens (after_input config c input) t r + finals t r said ≤ 1 = s.owed t r e in omega (arith, n, h))
-    (λ e. let h : opens (after_input config c input) t r + finals t r said ≤ opens c t r = s.paid t r e in omega (arith, n, h, most))
-    (λ q few. trace_from config t r inputs (after_input config c input) q (once_after config c input base once) s.base few)
+    (λ e. let h : opens (after_input config c input) t r + finals t r said ≤ opens c t r = s.paid t r e in
+    omega (arith, n, h, most))
+    (λ q few. trace_from config t r inputs (after_input config c input) q
+    (once_after config c input base once) s.base few)
 
 begins_not : (letters : List Letter) → answers_calls false letters ≡ true → begins_with_answer letters ≡ false
 begins_not [] h = refl
@@ -277,7 +299,8 @@ empty_base config = record {
 
 pub replies_answer : RepliesAnswerCalls
 replies_answer config inputs t r =
-    let all = trace_from config t r inputs (empty config.limits) false (λ u q. omega arith) (empty_base config) (omega arith) in
+    let all =
+    trace_from config t r inputs (empty config.limits) false (λ u q. omega arith) (empty_base config) (omega arith) in
     record {
       begins = begins_not (trace config t r (empty config.limits) inputs) all;
       one = no_two false (trace config t r (empty config.limits) inputs) all;
@@ -289,10 +312,12 @@ all_of : {A : Type 0} (P : A → Type 0) (xs : List A) → ((x : A) → Has xs x
 all_of P [] h = All-nil P
 all_of P (x ∷ xs) h = All-cons P x xs (h x in_front) (all_of P xs (λ y g. h y (further g)))
 
-base_after : (config : Config) (inputs : List (Input Act)) (c : Content) → Base c → Once c → Base (after config c inputs)
+base_after : (config : Config) (inputs : List (Input Act)) (c : Content) → Base c → Once c
+    → Base (after config c inputs)
 base_after config [] c base once = base
 base_after config (input ∷ inputs) c base once =
-    base_after config inputs (after_input config c input) (step_goes config c input base once).base (once_after config c input base once)
+    base_after config inputs (after_input config c input) (step_goes config c input base once).base
+    (once_after config c input base once)
 
 pub open_calls_sound : EveryOpenCallIsSound
 open_calls_sound config inputs =

@@ -1,5 +1,6 @@
 -- What stands in a list.
-use Rattle.std.proofs.Common.{◌≡◌, ◌⊎◌, inl, inr, ⊎_elim, Bool, true, false, ◌||◌, refl, sym, ◌∙◌, ap, subst, List, [], ◌∷◌}
+use Rattle.std.proofs.Common.{◌≡◌, ◌⊎◌, inl, inr, ⊎_elim, Bool, true, false, ◌||◌, refl, sym, ◌∙◌, ap, subst, List, []}
+use Rattle.std.proofs.Common.{◌∷◌}
 use Rattle.std.proofs.Common.{Some, None, find, filter}
 use Rattle.std.specs.List.{All, AllPairs, list_any}
 use Rattle.std.proofs.lemmas.Bool.{cond_both, false≢true}
@@ -43,7 +44,8 @@ or_either false b h = inr h
 pub has_any : {A : Type 0} (p : A → Bool) (xs : List A) → list_any p xs ≡ true → (x : A) × Has xs x × (p x ≡ true)
 has_any p [] h = absurd (false≢true h)
 has_any p (x ∷ xs) h =
-    ⊎_elim (λ t. (x, in_front, t)) (λ r. let z = has_any p xs r in (z.0, further z.1, z.2)) (or_either (p x) (list_any p xs) h)
+    ⊎_elim (λ t. (x, in_front, t)) (λ r. let z = has_any p xs r in (z.0, further z.1, z.2))
+    (or_either (p x) (list_any p xs) h)
 
 some_is : {A : Type 0} {x y : A} → Some x ≡ Some y → x ≡ y
 some_is h = cc

@@ -3,7 +3,7 @@ use Rattle.std.proofs.Common.{◌≡◌, ℕ, ◌+◌, ◌≤◌, Bool, true, fa
 use Rattle.std.proofs.Common.{length, filter, arith}
 use Rattle.std.specs.List.{flat_map}
 use Rattle.std.proofs.lemmas.Bool.{cond_both, both_ways, false_from_ne_true}
-use Rattle.realm_machine.proofs.Has.{Has, in_front, further}
+use Rattle.realm_laws.proofs.Has.{Has, in_front, further}
 
 abbrev pub bit : Bool → ℕ
 bit true = 1
@@ -37,9 +37,11 @@ count_length p (x ∷ xs) =
 
 pub count_append : {A : Type 0} (p : A → Bool) (xs ys : List A) → count p (xs ++ ys) ≡ count p xs + count p ys
 count_append p [] ys = omega arith
-count_append p (x ∷ xs) ys = let rest : count p (xs ++ ys) ≡ count p xs + count p ys = count_append p xs ys in omega (arith, rest)
+count_append p (x ∷ xs) ys =
+    let rest : count p (xs ++ ys) ≡ count p xs + count p ys = count_append p xs ys in omega (arith, rest)
 
-pub count_le : {A : Type 0} (p q : A → Bool) (xs : List A) → ((x : A) → Has xs x → p x ≡ true → q x ≡ true) → count p xs ≤ count q xs
+pub count_le : {A : Type 0} (p q : A → Bool) (xs : List A) → ((x : A) → Has xs x → p x ≡ true → q x ≡ true)
+    → count p xs ≤ count q xs
 count_le p q [] h = omega arith
 count_le p q (x ∷ xs) h =
     let first : bit (p x) ≤ bit (q x) = bit_le (p x) (q x) (h x in_front) in
@@ -71,7 +73,8 @@ count_split p q w (x ∷ xs) apart =
     (λ t. cond_both (w x) (x ∷ filter w xs) (filter w xs)
     (λ kept. (bit (p x) + count p (filter q xs)) + count p kept ≤ bit (p x) + count p xs)
     (λ u. absurd (apart x t u)) (λ _. omega (arith, rest)))
-    (λ _. cond_both (w x) (x ∷ filter w xs) (filter w xs) (λ kept. count p (filter q xs) + count p kept ≤ bit (p x) + count p xs)
+    (λ _. cond_both (w x) (x ∷ filter w xs) (filter w xs)
+    (λ kept. count p (filter q xs) + count p kept ≤ bit (p x) + count p xs)
     (λ _. omega (arith, rest)) (λ _. omega (arith, rest)))
 
 -- an element that the filter takes out
@@ -92,7 +95,8 @@ count_flat q p f [] h = omega arith
 count_flat q p f (x ∷ xs) h =
     let first : count q (f x) ≤ bit (p x) = h x in
     let rest : count q (flat_map f xs) ≤ count p xs = count_flat q p f xs h in
-    let both : count q (f x ++ flat_map f xs) ≡ count q (f x) + count q (flat_map f xs) = count_append q (f x) (flat_map f xs) in
+    let both : count q (f x ++ flat_map f xs) ≡ count q (f x) + count q (flat_map f xs) =
+    count_append q (f x) (flat_map f xs) in
     omega (arith, first, rest, both)
 
 pub count_flat_none : {A B : Type 0} (q : B → Bool) (f : A → List B) (xs : List A) → ((x : A) → count q (f x) ≡ 0)
@@ -101,5 +105,6 @@ count_flat_none q f [] h = refl
 count_flat_none q f (x ∷ xs) h =
     let first : count q (f x) ≡ 0 = h x in
     let rest : count q (flat_map f xs) ≡ 0 = count_flat_none q f xs h in
-    let both : count q (f x ++ flat_map f xs) ≡ count q (f x) + count q (flat_map f xs) = count_append q (f x) (flat_map f xs) in
+    let both : count q (f x ++ flat_map f xs) ≡ count q (f x) + count q (flat_map f xs) =
+    count_append q (f x) (flat_map f xs) in
     omega (arith, first, rest, both)

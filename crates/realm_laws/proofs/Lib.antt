@@ -1,0 +1,10 @@
+pub mod SoundParts
+pub mod SoundCalling
+pub mod SoundSteps
+pub mod Has
+pub mod Counts
+pub mod Standing
+pub mod Moves
+pub mod Arms
+pub mod CallArms
+pub mod Steps

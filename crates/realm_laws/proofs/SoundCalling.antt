@@ -1,0 +1,110 @@
+-- What every realm keeps is kept by each step of calls.
+use Rattle.std.proofs.Common.{◌≡◌, ℕ, List, Result, Ok, Err}
+use Rattle.std.proofs.Common.{Option, None, Some, refl, ◌∙◌}
+use Rattle.std.proofs.lemmas.Bool.{cond_both}
+use Rattle.wamp_ids.specs.declared.uri.UriFault.{UriFault}
+use Rattle.wamp_kinds.specs.declared.message.Message.{Message}
+use Rattle.realm_machine.specs.declared.requester.Requester.{Requester}
+use Rattle.realm_machine.specs.Config.{Config}
+use Rattle.realm_machine.specs.Sayings.{limit, no_such_procedure}
+use Rattle.realm_machine.specs.Content.{Content}
+use Rattle.realm_machine.specs.Leaving.{violation}
+use Rattle.realm_laws.specs.Laws.{IsSound}
+use Rattle.wamp_ids.specs.Uri.{is_reserved}
+use Rattle.realm_registrations.specs.Registry as registrations
+use Rattle.realm_registrations.proofs.SoundRegistrations as sound_registry
+use Rattle.wamp_ids.specs.Uri.{uri_of as read_uri}
+use Rattle.wamp_ids.specs.declared.policy.Mode.{Mode}
+use Rattle.wamp_kinds.specs.declared.call.Call.{Call as CallMessage}
+use Rattle.realm_sessions.specs.Links.{announces, invocation_of, session_with}
+use Rattle.realm_sessions.specs.Sessions.{invoked_with, next_invocation}
+use Rattle.realm_registrations.specs.declared.registration.Chosen.{Chosen}
+use Rattle.realm_calls.specs.declared.calls.Open.{Open}
+use Rattle.realm_calls.specs.declared.calls.Cancelled.{Cancelled}
+use Rattle.realm_calls.specs.Calls.{Calls, has, open_of, cancel_one, without_cancelled}
+use Rattle.realm_calls.specs.Calls as calls
+use Rattle.realm_machine.specs.Calling.{refuse_call, invoke, call_chosen, call_open, call_read, call_text, on_call}
+use Rattle.realm_machine.specs.Calling.{cancel_found, replied, reply_to}
+use Rattle.std.specs.Prelude.{find}
+use Rattle.realm_sessions.proofs.Invoking.{invoked_links}
+use Rattle.realm_laws.proofs.SoundParts.{Keeps, violation_sound}
+
+-- ---- calls
+
+with_calls_sound : (config : Config) (c : Content) (calls : Calls) → calls.limit ≡ config.limits.calls
+    → IsSound config c
+    → IsSound config (record c { calls = calls })
+with_calls_sound config c calls same ok =
+    record {
+      limit = ok.limit;
+      topics_limit = ok.topics_limit;
+      registry_limit = ok.registry_limit;
+      calls_limit = same;
+      links = ok.links;
+      registry = ok.registry;
+      topics = ok.topics;
+    }
+
+invoked_sound : (config : Config) (c : Content) (r : Requester) (asked : CallMessage) (chosen : Chosen) (o : Option ℕ)
+    → IsSound config c
+    → Keeps config (invoke c r asked chosen (invoked_with c.sessions chosen.callee o))
+invoked_sound config c r asked chosen None ok = ok
+invoked_sound config c r asked chosen (Some id) ok =
+    record {
+      limit = ok.limit;
+      topics_limit = ok.topics_limit;
+      registry_limit = ok.registry_limit;
+      calls_limit = ok.calls_limit;
+      links = invoked_links c.sessions.list chosen.callee id ok.links;
+      registry = sound_registry.turn_sound c.registry chosen.registration ok.registry;
+      topics = ok.topics;
+    }
+
+chosen_sound : (config : Config) (c : Content) (r : Requester) (asked : CallMessage) (o : Option Chosen)
+    → IsSound config c
+    → Keeps config (call_chosen c r asked o)
+chosen_sound config c r asked None ok = ok
+chosen_sound config c r asked (Some chosen) ok =
+    let taken = open_of c.calls.list chosen.callee in
+    cond_both (calls.is_full c.calls r.session) (refuse_call c r asked limit)
+    (invoke c r asked chosen (next_invocation c.sessions chosen.callee taken)) (Keeps config)
+    (λ _. ok)
+    (λ _. invoked_sound config c r asked chosen (invocation_of taken (session_with c.sessions.list chosen.callee)) ok)
+
+call_read_sound : (config : Config) (c : Content) (r : Requester) (asked : CallMessage) (o : Result (List ℕ) UriFault)
+    → IsSound config c
+    → Keeps config (call_read c r asked o)
+call_read_sound config c r asked (Ok uri) ok =
+    cond_both (is_reserved uri) (refuse_call c r asked no_such_procedure) (call_open c r asked uri) (Keeps config)
+    (λ _. ok) (λ _. chosen_sound config c r asked (registrations.choose c.registry uri) ok)
+call_read_sound config c r asked (Err fault) ok = ok
+
+pub call_sound : (config : Config) (c : Content) (r : Requester) (asked : CallMessage) → IsSound config c
+    → Keeps config (on_call c r asked)
+call_sound config c r asked ok =
+    cond_both (has c.calls.list r.session asked.request) (violation c r.transport) (call_text c r asked) (Keeps config)
+    (λ _. violation_sound config c r.transport ok) (λ _. call_read_sound config c r asked (read_uri asked.procedure) ok)
+
+-- canceling changes no limit
+canceled_limit : (list : Calls) (it : Cancelled) → (without_cancelled list it).limit ≡ list.limit
+canceled_limit list it =
+    cond_both it.is_ended (calls.with_list list (calls.end list.list it.call)) list
+    (λ (l : Calls). l.limit ≡ list.limit) (λ _. refl) (λ _. refl)
+
+pub cancel_sound : (config : Config) (c : Content) (r : Requester) (mode : Mode) (o : Option Open) → IsSound config c
+    → Keeps config (cancel_found c r mode o)
+cancel_sound config c r mode None ok = ok
+cancel_sound config c r mode (Some call) ok =
+    let it = cancel_one call mode (announces c.sessions.list call.callee) in
+    with_calls_sound config c (without_cancelled c.calls it) (canceled_limit c.calls it ∙ ok.calls_limit) ok
+
+replied_sound : (config : Config) (c : Content) (answer : ℕ → Message) (o : Option Open) → IsSound config c
+    → Keeps config (replied c answer o)
+replied_sound config c answer None ok = ok
+replied_sound config c answer (Some call) ok =
+    with_calls_sound config c (calls.with_list c.calls (calls.end c.calls.list call)) ok.calls_limit ok
+
+pub reply_sound : (config : Config) (c : Content) (callee request : ℕ) (answer : ℕ → Message) → IsSound config c
+    → Keeps config (reply_to c callee request answer)
+reply_sound config c callee request answer ok =
+    replied_sound config c answer (find (calls.is_invocation callee request) c.calls.list) ok

@@ -1,0 +1,182 @@
+-- What every realm keeps is kept by each input.
+use Rattle.std.proofs.Common.{◌≡◌, ℕ, ◌<◌, Bool, true, false, not, List, [], ◌∷◌, ◌^◌}
+use Rattle.std.proofs.Common.{Option, None, Some, bytes_eq, refl, sym, ap, subst, ◌∙◌}
+use Rattle.std.proofs.lemmas.Bool.{cond_both, cond-false, not_from_true}
+use Rattle.std.proofs.lemmas.Slice.Eq.{bytes_eq-Decides}
+use Rattle.paxos_packets.specs.declared.transport.Transport.{Transport}
+use Rattle.wamp_ids.specs.Pattern.{pattern_of}
+use Rattle.wamp_elements.specs.declared.request_kind.RequestKind.{RequestKind}
+use Rattle.wamp_elements.specs.declared.request_kind.RequestKind.TheVariants as kind
+use Rattle.wamp_kinds.specs.declared.message.Message.{Message}
+use Rattle.wamp_kinds.specs.declared.message.Message.TheVariants.{Hello, Abort, Goodbye, Error, Publish, Subscribe}
+use Rattle.wamp_kinds.specs.declared.message.Message.TheVariants.{Unsubscribe, Register, Unregister}
+use Rattle.wamp_kinds.specs.declared.message.Message.TheVariants.{Call, Cancel, Yield, Reply}
+use Rattle.wamp_kinds.specs.declared.read_result.UnfitKind.{UnfitKind}
+use Rattle.wamp_kinds.specs.declared.read_result.UnfitKind.TheVariants as unfit
+use Rattle.wamp_kinds.specs.declared.read_result.Read.{Read}
+use Rattle.wamp_kinds.specs.declared.read_result.Read.TheVariants.{Good, Unfit, Bad}
+use Rattle.realm_machine.specs.declared.act.Act.{Act}
+use Rattle.realm_machine.specs.declared.act.Act.TheVariants.{Connect, Said, Hung}
+use Rattle.realm_sessions.specs.Links.{by_transport, of_origin, session_count}
+use Rattle.replica_machine.specs.declared.input.Input.{Input}
+use Rattle.replica_machine.specs.declared.input.Input.TheVariants.{Boot, Lost, Item}
+use Rattle.realm_sessions.specs.Sessions.{open_session}
+use Rattle.realm_machine.specs.declared.requester.Requester.{Requester}
+use Rattle.realm_machine.specs.Config.{Config}
+use Rattle.realm_machine.specs.Sayings.{no_such_realm, invalid_argument}
+use Rattle.realm_machine.specs.Content.{Content, empty}
+use Rattle.realm_machine.specs.Leaving.{stop, violation, one_gone, all_gone}
+use Rattle.realm_machine.specs.Opening.{welcomed}
+use Rattle.realm_machine.specs.Step.{refuse_unless, on_unfit, on_error, on_request, on_opening, on_message, on_read}
+use Rattle.realm_machine.specs.Step.{on_transport, next, after_input}
+use Rattle.realm_laws.specs.Laws.{IsSound, EmptyIsSound, EachInputKeepsSound, EveryRealmIsSound, OpensWhereRoom, after}
+use Rattle.realm_registrations.proofs.SoundRegistrations as sound_registry
+use Rattle.wamp_values.specs.declared.args.Args.TheVariants.{Nothing}
+use Rattle.wamp_kinds.specs.declared.error.Error as error
+use Rattle.realm_calls.specs.Calls.{has}
+use Rattle.realm_calls.specs.Calls as calls
+use Rattle.realm_machine.specs.Calling.{failure}
+use Rattle.realm_sessions.proofs.SoundLinks as links
+use Rattle.realm_sessions.proofs.FreeIds as free
+use Rattle.realm_subscriptions.proofs.Sound as topics
+use Rattle.realm_laws.proofs.SoundParts.{Keeps, remove_sound, violation_sound, aborted_sound, goodbye_sound}
+use Rattle.realm_laws.proofs.SoundParts.{hello_sound, subscribe_to_sound, unsubscribe_sound, publish_sound}
+use Rattle.realm_laws.proofs.SoundParts.{register_for_sound, unregister_sound}
+use Rattle.realm_laws.proofs.SoundCalling.{call_sound, cancel_sound, reply_sound}
+
+-- ---- by what the client sends
+
+unless_sound : (config : Config) (c : Content) (r : Requester) (k : RequestKind) (request : ℕ) (is_quiet : Bool)
+    → IsSound config c
+    → Keeps config (refuse_unless c r k request is_quiet)
+unless_sound config c r k request true ok = ok
+unless_sound config c r k request false ok = ok
+
+unfit_sound : (config : Config) (c : Content) (r : Requester) (k : UnfitKind) (request : ℕ) (is_quiet : Bool)
+    → IsSound config c
+    → Keeps config (on_unfit c r k request is_quiet)
+unfit_sound config c r unfit.Publish request is_quiet ok = unless_sound config c r kind.Publish request is_quiet ok
+unfit_sound config c r unfit.Subscribe request is_quiet ok = unless_sound config c r kind.Subscribe request is_quiet ok
+unfit_sound config c r unfit.Register request is_quiet ok = unless_sound config c r kind.Register request is_quiet ok
+unfit_sound config c r unfit.Call request is_quiet ok =
+    cond_both (has c.calls.list r.session request) (violation c r.transport)
+    (refuse_unless c r kind.Call request is_quiet) (Keeps config)
+    (λ _. violation_sound config c r.transport ok) (λ _. unless_sound config c r kind.Call request is_quiet ok)
+unfit_sound config c r unfit.Cancel request is_quiet ok = unless_sound config c r kind.Cancel request is_quiet ok
+unfit_sound config c r unfit.Yield request is_quiet ok =
+    reply_sound config c r.session request (failure invalid_argument Nothing) ok
+
+error_sound : (config : Config) (c : Content) (r : Requester) (k : RequestKind) (it : error.Error) → IsSound config c
+    → Keeps config (on_error c r k it)
+error_sound config c r kind.Invocation it ok = reply_sound config c r.session it.request (failure it.error it.args) ok
+error_sound config c r k it ok = violation_sound config c r.transport ok
+
+request_sound : (config : Config) (c : Content) (r : Requester) (message : Message) → IsSound config c
+    → Keeps config (on_request config c r message)
+request_sound config c r (Abort reason) ok = aborted_sound config c r.transport ok
+request_sound config c r (Goodbye reason) ok = goodbye_sound config c r.transport ok
+request_sound config c r (Error it) ok = error_sound config c r it.kind it ok
+request_sound config c r (Publish asked) ok = publish_sound config c r asked ok
+request_sound config c r (Subscribe asked) ok =
+    subscribe_to_sound config c r asked.request (pattern_of asked.topic asked.matching) ok
+request_sound config c r (Unsubscribe asked) ok = unsubscribe_sound config c r asked ok
+request_sound config c r (Register asked) ok =
+    register_for_sound config c r asked.request asked.invoke (pattern_of asked.procedure asked.matching) ok
+request_sound config c r (Unregister asked) ok = unregister_sound config c r asked ok
+request_sound config c r (Call asked) ok = call_sound config c r asked ok
+request_sound config c r (Cancel asked) ok =
+    cancel_sound config c r asked.mode (calls.call_of c.calls.list r.session asked.request) ok
+request_sound config c r (Yield asked) ok =
+    reply_sound config c r.session asked.request (λ request. Reply (record { request = request; args = asked.args })) ok
+request_sound config c r message ok = violation_sound config c r.transport ok
+
+opening_sound : (config : Config) (c : Content) (t : Transport) (draw : ℕ) (message : Message) → IsSound config c
+    → Keeps config (on_opening config c t draw message)
+opening_sound config c t draw (Hello hello) ok = hello_sound config c t draw hello ok
+opening_sound config c t draw (Abort reason) ok = aborted_sound config c t ok
+opening_sound config c t draw message ok = violation_sound config c t ok
+
+message_sound : (config : Config) (c : Content) (t : Transport) (session : Option ℕ) (draw : ℕ) (message : Message)
+    → IsSound config c
+    → Keeps config (on_message config c t session draw message)
+message_sound config c t None draw message ok = opening_sound config c t draw message ok
+message_sound config c t (Some session) draw message ok =
+    request_sound config c (record { transport = t; session = session; draw = draw }) message ok
+
+read_sound : (config : Config) (c : Content) (t : Transport) (session : Option ℕ) (draw : ℕ) (read : Read)
+    → IsSound config c
+    → Keeps config (on_read config c t session draw read)
+read_sound config c t session draw (Good message) ok = message_sound config c t session draw message ok
+read_sound config c t None draw (Unfit k request is_quiet) ok = violation_sound config c t ok
+read_sound config c t (Some session) draw (Unfit k request is_quiet) ok =
+    unfit_sound config c (record { transport = t; session = session; draw = draw }) k request is_quiet ok
+read_sound config c t session draw (Bad fault) ok = violation_sound config c t ok
+
+transport_sound : (config : Config) (c : Content) (t : Transport) (draw : ℕ) (read : Read)
+    (session : Option (Option ℕ)) → IsSound config c
+    → Keeps config (on_transport config c t draw read session)
+transport_sound config c t draw read None ok = ok
+transport_sound config c t draw read (Some session) ok = read_sound config c t session draw read ok
+
+-- ---- the laws
+
+pub empty_sound : EmptyIsSound
+empty_sound config = record {
+  limit = refl;
+  topics_limit = refl;
+  registry_limit = refl;
+  calls_limit = refl;
+  links = links.nothing_sound;
+  registry = sound_registry.nothing_sound config.limits.registrations;
+  topics = topics.nothing_sound config.limits.subscriptions;
+}
+
+act_sound : (config : Config) (c : Content) (t : Transport) (act : Act) → IsSound config c
+    → IsSound config (next config c t act)
+act_sound config c t Connect ok =
+    record {
+      limit = ok.limit;
+      topics_limit = ok.topics_limit;
+      registry_limit = ok.registry_limit;
+      calls_limit = ok.calls_limit;
+      links = links.connected_sound c.sessions.list t ok.links;
+      registry = ok.registry;
+      topics = ok.topics;
+    }
+act_sound config c t (Said draw read) ok = transport_sound config c t draw read (by_transport c.sessions.list t) ok
+act_sound config c t Hung ok = remove_sound config c t ok
+
+one_gone_sound : (config : Config) (c : Content) (t : Transport) → IsSound config c → Keeps config (one_gone c t)
+one_gone_sound config c t ok = remove_sound config c t ok
+
+all_gone_sound : (config : Config) (ts : List Transport) (c : Content) → IsSound config c → Keeps config (all_gone ts c)
+all_gone_sound config [] c ok = ok
+all_gone_sound config (t ∷ ts) c ok = all_gone_sound config ts (one_gone c t).content (one_gone_sound config c t ok)
+
+pub input_sound : EachInputKeepsSound
+input_sound config c (Boot node boot) ok = all_gone_sound config (of_origin c.sessions.list node) c ok
+input_sound config c (Lost node boot) ok = all_gone_sound config (of_origin c.sessions.list node) c ok
+input_sound config c (Item t act) ok = act_sound config c t act ok
+
+after_sound : (config : Config) (inputs : List (Input Act)) (c : Content) → IsSound config c
+    → IsSound config (after config c inputs)
+after_sound config [] c ok = ok
+after_sound config (input ∷ inputs) c ok =
+    after_sound config inputs (after_input config c input) (input_sound config c input ok)
+
+pub realm_sound : EveryRealmIsSound
+realm_sound config inputs = after_sound config inputs (empty config.limits) (empty_sound config)
+
+pub open_where_room : OpensWhereRoom
+open_where_room config c t draw canceling ok few same room =
+    let found = free.open_where_room c.sessions t draw canceling ok (subst (λ (n : ℕ). n < 2 ^ 32) (sym same) few)
+    (subst (λ (n : ℕ). session_count c.sessions.list < n) (sym same) room) in
+    let named : not (bytes_eq config.name config.name) ≡ false =
+    not_from_true (bytes_eq config.name config.name) ((bytes_eq-Decides config.name config.name).1 refl) in (
+      found.0,
+      found.1,
+      found.2,
+      cond-false (not (bytes_eq config.name config.name)) (stop c t no_such_realm)
+          (welcomed c t (open_session c.sessions t draw canceling)) named
+          ∙ ap (welcomed c t) found.3,
+    )

@@ -1,5 +1,0 @@
-use Rattle.realm_machine.proofs.SoundSteps.{empty_sound, input_sound, realm_sound}
-use Rattle.realm_machine.proofs.laws.realms_are_sound.Goals as goal
-
-pub returns : goal.returns
-returns c = record { empty = empty_sound; each_input = input_sound; all_inputs = realm_sound }

@@ -1,5 +1,0 @@
-use Rattle.realm_machine.proofs.Steps.{replies_answer}
-use Rattle.realm_machine.proofs.laws.replies_answer_calls.Goals as goal
-
-pub returns : goal.returns
-returns c = replies_answer

@@ -1,5 +1,0 @@
-use Rattle.realm_machine.proofs.SoundSteps.{open_where_room}
-use Rattle.realm_machine.proofs.laws.session_ids_are_found.Goals as goal
-
-pub returns : goal.returns
-returns c = open_where_room
