@@ -1,6 +1,6 @@
 use paxos_packets::Transport;
 use wamp_ids::Id;
-use wamp_messages::{Message, Read};
+use wamp_kinds::{Message, Read};
 
 /// What happens at one client's transport.
 #[derive(Drop)]

@@ -17,8 +17,9 @@ use paxos_packets::Transport;
 use realm_calls::Cancelled;
 use realm_registrations::Chosen;
 use realm_sessions::Sessions;
+use wamp_elements::RequestKind;
 use wamp_ids::{Id, Match, Text, Uri};
-use wamp_messages::{Call, Cancel, Error, Invocation, Message, Reply, RequestKind, Yield};
+use wamp_kinds::{Call, Cancel, Error, Invocation, Message, Reply, Yield};
 use wamp_values::Args;
 
 impl Content {

@@ -17,8 +17,9 @@ use paxos_packets::Transport;
 use realm_calls::Open;
 use realm_sessions::Sessions;
 use std::alloc::Global;
+use wamp_elements::RequestKind;
 use wamp_ids::{Id, Mode};
-use wamp_messages::{Interrupt, Message, RequestKind};
+use wamp_kinds::{Interrupt, Message};
 
 impl Content {
     // The calls to the session by others end, and their callers are told.

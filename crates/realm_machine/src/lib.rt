@@ -27,4 +27,4 @@ pub use paxos_packets::Transport;
 pub use realm::Realm;
 pub use replica_machine::Failed;
 pub use wamp_ids::Id;
-pub use wamp_messages::{Message, Read};
+pub use wamp_kinds::{Message, Read};

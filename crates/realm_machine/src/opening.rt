@@ -11,7 +11,7 @@ use crate::memory::Memory;
 use crate::sayings::{LIMIT, NO_SUCH_REALM};
 use paxos_packets::Transport;
 use wamp_ids::Id;
-use wamp_messages::{Hello, Message, Welcome};
+use wamp_kinds::{Hello, Message, Welcome};
 
 impl Content {
     // A client at a connected transport without a session asks for one.

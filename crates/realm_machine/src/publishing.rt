@@ -12,8 +12,9 @@ use crate::sayings::INVALID_URI;
 use realm_sessions::Sessions;
 use realm_subscriptions::Receiver;
 use std::alloc::Global;
+use wamp_elements::RequestKind;
 use wamp_ids::{Id, Match, Text, Uri};
-use wamp_messages::{Event, Message, Publish, Published, RequestKind};
+use wamp_kinds::{Event, Message, Publish, Published};
 use wamp_values::Args;
 
 impl Content {

@@ -8,8 +8,9 @@ use crate::memory::Memory;
 use crate::requester::Requester;
 use crate::sayings::INVALID_URI;
 use realm_sessions::RealmFault;
+use wamp_elements::RequestKind;
 use wamp_ids::Pattern;
-use wamp_messages::{Message, Register, Registered, RequestKind, Unregister, Unregistered};
+use wamp_kinds::{Message, Register, Registered, Unregister, Unregistered};
 
 impl Content {
     // A client wants to be called for the procedures that a pattern matches.

@@ -13,8 +13,9 @@ use crate::memory::Memory;
 use crate::requester::Requester;
 use crate::sayings::INVALID_ARGUMENT;
 use paxos_packets::Transport;
+use wamp_elements::RequestKind;
 use wamp_ids::Id;
-use wamp_messages::{Error, Message, Read, RequestKind, UnfitKind};
+use wamp_kinds::{Error, Message, Read, UnfitKind};
 
 impl Content {
     // The step of an act.

@@ -9,8 +9,9 @@ use crate::memory::Memory;
 use crate::requester::Requester;
 use crate::sayings::{INVALID_URI, LIMIT};
 use realm_sessions::RealmFault;
+use wamp_elements::RequestKind;
 use wamp_ids::{Id, Pattern};
-use wamp_messages::{Message, RequestKind, Subscribe, Subscribed};
+use wamp_kinds::{Message, Subscribe, Subscribed};
 
 impl Content {
     // A client asks for the events of the topics that a pattern matches.

@@ -7,7 +7,8 @@ use crate::content::Content;
 use crate::memory::Memory;
 use crate::requester::Requester;
 use crate::sayings::NO_SUCH_SUBSCRIPTION;
-use wamp_messages::{Message, RequestKind, Unsubscribe, Unsubscribed};
+use wamp_elements::RequestKind;
+use wamp_kinds::{Message, Unsubscribe, Unsubscribed};
 
 impl Content {
     // A client asks for no more of a subscription's events.
