@@ -1,0 +1,34 @@
+use core_tests::Number;
+use paxos_node::{Node, NodeFault};
+use paxos_packets::{Ballot, Members, Rows, Votes};
+use std::process::Abort;
+use std::test::Fail;
+
+#[test]
+fn a_node_begins_with_its_rows(rt: HostRuntime) -> Result<(), Fail> {
+    let members = Members::new(3).ok_or("3 members")?;
+    let promised = Ballot { round: 4, node: 2 };
+    let rows = Rows {
+        boot: 3,
+        promised: Some(promised),
+        votes: Votes::new(rt.alloc()),
+    };
+    let node = Node::<Number>::of(rt.alloc(), 1, members, rows)?;
+    assert!(rt; node.is_up());
+    assert!(rt; node.has_pending());
+    assert_eq!(rt; node.applied(), 0);
+    assert_eq!(rt; node.boot(), 3);
+    assert!(rt; node.promised() == Some(promised));
+    assert!(rt; node.votes().is_empty());
+    assert_eq!(rt; node.into_rows().boot, 3);
+    Ok(())
+}
+
+#[test]
+fn faults_of_a_node_have_numbers(rt: HostRuntime) -> Result<(), Fail> {
+    assert_eq!(rt; NodeFault::Rounds.number(), 51);
+    assert_eq!(rt; NodeFault::Full.number(), 74);
+    assert_eq!(rt; NodeFault::Disagree.number(), 55);
+    assert_eq!(rt; NodeFault::Memory.number(), 54);
+    Ok(())
+}
