@@ -10,4 +10,5 @@ pub mod Publishing
 pub mod Calling
 pub mod Step
 pub mod Realm
+pub mod Machine
 pub mod Laws
