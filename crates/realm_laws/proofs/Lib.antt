@@ -8,3 +8,4 @@ pub mod Moves
 pub mod Arms
 pub mod CallArms
 pub mod Steps
+pub mod LogLaws

@@ -1,6 +1,8 @@
 //! Laws of the realm's step, each the contract of a function that does nothing.
 ghost use Rattle.realm_laws.specs.Laws.{RepliesAnswerCalls, EveryOpenCallIsSound};
 ghost use Rattle.realm_laws.specs.Laws.{EmptyIsSound, EachInputKeepsSound, EveryRealmIsSound, OpensWhereRoom};
+ghost use Rattle.realm_laws.specs.Logs.{RegistrationsAreSoundInLogs, RealmIsSoundInLogs, OpenCallsAreSoundInLogs};
+ghost use Rattle.realm_laws.specs.Logs.{RepliesAnswerCallsInLogs};
 
 /// What every realm keeps, whatever acts come to it and whichever nodes begin or are lost: each transport is connected
 /// once, no two sessions have one id, the ids of subscriptions rise and none is above the last one that was handed out,
@@ -29,4 +31,19 @@ pub fn replies_answer_calls()
 /// sessions that are there. Takes no memory.
 pub fn open_calls_are_sound()
     ensures { EveryOpenCallIsSound }
+{}
+
+/// Whatever log a realm follows, at each prefix of it there is at most one registration for each text and match, each has
+/// a callee, and one under `single` has exactly one; all else that every realm keeps, and what its open calls keep, holds
+/// there, too. Takes no memory.
+pub fn realms_are_sound_in_logs()
+    ensures registrations { RegistrationsAreSoundInLogs }
+    ensures realm { RealmIsSoundInLogs }
+    ensures calls { OpenCallsAreSoundInLogs }
+{}
+
+/// Final replies answer calls along every log: of a transport and a request, each stands behind a CALL that took effect,
+/// and no two behind one. Takes no memory.
+pub fn replies_answer_calls_in_logs()
+    ensures { RepliesAnswerCallsInLogs }
 {}
