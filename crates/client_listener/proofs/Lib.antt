@@ -1,3 +1,4 @@
 pub mod Consuming
+pub mod Greeting
 pub mod Putting
 pub mod Sending

@@ -18,10 +18,11 @@ abbrev pub ReadsFew : Option (List ℕ) → Option (List ℕ) → Type 0
 ReadsFew old new = (octets : List ℕ) × (length octets < 4) × Consumes old new octets
 
 -- four octets were read, or the reader ended before the fourth, or failed
-abbrev pub ReadsHandshake : Result (Option (List ℕ)) ListenFault → Option (List ℕ) → Option (List ℕ) → Type 0
-ReadsHandshake (Ok (Some octets)) old new = (length octets ≡ 4) × Consumes old new octets
-ReadsHandshake (Ok None) old new = ReadsFew old new × IsAtEnd new
-ReadsHandshake (Err fault) old new = (fault ≡ Read) × ReadsFew old new
+abbrev pub ReadsHandshake : Result (List ℕ) ListenFault → Option (List ℕ) → Option (List ℕ) → Type 0
+ReadsHandshake (Ok octets) old new = (length octets ≡ 4) × Consumes old new octets
+ReadsHandshake (Err Handshake) old new = ReadsFew old new × IsAtEnd new
+ReadsHandshake (Err Read) old new = ReadsFew old new
+ReadsHandshake (Err fault) old new = ⊥
 
 -- these octets were written, or the writer failed
 abbrev pub Writes : Result (Unit {0}) ListenFault → List ℕ → Option (List ℕ) → Option (List ℕ) → Type 0
@@ -33,6 +34,20 @@ abbrev pub IsWritten : Answer → Type 0
 IsWritten (Terms limit octets) = Unit {0}
 IsWritten (Refuse octets) = Unit {0}
 IsWritten Hang = ⊥
+
+-- what was written of this answer
+module _ {W : Type 0} (contents : W → Option (List ℕ)) (answer : Answer) (old new : W) where
+  -- the handshake was refused, or it is of a kind that gets no answer
+  pub data TurnsAway : Type 0 where
+    refuses : (octets : List ℕ) → answer ≡ Refuse octets → Appends (contents old) (contents new) octets → TurnsAway
+    hangs : answer ≡ Hang → new ≡ old → TurnsAway
+
+  -- the terms were told and hold, or the client was turned away, or the writer failed
+  abbrev pub Answers : Result ℕ ListenFault → Type 0
+  Answers (Ok limit) = (octets : List ℕ) × (answer ≡ Terms limit octets) × Appends (contents old) (contents new) octets
+  Answers (Err Handshake) = TurnsAway
+  Answers (Err Write) = IsWritten answer
+  Answers (Err fault) = ⊥
 
 -- A stream is one value with what is left to be read of it and what was written to it. What a write does to the one and a read
 -- to the other is the stream's own affair, so clauses name the state in which it was read and not yet written.

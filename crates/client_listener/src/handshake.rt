@@ -1,5 +1,6 @@
 ghost use Rattle.std.specs.Prelude.{take};
-ghost use Rattle.client_listener.specs.Handshake.{GivesOctet, ReadsHandshake, Writes, Greets};
+ghost use Rattle.wamp_rawsocket.specs.Handshake.{answer_of};
+ghost use Rattle.client_listener.specs.Handshake.{GivesOctet, ReadsHandshake, Writes, Answers, Greets};
 
 use crate::fault::ListenFault;
 use std::io::{Read, Write};
@@ -14,35 +15,49 @@ use wamp_rawsocket::{Answer, answer};
 pub fn greet<S: Read + Write>(stream: &mut S, room: bool) -> Result<u32, ListenFault>
     ensures { Greets S.remaining S.contents room stream.old stream.new result }
 {
-    let Some(octets) = read_handshake(stream)? else {
-        return Err(ListenFault::Handshake);
-    };
-    match answer(octets, room) {
-        Answer::Terms { limit, octets } => {
-            write_out(stream, &octets)?;
-            Ok(limit)
-        }
-        Answer::Refuse(octets) => {
-            write_out(stream, &octets)?;
-            Err(ListenFault::Handshake)
-        }
-        Answer::Hang => Err(ListenFault::Handshake),
-    }
+    let octets = read_handshake(stream)?;
+    answer_handshake(stream, octets, room)
 }
 
-/// The four octets of a client's handshake, or `None` where the reader ends before the fourth. Nothing behind them is
-/// read; `Read` is the only fault. It takes no memory.
-pub fn read_handshake<R: Read>(reader: &mut R) -> Result<Option<[u8; 4]>, ListenFault>
+/// The four octets of a client's handshake. Nothing behind them is read.
+///
+/// `Handshake` where the reader ends before the fourth, `Read` where it failed. It takes no memory.
+pub fn read_handshake<R: Read>(reader: &mut R) -> Result<[u8; 4], ListenFault>
     ensures { ReadsHandshake result (R.remaining reader.old) (R.remaining reader.new) }
 {
     let mut octets = [0; 4];
     for at in 0..4 {
         let Some(octet) = read_octet(reader)? else {
-            return Ok(None);
+            return Err(ListenFault::Handshake);
         };
         octets[at] = octet;
     }
-    Ok(Some(octets))
+    Ok(octets)
+}
+
+/// Writes the answer to the four octets of a client's handshake, and flushes the writer. The result is the longest payload
+/// that the client takes. `room` says whether one more client is taken on.
+///
+/// `Handshake` where it was refused, or not answered at all, `Write` where the writer failed. It takes no memory.
+/// (WAMP specification, "RawSocket Transport", "Handshake".)
+pub fn answer_handshake<W: Write>(
+    writer: &mut W,
+    octets: [u8; 4],
+    room: bool,
+) -> Result<u32, ListenFault>
+    ensures { Answers W.contents (answer_of octets room) writer.old writer.new result }
+{
+    match answer(octets, room) {
+        Answer::Terms { limit, octets } => {
+            write_out(writer, &octets)?;
+            Ok(limit)
+        }
+        Answer::Refuse(octets) => {
+            write_out(writer, &octets)?;
+            Err(ListenFault::Handshake)
+        }
+        Answer::Hang => Err(ListenFault::Handshake),
+    }
 }
 
 // The reader's next octet, or `None` at its end.
@@ -57,8 +72,8 @@ fn read_octet<R: Read>(reader: &mut R) -> Result<Option<u8>, ListenFault>
     }
 }
 
-/// Writes these octets, and flushes the writer. `Write` where it failed.
-pub fn write_out<W: Write>(writer: &mut W, octets: &[u8]) -> Result<(), ListenFault>
+// Writes these octets, and flushes the writer. `Write` where it failed.
+pub(crate) fn write_out<W: Write>(writer: &mut W, octets: &[u8]) -> Result<(), ListenFault>
     ensures { Writes result octets.now (W.contents writer.old) (W.contents writer.new) }
 {
     if writer.write_all(octets).is_err() || writer.flush().is_err() {

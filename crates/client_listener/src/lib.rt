@@ -13,7 +13,7 @@ mod turns;
 mod writing;
 
 pub use fault::ListenFault;
-pub use handshake::{greet, read_handshake, write_out};
+pub use handshake::{answer_handshake, greet, read_handshake};
 pub use items::{FromClient, ToClient};
 pub use outbox::Outbox;
 pub use reading::{put_transport, read_transport};

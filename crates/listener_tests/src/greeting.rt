@@ -61,6 +61,6 @@ fn greets_no_further_than_the_stream_goes(rt: HostRuntime) {
     }
     assert_eq!(rt;
         read_handshake(&mut &b"\x7F\xF1\0\0rest"[..]),
-        Ok(Some([0x7F, 0xF1, 0, 0]))
+        Ok([0x7F, 0xF1, 0, 0])
     );
 }

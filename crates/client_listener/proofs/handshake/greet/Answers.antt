@@ -1,13 +1,7 @@
-use Rattle.std.proofs.Common.{sym}
-use Rattle.client_listener.specs.Handshake.{refused}
+use Rattle.client_listener.proofs.Greeting.{greeted}
 use Rattle.client_listener.proofs.handshake.greet.Goals as goal
 
-pub returns-in_ok-write_out-in-Refuse : goal.returns-in_ok-write_out-in-Refuse
-returns-in_ok-write_out-in-Refuse g c =
-    let read = rw c.in-Some.is at c.in_ok-octets.ensures in
-    refused c.in-Refuse.octets c.read_handshake.new.reader (record {
-      octets = c.in-Some.octets;
-      is_whole = read.0;
-      is_answer = sym c.in-Refuse.ensures.answer;
-      are_read = read.1;
-    }) c.in_ok-write_out-in-Refuse.ensures
+pub returns : goal.returns
+returns g c =
+    greeted g.S.Read.remaining g.S.Write.contents c.args.room c.args.stream.now c.read_handshake.new.reader c.answer_handshake.new.writer
+    c.in_ok-octets.octets c.answer_handshake.result c.in_ok-octets.ensures.0 c.in_ok-octets.ensures.1 c.answer_handshake.ensures
