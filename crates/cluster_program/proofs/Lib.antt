@@ -1,4 +1,5 @@
 pub mod Putting
+pub mod Framing
 pub mod Telling
 pub mod Answering
 pub mod Running

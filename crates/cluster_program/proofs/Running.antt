@@ -4,6 +4,7 @@ use Rattle.std.proofs.Common.{Result, Ok, Err, refl, sym, ◌∙◌, ap, subst, 
 use Rattle.std.specs.Io.KnownBytes.{Appends, IsAtEnd}
 use Rattle.std.proofs.KnownBytes.{Appends-nil, Appends-trans, Consumes-nil, Consumes-trans}
 use Rattle.realm_machine.specs.declared.act.Act.{Act}
+use Rattle.client_listener.specs.Waiting.{WaitingFrames}
 use Rattle.cluster_program.specs.declared.fault.RunFault.{RunFault}
 use Rattle.cluster_program.specs.declared.fault.RunFault.TheVariants.{Line, Store, Memory, Transport}
 use Rattle.cluster_program.specs.declared.progress.Progress.{Progress}
@@ -11,7 +12,7 @@ use Rattle.cluster_program.specs.declared.progress.Progress.TheVariants.{Onward,
 use Rattle.cluster_program.specs.Stream.{Ending, unheard, unwelcome, silent, closed, broken_off, too_wide, Run, ends, behind, is_final}
 use Rattle.cluster_program.specs.Stream.{answer_at, most_turns, Serves, Stops, Breaks, Ended, Ends}
 use Rattle.cluster_program.specs.declared.service.Service.{Service}
-use Rattle.cluster_program.specs.Replies.{WaitingReplies, IsLeftBy, Puts}
+use Rattle.cluster_program.specs.Replies.{IsLeftBy, Puts}
 use Rattle.cluster_program.specs.Service.{due_at, HasActed, Performs}
 use Rattle.cluster_program.specs.Turns.{Writes, IsOver, Tells, PerformsOut, Goes}
 use Rattle.cluster_program.proofs.Putting.{behind-append, put_whole}
@@ -148,19 +149,19 @@ tells_put (Err fault) owing onward replies put old new p a =
     (put_whole (Err fault) (owing []) (onward []) replies put (p [])) a (p []).is_left
 
 -- an act was done, and the replies were written
-acted_flushed : (s t : Service) (act : Act) (draw : ℕ) (flushed : WaitingReplies) → HasActed s act draw t → flushed.limit ≡ t.replies.limit
+acted_flushed : (s t : Service) (act : Act) (draw : ℕ) (flushed : WaitingFrames) → HasActed s act draw t → flushed.limit ≡ t.replies.limit
     → HasActed s act draw (record t { replies = flushed })
 acted_flushed s t act draw flushed p same =
     record { config = p.config; content = p.content; next_draw = p.next_draw; held = p.held; limit = same ∙ p.limit }
 
-flushed_ok : (result : Result Progress RunFault) (s t : Service) (act : Act) (flushed : WaitingReplies)
+flushed_ok : (result : Result Progress RunFault) (s t : Service) (act : Act) (flushed : WaitingFrames)
     → OnOk result (HasActed s act s.draw t) → flushed ≡ record { limit = t.replies.limit; octets = [] }
     → OnOk result (flushed.octets ≡ []) × OnOk result (HasActed s act s.draw (record t { replies = flushed }))
 flushed_ok (Ok progress) s t act flushed p e =
-    (ap (λ (w : WaitingReplies). w.octets) e, acted_flushed s t act s.draw flushed p (ap (λ (w : WaitingReplies). w.limit) e))
+    (ap (λ (w : WaitingFrames). w.octets) e, acted_flushed s t act s.draw flushed p (ap (λ (w : WaitingFrames). w.limit) e))
 flushed_ok (Err fault) s t act flushed p e = (tt, tt)
 
-pub performs_flushed : (result : Result Progress RunFault) (s t : Service) (act : Act) (flushed : WaitingReplies)
+pub performs_flushed : (result : Result Progress RunFault) (s t : Service) (act : Act) (flushed : WaitingFrames)
     (old new : Option (List ℕ)) → Performs result s act s.draw t → flushed ≡ record { limit = t.replies.limit; octets = [] }
     → Appends old new t.replies.octets → PerformsOut result s act (record t { replies = flushed }) old new
 performs_flushed result s t act flushed old new p e a =

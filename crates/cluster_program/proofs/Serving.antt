@@ -1,6 +1,6 @@
 -- A whole run: the handshake, the first act, and turns.
 use Rattle.std.proofs.Common.{◌≡◌, inl, inr, ℕ, ◌<◌, ◌≤◌, true, arith, List, [], ◌∷◌, ◌++◌, length, Option, Result, Ok, Err, refl, sym, ◌∙◌}
-use Rattle.std.proofs.Common.{ap, append-nil}
+use Rattle.std.proofs.Common.{ap, subst, append-nil}
 use Rattle.std.specs.Io.KnownBytes.{Appends, Consumes, IsAtEnd}
 use Rattle.std.proofs.KnownBytes.{Appends-nil}
 use Rattle.wamp_rawsocket.specs.declared.handshake_answer.Answer.{Answer}
@@ -18,7 +18,10 @@ use Rattle.cluster_program.specs.declared.progress.Progress.TheVariants.{Onward,
 use Rattle.cluster_program.specs.declared.service.Service.{Service}
 use Rattle.cluster_program.specs.Stream.{unheard, unwelcome, silent, Run, ends, behind, client, config_of, answered, opened, greeted}
 use Rattle.cluster_program.specs.Stream.{run_of, most_turns, Ends}
-use Rattle.cluster_program.specs.Handshake.{ReadsFew}
+use Rattle.client_listener.specs.declared.fault.ListenFault.{ListenFault}
+use Rattle.client_listener.specs.declared.fault.ListenFault.TheVariants as listen
+use Rattle.client_listener.specs.Handshake.{ReadsFew, ReadsHandshake, Answers, refuses, hangs}
+use Rattle.cluster_program.specs.Fault.{run_fault_of}
 use Rattle.cluster_program.specs.Service.{due_at, owed, IsFirst}
 use Rattle.cluster_program.specs.Turns.{Writes, IsOver, PerformsOut, IsIdle, Goes}
 use Rattle.cluster_program.proofs.Answering.{hung_unheard}
@@ -165,3 +168,36 @@ hung_at name octets input left old four e c = (
   ended_whole unwelcome (run_of name octets) [] (length octets) left old old (run_of_four name octets Hang four e)
       (Appends-nil old) (inr refl),
 )
+
+-- what the listener answers of a handshake, told of the run
+pub unheard_ends : (name : List ℕ) (fault : ListenFault) (input left old : Option (List ℕ)) → ReadsHandshake (Err fault) input left
+    → Ends (run_of name) (Err (run_fault_of fault)) input left old old
+unheard_ends name listen.Handshake input left old p = cut_short name input left old p.0 p.1
+unheard_ends name listen.Read input left old p = unread name input left old p
+unheard_ends name listen.Frame input left old p = absurd p
+unheard_ends name listen.Write input left old p = absurd p
+unheard_ends name listen.Turns input left old p = absurd p
+unheard_ends name listen.Memory input left old p = absurd p
+unheard_ends name listen.Wide input left old p = absurd p
+
+module _ {W : Type 0} (contents : W → Option (List ℕ)) (name octets : List ℕ) (was now : W) (input left : Option (List ℕ)) where
+  pub turned_away : (fault : ListenFault) → length octets ≡ 4 → Consumes input left octets
+      → Answers contents (answer_of octets true) was now (Err fault)
+      → Ends (run_of name) (Err (run_fault_of fault)) input left (contents was) (contents now)
+  turned_away listen.Handshake four c (refuses told e w) =
+      refused name octets told input left (contents was) (contents now) four (sym e) c w
+  turned_away listen.Handshake four c (hangs e same) =
+      subst (λ (w : W). Ends (run_of name) (Err (Transport 81)) input left (contents was) (contents w)) (sym same)
+      (hung_at name octets input left (contents was) four (sym e) c)
+  turned_away listen.Write four c p = (octets, c, tt)
+  turned_away listen.Frame four c p = absurd p
+  turned_away listen.Read four c p = absurd p
+  turned_away listen.Turns four c p = absurd p
+  turned_away listen.Memory four c p = absurd p
+  turned_away listen.Wide four c p = absurd p
+
+  pub taken_on : (limit : ℕ) (result : Result (Unit {0}) RunFault) (end new : Option (List ℕ)) → length octets ≡ 4
+      → Consumes input left octets → Answers contents (answer_of octets true) was now (Ok limit)
+      → Ends (opened (config_of name) limit) result left end (contents now) new → Ends (run_of name) result input end (contents was) new
+  taken_on limit result end new four c p served_on =
+      served name octets p.0 limit result input left end (contents was) (contents now) new four (sym p.1) c p.2 served_on

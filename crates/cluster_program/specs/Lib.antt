@@ -1,5 +1,4 @@
 pub mod Fault
-pub mod Handshake
 pub mod Order
 pub mod Replies
 pub mod Service

@@ -1,16 +1,12 @@
 -- Replies that wait to be written. This is for private clauses: what is due (Stream), in terms of what was put behind them.
 use Rattle.std.specs.Prelude.{◌≡◌, ℕ, List, [], ◌++◌, Option, Result, Ok, Err, MatchResult, IsTrue}
 use Rattle.std.specs.Io.KnownBytes.{Appends}
+use Rattle.client_listener.specs.Waiting.{WaitingFrames}
 use Rattle.cluster_program.specs.declared.fault.RunFault.{RunFault}
 use Rattle.cluster_program.specs.declared.fault.RunFault.TheVariants.{Line, Store, Memory, Transport}
 use Rattle.cluster_program.specs.declared.progress.Progress.{Progress}
 use Rattle.cluster_program.specs.declared.progress.Progress.TheVariants.{Onward, Waiting, Closed}
 use Rattle.cluster_program.specs.Stream.{Ending, closed, Run, ends, behind, is_final, answer_at}
-
--- what clauses see of the replies: the longest payload that the client takes, and the octets that wait to be written
-pub record WaitingReplies : Type 0 where
-  pub limit : ℕ
-  pub octets : List ℕ
 
 -- of what is due there remains this where a fault is met; nothing is known of it where memory ran out
 abbrev pub IsLeftBy : RunFault → Run → Type 0
@@ -38,12 +34,7 @@ abbrev pub Answers : Result Progress RunFault → Run → Run → List ℕ → L
 Answers (Ok Waiting) due onward old new = (new ≡ old) × (due ≡ onward)
 Answers result due onward old new = Puts result due onward old new
 
--- these octets were written, or the writer failed
-abbrev pub Written : Result (Unit {0}) RunFault → List ℕ → Option (List ℕ) → Option (List ℕ) → Type 0
-Written (Ok x) octets old new = Appends old new octets
-Written (Err fault) octets old new = fault ≡ Transport 84
-
 -- all replies were written, or the writer failed and they wait still
-abbrev pub Flushes : Result (Unit {0}) RunFault → WaitingReplies → WaitingReplies → Option (List ℕ) → Option (List ℕ) → Type 0
+abbrev pub Flushes : Result (Unit {0}) RunFault → WaitingFrames → WaitingFrames → Option (List ℕ) → Option (List ℕ) → Type 0
 Flushes (Ok x) old new written now = (new ≡ record { limit = old.limit; octets = [] }) × Appends written now old.octets
 Flushes (Err fault) old new written now = (fault ≡ Transport 84) × (new ≡ old)

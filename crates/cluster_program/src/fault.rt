@@ -1,29 +1,12 @@
 ghost use Rattle.std.specs.Prelude.{◌≡◌};
 ghost use Rattle.cluster_program.specs.Fault.{status_of};
 
+use client_listener::ListenFault;
 use realm_machine::Failed;
 use std::alloc::{AllocError, AllocFailed};
 use std::error::Error;
 use std::fmt;
 use wamp_messages::Memory;
-
-// The handshake was refused, hung or cut short.
-pub const HANDSHAKE: u8 = 81;
-
-// The client sent what is no frame.
-pub const FRAME: u8 = 82;
-
-// A read failed.
-pub const READ: u8 = 83;
-
-// A write failed.
-pub const WRITE: u8 = 84;
-
-// The turns of a run were spent.
-pub const TURNS: u8 = 85;
-
-// A message or PONG was longer than the client takes.
-pub const TOO_WIDE: u8 = 87;
 
 /// Why a run of the program failed. It shows as the text that the program writes on standard error.
 #[derive(Clone, Copy, Debug, PartialEq, Eq, Hash)]
@@ -102,5 +85,23 @@ impl From<Failed> for RunFault {
 
     fn from(_error: Failed) -> RunFault {
         RunFault::Memory
+    }
+}
+
+impl From<ListenFault> for RunFault {
+    ghost use Rattle.cluster_program.specs.Fault.{run_fault_of};
+
+    ghost from_gives = { λ fault made. made ≡ run_fault_of fault };
+
+    fn from(fault: ListenFault) -> RunFault {
+        match fault {
+            ListenFault::Memory => RunFault::Memory,
+            ListenFault::Handshake
+            | ListenFault::Frame
+            | ListenFault::Read
+            | ListenFault::Write
+            | ListenFault::Turns
+            | ListenFault::Wide => RunFault::Transport(fault.number()),
+        }
     }
 }

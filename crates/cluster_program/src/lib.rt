@@ -2,7 +2,6 @@
 #![tactic(auto)]
 
 mod fault;
-mod handshake;
 mod order;
 mod progress;
 mod replies;

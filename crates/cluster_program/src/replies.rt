@@ -2,16 +2,17 @@ ghost use Rattle.std.specs.Prelude.{◌≡◌, [], length};
 ghost use Rattle.wamp_messages.specs.Writing.{text_of};
 ghost use Rattle.paxos_packets.specs.Transport.{same_transport};
 ghost use Rattle.cluster_program.specs.Stream.{Run, client, framed, heard, told};
-ghost use Rattle.cluster_program.specs.Replies.{Puts, Flushes, Written};
+ghost use Rattle.cluster_program.specs.Replies.{Puts, Flushes};
 
-use crate::fault::{RunFault, TOO_WIDE, WRITE};
+use crate::fault::RunFault;
 use crate::progress::Progress;
+use client_listener::Outbox;
 use realm_machine::{Out, Say, Transport};
 use std::alloc::Global;
 use std::io::Write;
 use std::marker::Model;
-use wamp_messages::{Message, write_into};
-use wamp_rawsocket::{FrameFault, FrameKind, append_frame};
+use wamp_messages::Message;
+use wamp_rawsocket::FrameKind;
 
 // The transport of the one client.
 pub(crate) const CLIENT: Transport = Transport {
@@ -23,18 +24,15 @@ pub(crate) const CLIENT: Transport = Transport {
 // The replies to one client that wait to be written.
 #[derive(Drop)]
 pub(crate) struct Replies {
-    limit: u32,
-    frames: Vec<u8>,
-    // The text of one message, kept for its room.
-    text: Vec<u8>,
+    outbox: Outbox,
 }
 
 impl Model for Replies {
-    ghost use Rattle.cluster_program.specs.Replies.{WaitingReplies};
+    ghost use Rattle.client_listener.specs.Waiting.{WaitingFrames};
 
-    ghost Value = { WaitingReplies };
+    ghost Value = { WaitingFrames };
 
-    ghost view = { λ replies. record { limit = replies.limit; octets = replies.frames.items } };
+    ghost view = { λ replies. replies.outbox };
 }
 
 impl Replies {
@@ -43,9 +41,7 @@ impl Replies {
         ensures { result ≡ record { limit = limit; octets = [] } }
     {
         Replies {
-            limit,
-            frames: Vec::new(alloc),
-            text: Vec::new(alloc),
+            outbox: Outbox::new(alloc, limit),
         }
     }
 
@@ -53,33 +49,30 @@ impl Replies {
     pub fn len(&self) -> usize
         ensures { result ≡ length self.now.octets }
     {
-        self.frames.len()
+        self.outbox.len()
     }
 
     // Puts a frame behind the others, if the client takes one so wide.
+    #[tactic(auto, using(crate::proofs::Framing::frame_put, crate::proofs::Framing::frame_refused))]
     pub fn put(&mut self, kind: FrameKind, payload: &[u8]) -> Result<Progress, RunFault>
         ensures puts { (after : Run) → Puts result (framed self.old.limit kind payload.now after) after
             self.old.octets self.new.octets }
         ensures limit { self.new.limit ≡ self.old.limit }
     {
-        append(&mut self.frames, kind, payload, self.limit)
+        self.outbox.put(kind, payload)?;
+        Ok(Progress::Onward)
     }
 
     // Puts the frame of a message behind the others.
+    #[tactic(auto, using(crate::proofs::Framing::frame_put, crate::proofs::Framing::frame_refused))]
     fn send(&mut self, message: &Message) -> Result<Progress, RunFault>
         ensures puts { (after : Run)
             → Puts result (framed self.old.limit FrameKind.Message (text_of message.now) after) after
             self.old.octets self.new.octets }
         ensures limit { self.new.limit ≡ self.old.limit }
     {
-        self.text.clear();
-        write_into(message, &mut self.text)?;
-        append(
-            &mut self.frames,
-            FrameKind::Message,
-            self.text.as_slice(),
-            self.limit,
-        )
+        self.outbox.send(message)?;
+        Ok(Progress::Onward)
     }
 
     // Puts what the client is told of this behind the others.
@@ -114,39 +107,12 @@ impl Replies {
     }
 
     // Writes all that waits, and flushes the writer.
+    #[tactic(auto, using(crate::proofs::Framing::flushed, crate::proofs::Framing::unflushed))]
     pub fn write_to<W: Write>(&mut self, writer: &mut W) -> Result<(), RunFault>
         ensures { Flushes result self.old self.new (W.contents writer.old) (W.contents writer.new) }
     {
-        write_out(writer, self.frames.as_slice())?;
-        self.frames.clear();
+        self.outbox.write_to(writer)?;
         Ok(())
-    }
-}
-
-// Writes these octets, and flushes the writer.
-pub(crate) fn write_out<W: Write>(writer: &mut W, octets: &[u8]) -> Result<(), RunFault>
-    ensures { Written result octets.now (W.contents writer.old) (W.contents writer.new) }
-{
-    if writer.write_all(octets).is_err() || writer.flush().is_err() {
-        return Err(RunFault::Transport(WRITE));
-    }
-    Ok(())
-}
-
-// Appends a frame, if the client takes payloads of its length.
-fn append(
-    frames: &mut Vec<u8>,
-    kind: FrameKind,
-    payload: &[u8],
-    limit: u32,
-) -> Result<Progress, RunFault>
-    ensures { (after : Run) → Puts result (framed limit kind payload.now after) after
-        frames.old.items frames.new.items }
-{
-    match append_frame(frames, kind, payload, limit) {
-        Ok(()) => Ok(Progress::Onward),
-        Err(FrameFault::TooLong) => Err(RunFault::Transport(TOO_WIDE)),
-        Err(_) => Err(RunFault::Memory),
     }
 }
 

@@ -5,9 +5,10 @@ ghost use Rattle.cluster_program.specs.Stream.{silent, ends};
 ghost use Rattle.cluster_program.specs.Replies.{Answers};
 ghost use Rattle.cluster_program.specs.Service.{IsFirst, Takes, Performs, due, held_len};
 
-use crate::fault::{FRAME, RunFault};
+use crate::fault::RunFault;
 use crate::progress::Progress;
 use crate::replies::{CLIENT, Replies};
+use client_listener::ListenFault;
 use realm_machine::{Act, Limits, Realm};
 use std::alloc::Global;
 use wamp_ids::Id;
@@ -114,6 +115,6 @@ fn front(splitter: &Splitter) -> Result<Option<FrameRef<'_>>, RunFault>
 {
     match splitter.front() {
         Ok(front) => Ok(front),
-        Err(_) => Err(RunFault::Transport(FRAME)),
+        Err(_) => Err(RunFault::from(ListenFault::Frame)),
     }
 }

@@ -1,15 +1,13 @@
 ghost use Rattle.cluster_program.specs.Stream.{Ends, run_of, opened, config_of};
 
-use crate::fault::{HANDSHAKE, RunFault, TURNS};
-use crate::handshake::read_handshake;
+use crate::fault::RunFault;
 use crate::progress::Progress;
-use crate::replies::write_out;
 use crate::service::Service;
 use crate::turns::{act_out, turn};
+use client_listener::{ListenFault, answer_handshake, read_handshake};
 use realm_machine::Act;
 use std::alloc::Global;
 use std::io::{Read, Write};
-use wamp_rawsocket::{Answer, answer};
 
 // How many octets one read takes at the most.
 const CHUNK: usize = 1 << 16;
@@ -37,22 +35,9 @@ pub fn stream_run<R: Read, W: Write>(
     ensures { Ends (run_of realm.now) result (R.remaining reader.old) (R.remaining reader.new)
         (W.contents writer.old) (W.contents writer.new) }
 {
-    let octets = match read_handshake(reader) {
-        Ok(Some(octets)) => octets,
-        Ok(None) => return Err(RunFault::Transport(HANDSHAKE)),
-        Err(fault) => return Err(fault),
-    };
-    match answer(octets, true) {
-        Answer::Terms { limit, octets } => {
-            write_out(writer, &octets)?;
-            serve(alloc, reader, writer, realm, limit)
-        }
-        Answer::Refuse(octets) => {
-            write_out(writer, &octets)?;
-            Err(RunFault::Transport(HANDSHAKE))
-        }
-        Answer::Hang => Err(RunFault::Transport(HANDSHAKE)),
-    }
+    let octets = read_handshake(reader)?;
+    let limit = answer_handshake(writer, octets, true)?;
+    serve(alloc, reader, writer, realm, limit)
 }
 
 // Serves a client whose handshake was answered.
@@ -80,5 +65,5 @@ fn serve<R: Read, W: Write>(
             Err(fault) => return Err(fault),
         }
     }
-    Err(RunFault::Transport(TURNS))
+    Err(RunFault::from(ListenFault::Turns))
 }

@@ -2,9 +2,10 @@ ghost use Rattle.std.specs.Prelude.{◌≡◌, ◌<◌, Ok, length};
 ghost use Rattle.cluster_program.specs.Service.{held_len};
 ghost use Rattle.cluster_program.specs.Turns.{IsIdle, Turns, PerformsOut, AnswersAll, Steps};
 
-use crate::fault::{READ, RunFault};
+use crate::fault::RunFault;
 use crate::progress::Progress;
 use crate::service::Service;
+use client_listener::ListenFault;
 use realm_machine::Act;
 use std::io::{Read, Write};
 
@@ -32,7 +33,7 @@ pub(crate) fn turn<R: Read, W: Write>(
             service.feed(&chunk[..count])?;
             answer_frames(writer, service)
         }
-        Err(_) => Err(RunFault::Transport(READ)),
+        Err(_) => Err(RunFault::from(ListenFault::Read)),
     }
 }
 

@@ -61,5 +61,6 @@ loop-turn-preserved g c =
 
 pub returns : goal.returns
 returns g c =
-    turns_spent (opened (config_of c.args.realm.now) c.args.limit) c.loop-turn.service c.loop-turn._turn _ _ _ _ c.loop-turn.invariant.0
-    c.loop-turn.invariant.1 (omega arith)
+    rw c.from.ensures
+    (turns_spent (opened (config_of c.args.realm.now) c.args.limit) c.loop-turn.service c.loop-turn._turn _ _ _ _ c.loop-turn.invariant.0
+    c.loop-turn.invariant.1 (omega arith))

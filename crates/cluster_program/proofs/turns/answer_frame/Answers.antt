@@ -1,6 +1,6 @@
 use Rattle.std.proofs.Common.{refl, ap}
 use Rattle.cluster_program.specs.declared.service.Service.{Service}
-use Rattle.cluster_program.specs.Replies.{WaitingReplies}
+use Rattle.client_listener.specs.Waiting.{WaitingFrames}
 use Rattle.cluster_program.proofs.Turning.{steps_written}
 use Rattle.cluster_program.proofs.turns.answer_frame.Goals as goal
 
@@ -10,4 +10,4 @@ returns-2-clause-steps g c =
     let later : Service = record c.answer_next-outcome.new.self { replies = c.write_to.new.self } in
     steps_written c.args.service.now c.answer_next-outcome.new.self later c.answer_next-outcome.result _ _
     c.answer_next-outcome.ensures.answers c.answer_next-outcome.ensures.waits
-    (ap (λ (r : WaitingReplies). r.octets) w.0) (λ more. rw w.0 refl) w.1
+    (ap (λ (r : WaitingFrames). r.octets) w.0) (λ more. rw w.0 refl) w.1
