@@ -1,4 +1,4 @@
-use crate::Number;
+use core_tests::Number;
 use paxos_packets::{Ballot, Body, Entries, Entry, Members, Slot, Vote, Votes};
 use paxos_proposer::{Move, Proposer, ProposerFault};
 use std::alloc::Global;

@@ -1,5 +1,5 @@
-use crate::Number;
 use acceptor_keeper::{Keeper, KeeperFault, MemKeeper};
+use core_tests::Number;
 use paxos_packets::{Ballot, Change, Entry, Rows, Slot, Vote, Votes};
 use std::alloc::Global;
 use std::process::Abort;

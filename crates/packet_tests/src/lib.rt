@@ -1,0 +1,10 @@
+//! Tests of packets, of the acceptor and of the keeper of its rows in memory, over the crates' public surfaces. A crate with tests
+//! is proved twice, so they stand here.
+#![tactic(auto)]
+
+#[cfg(test)]
+mod acceptor;
+#[cfg(test)]
+mod keeper;
+#[cfg(test)]
+mod packets;
