@@ -8,7 +8,7 @@ use Rattle.wamp_rawsocket.specs.declared.handshake_answer.Answer.TheVariants.{Te
 use Rattle.wamp_rawsocket.specs.Handshake.{answer_of}
 use Rattle.wamp_rawsocket.specs.Splitter.{frames_of}
 use Rattle.wamp_rawsocket.proofs.Streams.{frames_at_end}
-use Rattle.realm_machine.specs.declared.act.Act.TheVariants.{Connect}
+use Rattle.realm_acts.specs.declared.act.Act.TheVariants.{Connect}
 use Rattle.realm_machine.specs.Content.{Content, empty}
 use Rattle.realm_machine.specs.Step.{next}
 use Rattle.cluster_program.specs.declared.fault.RunFault.{RunFault}

@@ -5,7 +5,7 @@ use Rattle.std.specs.Io.KnownBytes.{Appends, Consumes, Keeps, IsAtEnd}
 use Rattle.std.proofs.KnownBytes.{Appends-nil}
 use Rattle.wamp_rawsocket.specs.Splitter.{frames_of}
 use Rattle.realm_machine.specs.Config.{Config}
-use Rattle.realm_machine.specs.declared.act.Act.TheVariants.{Hung}
+use Rattle.realm_acts.specs.declared.act.Act.TheVariants.{Hung}
 use Rattle.realm_machine.specs.Content.{Content}
 use Rattle.cluster_program.specs.declared.fault.RunFault.{RunFault}
 use Rattle.cluster_program.specs.declared.fault.RunFault.TheVariants.{Memory, Transport}

@@ -3,7 +3,7 @@ use Rattle.std.specs.Prelude.{◌≡◌, ℕ, List, [], ◌++◌, length, Option
 use Rattle.wamp_rawsocket.specs.declared.fault.FrameFault.{FrameFault}
 use Rattle.wamp_rawsocket.specs.declared.frame.FrameRef.{FrameRef}
 use Rattle.wamp_rawsocket.specs.Splitter.{partial, whole, faulty, front_of, frames_of}
-use Rattle.realm_machine.specs.declared.act.Act.{Act}
+use Rattle.realm_acts.specs.declared.act.Act.{Act}
 use Rattle.realm_machine.specs.Config.{Config}
 use Rattle.realm_machine.specs.Content.{Content, empty}
 use Rattle.realm_machine.specs.Step.{next, says}

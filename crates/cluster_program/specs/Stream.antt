@@ -15,7 +15,7 @@ use Rattle.wamp_rawsocket.specs.declared.handshake_answer.Answer.TheVariants.{Te
 use Rattle.wamp_rawsocket.specs.Frame.{frame_octets, outbound_limit}
 use Rattle.wamp_rawsocket.specs.Handshake.{answer_of}
 use Rattle.wamp_rawsocket.specs.Splitter.{Frames, ended, broken, frame, frames_of}
-use Rattle.realm_machine.specs.declared.act.Act.TheVariants.{Connect, Said, Hung}
+use Rattle.realm_acts.specs.declared.act.Act.TheVariants.{Connect, Said, Hung}
 use Rattle.realm_machine.specs.declared.act.Out.{Out}
 use Rattle.realm_machine.specs.declared.act.Out.TheVariants.{Send, Close}
 use Rattle.realm_machine.specs.declared.act.Say.{Say}

@@ -9,7 +9,7 @@ use crate::fault::RunFault;
 use crate::progress::Progress;
 use crate::replies::{CLIENT, Replies};
 use client_listener::ListenFault;
-use realm_machine::{Act, Limits, Realm};
+use realm_machine::{Act, Limits, Realm, Shared};
 use std::alloc::Global;
 use wamp_ids::Id;
 use wamp_messages::{Read, read};
@@ -84,8 +84,9 @@ impl Service {
         match frame.kind {
             FrameKind::Message => {
                 let read = read(self.alloc, frame.payload)?;
+                let shared = Shared::new(self.alloc, read)?;
                 self.splitter.pass();
-                self.answer_message(read)
+                self.answer_message(shared)
             }
             FrameKind::Ping => {
                 let put = self.replies.put(FrameKind::Pong, frame.payload);
@@ -100,7 +101,7 @@ impl Service {
     }
 
     // Answers what a message was read as, with this draw; the next one has the next.
-    fn answer_message(&mut self, read: Read) -> Result<Progress, RunFault>
+    fn answer_message(&mut self, read: Shared<Read>) -> Result<Progress, RunFault>
         ensures { Performs result self.old (Act.Said self.old.draw read) (id_after self.old.draw) self.new }
     {
         let draw = self.draw;

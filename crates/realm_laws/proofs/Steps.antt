@@ -28,8 +28,8 @@ use Rattle.realm_sessions.proofs.SoundLinks.{same_is, is_same, nothing_sound}
 use Rattle.realm_calls.specs.declared.calls.Open.{Open}
 use Rattle.realm_calls.proofs.SoundCalls.{nothing_sound as no_calls}
 use Rattle.realm_sessions.specs.Links.{is_taken}
-use Rattle.realm_machine.specs.declared.act.Act.{Act}
-use Rattle.realm_machine.specs.declared.act.Act.TheVariants.{Connect, Said, Hung}
+use Rattle.realm_acts.specs.declared.act.Act.{Act}
+use Rattle.realm_acts.specs.declared.act.Act.TheVariants.{Connect, Said, Hung}
 use Rattle.realm_machine.specs.declared.requester.Requester.{Requester}
 use Rattle.realm_machine.specs.Config.{Config}
 use Rattle.realm_machine.specs.Sayings.{invalid_argument}

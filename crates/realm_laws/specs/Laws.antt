@@ -3,7 +3,7 @@ use Rattle.std.specs.Prelude.{◌≡◌, ℕ, ◌<◌, ◌^◌, Bool, true, fals
 use Rattle.paxos_packets.specs.declared.transport.Transport.{Transport}
 use Rattle.replica_machine.specs.declared.input.Input.{Input}
 use Rattle.wamp_ids.specs.Id.{is_id}
-use Rattle.realm_machine.specs.declared.act.Act.{Act}
+use Rattle.realm_acts.specs.declared.act.Act.{Act}
 use Rattle.realm_sessions.specs.Links.{is_taken, session_count}
 use Rattle.realm_sessions.specs.Sessions.{opened}
 use Rattle.realm_sessions.specs.Laws.{AreSoundLinks}

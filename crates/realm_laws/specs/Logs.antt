@@ -5,7 +5,7 @@ use Rattle.paxos_packets.specs.declared.entry.Entry.{Entry}
 use Rattle.paxos_packets.specs.declared.transport.Transport.{Transport}
 use Rattle.replica_machine.specs.Replay.{inputs, state}
 use Rattle.realm_registrations.specs.Laws.{AreSoundRegistrations}
-use Rattle.realm_machine.specs.declared.act.Act.{Act}
+use Rattle.realm_acts.specs.declared.act.Act.{Act}
 use Rattle.realm_machine.specs.Config.{Config}
 use Rattle.realm_machine.specs.Content.{Content, empty}
 use Rattle.realm_machine.specs.Machine.{realm_of}

@@ -12,8 +12,8 @@ use Rattle.wamp_kinds.specs.declared.read_result.UnfitKind.{UnfitKind}
 use Rattle.wamp_kinds.specs.declared.read_result.UnfitKind.TheVariants as unfit
 use Rattle.wamp_kinds.specs.declared.read_result.Read.{Read}
 use Rattle.wamp_kinds.specs.declared.read_result.Read.TheVariants.{Good, Unfit, Bad}
-use Rattle.realm_machine.specs.declared.act.Act.{Act}
-use Rattle.realm_machine.specs.declared.act.Act.TheVariants.{Connect, Said, Hung}
+use Rattle.realm_acts.specs.declared.act.Act.{Act}
+use Rattle.realm_acts.specs.declared.act.Act.TheVariants.{Connect, Said, Hung}
 use Rattle.realm_machine.specs.declared.act.Out.{Out}
 use Rattle.realm_machine.specs.declared.act.Out.TheVariants.{Send, Close}
 use Rattle.realm_machine.specs.declared.act.Say.{Say}

@@ -2,7 +2,7 @@
 use Rattle.std.proofs.Common.{◌≡◌, refl, ap, List, [], ◌∷◌, ◌++◌, fold}
 use Rattle.replica_machine.specs.declared.input.Input.{Input}
 use Rattle.replica_machine.specs.Replay.{inputs, sayings_from}
-use Rattle.realm_machine.specs.declared.act.Act.{Act}
+use Rattle.realm_acts.specs.declared.act.Act.{Act}
 use Rattle.realm_machine.specs.Config.{Config}
 use Rattle.realm_machine.specs.Content.{Content, empty}
 use Rattle.realm_machine.specs.Step.{after_input, said_at}

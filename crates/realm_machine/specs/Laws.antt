@@ -5,8 +5,8 @@ use Rattle.paxos_packets.specs.declared.transport.Transport.{Transport}
 use Rattle.paxos_packets.specs.Transport.{same_transport}
 use Rattle.replica_machine.specs.Log.{machine_from}
 use Rattle.replica_machine.specs.Replay.{Machine, state, sayings}
-use Rattle.realm_machine.specs.declared.act.Act.{Act}
-use Rattle.realm_machine.specs.declared.act.Act.TheVariants.{Hung}
+use Rattle.realm_acts.specs.declared.act.Act.{Act}
+use Rattle.realm_acts.specs.declared.act.Act.TheVariants.{Hung}
 use Rattle.realm_machine.specs.declared.act.Say.{Say}
 use Rattle.realm_machine.specs.Config.{Config}
 use Rattle.realm_machine.specs.Content.{Content}

@@ -15,8 +15,8 @@ use Rattle.wamp_kinds.specs.declared.read_result.UnfitKind.{UnfitKind}
 use Rattle.wamp_kinds.specs.declared.read_result.UnfitKind.TheVariants as unfit
 use Rattle.wamp_kinds.specs.declared.read_result.Read.{Read}
 use Rattle.wamp_kinds.specs.declared.read_result.Read.TheVariants.{Good, Unfit, Bad}
-use Rattle.realm_machine.specs.declared.act.Act.{Act}
-use Rattle.realm_machine.specs.declared.act.Act.TheVariants.{Connect, Said, Hung}
+use Rattle.realm_acts.specs.declared.act.Act.{Act}
+use Rattle.realm_acts.specs.declared.act.Act.TheVariants.{Connect, Said, Hung}
 use Rattle.realm_machine.specs.declared.act.Say.{Say}
 use Rattle.realm_machine.specs.declared.requester.Requester.{Requester}
 use Rattle.realm_machine.specs.Config.{Config}

@@ -1,18 +1,5 @@
 use paxos_packets::Transport;
-use wamp_ids::Id;
-use wamp_kinds::{Message, Read};
-
-/// What happens at one client's transport.
-#[derive(Drop)]
-pub enum Act {
-    /// The transport is open.
-    Connect,
-    /// The client sent a message. The draw becomes the id of the session or of the publication that the message asks
-    /// for, if it asks for one.
-    Said { draw: Id, read: Read },
-    /// The transport is closed.
-    Hung,
-}
+use wamp_kinds::Message;
 
 /// What is said to a transport.
 #[derive(Drop)]

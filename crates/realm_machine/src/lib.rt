@@ -21,10 +21,11 @@ mod step;
 mod subscribing;
 mod unsubscribing;
 
-pub use act::{Act, Out, Say};
+pub use act::{Out, Say};
 pub use config::Limits;
-pub use paxos_packets::Transport;
+pub use paxos_packets::{Shared, Transport};
 pub use realm::Realm;
+pub use realm_acts::Act;
 pub use replica_machine::Failed;
 pub use wamp_ids::Id;
 pub use wamp_kinds::{Message, Read};

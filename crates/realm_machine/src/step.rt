@@ -6,13 +6,14 @@ ghost use Rattle.realm_machine.specs.Calling.{unfit_call};
 ghost use Rattle.wamp_elements.specs.declared.request_kind.RequestKind.TheVariants as kind;
 ghost use Rattle.realm_machine.specs.Step.{refuse_unless, on_unfit, on_error, on_request, on_opening, on_message, on_read, on_act};
 
-use crate::act::{Act, Say};
+use crate::act::Say;
 use crate::config::Config;
 use crate::content::Content;
 use crate::memory::Memory;
 use crate::requester::Requester;
 use crate::sayings::INVALID_ARGUMENT;
 use paxos_packets::Transport;
+use realm_acts::Act;
 use wamp_elements::RequestKind;
 use wamp_ids::Id;
 use wamp_kinds::{Error, Message, Read, UnfitKind};
@@ -36,7 +37,7 @@ impl Content {
                 let Some(session) = self.sessions.by_transport(transport) else {
                     return Ok(Vec::new(self.alloc));
                 };
-                self.on_read(config, transport, session, *draw, read)
+                self.on_read(config, transport, session, *draw, read.get())
             }
             Act::Hung => self.remove(transport),
         }

@@ -1,4 +1,4 @@
-use realm_machine::{Act, Failed, Id, Limits, Out, Realm, Say, Transport};
+use realm_machine::{Act, Failed, Id, Limits, Out, Realm, Say, Shared, Transport};
 use std::alloc::Global;
 use std::process::Abort;
 use std::test::Fail;
@@ -26,7 +26,9 @@ fn parsed(alloc: Global, draw: u64, text: &str) -> Result<Act, Memory> {
     let Some(draw) = Id::new(draw) else {
         return Err(Memory);
     };
-    let read = read(alloc, text.as_bytes())?;
+    let Ok(read) = Shared::new(alloc, read(alloc, text.as_bytes())?) else {
+        return Err(Memory);
+    };
     Ok(Act::Said { draw, read })
 }
 

@@ -20,16 +20,21 @@ returns-in_err-read-in-Message-clause-answers c more =
     let p = err_from_is_err_and c.from_residual-in_err-read-in-Message.result c.from_residual-in_err-read-in-Message.ensures.1 in
     rw (p.1, p.2) (answers_puts _ _ _ _ _ (put_nothing _ _ _ _ refl))
 
-pub returns-in_ok-read-in-Message-clause-answers : goal.returns-in_ok-read-in-Message-clause-answers
-returns-in_ok-read-in-Message-clause-answers c more =
+pub returns-in_err-shared-in-Message-clause-answers : goal.returns-in_err-shared-in-Message-clause-answers
+returns-in_err-shared-in-Message-clause-answers c more =
+    let p = err_from_is_err_and c.from_residual-in_err-shared-in-Message.result c.from_residual-in_err-shared-in-Message.ensures.1 in
+    rw (p.1, p.2) (answers_puts _ _ _ _ _ (put_nothing _ _ _ _ refl))
+
+pub returns-in_ok-shared-in-Message-clause-answers : goal.returns-in_ok-shared-in-Message-clause-answers
+returns-in_ok-shared-in-Message-clause-answers c more =
     answers_puts _ _ _ _ _
     (message_puts c.in-Some.frame c.args.self.now.splitter (record c.args.self.now { splitter = c.pass.new.self })
     c.answer_message.new.self c.answer_message.result more
     (rw c.pass.ensures (rw c.in-Some.is at c.in_ok-frame.ensures)) c.in-Message.is
-    (rw c.in_ok-read-in-Message.ensures at c.answer_message.ensures))
+    (rw (c.in_ok-shared-in-Message.ensures.ok, c.in_ok-read-in-Message.ensures) at c.answer_message.ensures))
 
-pub returns-in_ok-read-in-Message-clause-waits : goal.returns-in_ok-read-in-Message-clause-waits
-returns-in_ok-read-in-Message-clause-waits c e = absurd (puts_never_waits _ _ _ _ _ (c.answer_message.ensures.puts (ends silent)) e)
+pub returns-in_ok-shared-in-Message-clause-waits : goal.returns-in_ok-shared-in-Message-clause-waits
+returns-in_ok-shared-in-Message-clause-waits c e = absurd (puts_never_waits _ _ _ _ _ (c.answer_message.ensures.puts (ends silent)) e)
 
 pub returns-in-Ping-clause-answers : goal.returns-in-Ping-clause-answers
 returns-in-Ping-clause-answers c more =
