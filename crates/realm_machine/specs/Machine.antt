@@ -1,5 +1,5 @@
 -- The realm as a machine that follows a log (Lamport 2001, section 3: the state machine).
-use Rattle.std.specs.Prelude.{List}
+use Rattle.std.specs.Prelude.{Bool, true, false, List, Option, None, Some}
 use Rattle.paxos_packets.specs.declared.transport.Transport.{Transport}
 use Rattle.replica_machine.specs.declared.input.Input.{Input}
 use Rattle.replica_machine.specs.Replay.{Machine}
@@ -8,6 +8,7 @@ use Rattle.realm_machine.specs.declared.act.Say.{Say}
 use Rattle.realm_machine.specs.Config.{Config}
 use Rattle.realm_machine.specs.Content.{Content, empty}
 use Rattle.realm_machine.specs.Step.{after_input, said_at}
+use Rattle.realm_machine.specs.Realm.{State}
 
 -- whom a saying is for
 abbrev pub to : Say → Transport
@@ -34,3 +35,18 @@ next_live live input = record { config = live.config; content = (realm_of live.c
 
 abbrev pub said_live : Live → Input Act → List Say
 said_live live input = (realm_of live.config).says live.content input
+
+-- of a failed realm the content is of no meaning
+abbrev pub known : Config → Option Content → Content
+known config None = empty config.limits
+known config (Some c) = c
+
+abbrev pub live_of : State → Live
+live_of realm = record { config = realm.config; content = known realm.config realm.content }
+
+abbrev pub is_unknown : Option Content → Bool
+is_unknown None = true
+is_unknown (Some c) = false
+
+abbrev pub has_failed : State → Bool
+has_failed realm = is_unknown realm.content

@@ -10,6 +10,7 @@ mod config;
 mod content;
 pub mod laws;
 mod leaving;
+mod machine;
 mod memory;
 mod opening;
 mod publishing;
