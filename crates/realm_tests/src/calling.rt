@@ -104,6 +104,18 @@ fn callees_take_turns(rt: HostRuntime) -> Result<(), Fail> {
         (
             3,
             3,
+            "[64,2,{\"invoke\":\"first\"},\"p\"]",
+            "3 [8,64,2,{},\"wamp.error.procedure_already_exists\"];",
+        ),
+        (
+            3,
+            3,
+            "[64,3,{\"invoke\":\"random\"},\"p\"]",
+            "3 [8,64,3,{},\"wamp.error.invalid_argument\"];",
+        ),
+        (
+            3,
+            3,
             "[64,1,{\"invoke\":\"roundrobin\"},\"p\"]",
             "3 [65,1,1];",
         ),
@@ -116,18 +128,6 @@ fn callees_take_turns(rt: HostRuntime) -> Result<(), Fail> {
             "1 [8,48,4,{},\"cluster.error.limit\"];",
         ),
         (2, 3, "[48,4,{},\"p\"]", "3 [68,1,1,{}];"),
-        (
-            2,
-            3,
-            "[64,2,{\"invoke\":\"first\"},\"p\"]",
-            "2 [8,64,2,{},\"wamp.error.procedure_already_exists\"];",
-        ),
-        (
-            2,
-            3,
-            "[64,3,{\"invoke\":\"random\"},\"p\"]",
-            "2 [8,64,3,{},\"wamp.error.invalid_argument\"];",
-        ),
         (
             2,
             3,
