@@ -9,4 +9,6 @@ mod reading;
 #[cfg(test)]
 mod streams;
 #[cfg(test)]
+mod threads;
+#[cfg(test)]
 mod writing;

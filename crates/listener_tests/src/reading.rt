@@ -27,7 +27,7 @@ fn letter(item: &FromClient) -> char {
 }
 
 // The letter of the next item of the ring, which is taken out.
-fn next_letter(consumer: &mut Consumer<FromClient>) -> Option<char> {
+pub fn next_letter(consumer: &mut Consumer<FromClient>) -> Option<char> {
     match consumer.pop() {
         Ok(item) => Some(letter(&item)),
         Err(_) => None,
