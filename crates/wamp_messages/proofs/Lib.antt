@@ -1,4 +1,5 @@
 mod Json
+mod Tokens
 mod Values
 mod RoundTrip
 mod FirstFault

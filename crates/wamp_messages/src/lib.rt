@@ -4,6 +4,7 @@
 mod call;
 mod error;
 pub mod laws;
+mod parser;
 mod publish;
 mod reading;
 mod register;
@@ -11,7 +12,8 @@ mod session;
 mod subscribe;
 mod writing;
 
-pub use reading::read;
+pub use parser::Parser;
+pub use reading::{read, read_by};
 pub use wamp_elements::{MessageFault, RequestKind};
 pub use wamp_ids::{Id, Invoke, Match, Mode, Text};
 pub use wamp_kinds::{

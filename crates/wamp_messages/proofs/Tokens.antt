@@ -1,0 +1,93 @@
+-- The grammar's loops over tokens, a turn at a time, as data.
+use Rattle.std.proofs.Common.{◌≡◌, ℕ, ◌-◌, ◌<◌, ◌≤◌, List, [], ◌∷◌, ◌++◌, length, Option, Some, None, option_map, option_and_then, refl, ap, ◌∙◌}
+use Rattle.json.specs.Token.{Token}
+use Rattle.json.specs.Json as json
+use Rattle.json.specs.Json.{Parse, parse_map, after_end_array, read_key, items, members, if_last}
+use Rattle.json.proofs.Grammar.{items_end, items_more, members_end, members_more}
+use Rattle.serde_json.specs.Data.{Data, array, object, Items, no_items, item, Members, no_members, put}
+use Rattle.serde_json.specs.Read.{of_json, of_items, of_members, converted}
+use Rattle.serde_json.specs.View.{view, items_view}
+use Rattle.serde_json.specs.declared.value.Value.{Value}
+
+-- ---- what was read, and what it is converted to
+
+abbrev pick : {A : Type 0} → A → Option A → A
+pick d None = d
+pick d (Some a) = a
+
+parted : {B : Type 0} (r s : List Token) (x : Option B) (b : B) → option_map {U = B × List Token} (λ y. (y, r)) x ≡ Some (b, s) → (r ≡ s) × (x ≡ Some b)
+parted r s None b e = absurd (cc)
+parted r s (Some y) b e = let same = ap (pick (y, r)) e in (ap (λ p. p.1) same, ap (λ p. Some p.0) same)
+
+pub source : {A B : Type 0} (f : A → Option B) (o : Option (A × List Token)) (b : B) (r : List Token) → converted f o ≡ Some (b, r) → (a : A) × (o ≡ Some (a, r)) × (f a ≡ Some b)
+source f None b r e = absurd (cc)
+source f (Some p) b r e = let both = parted p.1 r (f p.0) b e in (p.0, ap (λ s. Some (p.0, s)) both.0, both.1)
+
+after : {A B : Type 0} (g : A → B) (r : List Token) (x : Option A) → option_map (λ b. (b, r)) (option_map g x) ≡ parse_map g (option_map (λ a. (a, r)) x)
+after g r None = refl
+after g r (Some a) = refl
+
+pub array_of : (o : Option (json.Items × List Token)) → converted of_json (parse_map json.array o) ≡ parse_map array (converted of_items o)
+array_of None = refl
+array_of (Some p) = after array p.1 (of_items p.0)
+
+pub object_of : (o : Option (json.Members × List Token)) → converted of_json (parse_map json.object o) ≡ parse_map object (converted (λ ms. of_members ms no_members) o)
+object_of None = refl
+object_of (Some p) = after object p.1 (of_members p.0 no_members)
+
+-- ---- one turn of a loop, and its end
+
+with_item : (j : json.Json) (d : Data) → of_json j ≡ Some d → (o : Option (json.Items × List Token)) → converted of_items (parse_map (json.item j) o) ≡ parse_map (item d) (converted of_items o)
+with_item j d e None = refl
+with_item j d e (Some p) = rw e (after (item d) p.1 (of_items p.0))
+
+with_member : (k : List ℕ) (j : json.Json) (d : Data) (old : Members) → of_json j ≡ Some d → (o : Option (json.Members × List Token))
+    → converted (λ ms. of_members ms old) (parse_map (json.member k j) o) ≡ converted (λ ms. of_members ms (put k d old)) o
+with_member k j d old e None = refl
+with_member k j d old e (Some p) = rw e
+
+module _ (p : Parse json.Json) where
+  pub item_read : (n : ℕ) (ts r : List Token) (d : Data) → 0 < n → after_end_array ts ≡ None → converted of_json (p ts) ≡ Some (d, r)
+      → converted of_items (items p n ts) ≡ parse_map (item d) (converted of_items (items p (n - 1) r))
+  item_read n ts r d some going e =
+      let j = source of_json (p ts) d r e in
+      ap (converted of_items) (items_more p n ts r j.0 some going j.1) ∙ with_item j.0 d j.2 _
+
+  pub items_over : (n : ℕ) (ts r : List Token) → length ts ≤ n → after_end_array ts ≡ Some r → converted of_items (items p n ts) ≡ Some (no_items, r)
+  items_over n ts r enough e = ap (converted of_items) (items_end p n ts r enough e)
+
+  module _ (old : Members) where
+    pub member_read : (n : ℕ) (k : List ℕ) (ts s r : List Token) (d : Data) → 0 < n → read_key ts ≡ Some (Some k, s) → converted of_json (p s) ≡ Some (d, r)
+        → converted (λ ms. of_members ms old) (members p n ts) ≡ converted (λ ms. of_members ms (put k d old)) (members p (n - 1) r)
+    member_read n k ts s r d some key e =
+        let j = source of_json (p s) d r e in
+        ap (converted (λ ms. of_members ms old)) (members_more p n k ts s r j.0 some key j.1) ∙ with_member k j.0 d old j.2 _
+
+    pub members_over : (n : ℕ) (ts r : List Token) → length ts ≤ n → read_key ts ≡ Some (None, r) → converted (λ ms. of_members ms old) (members p n ts) ≡ Some (old, r)
+    members_over n ts r enough e = ap (converted (λ ms. of_members ms old)) (members_end p n ts r enough e)
+
+-- ---- a list that grows at its end
+
+abbrev pub before : List Value → Items → Items
+before [] rest = rest
+before (v ∷ vs) rest = item (view v) (before vs rest)
+
+pub before_none : (vs : List Value) → before vs no_items ≡ items_view vs
+before_none [] = refl
+before_none (v ∷ vs) = ap (item (view v)) (before_none vs)
+
+pushed : (vs : List Value) (v : Value) (rest : Items) → before vs (item (view v) rest) ≡ before (vs ++ v ∷ []) rest
+pushed [] v rest = refl
+pushed (w ∷ vs) v rest = ap (item (view w)) (pushed vs v rest)
+
+pub one_more : (vs : List Value) (v : Value) (r : Option (Items × List Token)) → parse_map (before vs) (parse_map (item (view v)) r) ≡ parse_map (before (vs ++ v ∷ [])) r
+one_more vs v None = refl
+one_more vs v (Some p) = ap (λ ds. Some (ds, p.1)) (pushed vs v p.0)
+
+-- ---- the whole text
+
+abbrev whole : Option (json.Json × List Token) → Option Data
+whole o = option_and_then of_json (option_and_then (λ p. if_last p.0 p.1) o)
+
+pub whole_read : (o : Option (json.Json × List Token)) (d : Data) → converted of_json o ≡ Some (d, []) → whole o ≡ Some d
+whole_read o d e = let j = source of_json o d [] e in ap whole j.1 ∙ j.2

@@ -1,0 +1,183 @@
+// From octets to a JSON value, in room that is kept from text to text.
+ghost use Rattle.std.specs.Prelude.{◌≡◌, ◌<◌, ◌==◌, length, slice_index, true, false, Some, IfSome, IfOk, OnOk, IsTrue, IsUtf8};
+ghost use Rattle.json.specs.Json.{value, items, members};
+ghost use Rattle.serde_json.specs.Data.{no_members};
+ghost use Rattle.serde_json.specs.Read.{of_json, of_items, of_members, converted, number_of, number_from, read as read_text};
+ghost use Rattle.serde_json.specs.View.{view, number_view, items_view, members_view};
+
+use fast_float::Numeral;
+use json::{Invalid, Reader, Scratch, Token};
+use serde_json::value::Map;
+use serde_json::{Number, Value};
+use std::alloc::{AllocError, AllocFailed, Global};
+
+// How deep a value may nest, as in `serde_json`.
+const DEPTH: usize = 127;
+
+/// What reading needs: the allocator, and room that is kept from message to message.
+#[derive(Drop)]
+pub struct Parser {
+    pub(crate) alloc: Global,
+    scratch: Scratch,
+}
+
+// The text is not taken here: it is no JSON, has a number that is no integer of 64 bits, or memory is missing.
+#[derive(Clone, Copy, Drop)]
+pub(crate) struct Untaken;
+
+impl From<AllocError> for Untaken {
+    fn from(_error: AllocError) -> Untaken {
+        Untaken
+    }
+}
+
+impl<T: Drop> From<AllocFailed<T>> for Untaken {
+    fn from(_error: AllocFailed<T>) -> Untaken {
+        Untaken
+    }
+}
+
+impl From<Invalid> for Untaken {
+    fn from(_error: Invalid) -> Untaken {
+        Untaken
+    }
+}
+
+impl Parser {
+    /// A parser with no room yet beyond its own 16 KiB; it takes memory when it reads.
+    pub fn new(alloc: Global) -> Parser {
+        Parser {
+            alloc,
+            scratch: Scratch::new(alloc),
+        }
+    }
+
+    // The JSON value of these octets, where they are JSON with no number but integers of 64 bits, and memory suffices.
+    pub(crate) fn value(&mut self, octets: &[u8]) -> Result<Value, Untaken>
+        ensures { IfOk result
+            (λ found. IsUtf8 octets.now × (read_text octets.now ≡ Some (view found))) }
+    {
+        let Ok(text) = std::str::from_utf8(octets) else {
+            return Err(Untaken);
+        };
+        text_value(self.alloc, text, &mut self.scratch)
+    }
+}
+
+fn text_value(alloc: Global, text: &str, scratch: &mut Scratch) -> Result<Value, Untaken>
+    ensures { IfOk result (λ found. read_text text.now ≡ Some (view found)) }
+{
+    let mut reader = Reader::new(text, scratch)?;
+    let found = value_in(alloc, &mut reader, DEPTH)?;
+    if reader.next().is_some() {
+        return Err(Untaken);
+    }
+    Ok(found)
+}
+
+// The next value, nested no deeper than this.
+#[cycle(value_in)]
+fn value_in(alloc: Global, reader: &mut Reader<'_>, depth: usize) -> Result<Value, Untaken>
+    ensures value { IfOk result
+        (λ found. converted of_json (value depth reader.old) ≡ Some (view found, reader.new)) }
+    ensures shorter { OnOk result (length reader.new < length reader.old) }
+{
+    let token = reader.next().ok_or(Untaken)?;
+    match token {
+        Token::String(text) => Ok(Value::String(String::from_str(alloc, text)?)),
+        Token::Number(text) => match integer_in(text) {
+            Some(number) => Ok(Value::Number(number)),
+            None => Err(Untaken),
+        },
+        Token::Bool(truth) => Ok(Value::Bool(truth)),
+        Token::Null => Ok(Value::Null),
+        Token::EndObject | Token::EndArray | Token::Key(_) | Token::Bad => Err(Untaken),
+        Token::BeginArray => {
+            if depth == 0 {
+                return Err(Untaken);
+            }
+            Ok(Value::Array(items_in(alloc, reader, depth - 1)?))
+        }
+        Token::BeginObject => {
+            if depth == 0 {
+                return Err(Untaken);
+            }
+            Ok(Value::Object(members_in(alloc, reader, depth - 1)?))
+        }
+    }
+}
+
+// The items of an array whose bracket was passed, and its end.
+#[cycle(value_in)]
+fn items_in(alloc: Global, reader: &mut Reader<'_>, depth: usize) -> Result<Vec<Value>, Untaken>
+    ensures value { IfOk result
+        (λ found. converted of_items (items (value depth) (length reader.old) reader.old)
+        ≡ Some (items_view found.items, reader.new)) }
+    ensures shorter { OnOk result (length reader.new < length reader.old) }
+{
+    let mut found = Vec::new(alloc);
+    'items: while !reader.take_end_array() {
+        let item = value_in(alloc, reader, depth)?;
+        found.push(item)?;
+    }
+    Ok(found)
+}
+
+// The members of an object whose brace was passed, and its end. Of members with one key the last stays.
+#[cycle(value_in)]
+fn members_in(
+    alloc: Global,
+    reader: &mut Reader<'_>,
+    depth: usize,
+) -> Result<Map<String, Value>, Untaken>
+    ensures value { IfOk result
+        (λ found. converted (λ ms. of_members ms no_members)
+        (members (value depth) (length reader.old) reader.old)
+        ≡ Some (members_view found.entries, reader.new)) }
+    ensures shorter { OnOk result (length reader.new < length reader.old) }
+{
+    let mut found = Map::new(alloc);
+    'members: while let Some(name) = reader.next_key()? {
+        let key = String::from_str(alloc, name)?;
+        let member = value_in(alloc, reader, depth)?;
+        drop(found.insert(key, member)?);
+    }
+    Ok(found)
+}
+
+// The number of a token, where it is an integer of 64 bits.
+fn integer_in(text: &str) -> Option<Number>
+    ensures { IfSome result (λ number. number_of text.now ≡ Some (number_view number)) }
+{
+    let octets = text.as_bytes();
+    if has_minus(octets) {
+        negative_in(&Numeral::scan(&octets[1..]))
+    } else {
+        positive_in(&Numeral::scan(octets))
+    }
+}
+
+fn has_minus(octets: &[u8]) -> bool
+    ensures test { result ≡ (slice_index octets.now 0 == 45) }
+    ensures within { IsTrue result → 0 < length octets.now }
+{
+    !octets.is_empty() && octets[0] == b'-'
+}
+
+fn positive_in(digits: &Numeral<'_>) -> Option<Number>
+    ensures { IfSome result (λ number. number_from false digits.now ≡ Some (number_view number)) }
+{
+    Some(Number::from(digits.to_u64()?))
+}
+
+// The number below zero whose digits follow the sign; zero itself has none.
+fn negative_in(digits: &Numeral<'_>) -> Option<Number>
+    ensures { IfSome result (λ number. number_from true digits.now ≡ Some (number_view number)) }
+{
+    let number = digits.to_i64(true)?;
+    if number < 0 {
+        Some(Number::from(number))
+    } else {
+        None
+    }
+}
