@@ -12,7 +12,7 @@ use client_listener::ListenFault;
 use realm_machine::{Act, Limits, Realm, Shared};
 use std::alloc::Global;
 use wamp_ids::Id;
-use wamp_messages::{Read, read};
+use wamp_messages::{Parser, Read, read_by};
 use wamp_rawsocket::{FrameKind, FrameRef, Splitter};
 
 // How much the realm holds at the most.
@@ -27,6 +27,7 @@ const LIMITS: Limits = Limits {
 #[derive(Drop)]
 pub(crate) struct Service {
     alloc: Global,
+    parser: Parser,
     realm: Realm,
     splitter: Splitter,
     draw: Id,
@@ -43,6 +44,7 @@ impl Service {
         let draw = Id::new(1).unwrap();
         Ok(Service {
             alloc,
+            parser: Parser::new(alloc),
             realm: Realm::new(alloc, name, LIMITS),
             splitter: Splitter::new(alloc),
             draw,
@@ -83,7 +85,7 @@ impl Service {
         };
         match frame.kind {
             FrameKind::Message => {
-                let read = read(self.alloc, frame.payload)?;
+                let read = read_by(&mut self.parser, frame.payload)?;
                 let shared = Shared::new(self.alloc, read)?;
                 self.splitter.pass();
                 self.answer_message(shared)

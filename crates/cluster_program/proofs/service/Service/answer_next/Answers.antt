@@ -28,7 +28,7 @@ returns-in_err-shared-in-Message-clause-answers c more =
 pub returns-in_ok-shared-in-Message-clause-answers : goal.returns-in_ok-shared-in-Message-clause-answers
 returns-in_ok-shared-in-Message-clause-answers c more =
     answers_puts _ _ _ _ _
-    (message_puts c.in-Some.frame c.args.self.now.splitter (record c.args.self.now { splitter = c.pass.new.self })
+    (message_puts c.in-Some.frame c.args.self.now.splitter (record c.args.self.now { parser = c.read_by.new.parser; splitter = c.pass.new.self })
     c.answer_message.new.self c.answer_message.result more
     (rw c.pass.ensures (rw c.in-Some.is at c.in_ok-frame.ensures)) c.in-Message.is
     (rw (c.in_ok-shared-in-Message.ensures.ok, c.in_ok-read-in-Message.ensures) at c.answer_message.ensures))
