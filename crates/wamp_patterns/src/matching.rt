@@ -9,6 +9,7 @@ use wamp_ids::{Match, Pattern, Uri};
 /// Whether the pattern matches the URI: the equal text for `Exact`, one that begins with the pattern's for `Prefix`, and
 /// for `Wildcard` one of as many components, of which each that the pattern names is equal. Takes no memory, and steps
 /// linear in the two texts.
+#[inline(always)]
 pub fn matches(pattern: &Pattern, uri: &Uri) -> bool
     ensures { result ≡ matches pattern.now uri.now }
 {
@@ -19,12 +20,15 @@ pub fn matches(pattern: &Pattern, uri: &Uri) -> bool
     }
 }
 
+// Out of line, so that the test of an exact pattern, which each publication asks most often, stays short.
+#[inline(never)]
 fn begins(start: &str, text: &str) -> bool
     ensures { result ≡ starts_with nat_eq text.now start.now }
 {
     text.starts_with(start)
 }
 
+#[inline(never)]
 fn parts_match(pattern: &Pattern, uri: &Uri) -> bool
     ensures { result ≡ pointwise part_matches (parts pattern.now.text) (parts uri.now) }
 {
