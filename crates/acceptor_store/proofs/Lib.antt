@@ -6,6 +6,7 @@ mod Trees
 mod Putting
 mod Reading
 mod Meaning
+mod Telling
 mod Writing
 mod Keeping
 mod Within

@@ -5,3 +5,4 @@ pub mod Store
 pub mod Once
 pub mod Calls
 pub mod Changes
+pub mod Answers

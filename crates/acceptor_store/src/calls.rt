@@ -13,6 +13,7 @@ ghost use Rattle.acceptor_store.specs.Tables.{empty_schema};
 ghost use Rattle.acceptor_store.specs.Statements.{IsFounded};
 ghost use Rattle.acceptor_store.specs.Store.{Stores, Leaves, Holds, Finds, numbers_in_rows, are_numbers, is_ballot, is_placed, written, Follows, NotLowered};
 ghost use Rattle.acceptor_store.specs.Calls.{keeper_of, AreKnown, LiesBelow};
+ghost use Rattle.acceptor_store.specs.Answers.{Gives, Tells};
 
 use crate::changes::numbers_after;
 use crate::rows::Numbers;
@@ -92,6 +93,8 @@ fn read<B: Body, C: Coder<B>, S: Alter>(
     ensures found { FindsNoMore (Finds S.Store C.reading) (keeper_of conn.old known.old) (keeper_of conn.new known.new) }
     ensures clean { doubt (state S.Store conn.old).is_clean ≤ doubt (state S.Store conn.new).is_clean }
     ensures told { IfOk result (λ rows. known.new ≡ Some (numbers_in_rows rows)) }
+    ensures gives { HasCleanDisk (state S.Store conn.new) → IfOk result (Gives C.reading (state S.Store conn.old).now) }
+    ensures tells { HasCleanDisk (state S.Store conn.new) → IfErr result (Tells C.reading (state S.Store conn.old).now) }
     ensures fault { IfErr result LiesBelow }
 {
     let rows = read_store::<B, C, S>(alloc, conn)?;
@@ -275,6 +278,8 @@ pub(crate) fn load_from<B: Body, C: Coder<B>, S: Alter>(
         → IfOk result (λ read. read ≡ rows) }
     ensures kept { (rows : Rows B) → Holds S.Store C.reading (keeper_of conn.old known.old) rows → Holds S.Store C.reading (keeper_of conn.new known.new) rows }
     ensures found { FindsNoMore (Finds S.Store C.reading) (keeper_of conn.old known.old) (keeper_of conn.new known.new) }
+    ensures gives { HasCleanDisk (state S.Store conn.new) → IfOk result (Gives C.reading (state S.Store conn.old).now) }
+    ensures tells { HasCleanDisk (state S.Store conn.new) → IfErr result (Tells C.reading (state S.Store conn.old).now) }
     ensures spent { IsErrOf result KeeperFault.Failed → failures.old ≡ 2 ^ 64 - 1 }
     ensures store { IsErrOf result KeeperFault.Store → failures.old < failures.new }
     ensures counts { failures.old ≤ failures.new }

@@ -1,14 +1,15 @@
-ghost use Rattle.std.specs.Prelude.{◌≡◌, ◌⊎◌, IsTrue, IfOk, IfErr, None, true, false};
+ghost use Rattle.std.specs.Prelude.{◌≡◌, ◌⊎◌, ◌<◌, ◌≤◌, ◌-◌, ◌^◌, IsTrue, IfOk, IfErr, IsErrOf, Err, None, true, false};
 ghost use Rattle.sqlite_trees.specs.Tree.{Trees};
 ghost use Rattle.sqlite.specs.Effect.{Database};
 ghost use Rattle.sqlite.specs.Held.{state};
 ghost use Rattle.sqlite.specs.State.{HasCleanDisk, Survives};
 ghost use Rattle.paxos_packets.specs.declared.rows.Rows.{Rows};
-ghost use Rattle.acceptor_keeper.specs.Keeper.{no_rows};
+ghost use Rattle.acceptor_keeper.specs.Keeper.{no_rows, FindsNoMore};
 ghost use Rattle.acceptor_store.specs.Tables.{empty_schema};
 ghost use Rattle.acceptor_store.specs.Statements.{IsFounded};
 ghost use Rattle.acceptor_store.specs.Once.{stored_once};
 ghost use Rattle.acceptor_store.specs.Store.{Stores, Holds, Finds};
+ghost use Rattle.acceptor_store.specs.Answers.{Gives, Tells};
 
 use crate::calls::{boot_from, commit_to, found_where_empty, load_from};
 use crate::rows::Numbers;
@@ -129,7 +130,22 @@ impl<B: Body, C: Coder<B>, S: Alter> Keeper<B> for SqlKeeper<B, C, S> {
     ghost failures = { λ k. k.failures };
 
     /// One pass over each table; a row is let go as it is read.
-    fn load(&mut self) -> Result<Rows<B>, KeeperFault> {
+    ///
+    /// `Version` exactly where the version is not 1; `Damaged` exactly where the tables are not the store's, `meta` has not one row, of
+    /// k 1, a number is out of range, an entry is not read, two votes have one slot, or a vote is above the promise.
+    fn load(&mut self) -> Result<Rows<B>, KeeperFault>
+        ensures gives { HasCleanDisk (state S.Store self.new.conn) → IfOk result (Gives C.reading (state S.Store self.old.conn).now) }
+        ensures tells { HasCleanDisk (state S.Store self.new.conn) → IfErr result (Tells C.reading (state S.Store self.old.conn).now) }
+        ensures held { IfOk result (Holds S.Store C.reading self.new) }
+        ensures right { HasCleanDisk (state S.Store self.new.conn) → (r : Rows B) → Holds S.Store C.reading self.old r → IfOk result (λ x. x ≡ r) }
+        ensures same { (r : Rows B) → Holds S.Store C.reading self.old r → Holds S.Store C.reading self.new r }
+        ensures found { FindsNoMore (Finds S.Store C.reading) self.old self.new }
+        ensures stays { self.new.is_failed ≡ self.old.is_failed }
+        ensures again { self.old.is_failed ≡ true → result ≡ Err KeeperFault.Failed }
+        ensures spent { IsErrOf result KeeperFault.Failed → (self.old.is_failed ≡ true) ⊎ (self.old.failures ≡ 2 ^ 64 - 1) }
+        ensures store { IsErrOf result KeeperFault.Store → self.old.failures < self.new.failures }
+        ensures counts { self.old.failures ≤ self.new.failures }
+    {
         if self.failed {
             return Err(KeeperFault::Failed);
         }

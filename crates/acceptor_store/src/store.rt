@@ -13,6 +13,7 @@ ghost use Rattle.command_codec.specs.Entry.{entry_reading, entry_spelling};
 ghost use Rattle.acceptor_store.specs.Tables.{store_schema, empty_schema};
 ghost use Rattle.acceptor_store.specs.Statements.{round_of, IsFounded};
 ghost use Rattle.acceptor_store.specs.Calls.{LiesBelow};
+ghost use Rattle.acceptor_store.specs.Answers.{Gives, Tells};
 ghost use Rattle.acceptor_store.specs.Store.{Reads, numbers_in_rows, written, is_ballot, is_promise, are_numbers, is_placed, NotLowered, Leaves, AreVotes, Follows, GoesOn, Wrote, Stores};
 
 use crate::rows::{Numbers, read_rows};
@@ -207,7 +208,7 @@ pub(crate) fn found_store<S: Alter>(conn: &mut Connection<S>) -> Result<(), Keep
 // Whether the tables are the store's.
 fn check<S: Alter>(alloc: Global, conn: &Connection<S>) -> Result<(), KeeperFault>
     ensures tables { OnOk result (conn.now.schema ≡ store_schema) }
-    ensures fault { IfErr result (λ e. (e ≡ KeeperFault.Memory) ⊎ (e ≡ KeeperFault.Damaged)) }
+    ensures fault { IfErr result (λ e. (e ≡ KeeperFault.Memory) ⊎ ((e ≡ KeeperFault.Damaged) × (conn.now.schema ≢ store_schema))) }
 {
     match has_store_tables(alloc, conn.schema()) {
         Ok(true) => Ok(()),
@@ -226,6 +227,8 @@ pub(crate) fn read_store<B: Body, C: Coder<B>, S: Alter>(
     ensures stores { HasCleanDisk (state S.Store conn.new) → IfOk result (Leaves C.reading (state S.Store conn.new)) }
     ensures right { HasCleanDisk (state S.Store conn.new) → (rows : Rows B) → Leaves C.reading (state S.Store conn.old) rows
         → IfOk result (λ read. read ≡ rows) }
+    ensures gives { HasCleanDisk (state S.Store conn.new) → IfOk result (Gives C.reading (state S.Store conn.old).now) }
+    ensures tells { HasCleanDisk (state S.Store conn.new) → IfErr result (Tells C.reading (state S.Store conn.old).now) }
     ensures survives { Survives (state S.Store conn.old) (state S.Store conn.new) (λ _. ⊥) }
     ensures below { IfErr result LiesBelow }
     ensures numbers { IfOk result (λ rows. are_numbers (numbers_in_rows rows) ≡ true) }

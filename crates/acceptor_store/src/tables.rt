@@ -8,14 +8,14 @@ use sqlite_value::value::Value;
 use std::alloc::{AllocError, Global};
 
 fn is_null(value: &Value) -> bool
-    ensures { IsTrue result → value.now ≡ Value.Null }
+    ensures { IsTrue result ↔ (value.now ≡ Value.Null) }
 {
     matches!(value, Value::Null)
 }
 
 // Whether it is a column of a STRICT table with no default.
 fn is_column(column: &Column, name: &[u8], kind: Kind, not_null: bool) -> bool
-    ensures { IsTrue result → column.now ≡ column_of name.now kind not_null }
+    ensures { IsTrue result ↔ (column.now ≡ column_of name.now kind not_null) }
 {
     column.name.as_slice() == name
         && column.kind == kind
@@ -27,7 +27,7 @@ fn is_column(column: &Column, name: &[u8], kind: Kind, not_null: bool) -> bool
 
 // Whether there is no term.
 fn are_none(alloc: Global, terms: &Terms) -> Result<bool, AllocError>
-    ensures { IfOk result (λ none. IsTrue none → terms.now ≡ []) }
+    ensures { IfOk result (λ none. IsTrue none ↔ (terms.now ≡ [])) }
 {
     let lent = terms.lend(alloc)?;
     Ok(lent.roots.is_empty())
@@ -35,14 +35,14 @@ fn are_none(alloc: Global, terms: &Terms) -> Result<bool, AllocError>
 
 // Whether there is no default that reads the time.
 fn is_unstamped(alloc: Global, stamps: &Stamps) -> Result<bool, AllocError>
-    ensures { IfOk result (λ none. IsTrue none → stamps.now ≡ record { places = []; terms = []; formats = [] }) }
+    ensures { IfOk result (λ none. IsTrue none ↔ (stamps.now ≡ record { places = []; terms = []; formats = [] })) }
 {
     Ok(stamps.places.is_empty() && stamps.formats.is_empty() && are_none(alloc, &stamps.terms)?)
 }
 
 // Whether the table's first column is the rowid, and it has no rule beside its columns.
 fn is_plain(alloc: Global, table: &Table, name: &[u8], tree: u32) -> Result<bool, AllocError>
-    ensures { IfOk result (λ plain. IsTrue plain → table.now ≡ table_of name.now tree table.now.columns) }
+    ensures { IfOk result (λ plain. IsTrue plain ↔ (table.now ≡ table_of name.now tree table.now.columns)) }
 {
     let is_named = table.name.as_slice() == name && table.tree == tree && !table.is_counted;
     let is_keyed = table.key == Some(0) && table.primary.as_slice() == [0usize].as_slice();
@@ -67,7 +67,7 @@ fn are_meta_columns(
     round: &Column,
     node: &Column,
 ) -> bool
-    ensures { IsTrue result → k.now ∷ version.now ∷ boot.now ∷ round.now ∷ node.now ∷ [] ≡ meta_table.columns }
+    ensures { IsTrue result ↔ (k.now ∷ version.now ∷ boot.now ∷ round.now ∷ node.now ∷ [] ≡ meta_table.columns) }
 {
     is_column(k, b"k".as_slice(), Kind::Integer, false)
         && is_column(version, b"version".as_slice(), Kind::Integer, true)
@@ -78,7 +78,7 @@ fn are_meta_columns(
 
 // Whether these are the columns of the second table.
 fn are_vote_columns(slot: &Column, round: &Column, node: &Column, entry: &Column) -> bool
-    ensures { IsTrue result → slot.now ∷ round.now ∷ node.now ∷ entry.now ∷ [] ≡ vote_table.columns }
+    ensures { IsTrue result ↔ (slot.now ∷ round.now ∷ node.now ∷ entry.now ∷ [] ≡ vote_table.columns) }
 {
     is_column(slot, b"slot".as_slice(), Kind::Integer, false)
         && is_column(round, b"round".as_slice(), Kind::Integer, true)
@@ -88,7 +88,7 @@ fn are_vote_columns(slot: &Column, round: &Column, node: &Column, entry: &Column
 
 // Whether it is the store's first table.
 fn is_meta(alloc: Global, table: &Table) -> Result<bool, AllocError>
-    ensures { IfOk result (λ is. IsTrue is → table.now ≡ meta_table) }
+    ensures { IfOk result (λ is. IsTrue is ↔ (table.now ≡ meta_table)) }
 {
     if !is_plain(alloc, table, b"meta".as_slice(), 0)? {
         return Ok(false);
@@ -101,7 +101,7 @@ fn is_meta(alloc: Global, table: &Table) -> Result<bool, AllocError>
 
 // Whether it is the store's second table.
 fn is_vote(alloc: Global, table: &Table) -> Result<bool, AllocError>
-    ensures { IfOk result (λ is. IsTrue is → table.now ≡ vote_table) }
+    ensures { IfOk result (λ is. IsTrue is ↔ (table.now ≡ vote_table)) }
 {
     if !is_plain(alloc, table, b"vote".as_slice(), 1)? {
         return Ok(false);
@@ -114,7 +114,7 @@ fn is_vote(alloc: Global, table: &Table) -> Result<bool, AllocError>
 
 // Whether the tables are the store's, and there is nothing else.
 pub(crate) fn has_store_tables(alloc: Global, schema: &Schema) -> Result<bool, AllocError>
-    ensures { IfOk result (λ has. IsTrue has → schema.now ≡ store_schema) }
+    ensures { IfOk result (λ has. IsTrue has ↔ (schema.now ≡ store_schema)) }
 {
     if !schema.indexes.is_empty() || !schema.views.is_empty() {
         return Ok(false);

@@ -1,12 +1,12 @@
-use Rattle.std.proofs.Common.{◌≡◌, ◌∙◌, ap, sym, subst, arith, map}
-use Rattle.std.specs.Prelude.{IsPermutation, Ok}
+use Rattle.std.proofs.Common.{◌≡◌, ◌∙◌, ap, sym, subst, map, rules}
+use Rattle.std.specs.Prelude.{IsPermutation, Err, IfErr}
 use Rattle.std.proofs.lemmas.Result.{IfOk-weaker}
 use Rattle.sqlite.specs.Effect.{Database}
 use Rattle.sqlite.specs.Held.{state}
 use Rattle.acceptor_store.specs.Tables.{meta_columns, vote_columns}
-use Rattle.acceptor_store.specs.Rows.{rows_of}
-use Rattle.acceptor_store.specs.Store.{Leaves}
 use Rattle.acceptor_store.proofs.Keeping.{reads_left, read_stores, read_right, leaves_on}
+use Rattle.acceptor_store.specs.Answers.{Tells}
+use Rattle.acceptor_store.proofs.Telling.{read_same, tells_rows, tells_tables, tells_conn}
 use Rattle.acceptor_store.proofs.store.read_store.Goals as goal
 
 pub returns-clause-stores : goal.returns-clause-stores
@@ -38,3 +38,34 @@ returns-clause-right g c clean others left =
     (λ rows h. read_right g.C.Coder.reading new c.as_slice.result.now c.in_ok-metas.votes.items rows others settled (c.settle.ensures.stays same.0.is_open) metas votes h
     (leaves_on g.C.Coder.reading old new others c.read_tables.ensures.survives clean left))
     c.read_rows.ensures.rows
+
+pub returns-clause-gives : goal.returns-clause-gives
+returns-clause-gives g c clean =
+    let old = state g.S.Store c.args.conn.now in
+    let shown = c.in_ok-metas.ensures.shown clean in
+    let metas : IsPermutation (map meta_columns (old.now.trees 0)) c.as_slice.result.now = rw c.as_slice.ensures.value shown.0 in
+    IfOk-weaker c.read_rows.result _ _
+    (λ rows h. (c.in_ok-check.ensures.tables, sym (read_same g.C.Coder.reading old.now.trees c.as_slice.result.now c.in_ok-metas.votes.items metas shown.1) ∙ h))
+    c.read_rows.ensures.rows
+
+pub returns-clause-tells : goal.returns-clause-tells
+returns-clause-tells g c clean =
+    let old = state g.S.Store c.args.conn.now in
+    let shown = c.in_ok-metas.ensures.shown clean in
+    let metas : IsPermutation (map meta_columns (old.now.trees 0)) c.as_slice.result.now = rw c.as_slice.ensures.value shown.0 in
+    tells_rows g.C.Coder.reading old.now c.as_slice.result.now c.in_ok-metas.votes.items c.read_rows.result c.in_ok-check.ensures.tables metas shown.1
+    c.read_rows.ensures.fault c.read_rows.ensures.below
+
+pub returns-in_err-check-clause-tells : goal.returns-in_err-check-clause-tells
+returns-in_err-check-clause-tells g c clean =
+    let db = (state g.S.Store c.args.conn.now).now in
+    let given : c.from_residual.result ≡ Err c.in_err-check.field-0.0 = search rules in
+    subst (λ r. IfErr r (Tells g.C.Coder.reading db)) (sym given)
+    (tells_tables g.C.Coder.reading db c.in_err-check.field-0.0 c.in_err-check.ensures.fault)
+
+pub returns-in_err-metas-clause-tells : goal.returns-in_err-metas-clause-tells
+returns-in_err-metas-clause-tells g c clean =
+    let db = (state g.S.Store c.args.conn.now).now in
+    let given : c.from_residual-in_err-metas.result ≡ Err c.in_err-metas.field-0.0 = search rules in
+    subst (λ r. IfErr r (Tells g.C.Coder.reading db)) (sym given)
+    (tells_conn g.C.Coder.reading db c.in_err-metas.field-0.0 c.in_err-metas.ensures.fault)

@@ -1,5 +1,8 @@
 use Rattle.std.proofs.Common.{sym, subst}
+use Rattle.std.specs.Prelude.{IfOk, IfErr}
+use Rattle.sqlite.specs.Held.{state}
 use Rattle.acceptor_store.specs.Store.{Holds, Finds}
+use Rattle.acceptor_store.specs.Answers.{Gives, Tells}
 use Rattle.acceptor_store.proofs.sql.SqlKeeperKeeper.load.Goals as goal
 
 pub returns-clause-right : goal.returns-clause-right
@@ -11,3 +14,11 @@ returns-clause-same g c rows holds = c.load_from.ensures.kept rows (subst (λ k.
 
 pub returns-clause-found : goal.returns-clause-found
 returns-clause-found g c x found = subst (λ k. Finds g.S.Store g.C.Coder.reading k x) c.self.view_is (c.load_from.ensures.found x found)
+
+pub returns-clause-gives : goal.returns-clause-gives
+returns-clause-gives g c clean =
+    subst (λ k. IfOk c.load_from.result (Gives g.C.Coder.reading (state g.S.Store k.conn).now)) c.self.view_is (c.load_from.ensures.gives clean)
+
+pub returns-clause-tells : goal.returns-clause-tells
+returns-clause-tells g c clean =
+    subst (λ k. IfErr c.load_from.result (Tells g.C.Coder.reading (state g.S.Store k.conn).now)) c.self.view_is (c.load_from.ensures.tells clean)

@@ -1,0 +1,87 @@
+-- Which rows a load gives, and which fault it tells.
+use Rattle.std.proofs.Common.{◌≡◌, ◌≢◌, ◌⊎◌, inl, inr, ℕ, List, [], ◌∷◌, map, Option, Some, None, Result, Ok, Err, refl, ap, sym, subst, ◌∙◌, arith}
+use Rattle.std.specs.Prelude.{IsPermutation, IfErr, option_map}
+use Rattle.std.proofs.lemmas.List.Sorted.{IsPermutation-refl, length_permutation}
+use Rattle.sqlite_value.specs.Order.{Row}
+use Rattle.sqlite_trees.specs.Tree.{Trees}
+use Rattle.sqlite.specs.Effect.{Database}
+use Rattle.sqlite.proofs.Callers.{one_permutation}
+use Rattle.paxos_packets.specs.declared.ballot.Ballot.{Ballot}
+use Rattle.paxos_packets.specs.declared.vote.Vote.{Vote}
+use Rattle.paxos_packets.specs.declared.rows.Rows.{Rows}
+use Rattle.command_codec.specs.Number.{Reading}
+use Rattle.acceptor_keeper.specs.declared.fault.KeeperFault.{KeeperFault}
+use Rattle.acceptor_keeper.specs.declared.fault.KeeperFault.TheVariants.{Store, Damaged, Version, Memory, Failed, Boots}
+use Rattle.acceptor_store.specs.declared.rows.Numbers.{Numbers}
+use Rattle.acceptor_store.specs.Tables.{store_schema, meta_columns, vote_columns}
+use Rattle.acceptor_store.specs.Rows.{votes_after, numbers_in, rows_of, rows_with, with_votes, or_damaged}
+use Rattle.acceptor_store.specs.Calls.{LiesBelow}
+use Rattle.acceptor_store.specs.Once.{votes_once}
+use Rattle.acceptor_store.specs.Answers.{stored_in, Tells}
+use Rattle.acceptor_store.proofs.Meaning.{votes_found, votes_loaded}
+
+-- rows are read alike in any order
+
+numbers_same : (tree rows : List Row) → IsPermutation (map meta_columns tree) rows → numbers_in rows ≡ numbers_in (map meta_columns tree)
+numbers_same [] [] same = refl
+numbers_same [] (a ∷ rows) same = let n = length_permutation [] (a ∷ rows) same in absurd (omega arith)
+numbers_same (r ∷ []) rows same = ap numbers_in (one_permutation (meta_columns r) rows same)
+numbers_same (r ∷ q ∷ tree) [] same = let n = length_permutation (map meta_columns (r ∷ q ∷ tree)) [] same in absurd (omega arith)
+numbers_same (r ∷ q ∷ tree) (a ∷ []) same = let n = length_permutation (map meta_columns (r ∷ q ∷ tree)) (a ∷ []) same in absurd (omega arith)
+numbers_same (r ∷ q ∷ tree) (a ∷ b ∷ rows) same = refl
+
+module _ {B : Type 0} (reading : List ℕ → Reading B) where
+  votes_same : (promised : Option Ballot) (tree rows : List Row) → IsPermutation (map vote_columns tree) rows
+      → votes_after reading promised [] rows ≡ votes_after reading promised [] (map vote_columns tree)
+  votes_same promised tree rows same = go (votes_after reading promised [] rows) (votes_after reading promised [] (map vote_columns tree)) refl refl
+    where
+      self : IsPermutation (map vote_columns tree) (map vote_columns tree)
+      self = IsPermutation-refl (map vote_columns tree)
+
+      go : (a b : Option (List (Vote B))) → votes_after reading promised [] rows ≡ a → votes_after reading promised [] (map vote_columns tree) ≡ b → a ≡ b
+      go None None p q = refl
+      go (Some x) (Some y) p q =
+          ap Some (votes_once reading promised promised tree y x (votes_found reading promised tree (map vote_columns tree) y self q)
+          (votes_found reading promised tree rows x same p))
+      go (Some x) None p q =
+          let k = votes_loaded reading promised tree (map vote_columns tree) x self (votes_found reading promised tree rows x same p) in absurd cc
+      go None (Some y) p q =
+          let k = votes_loaded reading promised tree rows y same (votes_found reading promised tree (map vote_columns tree) y self q) in absurd cc
+
+  pub read_same : (trees : Trees) (metas votes : List Row) → IsPermutation (map meta_columns (trees 0)) metas → IsPermutation (map vote_columns (trees 1)) votes
+      → rows_of reading metas votes ≡ stored_in reading trees
+  read_same trees metas votes m v = ap (with_votes reading votes) (numbers_same (trees 0) metas m) ∙ go (numbers_in (map meta_columns (trees 0)))
+    where
+      go : (r : Result Numbers KeeperFault) → with_votes reading votes r ≡ with_votes reading (map vote_columns (trees 1)) r
+      go (Err fault) = refl
+      go (Ok numbers) = ap (λ o. or_damaged (option_map (rows_with numbers) o)) (votes_same numbers.promised (trees 1) votes v)
+
+  -- tables of another shape
+  pub tells_tables : (db : Database) (e : KeeperFault) → (e ≡ Memory) ⊎ ((e ≡ Damaged) × (db.schema ≢ store_schema)) → Tells reading db e
+  tells_tables db e (inl m) = subst (Tells reading db) (sym m) tt
+  tells_tables db e (inr d) = subst (Tells reading db) (sym d.0) (λ is. absurd (d.1 is))
+
+  -- the connection
+  pub tells_conn : (db : Database) (e : KeeperFault) → (e ≡ Memory) ⊎ (e ≡ Store) → Tells reading db e
+  tells_conn db e (inl m) = subst (Tells reading db) (sym m) tt
+  tells_conn db e (inr s) = subst (Tells reading db) (sym s) tt
+
+  tells_fault : (db : Database) (e : KeeperFault) → db.schema ≡ store_schema → (e ≢ Memory → stored_in reading db.trees ≡ Err e) → LiesBelow e → Tells reading db e
+  tells_fault db Version is h below = (is, h (λ m. absurd cc))
+  tells_fault db Damaged is h below = λ _. h (λ m. absurd cc)
+  tells_fault db Boots is h below = absurd (below.1 refl)
+  tells_fault db Store is h below = tt
+  tells_fault db Memory is h below = tt
+  tells_fault db Failed is h below = tt
+
+  -- the rows
+  pub tells_rows : (db : Database) (metas votes : List Row) (r : Result (Rows B) KeeperFault) → db.schema ≡ store_schema
+      → IsPermutation (map meta_columns (db.trees 0)) metas → IsPermutation (map vote_columns (db.trees 1)) votes
+      → IfErr r (λ e. e ≢ Memory → rows_of reading metas votes ≡ Err e) → IfErr r LiesBelow → IfErr r (Tells reading db)
+  tells_rows db metas votes (Ok rows) is m v h below = tt
+  tells_rows db metas votes (Err e) is m v h below = tells_fault db e is (λ other. sym (read_same db.trees metas votes m v) ∙ h other) below
+
+  -- a refusal that is counted
+  pub tells_told : (db : Database) (fault e : KeeperFault) → Tells reading db fault → (e ≡ fault) ⊎ (e ≡ Failed) → Tells reading db e
+  tells_told db fault e t (inl same) = subst (Tells reading db) (sym same) t
+  tells_told db fault e t (inr failed) = subst (Tells reading db) (sym failed) tt
