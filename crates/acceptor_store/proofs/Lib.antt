@@ -7,6 +7,7 @@ mod Putting
 mod Reading
 mod Meaning
 mod Telling
+mod Refusing
 mod Writing
 mod Keeping
 mod Within

@@ -1,13 +1,19 @@
--- What a load gives, and which faults it answers, beside those of memory and of the connection.
-use Rattle.std.specs.Prelude.{◌≡◌, ⊤, ℕ, List, map, Result, Ok, Err}
+-- Which faults a load and a commit answer, beside those of memory and of the connection.
+use Rattle.std.specs.Prelude.{◌≡◌, Bool, ◌&&◌, ⊤, ℕ, List, map, Option, is_some, Result, Ok, Err}
+use Rattle.std.specs.List.{list_all}
 use Rattle.sqlite_trees.specs.Tree.{Trees}
 use Rattle.sqlite.specs.Effect.{Database}
+use Rattle.paxos_packets.specs.declared.vote.Vote.{Vote}
+use Rattle.paxos_packets.specs.declared.rows.Change.{Change}
 use Rattle.paxos_packets.specs.declared.rows.Rows.{Rows}
 use Rattle.command_codec.specs.Number.{Reading}
+use Rattle.command_codec.specs.Entry.{entry_spelling}
 use Rattle.acceptor_keeper.specs.declared.fault.KeeperFault.{KeeperFault}
 use Rattle.acceptor_keeper.specs.declared.fault.KeeperFault.TheVariants.{Store, Damaged, Version, Memory, Failed, Boots}
+use Rattle.acceptor_store.specs.declared.rows.Numbers.{Numbers}
 use Rattle.acceptor_store.specs.Tables.{store_schema, meta_columns, vote_columns}
 use Rattle.acceptor_store.specs.Rows.{rows_of}
+use Rattle.acceptor_store.specs.Changes.{numbers_after}
 
 -- what the rows of the two trees read as
 abbrev pub stored_in : {B : Type 0} → (List ℕ → Reading B) → Trees → Result (Rows B) KeeperFault
@@ -26,3 +32,21 @@ Tells reading db Boots = ⊥
 Tells reading db Store = ⊤
 Tells reading db Memory = ⊤
 Tells reading db Failed = ⊤
+
+-- each entry has a spelling
+abbrev pub are_spelled : {B : Type 0} → (B → Option (List ℕ)) → List (Vote B) → Bool
+are_spelled spelling votes = list_all (λ v. is_some (entry_spelling spelling v.entry)) votes
+
+-- the change has a place over these numbers: no promise is lowered, no number out of range, no vote above the promise, and no entry without
+-- a spelling
+abbrev pub has_place : {B : Type 0} → (B → Option (List ℕ)) → Numbers → Change B → Bool
+has_place spelling numbers change = is_some (numbers_after numbers change) && are_spelled spelling change.votes
+
+-- damage is told for this cause alone, and another version never
+abbrev pub Refuses : Type 0 → KeeperFault → Type 0
+Refuses cause Damaged = cause
+Refuses cause Version = ⊥
+Refuses cause Boots = ⊥
+Refuses cause Store = ⊤
+Refuses cause Memory = ⊤
+Refuses cause Failed = ⊤

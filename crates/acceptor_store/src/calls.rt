@@ -13,7 +13,7 @@ ghost use Rattle.acceptor_store.specs.Tables.{empty_schema};
 ghost use Rattle.acceptor_store.specs.Statements.{IsFounded};
 ghost use Rattle.acceptor_store.specs.Store.{Stores, Leaves, Holds, Finds, numbers_in_rows, are_numbers, is_ballot, is_placed, written, Follows, NotLowered};
 ghost use Rattle.acceptor_store.specs.Calls.{keeper_of, AreKnown, LiesBelow};
-ghost use Rattle.acceptor_store.specs.Answers.{Gives, Tells};
+ghost use Rattle.acceptor_store.specs.Answers.{Gives, Tells, Refuses, are_spelled, has_place};
 
 use crate::changes::numbers_after;
 use crate::rows::Numbers;
@@ -116,11 +116,14 @@ fn numbers<B: Body, C: Coder<B>, S: Alter>(
     ensures found { FindsNoMore (Finds S.Store C.reading) (keeper_of conn.old known.old) (keeper_of conn.new known.new) }
     ensures clean { doubt (state S.Store conn.old).is_clean ≤ doubt (state S.Store conn.new).is_clean }
     ensures told { IfOk result (λ numbers. known.new ≡ Some numbers) }
+    ensures refused { HasCleanDisk (state S.Store conn.new) → IsTrue (state S.Store conn.old).is_open
+        → (rows : Rows B) → Holds S.Store C.reading (keeper_of conn.old known.old) rows → IfErr result (Refuses ⊥) }
     ensures fault { IfErr result LiesBelow }
 {
     if let Some(numbers) = *known {
         return Ok(numbers);
     }
+    settle(conn);
     let rows = read::<B, C, S>(alloc, conn, known)?;
     Ok(numbers_in(&rows))
 }
@@ -152,6 +155,9 @@ fn commit_over<B, C: Coder<B>, S: Alter>(
         → (trees : Trees) → (state S.Store conn.new).may_leave trees
         → (state S.Store conn.old).may_leave trees ⊎ Stores C.reading trees (written numbers.now votes.now rows) }
     ensures clean { doubt (state S.Store conn.old).is_clean ≤ doubt (state S.Store conn.new).is_clean }
+    ensures spelled { OnOk result (are_spelled C.spelling votes.now ≡ true) }
+    ensures refused { IfErr result (Refuses (are_spelled C.spelling votes.now ≡ false)) }
+    ensures kept { IsErrOf result KeeperFault.Damaged → Survives (state S.Store conn.old) (state S.Store conn.new) (λ _. ⊥) }
     ensures fault { IfErr result LiesBelow }
 {
     if !are_same(numbers, known) {
@@ -201,6 +207,13 @@ fn write<B: Body, C: Coder<B>, S: Alter>(
         → Holds S.Store C.reading (keeper_of conn.new known.new) (adopted rows change.now)) }
     ensures found { (rows : Rows B) → Holds S.Store C.reading (keeper_of conn.old known.old) rows
         → FindsOr (Finds S.Store C.reading) (keeper_of conn.old known.old) (keeper_of conn.new known.new) (adopted rows change.now) }
+    ensures placed { HasCleanDisk (state S.Store conn.new) → (rows : Rows B) → Holds S.Store C.reading (keeper_of conn.old known.old) rows
+        → OnOk result (has_place C.spelling (numbers_in_rows rows) change.now ≡ true) }
+    ensures refused { HasCleanDisk (state S.Store conn.new) → IsTrue (state S.Store conn.old).is_open
+        → (rows : Rows B) → Holds S.Store C.reading (keeper_of conn.old known.old) rows
+        → IfErr result (Refuses (has_place C.spelling (numbers_in_rows rows) change.now ≡ false)) }
+    ensures kept { IsErrOf result KeeperFault.Damaged
+        → FindsNoMore (Finds S.Store C.reading) (keeper_of conn.old known.old) (keeper_of conn.new known.new) }
     ensures fault { IfErr result LiesBelow }
 {
     let before = numbers::<B, C, S>(alloc, conn, known)?;
@@ -307,6 +320,13 @@ pub(crate) fn commit_to<B: Body, C: Coder<B>, S: Alter>(
         → Holds S.Store C.reading (keeper_of conn.new known.new) (adopted rows change.now)) }
     ensures found { (rows : Rows B) → Holds S.Store C.reading (keeper_of conn.old known.old) rows
         → FindsOr (Finds S.Store C.reading) (keeper_of conn.old known.old) (keeper_of conn.new known.new) (adopted rows change.now) }
+    ensures placed { HasCleanDisk (state S.Store conn.new) → (rows : Rows B) → Holds S.Store C.reading (keeper_of conn.old known.old) rows
+        → OnOk result (has_place C.spelling (numbers_in_rows rows) change.now ≡ true) }
+    ensures refused { HasCleanDisk (state S.Store conn.new) → IsTrue (state S.Store conn.old).is_open
+        → (rows : Rows B) → Holds S.Store C.reading (keeper_of conn.old known.old) rows
+        → IfErr result (Refuses (has_place C.spelling (numbers_in_rows rows) change.now ≡ false)) }
+    ensures kept { IsErrOf result KeeperFault.Damaged
+        → FindsNoMore (Finds S.Store C.reading) (keeper_of conn.old known.old) (keeper_of conn.new known.new) }
     ensures spent { IsErrOf result KeeperFault.Failed → failures.old ≡ 2 ^ 64 - 1 }
     ensures store { IsErrOf result KeeperFault.Store → failures.old < failures.new }
     ensures counts { failures.old ≤ failures.new }

@@ -1,15 +1,16 @@
-ghost use Rattle.std.specs.Prelude.{◌≡◌, ◌⊎◌, ◌<◌, ◌≤◌, ◌-◌, ◌^◌, IsTrue, IfOk, IfErr, IsErrOf, Err, None, true, false};
+ghost use Rattle.std.specs.Prelude.{◌≡◌, ◌⊎◌, ◌<◌, ◌≤◌, ◌-◌, ◌^◌, IsTrue, IfOk, IfErr, OnOk, IsErrOf, is_err, Err, None, true, false};
 ghost use Rattle.sqlite_trees.specs.Tree.{Trees};
 ghost use Rattle.sqlite.specs.Effect.{Database};
 ghost use Rattle.sqlite.specs.Held.{state};
 ghost use Rattle.sqlite.specs.State.{HasCleanDisk, Survives};
 ghost use Rattle.paxos_packets.specs.declared.rows.Rows.{Rows};
-ghost use Rattle.acceptor_keeper.specs.Keeper.{no_rows, FindsNoMore};
+ghost use Rattle.acceptor_keeper.specs.Keeper.{no_rows, FindsOr, FindsNoMore};
+ghost use Rattle.paxos_acceptor.specs.Acceptor.{adopted};
 ghost use Rattle.acceptor_store.specs.Tables.{empty_schema};
 ghost use Rattle.acceptor_store.specs.Statements.{IsFounded};
 ghost use Rattle.acceptor_store.specs.Once.{stored_once};
-ghost use Rattle.acceptor_store.specs.Store.{Stores, Holds, Finds};
-ghost use Rattle.acceptor_store.specs.Answers.{Gives, Tells};
+ghost use Rattle.acceptor_store.specs.Store.{Stores, Holds, Finds, numbers_in_rows};
+ghost use Rattle.acceptor_store.specs.Answers.{Gives, Tells, Refuses, has_place};
 
 use crate::calls::{boot_from, commit_to, found_where_empty, load_from};
 use crate::rows::Numbers;
@@ -160,7 +161,25 @@ impl<B: Body, C: Coder<B>, S: Alter> Keeper<B> for SqlKeeper<B, C, S> {
     /// One transaction and one sync, with a statement for `meta` where the promise changes and one for each vote, which takes the place of
     /// the one in its slot. No table is read (but by the first commit of a keeper that has loaded nothing yet): time logarithmic in the
     /// votes stored, and memory for one entry. An empty change touches nothing.
-    fn commit(&mut self, change: &Change<B>) -> Result<(), KeeperFault> {
+    ///
+    /// `Damaged` exactly where the change has no place over the rows that are held: a lowered promise, a number out of range, a vote above
+    /// the promise, or an entry without a spelling. The store is then as it was.
+    fn commit(&mut self, change: &Change<B>) -> Result<(), KeeperFault>
+        ensures placed { HasCleanDisk (state S.Store self.new.conn) → (r : Rows B) → Holds S.Store C.reading self.old r
+            → OnOk result (has_place C.spelling (numbers_in_rows r) change.now ≡ true) }
+        ensures refused { HasCleanDisk (state S.Store self.new.conn) → IsTrue (state S.Store self.old.conn).is_open
+            → (r : Rows B) → Holds S.Store C.reading self.old r
+            → IfErr result (Refuses (has_place C.spelling (numbers_in_rows r) change.now ≡ false)) }
+        ensures kept { IsErrOf result KeeperFault.Damaged → FindsNoMore (Finds S.Store C.reading) self.old self.new }
+        ensures ok { OnOk result ((r : Rows B) → Holds S.Store C.reading self.old r → Holds S.Store C.reading self.new (adopted r change.now)) }
+        ensures found { (r : Rows B) → Holds S.Store C.reading self.old r → FindsOr (Finds S.Store C.reading) self.old self.new (adopted r change.now) }
+        ensures fails { self.new.is_failed ≡ is_err result }
+        ensures again { self.old.is_failed ≡ true → result ≡ Err KeeperFault.Failed }
+        ensures unchanged { self.old.is_failed ≡ true → FindsNoMore (Finds S.Store C.reading) self.old self.new }
+        ensures spent { IsErrOf result KeeperFault.Failed → (self.old.is_failed ≡ true) ⊎ (self.old.failures ≡ 2 ^ 64 - 1) }
+        ensures store { IsErrOf result KeeperFault.Store → self.old.failures < self.new.failures }
+        ensures counts { self.old.failures ≤ self.new.failures }
+    {
         if self.failed {
             return Err(KeeperFault::Failed);
         }

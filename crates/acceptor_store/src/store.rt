@@ -1,4 +1,4 @@
-ghost use Rattle.std.specs.Prelude.{◌≡◌, ◌≢◌, ◌⊎◌, ◌<◌, ◌≤◌, ◌^◌, ℕ, List, [], Option, true, false, IsTrue, OnOk, IfOk, IfErr, IsErrOf, Ok, Err, None, length, drop, take};
+ghost use Rattle.std.specs.Prelude.{is_some, ◌≡◌, ◌≢◌, ◌⊎◌, ◌<◌, ◌≤◌, ◌^◌, ℕ, List, [], Option, true, false, IsTrue, OnOk, IfOk, IfErr, IsErrOf, Ok, Err, None, length, drop, take};
 ghost use Rattle.std.specs.List.{AllByRecursion};
 ghost use Rattle.sqlite_trees.specs.Tree.{Trees};
 ghost use Rattle.sqlite_trees.specs.View.{doubt};
@@ -13,7 +13,7 @@ ghost use Rattle.command_codec.specs.Entry.{entry_reading, entry_spelling};
 ghost use Rattle.acceptor_store.specs.Tables.{store_schema, empty_schema};
 ghost use Rattle.acceptor_store.specs.Statements.{round_of, IsFounded};
 ghost use Rattle.acceptor_store.specs.Calls.{LiesBelow};
-ghost use Rattle.acceptor_store.specs.Answers.{Gives, Tells};
+ghost use Rattle.acceptor_store.specs.Answers.{Gives, Tells, Refuses, are_spelled};
 ghost use Rattle.acceptor_store.specs.Store.{Reads, numbers_in_rows, written, is_ballot, is_promise, are_numbers, is_placed, NotLowered, Leaves, AreVotes, Follows, GoesOn, Wrote, Stores};
 
 use crate::rows::{Numbers, read_rows};
@@ -42,6 +42,7 @@ pub(crate) fn settle<S: Alter>(conn: &Connection<S>)
 // The entry's octets, in the place of those that were there.
 fn spell<B, C: Coder<B>>(entry: &Entry<B>, octets: &mut Vec<u8>) -> Result<(), KeeperFault>
     ensures read { OnOk result (entry_reading C.reading octets.new.items ≡ Ok entry.now) }
+    ensures spelled { OnOk result (is_some (entry_spelling C.spelling entry.now) ≡ true) }
     ensures fault { IfErr result (λ e. (e ≡ KeeperFault.Memory) ⊎ ((e ≡ KeeperFault.Damaged) × (entry_spelling C.spelling entry.now ≡ None))) }
 {
     spellings_are_apart::<B, C>();
@@ -69,7 +70,8 @@ fn write_vote<B, C: Coder<B>, S: Alter>(
     ensures goes { HasCleanDisk (state S.Store tx.new.conn.now) → IsTrue (state S.Store tx.old.conn.now).in_transaction
         → OnOk result (GoesOn (Unit {0}) (state S.Store tx.old.conn.now) (state S.Store tx.new.conn.now)) }
     ensures survives { Survives (state S.Store tx.old.conn.now) (state S.Store tx.new.conn.now) (λ _. ⊥) }
-    ensures fault { IfErr result (λ e. e ≡ KeeperFault.Damaged → entry_spelling C.spelling vote.now.entry ≡ None) }
+    ensures spelled { OnOk result (is_some (entry_spelling C.spelling vote.now.entry) ≡ true) }
+    ensures refused { IfErr result (Refuses (is_some (entry_spelling C.spelling vote.now.entry) ≡ false)) }
     ensures below { IfErr result LiesBelow }
 {
     spell::<B, C>(&vote.entry, octets)?;
@@ -91,6 +93,8 @@ fn write_votes<B, C: Coder<B>, S: Alter>(
     ensures goes { HasCleanDisk (state S.Store tx.new.conn.now) → IsTrue (state S.Store tx.old.conn.now).in_transaction
         → OnOk result (GoesOn (votes.now ≢ []) (state S.Store tx.old.conn.now) (state S.Store tx.new.conn.now)) }
     ensures survives { Survives (state S.Store tx.old.conn.now) (state S.Store tx.new.conn.now) (λ _. ⊥) }
+    ensures spelled { OnOk result (are_spelled C.spelling votes.now ≡ true) }
+    ensures refused { IfErr result (Refuses (are_spelled C.spelling votes.now ≡ false)) }
     ensures below { IfErr result LiesBelow }
 {
     for vote in votes {
@@ -114,7 +118,7 @@ fn write_numbers<B, C: Coder<B>, S: Alter>(
         → OnOk result (GoesOn (puts ≡ true) (state S.Store tx.old.conn.now) (state S.Store tx.new.conn.now)) }
     ensures survives { Survives (state S.Store tx.old.conn.now) (state S.Store tx.new.conn.now) (λ _. ⊥) }
     ensures idle { puts ≡ false → tx.new.conn.now ≡ tx.old.conn.now }
-    ensures fault { IfErr result (λ e. e ≢ KeeperFault.Damaged) }
+    ensures fault { IfErr result (λ e. (e ≡ KeeperFault.Memory) ⊎ (e ≡ KeeperFault.Store)) }
     ensures below { IfErr result LiesBelow }
 {
     if puts {
@@ -142,6 +146,8 @@ fn write<B, C: Coder<B>, S: Alter>(
     ensures goes { HasCleanDisk (state S.Store tx.new.conn.now) → IsTrue (state S.Store tx.old.conn.now).in_transaction
         → OnOk result (GoesOn (Unit {0}) (state S.Store tx.old.conn.now) (state S.Store tx.new.conn.now)) }
     ensures survives { Survives (state S.Store tx.old.conn.now) (state S.Store tx.new.conn.now) (λ _. ⊥) }
+    ensures spelled { OnOk result (are_spelled C.spelling votes.now ≡ true) }
+    ensures refused { IfErr result (Refuses (are_spelled C.spelling votes.now ≡ false)) }
     ensures below { IfErr result LiesBelow }
 {
     write_numbers::<B, C, S>(tx, puts, numbers)?;
@@ -181,6 +187,9 @@ pub(crate) fn commit<B, C: Coder<B>, S: Alter>(
     ensures crash { Survives (state S.Store conn.old) (state S.Store conn.new)
         (λ trees. IsTrue (state S.Store conn.old).is_open
         × ((db : Database) × Wrote C.reading puts numbers.now votes.now (state S.Store conn.old).now db × (trees ≡ db.trees))) }
+    ensures spelled { OnOk result (are_spelled C.spelling votes.now ≡ true) }
+    ensures refused { IfErr result (Refuses (are_spelled C.spelling votes.now ≡ false)) }
+    ensures kept { IsErrOf result KeeperFault.Damaged → Survives (state S.Store conn.old) (state S.Store conn.new) (λ _. ⊥) }
     ensures below { IfErr result LiesBelow }
 {
     let mut tx = conn.transaction();
@@ -260,6 +269,9 @@ pub(crate) fn commit_rows<B, C: Coder<B>, S: Alter>(
         → (trees : Trees) → (state S.Store conn.new).may_leave trees
         → (state S.Store conn.old).may_leave trees ⊎ Stores C.reading trees (written numbers.now votes.now rows) }
     ensures clean { doubt (state S.Store conn.old).is_clean ≤ doubt (state S.Store conn.new).is_clean }
+    ensures spelled { OnOk result (are_spelled C.spelling votes.now ≡ true) }
+    ensures refused { IfErr result (Refuses (are_spelled C.spelling votes.now ≡ false)) }
+    ensures kept { IsErrOf result KeeperFault.Damaged → Survives (state S.Store conn.old) (state S.Store conn.new) (λ _. ⊥) }
     ensures below { IfErr result LiesBelow }
 {
     settle(conn);

@@ -1,12 +1,15 @@
-use Rattle.std.proofs.Common.{◌≡◌, ◌⊎◌, inl, inr, ⊎_elim, ap, sym, subst, ◌∙◌, true, Some, List}
+use Rattle.std.proofs.Common.{false, ◌≡◌, inl, inr, ⊎_elim, ap, sym, subst, ◌∙◌, true, List, rules}
+use Rattle.std.specs.Prelude.{Err, IfErr}
 use Rattle.std.specs.List.{AllByRecursion}
 use Rattle.sqlite.specs.Held.{state}
-use Rattle.sqlite.specs.State.{HasCleanDisk}
 use Rattle.paxos_packets.specs.declared.vote.Vote.{Vote}
-use Rattle.acceptor_store.specs.Store.{Leaves, Agrees, numbers_in_rows, written, are_numbers, is_placed}
+use Rattle.acceptor_store.specs.Store.{Leaves, Agrees, numbers_in_rows, written, is_placed}
 use Rattle.acceptor_store.specs.Calls.{AreKnown}
-use Rattle.acceptor_store.proofs.Changing.{Places, places}
-use Rattle.acceptor_store.proofs.Calling.{earlier, adopts, not_lower, found_or}
+use Rattle.acceptor_store.proofs.Changing.{places}
+use Rattle.acceptor_store.proofs.Calling.{earlier, adopts, not_lower, found_or, found_no_more}
+use Rattle.acceptor_keeper.specs.declared.fault.KeeperFault.TheVariants.{Damaged}
+use Rattle.acceptor_store.specs.Answers.{Refuses, are_spelled, has_place}
+use Rattle.acceptor_store.proofs.Refusing.{placed, unplaced, unspelled, refuses_for, same_fault}
 use Rattle.acceptor_store.proofs.calls.write.Goals as goal
 
 pub returns-clause-ok : goal.returns-clause-ok
@@ -72,3 +75,54 @@ commit_over-requires-clause-ballots g c =
 pub returns-clause-known : goal.returns-clause-known
 returns-clause-known g c =
     (places c.in_ok-before.before c.args.change.now c.in-Some.next (sym c.in-Some.ensures)).numbers (subst AreKnown c.in_ok-before.ensures.told c.numbers.ensures.known)
+
+pub returns-clause-placed : goal.returns-clause-placed
+returns-clause-placed g c clean rows holds =
+    let spelling = g.C.Coder.spelling in
+    let before = c.in_ok-before.before in
+    let change = c.args.change.now in
+    let early = earlier g.S.Store c.numbers.new.conn c.commit_over.new.conn c.commit_over.ensures.clean clean in
+    let same : before ≡ numbers_in_rows rows = subst (λ k. Agrees k rows) c.in_ok-before.ensures.told (c.numbers.ensures.kept rows holds early).1 in
+    let all = subst (λ vs. are_spelled spelling vs ≡ true) c.as_slice.ensures.votes c.in_ok-commit_over.ensures.spelled in
+    subst (λ n. has_place spelling n change ≡ true) same (placed spelling before change c.in-Some.next (sym c.in-Some.ensures) all)
+
+pub returns-in_err-before-clause-refused : goal.returns-in_err-before-clause-refused
+returns-in_err-before-clause-refused g c clean is_open rows holds =
+    let P = has_place g.C.Coder.spelling (numbers_in_rows rows) c.args.change.now ≡ false in
+    let given : c.from_residual.result ≡ Err c.in_err-before.field-0.0 = search rules in
+    subst (λ r. IfErr r (Refuses P)) (sym given)
+    (refuses_for c.in_err-before.field-0.0 (λ none. absurd none) (c.in_err-before.ensures.refused clean is_open rows holds))
+
+pub returns-in_default-clause-refused : goal.returns-in_default-clause-refused
+returns-in_default-clause-refused g c clean is_open rows holds =
+    let spelling = g.C.Coder.spelling in
+    let before = c.in_ok-before.before in
+    let change = c.args.change.now in
+    let same : before ≡ numbers_in_rows rows = subst (λ k. Agrees k rows) c.in_ok-before.ensures.told (c.numbers.ensures.kept rows holds clean).1 in
+    subst (λ n. has_place spelling n change ≡ false) same (unplaced spelling before change (sym c.in_default.ensures))
+
+pub returns-in_err-commit_over-clause-refused : goal.returns-in_err-commit_over-clause-refused
+returns-in_err-commit_over-clause-refused g c clean is_open rows holds =
+    let spelling = g.C.Coder.spelling in
+    let before = c.in_ok-before.before in
+    let change = c.args.change.now in
+    let early = earlier g.S.Store c.numbers.new.conn c.commit_over.new.conn c.commit_over.ensures.clean clean in
+    let same : before ≡ numbers_in_rows rows = subst (λ k. Agrees k rows) c.in_ok-before.ensures.told (c.numbers.ensures.kept rows holds early).1 in
+    let P = has_place spelling (numbers_in_rows rows) change ≡ false in
+    let given : c.from_residual-in_err-commit_over.result ≡ Err c.in_err-commit_over.field-0.0 = search rules in
+    subst (λ r. IfErr r (Refuses P)) (sym given) (refuses_for c.in_err-commit_over.field-0.0
+    (λ no. subst (λ n. has_place spelling n change ≡ false) same
+    (unspelled spelling before change c.in-Some.next (sym c.in-Some.ensures) (subst (λ vs. are_spelled spelling vs ≡ false) c.as_slice.ensures.votes no)))
+    c.in_err-commit_over.ensures.refused)
+
+pub returns-in_err-before-clause-kept : goal.returns-in_err-before-clause-kept
+returns-in_err-before-clause-kept g c damaged x h = c.numbers.ensures.found x h
+
+pub returns-in_default-clause-kept : goal.returns-in_default-clause-kept
+returns-in_default-clause-kept g c damaged x h = c.numbers.ensures.found x h
+
+pub returns-in_err-commit_over-clause-kept : goal.returns-in_err-commit_over-clause-kept
+returns-in_err-commit_over-clause-kept g c damaged x h =
+    let given : c.from_residual-in_err-commit_over.result ≡ Err c.in_err-commit_over.field-0.0 = search rules in
+    let same : c.in_err-commit_over.field-0.0 ≡ Damaged = same_fault (sym given ∙ damaged) in
+    c.numbers.ensures.found x (found_no_more g.S.Store g.C.Coder.reading c.numbers.new.conn c.commit_over.new.conn (c.commit_over.ensures.kept (c.in_err-commit_over.was ∙ ap Err same)) x h)

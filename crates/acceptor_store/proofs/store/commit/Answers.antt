@@ -1,4 +1,5 @@
-use Rattle.std.proofs.Common.{◌≡◌, refl, sym, subst, arith, rules, IsTrue}
+use Rattle.std.proofs.Common.{false, ◌≡◌, ◌∙◌, sym, subst, arith, rules, IsTrue}
+use Rattle.std.specs.Prelude.{Err, IfErr}
 use Rattle.sqlite_trees.specs.Tree.{Trees}
 use Rattle.sqlite.specs.Effect.{Database}
 use Rattle.sqlite.specs.State.{HasCleanDisk, Survives}
@@ -6,6 +7,8 @@ use Rattle.sqlite.specs.Held.{state}
 use Rattle.sqlite.proofs.StateLemmas.{survives_then}
 use Rattle.sqlite.proofs.Callers.{survives_begin}
 use Rattle.acceptor_store.specs.Store.{Wrote}
+use Rattle.acceptor_store.specs.Answers.{Refuses, are_spelled}
+use Rattle.acceptor_store.proofs.Refusing.{refuses_conn, conn_whole}
 use Rattle.acceptor_store.proofs.store.commit.Goals as goal
 
 pub returns-clause-ok : goal.returns-clause-ok
@@ -53,3 +56,14 @@ returns-in_err-end-clause-crash g c =
     (survives_begin g.S.Store old (state g.S.Store last) (λ _. ⊥) (rw begun at c.write.ensures.survives)) c.end.ensures.survives in
     let same : c.end.new.tx.0 ≡ c.conn-2-1.given.0 = search rules in
     subst (λ h. Survives (state g.S.Store old) (state g.S.Store h) P) same whole
+
+pub returns-in_err-end-clause-refused : goal.returns-in_err-end-clause-refused
+returns-in_err-end-clause-refused g c =
+    let given : c.from_residual-in_err-end.result ≡ Err c.in_err-end.field-0.0 = search rules in
+    subst (λ r. IfErr r (Refuses (are_spelled g.C.Coder.spelling c.args.votes.now ≡ false))) (sym given)
+    (refuses_conn (are_spelled g.C.Coder.spelling c.args.votes.now ≡ false) c.in_err-end.field-0.0 c.in_err-end.ensures.fault)
+
+pub returns-in_err-end-clause-kept : goal.returns-in_err-end-clause-kept
+returns-in_err-end-clause-kept g c damaged =
+    let given : c.from_residual-in_err-end.result ≡ Err c.in_err-end.field-0.0 = search rules in
+    conn_whole c.in_err-end.field-0.0 c.in_err-end.ensures.fault (sym given ∙ damaged)

@@ -1,5 +1,6 @@
-use Rattle.std.proofs.Common.{inl, inr, ⊎_elim, sym, subst}
+use Rattle.std.proofs.Common.{inl, inr, ⊎_elim, sym, subst, IsTrue}
 use Rattle.std.proofs.lemmas.Result.{on_ok_weaker}
+use Rattle.sqlite.specs.Held.{state}
 use Rattle.acceptor_store.specs.Store.{Holds, Finds}
 use Rattle.acceptor_store.proofs.sql.SqlKeeperKeeper.commit.Goals as goal
 
@@ -11,3 +12,15 @@ pub returns-clause-found : goal.returns-clause-found
 returns-clause-found g c rows holds x found =
     ⊎_elim (λ was. inl (subst (λ k. Finds g.S.Store g.C.Coder.reading k x) c.self.view_is was)) (λ next. inr next)
     (c.commit_to-done.ensures.found rows (subst (λ k. Holds g.S.Store g.C.Coder.reading k rows) (sym c.self.view_is) holds) x found)
+
+pub returns-clause-placed : goal.returns-clause-placed
+returns-clause-placed g c clean rows holds =
+    c.commit_to-done.ensures.placed clean rows (subst (λ k. Holds g.S.Store g.C.Coder.reading k rows) (sym c.self.view_is) holds)
+
+pub returns-clause-refused : goal.returns-clause-refused
+returns-clause-refused g c clean is_open rows holds =
+    c.commit_to-done.ensures.refused clean (subst (λ k. IsTrue (state g.S.Store k.conn).is_open) (sym c.self.view_is) is_open) rows
+    (subst (λ k. Holds g.S.Store g.C.Coder.reading k rows) (sym c.self.view_is) holds)
+
+pub returns-clause-kept : goal.returns-clause-kept
+returns-clause-kept g c damaged x found = subst (λ k. Finds g.S.Store g.C.Coder.reading k x) c.self.view_is (c.commit_to-done.ensures.kept damaged x found)

@@ -1,0 +1,95 @@
+-- Which changes a commit refuses.
+use Rattle.std.proofs.Common.{◌≡◌, ◌⊎◌, inl, inr, ℕ, List, ◌∷◌, map, true, false, Option, Some, None, Result, Ok, Err, refl, ap, sym, subst, ◌∙◌}
+use Rattle.std.specs.Prelude.{IfErr, is_some}
+use Rattle.std.proofs.lemmas.List.Sorted.{IsPermutation-refl}
+use Rattle.sqlite.specs.Effect.{Database}
+use Rattle.paxos_packets.specs.declared.vote.Vote.{Vote}
+use Rattle.paxos_packets.specs.declared.rows.Change.{Change}
+use Rattle.paxos_packets.specs.declared.rows.Rows.{Rows}
+use Rattle.command_codec.specs.Coder.{Puts}
+use Rattle.command_codec.specs.Entry.{entry_spelling}
+use Rattle.command_codec.specs.Number.{Reading}
+use Rattle.acceptor_keeper.specs.declared.fault.KeeperFault.{KeeperFault}
+use Rattle.acceptor_keeper.specs.declared.fault.KeeperFault.TheVariants.{Store, Damaged, Version, Memory, Failed, Boots}
+use Rattle.acceptor_store.specs.declared.rows.Numbers.{Numbers}
+use Rattle.acceptor_store.specs.Tables.{meta_columns, vote_columns}
+use Rattle.acceptor_store.specs.Store.{Reads}
+use Rattle.acceptor_store.specs.Changes.{numbers_after}
+use Rattle.acceptor_store.specs.Answers.{stored_in, Tells, Refuses, are_spelled, has_place}
+use Rattle.acceptor_store.proofs.Meaning.{loads}
+
+pub refuses_for : {P Q : Type 0} (e : KeeperFault) → (P → Q) → Refuses P e → Refuses Q e
+refuses_for Damaged f h = f h
+refuses_for Version f h = h
+refuses_for Boots f h = h
+refuses_for Store f h = tt
+refuses_for Memory f h = tt
+refuses_for Failed f h = tt
+
+pub refuses_conn : (P : Type 0) (e : KeeperFault) → (e ≡ Memory) ⊎ (e ≡ Store) → Refuses P e
+refuses_conn P e (inl m) = subst (Refuses P) (sym m) tt
+refuses_conn P e (inr s) = subst (Refuses P) (sym s) tt
+
+pub refuses_conn_err : {A : Type 0} (P : Type 0) (r : Result A KeeperFault) → IfErr r (λ e. (e ≡ Memory) ⊎ (e ≡ Store)) → IfErr r (Refuses P)
+refuses_conn_err P (Ok x) h = tt
+refuses_conn_err P (Err e) h = refuses_conn P e h
+
+pub refuses_unspelled : {A : Type 0} (o : Option A) (e : KeeperFault) → (e ≡ Memory) ⊎ ((e ≡ Damaged) × (o ≡ None)) → Refuses (is_some o ≡ false) e
+refuses_unspelled o e (inl m) = subst (Refuses (is_some o ≡ false)) (sym m) tt
+refuses_unspelled o e (inr d) = subst (Refuses (is_some o ≡ false)) (sym d.0) (ap is_some d.1)
+
+-- a refusal that is counted
+pub refuses_told : (P : Type 0) (fault e : KeeperFault) → Refuses P fault → (e ≡ fault) ⊎ (e ≡ Failed) → Refuses P e
+refuses_told P fault e h (inl same) = subst (Refuses P) (sym same) h
+refuses_told P fault e h (inr failed) = subst (Refuses P) (sym failed) tt
+
+pub same_fault : {A : Type 0} {e f : KeeperFault} → ◌≡◌ {A = Result A KeeperFault} (Err e) (Err f) → e ≡ f
+same_fault h = cc
+
+pub told_damaged : {A : Type 0} (fault e : KeeperFault) → (e ≡ fault) ⊎ (e ≡ Failed) → ◌≡◌ {A = Result A KeeperFault} (Err e) (Err Damaged) → fault ≡ Damaged
+told_damaged fault e (inl same) h = sym same ∙ same_fault h
+told_damaged fault e (inr failed) h = let both : Failed ≡ Damaged = sym failed ∙ same_fault h in absurd cc
+
+-- a refusal of the connection is no damage
+pub conn_whole : {A P : Type 0} (e : KeeperFault) → (e ≡ Memory) ⊎ (e ≡ Store) → ◌≡◌ {A = Result A KeeperFault} (Err e) (Err Damaged) → P
+conn_whole e (inl m) h = let both : Memory ≡ Damaged = sym m ∙ same_fault h in absurd cc
+conn_whole e (inr s) h = let both : Store ≡ Damaged = sym s ∙ same_fault h in absurd cc
+
+pub puts_some : (o : Option (List ℕ)) (old new : List ℕ) → Puts (Ok tt) o old new → is_some o ≡ true
+puts_some None old new h = absurd h
+puts_some (Some octets) old new h = refl
+
+-- the first vote, and those behind it
+
+pub first_spelled : {B : Type 0} (spelling : B → Option (List ℕ)) (v : Vote B) (vs : List (Vote B)) → is_some (entry_spelling spelling v.entry) ≡ true
+    → are_spelled spelling (v ∷ vs) ≡ are_spelled spelling vs
+first_spelled spelling v vs h = rw h refl
+
+pub first_unspelled : {B : Type 0} (spelling : B → Option (List ℕ)) (v : Vote B) (vs : List (Vote B)) → is_some (entry_spelling spelling v.entry) ≡ false
+    → are_spelled spelling (v ∷ vs) ≡ false
+first_unspelled spelling v vs h = rw h refl
+
+module _ {B : Type 0} (reading : List ℕ → Reading B) where
+  -- rows that a database has are read
+  pub held_stored : (db : Database) (rows : Rows B) → Reads reading db rows → stored_in reading db.trees ≡ Ok rows
+  held_stored db rows has =
+      loads reading db.trees (map meta_columns (db.trees 0)) (map vote_columns (db.trees 1)) (IsPermutation-refl (map meta_columns (db.trees 0)))
+      (IsPermutation-refl (map vote_columns (db.trees 1))) rows has.1.has
+
+  pub held_told : (db : Database) (rows : Rows B) (e : KeeperFault) → Reads reading db rows → Tells reading db e → Refuses ⊥ e
+  held_told db rows Damaged has t = let a = held_stored db rows has in let b = t has.0 in absurd cc
+  held_told db rows Version has t = let a = held_stored db rows has in let b = t.1 in absurd cc
+  held_told db rows Boots has t = t
+  held_told db rows Store has t = tt
+  held_told db rows Memory has t = tt
+  held_told db rows Failed has t = tt
+
+module _ {B : Type 0} (spelling : B → Option (List ℕ)) (before : Numbers) (change : Change B) where
+  pub placed : (next : Numbers) → numbers_after before change ≡ Some next → are_spelled spelling change.votes ≡ true → has_place spelling before change ≡ true
+  placed next e h = rw (e, h) refl
+
+  pub unplaced : numbers_after before change ≡ None → has_place spelling before change ≡ false
+  unplaced e = rw e refl
+
+  pub unspelled : (next : Numbers) → numbers_after before change ≡ Some next → are_spelled spelling change.votes ≡ false → has_place spelling before change ≡ false
+  unspelled next e h = rw (e, h) refl
