@@ -1,6 +1,5 @@
 -- What is held and found after the calls of a keeper.
-use Rattle.std.proofs.Common.{◌≡◌, ◌⊎◌, inl, inr, ⊎_elim, ℕ, suc, ◌+◌, ◌≤◌, true, false, List, [], Option, Some, None, refl, sym, ap, subst, ◌∙◌, arith, IsTrue}
-use Rattle.std.specs.List.{AllByRecursion}
+use Rattle.std.proofs.Common.{◌≡◌, ◌⊎◌, inl, inr, ⊎_elim, ℕ, suc, ◌+◌, ◌≤◌, true, List, [], Option, None, refl, sym, ap, subst, ◌∙◌, arith, IsTrue}
 use Rattle.std.specs.Option.{option_or}
 use Rattle.sqlite_trees.specs.Tree.{Trees}
 use Rattle.sqlite_trees.specs.View.{doubt}
@@ -11,17 +10,15 @@ use Rattle.sqlite.specs.Effect.{Database}
 use Rattle.sqlite.specs.Held.{Held, state}
 use Rattle.sqlite.specs.State.{State, HasCleanDisk, IsLive, Survives}
 use Rattle.paxos_packets.specs.Rows.{raised}
-use Rattle.paxos_packets.specs.declared.ballot.Ballot.{Ballot}
-use Rattle.paxos_packets.specs.declared.vote.Vote.{Vote}
 use Rattle.paxos_packets.specs.declared.rows.Change.{Change}
 use Rattle.paxos_packets.specs.declared.rows.Rows.{Rows}
 use Rattle.paxos_acceptor.specs.Acceptor.{adopted}
 use Rattle.command_codec.specs.Number.{Reading}
-use Rattle.acceptor_keeper.specs.Keeper.{no_rows, FindsOr, FindsNoMore}
+use Rattle.acceptor_keeper.specs.Keeper.{no_rows}
 use Rattle.acceptor_store.specs.declared.rows.Numbers.{Numbers}
 use Rattle.acceptor_store.specs.Tables.{store_schema, empty_schema}
 use Rattle.acceptor_store.specs.Statements.{IsFounded}
-use Rattle.acceptor_store.specs.Store.{Stores, StandsFor, AreVotes, Leaves, Holds, Finds, written, numbers_in_rows, is_placed, NotLowered, Follows}
+use Rattle.acceptor_store.specs.Store.{Stores, AreVotes, Leaves, Holds, Finds, written, numbers_in_rows, NotLowered, Follows}
 use Rattle.acceptor_store.specs.Once.{stored_once}
 use Rattle.acceptor_store.specs.Calls.{keeper_of}
 use Rattle.acceptor_store.proofs.Keeping.{reads_left, leaves_on}

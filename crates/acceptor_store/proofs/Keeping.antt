@@ -1,8 +1,7 @@
 -- What a keeper holds and finds, over the calls of its connection.
-use Rattle.std.proofs.Common.{◌≡◌, ◌⊎◌, inl, inr, ⊎_elim, ℕ, zero, suc, length, drop, ◌+◌, ◌<◌, ◌≤◌, not, ◌||◌, Bool, true, false, cond, List, [], ◌∷◌, map, Option, Some, None, Ok, Err, refl, ap, sym, ◌∙◌, subst, arith, IsTrue, ltb, eqb, nat_lt}
+use Rattle.std.proofs.Common.{◌≡◌, ◌⊎◌, inl, inr, ⊎_elim, ℕ, zero, suc, length, drop, ◌+◌, ◌≤◌, not, ◌||◌, Bool, true, false, cond, List, [], ◌∷◌, map, Option, Some, None, Ok, refl, ap, sym, ◌∙◌, subst, arith, IsTrue, nat_lt}
 use Rattle.std.specs.Prelude.{IsPermutation, ◌&&◌, ◌==◌}
 use Rattle.std.specs.Option.{option_or}
-use Rattle.std.proofs.lemmas.Bool.{and_parts}
 use Rattle.std.proofs.lemmas.Bool.Decides.{nat_tests}
 use Rattle.sqlite_value.specs.Order.{Row}
 use Rattle.sqlite_trees.specs.Tree.{Trees}
@@ -10,7 +9,7 @@ use Rattle.sqlite_catalog.specs.Listing.{IsSound}
 use Rattle.sqlite_catalog.proofs.ReadLemmas.{lists_once}
 use Rattle.sqlite_schema.specs.declared.schema.Schema.{Schema}
 use Rattle.sqlite.specs.Effect.{Database}
-use Rattle.sqlite.specs.State.{State, HasCleanDisk, IsLive, Survives, Shows, IsUnchanged}
+use Rattle.sqlite.specs.State.{State, HasCleanDisk, IsLive, Survives}
 use Rattle.std.specs.List.{AllByRecursion}
 use Rattle.paxos_packets.specs.Ballot.{below}
 use Rattle.paxos_packets.specs.Vote.{put_vote, put_votes}
@@ -18,12 +17,11 @@ use Rattle.paxos_packets.specs.declared.ballot.Ballot.{Ballot}
 use Rattle.paxos_packets.specs.declared.vote.Vote.{Vote}
 use Rattle.paxos_packets.specs.declared.rows.Rows.{Rows}
 use Rattle.command_codec.specs.Number.{Reading}
-use Rattle.acceptor_store.specs.declared.rows.Numbers.{Numbers}
 use Rattle.acceptor_store.specs.Tables.{store_schema, meta_columns, vote_columns}
 use Rattle.acceptor_store.specs.Rows.{is_promised, rows_of}
 use Rattle.acceptor_store.specs.Store.{StandsFor, Stores, Reads, Leaves, is_placed, GoesOn, is_ballot, is_lower, promise_after, NotLowered}
 use Rattle.acceptor_store.specs.Once.{stands_once}
-use Rattle.acceptor_store.proofs.Meaning.{stands, loads}
+use Rattle.acceptor_store.proofs.Meaning.{stands}
 
 module _ {B : Type 0} (reading : List ℕ → Reading B) where
   -- what commits nothing leaves what was left before

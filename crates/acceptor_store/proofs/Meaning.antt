@@ -1,12 +1,12 @@
 -- What rows read as, and what the trees that show them stand for: the same.
-use Rattle.std.proofs.Common.{◌≡◌, ◌⊎◌, inl, inr, ⊎_elim, ℕ, pos, ◌≤◌, not, ◌||◌, Bool, true, false, cond, List, [], ◌∷◌, map, length, All, Option, Some, None, is_some, Ok, Err, Result, eqb, refl, sym, ap, subst, ◌∙◌, arith}
+use Rattle.std.proofs.Common.{◌≡◌, ◌⊎◌, inl, inr, ⊎_elim, ℕ, ◌≤◌, not, ◌||◌, Bool, true, false, cond, List, [], ◌∷◌, map, Option, Some, None, is_some, Ok, Err, Result, eqb, refl, sym, ap, subst, ◌∙◌, arith}
 use Rattle.std.specs.Prelude.{IsPermutation, option_map, option_and_then}
 use Rattle.std.specs.List.{AllByRecursion, IsDistinct}
 use Rattle.std.proofs.lemmas.Bool.Decides.{nat_tests}
 use Rattle.std.proofs.lemmas.List.Sorted.{IsPermutation-map, IsPermutation-sym, All-permutation, length_permutation}
 use Rattle.std.proofs.lemmas.List.Elements.{All-from_recursion, recursion_from_All}
 use Rattle.std.proofs.lemmas.Map.Keys.{IsDistinct-IsPermutation}
-use Rattle.sqlite_value.specs.Order.{Row, column}
+use Rattle.sqlite_value.specs.Order.{Row}
 use Rattle.sqlite_trees.specs.Tree.{Trees}
 use Rattle.sqlite_rules.specs.Lists.{Has}
 use Rattle.sqlite.proofs.Callers.{one_permutation}
@@ -18,11 +18,11 @@ use Rattle.command_codec.specs.Number.{Reading}
 use Rattle.acceptor_keeper.specs.declared.fault.KeeperFault.{KeeperFault}
 use Rattle.acceptor_store.specs.declared.rows.Numbers.{Numbers}
 use Rattle.acceptor_store.specs.Tables.{meta_columns, vote_columns}
-use Rattle.acceptor_store.specs.Rows.{vote_of, is_promised, with_row, votes_after, numbers_of, numbers_in, rows_of, rows_with, with_votes, or_damaged}
-use Rattle.acceptor_store.specs.Store.{AscendFrom, key_of, IsVote, AreVotes, HasNumbers, StandsFor, numbers_in_rows}
+use Rattle.acceptor_store.specs.Rows.{vote_of, is_promised, with_row, votes_after, numbers_in, rows_of, rows_with, with_votes, or_damaged}
+use Rattle.acceptor_store.specs.Store.{AscendFrom, key_of, AreVotes, HasNumbers, StandsFor, numbers_in_rows}
 use Rattle.acceptor_store.specs.Once.{all_has, votes_once}
 use Rattle.acceptor_store.proofs.Votes.{all_from, has_put_new, has_put, has_put_old, ascend_put, none_in, is_none_in}
-use Rattle.acceptor_store.proofs.Putting.{and_then_is, map_is, vote_slot}
+use Rattle.acceptor_store.proofs.Putting.{and_then_is, vote_slot}
 
 eqb_flip : (m n : ℕ) → eqb m n ≡ eqb n m
 eqb_flip m n = grind (arith, nat_tests)

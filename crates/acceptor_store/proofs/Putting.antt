@@ -1,19 +1,19 @@
 -- What the two INSERT OR REPLACE statements make of a database.
-use Rattle.std.proofs.Common.{◌≡◌, ◌≢◌, ◌⊎◌, inl, inr, ⊎_elim, ℕ, ℤ, pos, negsuc, ◌≤◌, not, Bool, true, false, cond, List, [], ◌∷◌, map, Option, Some, None, Ok, Err, Result, OnOk, eqb, refl, sym, ap, subst, ◌∙◌, arith}
+use Rattle.std.proofs.Common.{◌≡◌, ◌⊎◌, inl, inr, ℕ, ℤ, pos, negsuc, ◌≤◌, not, Bool, true, false, cond, List, [], ◌∷◌, map, Option, Some, None, Ok, Err, Result, OnOk, eqb, refl, sym, ap, subst, ◌∙◌, arith}
 use Rattle.std.specs.Prelude.{option_map, option_and_then, nat_le, ◌&&◌}
-use Rattle.std.specs.List.{AllByRecursion, IsDistinct}
+use Rattle.std.specs.List.{AllByRecursion}
 use Rattle.std.proofs.lemmas.Bool.{eqb-false, leb-true}
 use Rattle.std.proofs.lemmas.Bool.Decides.{nat_tests}
 use Rattle.sqlite_value.specs.declared.value.Value.{Value}
 use Rattle.sqlite_value.specs.declared.value.Value.TheVariants.{Null, Int, Real, Text, Blob}
-use Rattle.sqlite_value.specs.Order.{Row, column, value_cmp}
+use Rattle.sqlite_value.specs.Order.{Row, column}
 use Rattle.sqlite_trees.specs.Tree.{Trees, rowid, put_row, has_rowid}
 use Rattle.sqlite_schema.specs.declared.command.Conflict.TheVariants.{Replace}
 use Rattle.sqlite_schema.specs.declared.command.Source.TheVariants.{Values}
 use Rattle.sqlite_schema.specs.declared.command.Command.TheVariants.{InsertOr}
 use Rattle.sqlite_schema.specs.declared.schema.Schema.{Schema}
 use Rattle.sqlite_catalog.specs.Listing.{IsSound}
-use Rattle.sqlite_rules.specs.Cast.{cast, cast_row}
+use Rattle.sqlite_rules.specs.Cast.{cast_row}
 use Rattle.sqlite_rules.specs.Keys.{AreConflicts}
 use Rattle.sqlite_rules.specs.Lists.{Has}
 use Rattle.sqlite_rules.specs.Calls.{ids_of}
@@ -31,10 +31,10 @@ use Rattle.paxos_packets.specs.declared.vote.Vote.{Vote}
 use Rattle.command_codec.specs.Number.{Reading}
 use Rattle.acceptor_store.specs.Tables.{meta_table, vote_table, store_schema, put_meta_text, put_vote_text, meta_row, vote_row, vote_columns}
 use Rattle.acceptor_store.specs.Statements.{HasAtMost, PutsMeta}
-use Rattle.acceptor_store.specs.Rows.{number, within, if_within, slot_in, ballot_in, entry_in, vote_of, is_promised}
+use Rattle.acceptor_store.specs.Rows.{within, slot_in, ballot_in, entry_in, vote_of, is_promised}
 use Rattle.acceptor_store.specs.Store.{key_of, IsVote, AreVotes}
 use Rattle.acceptor_store.proofs.Texts.{put_meta_terms, put_vote_terms, put_meta_is, put_meta_plain, put_vote_is, put_vote_plain}
-use Rattle.acceptor_store.proofs.Puts.{went, same_value, cast_null, cast_int, task, Replaced, replaces}
+use Rattle.acceptor_store.proofs.Puts.{went, same_value, cast_null, cast_int, task, replaces}
 use Rattle.acceptor_store.proofs.Trees.{has_row_new, has_row, has_row_old, not_taken, has_left, left_has, once_left, once_put, number_cmp, conflict_ids}
 use Rattle.acceptor_store.specs.Once.{all_has}
 use Rattle.acceptor_store.proofs.Votes.{all_from, has_put_new, has_put, has_put_old, ascend_put}

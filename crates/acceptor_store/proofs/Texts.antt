@@ -1,17 +1,15 @@
 -- What the six texts mean under the schema.
-use Rattle.std.proofs.Common.{◌≡◌, ℕ, pos, List, [], ◌∷◌, codes, true, false, Some, None, Ok, refl}
-use Rattle.std.specs.Prelude.{negsuc}
+use Rattle.std.proofs.Common.{◌≡◌, pos, List, [], ◌∷◌, Ok, refl}
 use Rattle.sqlite_value.specs.declared.value.Value.TheVariants.{Null, Int}
 use Rattle.sqlite_sql.specs.Term.{Term, lit, col}
-use Rattle.sqlite_sql.specs.Query.{Query, inner, end}
 use Rattle.sqlite_schema.specs.declared.command.Source.TheVariants.{Values}
 use Rattle.sqlite_schema.specs.declared.command.Conflict.TheVariants.{Replace}
-use Rattle.sqlite_schema.specs.declared.command.Command.TheVariants.{InsertOr, Select, CreateTable}
+use Rattle.sqlite_schema.specs.declared.command.Command.TheVariants.{InsertOr, CreateTable}
 use Rattle.sqlite_resolve.specs.Compile.{table_defined_by}
 use Rattle.sqlite_tied.specs.Compute.{everything}
-use Rattle.sqlite.specs.Listing.{understood, reads_listing}
+use Rattle.sqlite.specs.Listing.{understood}
 use Rattle.sqlite.proofs.Callers.{IsPlain, command_of, statement_of}
-use Rattle.acceptor_store.specs.Tables.{meta_table, vote_table, store_schema, meta_schema, empty_schema, create_meta_text, create_vote_text, put_meta_text, put_vote_text, read_meta_text, read_votes_text}
+use Rattle.acceptor_store.specs.Tables.{meta_table, vote_table, store_schema, meta_schema, empty_schema, create_meta_text, create_vote_text, put_meta_text, put_vote_text}
 
 pub create_meta_is : (command_of (understood empty_schema create_meta_text) ≡ CreateTable)
     × (statement_of create_meta_text (understood empty_schema create_meta_text) ≡ create_meta_text)

@@ -1,5 +1,5 @@
 -- Votes by ascending slot, and a vote that is put among them.
-use Rattle.std.proofs.Common.{◌≡◌, ◌⊎◌, inl, inr, ℕ, pos, ◌<◌, ◌≤◌, Bool, true, false, cond, List, [], ◌∷◌, Option, Some, None, is_some, ⊎_elim, ltb, leb, eqb, refl, ap, sym, ◌∙◌, subst, eq-eqb, arith}
+use Rattle.std.proofs.Common.{◌≡◌, ◌⊎◌, inl, inr, ℕ, ◌<◌, ◌≤◌, Bool, true, false, cond, List, [], ◌∷◌, Some, is_some, ⊎_elim, ltb, eqb, refl, ap, sym, ◌∙◌, subst, arith}
 use Rattle.std.specs.List.{AllByRecursion}
 use Rattle.std.proofs.lemmas.Bool.{ltb-true, eqb-true}
 use Rattle.std.proofs.lemmas.Bool.Decides.{nat_tests}
@@ -7,7 +7,7 @@ use Rattle.sqlite_rules.specs.Lists.{Has}
 use Rattle.paxos_packets.specs.Vote.{put_vote, vote_in}
 use Rattle.paxos_packets.specs.declared.vote.Vote.{Vote}
 use Rattle.acceptor_store.specs.Store.{AscendFrom}
-use Rattle.acceptor_store.specs.Once.{all_has, later}
+use Rattle.acceptor_store.specs.Once.{later}
 
 pub all_from : {A : Type 0} (P : A → Type 0) (xs : List A) → ((x : A) → Has xs x → P x) → AllByRecursion P xs
 all_from P [] f = tt

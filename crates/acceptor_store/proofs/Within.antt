@@ -1,5 +1,5 @@
 -- Numbers that were read are within their ranges.
-use Rattle.std.proofs.Common.{◌≡◌, ◌≢◌, ◌∙◌, sym, ℕ, pos, negsuc, ◌&&◌, not, Bool, true, false, cond, List, [], ◌∷◌, Option, Some, None, Ok, Err, Result, refl, subst}
+use Rattle.std.proofs.Common.{◌≡◌, ◌≢◌, ◌∙◌, sym, ℕ, pos, negsuc, ◌&&◌, not, Bool, true, false, cond, List, [], ◌∷◌, Option, Some, None, Ok, Err, refl, subst}
 use Rattle.std.specs.Prelude.{nat_le, option_map, option_and_then}
 use Rattle.std.proofs.lemmas.Bool.{and_parts, and_from}
 use Rattle.sqlite_value.specs.declared.value.Value.{Value}
@@ -10,7 +10,7 @@ use Rattle.acceptor_keeper.specs.declared.fault.KeeperFault.TheVariants.{Damaged
 use Rattle.acceptor_store.specs.Calls.{LiesBelow}
 use Rattle.paxos_packets.specs.declared.ballot.Ballot.{Ballot}
 use Rattle.acceptor_store.specs.declared.rows.Numbers.{Numbers}
-use Rattle.acceptor_store.specs.Rows.{number, is_number, within, if_within, boot_in, round_in, node_in, ballot_in, promise_in, numbers_of, numbers_in, or_damaged}
+use Rattle.acceptor_store.specs.Rows.{number, is_number, within, boot_in, round_in, node_in, ballot_in, promise_in, numbers_of, numbers_in, or_damaged}
 use Rattle.acceptor_store.specs.Store.{is_ballot, is_promise, are_numbers}
 use Rattle.acceptor_store.proofs.Putting.{and_then_is, map_is}
 

@@ -1,5 +1,5 @@
 -- Rows that were written are read again.
-use Rattle.std.proofs.Common.{◌≡◌, ◌⊎◌, inl, inr, ℕ, pos, negsuc, ◌<◌, ◌≤◌, ◌^◌, ◌&&◌, not, Bool, true, false, cond, List, [], ◌∷◌, Option, Some, None, Ok, Err, eqb, leb, refl, ap, sym, ◌∙◌, subst, arith, IsTrue, append-nil}
+use Rattle.std.proofs.Common.{◌≡◌, inr, ℕ, pos, negsuc, ◌<◌, ◌≤◌, ◌^◌, ◌&&◌, not, Bool, true, false, cond, List, [], Option, Some, None, Ok, Err, eqb, leb, refl, ap, sym, ◌∙◌, subst, arith, append-nil}
 use Rattle.std.specs.Prelude.{nat_le, option_map, option_and_then}
 use Rattle.std.proofs.lemmas.Bool.{and_parts, leb-true, le-leb}
 use Rattle.std.proofs.lemmas.Bool.Decides.{nat_tests}
@@ -7,9 +7,8 @@ use Rattle.sqlite_value.specs.declared.value.Value.{Value}
 use Rattle.sqlite_value.specs.declared.value.Value.TheVariants.{Null, Int, Real, Text, Blob}
 use Rattle.acceptor_keeper.specs.declared.fault.KeeperFault.TheVariants.{Damaged, Version}
 use Rattle.sqlite_value.specs.Order.{Row, column}
-use Rattle.sqlite_trees.specs.Tree.{Trees, rowid}
+use Rattle.sqlite_trees.specs.Tree.{rowid}
 use Rattle.sqlite_catalog.specs.Listing.{IsSound}
-use Rattle.sqlite_rules.specs.Lists.{Has}
 use Rattle.sqlite.specs.Effect.{Database}
 use Rattle.paxos_packets.specs.Vote.{put_vote}
 use Rattle.paxos_packets.specs.declared.ballot.Ballot.{Ballot}
@@ -20,10 +19,10 @@ use Rattle.command_codec.specs.Coder.{IsReadAgain, Puts}
 use Rattle.command_codec.specs.Entry.{entry_reading, entry_spelling, entry_front, whole}
 use Rattle.paxos_packets.specs.declared.entry.Entry.{Entry}
 use Rattle.acceptor_store.specs.declared.rows.Numbers.{Numbers}
-use Rattle.acceptor_store.specs.Tables.{store_schema, meta_row, vote_row, meta_columns, vote_columns}
+use Rattle.acceptor_store.specs.Tables.{store_schema, meta_row, vote_row, meta_columns}
 use Rattle.acceptor_store.specs.Statements.{round_of, node_of, HasAtMost, PutsMeta}
-use Rattle.acceptor_store.specs.Rows.{number, is_number, within, if_within, slot_in, boot_in, ballot_in, promise_in, vote_of, is_promised, numbers_of, or_damaged}
-use Rattle.acceptor_store.specs.Store.{IsVote, AreVotes, HasNumbers, StandsFor, Stores, Reads, written, is_ballot, is_promise, are_numbers, is_placed, NotLowered, numbers_in_rows}
+use Rattle.acceptor_store.specs.Rows.{number, is_number, within, boot_in, ballot_in, promise_in, numbers_of, or_damaged}
+use Rattle.acceptor_store.specs.Store.{IsVote, AreVotes, HasNumbers, Reads, written, is_ballot, is_promise, are_numbers, NotLowered}
 use Rattle.acceptor_store.specs.Once.{all_has}
 use Rattle.acceptor_store.proofs.Votes.{all_from}
 

@@ -1,5 +1,5 @@
 -- A store is one store: trees stand for no two lists of votes, and for no two sets of rows.
-use Rattle.std.proofs.Common.{◌≡◌, ◌⊎◌, inl, inr, ℕ, ◌<◌, List, [], ◌∷◌, Option, Some, None, Ok, Err, refl, ap, sym, ◌∙◌, subst, arith}
+use Rattle.std.proofs.Common.{◌≡◌, inl, inr, ℕ, ◌<◌, List, [], ◌∷◌, Option, Some, Ok, refl, ap, sym, ◌∙◌, subst, arith}
 use Rattle.std.specs.List.{AllByRecursion}
 use Rattle.sqlite_value.specs.Order.{Row}
 use Rattle.sqlite_trees.specs.Tree.{Trees}
@@ -9,9 +9,9 @@ use Rattle.paxos_packets.specs.declared.vote.Vote.{Vote}
 use Rattle.paxos_packets.specs.declared.rows.Rows.{Rows}
 use Rattle.command_codec.specs.Number.{Reading}
 use Rattle.acceptor_store.specs.declared.rows.Numbers.{Numbers}
-use Rattle.acceptor_store.specs.Tables.{meta_columns, vote_columns}
-use Rattle.acceptor_store.specs.Rows.{vote_of, numbers_of}
-use Rattle.acceptor_store.specs.Store.{AscendFrom, IsVote, AreVotes, StandsFor, Stores, numbers_in_rows}
+use Rattle.acceptor_store.specs.Tables.{meta_columns}
+use Rattle.acceptor_store.specs.Rows.{numbers_of}
+use Rattle.acceptor_store.specs.Store.{AscendFrom, AreVotes, StandsFor, Stores, numbers_in_rows}
 
 pub all_has : {A : Type 0} (P : A → Type 0) (xs : List A) (x : A) → AllByRecursion P xs → Has xs x → P x
 all_has P [] x h none = absurd none
