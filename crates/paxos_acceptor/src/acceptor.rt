@@ -1,4 +1,5 @@
 ghost use Rattle.std.specs.Prelude.{◌≡◌, ◌≤◌, true, false, length, IfOk, IsErr, OnOk, OnErr};
+ghost use Rattle.paxos_packets.specs.Vote.{votes_from};
 ghost use Rattle.paxos_acceptor.specs.Acceptor.{adopted, judged, no_change, may_promise, may_accept, refused, prepared, voted};
 
 use crate::fault::Memory;
@@ -129,6 +130,13 @@ impl<B: Body> Acceptor<B> {
                 answer: Answer::Nothing,
             }),
         }
+    }
+
+    /// Copies of its votes from the slot with this number on; no other is copied.
+    pub fn votes_from(&self, alloc: Global, first: u64) -> Result<Votes<B>, Memory>
+        ensures { IfOk result (λ votes. votes ≡ votes_from first self.now.rows.votes) }
+    {
+        Ok(self.votes.copy_from(alloc, first)?)
     }
 
     /// Takes over what was committed: the promise, and each vote in its slot. With `Memory` the rows stay as they were and the acceptor
