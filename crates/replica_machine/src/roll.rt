@@ -29,8 +29,8 @@ impl Standing {
         }
     }
 
-    // Whether the boot is live, so that a Lost of it takes effect.
-    fn is_live(self, boot: u64) -> bool
+    /// Whether the boot is live, so that a Lost of it takes effect.
+    pub fn is_live(self, boot: u64) -> bool
         ensures { result ≡ is_live self boot }
     {
         match self {
@@ -59,6 +59,47 @@ impl Standing {
             Standing::Unknown => false,
             Standing::Live { boot: live, taken } => live == boot && seq <= taken,
             Standing::Gone { .. } => false,
+        }
+    }
+
+    /// Where the node that stands so stands behind one entry more. Takes no memory.
+    pub fn behind<B>(self, node: u8, entry: &Entry<B>) -> Standing
+        ensures { result ≡ standing_after node self entry.now }
+    {
+        match entry {
+            Entry::Noop => self,
+            Entry::Boot { node: other, boot } => {
+                if *other == node && self.is_new_boot(*boot) {
+                    Standing::Live {
+                        boot: *boot,
+                        taken: 0,
+                    }
+                } else {
+                    self
+                }
+            }
+            Entry::Lost { node: other, boot } => {
+                if *other == node && self.is_live(*boot) {
+                    self.gone()
+                } else {
+                    self
+                }
+            }
+            Entry::Item {
+                node: other,
+                boot,
+                seq,
+                ..
+            } => {
+                if *other == node && self.is_next(*boot, *seq) {
+                    Standing::Live {
+                        boot: *boot,
+                        taken: *seq,
+                    }
+                } else {
+                    self
+                }
+            }
         }
     }
 
@@ -100,8 +141,8 @@ impl Roll {
         }
     }
 
-    // Where the node stands.
-    fn standing(&self, node: u8) -> Standing
+    /// Where the node stands. Takes no memory.
+    pub fn standing(&self, node: u8) -> Standing
         ensures { result ≡ standing_in self.now node }
     {
         self.standings[node as usize]
