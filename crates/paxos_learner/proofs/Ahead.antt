@@ -4,7 +4,7 @@ use Rattle.std.proofs.Common.{Ordering, Less, Equal, Greater, length, get_or, lt
 use Rattle.std.proofs.lemmas.Bool.{ltb-true, eqb-true}
 use Rattle.std.proofs.lemmas.Bool.Decides.{nat_tests}
 use Rattle.std.specs.Ordering.{nat_cmp, is_eq, match_ordering}
-use Rattle.std.specs.Prelude.{option_map, ◌==◌}
+use Rattle.std.specs.Prelude.{option_map, ◌==◌, ◌^◌}
 use Rattle.std.specs.Option.{option_flatten}
 use Rattle.std.specs.List.{find, list_any, slice_get}
 use Rattle.std.specs.Map.{lookup, keys_of}
@@ -36,12 +36,13 @@ longer (y ∷ ys) x = let h = longer ys x in omega arith
 -- places that rise
 
 pub lower : {X : Type 0} (m n : ℕ) (ps : List (ℕ × X)) → m ≤ n → AreRising n ps → AreRising m ps
-lower m n [] l a = tt
+lower m n [] l a = let k : n < 2 ^ 40 = a in omega arith
 lower m n (p ∷ ps) l a = let k : n < p.0 = a.0 in (omega arith, a.1)
 
-pub rising_put : {X : Type 0} (n slot : ℕ) (x : X) (ps : List (ℕ × X)) → n < slot → AreRising n ps → AreRising n (insert_entry nat_cmp ps slot x)
-rising_put n slot x [] l a = (l, tt)
-rising_put {X} n slot x (p ∷ ps) l a = go (ltb slot p.0) (eqb slot p.0) refl refl (rising_put p.0 slot x ps)
+pub rising_put : {X : Type 0} (n slot : ℕ) (x : X) (ps : List (ℕ × X)) → n < slot → slot < 2 ^ 40 → AreRising n ps
+    → AreRising n (insert_entry nat_cmp ps slot x)
+rising_put n slot x [] l m a = (l, m)
+rising_put {X} n slot x (p ∷ ps) l m a = go (ltb slot p.0) (eqb slot p.0) refl refl (λ k. rising_put p.0 slot x ps k m)
   where
     go : (y z : Bool) → ltb slot p.0 ≡ y → eqb slot p.0 ≡ z
         → (p.0 < slot → AreRising p.0 ps → AreRising p.0 (insert_entry nat_cmp ps slot x))

@@ -1,5 +1,5 @@
 -- Room that is kept: no slot loses its place.
-use Rattle.std.proofs.Common.{◌≡◌, true, List, [], ◌∷◌}
+use Rattle.std.proofs.Common.{List, [], ◌∷◌}
 use Rattle.paxos_learner.specs.declared.hearing.News.{News}
 use Rattle.paxos_learner.specs.Hearing.{slot_of, HavePlaces}
 use Rattle.paxos_learner.specs.Learner.{Held, KeepsRoom}

@@ -1,7 +1,7 @@
 -- What a learner would be that hears more, told of the sets that change and the entries that are gained.
-use Rattle.std.proofs.Common.{◌≡◌, ℕ, suc, ltb, eqb, Bool, true, false, cond, ◌||◌, Option, Some, None, is_some, List, [], ◌∷◌, ◌++◌, fold}
+use Rattle.std.proofs.Common.{◌≡◌, ℕ, ltb, eqb, Bool, true, false, cond, Option, Some, None, is_some, List, [], ◌∷◌, ◌++◌}
 use Rattle.std.proofs.Common.{refl, sym, ap, ◌∙◌, subst, eq-eqb}
-use Rattle.std.specs.Prelude.{option_map, ◌==◌}
+use Rattle.std.specs.Prelude.{option_map, ◌==◌, ◌≤◌, ◌<◌, ◌^◌}
 use Rattle.std.specs.Option.{option_or, unwrap_or}
 use Rattle.std.specs.List.{find}
 use Rattle.std.specs.Map.{lookup}
@@ -18,7 +18,9 @@ use Rattle.paxos_learner.specs.Tallies.{Heard, same_place, place_of, nodes_heard
 use Rattle.paxos_learner.specs.Learner.{LearnerState, State, learned_at, is_learned, put_learned, learn, learn_among, hears, has_most, count_vote}
 use Rattle.paxos_learner.specs.Hearing.{hear_news, hear_all, over, gain, IsOver}
 use Rattle.paxos_learner.proofs.Ahead.{learned_is}
+use Rattle.paxos_learner.specs.Learned.{Rises}
 use Rattle.paxos_learner.proofs.Counting.{place_same, most_then, learn_parts}
+use Rattle.paxos_learner.proofs.Rising.{learn_rises}
 
 -- one more is heard last
 
@@ -86,7 +88,7 @@ over_heard changed gained old new node q nodes is e p =
 
 -- entries in their slots
 
-at_put : {B : Type 0} (s slot : ℕ) (e : Entry B) (ls : List (LearnedEntry B)) → learned_at slot ls ≡ None
+pub at_put : {B : Type 0} (s slot : ℕ) (e : Entry B) (ls : List (LearnedEntry B)) → learned_at slot ls ≡ None
     → learned_at s (put_learned (record { slot = slot; entry = e }) ls) ≡ cond (eqb slot s) (Some e) (learned_at s ls)
 at_put {B} s slot e [] h = go (eqb slot s)
   where
@@ -145,8 +147,8 @@ over_gain {B} changed gained old new slot e is s = go (over slot gained old.lear
 
 -- a learner that hears one more
 
-pub over_none : {B : Type 0} (l : LearnerState B) → IsOver [] [] l l
-over_none l = record { heard = λ p. refl; learned = λ s. refl }
+pub over_none : {B : Type 0} (l : LearnerState B) → Rises 0 l.learned → IsOver [] [] l l
+over_none l r = record { heard = λ p. refl; learned = λ s. refl; rises = r }
 
 pub over_few : {B : Type 0} (members node : ℕ) (v : Vote B) (changed : Heard) (gained : List (LearnedEntry B)) (old new : LearnerState B) (nodes : List Bool)
     → IsOver changed gained old new → nodes ≡ set_with (nodes_heard (place_of v) new.heard) node → is_majority members (is_in nodes) ≡ false
@@ -155,25 +157,35 @@ over_few {B} members node v changed gained old new nodes is e few =
     let k : has_most members v (hears node v new) ≡ false =
     most_then members node v new ∙ ap (λ (set : List Bool). is_majority members (is_in set)) (sym e) ∙ few in
     subst (λ (l : LearnerState B). IsOver (insert_entry same_place changed (place_of v) nodes) gained old l) (rw k refl)
-    (record { heard = over_heard changed gained old new node (place_of v) nodes is e; learned = is.learned })
+    (record { heard = over_heard changed gained old new node (place_of v) nodes is e; learned = is.learned; rises = is.rises })
 
 pub over_most : {B : Type 0} (members node : ℕ) (v : Vote B) (changed : Heard) (gained : List (LearnedEntry B)) (old new : LearnerState B) (nodes : List Bool)
     → IsOver changed gained old new → nodes ≡ set_with (nodes_heard (place_of v) new.heard) node → is_majority members (is_in nodes) ≡ true
+    → 1 ≤ v.slot → v.slot < 2 ^ 40
     → IsOver (insert_entry same_place changed (place_of v) nodes) (gain v.slot v.entry (over v.slot gained old.learned) gained) old (count_vote members node v new)
-over_most {B} members node v changed gained old new nodes is e most =
+over_most {B} members node v changed gained old new nodes is e most low high =
     let k : has_most members v (hears node v new) ≡ true =
     most_then members node v new ∙ ap (λ (set : List Bool). is_majority members (is_in set)) (sym e) ∙ most in
     let q : record { heard = hear node (place_of v) new.heard; learned = learn_among v.slot v.entry new.learned } ≡ count_vote members node v new =
     rw k (sym (learn_parts v.slot v.entry (hears node v new))) in
     subst (λ (l : LearnerState B).
     IsOver (insert_entry same_place changed (place_of v) nodes) (gain v.slot v.entry (over v.slot gained old.learned) gained) old l) q
-    (record { heard = over_heard changed gained old new node (place_of v) nodes is e; learned = over_gain changed gained old new v.slot v.entry is })
+    (record {
+      heard = over_heard changed gained old new node (place_of v) nodes is e;
+      learned = over_gain changed gained old new v.slot v.entry is;
+      rises = learn_rises v.slot v.entry new.learned low high is.rises;
+    })
 
 pub over_told : {B : Type 0} (changed : Heard) (gained : List (LearnedEntry B)) (old new : LearnerState B) (slot : ℕ) (e : Entry B)
-    → IsOver changed gained old new → IsOver changed (gain slot e (over slot gained old.learned) gained) old (learn slot e new)
-over_told {B} changed gained old new slot e is =
+    → IsOver changed gained old new → 1 ≤ slot → slot < 2 ^ 40
+    → IsOver changed (gain slot e (over slot gained old.learned) gained) old (learn slot e new)
+over_told {B} changed gained old new slot e is low high =
     subst (λ (l : LearnerState B). IsOver changed (gain slot e (over slot gained old.learned) gained) old l) (sym (learn_parts slot e new))
-    (record { heard = is.heard; learned = over_gain changed gained old new slot e is })
+    (record {
+      heard = is.heard;
+      learned = over_gain changed gained old new slot e is;
+      rises = learn_rises slot e new.learned low high is.rises;
+    })
 
 -- what is told of equal parts
 

@@ -3,11 +3,11 @@ use Rattle.std.specs.Prelude.{◌≡◌, ◌≤◌, ℕ, true, Option, Some, Non
 use Rattle.std.specs.Option.{option_or, unwrap_or}
 use Rattle.std.specs.Map.{lookup}
 use Rattle.paxos_packets.specs.declared.entry.Entry.{Entry}
-use Rattle.paxos_packets.specs.declared.vote.Vote.{Vote}
 use Rattle.paxos_learner.specs.declared.hearing.News.{News}
 use Rattle.paxos_learner.specs.declared.hearing.News.TheVariants.{Cast, Told}
 use Rattle.paxos_learner.specs.declared.learned.LearnedEntry.{LearnedEntry}
 use Rattle.paxos_learner.specs.declared.tallies.Place.{Place}
+use Rattle.paxos_learner.specs.Learned.{Rises}
 use Rattle.paxos_learner.specs.Tallies.{Heard, same_place, nodes_heard}
 use Rattle.paxos_learner.specs.Learner.{LearnerState, State, Held, has_room_at, learned_at, put_learned, voted, told}
 
@@ -40,10 +40,12 @@ abbrev pub gain : {B : Type 0} → ℕ → Entry B → Option (Entry B) → List
 gain slot e (Some d) gained = gained
 gain slot e None gained = put_learned (record { slot = slot; entry = e }) gained
 
--- of a learner that was and one that is: the sets that changed, and the entries that were gained, tell what is new
+-- of a learner that was and one that is: the sets that changed, and the entries that were gained, tell what is new; and what it learned
+-- stands by ascending slot
 pub record IsOver {B : Type 0} (changed : Heard) (gained : List (LearnedEntry B)) (old new : LearnerState B) : Type 0 where
   pub heard : (p : Place) → nodes_heard p new.heard ≡ unwrap_or (lookup (same_place p) changed) (nodes_heard p old.heard)
   pub learned : (slot : ℕ) → learned_at slot new.learned ≡ over slot gained old.learned
+  pub rises : Rises 0 new.learned
 
 -- room for it
 

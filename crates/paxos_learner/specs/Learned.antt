@@ -1,6 +1,6 @@
 -- How what was learned is kept: a run of entries from slot 1 on without a gap, and those that stand ahead of it, in places of
 -- which some are still free.
-use Rattle.std.specs.Prelude.{ℕ, suc, Bool, true, ◌||◌, ◌==◌, Option, Some, None, List, [], ◌∷◌, ◌++◌, ◌≡◌, ◌<◌, ⊤}
+use Rattle.std.specs.Prelude.{ℕ, suc, Bool, true, ◌||◌, ◌==◌, Option, Some, None, List, [], ◌∷◌, ◌++◌, ◌≡◌, ◌<◌, ◌^◌, length, take}
 use Rattle.std.specs.List.{list_any}
 use Rattle.std.specs.Map.{keys_of}
 use Rattle.paxos_packets.specs.declared.entry.Entry.{Entry}
@@ -32,10 +32,19 @@ run_then run ahead = numbered 1 run ++ placed ahead
 abbrev pub shelf_of : {B : Type 0} → List (Entry B) → List (ℕ × Option (Entry B)) → Shelf B
 shelf_of run ahead = record { learned = run_then run ahead; places = keys_of ahead }
 
--- these slots rise, and are above this one
+-- these slots rise from above this one, and all are below 2^40
 abbrev pub AreRising : {X : Type 0} → ℕ → List (ℕ × X) → Type 0
-AreRising slot [] = ⊤
+AreRising slot [] = slot < 2 ^ 40
 AreRising slot (p ∷ ps) = (slot < p.0) × AreRising p.0 ps
+
+-- so do those of learned entries
+abbrev pub Rises : {B : Type 0} → ℕ → List (LearnedEntry B) → Type 0
+Rises slot [] = slot < 2 ^ 40
+Rises slot (l ∷ ls) = (slot < l.slot) × Rises l.slot ls
+
+-- what was learned begins with this log: its entries in the slots from 1 on
+abbrev pub Begins : {B : Type 0} → List (Entry B) → List (LearnedEntry B) → Type 0
+Begins log learned = take (length log) learned ≡ numbered 1 log
 
 -- an entry was learned in the slot, or it has a place for one
 abbrev pub is_learned : {B : Type 0} → ℕ → List (LearnedEntry B) → Bool

@@ -1,7 +1,7 @@
 -- One member as a learner: an entry is learned where a majority is heard to have voted for it in one ballot, or where a
 -- member tells that it was (Lamport 2001, section 2.3).
-use Rattle.std.specs.Prelude.{◌≡◌, ℕ, suc, Bool, true, false, not, ◌&&◌, nat_lt, ◌==◌, Option, Some, None, option_map, List, [], ◌∷◌}
-use Rattle.std.specs.Prelude.{if◌then◌else◌}
+use Rattle.std.specs.Prelude.{◌≡◌, ℕ, suc, Bool, true, false, not, ◌&&◌, nat_lt, nat_le, ◌==◌, Option, Some, None, option_map, List, [], ◌∷◌}
+use Rattle.std.specs.Prelude.{filter, if◌then◌else◌}
 use Rattle.std.specs.List.{find}
 use Rattle.paxos_packets.specs.Members.{is_in, is_majority}
 use Rattle.paxos_packets.specs.Entry.{same_entry}
@@ -80,6 +80,10 @@ abbrev pub run_from : {B : Type 0} → ℕ → List (LearnedEntry B) → List (E
 run_from slot [] = []
 run_from slot (l ∷ ls) =
     run_with (l.slot == slot) (nat_lt l.slot slot) l.entry (run_from (if l.slot == slot then suc slot else slot) ls)
+
+-- what was learned in the slots from this one on, and below that one
+abbrev pub learned_within : {B : Type 0} → ℕ → ℕ → List (LearnedEntry B) → List (LearnedEntry B)
+learned_within first past learned = filter (λ l. nat_le first l.slot && nat_lt l.slot past) learned
 
 -- a learner that knows the members
 

@@ -1,19 +1,23 @@
-ghost use Rattle.std.specs.Prelude.{◌≡◌, ◌∷◌, [], ◌++◌, ℕ, IfOk, OnOk, OnErr, IsOkUnless, option_copied};
+ghost use Rattle.std.specs.Prelude.{◌≡◌, ◌∷◌, [], ◌++◌, ◌+◌, ◌<◌, ◌≤◌, ◌^◌, ℕ, suc, IfOk, OnOk, OnErr, IsOkUnless, option_copied};
 ghost use Rattle.std.specs.Map.{lookup};
 ghost use Rattle.std.specs.Option.{unwrap_or};
 ghost use Rattle.paxos_learner.specs.declared.fault.LearnerFault.TheVariants.{Memory};
 ghost use Rattle.paxos_learner.specs.declared.hearing.News.TheVariants.{Cast, Told};
 ghost use Rattle.paxos_learner.specs.Hearing.{after, and_news, over, gain};
-ghost use Rattle.paxos_learner.specs.Learner.{learned_at, is_other, disagrees, vote_disagrees};
+ghost use Rattle.paxos_learner.specs.Learned.{Rises};
+ghost use Rattle.paxos_learner.specs.Learner.{learned_at, is_other, disagrees, vote_disagrees, run_from, learned_within};
 ghost use Rattle.paxos_learner.specs.Tallies.{nodes_heard, same_place};
 
 use crate::fault::LearnerFault;
-use crate::learned::LearnedEntries;
+use crate::learned::{LearnedEntries, LearnedEntry};
 use crate::learner::Learner;
 use crate::tallies::{Place, Tallies};
-use paxos_packets::{Body, Entry, NodeSet, Slot, Vote};
+use paxos_packets::{Body, Entries, Entry, NodeSet, Slot, Vote};
 use std::alloc::Global;
 use std::marker::Model;
+
+// One past the greatest slot.
+const SLOT_END: u64 = 1 << 40;
 
 /// What a learner hears.
 #[derive(Debug, Drop)]
@@ -53,6 +57,7 @@ impl<'a, B> Hearing<'a, B> {
         ensures before { result.before ≡ learner.now.state }
         ensures news { result.news ≡ [] }
     {
+        learner.ascends();
         Hearing {
             alloc,
             learner,
@@ -68,12 +73,31 @@ impl<'a, B> Hearing<'a, B> {
     {
         find_over(self.learner, &self.gained, slot)
     }
+
+    // The entry that would be learned in the slot with this number, if there is such a slot.
+    fn learned_in(&self, number: u64) -> Option<&Entry<B>>
+        ensures { option_copied result ≡ learned_at number (after self.now).learner.learned }
+    {
+        self.ascends();
+        match Slot::new(number) {
+            Some(slot) => self.learned(slot),
+            None => None,
+        }
+    }
+
+    // What would be learned stands by ascending slot.
+    fn ascends(&self)
+        ensures { Rises 0 (after self.now).learner.learned }
+    {
+        let _ = &self.gained;
+    }
 }
 
 impl<'a, B: Drop> Hearing<'a, B> {
-    /// What is to be heard, in its order.
+    /// What is to be heard, in its order: then what is learned stands by ascending slot.
     pub fn into_news(self) -> Vec<News<B>>
-        ensures { result.items ≡ self.entry.news }
+        ensures news { result.items ≡ self.entry.news }
+        ensures rises { Rises 0 (after self.entry).learner.learned }
     {
         let Hearing { news, .. } = self;
         news
@@ -137,6 +161,106 @@ impl<'a, B: Body> Hearing<'a, B> {
         self.news.push_reserved(News::Told { slot, entry: copy });
         Ok(other)
     }
+
+    /// Copies of the entries that would be learned in the slots behind the first `applied`, up to the first slot that would have none. Each
+    /// is found as `learned` finds it, and nothing else is looked at.
+    pub fn run_behind(&self, applied: u64) -> Result<Entries<B>, LearnerFault>
+        ensures run { IfOk result (λ run. run ≡ run_from (suc applied) (after self.now).learner.learned) }
+        ensures memory { IsOkUnless result Memory }
+    {
+        run_behind(self, self.alloc, applied)
+    }
+
+    /// Copies of what would be learned in the slot with this number and the 63 behind it. Each is found as `learned` finds it, and nothing
+    /// else is looked at.
+    pub fn learned_from(&self, first: u64) -> Result<Vec<LearnedEntry<B>>, LearnerFault>
+        ensures learned { IfOk result (λ told. told.items ≡ learned_within first (first + 64) (after self.now).learner.learned) }
+        ensures memory { IsOkUnless result Memory }
+    {
+        learned_from(self, self.alloc, first)
+    }
+}
+
+fn run_behind<B: Body>(
+    hearing: &Hearing<'_, B>,
+    alloc: Global,
+    applied: u64,
+) -> Result<Entries<B>, LearnerFault>
+    ensures run { IfOk result (λ run. run ≡ run_from (suc applied) (after hearing.now).learner.learned) }
+    ensures memory { IsOkUnless result Memory }
+{
+    hearing.ascends();
+    let mut run = Entries::new(alloc);
+    for number in applied..SLOT_END {
+        let Some(entry) = hearing.learned_in(number + 1) else {
+            return Ok(run);
+        };
+        push_copy(alloc, &mut run, entry)?;
+    }
+    Ok(run)
+}
+
+fn learned_from<B: Body>(
+    hearing: &Hearing<'_, B>,
+    alloc: Global,
+    first: u64,
+) -> Result<Vec<LearnedEntry<B>>, LearnerFault>
+    ensures learned { IfOk result (λ told. told.items ≡ learned_within first (first + 64) (after hearing.now).learner.learned) }
+    ensures memory { IsOkUnless result Memory }
+{
+    hearing.ascends();
+    let mut told = Vec::new(alloc);
+    if first >= SLOT_END {
+        return Ok(told);
+    }
+    for number in first..first + 64 {
+        tell_one(hearing, alloc, &mut told, number)?;
+    }
+    Ok(told)
+}
+
+// What would be learned in the slot with this number, if there is any, is put at the end.
+fn tell_one<B: Body>(
+    hearing: &Hearing<'_, B>,
+    alloc: Global,
+    told: &mut Vec<LearnedEntry<B>>,
+    number: u64,
+) -> Result<(), LearnerFault>
+    ensures ok { OnOk result (told.new.items ≡ told.old.items ++ learned_within number (suc number) (after hearing.now).learner.learned) }
+    ensures memory { IsOkUnless result Memory }
+{
+    hearing.ascends();
+    let Some(slot) = Slot::new(number) else {
+        return Ok(());
+    };
+    let Some(entry) = hearing.learned(slot) else {
+        return Ok(());
+    };
+    let Ok(entry) = entry.copy(alloc) else {
+        return Err(LearnerFault::Memory);
+    };
+    let Ok(()) = told.push(LearnedEntry { slot, entry }) else {
+        return Err(LearnerFault::Memory);
+    };
+    Ok(())
+}
+
+// A copy of the entry is put at the end.
+fn push_copy<B: Body>(
+    alloc: Global,
+    entries: &mut Entries<B>,
+    entry: &Entry<B>,
+) -> Result<(), LearnerFault>
+    ensures ok { OnOk result (entries.new ≡ entries.old ++ entry.now ∷ []) }
+    ensures memory { IsOkUnless result Memory }
+{
+    let Ok(copy) = entry.copy(alloc) else {
+        return Err(LearnerFault::Memory);
+    };
+    let Ok(()) = entries.push(copy) else {
+        return Err(LearnerFault::Memory);
+    };
+    Ok(())
 }
 
 // The members that would have been heard to vote there.
@@ -177,7 +301,10 @@ fn gain<B: Body>(
         ≡ is_other B.same entry.now (over slot gained.old.learned learner.now.state.learner.learned)) }
     ensures err { OnErr result (gained.new.learned ≡ gained.old.learned) }
     ensures memory { IsOkUnless result Memory }
+    ensures least { 1 ≤ slot }
+    ensures most { slot < 2 ^ 40 }
 {
+    let _number = slot.get();
     if let Some(known) = find_over(learner, gained, slot) {
         return Ok(!known.same(entry));
     }

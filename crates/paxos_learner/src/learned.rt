@@ -1,6 +1,6 @@
 ghost use Rattle.std.specs.Prelude.{◌≡◌, ℕ, true, [], None, OnOk, OnErr, IsOkUnless, option_copied};
 ghost use Rattle.paxos_learner.specs.declared.fault.LearnerFault.TheVariants.{Memory};
-ghost use Rattle.paxos_learner.specs.Learned.{has_place, placed, AreRising, KeepsPlaces};
+ghost use Rattle.paxos_learner.specs.Learned.{has_place, placed, AreRising, KeepsPlaces, Rises};
 ghost use Rattle.paxos_learner.specs.Learner.{learned_at, put_learned};
 
 use crate::fault::LearnerFault;
@@ -44,6 +44,13 @@ impl<B> LearnedEntries<B> {
             run: Vec::new(alloc),
             ahead: BTreeMap::new(alloc),
         }
+    }
+
+    // The entries stand by ascending slot.
+    pub(crate) fn ascends(&self)
+        ensures { Rises 0 self.now.learned }
+    {
+        let _ = &self.run;
     }
 
     /// The entry that was learned in the slot. Takes no memory, and a constant number of steps in the run; ahead of it, a number that

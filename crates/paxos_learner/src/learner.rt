@@ -1,7 +1,7 @@
 ghost use Rattle.std.specs.Prelude.{◌≡◌, ◌↔◌, ◌+◌, ◌<◌, ◌≤◌, true, Err, OnOk, OnErr, IsOkUnless, option_copied};
 ghost use Rattle.paxos_learner.specs.declared.fault.LearnerFault.TheVariants.{Disagree, Memory};
 ghost use Rattle.paxos_packets.specs.Members.{is_in, is_majority};
-ghost use Rattle.paxos_learner.specs.Learned.{has_place, KeepsPlaces};
+ghost use Rattle.paxos_learner.specs.Learned.{has_place, KeepsPlaces, Rises};
 ghost use Rattle.paxos_learner.specs.Tallies.{nodes_heard};
 ghost use Rattle.paxos_learner.specs.Learner.{learned_at, learn_among, is_other, begun, told, voted, disagrees, vote_disagrees};
 ghost use Rattle.paxos_learner.specs.Learner.{has_room_at, KeepsRoom};
@@ -53,6 +53,13 @@ impl<B> Learner<B> {
 }
 
 impl<B> Learner<B> {
+    // What was learned stands by ascending slot.
+    pub(crate) fn ascends(&self)
+        ensures { Rises 0 self.now.state.learner.learned }
+    {
+        self.learned.ascends();
+    }
+
     // The members that were heard to have voted there.
     pub(crate) fn nodes(&self, place: &Place) -> NodeSet
         ensures { result ≡ nodes_heard place.now self.now.state.learner.heard }

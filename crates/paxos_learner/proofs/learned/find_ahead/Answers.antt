@@ -1,4 +1,4 @@
-use Rattle.std.proofs.Common.{◌≡◌, ◌∙◌, ap, sym}
+use Rattle.std.proofs.Common.{◌∙◌, ap}
 use Rattle.std.specs.Option.{option_flatten}
 use Rattle.paxos_learner.proofs.Ahead.{in_ahead}
 use Rattle.paxos_learner.proofs.learned.find_ahead.Goals as goal

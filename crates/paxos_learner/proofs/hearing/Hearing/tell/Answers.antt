@@ -17,4 +17,5 @@ invariant_of-self-2 g c =
     (over_same c.self.inside.changed.heard c.self.inside.changed.heard _ c.gain.new.gained.learned _ _ refl c.in_ok-other.ensures.ok
     (over_tell c.args.slot c.args.entry.now c.self.inside.news.items c.self.inside.learner.now.state c.self.inside.changed.heard _
     (over_told c.self.inside.changed.heard c.self.inside.gained.learned c.self.inside.learner.now.state.learner
-    (hear_all c.self.inside.news.items c.self.inside.learner.now.state).learner c.args.slot c.args.entry.now c.self.invariant)))
+    (hear_all c.self.inside.news.items c.self.inside.learner.now.state).learner c.args.slot c.args.entry.now c.self.invariant
+    c.gain.ensures.least c.gain.ensures.most)))

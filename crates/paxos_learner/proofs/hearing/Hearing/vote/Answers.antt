@@ -5,8 +5,8 @@ use Rattle.paxos_packets.specs.declared.vote.Vote.{Vote}
 use Rattle.paxos_learner.specs.declared.hearing.News.{News}
 use Rattle.paxos_learner.specs.declared.hearing.News.TheVariants.{Cast}
 use Rattle.paxos_learner.specs.Tallies.{Heard, place_of, nodes_heard, insert_entry, same_place}
-use Rattle.paxos_learner.specs.Learner.{State, learned_at, is_other, vote_disagrees}
-use Rattle.paxos_learner.specs.Hearing.{Draft, IsOver, hear_all, after, gain, over}
+use Rattle.paxos_learner.specs.Learner.{State, is_other, vote_disagrees}
+use Rattle.paxos_learner.specs.Hearing.{Draft, IsOver, hear_all, after}
 use Rattle.paxos_learner.proofs.Counting.{few_agree, most_agree}
 use Rattle.paxos_learner.proofs.Overlay.{members_stay, over_same, over_cast, over_few, over_most}
 use Rattle.paxos_learner.proofs.hearing.Hearing.vote.Goals as goal
@@ -70,7 +70,7 @@ invariant_of-self-2 g c =
     (over_same _ c.put_in_room-2.new.self.heard _ c.gain.new.gained.learned _ _ changed c.in_ok-other.ensures.ok
     (over_cast c.args.node v c.self.inside.news.items s _ _
     (over_most now.members c.args.node v c.self.inside.changed.heard c.self.inside.gained.learned s.learner now.learner c.with-nodes.result
-    c.self.invariant nodes most)))
+    c.self.invariant nodes most c.gain.ensures.least c.gain.ensures.most)))
 
 pub returns-clause-other : goal.returns-clause-other
 returns-clause-other g c =

@@ -1,4 +1,4 @@
-use Rattle.std.proofs.Common.{◌≡◌, ℕ, ◌+◌, ◌≤◌, length, ◌∙◌, ap, subst, arith, option_copied}
+use Rattle.std.proofs.Common.{◌≡◌, ℕ, length, ◌∙◌, ap, subst, arith, option_copied}
 use Rattle.paxos_learner.specs.Learned.{run_then, placed, Shelf}
 use Rattle.paxos_learner.specs.Learner.{learned_at}
 use Rattle.paxos_learner.proofs.Ahead.{in_run, behind_run, lower}

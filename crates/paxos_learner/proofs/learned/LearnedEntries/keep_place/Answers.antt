@@ -1,7 +1,6 @@
-use Rattle.std.proofs.Common.{◌≡◌, ◌+◌, ◌≤◌, ◌<◌, ℕ, true, false, length, None, Some, Option, ◌∙◌, sym, ap, subst, arith, nat_cmp, is_some, rules}
+use Rattle.std.proofs.Common.{◌≡◌, ℕ, true, false, length, None, ◌∙◌, sym, ap, subst, arith, nat_cmp, is_some, rules}
 use Rattle.std.specs.Map.{lookup}
-use Rattle.std.specs.BTreeMap.{is_at, insert_entry}
-use Rattle.paxos_packets.specs.declared.entry.Entry.{Entry}
+use Rattle.std.specs.BTreeMap.{is_at}
 use Rattle.paxos_learner.specs.Learned.{run_then, placed, shelf_of, Shelf, AreRising, has_place, KeepsPlaces}
 use Rattle.paxos_learner.specs.Learner.{learned_at}
 use Rattle.paxos_learner.proofs.Ahead.{unlearned, rising_put, kept_ahead, keeps_kept, place_kept, has_learned, has_kept, none_of, none_copied, some_copied}
@@ -28,7 +27,7 @@ invariant_of-self-2 g c =
     (omega (arith, c.get-number.ensures.value, c.get-number.ensures.least)) free in
     let rising : AreRising (length c.self.inside.run.items) c.insert.new.self.entries = rw c.in-Ok.ensures.entries
     (rising_put (length c.self.inside.run.items) c.get-number.result None c.self.inside.ahead.entries
-    (omega (arith, c.get-number.ensures.value, u.0)) c.self.invariant) in
+    (omega (arith, c.get-number.ensures.value, u.0)) (omega (arith, c.get-number.ensures.most)) c.self.invariant) in
     rising
 
 pub returns-clause-ok : goal.returns-clause-ok

@@ -1,4 +1,4 @@
-use Rattle.std.proofs.Common.{◌≡◌, ◌+◌, ◌≤◌, ◌<◌, ℕ, true, length, None, Some, ◌∙◌, sym, ap, subst, arith, nat_cmp}
+use Rattle.std.proofs.Common.{◌≡◌, ℕ, true, length, None, Some, ◌∙◌, sym, ap, subst, arith, nat_cmp}
 use Rattle.std.specs.Map.{lookup}
 use Rattle.std.specs.BTreeMap.{is_at}
 use Rattle.paxos_learner.specs.Learned.{run_then, placed, shelf_of, Shelf, AreRising, has_place, KeepsPlaces}
@@ -22,7 +22,7 @@ invariant_of-self g c =
     (omega (arith, c.get.ensures.value, c.get.ensures.least)) free in
     let rising : AreRising (length c.self.inside.run.items) c.insert.new.self.entries = rw c.in-Ok.ensures.entries
     (rising_put (length c.self.inside.run.items) c.get.result (Some c.args.entry) c.self.inside.ahead.entries
-    (omega (arith, c.get.ensures.value, u.0)) c.self.invariant) in
+    (omega (arith, c.get.ensures.value, u.0)) (omega (arith, c.get.ensures.most)) c.self.invariant) in
     rising
 
 pub returns-clause-learned : goal.returns-clause-learned

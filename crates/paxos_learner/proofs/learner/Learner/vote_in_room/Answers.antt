@@ -1,7 +1,6 @@
 use Rattle.std.proofs.Common.{◌≡◌, List, Bool, true, false, sym, ap, ◌∙◌, rules}
 use Rattle.paxos_packets.specs.Members.{is_majority, is_in, set_with}
 use Rattle.paxos_packets.specs.declared.vote.Vote.{Vote}
-use Rattle.paxos_learner.specs.declared.tallies.Place.{Place}
 use Rattle.paxos_learner.specs.Tallies.{Heard, hear, nodes_heard, place_of}
 use Rattle.paxos_learner.specs.Learner.{Held, voted}
 use Rattle.paxos_learner.proofs.Counting.{few_voted, most_voted}

@@ -1,0 +1,90 @@
+-- What was learned stands by ascending slot, each slot from 1 to 2^40 - 1.
+use Rattle.std.proofs.Common.{◌≡◌, ℕ, suc, ◌+◌, ◌<◌, ◌≤◌, Bool, true, false, cond, ◌||◌, Option, Some, None, List, [], ◌∷◌, ◌++◌, length, ltb, eqb}
+use Rattle.std.proofs.Common.{refl, arith}
+use Rattle.std.proofs.lemmas.Bool.{ltb-true, eqb-true}
+use Rattle.std.proofs.lemmas.Bool.Decides.{nat_tests}
+use Rattle.std.specs.Prelude.{option_map, ◌==◌, ◌^◌}
+use Rattle.std.specs.List.{find}
+use Rattle.paxos_packets.specs.declared.entry.Entry.{Entry}
+use Rattle.paxos_learner.specs.declared.learned.LearnedEntry.{LearnedEntry}
+use Rattle.paxos_learner.specs.Learned.{numbered, placed, placed_in, run_then, AreRising, Rises, is_learned}
+use Rattle.paxos_learner.specs.Learner.{learned_at, put_learned, learn_among}
+use Rattle.paxos_learner.proofs.Ahead.{lower}
+
+pub rises_lower : {B : Type 0} (m n : ℕ) (ls : List (LearnedEntry B)) → m ≤ n → Rises n ls → Rises m ls
+rises_lower m n [] l r = let k : n < 2 ^ 40 = r in omega arith
+rises_lower m n (x ∷ xs) l r = let k : n < x.slot = r.0 in (omega arith, r.1)
+
+pub ends : {B : Type 0} (n : ℕ) (ls : List (LearnedEntry B)) → Rises n ls → n < 2 ^ 40
+ends n [] r = r
+ends n (x ∷ xs) r = let k : n < x.slot = r.0 in let m : x.slot < 2 ^ 40 = ends x.slot xs r.1 in omega arith
+
+-- a run, then what stands ahead of it
+
+placed_rises : {B : Type 0} (n : ℕ) (ps : List (ℕ × Option (Entry B))) → AreRising n ps → Rises n (placed ps)
+placed_rises n [] a = a
+placed_rises {B} n (p ∷ ps) a = go p.1 (placed_rises p.0 ps a.1)
+  where
+    go : (x : Option (Entry B)) → Rises p.0 (placed ps) → Rises n (placed_in p.0 x (placed ps))
+    go None r = let k : n < p.0 = a.0 in rises_lower n p.0 (placed ps) (omega arith) r
+    go (Some e) r = (a.0, r)
+
+run_rises : {B : Type 0} (n k : ℕ) (run : List (Entry B)) (ps : List (ℕ × Option (Entry B))) → n + length run ≤ k → AreRising k ps
+    → Rises n (numbered (suc n) run ++ placed ps)
+run_rises n k [] ps l a = placed_rises n ps (lower n k ps (omega arith) a)
+run_rises n k (e ∷ es) ps l a = (omega arith, run_rises (suc n) k es ps (omega arith) a)
+
+pub shelf_rises : {B : Type 0} (run : List (Entry B)) (ps : List (ℕ × Option (Entry B))) → AreRising (length run) ps → Rises 0 (run_then run ps)
+shelf_rises run ps a = run_rises 0 (length run) run ps (omega arith) a
+
+-- where an entry was learned
+
+pub above : {B : Type 0} (n slot : ℕ) (ls : List (LearnedEntry B)) (e : Entry B) → Rises n ls → learned_at slot ls ≡ Some e
+    → (n < slot) × (slot < 2 ^ 40)
+above n slot [] e r h = absurd (cc)
+above {B} n slot (x ∷ xs) e r h = go (eqb x.slot slot) refl h (above x.slot slot xs e r.1)
+  where
+    go : (b : Bool) → eqb x.slot slot ≡ b
+        → option_map (λ (l : LearnedEntry B). l.entry) (cond b (Some x) (find (λ l. l.slot == slot) xs)) ≡ Some e
+        → (learned_at slot xs ≡ Some e → (x.slot < slot) × (slot < 2 ^ 40)) → (n < slot) × (slot < 2 ^ 40)
+    go true q f more =
+        let k : n < x.slot = r.0 in
+        let m : x.slot < 2 ^ 40 = ends x.slot xs r.1 in
+        let z : x.slot ≡ slot = eqb-true x.slot slot q in
+        (omega arith, omega arith)
+    go false q f more =
+        let k : n < x.slot = r.0 in
+        let m = more f in
+        let z : x.slot < slot = m.0 in
+        (omega arith, m.1)
+
+-- no entry stands outside these slots
+pub none_outside : {B : Type 0} (slot : ℕ) (ls : List (LearnedEntry B)) → Rises 0 ls → ((1 ≤ slot) × (slot < 2 ^ 40) → ⊥) → None ≡ learned_at slot ls
+none_outside {B} slot ls r out = go (learned_at slot ls) refl
+  where
+    go : (o : Option (Entry B)) → learned_at slot ls ≡ o → None ≡ o
+    go None h = refl
+    go (Some e) h = absurd (out (above 0 slot ls e r h))
+
+-- and where one is put
+
+put_rises : {B : Type 0} (n slot : ℕ) (e : Entry B) (ls : List (LearnedEntry B)) → n < slot → slot < 2 ^ 40 → Rises n ls
+    → is_learned slot ls ≡ false → Rises n (put_learned (record { slot = slot; entry = e }) ls)
+put_rises n slot e [] l m r h = (l, m)
+put_rises {B} n slot e (x ∷ xs) l m r h =
+    go (ltb x.slot slot) (eqb x.slot slot) refl refl h (λ k. put_rises x.slot slot e xs k m r.1)
+  where
+    go : (a b : Bool) → ltb x.slot slot ≡ a → eqb x.slot slot ≡ b → (b || is_learned slot xs) ≡ false
+        → (x.slot < slot → is_learned slot xs ≡ false → Rises x.slot (put_learned (record { slot = slot; entry = e }) xs))
+        → Rises n (cond a (x ∷ put_learned (record { slot = slot; entry = e }) xs) (record { slot = slot; entry = e } ∷ (x ∷ xs)))
+    go a true p q f more = absurd (cc)
+    go true false p q f more = (r.0, more (ltb-true x.slot slot p) f)
+    go false false p q f more = (l, (grind (arith, nat_tests), r.1))
+
+pub learn_rises : {B : Type 0} (slot : ℕ) (e : Entry B) (ls : List (LearnedEntry B)) → 1 ≤ slot → slot < 2 ^ 40 → Rises 0 ls
+    → Rises 0 (learn_among slot e ls)
+learn_rises {B} slot e ls l m r = go (is_learned slot ls) refl
+  where
+    go : (b : Bool) → is_learned slot ls ≡ b → Rises 0 (cond b ls (put_learned (record { slot = slot; entry = e }) ls))
+    go true h = r
+    go false h = put_rises 0 slot e ls (omega arith) m r h
