@@ -1,4 +1,5 @@
 pub mod Drafting
+pub mod InTurn
 pub mod Listing
 pub mod Majority
 pub mod NextBallot

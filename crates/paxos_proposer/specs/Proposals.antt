@@ -1,5 +1,5 @@
 -- Proposals of one ballot, and which entry stands among them (Lamport 2001, section 3).
-use Rattle.std.specs.Prelude.{ℕ, Bool, false, ◌&&◌, nat_lt, Option, Some, None, List, [], ◌∷◌, ◌≤◌}
+use Rattle.std.specs.Prelude.{◌≡◌, ℕ, suc, ◌+◌, Bool, false, ◌&&◌, nat_lt, Option, Some, None, List, [], ◌∷◌, ◌≤◌, filter, length}
 use Rattle.std.specs.List.{list_any}
 use Rattle.std.specs.Map.{lookup}
 use Rattle.paxos_packets.specs.Entry.{same_entry}
@@ -23,6 +23,20 @@ abbrev pub stands : {B : Type 0} → (B → B → Bool) → ℕ → Role B → E
 stands same applied Idle e = false
 stands same applied (Preparing b first promises) e = false
 stands same applied (Leading b next proposed) e = stands_among same applied e proposed
+
+-- those in slots behind the ones that are applied
+abbrev pub behind : {B : Type 0} → ℕ → List (Vote B) → List (Vote B)
+behind applied votes = filter (λ v. nat_lt applied v.slot) votes
+
+-- they stand in the slots right below this one, one in each, and none in a slot 0
+abbrev pub AreUpTo : {B : Type 0} → ℕ → List (Vote B) → Type 0
+AreUpTo next [] = Unit {0}
+AreUpTo next (v ∷ vs) = (1 ≤ v.slot) × (v.slot + suc (length vs) ≡ next) × AreUpTo next vs
+
+-- none stands in a slot 0
+abbrev pub AreInSlots : {B : Type 0} → List (Vote B) → Type 0
+AreInSlots [] = Unit {0}
+AreInSlots (v ∷ vs) = (1 ≤ v.slot) × AreInSlots vs
 
 -- how they are found: the table has the greatest slot of each identity, or one above it
 

@@ -32,6 +32,12 @@ offer_of Idle = None
 offer_of (Preparing b first promises) = None
 offer_of (Leading b next proposed) = if nat_lt next slot_end then Some (record { ballot = b; slot = next }) else None
 
+-- the slot from which on a ballot that is being prepared asks for votes
+abbrev pub first_asked : {B : Type 0} → Role B → Option ℕ
+first_asked Idle = None
+first_asked (Preparing b first promises) = Some first
+first_asked (Leading b next proposed) = None
+
 -- the promises and the proposals of a role
 
 abbrev pub promises_of : {B : Type 0} → Role B → List (CountedPromise B)

@@ -8,6 +8,7 @@ use Rattle.paxos_proposer.specs.declared.promises.CountedPromise.{CountedPromise
 use Rattle.paxos_proposer.specs.declared.phase.Phase.{Phase}
 use Rattle.paxos_proposer.specs.declared.phase.Phase.TheVariants as Kept
 use Rattle.paxos_proposer.specs.Promises.{promised}
+use Rattle.paxos_proposer.specs.Proposals.{AreUpTo}
 use Rattle.paxos_proposer.specs.Proposer.{resting, raise, prepared, own_ballot, step_down, nacked, submitted}
 use Rattle.paxos_proposer.specs.Role.{Role, Idle, Preparing, Leading, ProposerState}
 
@@ -74,3 +75,9 @@ abbrev pub IsAboveNone : Phase → Type 0
 IsAboveNone Kept.Idle = Unit {0}
 IsAboveNone (Kept.Preparing b first) = 1 ≤ first
 IsAboveNone (Kept.Leading b next) = 1 ≤ next
+
+-- what a leader proposed stands in the slots up to the next one
+abbrev pub IsInTurn : {B : Type 0} → Phase → List (Vote B) → Type 0
+IsInTurn Kept.Idle votes = Unit {0}
+IsInTurn (Kept.Preparing b first) votes = Unit {0}
+IsInTurn (Kept.Leading b next) votes = AreUpTo next votes

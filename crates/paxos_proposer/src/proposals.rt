@@ -1,7 +1,7 @@
-ghost use Rattle.std.specs.Prelude.{◌≡◌, ◌≤◌, ◌+◌, [], ◌∷◌, ◌++◌, true, IsTrue, OnOk, OnErr, option_copied};
+ghost use Rattle.std.specs.Prelude.{◌≡◌, ℕ, ◌≤◌, ◌+◌, [], ◌∷◌, ◌++◌, true, IsTrue, OnOk, OnErr, option_copied};
 ghost use Rattle.std.specs.Map.{lookup};
 ghost use Rattle.paxos_proposer.specs.Identity.{same_identity};
-ghost use Rattle.paxos_proposer.specs.Proposals.{stands_among, IsOld};
+ghost use Rattle.paxos_proposer.specs.Proposals.{stands_among, behind, AreUpTo, IsOld};
 
 use crate::identity::Identity;
 use indexmap::IndexMap;
@@ -45,6 +45,15 @@ impl<B> Proposals<B> {
         ensures { result.now ≡ self.now.votes }
     {
         self.list.as_slice()
+    }
+
+    /// The proposals in slots behind the first `applied`, where their slots follow one another, as a leader's do. Takes a constant number
+    /// of steps.
+    pub fn behind(&self, applied: u64) -> &[Vote<B>]
+        requires { (next : ℕ) × AreUpTo next self.now.votes }
+        ensures { result.now ≡ behind applied self.now.votes }
+    {
+        behind(self.list.as_slice(), applied)
     }
 
     /// Takes the memory for so many proposals more. With `Memory` as well as without it they are as they were.
@@ -101,6 +110,18 @@ impl<B: Body> Proposals<B> {
         }
         stands_at(&self.list, latest, applied, entry) || stands_among(&self.list, applied, entry)
     }
+}
+
+// Those in slots behind the first `applied`, where their slots follow one another.
+fn behind<B>(votes: &[Vote<B>], applied: u64) -> &[Vote<B>]
+    requires { (next : ℕ) × AreUpTo next votes.now }
+    ensures { result.now ≡ behind applied votes.now }
+{
+    let Some(first) = votes.first() else {
+        return votes;
+    };
+    let passed = applied.saturating_sub(first.slot.get() - 1) as usize;
+    &votes[passed.min(votes.len())..]
 }
 
 // The greatest slot of the identity, with this one.

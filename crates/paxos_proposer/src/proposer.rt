@@ -1,10 +1,11 @@
 ghost use Rattle.std.specs.Prelude.{◌≡◌, ◌↔◌, ◌≤◌, ◌+◌, true, false, Some, None, Ok, Err, IsOk, IfOk, OnOk, OnErr, IsOkUnless};
 ghost use Rattle.paxos_proposer.specs.declared.fault.ProposerFault.TheVariants.{Rounds, SlotsFull, NotLeading, Memory};
 ghost use Rattle.paxos_proposer.specs.Promises.{counts, called_by};
-ghost use Rattle.paxos_proposer.specs.Proposals.{stands};
+ghost use Rattle.paxos_proposer.specs.Proposals.{stands, behind, AreInSlots};
 ghost use Rattle.paxos_proposer.specs.Proposer.{own_ballot, is_spent, is_leading, slots_spent, next_slot, ballot_of, is_below, is_refused};
+ghost use Rattle.paxos_proposer.specs.Reports.{is_counted};
 ghost use Rattle.paxos_proposer.specs.Role.{Idle};
-ghost use Rattle.paxos_proposer.specs.Proposing.{promises_of, proposals_of};
+ghost use Rattle.paxos_proposer.specs.Proposing.{first_asked, promises_of, proposals_of};
 ghost use Rattle.paxos_proposer.specs.State.{role_of, IsAboveNone};
 ghost use Rattle.paxos_proposer.specs.State.{HasRoom, role_in, with_role, begun, saw, started, after_promise, after_submit, after_nack};
 ghost use Rattle.paxos_proposer.specs.State.{stepped_down};
@@ -36,7 +37,7 @@ pub struct Proposer<B> {
 
 impl<B> Model for Proposer<B> {
     ghost use Rattle.std.specs.Prelude.{◌-◌, vec_len, vec_capacity};
-    ghost use Rattle.paxos_proposer.specs.State.{Held, role_of, IsAboveNone};
+    ghost use Rattle.paxos_proposer.specs.State.{Held, role_of, IsAboveNone, IsInTurn};
 
     ghost Value = { Held B };
 
@@ -49,7 +50,7 @@ impl<B> Model for Proposer<B> {
       room = record { promises = vec_capacity p.promises - vec_len p.promises; proposals = p.proposed.room };
     } };
 
-    ghost invariant = { λ p. IsAboveNone p.phase };
+    ghost invariant = { λ p. IsAboveNone p.phase × IsInTurn p.phase p.proposed.votes };
 }
 
 impl<B> Proposer<B> {
@@ -121,6 +122,37 @@ impl<B> Proposer<B> {
             round: self.seen + 1,
             node: self.me,
         })
+    }
+
+    /// The slot from which on the ballot that is being prepared asks for votes.
+    pub fn preparing(&self) -> Option<u64>
+        ensures { result ≡ first_asked (role_in self.now) }
+    {
+        match self.phase {
+            Phase::Preparing { first, .. } => Some(first),
+            Phase::Idle | Phase::Leading { .. } => None,
+        }
+    }
+
+    /// Whether a promise of the node was counted.
+    pub fn is_counted(&self, node: u8) -> bool
+        ensures { result ≡ is_counted (promises_of (role_in self.now)) node }
+    {
+        match self.phase {
+            Phase::Preparing { .. } => is_counted(&self.promises, node),
+            Phase::Idle | Phase::Leading { .. } => false,
+        }
+    }
+
+    /// What it proposed in its ballot under way, in the slots behind the first `applied`. Takes a constant number of steps.
+    pub fn proposed_behind(&self, applied: u64) -> &[Vote<B>]
+        ensures behind { result.now ≡ behind applied (proposals_of (role_in self.now)) }
+        ensures slots { AreInSlots (proposals_of (role_in self.now)) }
+    {
+        match self.phase {
+            Phase::Leading { .. } => self.proposed.behind(applied),
+            Phase::Idle | Phase::Preparing { .. } => &[],
+        }
     }
 
     /// A packet with a ballot of this round came.
