@@ -1,0 +1,5 @@
+//! Tests of the acceptor's store over SQLite, by its public calls.
+#![tactic(auto)]
+
+#[cfg(test)]
+mod sql;
