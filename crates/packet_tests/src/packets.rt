@@ -4,7 +4,7 @@ ghost use Rattle.std.specs.Cmp.Lexicographic.{pointwise, bytes_decides};
 use core_tests::Number;
 use paxos_packets::{
     Ballot, Body, Change, Entries, Entry, KeptVotes, Kind, Members, Memory, NodeSet, Packet, Rows,
-    Slot, Vote, Votes, laws,
+    Shared, Slot, Vote, Votes, laws,
 };
 use std::alloc::Global;
 use std::marker::Model;
@@ -45,6 +45,12 @@ fn text_of(alloc: Global, octets: &[u8]) -> Result<Text, Memory>
     Ok(Text {
         octets: Vec::from_slice(alloc, octets)?,
     })
+}
+
+fn shared_of(alloc: Global, octets: &[u8]) -> Result<Shared<Text>, Memory>
+    ensures { IfOk result (λ text. text ≡ octets.now) }
+{
+    Ok(Shared::new(alloc, text_of(alloc, octets)?)?)
 }
 
 fn item<B: Drop>(body: B) -> Entry<B> {
@@ -367,6 +373,27 @@ fn large_bodies_are_copied(rt: HostRuntime) -> Result<(), Fail> {
     let other = text_of(rt.alloc(), b"a.c")?;
     let kinds = kinds(rt.alloc(), &body, &other)?;
     copies_are_told_apart(&rt, rt.alloc(), kinds.as_slice())
+}
+
+#[test]
+fn shared_bodies_are_copied(rt: HostRuntime) -> Result<(), Fail> {
+    let body = shared_of(rt.alloc(), b"a.b")?;
+    let other = shared_of(rt.alloc(), b"a.c")?;
+    let kinds = kinds(rt.alloc(), &body, &other)?;
+    copies_are_told_apart(&rt, rt.alloc(), kinds.as_slice())
+}
+
+// A second holder of these octets, whose first is let go.
+fn second_holder(alloc: Global, octets: &[u8]) -> Result<Shared<Text>, Memory> {
+    let first = shared_of(alloc, octets)?;
+    first.share()
+}
+
+#[test]
+fn a_shared_body_outlives_its_first_holder(rt: HostRuntime) -> Result<(), Fail> {
+    let second = second_holder(rt.alloc(), b"a.b")?;
+    assert_eq!(rt; second.get().octets.as_slice(), b"a.b".as_slice());
+    Ok(())
 }
 
 #[test]
