@@ -1,0 +1,70 @@
+//! Measures of the acceptor's store: `store_bench memory N` and `store_bench file PATH N`.
+#![tactic(auto)]
+
+mod body;
+mod fault;
+mod run;
+
+use crate::fault::BenchFault;
+use std::env;
+use std::io::Error;
+use std::process::ExitCode;
+
+const USAGE: &str = "\
+usage: store_bench memory N
+       store_bench file PATH N
+  commits N votes of 200 octets, each alone, then N promises with a vote each, behind what the store has; the counts are
+  printed, and on standard error the nanoseconds that opening, loading and a commit took";
+
+// The words of the command line, without the program's own name; none where they cannot be read.
+fn words_of(rt: &HostRuntime) -> Result<Vec<String>, Error> {
+    let mut words = Vec::new(rt.alloc());
+    for word in env::args(rt)?.skip(1) {
+        words.push(word)?;
+    }
+    Ok(words)
+}
+
+// Says on standard error how the program is used.
+fn misuse(rt: &HostRuntime) -> ExitCode {
+    let _ = eprintln!(rt; "{USAGE}");
+    ExitCode::from(2)
+}
+
+// The status of a run, whose fault is told on standard error.
+fn ended(rt: &HostRuntime, done: Result<(), BenchFault>) -> ExitCode {
+    match done {
+        Ok(()) => ExitCode::SUCCESS,
+        Err(fault) => {
+            let _ = eprintln!(rt; "error: {fault}");
+            ExitCode::from(1)
+        }
+    }
+}
+
+// Measures a store in memory.
+fn memory(rt: &HostRuntime, times: &str) -> ExitCode {
+    match times.parse::<u64>() {
+        Ok(times) => ended(rt, run::in_memory(rt, times)),
+        Err(_) => misuse(rt),
+    }
+}
+
+// Measures a store on a file.
+fn file(rt: &HostRuntime, path: &str, times: &str) -> ExitCode {
+    match times.parse::<u64>() {
+        Ok(times) => ended(rt, run::on_file(rt, path, times)),
+        Err(_) => misuse(rt),
+    }
+}
+
+fn main(rt: HostRuntime) -> ExitCode {
+    let Ok(words) = words_of(&rt) else {
+        return misuse(&rt);
+    };
+    match words.as_slice() {
+        [kind, times] if kind.as_str() == "memory" => memory(&rt, times.as_str()),
+        [kind, path, times] if kind.as_str() == "file" => file(&rt, path.as_str(), times.as_str()),
+        _ => misuse(&rt),
+    }
+}

@@ -1,0 +1,227 @@
+// The runs: commits behind what a store has, and what they take.
+use crate::body::{LENGTH, Octets, Plain};
+use crate::fault::BenchFault;
+use acceptor_keeper::Keeper;
+use acceptor_store::SqlKeeper;
+use paxos_packets::{Ballot, Change, Entry, Rows, Slot, Vote, Votes};
+use sqlite::{Alter, Connection};
+use std::alloc::Global;
+use std::time::{Duration, Instant};
+
+type Store<S> = SqlKeeper<Octets, Plain, S>;
+
+// What a boot found: the boot number, the round of the promise and how many votes there are.
+#[derive(Clone, Copy)]
+struct Found {
+    boot: u64,
+    round: u64,
+    votes: u64,
+}
+
+fn found_in(rows: &Rows<Octets>) -> Found {
+    let round = match rows.promised {
+        Some(ballot) => ballot.round,
+        None => 0,
+    };
+    Found {
+        boot: rows.boot,
+        round,
+        votes: rows.votes.as_slice().len() as u64,
+    }
+}
+
+// An Item of 200 octets.
+fn item(alloc: Global, seq: u64) -> Result<Entry<Octets>, BenchFault> {
+    let octets = [b'x'; LENGTH];
+    let body = Octets::of(alloc, octets.as_slice()).map_err(|_| BenchFault::Memory)?;
+    Ok(Entry::Item {
+        node: 1,
+        boot: 1,
+        seq,
+        transport: 1,
+        body,
+    })
+}
+
+// A vote of this round in this slot.
+fn vote(alloc: Global, slot: u64, round: u64) -> Result<Vote<Octets>, BenchFault> {
+    Ok(Vote {
+        slot: Slot::new(slot).ok_or(BenchFault::Slots)?,
+        ballot: Ballot { round, node: 1 },
+        entry: item(alloc, slot)?,
+    })
+}
+
+// A vote of this round in this slot, and with it the promise of that round where `promises`.
+fn change(
+    alloc: Global,
+    slot: u64,
+    round: u64,
+    promises: bool,
+) -> Result<Change<Octets>, BenchFault> {
+    let mut votes = Votes::new(alloc);
+    if votes.put(vote(alloc, slot, round)?).is_err() {
+        return Err(BenchFault::Memory);
+    }
+    let promised = if promises {
+        Some(Ballot { round, node: 1 })
+    } else {
+        None
+    };
+    Ok(Change { promised, votes })
+}
+
+// One call each, without contracts, so that no function above carries those of the keeper.
+
+fn open<S: Alter + Drop>(alloc: Global, conn: Connection<S>) -> Result<Store<S>, BenchFault> {
+    if !conn.is_autocommit() {
+        return Err(BenchFault::Slots);
+    }
+    match SqlKeeper::open(alloc, conn) {
+        Ok(store) => Ok(store),
+        Err((fault, _)) => Err(BenchFault::Keeper(fault)),
+    }
+}
+
+fn boot<S: Alter>(store: &mut Store<S>) -> Result<Found, BenchFault> {
+    let rows = store.boot()?;
+    Ok(found_in(&rows))
+}
+
+fn load<S: Alter>(store: &mut Store<S>) -> Result<Found, BenchFault> {
+    let rows = store.load()?;
+    Ok(found_in(&rows))
+}
+
+fn commit<S: Alter>(store: &mut Store<S>, change: &Change<Octets>) -> Result<(), BenchFault> {
+    store.commit(change)?;
+    Ok(())
+}
+
+// A promise alone.
+fn promise<S: Alter>(alloc: Global, store: &mut Store<S>, round: u64) -> Result<(), BenchFault> {
+    let change = Change {
+        promised: Some(Ballot { round, node: 1 }),
+        votes: Votes::new(alloc),
+    };
+    commit(store, &change)
+}
+
+// A vote of this round in this slot, and with it the promise of that round where `promises`.
+fn commit_next<S: Alter>(
+    alloc: Global,
+    store: &mut Store<S>,
+    slot: u64,
+    round: u64,
+    promises: bool,
+) -> Result<(), BenchFault> {
+    let next = change(alloc, slot, round, promises)?;
+    commit(store, &next)
+}
+
+// Commits a vote in each of the next slots, `times` times, each with a promise of its own where `promises`.
+fn commits<S: Alter>(
+    alloc: Global,
+    store: &mut Store<S>,
+    from: Found,
+    times: u64,
+    promises: bool,
+) -> Result<(), BenchFault> {
+    let mut slot = from.votes;
+    let mut round = from.round;
+    for _ in 0..times {
+        slot = slot.saturating_add(1);
+        if promises {
+            round = round.saturating_add(1);
+        }
+        commit_next(alloc, store, slot, round, promises)?;
+    }
+    Ok(())
+}
+
+// Tells on standard error what one of so many steps took.
+fn tell(rt: &HostRuntime, what: &str, taken: Duration, times: u64) {
+    let each = taken.as_nanos() / u128::from(times.max(1));
+    let _ = eprintln!(rt; "{what}: {each} ns");
+}
+
+// Begins a boot, and makes a first promise where there is none.
+fn begin<S: Alter>(rt: &HostRuntime, store: &mut Store<S>) -> Result<Found, BenchFault> {
+    let start = Instant::now(rt)?;
+    let mut begun = boot(store)?;
+    tell(rt, "loading and a boot", start.elapsed(rt)?, 1);
+    if begun.round == 0 {
+        promise(rt.alloc(), store, 1)?;
+        begun.round = 1;
+    }
+    Ok(begun)
+}
+
+// Commits `times` votes, then `times` promises with a vote, and tells what a commit took.
+fn measure<S: Alter>(
+    rt: &HostRuntime,
+    store: &mut Store<S>,
+    from: Found,
+    times: u64,
+) -> Result<(), BenchFault> {
+    let start = Instant::now(rt)?;
+    commits(rt.alloc(), store, from, times, false)?;
+    tell(rt, "a commit of a vote", start.elapsed(rt)?, times);
+    let behind = Found {
+        votes: from.votes.saturating_add(times),
+        ..from
+    };
+    let start = Instant::now(rt)?;
+    commits(rt.alloc(), store, behind, times, true)?;
+    tell(
+        rt,
+        "a commit of a promise and a vote",
+        start.elapsed(rt)?,
+        times,
+    );
+    Ok(())
+}
+
+// Begins a boot, measures commits behind what the store has, and prints what it holds then.
+fn run_over<S: Alter>(
+    rt: &HostRuntime,
+    store: &mut Store<S>,
+    times: u64,
+) -> Result<(), BenchFault> {
+    let from = begin(rt, store)?;
+    measure(rt, store, from, times)?;
+    let held = load(store)?;
+    println!(rt;
+        "boot {}: {times} commits of a vote, {times} of a promise and a vote; {} votes are held, and round {} is promised",
+        held.boot, held.votes, held.round
+    )?;
+    Ok(())
+}
+
+// The whole run over a connection, which is given back.
+fn run<S: Alter + Drop>(
+    rt: &HostRuntime,
+    conn: Connection<S>,
+    times: u64,
+) -> Result<Connection<S>, BenchFault> {
+    let mut store = open(rt.alloc(), conn)?;
+    run_over(rt, &mut store, times)?;
+    Ok(store.close())
+}
+
+/// Commits to a store in memory.
+pub fn in_memory(rt: &HostRuntime, times: u64) -> Result<(), BenchFault> {
+    let conn = Connection::open_in_memory(rt.alloc())?;
+    let _conn = run(rt, conn, times)?;
+    Ok(())
+}
+
+/// Commits to a store on the file at this path, behind what it has.
+pub fn on_file(rt: &HostRuntime, path: &str, times: u64) -> Result<(), BenchFault> {
+    let start = Instant::now(rt)?;
+    let conn = Connection::open(rt, path)?;
+    tell(rt, "opening", start.elapsed(rt)?, 1);
+    let conn = run(rt, conn, times)?;
+    conn.close()?;
+    Ok(())
+}
