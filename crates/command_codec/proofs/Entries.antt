@@ -18,21 +18,21 @@ behind : (front rest : List ℕ) → AreOctets (front ++ rest) → AreOctets res
 behind [] rest all = all
 behind (o ∷ front) rest all = behind front rest all.1
 
-left_of : (octets front rest : List ℕ) → octets ≡ front ++ rest → AreOctets octets → AreOctets rest
+pub left_of : (octets front rest : List ℕ) → octets ≡ front ++ rest → AreOctets octets → AreOctets rest
 left_of octets front rest is all = behind front rest (subst AreOctets is all)
 
 -- a spelling that is there where a test holds
-where_spelled : (b : Bool) (o octets : List ℕ) → cond b (Some o) None ≡ Some octets → (b ≡ true) × (octets ≡ o)
+pub where_spelled : (b : Bool) (o octets : List ℕ) → cond b (Some o) None ≡ Some octets → (b ≡ true) × (octets ≡ o)
 where_spelled true o octets h = (refl, cc)
 where_spelled false o octets h = cc
 
-joined_parts : (f b : Option (List ℕ)) (octets : List ℕ) → joined f b ≡ Some octets
+pub joined_parts : (f b : Option (List ℕ)) (octets : List ℕ) → joined f b ≡ Some octets
     → (front : List ℕ) × (next : List ℕ) × (f ≡ Some front) × (b ≡ Some next) × (octets ≡ front ++ next)
 joined_parts None b octets h = cc
 joined_parts (Some f) None octets h = cc
 joined_parts (Some f) (Some b) octets h = (f, b, refl, refl, cc)
 
-then_parts : {A C : Type 0} (r : Reading A) (next : A → List ℕ → Reading C) (v : C) (rest : List ℕ) → and_then r next ≡ Ok (v, rest)
+pub then_parts : {A C : Type 0} (r : Reading A) (next : A → List ℕ → Reading C) (v : C) (rest : List ℕ) → and_then r next ≡ Ok (v, rest)
     → (x : A) × (mid : List ℕ) × (r ≡ Ok (x, mid)) × (next x mid ≡ Ok (v, rest))
 then_parts (Ok p) next v rest h = (p.0, p.1, refl, h)
 then_parts (Err f) next v rest h = cc

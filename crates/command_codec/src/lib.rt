@@ -11,4 +11,5 @@ mod number;
 pub use coder::Coder;
 pub use entry::{put_entry, take_entry};
 pub use fault::CodecFault;
+pub use number::{Form, take_number};
 pub use paxos_packets::Entry;

@@ -3,7 +3,7 @@ ghost use Rattle.command_codec.specs.Number.{cut, number_from, number_reading, i
 
 use crate::fault::CodecFault;
 
-/// How a number is spelled: in so many octets, the highest first, from `low` to `high`.
+/// How a number is spelled: in so many octets, 1 to 8, the highest first, from `low` to `high`.
 #[derive(Clone, Copy, Debug, PartialEq, Eq)]
 pub struct Form {
     pub width: u32,
@@ -48,9 +48,10 @@ impl Form {
     }
 }
 
-// The number at the head of the octets, and the octets behind it.
+/// The number at the head of the octets, and the octets behind it: `Short` where an octet is missing, `Range` at the first octet after
+/// which it can be none of its range. Takes no memory.
 #[tactic(auto, unfolding(crate::specs::Number::number_reading))]
-pub(crate) fn take_number(form: Form, octets: &[u8]) -> Result<(u64, &[u8]), CodecFault>
+pub fn take_number(form: Form, octets: &[u8]) -> Result<(u64, &[u8]), CodecFault>
     requires least { 0 < form.width }
     requires most { form.width ≤ 8 }
     ensures reading { MatchResult result (λ read. number_reading form octets.now ≡ Ok (read.0, read.1.now))
