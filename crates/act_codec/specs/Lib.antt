@@ -1,0 +1,5 @@
+pub mod Parts
+pub mod Text
+pub mod Read
+pub mod Act
+pub mod Again
