@@ -1,0 +1,4 @@
+//! Tests of acts as octets, over public calls.
+#![tactic(auto)]
+
+mod entries;
