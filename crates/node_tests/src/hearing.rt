@@ -100,3 +100,51 @@ fn another_entry_would_disagree(rt: HostRuntime) -> Result<(), Fail> {
     assert!(rt; learner.learned(slot).is_none());
     Ok(())
 }
+
+// What it would tell where Noops were learned in slots 1, 2 and 4.
+fn told(alloc: Global, learner: &Learner<Number>) -> Result<Hearing<'_, Number>, LearnerFault> {
+    let mut hearing = Hearing::of(alloc, learner);
+    for number in [1, 2, 4] {
+        if let Some(slot) = Slot::new(number) {
+            let _free = hearing.tell(slot, &Entry::Noop)?;
+        }
+    }
+    Ok(hearing)
+}
+
+// How long the run behind so many slots is.
+fn run(hearing: &Hearing<Number>, applied: u64) -> Result<usize, LearnerFault> {
+    let run = hearing.run_behind(applied)?;
+    Ok(run.as_slice().len())
+}
+
+// How many slots are told from this one on.
+fn window(hearing: &Hearing<Number>, first: u64) -> Result<usize, LearnerFault> {
+    let told = hearing.learned_from(first)?;
+    Ok(told.len())
+}
+
+fn are_told(rt: &impl Abort, hearing: &Hearing<Number>) -> Result<(), Fail> {
+    let rows = [
+        (0, 2, 3),
+        (1, 1, 3),
+        (2, 0, 2),
+        (3, 1, 1),
+        (4, 0, 1),
+        (5, 0, 0),
+        (u64::MAX, 0, 0),
+    ];
+    for (slot, behind, from) in rows {
+        assert_eq!(rt; run(hearing, slot)?, behind, "{slot}");
+        assert_eq!(rt; window(hearing, slot)?, from, "{slot}");
+    }
+    Ok(())
+}
+
+#[test]
+fn a_run_ends_at_a_gap(rt: HostRuntime) -> Result<(), Fail> {
+    let members = Members::new(3).ok_or("3 members")?;
+    let learner = Learner::<Number>::new(rt.alloc(), members);
+    let hearing = told(rt.alloc(), &learner)?;
+    are_told(&rt, &hearing)
+}

@@ -193,6 +193,19 @@ fn is_found<B: Body>(rt: &impl Abort, acceptor: Acceptor<B>, vote: &Vote<B>) {
     assert!(rt; left && kept);
 }
 
+// How many votes it copies from the slot with this number on.
+fn copied<B: Body>(alloc: Global, acceptor: &Acceptor<B>, first: u64) -> Result<usize, Fail> {
+    let votes = acceptor.votes_from(alloc, first)?;
+    Ok(votes.as_slice().len())
+}
+
+// Its one vote is copied from its slot on, and not behind it.
+fn is_copied<B: Body>(rt: &impl Abort, alloc: Global, acceptor: &Acceptor<B>) -> Result<(), Fail> {
+    assert_eq!(rt; copied(alloc, acceptor, 1)?, 1);
+    assert_eq!(rt; copied(alloc, acceptor, 2)?, 0);
+    Ok(())
+}
+
 fn plays<B: Body>(rt: &impl Abort, alloc: Global, entry: &Entry<B>) -> Result<(), Fail> {
     let vote = vote_for(alloc, FIRST, entry)?;
     let mut acceptor = Acceptor::of(Rows {
@@ -201,6 +214,7 @@ fn plays<B: Body>(rt: &impl Abort, alloc: Global, entry: &Entry<B>) -> Result<()
         votes: Votes::new(alloc),
     });
     is_asked(rt, alloc, &mut acceptor, entry)?;
+    is_copied(rt, alloc, &acceptor)?;
     is_found(rt, acceptor, &vote);
     Ok(())
 }

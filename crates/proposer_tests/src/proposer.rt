@@ -205,6 +205,15 @@ fn told_step(proposer: &mut Proposer<Number>, word: &str, one: u64, other: u64) 
     if word == "leads" {
         return proposer.is_leading() as u64;
     }
+    if word == "asks from" {
+        return proposer.preparing().unwrap_or(0);
+    }
+    if word == "counted" {
+        return proposer.is_counted((one % 8) as u8) as u64;
+    }
+    if word == "behind" {
+        return proposer.proposed_behind(one).len() as u64;
+    }
     shown(proposer.ballot())
 }
 
@@ -225,6 +234,9 @@ fn a_first_ballot_leads_by_a_majority(rt: HostRuntime) -> Result<(), Fail> {
         ("ballot", 0, 0, 0),
         ("start", 1, 0, 11),
         ("leads", 0, 0, 0),
+        ("asks from", 0, 0, 1),
+        ("counted", 1, 0, 1),
+        ("counted", 2, 0, 0),
         ("submit", 0, 0, 53),
         // its own was counted, and another ballot's is not
         ("promise", 1, 11, 0),
@@ -232,9 +244,15 @@ fn a_first_ballot_leads_by_a_majority(rt: HostRuntime) -> Result<(), Fail> {
         ("leads", 0, 0, 0),
         ("promise", 2, 11, 1),
         ("leads", 0, 0, 1),
+        ("asks from", 0, 0, 0),
+        ("behind", 0, 0, 0),
         ("submit", 1, 0, 1),
         ("submit", 0, 0, 2),
         ("next", 0, 0, 3),
+        ("behind", 0, 0, 2),
+        ("behind", 1, 0, 1),
+        ("behind", 2, 0, 0),
+        ("behind", u64::MAX, 0, 0),
     ];
     check(&rt, rt.alloc(), rows.as_slice())
 }
