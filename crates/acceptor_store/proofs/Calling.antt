@@ -1,5 +1,5 @@
 -- What is held and found after the calls of a keeper.
-use Rattle.std.proofs.Common.{◌≡◌, ◌⊎◌, inl, inr, ⊎_elim, ℕ, suc, ◌+◌, ◌≤◌, true, List, [], Option, None, refl, sym, ap, subst, ◌∙◌, arith, IsTrue}
+use Rattle.std.proofs.Common.{◌≡◌, ◌⊎◌, inl, inr, ⊎_elim, ℕ, ◌≤◌, true, List, [], Option, None, refl, sym, ap, subst, ◌∙◌, arith, IsTrue}
 use Rattle.std.specs.Option.{option_or}
 use Rattle.sqlite_trees.specs.Tree.{Trees}
 use Rattle.sqlite_trees.specs.View.{doubt}
@@ -15,10 +15,11 @@ use Rattle.paxos_packets.specs.declared.rows.Rows.{Rows}
 use Rattle.paxos_acceptor.specs.Acceptor.{adopted}
 use Rattle.command_codec.specs.Number.{Reading}
 use Rattle.acceptor_keeper.specs.Keeper.{no_rows}
-use Rattle.acceptor_store.specs.declared.rows.Numbers.{Numbers}
+use Rattle.store_rows.specs.declared.rows.Numbers.{Numbers}
 use Rattle.acceptor_store.specs.Tables.{store_schema, empty_schema}
 use Rattle.acceptor_store.specs.Statements.{IsFounded}
-use Rattle.acceptor_store.specs.Store.{Stores, AreVotes, Leaves, Holds, Finds, written, numbers_in_rows, NotLowered, Follows}
+use Rattle.acceptor_store.specs.Store.{Stores, AreVotes, Leaves, Holds, Finds, written, NotLowered, Follows}
+use Rattle.store_rows.specs.Numbers.{numbers_in_rows}
 use Rattle.acceptor_store.specs.Once.{stored_once}
 use Rattle.acceptor_store.specs.Calls.{keeper_of}
 use Rattle.acceptor_store.proofs.Keeping.{reads_left, leaves_on}
@@ -67,11 +68,6 @@ pub not_lower : {B : Type 0} (known next : Numbers) (change : Change B) (rows : 
 not_lower known next change rows p same = subst (λ (n : Numbers). NotLowered n.promised next.promised) same p.up
 
 -- one boot more
-
-pub one_more : {B : Type 0} (rows : Rows B) → ◌≡◌ {A = Rows B} (record { boot = rows.boot + 1; promised = rows.promised; votes = rows.votes }) (raised rows)
-one_more rows =
-    let up : rows.boot + 1 ≡ suc rows.boot = omega arith in
-    λ i. record { boot = up i; promised = rows.promised; votes = rows.votes }
 
 pub raises : {B : Type 0} (rows : Rows B) (n : Numbers) → n ≡ numbers_in_rows (raised rows) → Follows true rows n × (written n [] rows ≡ raised rows)
 raises {B} rows n e = subst (λ (m : Numbers). Follows true rows m × (written m [] rows ≡ raised rows)) (sym e) ((λ t. absurd cc, λ b u. u), refl)

@@ -1,19 +1,19 @@
 -- What a change that has a place makes of the numbers.
-use Rattle.std.proofs.Common.{◌≡◌, ◌<◌, ◌≤◌, ◌||◌, suc, arith, not, Bool, true, false, cond, List, [], ◌∷◌, Option, Some, None, refl, sym, subst}
+use Rattle.std.proofs.Common.{◌≡◌, ◌||◌, arith, not, Bool, true, false, cond, List, [], ◌∷◌, Option, Some, None, refl, sym, subst}
 use Rattle.std.specs.Prelude.{nat_le, length, ◌==◌}
 use Rattle.std.specs.List.{AllByRecursion, list_all}
 use Rattle.std.specs.Option.{option_or}
-use Rattle.std.proofs.lemmas.Bool.{and_parts, and_from, le-leb, eqb-true}
-use Rattle.paxos_packets.specs.Rows.{raised}
+use Rattle.std.proofs.lemmas.Bool.{and_parts, and_from, eqb-true}
 use Rattle.paxos_packets.specs.declared.ballot.Ballot.{Ballot}
 use Rattle.paxos_packets.specs.declared.vote.Vote.{Vote}
 use Rattle.paxos_packets.specs.declared.rows.Change.{Change}
 use Rattle.paxos_packets.specs.declared.rows.Rows.{Rows}
-use Rattle.acceptor_store.specs.declared.rows.Numbers.{Numbers}
-use Rattle.acceptor_store.specs.Rows.{is_promised}
-use Rattle.acceptor_store.specs.Store.{is_ballot, is_promise, are_numbers, is_placed, is_lower, promise_after, NotLowered, written, numbers_in_rows}
-use Rattle.acceptor_store.specs.Changes.{numbers_after}
-use Rattle.acceptor_store.proofs.Putting.{and_then_is}
+use Rattle.store_rows.specs.declared.rows.Numbers.{Numbers}
+use Rattle.store_rows.specs.Rows.{is_promised}
+use Rattle.acceptor_store.specs.Store.{NotLowered, written}
+use Rattle.store_rows.specs.Numbers.{is_ballot, is_promise, are_numbers, numbers_in_rows}
+use Rattle.store_rows.specs.Changes.{is_placed, is_lower, promise_after, numbers_after}
+use Rattle.store_rows.proofs.Options.{and_then_is}
 use Rattle.acceptor_store.proofs.Keeping.{not_lowered, promise_is, nil_of}
 
 passes : {A : Type 0} (test : A → Bool) (xs : List A) → list_all test xs ≡ true → AllByRecursion (λ x. test x ≡ true) xs
@@ -71,14 +71,6 @@ places {B} known change next h =
 pub written_none : {B : Type 0} (rows : Rows B) (numbers : Numbers) (votes : List (Vote B)) → numbers ≡ numbers_in_rows rows → votes ≡ [] → written numbers votes rows ≡ rows
 written_none {B} rows numbers votes n v =
     subst (λ (vs : List (Vote B)). written numbers vs rows ≡ rows) (sym v) (subst (λ (m : Numbers). written m [] rows ≡ rows) (sym n) refl)
-
--- one boot more leaves the numbers within their ranges
-pub raised_numbers : {B : Type 0} (rows : Rows B) → are_numbers (numbers_in_rows rows) ≡ true → rows.boot < 281474976710655
-    → are_numbers (numbers_in_rows (raised rows)) ≡ true
-raised_numbers rows h low =
-    let parts = and_parts (nat_le rows.boot 281474976710655) (is_promise rows.promised) h in
-    let next : suc rows.boot ≤ 281474976710655 = omega arith in
-    and_from (nat_le (suc rows.boot) 281474976710655) (is_promise rows.promised) (le-leb (suc rows.boot) 281474976710655 next) parts.1
 
 pub no_votes : {A : Type 0} (xs : List A) → true ≡ (length xs == 0) → xs ≡ []
 no_votes xs h = let none : length xs ≡ 0 = eqb-true (length xs) 0 (sym h) in nil_of xs (omega arith)

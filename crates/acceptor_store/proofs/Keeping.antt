@@ -18,8 +18,10 @@ use Rattle.paxos_packets.specs.declared.vote.Vote.{Vote}
 use Rattle.paxos_packets.specs.declared.rows.Rows.{Rows}
 use Rattle.command_codec.specs.Number.{Reading}
 use Rattle.acceptor_store.specs.Tables.{store_schema, meta_columns, vote_columns}
-use Rattle.acceptor_store.specs.Rows.{is_promised, rows_of}
-use Rattle.acceptor_store.specs.Store.{StandsFor, Stores, Reads, Leaves, is_placed, GoesOn, is_ballot, is_lower, promise_after, NotLowered}
+use Rattle.store_rows.specs.Rows.{is_promised, rows_of}
+use Rattle.acceptor_store.specs.Store.{StandsFor, Stores, Reads, Leaves, GoesOn, NotLowered}
+use Rattle.store_rows.specs.Changes.{is_placed, is_lower, promise_after}
+use Rattle.store_rows.specs.Numbers.{is_ballot}
 use Rattle.acceptor_store.specs.Once.{stands_once}
 use Rattle.acceptor_store.proofs.Meaning.{stands}
 

@@ -10,6 +10,5 @@ mod Telling
 mod Refusing
 mod Writing
 mod Keeping
-mod Within
 mod Changing
 mod Calling

@@ -16,13 +16,15 @@ use Rattle.paxos_packets.specs.declared.vote.Vote.{Vote}
 use Rattle.paxos_packets.specs.declared.rows.Rows.{Rows}
 use Rattle.command_codec.specs.Number.{Reading}
 use Rattle.acceptor_keeper.specs.declared.fault.KeeperFault.{KeeperFault}
-use Rattle.acceptor_store.specs.declared.rows.Numbers.{Numbers}
+use Rattle.store_rows.specs.declared.rows.Numbers.{Numbers}
 use Rattle.acceptor_store.specs.Tables.{meta_columns, vote_columns}
-use Rattle.acceptor_store.specs.Rows.{vote_of, is_promised, with_row, votes_after, numbers_in, rows_of, rows_with, with_votes, or_damaged}
-use Rattle.acceptor_store.specs.Store.{AscendFrom, key_of, AreVotes, HasNumbers, StandsFor, numbers_in_rows}
+use Rattle.store_rows.specs.Rows.{vote_of, is_promised, with_row, votes_after, numbers_in, rows_of, rows_with, with_votes, or_damaged}
+use Rattle.acceptor_store.specs.Store.{AscendFrom, key_of, AreVotes, HasNumbers, StandsFor}
+use Rattle.store_rows.specs.Numbers.{numbers_in_rows}
 use Rattle.acceptor_store.specs.Once.{all_has, votes_once}
 use Rattle.acceptor_store.proofs.Votes.{all_from, has_put_new, has_put, has_put_old, ascend_put, none_in, is_none_in}
-use Rattle.acceptor_store.proofs.Putting.{and_then_is, vote_slot}
+use Rattle.acceptor_store.proofs.Putting.{vote_slot}
+use Rattle.store_rows.proofs.Options.{and_then_is}
 
 eqb_flip : (m n : ℕ) → eqb m n ≡ eqb n m
 eqb_flip m n = grind (arith, nat_tests)

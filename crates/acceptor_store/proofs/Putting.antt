@@ -1,6 +1,6 @@
 -- What the two INSERT OR REPLACE statements make of a database.
 use Rattle.std.proofs.Common.{◌≡◌, ◌⊎◌, inl, inr, ℕ, ℤ, pos, negsuc, ◌≤◌, not, Bool, true, false, cond, List, [], ◌∷◌, map, Option, Some, None, Ok, Err, Result, OnOk, eqb, refl, sym, ap, subst, ◌∙◌, arith}
-use Rattle.std.specs.Prelude.{option_map, option_and_then, nat_le, ◌&&◌}
+use Rattle.std.specs.Prelude.{nat_le, ◌&&◌}
 use Rattle.std.specs.List.{AllByRecursion}
 use Rattle.std.proofs.lemmas.Bool.{eqb-false, leb-true}
 use Rattle.std.proofs.lemmas.Bool.Decides.{nat_tests}
@@ -31,23 +31,14 @@ use Rattle.paxos_packets.specs.declared.vote.Vote.{Vote}
 use Rattle.command_codec.specs.Number.{Reading}
 use Rattle.acceptor_store.specs.Tables.{meta_table, vote_table, store_schema, put_meta_text, put_vote_text, meta_row, vote_row, vote_columns}
 use Rattle.acceptor_store.specs.Statements.{HasAtMost, PutsMeta}
-use Rattle.acceptor_store.specs.Rows.{within, slot_in, ballot_in, entry_in, vote_of, is_promised}
+use Rattle.store_rows.specs.Rows.{within, slot_in, ballot_in, entry_in, vote_of, is_promised}
 use Rattle.acceptor_store.specs.Store.{key_of, IsVote, AreVotes}
 use Rattle.acceptor_store.proofs.Texts.{put_meta_terms, put_vote_terms, put_meta_is, put_meta_plain, put_vote_is, put_vote_plain}
 use Rattle.acceptor_store.proofs.Puts.{went, same_value, cast_null, cast_int, task, replaces}
 use Rattle.acceptor_store.proofs.Trees.{has_row_new, has_row, has_row_old, not_taken, has_left, left_has, once_left, once_put, number_cmp, conflict_ids}
+use Rattle.store_rows.proofs.Options.{and_then_is, map_is}
 use Rattle.acceptor_store.specs.Once.{all_has}
 use Rattle.acceptor_store.proofs.Votes.{all_from, has_put_new, has_put, has_put_old, ascend_put}
-
--- a part of an Option
-
-pub and_then_is : {A C : Type 0} (f : A → Option C) (o : Option A) (y : C) → option_and_then f o ≡ Some y → (x : A) × (o ≡ Some x) × (f x ≡ Some y)
-and_then_is f None y h = absurd cc
-and_then_is f (Some x) y h = (x, refl, h)
-
-pub map_is : {A C : Type 0} (f : A → C) (o : Option A) (y : C) → option_map f o ≡ Some y → (x : A) × (o ≡ Some x) × (f x ≡ y)
-map_is f None y h = absurd cc
-map_is f (Some x) y h = (x, refl, cc)
 
 -- a number within bounds
 

@@ -11,10 +11,10 @@ use Rattle.command_codec.specs.Entry.{entry_spelling}
 use Rattle.command_codec.specs.Number.{Reading}
 use Rattle.acceptor_keeper.specs.declared.fault.KeeperFault.{KeeperFault}
 use Rattle.acceptor_keeper.specs.declared.fault.KeeperFault.TheVariants.{Store, Damaged, Version, Memory, Failed, Boots}
-use Rattle.acceptor_store.specs.declared.rows.Numbers.{Numbers}
+use Rattle.store_rows.specs.declared.rows.Numbers.{Numbers}
 use Rattle.acceptor_store.specs.Tables.{meta_columns, vote_columns}
 use Rattle.acceptor_store.specs.Store.{Reads}
-use Rattle.acceptor_store.specs.Changes.{numbers_after}
+use Rattle.store_rows.specs.Changes.{numbers_after}
 use Rattle.acceptor_store.specs.Answers.{stored_in, Tells, Refuses, are_spelled, has_place}
 use Rattle.acceptor_store.proofs.Meaning.{loads}
 

@@ -12,10 +12,10 @@ use Rattle.paxos_packets.specs.declared.rows.Rows.{Rows}
 use Rattle.command_codec.specs.Number.{Reading}
 use Rattle.acceptor_keeper.specs.declared.fault.KeeperFault.{KeeperFault}
 use Rattle.acceptor_keeper.specs.declared.fault.KeeperFault.TheVariants.{Store, Damaged, Version, Memory, Failed, Boots}
-use Rattle.acceptor_store.specs.declared.rows.Numbers.{Numbers}
+use Rattle.store_rows.specs.declared.rows.Numbers.{Numbers}
 use Rattle.acceptor_store.specs.Tables.{store_schema, meta_columns, vote_columns}
-use Rattle.acceptor_store.specs.Rows.{votes_after, numbers_in, rows_of, rows_with, with_votes, or_damaged}
-use Rattle.acceptor_store.specs.Calls.{LiesBelow}
+use Rattle.store_rows.specs.Rows.{votes_after, numbers_in, rows_of, rows_with, with_votes, or_damaged}
+use Rattle.store_rows.specs.Faults.{LiesBelow}
 use Rattle.acceptor_store.specs.Once.{votes_once}
 use Rattle.acceptor_store.specs.Answers.{stored_in, Tells}
 use Rattle.acceptor_store.proofs.Meaning.{votes_found, votes_loaded}

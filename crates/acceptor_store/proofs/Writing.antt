@@ -18,11 +18,12 @@ use Rattle.command_codec.specs.Number.{Reading}
 use Rattle.command_codec.specs.Coder.{IsReadAgain, Puts}
 use Rattle.command_codec.specs.Entry.{entry_reading, entry_spelling, entry_front, whole}
 use Rattle.paxos_packets.specs.declared.entry.Entry.{Entry}
-use Rattle.acceptor_store.specs.declared.rows.Numbers.{Numbers}
+use Rattle.store_rows.specs.declared.rows.Numbers.{Numbers}
 use Rattle.acceptor_store.specs.Tables.{store_schema, meta_row, vote_row, meta_columns}
 use Rattle.acceptor_store.specs.Statements.{round_of, node_of, HasAtMost, PutsMeta}
-use Rattle.acceptor_store.specs.Rows.{number, is_number, within, boot_in, ballot_in, promise_in, numbers_of, or_damaged}
-use Rattle.acceptor_store.specs.Store.{IsVote, AreVotes, HasNumbers, Reads, written, is_ballot, is_promise, are_numbers, NotLowered}
+use Rattle.store_rows.specs.Rows.{number, is_number, within, boot_in, ballot_in, promise_in, numbers_of, or_damaged}
+use Rattle.acceptor_store.specs.Store.{IsVote, AreVotes, HasNumbers, Reads, written, NotLowered}
+use Rattle.store_rows.specs.Numbers.{is_ballot, is_promise, are_numbers}
 use Rattle.acceptor_store.specs.Once.{all_has}
 use Rattle.acceptor_store.proofs.Votes.{all_from}
 

@@ -10,10 +10,10 @@ use Rattle.command_codec.specs.Number.{Reading}
 use Rattle.command_codec.specs.Entry.{entry_spelling}
 use Rattle.acceptor_keeper.specs.declared.fault.KeeperFault.{KeeperFault}
 use Rattle.acceptor_keeper.specs.declared.fault.KeeperFault.TheVariants.{Store, Damaged, Version, Memory, Failed, Boots}
-use Rattle.acceptor_store.specs.declared.rows.Numbers.{Numbers}
+use Rattle.store_rows.specs.declared.rows.Numbers.{Numbers}
 use Rattle.acceptor_store.specs.Tables.{store_schema, meta_columns, vote_columns}
-use Rattle.acceptor_store.specs.Rows.{rows_of}
-use Rattle.acceptor_store.specs.Changes.{numbers_after}
+use Rattle.store_rows.specs.Rows.{rows_of}
+use Rattle.store_rows.specs.Changes.{numbers_after}
 
 -- what the rows of the two trees read as
 abbrev pub stored_in : {B : Type 0} → (List ℕ → Reading B) → Trees → Result (Rows B) KeeperFault

@@ -1,10 +1,9 @@
 -- What the calls of a keeper are told of its connection, and of the numbers that it knows.
-use Rattle.std.specs.Prelude.{◌≡◌, ◌≢◌, true, false, Option, Some, None, ⊤}
-use Rattle.acceptor_keeper.specs.declared.fault.KeeperFault.{KeeperFault}
-use Rattle.acceptor_keeper.specs.declared.fault.KeeperFault.TheVariants.{Failed, Boots}
+use Rattle.std.specs.Prelude.{◌≡◌, true, false, Option, Some, None, ⊤}
 use Rattle.sqlite.specs.Held.{Held}
-use Rattle.acceptor_store.specs.declared.rows.Numbers.{Numbers}
-use Rattle.acceptor_store.specs.Store.{Kept, are_numbers}
+use Rattle.store_rows.specs.declared.rows.Numbers.{Numbers}
+use Rattle.acceptor_store.specs.Store.{Kept}
+use Rattle.store_rows.specs.Numbers.{are_numbers}
 
 -- a sound keeper over this connection, which knows these numbers
 abbrev pub keeper_of : {S : Type 0} → Held S → Option Numbers → Kept S
@@ -14,7 +13,3 @@ keeper_of conn known = record { conn = conn; known = known; is_failed = false; f
 abbrev pub AreKnown : Option Numbers → Type 0
 AreKnown None = ⊤
 AreKnown (Some numbers) = are_numbers numbers ≡ true
-
--- the fault lies in what is stored, or in what it is stored by
-abbrev pub LiesBelow : KeeperFault → Type 0
-LiesBelow fault = (fault ≢ Failed) × (fault ≢ Boots)

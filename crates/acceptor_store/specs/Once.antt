@@ -8,10 +8,11 @@ use Rattle.paxos_packets.specs.declared.ballot.Ballot.{Ballot}
 use Rattle.paxos_packets.specs.declared.vote.Vote.{Vote}
 use Rattle.paxos_packets.specs.declared.rows.Rows.{Rows}
 use Rattle.command_codec.specs.Number.{Reading}
-use Rattle.acceptor_store.specs.declared.rows.Numbers.{Numbers}
+use Rattle.store_rows.specs.declared.rows.Numbers.{Numbers}
 use Rattle.acceptor_store.specs.Tables.{meta_columns}
-use Rattle.acceptor_store.specs.Rows.{numbers_of}
-use Rattle.acceptor_store.specs.Store.{AscendFrom, AreVotes, StandsFor, Stores, numbers_in_rows}
+use Rattle.store_rows.specs.Rows.{numbers_of}
+use Rattle.acceptor_store.specs.Store.{AscendFrom, AreVotes, StandsFor, Stores}
+use Rattle.store_rows.specs.Numbers.{numbers_in_rows}
 
 pub all_has : {A : Type 0} (P : A → Type 0) (xs : List A) (x : A) → AllByRecursion P xs → Has xs x → P x
 all_has P [] x h none = absurd none

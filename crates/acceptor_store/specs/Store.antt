@@ -1,5 +1,5 @@
 -- What the trees of a store stand for (docs/CONSENSUS.md, "Store"; Lamport 2001, section 2.5), and what a keeper over them holds and finds.
-use Rattle.std.specs.Prelude.{◌≡◌, ◌<◌, ℕ, Bool, true, false, IsTrue, ◌==◌, ◌&&◌, ◌||◌, not, nat_le, if◌then◌else◌, List, [], ◌∷◌, map, Option, Some, None, unwrap_or, Ok, ⊤}
+use Rattle.std.specs.Prelude.{◌≡◌, ◌<◌, ℕ, Bool, true, false, IsTrue, ◌==◌, List, [], ◌∷◌, map, Option, Some, None, unwrap_or, Ok, ⊤}
 use Rattle.std.specs.Prelude.{refl}
 use Rattle.std.specs.Coded.{Coded, code_by, coded×, coded_ℕ, coded_bool, coded_option}
 use Rattle.std.specs.List.{AllByRecursion, IsDistinct}
@@ -11,16 +11,17 @@ use Rattle.sqlite_catalog.specs.Listing.{IsSound}
 use Rattle.sqlite.specs.Effect.{Database}
 use Rattle.sqlite.specs.State.{State, HasCleanDisk}
 use Rattle.sqlite.specs.Held.{Held, held_code, state}
-use Rattle.paxos_packets.specs.Ballot.{below}
 use Rattle.paxos_packets.specs.Vote.{put_votes}
 use Rattle.paxos_packets.specs.declared.ballot.Ballot.{Ballot}
 use Rattle.paxos_packets.specs.declared.vote.Vote.{Vote}
 use Rattle.paxos_packets.specs.declared.rows.Rows.{Rows}
 use Rattle.command_codec.specs.Number.{Reading}
-use Rattle.acceptor_store.specs.declared.rows.Numbers.{Numbers}
-use Rattle.acceptor_store.specs.contracts.rows.Numbers as numbers
+use Rattle.store_rows.specs.declared.rows.Numbers.{Numbers}
+use Rattle.store_rows.specs.contracts.rows.Numbers as numbers
 use Rattle.acceptor_store.specs.Tables.{store_schema, meta_columns, vote_columns}
-use Rattle.acceptor_store.specs.Rows.{number, vote_of, is_promised, numbers_of}
+use Rattle.store_rows.specs.Numbers.{numbers_in_rows}
+use Rattle.store_rows.specs.Rows.{number, vote_of, is_promised, numbers_of}
+use Rattle.store_rows.specs.Changes.{is_placed}
 
 -- the slots ascend from above `low`
 abbrev pub AscendFrom : {B : Type 0} → ℕ → List (Vote B) → Type 0
@@ -44,9 +45,6 @@ pub record AreVotes {B : Type 0} (reading : List ℕ → Reading B) (promised : 
   pub promised_all : AllByRecursion (λ v. is_promised promised v.ballot ≡ true) votes
   pub ascend : AscendFrom 0 votes
 
-abbrev pub numbers_in_rows : {B : Type 0} → Rows B → Numbers
-numbers_in_rows rows = record { boot = rows.boot; promised = rows.promised }
-
 -- the one row of `meta` has these numbers
 abbrev pub HasNumbers : List Row → Numbers → Type 0
 HasNumbers tree numbers = (row : Row) × (tree ≡ row ∷ []) × (numbers_of (meta_columns row) ≡ Ok numbers)
@@ -68,32 +66,6 @@ Reads reading db rows = (db.schema ≡ store_schema) × Stores reading db.trees 
 -- the rows with these numbers and these votes
 abbrev pub written : {B : Type 0} → Numbers → List (Vote B) → Rows B → Rows B
 written numbers votes rows = record { boot = numbers.boot; promised = numbers.promised; votes = put_votes votes rows.votes }
-
--- a round from 1 to 2^48 - 1, and a node from 1 to 7
-abbrev pub is_ballot : Ballot → Bool
-is_ballot b = nat_le 1 b.round && nat_le b.round 281474976710655 && (nat_le 1 b.node && nat_le b.node 7)
-
-abbrev pub is_promise : Option Ballot → Bool
-is_promise None = true
-is_promise (Some b) = is_ballot b
-
--- the numbers are within their ranges
-abbrev pub are_numbers : Numbers → Bool
-are_numbers numbers = nat_le numbers.boot 281474976710655 && is_promise numbers.promised
-
--- a vote that may stand under this promise
-abbrev pub is_placed : {B : Type 0} → Option Ballot → Vote B → Bool
-is_placed promised v = is_ballot v.ballot && is_promised promised v.ballot
-
--- the ballot is below the promise
-abbrev pub is_lower : Ballot → Option Ballot → Bool
-is_lower b None = false
-is_lower b (Some p) = below b p
-
--- the promise after a change, where that lowers none
-abbrev pub promise_after : Option Ballot → Option Ballot → Option (Option Ballot)
-promise_after promised None = Some promised
-promise_after promised (Some b) = if not (is_ballot b) || is_lower b promised then None else Some (Some b)
 
 -- the promise is not lowered
 abbrev pub NotLowered : Option Ballot → Option Ballot → Type 0

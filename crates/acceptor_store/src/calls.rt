@@ -1,4 +1,4 @@
-ghost use Rattle.std.specs.Prelude.{◌≡◌, ◌⊎◌, ◌<◌, ◌≤◌, ◌-◌, ◌^◌, ◌≢◌, Some, None, [], IsTrue, IfOk, IfErr, OnOk, IsErrOf, true, false};
+ghost use Rattle.std.specs.Prelude.{◌≡◌, ◌⊎◌, ◌<◌, ◌≤◌, ◌-◌, ◌^◌, ◌≢◌, Some, [], IsTrue, IfOk, IfErr, OnOk, IsErrOf, true, false};
 ghost use Rattle.std.specs.List.{AllByRecursion};
 ghost use Rattle.sqlite_trees.specs.Tree.{Trees};
 ghost use Rattle.sqlite_trees.specs.View.{doubt};
@@ -11,12 +11,13 @@ ghost use Rattle.paxos_acceptor.specs.Acceptor.{adopted};
 ghost use Rattle.acceptor_keeper.specs.Keeper.{no_rows, FindsOr, FindsNoMore};
 ghost use Rattle.acceptor_store.specs.Tables.{empty_schema};
 ghost use Rattle.acceptor_store.specs.Statements.{IsFounded};
-ghost use Rattle.acceptor_store.specs.Store.{Stores, Leaves, Holds, Finds, numbers_in_rows, are_numbers, is_ballot, is_placed, written, Follows, NotLowered};
-ghost use Rattle.acceptor_store.specs.Calls.{keeper_of, AreKnown, LiesBelow};
+ghost use Rattle.acceptor_store.specs.Store.{Stores, Leaves, Holds, Finds, written, Follows, NotLowered};
+ghost use Rattle.store_rows.specs.Numbers.{numbers_in_rows, are_numbers, is_ballot};
+ghost use Rattle.store_rows.specs.Changes.{is_placed};
+ghost use Rattle.acceptor_store.specs.Calls.{keeper_of, AreKnown};
+ghost use Rattle.store_rows.specs.Faults.{LiesBelow};
 ghost use Rattle.acceptor_store.specs.Answers.{Gives, Tells, Refuses, are_spelled, has_place};
 
-use crate::changes::numbers_after;
-use crate::rows::Numbers;
 use crate::store::{commit_rows, found_store, read_store, settle};
 use crate::tables::is_empty;
 use acceptor_keeper::KeeperFault;
@@ -24,11 +25,9 @@ use command_codec::Coder;
 use paxos_packets::{Body, Change, Rows, Vote, Votes};
 use sqlite::{Alter, Connection};
 use std::alloc::Global;
+use store_rows::{Numbers, numbers_after, raise_boot};
 
 // The calls of a keeper, over its connection and the numbers that it knows.
-
-/// The greatest boot number.
-const LAST_BOOT: u64 = (1 << 48) - 1;
 
 // Makes the tables of an empty database.
 fn found_anew<B, C: Coder<B>, S: Alter>(conn: &mut Connection<S>) -> Result<(), KeeperFault>
@@ -226,7 +225,6 @@ fn write<B: Body, C: Coder<B>, S: Alter>(
 }
 
 // Raises the boot number, and commits that.
-#[tactic(auto, unfolding(paxos_packets::specs::Rows::last_boot))]
 fn raise<B: Body, C: Coder<B>, S: Alter>(
     alloc: Global,
     conn: &mut Connection<S>,
@@ -248,10 +246,7 @@ fn raise<B: Body, C: Coder<B>, S: Alter>(
     ensures fault { IfErr result (λ e. e ≢ KeeperFault.Failed) }
 {
     let mut rows = read::<B, C, S>(alloc, conn, known)?;
-    if rows.boot >= LAST_BOOT {
-        return Err(KeeperFault::Boots);
-    }
-    rows.boot += 1;
+    raise_boot(&mut rows)?;
     let numbers = numbers_in(&rows);
     put_numbers::<B, C, S>(alloc, conn, &numbers, octets)?;
     *known = Some(numbers);

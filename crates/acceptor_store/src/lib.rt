@@ -3,8 +3,6 @@
 #![tactic(auto)]
 
 mod calls;
-mod changes;
-mod rows;
 mod sql;
 mod statements;
 mod store;

@@ -1,5 +1,4 @@
 ghost use Rattle.std.specs.Prelude.{◌≡◌, ◌⊎◌, ◌<◌, ◌≤◌, ◌-◌, ◌^◌, IsTrue, IfOk, IfErr, OnOk, IsErrOf, is_err, Err, None, true, false};
-ghost use Rattle.sqlite_trees.specs.Tree.{Trees};
 ghost use Rattle.sqlite.specs.Effect.{Database};
 ghost use Rattle.sqlite.specs.Held.{state};
 ghost use Rattle.sqlite.specs.State.{HasCleanDisk, Survives};
@@ -9,11 +8,11 @@ ghost use Rattle.paxos_acceptor.specs.Acceptor.{adopted};
 ghost use Rattle.acceptor_store.specs.Tables.{empty_schema};
 ghost use Rattle.acceptor_store.specs.Statements.{IsFounded};
 ghost use Rattle.acceptor_store.specs.Once.{stored_once};
-ghost use Rattle.acceptor_store.specs.Store.{Stores, Holds, Finds, numbers_in_rows};
+ghost use Rattle.acceptor_store.specs.Store.{Stores, Holds, Finds};
+ghost use Rattle.store_rows.specs.Numbers.{numbers_in_rows};
 ghost use Rattle.acceptor_store.specs.Answers.{Gives, Tells, Refuses, has_place};
 
 use crate::calls::{boot_from, commit_to, found_where_empty, load_from};
-use crate::rows::Numbers;
 use crate::store::settle;
 use acceptor_keeper::{Keeper, KeeperFault};
 use command_codec::Coder;
@@ -21,6 +20,7 @@ use paxos_packets::{Body, Change, Rows};
 use sqlite::{Alter, Connection};
 use std::alloc::Global;
 use std::marker::{Model, PhantomData};
+use store_rows::Numbers;
 
 /// A keeper whose rows are two tables of a SQLite database, one transaction a commit.
 ///

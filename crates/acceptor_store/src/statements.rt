@@ -1,4 +1,4 @@
-ghost use Rattle.std.specs.Prelude.{◌≡◌, ◌⊎◌, ◌<◌, ◌^◌, ◌∷◌, [], ℕ, List, Option, pos, map, true, false, IsTrue, OnOk, IfOk, IfErr, Ok, Err, IsPermutation};
+ghost use Rattle.std.specs.Prelude.{◌≡◌, ◌⊎◌, ◌<◌, ◌^◌, ◌∷◌, [], List, Option, pos, map, true, false, IsTrue, OnOk, IfOk, IfErr, Ok, Err, IsPermutation};
 ghost use Rattle.sqlite_value.specs.declared.value.Value.TheVariants.{Int, Blob};
 ghost use Rattle.sqlite_catalog.specs.Listing.{IsSound};
 ghost use Rattle.sqlite.specs.Held.{state};
@@ -9,9 +9,9 @@ ghost use Rattle.paxos_packets.specs.declared.vote.Vote.{Vote};
 ghost use Rattle.acceptor_store.specs.Tables.{store_schema, empty_schema, meta_schema, meta_row, vote_row, meta_columns, vote_columns};
 ghost use Rattle.acceptor_store.specs.Tables.{create_meta_text, create_vote_text, put_meta_text, put_vote_text, read_meta_text, read_votes_text};
 ghost use Rattle.acceptor_store.specs.Statements.{round_of, node_of, HasAtMost, PutsMeta, IsFounded};
-ghost use Rattle.acceptor_store.specs.Rows.{is_promised};
+ghost use Rattle.store_rows.specs.Rows.{is_promised};
 ghost use Rattle.acceptor_store.specs.Store.{IsVote, AreVotes};
-ghost use Rattle.acceptor_store.specs.Calls.{LiesBelow};
+ghost use Rattle.store_rows.specs.Faults.{LiesBelow};
 
 use acceptor_keeper::KeeperFault;
 use command_codec::Coder;

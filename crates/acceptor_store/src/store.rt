@@ -1,22 +1,22 @@
-ghost use Rattle.std.specs.Prelude.{is_some, ◌≡◌, ◌≢◌, ◌⊎◌, ◌<◌, ◌≤◌, ◌^◌, ℕ, List, [], Option, true, false, IsTrue, OnOk, IfOk, IfErr, IsErrOf, Ok, Err, None, length, drop, take};
+ghost use Rattle.std.specs.Prelude.{is_some, ◌≡◌, ◌≢◌, ◌⊎◌, ◌<◌, ◌≤◌, [], true, false, IsTrue, OnOk, IfOk, IfErr, IsErrOf, Ok, Err, None};
 ghost use Rattle.std.specs.List.{AllByRecursion};
 ghost use Rattle.sqlite_trees.specs.Tree.{Trees};
 ghost use Rattle.sqlite_trees.specs.View.{doubt};
 ghost use Rattle.sqlite.specs.Effect.{Database};
 ghost use Rattle.sqlite.specs.Held.{state};
-ghost use Rattle.sqlite.specs.State.{HasCleanDisk, IsLive, Survives, Shows, IsUnchanged};
+ghost use Rattle.sqlite.specs.State.{HasCleanDisk, IsLive, Survives, Shows};
 ghost use Rattle.paxos_packets.specs.Vote.{put_vote, put_votes};
-ghost use Rattle.paxos_packets.specs.declared.ballot.Ballot.{Ballot};
 ghost use Rattle.paxos_packets.specs.declared.rows.Rows.{Rows};
 ghost use Rattle.paxos_packets.specs.declared.vote.Vote.{Vote};
 ghost use Rattle.command_codec.specs.Entry.{entry_reading, entry_spelling};
 ghost use Rattle.acceptor_store.specs.Tables.{store_schema, empty_schema};
-ghost use Rattle.acceptor_store.specs.Statements.{round_of, IsFounded};
-ghost use Rattle.acceptor_store.specs.Calls.{LiesBelow};
+ghost use Rattle.acceptor_store.specs.Statements.{IsFounded};
+ghost use Rattle.store_rows.specs.Faults.{LiesBelow};
 ghost use Rattle.acceptor_store.specs.Answers.{Gives, Tells, Refuses, are_spelled};
-ghost use Rattle.acceptor_store.specs.Store.{Reads, numbers_in_rows, written, is_ballot, is_promise, are_numbers, is_placed, NotLowered, Leaves, AreVotes, Follows, GoesOn, Wrote, Stores};
+ghost use Rattle.acceptor_store.specs.Store.{Reads, written, Leaves, Follows, GoesOn, Wrote, Stores};
+ghost use Rattle.store_rows.specs.Numbers.{numbers_in_rows, is_ballot, are_numbers};
+ghost use Rattle.store_rows.specs.Changes.{is_placed};
 
-use crate::rows::{Numbers, read_rows};
 use crate::statements::{fault_of, found, put_meta, put_vote, read_tables};
 use crate::tables::has_store_tables;
 use acceptor_keeper::KeeperFault;
@@ -25,6 +25,7 @@ use command_codec::{CodecFault, Coder, Entry, put_entry};
 use paxos_packets::{Body, Rows, Vote};
 use sqlite::{Alter, Connection, Transaction};
 use std::alloc::Global;
+use store_rows::{Numbers, read_rows};
 
 // What a connection is known to be between two calls.
 pub(crate) fn settle<S: Alter>(conn: &Connection<S>)

@@ -2,7 +2,8 @@ use Rattle.std.proofs.Common.{◌≡◌, ◌∙◌, ◌⊎◌, [], List, true, s
 use Rattle.std.specs.List.{AllByRecursion}
 use Rattle.sqlite.specs.Held.{state}
 use Rattle.paxos_packets.specs.declared.vote.Vote.{Vote}
-use Rattle.acceptor_store.specs.Store.{Leaves, Stores, is_placed, written}
+use Rattle.acceptor_store.specs.Store.{Leaves, Stores, written}
+use Rattle.store_rows.specs.Changes.{is_placed}
 use Rattle.acceptor_store.proofs.calls.put_numbers.Goals as goal
 
 pub returns-clause-ok : goal.returns-clause-ok

@@ -1,6 +1,6 @@
 use Rattle.std.proofs.Common.{◌≡◌, ◌∙◌, ap, sym, subst, true, Some}
 use Rattle.sqlite.specs.Held.{state}
-use Rattle.acceptor_store.specs.Store.{numbers_in_rows, are_numbers}
+use Rattle.store_rows.specs.Numbers.{numbers_in_rows, are_numbers}
 use Rattle.acceptor_store.proofs.Keeping.{leaves_on}
 use Rattle.acceptor_store.proofs.Calling.{earlier, found_no_more, held_on}
 use Rattle.acceptor_store.proofs.calls.read.Goals as goal

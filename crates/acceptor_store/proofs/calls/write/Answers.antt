@@ -3,7 +3,9 @@ use Rattle.std.specs.Prelude.{Err, IfErr}
 use Rattle.std.specs.List.{AllByRecursion}
 use Rattle.sqlite.specs.Held.{state}
 use Rattle.paxos_packets.specs.declared.vote.Vote.{Vote}
-use Rattle.acceptor_store.specs.Store.{Leaves, Agrees, numbers_in_rows, written, is_placed}
+use Rattle.acceptor_store.specs.Store.{Leaves, Agrees, written}
+use Rattle.store_rows.specs.Numbers.{numbers_in_rows}
+use Rattle.store_rows.specs.Changes.{is_placed}
 use Rattle.acceptor_store.specs.Calls.{AreKnown}
 use Rattle.acceptor_store.proofs.Changing.{places}
 use Rattle.acceptor_store.proofs.Calling.{earlier, adopts, not_lower, found_or, found_no_more}

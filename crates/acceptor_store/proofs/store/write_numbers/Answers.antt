@@ -1,6 +1,6 @@
 use Rattle.std.proofs.lemmas.Result.{on_ok_weaker}
 use Rattle.sqlite.specs.Held.{state}
-use Rattle.acceptor_store.specs.Store.{numbers_in_rows}
+use Rattle.store_rows.specs.Numbers.{numbers_in_rows}
 use Rattle.acceptor_store.proofs.Writing.{meta_reads, at_most_one}
 use Rattle.acceptor_store.proofs.store.write_numbers.Goals as goal
 

@@ -6,7 +6,7 @@ use Rattle.std.proofs.lemmas.List.{drop_more}
 use Rattle.sqlite.specs.State.{HasCleanDisk}
 use Rattle.sqlite.specs.Held.{state}
 use Rattle.sqlite.proofs.StateLemmas.{survives_then}
-use Rattle.acceptor_store.specs.Store.{is_ballot}
+use Rattle.store_rows.specs.Numbers.{is_ballot}
 use Rattle.acceptor_store.proofs.Keeping.{SoFar, so_far_next, so_far_all, drop_past, nil_of}
 use Rattle.acceptor_store.specs.Answers.{Refuses, are_spelled}
 use Rattle.acceptor_store.proofs.Refusing.{first_spelled, first_unspelled, refuses_for}

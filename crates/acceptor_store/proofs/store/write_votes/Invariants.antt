@@ -2,7 +2,7 @@ use Rattle.std.proofs.Common.{◌≡◌, true, drop, IsTrue}
 use Rattle.std.specs.List.{AllByRecursion}
 use Rattle.sqlite.specs.State.{HasCleanDisk, Survives}
 use Rattle.sqlite.specs.Held.{state}
-use Rattle.acceptor_store.specs.Store.{is_ballot}
+use Rattle.store_rows.specs.Numbers.{is_ballot}
 use Rattle.acceptor_store.proofs.Keeping.{SoFar}
 use Rattle.acceptor_store.specs.Answers.{are_spelled}
 use Rattle.acceptor_store.proofs.store.write_votes.Given as goal

@@ -1,7 +1,7 @@
 use Rattle.std.proofs.Common.{◌≡◌, rules, sym, subst, Err, IfErr}
-use Rattle.acceptor_store.specs.Calls.{LiesBelow}
-use Rattle.acceptor_store.proofs.Within.{numbers_within, numbers_below, damaged_below}
-use Rattle.acceptor_store.proofs.rows.read_rows.Goals as goal
+use Rattle.store_rows.specs.Faults.{LiesBelow}
+use Rattle.store_rows.proofs.Within.{numbers_within, numbers_below, damaged_below}
+use Rattle.store_rows.proofs.rows.read_rows.Goals as goal
 
 pub returns-clause-numbers : goal.returns-clause-numbers
 returns-clause-numbers g c = numbers_within c.args.metas.now c.in_ok-numbers.numbers (sym c.in_ok-numbers.ensures)

@@ -1,7 +1,7 @@
 ghost use Rattle.std.specs.Prelude.{◌≡◌, Some, None};
 ghost use Rattle.std.specs.List.{list_all};
-ghost use Rattle.acceptor_store.specs.Store.{is_ballot, is_lower, is_placed, promise_after};
-ghost use Rattle.acceptor_store.specs.Changes.{numbers_after};
+ghost use Rattle.store_rows.specs.Numbers.{is_ballot};
+ghost use Rattle.store_rows.specs.Changes.{is_lower, is_placed, promise_after, numbers_after};
 
 use crate::rows::{Numbers, is_promised};
 use paxos_packets::{Ballot, Change, Vote};
@@ -48,8 +48,9 @@ fn are_placed<B>(promised: &Option<Ballot>, votes: &[Vote<B>]) -> bool
     true
 }
 
-// The numbers after a change, where that has a place over those that are known.
-pub(crate) fn numbers_after<B>(known: &Numbers, change: &Change<B>) -> Option<Numbers>
+/// The numbers after a change, where that has a place over those that are known: it lowers no promise, and has no vote above the promise
+/// and no ballot out of range.
+pub fn numbers_after<B>(known: &Numbers, change: &Change<B>) -> Option<Numbers>
     ensures { result ≡ numbers_after known.now change.now }
 {
     let promised = promise_after(&known.promised, &change.promised)?;

@@ -1,7 +1,7 @@
 use Rattle.std.proofs.Common.{◌≡◌, []}
 use Rattle.std.specs.Vec.Iter.{into_iter_items}
-use Rattle.acceptor_store.specs.Rows.{votes_after}
-use Rattle.acceptor_store.proofs.rows.votes_in.Given as goal
+use Rattle.store_rows.specs.Rows.{votes_after}
+use Rattle.store_rows.proofs.rows.votes_in.Given as goal
 
 abbrev pub invariant-loop-row : goal.invariant-loop-row
 invariant-loop-row g l =

@@ -15,7 +15,7 @@ use Rattle.command_codec.specs.Number.{Reading}
 use Rattle.command_codec.specs.Entry.{entry_reading}
 use Rattle.acceptor_keeper.specs.declared.fault.KeeperFault.{KeeperFault}
 use Rattle.acceptor_keeper.specs.declared.fault.KeeperFault.TheVariants.{Damaged, Version}
-use Rattle.acceptor_store.specs.declared.rows.Numbers.{Numbers}
+use Rattle.store_rows.specs.declared.rows.Numbers.{Numbers}
 
 -- the natural number that a value is
 abbrev pub number : Value → Option ℕ

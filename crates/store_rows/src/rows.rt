@@ -1,13 +1,12 @@
-ghost use Rattle.std.specs.Prelude.{◌≡◌, ◌≢◌, true, [], Ok, Err, Some, None, option_map, option_and_then, IfOk, IfErr, OnOk, MatchOption};
+ghost use Rattle.std.specs.Prelude.{◌≡◌, ◌≢◌, true, [], Ok, Err, Some, None, option_map, option_and_then, IfOk, IfErr, OnOk};
 ghost use Rattle.sqlite_value.specs.Order.{column};
-ghost use Rattle.acceptor_store.specs.Rows.{number, octets, within, if_within, slot_in, boot_in, ballot_in, promise_in, entry_in};
-ghost use Rattle.acceptor_store.specs.Rows.{vote_of, is_promised, with_row, votes_after, or_damaged, numbers_of, numbers_in, rows_of};
-ghost use Rattle.acceptor_store.specs.Store.{are_numbers, numbers_in_rows};
-ghost use Rattle.acceptor_store.specs.Calls.{LiesBelow};
+ghost use Rattle.store_rows.specs.Rows.{number, octets, within, if_within, slot_in, ballot_in, promise_in, entry_in, vote_of, is_promised, with_row, votes_after, numbers_of, numbers_in, rows_of};
+ghost use Rattle.store_rows.specs.Numbers.{are_numbers, numbers_in_rows};
+ghost use Rattle.store_rows.specs.Faults.{LiesBelow};
 
 use acceptor_keeper::KeeperFault;
 use command_codec::{CodecFault, Coder, take_entry};
-use paxos_packets::{Ballot, Body, Entry, Rows, Slot, Vote, Votes};
+use paxos_packets::{Ballot, Entry, Rows, Slot, Vote, Votes};
 use sqlite::Row;
 use sqlite::types::ValueRef;
 use std::alloc::Global;
@@ -206,8 +205,12 @@ fn votes_in<B: Drop, C: Coder<B>>(
     Ok(votes)
 }
 
-// The rows that those of the two tables read as, or the fault that they show.
-pub(crate) fn read_rows<B: Drop, C: Coder<B>>(
+/// The rows of an acceptor that those of the two tables read as: of `meta` k, version, boot, round and node, of `vote` slot, round, node and
+/// entry, in any order. Each row of `vote` is let go as it is read.
+///
+/// `Version` where `meta` has one row, of k 1 and of another version than 1; otherwise `Damaged` where `meta` has not one row, of k 1, a number
+/// is out of range, an entry is not read, two votes have one slot, or a vote is above the promise; `Memory` where there is none.
+pub fn read_rows<B: Drop, C: Coder<B>>(
     alloc: Global,
     metas: &[Row],
     votes: Vec<Row>,

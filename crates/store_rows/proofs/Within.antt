@@ -1,18 +1,18 @@
 -- Numbers that were read are within their ranges.
-use Rattle.std.proofs.Common.{◌≡◌, ◌≢◌, ◌∙◌, sym, ℕ, pos, negsuc, ◌&&◌, not, Bool, true, false, cond, List, [], ◌∷◌, Option, Some, None, Ok, Err, refl, subst}
+use Rattle.std.proofs.Common.{◌≡◌, ◌≢◌, ◌∙◌, sym, ℕ, pos, negsuc, ◌&&◌, not, Bool, true, false, cond, List, [], ◌∷◌, Option, Some, None, Ok, Err, refl, subst, ◌+◌, ◌<◌, ◌≤◌, arith}
 use Rattle.std.specs.Prelude.{nat_le, option_map, option_and_then}
-use Rattle.std.proofs.lemmas.Bool.{and_parts, and_from}
+use Rattle.std.proofs.lemmas.Bool.{and_parts, and_from, le-leb}
 use Rattle.sqlite_value.specs.declared.value.Value.{Value}
 use Rattle.sqlite_value.specs.declared.value.Value.TheVariants.{Null, Int, Real, Text, Blob}
 use Rattle.sqlite_value.specs.Order.{Row, column}
 use Rattle.acceptor_keeper.specs.declared.fault.KeeperFault.{KeeperFault}
 use Rattle.acceptor_keeper.specs.declared.fault.KeeperFault.TheVariants.{Damaged, Version, Memory, Failed, Boots}
-use Rattle.acceptor_store.specs.Calls.{LiesBelow}
+use Rattle.store_rows.specs.Faults.{LiesBelow}
 use Rattle.paxos_packets.specs.declared.ballot.Ballot.{Ballot}
-use Rattle.acceptor_store.specs.declared.rows.Numbers.{Numbers}
-use Rattle.acceptor_store.specs.Rows.{number, is_number, within, boot_in, round_in, node_in, ballot_in, promise_in, numbers_of, numbers_in, or_damaged}
-use Rattle.acceptor_store.specs.Store.{is_ballot, is_promise, are_numbers}
-use Rattle.acceptor_store.proofs.Putting.{and_then_is, map_is}
+use Rattle.store_rows.specs.declared.rows.Numbers.{Numbers}
+use Rattle.store_rows.specs.Rows.{number, is_number, within, boot_in, round_in, node_in, ballot_in, promise_in, numbers_of, numbers_in, or_damaged}
+use Rattle.store_rows.specs.Numbers.{is_ballot, is_promise, are_numbers}
+use Rattle.store_rows.proofs.Options.{and_then_is, map_is}
 
 within_bounds : (low high : ℕ) (v : Value) (n : ℕ) → within low high v ≡ Some n → nat_le low n && nat_le n high ≡ true
 within_bounds low high (Int (pos m)) n h = go (nat_le low m && nat_le m high) refl h
@@ -105,3 +105,11 @@ pub numbers_below : (metas : List Row) (fault : KeeperFault) → numbers_in meta
 numbers_below [] fault h = let e : Damaged ≡ fault = cc in damaged_below fault (Unit {0}) (λ _. (sym e, tt))
 numbers_below (row ∷ []) fault h = shown_below row fault h
 numbers_below (row ∷ other ∷ rows) fault h = let e : Damaged ≡ fault = cc in damaged_below fault (Unit {0}) (λ _. (sym e, tt))
+
+-- one boot more leaves the numbers within their ranges
+pub raised_within : (boot : ℕ) (promised : Option Ballot) → are_numbers (record { boot = boot; promised = promised }) ≡ true → boot < 281474976710655
+    → are_numbers (record { boot = boot + 1; promised = promised }) ≡ true
+raised_within boot promised h low =
+    let parts = and_parts (nat_le boot 281474976710655) (is_promise promised) h in
+    let next : boot + 1 ≤ 281474976710655 = omega arith in
+    and_from (nat_le (boot + 1) 281474976710655) (is_promise promised) (le-leb (boot + 1) 281474976710655 next) parts.1

@@ -1,0 +1,11 @@
+//! What rows of a store's two tables read as (docs/CONSENSUS.md, "The store"), and what boots and changes make of the numbers that an acceptor
+//! keeps.
+#![tactic(auto)]
+
+mod boots;
+mod changes;
+mod rows;
+
+pub use boots::raise_boot;
+pub use changes::numbers_after;
+pub use rows::{Numbers, read_rows};
