@@ -1,35 +1,8 @@
 // The applied log: what learning and applying an entry takes, behind a gap of one slot and of many.
+use crate::fault::BenchFault;
 use core_tests::{Count, Number};
-use replica_machine::{AppliedLog, Entry, Failed, LearnFault, Slot};
-use std::alloc::AllocError;
-use std::io;
+use replica_machine::{AppliedLog, Entry, Slot};
 use std::time::Instant;
-use thiserror::Error;
-
-/// Why a run ended before its end.
-#[derive(Debug, Drop, Error)]
-pub enum LogFault {
-    #[error("an entry was not learned: {0}")]
-    Learn(#[from] LearnFault),
-    #[error("the log has failed")]
-    Failed,
-    #[error("the clock or standard output failed")]
-    Output,
-    #[error("the slots are at their end")]
-    Slots,
-}
-
-impl From<Failed> for LogFault {
-    fn from(_failed: Failed) -> LogFault {
-        LogFault::Failed
-    }
-}
-
-impl From<io::Error> for LogFault {
-    fn from(_error: io::Error) -> LogFault {
-        LogFault::Output
-    }
-}
 
 // The entry of a slot: the Boot of node 1, then its Items in their order.
 fn entry_of(slot: u64) -> Entry<Number> {
@@ -47,10 +20,10 @@ fn entry_of(slot: u64) -> Entry<Number> {
 }
 
 // Learns the slots behind `from` up to `to`, the last one first, and applies what can be. Tells how many were applied.
-fn step(log: &mut AppliedLog<Count>, from: u64, to: u64) -> Result<u64, LogFault> {
+fn step(log: &mut AppliedLog<Count>, from: u64, to: u64) -> Result<u64, BenchFault> {
     for before in (from..to).rev() {
         let slot = before + 1;
-        log.learn(Slot::new(slot).ok_or(LogFault::Slots)?, entry_of(slot))?;
+        log.learn(Slot::new(slot).ok_or(BenchFault::Slots)?, entry_of(slot))?;
     }
     let mut applied = 0u64;
     for _slot in from..to {
@@ -63,7 +36,7 @@ fn step(log: &mut AppliedLog<Count>, from: u64, to: u64) -> Result<u64, LogFault
 
 /// Learns `entries` entries in windows of `window` slots, each from its last slot to its first, and applies them; prints how many were
 /// applied and the machine's sum, and on standard error the nanoseconds an entry.
-pub fn run(rt: &HostRuntime, entries: u64, window: u64) -> Result<(), LogFault> {
+pub fn run(rt: &HostRuntime, entries: u64, window: u64) -> Result<(), BenchFault> {
     let mut log = AppliedLog::new(rt.alloc(), Count::new(rt.alloc()));
     let start = Instant::now(rt)?;
     let mut applied = 0u64;

@@ -1,16 +1,23 @@
-//! Measures of the consensus core, each over a run of this program: `core_bench log N W`.
+//! Measures of the consensus core, each over a run of this program: `core_bench log N W` and `core_bench codec N`.
 #![tactic(auto)]
 
+mod codec;
+mod fault;
 mod log;
 
+use crate::fault::BenchFault;
 use std::env;
 use std::io::Error;
 use std::process::ExitCode;
 
 const USAGE: &str = "\
 usage: core_bench log N W
-  log N W  learns N entries in windows of W slots, the last slot of each first, and applies them;
-           the counts are printed, and on standard error the nanoseconds an entry";
+       core_bench codec N
+       core_bench all N W
+  log N W  learns N entries in windows of W slots, the last slot of each first, and applies them
+  codec N  puts and takes a PUBLISH with 200 octets of text N times a turn, beside writing it and reading its text
+  all N W  does both, one after the other
+  Counts are printed, and on standard error the nanoseconds of an entry or a call";
 
 // The words of the command line, without the program's own name; none where they cannot be read.
 fn words_of(rt: &HostRuntime) -> Result<Vec<String>, Error> {
@@ -32,25 +39,58 @@ fn misuse(rt: &HostRuntime) -> ExitCode {
     ExitCode::from(2)
 }
 
-fn main(rt: HostRuntime) -> ExitCode {
-    let Ok(words) = words_of(&rt) else {
-        return misuse(&rt);
-    };
-    let [kind, entries, window] = words.as_slice() else {
-        return misuse(&rt);
-    };
-    let (Some(entries), Some(window)) = (number_of(entries.as_str()), number_of(window.as_str()))
-    else {
-        return misuse(&rt);
-    };
-    if kind.as_str() != "log" {
-        return misuse(&rt);
-    }
-    match log::run(&rt, entries, window) {
+// The status of a run, whose fault is told on standard error.
+fn ended(rt: &HostRuntime, done: Result<(), BenchFault>) -> ExitCode {
+    match done {
         Ok(()) => ExitCode::SUCCESS,
         Err(fault) => {
             let _ = eprintln!(rt; "error: {fault}");
             ExitCode::from(1)
         }
+    }
+}
+
+// Both measures, one after the other.
+fn run_all(rt: &HostRuntime, number: u64, window: u64) -> Result<(), BenchFault> {
+    log::run(rt, number, window)?;
+    codec::run(rt, number)
+}
+
+// The measure of two numbers that is so named.
+fn by_two(rt: &HostRuntime, kind: &str, number: u64, window: u64) -> ExitCode {
+    match kind {
+        "log" => ended(rt, log::run(rt, number, window)),
+        "all" => ended(rt, run_all(rt, number, window)),
+        _ => misuse(rt),
+    }
+}
+
+// The measure of one number that is so named.
+fn by_one(rt: &HostRuntime, kind: &str, number: u64) -> ExitCode {
+    match kind {
+        "codec" => ended(rt, codec::run(rt, number)),
+        _ => misuse(rt),
+    }
+}
+
+// What the words of the command line ask for.
+fn ordered(rt: &HostRuntime, words: &[String]) -> ExitCode {
+    match words {
+        [kind, number] => match number_of(number.as_str()) {
+            Some(number) => by_one(rt, kind.as_str(), number),
+            None => misuse(rt),
+        },
+        [kind, number, window] => match (number_of(number.as_str()), number_of(window.as_str())) {
+            (Some(number), Some(window)) => by_two(rt, kind.as_str(), number, window),
+            _ => misuse(rt),
+        },
+        _ => misuse(rt),
+    }
+}
+
+fn main(rt: HostRuntime) -> ExitCode {
+    match words_of(&rt) {
+        Ok(words) => ordered(&rt, words.as_slice()),
+        Err(_) => misuse(&rt),
     }
 }
