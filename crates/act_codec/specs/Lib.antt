@@ -3,3 +3,4 @@ pub mod Text
 pub mod Read
 pub mod Act
 pub mod Again
+pub mod Laws

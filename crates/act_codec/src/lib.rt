@@ -2,6 +2,7 @@
 #![tactic(auto)]
 
 mod act;
+pub mod laws;
 mod read;
 mod text;
 
