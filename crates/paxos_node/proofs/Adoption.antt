@@ -1,5 +1,5 @@
 -- A node to whose parts an outcome's moves are done is the one that adopts the outcome.
-use Rattle.std.proofs.Common.{◌≡◌, ℕ, ◌+◌, ◌≤◌, Bool, true, false, cond, Option, Some, None, List, [], ◌∷◌, ◌++◌, length, ap, sym, ◌∙◌, refl, subst, arith}
+use Rattle.std.proofs.Common.{◌≡◌, ℕ, ◌+◌, ◌≤◌, Bool, false, cond, Option, Some, None, List, [], ◌∷◌, ◌++◌, map, length, ap, sym, ◌∙◌, refl, arith}
 use Rattle.paxos_packets.specs.declared.entry.Entry.{Entry}
 use Rattle.paxos_acceptor.specs.Acceptor as accepting
 use Rattle.paxos_proposer.specs.declared.moves.Move.{Move}
@@ -9,6 +9,9 @@ use Rattle.paxos_proposer.specs.State as proposing
 use Rattle.paxos_learner.specs.declared.hearing.News.{News}
 use Rattle.paxos_learner.specs.declared.hearing.News.TheVariants.{Cast, Told}
 use Rattle.paxos_learner.specs.Hearing.{hear_news, hear_all}
+use Rattle.paxos_learner.specs.declared.learned.LearnedEntry.{LearnedEntry}
+use Rattle.paxos_learner.specs.Learned.{Begins}
+use Rattle.paxos_learner.proofs.Beginning.{entries_are}
 use Rattle.paxos_learner.specs.Learner as learning
 use Rattle.paxos_node.specs.declared.outcome.Outcome.{Outcome}
 use Rattle.paxos_node.specs.Node.{NodeState}
@@ -61,6 +64,14 @@ one_added (Some e) = omega arith
 pub length_both : {X : Type 0} (xs ys : List X) → length (xs ++ ys) ≡ length xs + length ys
 length_both [] ys = omega arith
 length_both (x ∷ xs) ys = let h = length_both xs ys in omega arith
+
+-- the first entries of what was learned, where it begins with a log and with what follows
+
+pub first_both : {B : Type 0} (log more : List (Entry B)) (ls : List (LearnedEntry B)) → Begins (log ++ more) ls
+    → first_learned (length log + length more) ls ≡ log ++ more
+first_both {B} log more ls h =
+    ap (λ (n : ℕ). first_learned n ls) (sym (length_both log more)) ∙ ap (λ (l : List (LearnedEntry B)). map (λ m. m.entry) l) h
+    ∙ entries_are 1 (log ++ more)
 
 -- a node that goes on
 

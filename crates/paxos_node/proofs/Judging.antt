@@ -1,25 +1,22 @@
 -- A node treats Prepare and Accept as its acceptor does: what is applied at the end changes no row, and sends nothing.
 use Rattle.std.proofs.Common.{◌≡◌, ℕ, suc, Bool, true, false, cond, refl, List, [], ◌∷◌, length}
 use Rattle.std.proofs.lemmas.Bool.{cond_both}
-use Rattle.paxos_packets.specs.Packet.{packet, to_others}
+use Rattle.paxos_packets.specs.Packet.{packet}
 use Rattle.paxos_packets.specs.Vote.{votes_from}
 use Rattle.paxos_packets.specs.declared.ballot.Ballot.{Ballot}
 use Rattle.paxos_packets.specs.declared.entry.Entry.{Entry}
 use Rattle.paxos_packets.specs.declared.packet.Kind.TheVariants.{Prepare, Promise, Accept, Accepted}
 use Rattle.paxos_packets.specs.declared.packet.Packet.{Packet}
-use Rattle.paxos_packets.specs.declared.rows.Change.{Change}
 use Rattle.paxos_packets.specs.declared.rows.Rows.{Rows}
 use Rattle.paxos_packets.specs.declared.vote.Vote.{Vote}
 use Rattle.paxos_acceptor.specs.declared.verdict.Verdict.{Verdict}
 use Rattle.paxos_acceptor.specs.declared.verdict.Answer.TheVariants.{ToSender, ToOthers}
 use Rattle.paxos_acceptor.specs.Acceptor.{may_promise, may_accept, adopted, answers, judged, refused, promise_change, vote_change}
 use Rattle.paxos_learner.specs.Learner.{run_from}
-use Rattle.paxos_node.specs.declared.event.Event.TheVariants.{Deliver}
 use Rattle.paxos_node.specs.Node.{NodeState, Turn}
 use Rattle.paxos_node.specs.Turn.{begun, send, promise, cast}
 use Rattle.paxos_node.specs.Replies.{saw, refuse}
 use Rattle.paxos_node.specs.Applying.{note, ends, go_down, apply_all, settle}
-use Rattle.paxos_node.specs.Events.{outcome_of}
 use Rattle.paxos_node.specs.Laws.{IsJudged, JudgesAsAnAcceptor}
 
 -- a turn that gives this verdict on these rows

@@ -1,5 +1,5 @@
 -- A proposer and a learner that know a node's number and members are those of the node.
-use Rattle.std.proofs.Common.{◌≡◌, ℕ, ◌≤◌, max, ◌∙◌, arith}
+use Rattle.std.proofs.Common.{◌≡◌, ℕ, max, arith}
 use Rattle.paxos_proposer.specs.State as proposing
 use Rattle.paxos_learner.specs.Learner as learning
 

@@ -1,11 +1,11 @@
 -- A roll goes on over one entry more.
 use Rattle.std.proofs.Common.{◌≡◌, ℕ, zero, suc, ◌+◌, ◌<◌, ◌≤◌, List, [], ◌∷◌, ◌++◌, length, drop, get_or, ap, ◌∙◌, sym, refl, subst, arith, add-one, drop-cons}
-use Rattle.std.proofs.Common.{append_assoc, append-nil}
+use Rattle.std.proofs.Common.{append-nil}
 use Rattle.paxos_node.specs.Adopting.{pending_behind}
 use Rattle.paxos_packets.specs.declared.entry.Entry.{Entry}
 use Rattle.replica_machine.specs.declared.roll.Standing.{Standing}
 use Rattle.replica_machine.specs.declared.roll.Standing.TheVariants.{Unknown}
-use Rattle.replica_machine.specs.Roll.{standing_after, standing_from, standing, standing_in, IsRollOf}
+use Rattle.replica_machine.specs.Roll.{standing_after, standing_from, standing_in, IsRollOf}
 
 pub from_last : {B : Type 0} (n : ℕ) (s : Standing) (log : List (Entry B)) (e : Entry B)
     → standing_from n s (log ++ e ∷ []) ≡ standing_after n (standing_from n s log) e

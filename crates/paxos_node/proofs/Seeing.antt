@@ -1,5 +1,5 @@
 -- A node that is up has seen the rounds that it promised, and that of its own ballot.
-use Rattle.std.proofs.Common.{◌≡◌, ℕ, zero, suc, ◌≤◌, Bool, true, false, cond, not, ◌&&◌, max, refl, arith, List, [], ◌∷◌, ◌++◌, length, Option, Some, None}
+use Rattle.std.proofs.Common.{◌≡◌, ℕ, suc, ◌≤◌, Bool, true, false, cond, not, ◌&&◌, max, refl, arith, List, [], ◌∷◌, ◌++◌, length, Option, Some, None}
 use Rattle.std.specs.Prelude.{nat_lt}
 use Rattle.std.proofs.lemmas.Bool.{cond_both}
 use Rattle.paxos_packets.specs.Members.{is_majority}
@@ -21,8 +21,8 @@ use Rattle.paxos_proposer.specs.Reports.{is_counted, reports, called_for}
 use Rattle.paxos_learner.specs.Learner.{run_from}
 use Rattle.paxos_node.specs.declared.event.Event.{Event}
 use Rattle.paxos_node.specs.declared.event.Event.TheVariants.{Take, Tick, Start, Suspect, Deliver, Crash, Restart}
-use Rattle.paxos_node.specs.Node.{NodeState, Turn}
-use Rattle.paxos_node.specs.Turn.{with_role, with_pending, begun, send, promise, vote, cast}
+use Rattle.paxos_node.specs.Node.{Turn}
+use Rattle.paxos_node.specs.Turn.{with_role, with_pending, begun, send, promise, cast}
 use Rattle.paxos_node.specs.Proposals.{offer, propose_as, propose, propose_all, lead, stands, propose_new, propose_each, forwarded, push}
 use Rattle.paxos_node.specs.Replies.{round_in, saw, refuse, count_promise, on_promise_as, on_packet}
 use Rattle.paxos_node.specs.Applying.{started, note, ends, go_down, apply_all, settle}

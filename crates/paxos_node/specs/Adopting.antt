@@ -1,5 +1,5 @@
 -- What an event does to the parts of a node, told before it is done, and the node to which it is done (docs/CONSENSUS.md, "One node").
-use Rattle.std.specs.Prelude.{◌≡◌, ◌<◌, ◌+◌, ◌^◌, ℕ, Bool, not, Option, Some, None, List, [], ◌∷◌, ◌++◌, filter, fold, length, take, map, if◌then◌else◌}
+use Rattle.std.specs.Prelude.{◌≡◌, ◌<◌, ◌+◌, ◌^◌, ℕ, Bool, false, not, Option, Some, None, List, [], ◌∷◌, ◌++◌, filter, length, take, map, if◌then◌else◌}
 use Rattle.paxos_packets.specs.declared.entry.Entry.{Entry}
 use Rattle.paxos_packets.specs.declared.entry.Entry.TheVariants.{Noop, Boot, Lost, Item}
 use Rattle.paxos_acceptor.specs.Acceptor as accepting
@@ -7,13 +7,15 @@ use Rattle.paxos_proposer.specs.Moves.{after_moves, ArePossible}
 use Rattle.paxos_proposer.specs.State as proposing
 use Rattle.paxos_learner.specs.declared.learned.LearnedEntry.{LearnedEntry}
 use Rattle.paxos_learner.specs.Hearing.{hear_all}
+use Rattle.paxos_learner.specs.Learned.{Begins}
 use Rattle.paxos_learner.specs.Learner as learning
 use Rattle.replica_machine.specs.Roll.{is_wanted}
 use Rattle.paxos_node.specs.declared.event.Event.{Event}
 use Rattle.paxos_node.specs.declared.outcome.Outcome.{Outcome}
-use Rattle.paxos_node.specs.Node.{NodeState}
-use Rattle.paxos_node.specs.Applying.{down}
-use Rattle.paxos_node.specs.Events.{owner, outcome_of}
+use Rattle.paxos_node.specs.Node.{NodeState, Turn}
+use Rattle.paxos_node.specs.Turn.{begun}
+use Rattle.paxos_node.specs.Applying.{down, settle}
+use Rattle.paxos_node.specs.Events.{owner, on_event}
 
 -- the proposer and the learner of a node, with what they know of it
 
@@ -67,15 +69,21 @@ first_learned n learned = map (λ l. l.entry) (take n learned)
 -- it fits a node: each move is possible in its turn, and what is applied is what is learned next
 pub record Fits {B : Type 0} (me members : ℕ) (o : Outcome B) (x : NodeState B) : Type 0 where
   pub moves : ArePossible o.moves.proposer (proposer_of me members x)
-  pub applied : first_learned (length x.applied + length o.applied) (hear_all o.moves.news (learner_of members x)).learner.learned
-      ≡ x.applied ++ o.applied
+  pub applied : Begins (x.applied ++ o.applied) (hear_all o.moves.news (learner_of members x)).learner.learned
   pub within : length x.applied + length o.applied < 2 ^ 40
 
--- an outcome is the event's: what it commits, sends and applies, and the node that adopts it
-pub record Planned {B : Type 0} (same : B → B → Bool) (members : ℕ) (e : Event B) (x : NodeState B) (o : Outcome B) : Type 0 where
-  pub change : o.change ≡ (outcome_of same members e x).change
-  pub packets : o.packets ≡ (outcome_of same members e x).packets
-  pub applied : o.applied ≡ (outcome_of same members e x).applied
-  pub is_down : o.is_down ≡ not (outcome_of same members e x).node.up
-  pub fits : Fits (owner e) members o x
-  pub node : adopted (owner e) members o x ≡ (outcome_of same members e x).node
+-- an outcome is what is made of a node so far, once what it would then have learned is applied: what it commits, sends and applies, the
+-- node that adopts it, and the length of that node's log
+pub record Settled {B : Type 0} (me members : ℕ) (x : NodeState B) (t : Turn B) (o : Outcome B) : Type 0 where
+  pub agrees : (settle me t).disagrees ≡ false
+  pub change : o.change ≡ (settle me t).change
+  pub packets : o.packets ≡ (settle me t).packets
+  pub applied : o.applied ≡ (settle me t).applied
+  pub is_down : o.is_down ≡ not (settle me t).node.up
+  pub fits : Fits me members o x
+  pub node : adopted me members o x ≡ (settle me t).node
+  pub log : o.moves.log ≡ length (settle me t).node.applied
+
+-- it is the event's
+abbrev pub Planned : {B : Type 0} → (B → B → Bool) → ℕ → Event B → NodeState B → Outcome B → Type 0
+Planned same members e x o = Settled (owner e) members x (on_event same members e (begun x)) o

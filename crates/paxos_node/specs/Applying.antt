@@ -1,12 +1,13 @@
 -- Learned entries are applied in the order of slots, none skipped; and a node that is down, or that has just begun
 -- (docs/CONSENSUS.md, "One node" and "Events").
-use Rattle.std.specs.Prelude.{ℕ, suc, Bool, true, false, ◌&&◌, ◌==◌, None, List, [], ◌∷◌, ◌++◌, filter, length, if◌then◌else◌}
+use Rattle.std.specs.Prelude.{ℕ, suc, Bool, true, false, ◌&&◌, ◌||◌, ◌==◌, None, List, [], ◌∷◌, ◌++◌, filter, length, if◌then◌else◌}
 use Rattle.paxos_packets.specs.declared.entry.Entry.{Entry}
 use Rattle.paxos_packets.specs.declared.entry.Entry.TheVariants.{Noop, Boot, Lost, Item}
 use Rattle.paxos_packets.specs.declared.rows.Rows.{Rows}
 use Rattle.paxos_proposer.specs.Proposer.{round_of, resting}
 use Rattle.paxos_learner.specs.Learner.{unheard, run_from}
-use Rattle.replica_machine.specs.Roll.{takes_effect, is_wanted}
+use Rattle.replica_machine.specs.declared.roll.Standing.{Standing}
+use Rattle.replica_machine.specs.Roll.{takes_effect, is_wanted, is_live, standing_after}
 use Rattle.paxos_node.specs.Node.{NodeState, Turn}
 
 -- a node that has only its rows
@@ -59,3 +60,16 @@ apply_all me (e ∷ es) o = if ends me o.node e then go_down (note e o) else app
 -- the learned entries of the next slots are applied
 abbrev pub settle : {B : Type 0} → ℕ → Turn B → Turn B
 settle me o = apply_all me (run_from (suc (length o.node.applied)) o.node.learner.learned) o
+
+-- the same, told by where the node stands: whether an entry tells that its boot is lost, behind how many of the entries that is so, and
+-- whether one of them does
+abbrev pub ends_boot : {B : Type 0} → ℕ → ℕ → Standing → Entry B → Bool
+ends_boot me boot s e = is_own_lost me boot e && is_live s boot
+
+abbrev pub count_to_end : {B : Type 0} → ℕ → ℕ → Standing → List (Entry B) → ℕ
+count_to_end me boot s [] = 0
+count_to_end me boot s (e ∷ es) = if ends_boot me boot s e then 1 else suc (count_to_end me boot (standing_after me s e) es)
+
+abbrev pub has_end : {B : Type 0} → ℕ → ℕ → Standing → List (Entry B) → Bool
+has_end me boot s [] = false
+has_end me boot s (e ∷ es) = ends_boot me boot s e || has_end me boot (standing_after me s e) es

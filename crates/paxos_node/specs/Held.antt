@@ -1,5 +1,5 @@
 -- What callers see of a node in code: its number, the members, the node, and for how much more it has memory.
-use Rattle.std.specs.Prelude.{◌≡◌, ◌≤◌, ℕ, Bool, Option, Some, None, List, length}
+use Rattle.std.specs.Prelude.{◌≤◌, ℕ, Bool, Option, Some, None, length}
 use Rattle.paxos_packets.specs.declared.entry.Entry.{Entry}
 use Rattle.paxos_proposer.specs.Moves.{promises_in, proposals_in}
 use Rattle.paxos_proposer.specs.State as proposing

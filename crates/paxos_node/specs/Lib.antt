@@ -10,3 +10,5 @@ pub mod Steps
 pub mod Fault
 pub mod Adopting
 pub mod Held
+pub mod Drafting
+pub mod Plans

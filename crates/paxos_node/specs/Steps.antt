@@ -1,5 +1,5 @@
 -- What an event does to the proposer, the learner and the pending entries of a node.
-use Rattle.std.specs.Prelude.{Option, List}
+use Rattle.std.specs.Prelude.{ℕ, Option, List}
 use Rattle.paxos_packets.specs.declared.entry.Entry.{Entry}
 use Rattle.paxos_proposer.specs.declared.moves.Move.{Move}
 use Rattle.paxos_learner.specs.declared.hearing.News.{News}
@@ -9,3 +9,5 @@ pub record Steps (B : Type 0) : Type 0 where
   pub news : List (News B)
   -- the entry that becomes pending
   pub added : Option (Entry B)
+  -- the length of the log behind it, 0 where the node is down
+  pub log : ℕ

@@ -2,13 +2,20 @@
 //! for a slot (docs/CONSENSUS.md).
 #![tactic(auto)]
 
+mod draft;
 mod event;
+mod events;
 mod fault;
 pub mod laws;
 mod moves;
 mod node;
 mod outcome;
 mod packets;
+mod proposals;
+mod replies;
+mod settling;
+mod starting;
+mod ticking;
 mod waiting;
 
 pub use event::Event;

@@ -10,6 +10,8 @@ pub struct Moves<B> {
     pub(crate) proposer: Vec<Move<B>>,
     pub(crate) news: Vec<News<B>>,
     pub(crate) added: Option<Entry<B>>,
+    // The length of the log behind it, 0 where the node is down.
+    pub(crate) log: u64,
 }
 
 impl<B> Model for Moves<B> {
@@ -17,5 +19,5 @@ impl<B> Model for Moves<B> {
 
     ghost Value = { Steps B };
 
-    ghost view = { λ m. record { proposer = m.proposer.items; news = m.news.items; added = m.added } };
+    ghost view = { λ m. record { proposer = m.proposer.items; news = m.news.items; added = m.added; log = m.log } };
 }

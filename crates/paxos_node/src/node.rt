@@ -1,9 +1,12 @@
-ghost use Rattle.std.specs.Prelude.{◌≡◌, ◌<◌, true, false, nat_lt, length, IfOk, OnOk, OnErr, IsOkUnless, Err};
+ghost use Rattle.std.specs.Prelude.{◌≡◌, ◌<◌, ◌^◌, [], true, false, nat_lt, length, IfOk, OnOk, OnErr, IsOkUnless, Err};
 ghost use Rattle.paxos_node.specs.declared.fault.NodeFault.TheVariants.{Memory};
-ghost use Rattle.paxos_node.specs.Adopting.{adopted, Fits};
+ghost use Rattle.paxos_node.specs.Adopting.{adopted, proposer_of, learner_of, Fits};
 ghost use Rattle.paxos_node.specs.Applying.{down, started};
 ghost use Rattle.paxos_node.specs.Held.{HasRoom};
+ghost use Rattle.paxos_learner.specs.Learned.{Begins};
+ghost use Rattle.paxos_packets.specs.Vote.{votes_from};
 ghost use Rattle.paxos_proposer.specs.Proposer.{round_of};
+ghost use Rattle.replica_machine.specs.Roll.{IsRollOf};
 
 use crate::fault::NodeFault;
 use crate::moves::Moves;
@@ -11,9 +14,9 @@ use crate::outcome::Outcome;
 use crate::packets::Packets;
 use crate::waiting::{apply_all, wait};
 use paxos_acceptor::Acceptor;
-use paxos_learner::Learner;
-use paxos_packets::{Ballot, Body, Entries, Entry, Members, Rows, Vote};
-use paxos_proposer::Proposer;
+use paxos_learner::{Hearing, Learner};
+use paxos_packets::{Ballot, Body, Entries, Entry, Members, Rows, Vote, Votes};
+use paxos_proposer::{Proposer, Proposing};
 use replica_machine::Roll;
 use std::alloc::Global;
 use std::marker::Model;
@@ -38,7 +41,8 @@ pub struct Node<B> {
 }
 
 impl<B> Model for Node<B> {
-    ghost use Rattle.std.specs.Prelude.{◌≡◌, ◌-◌, length, vec_len, vec_capacity};
+    ghost use Rattle.std.specs.Prelude.{◌≡◌, ◌-◌, ◌<◌, ◌^◌, length, vec_len, vec_capacity};
+    ghost use Rattle.paxos_learner.specs.Learned.{Begins};
     ghost use Rattle.replica_machine.specs.Roll.{IsRollOf};
     ghost use Rattle.paxos_node.specs.Adopting.{first_learned};
     ghost use Rattle.paxos_node.specs.Held.{Held};
@@ -68,10 +72,89 @@ impl<B> Model for Node<B> {
 
     ghost invariant = { λ n. (n.proposer.state.me ≡ n.me) × (n.proposer.state.members ≡ n.members) × (n.learner.state.members ≡ n.members)
         × (length (first_learned n.applied n.learner.state.learner.learned) ≡ n.applied)
-        × IsRollOf (first_learned n.applied n.learner.state.learner.learned) n.roll };
+        × IsRollOf (first_learned n.applied n.learner.state.learner.learned) n.roll
+        × Begins (first_learned n.applied n.learner.state.learner.learned) n.learner.state.learner.learned
+        × (n.applied < 2 ^ 40) };
 }
 
 impl<B> Node<B> {
+    // Its number.
+    pub(crate) fn me(&self) -> u8
+        ensures { result ≡ self.now.me }
+    {
+        self.me
+    }
+
+    // The members.
+    pub(crate) fn members(&self) -> Members
+        ensures { result ≡ self.now.members }
+    {
+        self.members
+    }
+
+    // Where its memory comes from.
+    pub(crate) fn alloc(&self) -> Global {
+        self.alloc
+    }
+
+    // Its proposer.
+    pub(crate) fn proposer(&self) -> &Proposer<B>
+        ensures { result.now.state ≡ proposer_of self.now.me self.now.members self.now.state }
+    {
+        &self.proposer
+    }
+
+    // Its learner.
+    pub(crate) fn learner(&self) -> &Learner<B>
+        ensures { result.now.state ≡ learner_of self.now.members self.now.state }
+    {
+        &self.learner
+    }
+
+    // Where each node stands behind its log.
+    pub(crate) fn roll(&self) -> &Roll
+        ensures { IsRollOf self.now.state.applied result.now }
+    {
+        &self.roll
+    }
+
+    // What it learned begins with its log.
+    pub(crate) fn begins(&self)
+        ensures { Begins self.now.state.applied self.now.state.learner.learned }
+    {
+        let _ = &self.learner;
+    }
+
+    // How many acts it took.
+    pub(crate) fn taken(&self) -> u64
+        ensures { result ≡ self.now.state.taken }
+    {
+        self.taken
+    }
+
+    // The entries that wait for a slot.
+    pub(crate) fn pending(&self) -> &[Entry<B>]
+        ensures { result.now ≡ self.now.state.pending }
+    {
+        self.pending.as_slice()
+    }
+
+    // Its proposer, to which nothing is to be done.
+    pub(crate) fn proposing(&self, alloc: Global) -> Proposing<'_, B>
+        ensures before { result.before ≡ proposer_of self.now.me self.now.members self.now.state }
+        ensures moves { result.moves ≡ [] }
+    {
+        Proposing::of(alloc, &self.proposer)
+    }
+
+    // Its learner, which is to hear nothing.
+    pub(crate) fn hearing(&self, alloc: Global) -> Hearing<'_, B>
+        ensures before { result.before ≡ learner_of self.now.members self.now.state }
+        ensures news { result.news ≡ [] }
+    {
+        Hearing::of(alloc, &self.learner)
+    }
+
     /// Whether the node is up.
     pub fn is_up(&self) -> bool
         ensures { result ≡ self.now.state.up }
@@ -81,7 +164,8 @@ impl<B> Node<B> {
 
     /// How many entries it has applied.
     pub fn applied(&self) -> u64
-        ensures { result ≡ length self.now.state.applied }
+        ensures length { result ≡ length self.now.state.applied }
+        ensures within { result < 2 ^ 40 }
     {
         self.applied as u64
     }
@@ -158,6 +242,17 @@ impl<B: Drop> Node<B> {
 }
 
 impl<B: Body> Node<B> {
+    // Copies of its votes from the slot with this number on.
+    pub(crate) fn votes_from(&self, alloc: Global, first: u64) -> Result<Votes<B>, NodeFault>
+        ensures votes { IfOk result (λ votes. votes ≡ votes_from first self.now.state.rows.votes) }
+        ensures memory { IsOkUnless result Memory }
+    {
+        match self.acceptor.votes_from(alloc, first) {
+            Ok(votes) => Ok(votes),
+            Err(_) => Err(NodeFault::Memory),
+        }
+    }
+
     /// Takes all memory that adopting this outcome needs. With `Memory` as well as without it the node is as it was.
     pub fn make_room(&mut self, outcome: &Outcome<B>) -> Result<(), NodeFault>
         ensures ok { OnOk result (HasRoom outcome.now self.new) }
@@ -211,6 +306,7 @@ impl<B: Body> Node<B> {
             proposer,
             news,
             added,
+            ..
         } = moves;
         self.proposer.move_in_room(proposer);
         self.learner.hear_in_room(news);

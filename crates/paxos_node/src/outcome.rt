@@ -1,6 +1,10 @@
+ghost use Rattle.std.specs.Prelude.{◌≡◌};
+ghost use Rattle.paxos_node.specs.Plans.{unchanged};
+
 use crate::moves::Moves;
 use crate::packets::Packets;
-use paxos_packets::{Change, Entries};
+use paxos_packets::{Change, Entries, Votes};
+use std::alloc::Global;
 
 /// What an event is to make of a node: it is committed first, and adopted then.
 #[derive(Debug, Drop)]
@@ -14,4 +18,34 @@ pub struct Outcome<B> {
     /// Whether the node is down then: one of these tells that it is lost.
     pub is_down: bool,
     pub(crate) moves: Moves<B>,
+}
+
+impl<B> Outcome<B> {
+    // What changes nothing of a node with a log of this length.
+    pub(crate) fn nothing(alloc: Global, log: u64) -> Outcome<B>
+        ensures { result ≡ unchanged log }
+    {
+        Outcome {
+            change: Change {
+                promised: None,
+                votes: Votes::new(alloc),
+            },
+            packets: Packets::of(Vec::new(alloc)),
+            applied: Entries::new(alloc),
+            is_down: false,
+            moves: Moves {
+                proposer: Vec::new(alloc),
+                news: Vec::new(alloc),
+                added: None,
+                log,
+            },
+        }
+    }
+
+    /// The length of the log of the node that adopts it, 0 where it is down.
+    pub fn log(&self) -> u64
+        ensures { result ≡ self.now.moves.log }
+    {
+        self.moves.log
+    }
 }

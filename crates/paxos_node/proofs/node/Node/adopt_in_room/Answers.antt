@@ -1,18 +1,18 @@
-use Rattle.std.proofs.Common.{◌≡◌, ℕ, ◌+◌, Option, List, ◌++◌, length, ap, sym, ◌∙◌, subst, rules}
+use Rattle.std.proofs.Common.{◌≡◌, ◌<◌, ◌^◌, ℕ, ◌+◌, List, ◌++◌, length, ap, sym, ◌∙◌, subst}
 use Rattle.paxos_packets.specs.declared.entry.Entry.{Entry}
 use Rattle.paxos_acceptor.specs.Acceptor as accepting
 use Rattle.paxos_proposer.specs.Moves.{after_moves, ArePossible}
 use Rattle.paxos_proposer.specs.State as proposing
-use Rattle.paxos_learner.specs.declared.learned.LearnedEntry.{LearnedEntry}
 use Rattle.paxos_learner.specs.Hearing.{hear_all, HasRoomFor}
+use Rattle.paxos_learner.specs.Learned.{Begins}
 use Rattle.paxos_learner.specs.Learner as learning
 use Rattle.replica_machine.specs.Roll.{IsRollOf}
 use Rattle.paxos_node.specs.Node.{NodeState}
 use Rattle.paxos_node.specs.Steps.{Steps}
 use Rattle.paxos_node.specs.Held.{Held, learner_in}
-use Rattle.paxos_node.specs.Adopting.{proposer_of, learner_of, pending_with, counted_with, pending_behind, stays_up, adopted, first_learned}
+use Rattle.paxos_node.specs.Adopting.{proposer_of, learner_of, pending_with, counted_with, pending_behind, adopted, first_learned}
 use Rattle.paxos_node.proofs.Parts.{proposer_is, learner_is, held_is}
-use Rattle.paxos_node.proofs.Adoption.{me_stays, members_stay, heard_stay, length_both, goes_on}
+use Rattle.paxos_node.proofs.Adoption.{me_stays, members_stay, heard_stay, length_both, first_both, goes_on}
 use Rattle.paxos_node.proofs.node.Node.adopt_in_room.Goals as goal
 
 pub move_in_room-requires-clause-possible : goal.move_in_room-requires-clause-possible
@@ -38,27 +38,22 @@ invariant_of-self-2 g c =
     let same : c.as_slice-2.result.now ≡ more = c.as_slice-2.ensures in
     let first : c.as_slice.result.now ≡ more = c.as_slice.ensures in
     let counted : length log ≡ c.self.inside.applied = c.self.invariant.3 in
-    let learned : first_learned (length log + length more) (hear_all c.moves.inside.news.items (learner_of c.self.inside.members
-    (record {
-      rows = c.self.inside.acceptor.rows;
-      up = c.self.inside.is_up;
-      proposer = c.self.inside.proposer.state.proposer;
-      learner = c.self.inside.learner.state.learner;
-      applied = log;
-      pending = c.self.inside.pending.items;
-      taken = c.self.inside.taken;
-    }))).learner.learned
-    ≡ log ++ more =
-    subst (λ (h : Held g.row.B.Denot). first_learned (length h.state.applied + length more)
-    (hear_all c.moves.inside.news.items (learner_of h.members h.state)).learner.learned ≡ h.state.applied ++ more) (sym c.self.view_is)
-    (subst (λ (m : Steps g.row.B.Denot). first_learned (length c.args.self.now.state.applied + length more)
-    (hear_all m.news (learner_of c.args.self.now.members c.args.self.now.state)).learner.learned ≡ c.args.self.now.state.applied ++ more)
+    let begun : Begins (log ++ more) (hear_all c.moves.inside.news.items (record { members = c.self.inside.members; learner = c.self.inside.learner.state.learner })).learner.learned =
+    subst (λ (h : Held g.row.B.Denot). Begins (h.state.applied ++ more)
+    (hear_all c.moves.inside.news.items (learner_of h.members h.state)).learner.learned) (sym c.self.view_is)
+    (subst (λ (m : Steps g.row.B.Denot). Begins (c.args.self.now.state.applied ++ more)
+    (hear_all m.news (learner_of c.args.self.now.members c.args.self.now.state)).learner.learned)
     (sym c.moves.view_is) c.requires.fits.applied) in
+    let within : length log + length more < 2 ^ 40 =
+    subst (λ (h : Held g.row.B.Denot). length h.state.applied + length more < 2 ^ 40) (sym c.self.view_is) c.requires.fits.within in
     let heard : c.hear_in_room.new.self.state ≡ hear_all c.moves.inside.news.items (record { members = c.self.inside.members; learner = c.self.inside.learner.state.learner }) =
     c.hear_in_room.ensures
     ∙ ap (λ (s : learning.State g.row.B.Denot). hear_all c.moves.inside.news.items s) (learner_is c.self.inside.learner.state c.self.inside.members c.self.invariant.2) in
+    let begins : Begins (log ++ more) c.hear_in_room.new.self.state.learner.learned =
+    subst (λ (s : learning.State g.row.B.Denot). Begins (log ++ more) s.learner.learned) (sym heard) begun in
     let now : first_learned (c.self.inside.applied + length c.as_slice-2.result.now) c.hear_in_room.new.self.state.learner.learned ≡ log ++ more =
-    (λ i. first_learned (sym counted i + length (same i)) (heard i).learner.learned) ∙ learned in
+    (λ i. first_learned (sym counted i + length (same i)) c.hear_in_room.new.self.state.learner.learned)
+    ∙ first_both log more c.hear_in_room.new.self.state.learner.learned begins in
     let roll : IsRollOf (log ++ more) c.apply_all.new.roll =
     subst (λ (l : List (Entry g.row.B.Denot)). IsRollOf (log ++ l) c.apply_all.new.roll) first (c.apply_all.ensures.roll log c.self.invariant.4) in (
       ap (λ (s : proposing.State g.row.B.Denot). s.me) c.move_in_room.ensures ∙ me_stays c.moves.inside.proposer.items c.self.inside.proposer.state ∙ c.self.invariant.0,
@@ -67,6 +62,8 @@ invariant_of-self-2 g c =
       ap (λ (s : learning.State g.row.B.Denot). s.members) c.hear_in_room.ensures ∙ heard_stay c.moves.inside.news.items c.self.inside.learner.state ∙ c.self.invariant.2,
       ap (λ (l : List (Entry g.row.B.Denot)). length l) now ∙ length_both log more ∙ (λ i. counted i + length (sym same i)),
       subst (λ (l : List (Entry g.row.B.Denot)). IsRollOf l c.apply_all.new.roll) (sym now) roll,
+      subst (λ (l : List (Entry g.row.B.Denot)). Begins l c.hear_in_room.new.self.state.learner.learned) (sym now) begins,
+      subst (λ (n : ℕ). n < 2 ^ 40) (λ i. counted i + length (sym same i)) within,
     )
 
 pub returns-clause-state : goal.returns-clause-state
@@ -86,9 +83,11 @@ returns-clause-state g c =
     let same : c.as_slice-2.result.now ≡ more = c.as_slice-2.ensures in
     let first : c.as_slice.result.now ≡ more = c.as_slice.ensures in
     let counted : length log ≡ c.self.inside.applied = c.self.invariant.3 in
+    let begun : Begins (log ++ more) (hear_all c.args.outcome.moves.news (learner_of c.self.inside.members x)).learner.learned =
+    subst (λ (h : Held g.row.B.Denot). Begins (h.state.applied ++ more)
+    (hear_all c.args.outcome.moves.news (learner_of h.members h.state)).learner.learned) (sym c.self.view_is) c.requires.fits.applied in
     let learned : first_learned (length log + length more) (hear_all c.args.outcome.moves.news (learner_of c.self.inside.members x)).learner.learned ≡ log ++ more =
-    subst (λ (h : Held g.row.B.Denot). first_learned (length h.state.applied + length more)
-    (hear_all c.args.outcome.moves.news (learner_of h.members h.state)).learner.learned ≡ h.state.applied ++ more) (sym c.self.view_is) c.requires.fits.applied in
+    first_both log more (hear_all c.args.outcome.moves.news (learner_of c.self.inside.members x)).learner.learned begun in
     let moved : c.move_in_room.new.self.state ≡ after_moves c.args.outcome.moves.proposer (proposer_of c.self.inside.me c.self.inside.members x) =
     c.move_in_room.ensures
     ∙ ap (λ (s : proposing.State g.row.B.Denot). after_moves c.moves.inside.proposer.items s)

@@ -1,4 +1,4 @@
-use Rattle.std.proofs.Common.{◌≡◌, ℕ, ◌+◌, ◌-◌, ◌≤◌, length, vec_len, vec_capacity, ap, ◌∙◌, subst, arith, rules}
+use Rattle.std.proofs.Common.{◌≡◌, ◌+◌, ◌≤◌, length, vec_len, vec_capacity, ap, ◌∙◌, subst, arith, rules}
 use Rattle.paxos_proposer.specs.Moves.{promises_in, proposals_in}
 use Rattle.paxos_proposer.specs.State as proposing
 use Rattle.paxos_learner.specs.Hearing.{HasRoomFor}

@@ -1,0 +1,229 @@
+-- An event's end: what is applied entry by entry is applied at once, up to the entry that tells its boot lost; and what is planned then.
+use Rattle.std.proofs.Common.{◌≡◌, ◌<◌, ◌+◌, ◌^◌, ℕ, suc, Bool, true, false, cond, not, ◌&&◌, ◌||◌, Result, Ok, Err, Some, None, List, [], ◌∷◌, ◌++◌, take, length}
+use Rattle.std.proofs.Common.{refl, ap, sym, ◌∙◌, subst, append_assoc, append-nil, arith, eqb}
+use Rattle.std.proofs.lemmas.Bool.{eqb-true}
+use Rattle.std.specs.Prelude.{IfOk}
+use Rattle.paxos_packets.specs.declared.entry.Entry.{Entry}
+use Rattle.paxos_packets.specs.declared.entry.Entry.TheVariants.{Noop, Boot, Lost, Item}
+use Rattle.paxos_proposer.specs.Moves.{ArePossible}
+use Rattle.paxos_learner.specs.declared.learned.LearnedEntry.{LearnedEntry}
+use Rattle.paxos_learner.specs.Hearing.{hear_all}
+use Rattle.paxos_learner.specs.Learned.{numbered, Rises, Begins}
+use Rattle.paxos_learner.specs.Learner.{run_from}
+use Rattle.paxos_learner.proofs.Beginning.{goes_on}
+use Rattle.replica_machine.specs.declared.roll.Standing.{Standing}
+use Rattle.replica_machine.specs.declared.roll.Standing.TheVariants.{Unknown}
+use Rattle.replica_machine.specs.Roll.{standing, standing_after, is_live}
+use Rattle.paxos_node.specs.declared.fault.NodeFault.{NodeFault}
+use Rattle.paxos_node.specs.declared.fault.NodeFault.TheVariants.{Rounds, Full, Disagree, Memory}
+use Rattle.paxos_node.specs.declared.outcome.Outcome.{Outcome}
+use Rattle.paxos_node.specs.Node.{NodeState, Turn}
+use Rattle.paxos_node.specs.Adopting.{proposer_of, learner_of, pending_behind, Settled}
+use Rattle.paxos_node.specs.Applying.{note, ends, down, go_down, apply_all, settle, ends_boot, count_to_end, has_end}
+use Rattle.paxos_node.specs.Drafting.{Known, with_added, added_in, turn_behind}
+use Rattle.paxos_node.specs.Plans.{Answers}
+use Rattle.paxos_node.proofs.Adoption.{length_both}
+use Rattle.paxos_node.proofs.Rolling.{from_last}
+
+-- an entry ends a boot for what the log says, or for where the node stands
+
+ends_alike : {B : Type 0} (me : ℕ) (x : NodeState B) (e : Entry B) → ends me x e ≡ ends_boot me x.rows.boot (standing me x.applied) e
+ends_alike me x Noop = refl
+ends_alike me x (Boot n b) = refl
+ends_alike me x (Item n b q t y) = refl
+ends_alike me x (Lost n b) = go (eqb n me) (eqb b x.rows.boot) (eqb-true n me) (eqb-true b x.rows.boot)
+  where
+    go : (t u : Bool) → (t ≡ true → n ≡ me) → (u ≡ true → b ≡ x.rows.boot)
+        → (t && u) && is_live (standing n x.applied) b ≡ (t && u) && is_live (standing me x.applied) x.rows.boot
+    go true true p q = λ i. is_live (standing (p refl i) x.applied) (q refl i)
+    go true false p q = refl
+    go false u p q = refl
+
+-- many entries at once
+
+abbrev noted : {B : Type 0} → List (Entry B) → Turn B → Turn B
+noted es t =
+    record t {
+      node = record t.node { applied = t.node.applied ++ es; pending = pending_behind t.node.applied es t.node.pending };
+      applied = t.applied ++ es;
+    }
+
+abbrev ended : {B : Type 0} → Bool → Turn B → Turn B
+ended b t = cond b (go_down t) t
+
+noted_none : {B : Type 0} (t : Turn B) → noted [] t ≡ t
+noted_none t = λ i. record t { node = record t.node { applied = append-nil t.node.applied i }; applied = append-nil t.applied i }
+
+noted_more : {B : Type 0} (e : Entry B) (es : List (Entry B)) (t : Turn B) → noted es (note e t) ≡ noted (e ∷ es) t
+noted_more e es t = λ i.
+    record t {
+      node = record t.node {
+        applied = append_assoc t.node.applied (e ∷ []) es i;
+        pending = pending_behind t.node.applied (e ∷ es) t.node.pending;
+      };
+      applied = append_assoc t.applied (e ∷ []) es i;
+    }
+
+applied_at_once : {B : Type 0} (me boot : ℕ) (es : List (Entry B)) (s : Standing) (t : Turn B) → standing me t.node.applied ≡ s → t.node.rows.boot ≡ boot
+    → apply_all me es t ≡ ended (has_end me boot s es) (noted (take (count_to_end me boot s es) es) t)
+applied_at_once me boot [] s t p q = sym (noted_none t)
+applied_at_once {B} me boot (e ∷ es) s t p q =
+    (λ i. cond (test i) (go_down (note e t)) (apply_all me es (note e t)))
+    ∙ go (ends_boot me boot s e) (applied_at_once me boot es (standing_after me s e) (note e t) stands q)
+  where
+    test : ends me t.node e ≡ ends_boot me boot s e
+    test = ends_alike me t.node e ∙ (λ i. ends_boot me (q i) (p i) e)
+
+    stands : standing me (t.node.applied ++ e ∷ []) ≡ standing_after me s e
+    stands = from_last me Unknown t.node.applied e ∙ ap (λ (x : Standing). standing_after me x e) p
+
+    go : (x : Bool)
+        → apply_all me es (note e t)
+        ≡ ended (has_end me boot (standing_after me s e) es) (noted (take (count_to_end me boot (standing_after me s e) es) es) (note e t))
+        → cond x (go_down (note e t)) (apply_all me es (note e t))
+        ≡ ended (x || has_end me boot (standing_after me s e) es)
+        (noted (take (cond x 1 (suc (count_to_end me boot (standing_after me s e) es))) (e ∷ es)) t)
+    go true h = refl
+    go false h =
+        h
+        ∙ ap (λ (u : Turn B). ended (has_end me boot (standing_after me s e) es) u)
+        (noted_more e (take (count_to_end me boot (standing_after me s e) es) es) t)
+
+-- a log that the learned entries begin with is short enough
+
+rises_short : {B : Type 0} (n : ℕ) (ls : List (LearnedEntry B)) → Rises n ls → n < 2 ^ 40
+rises_short n [] r = r
+rises_short n (l ∷ ls) r = let h = rises_short l.slot ls r.1 in let k = r.0 in omega arith
+
+short : {B : Type 0} (n : ℕ) (log : List (Entry B)) (ls : List (LearnedEntry B)) → take (length log) ls ≡ numbered (suc n) log → Rises n ls
+    → n + length log < 2 ^ 40
+short n [] ls p r = let h = rises_short n ls r in omega arith
+short n (e ∷ es) [] p r = absurd (cc)
+short {B} n (e ∷ es) (l ∷ ls) p r =
+    let first : l ≡ record { slot = suc n; entry = e } = cc in
+    let slot : l.slot ≡ suc n = ap (λ (m : LearnedEntry B). m.slot) first in
+    let rest : take (length es) ls ≡ numbered (suc (suc n)) es = cc in
+    let h = short (suc n) es ls rest (subst (λ (k : ℕ). Rises k ls) slot r.1) in
+    omega arith
+
+-- what is planned at an event's end
+
+ended_change : {B : Type 0} (b : Bool) (t : Turn B) → t.change ≡ (ended b t).change
+ended_change true t = refl
+ended_change false t = refl
+
+ended_packets : {B : Type 0} (b : Bool) (t : Turn B) → t.packets ≡ (ended b t).packets
+ended_packets true t = refl
+ended_packets false t = refl
+
+ended_applied : {B : Type 0} (b : Bool) (t : Turn B) → t.applied ≡ (ended b t).applied
+ended_applied true t = refl
+ended_applied false t = refl
+
+ended_disagrees : {B : Type 0} (b : Bool) (t : Turn B) → (ended b t).disagrees ≡ t.disagrees
+ended_disagrees true t = refl
+ended_disagrees false t = refl
+
+ended_up : {B : Type 0} (b : Bool) (t : Turn B) → t.node.up ≡ true → b ≡ not (ended b t).node.up
+ended_up true t p = refl
+ended_up false t p = sym (ap not p)
+
+ended_log : {B : Type 0} (b : Bool) (t : Turn B) (n : ℕ) → n ≡ length t.node.applied → cond b 0 n ≡ length (ended b t).node.applied
+ended_log true t n p = refl
+ended_log false t n p = p
+
+ended_node : {B : Type 0} (b : Bool) (t : Turn B) → cond b (down t.node.rows) t.node ≡ (ended b t).node
+ended_node true t = refl
+ended_node false t = refl
+
+pub settled : {B : Type 0} (k : Known B) (other : Bool) (o : Outcome B) (run : List (Entry B)) → other ≡ false → k.state.up ≡ true
+    → run ≡ run_from (suc (length k.state.applied)) (hear_all o.moves.news (learner_of k.members k.state)).learner.learned
+    → o.applied ≡ take (count_to_end k.me k.state.rows.boot (standing k.me k.state.applied) run) run
+    → o.is_down ≡ has_end k.me k.state.rows.boot (standing k.me k.state.applied) run
+    → o.moves.log ≡ cond o.is_down 0 (length k.state.applied + length o.applied)
+    → ArePossible o.moves.proposer (proposer_of k.me k.members k.state)
+    → Begins k.state.applied k.state.learner.learned
+    → Rises 0 (hear_all o.moves.news (learner_of k.members k.state)).learner.learned
+    → Settled k.me k.members k.state (turn_behind k other o) (with_added k.added o)
+settled {B} k other o run agree up run_is applied_is down_is log_is moves begins rises =
+    record {
+      agrees = ap (λ (u : Turn B). u.disagrees) whole ∙ ended_disagrees o.is_down now ∙ agree;
+      change = ended_change o.is_down now ∙ ap (λ (u : Turn B). u.change) (sym whole);
+      packets = ended_packets o.is_down now ∙ ap (λ (u : Turn B). u.packets) (sym whole);
+      applied = ended_applied o.is_down now ∙ ap (λ (u : Turn B). u.applied) (sym whole);
+      is_down = ended_up o.is_down now up ∙ ap (λ (u : Turn B). not u.node.up) (sym whole);
+      fits = record { moves = moves; applied = goes; within = within };
+      node = ended_node o.is_down now ∙ ap (λ (u : Turn B). u.node) (sym whole);
+      log = log_is ∙ ended_log o.is_down now (length k.state.applied + length o.applied) (sym (length_both k.state.applied o.applied))
+          ∙ ap (λ (u : Turn B). length u.node.applied) (sym whole);
+    }
+  where
+    learned : List (LearnedEntry B)
+    learned = (hear_all o.moves.news (learner_of k.members k.state)).learner.learned
+
+    s : Standing
+    s = standing k.me k.state.applied
+
+    boot : ℕ
+    boot = k.state.rows.boot
+
+    now : Turn B
+    now = noted o.applied (turn_behind k other o)
+
+    whole : settle k.me (turn_behind k other o) ≡ ended o.is_down now
+    whole =
+        applied_at_once k.me boot (run_from (suc (length k.state.applied)) learned) s (turn_behind k other o) refl refl
+        ∙ ap (λ (r : List (Entry B)). ended (has_end k.me boot s r) (noted (take (count_to_end k.me boot s r) r) (turn_behind k other o))) (sym run_is)
+        ∙ (λ i. ended (sym down_is i) (noted (sym applied_is i) (turn_behind k other o)))
+
+    goes : Begins (k.state.applied ++ o.applied) learned
+    goes =
+        subst (λ (es : List (Entry B)). Begins (k.state.applied ++ es) learned)
+        (ap (λ (r : List (Entry B)). take (count_to_end k.me boot s run) r) (sym run_is) ∙ sym applied_is)
+        (goes_on k.state.applied o.moves.news (learner_of k.members k.state) (count_to_end k.me boot s run) begins rises)
+
+    within : length k.state.applied + length o.applied < 2 ^ 40
+    within =
+        let h = short 0 (k.state.applied ++ o.applied) learned goes rises in
+        let l = length_both k.state.applied o.applied in
+        omega arith
+
+applied_disagrees : {B : Type 0} (me : ℕ) (es : List (Entry B)) (t : Turn B) → (apply_all me es t).disagrees ≡ t.disagrees
+applied_disagrees me [] t = refl
+applied_disagrees {B} me (e ∷ es) t = go (ends me t.node e) (applied_disagrees me es (note e t))
+  where
+    go : (b : Bool) → (apply_all me es (note e t)).disagrees ≡ t.disagrees
+        → (cond b (go_down (note e t)) (apply_all me es (note e t))).disagrees ≡ t.disagrees
+    go true h = refl
+    go false h = h
+
+pub settled_disagrees : {B : Type 0} (me : ℕ) (t : Turn B) → (settle me t).disagrees ≡ t.disagrees
+settled_disagrees me t = applied_disagrees me (run_from (suc (length t.node.applied)) t.node.learner.learned) t
+
+-- where no entry becomes pending
+
+pub without_added : {B : Type 0} (k : Known B) (t : Turn B) (other : Bool) (r : Result (Outcome B) NodeFault) → k.added ≡ None
+    → IfOk r (λ o. o.moves.added ≡ None)
+    → Answers false false other (λ (o : Outcome B). Settled k.me k.members k.state t (with_added k.added o)) r
+    → Answers false false other (λ (o : Outcome B). Settled k.me k.members k.state t o) r
+without_added {B} k t other (Ok o) p q a = (
+  a.0,
+  a.1,
+  a.2,
+  subst (λ (u : Outcome B). Settled k.me k.members k.state t u)
+      (λ i. record o { moves = record { proposer = o.moves.proposer; news = o.moves.news; added = (p ∙ sym q) i; log = o.moves.log } }) a.3,
+)
+without_added k t other (Err Rounds) p q a = a
+without_added k t other (Err Full) p q a = a
+without_added k t other (Err Disagree) p q a = a
+without_added k t other (Err Memory) p q a = a
+
+-- with the entry put into the outcome
+
+pub with_entry : {B : Type 0} (e : Entry B) (other : Bool) (P : Outcome B → Type 0) (r : Result (Outcome B) NodeFault)
+    → Answers false false other (λ (o : Outcome B). P (with_added (Some e) o)) r → Answers false false other P (added_in e r)
+with_entry e other P (Ok o) a = a
+with_entry e other P (Err Rounds) a = a
+with_entry e other P (Err Full) a = a
+with_entry e other P (Err Disagree) a = a
+with_entry e other P (Err Memory) a = a

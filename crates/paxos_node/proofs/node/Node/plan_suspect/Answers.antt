@@ -1,0 +1,25 @@
+use Rattle.std.proofs.Common.{◌≡◌, ℕ, true, Option, Some, None, sym, ◌∙◌, rules}
+use Rattle.paxos_packets.specs.declared.entry.Entry.{Entry}
+use Rattle.paxos_node.specs.Node.{NodeState}
+use Rattle.paxos_node.specs.Turn.{begun}
+use Rattle.paxos_node.specs.Drafting.{known}
+use Rattle.paxos_node.specs.Events.{has_room, new_lost}
+use Rattle.paxos_node.proofs.Answering.{answered_of, none_answered, lost_answered}
+use Rattle.paxos_node.proofs.node.Node.plan_suspect.Goals as goal
+
+pub returns-in_default : goal.returns-in_default
+returns-in_default g c =
+    let me : ℕ = c.args.self.now.me in
+    let members : ℕ = c.args.self.now.members in
+    let x : NodeState g.row.B.Denot = c.args.self.now.state in
+    let none : ◌≡◌ {A = Option (Entry g.row.B.Denot)} None (new_lost g.B.Body.same me c.args.other x) = search rules in
+    none_answered g.B.Body.same me members x c.finish.result c.args.other none
+    (answered_of c.of.result (record { of = known me members x None; turn = begun x }) c.finish.result
+    (λ i. record { of = c.of.ensures.of i; turn = c.of.ensures.turn i }) c.finish.ensures)
+
+pub returns : goal.returns
+returns g c =
+    let x : NodeState g.row.B.Denot = c.args.self.now.state in
+    let some : ◌≡◌ {A = Option (Entry g.row.B.Denot)} (Some c.in-Some.lost) (new_lost g.B.Body.same c.args.self.now.me c.args.other x) = search rules in
+    let room : has_room x ≡ true = sym c.has_room.ensures ∙ c.if-not-has_room.false in
+    lost_answered g.B.Body.same c.args.self.now.me c.args.self.now.members x c.plan_with.result c.args.other c.in-Some.lost some room c.plan_with.ensures

@@ -1,0 +1,49 @@
+-- What a node plans, and what it answers (docs/CONSENSUS.md, "One node").
+use Rattle.std.specs.Prelude.{◌≡◌, ℕ, Bool, true, false, ◌&&◌, ◌==◌, None, [], Result, Ok, Err}
+use Rattle.paxos_acceptor.specs.Acceptor.{no_change}
+use Rattle.paxos_node.specs.declared.event.Event.{Event}
+use Rattle.paxos_node.specs.declared.event.Event.TheVariants.{Take, Tick, Start, Suspect, Deliver, Crash, Restart}
+use Rattle.paxos_node.specs.declared.fault.NodeFault.{NodeFault}
+use Rattle.paxos_node.specs.declared.fault.NodeFault.TheVariants.{Rounds, Full, Disagree, Memory}
+use Rattle.paxos_node.specs.declared.outcome.Outcome.{Outcome}
+use Rattle.paxos_node.specs.Node.{NodeState, Turn}
+use Rattle.paxos_node.specs.Adopting.{Settled}
+use Rattle.paxos_node.specs.Applying.{settle}
+use Rattle.paxos_node.specs.Events.{owner, possible}
+
+-- a crash and a restart are not planned: they lose what a node holds
+abbrev pub is_planned : {B : Type 0} → Event B → Bool
+is_planned (Take n t body) = true
+is_planned (Tick n) = true
+is_planned (Start n) = true
+is_planned (Suspect n other) = true
+is_planned (Deliver p) = true
+is_planned (Crash n) = false
+is_planned (Restart n) = false
+
+-- whether this node plans the event: its own, and possible
+abbrev pub plans : {B : Type 0} → ℕ → Event B → NodeState B → Bool
+plans me e x = (owner e == me) && (is_planned e && possible e x)
+
+-- an outcome that changes nothing of a node with a log of this length
+abbrev pub unchanged : {B : Type 0} → ℕ → Outcome B
+unchanged log =
+    record {
+      change = no_change;
+      packets = [];
+      applied = [];
+      is_down = false;
+      moves = record { proposer = []; news = []; added = None; log = log };
+    }
+
+-- what is answered: Rounds, Full and Disagree where these refusals hold, in this order; else P, or want of memory, which may come before Disagree
+abbrev pub Answers : {A : Type 0} → Bool → Bool → Bool → (A → Type 0) → Result A NodeFault → Type 0
+Answers rounds full other P (Ok x) = (rounds ≡ false) × (full ≡ false) × (other ≡ false) × P x
+Answers rounds full other P (Err Rounds) = rounds ≡ true
+Answers rounds full other P (Err Full) = full ≡ true
+Answers rounds full other P (Err Disagree) = (rounds ≡ false) × (full ≡ false) × (other ≡ true)
+Answers rounds full other P (Err Memory) = (rounds ≡ false) × (full ≡ false)
+
+-- the same, of what is made of a node before what it would have learned is applied
+abbrev pub Answered : {B : Type 0} → ℕ → ℕ → NodeState B → Bool → Bool → Turn B → Result (Outcome B) NodeFault → Type 0
+Answered me members x rounds full t result = Answers rounds full (settle me t).disagrees (λ o. Settled me members x t o) result

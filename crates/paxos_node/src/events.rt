@@ -1,0 +1,283 @@
+//! What an event makes of a node.
+
+ghost use Rattle.std.specs.Prelude.{◌≡◌, true, false, not, ◌&&◌, is_some, length, Some, Ok, IfOk};
+ghost use Rattle.paxos_node.specs.Adopting.{Fits, Settled, Planned};
+ghost use Rattle.paxos_node.specs.Applying.{settle};
+ghost use Rattle.paxos_node.specs.Drafting.{with_pending_entry, with_added, added_in, seeing};
+ghost use Rattle.paxos_node.specs.Events.{owner, possible, on_event, on_take, on_tick, on_start, on_suspect, outcome_of, has_room, takes, starts, new_lost, is_pending};
+ghost use Rattle.paxos_node.specs.Events.{is_round_refused, is_full_refused};
+ghost use Rattle.paxos_node.specs.Plans.{is_planned, plans, unchanged, Answers, Answered};
+ghost use Rattle.paxos_node.specs.Proposals.{push};
+ghost use Rattle.paxos_node.specs.Replies.{on_packet, round_in};
+ghost use Rattle.paxos_node.specs.Turn.{begun};
+ghost use Rattle.replica_machine.specs.Roll.{standing, live_in};
+
+use crate::draft::Draft;
+use crate::event::Event;
+use crate::fault::NodeFault;
+use crate::node::Node;
+use crate::outcome::Outcome;
+use paxos_packets::{Body, Entry, Packet};
+
+// The greatest number of an act, and how many entries may be pending.
+const LAST_NUMBER: u64 = (1 << 48) - 1;
+
+const MOST_PENDING: usize = 1024;
+
+impl<B: Body> Node<B> {
+    /// What the event makes of the node, which stays as it is: `Rounds` and `Full` where it changes nothing since no round or no room is left,
+    /// `Disagree` where another entry was learned in a slot. An event that is not possible at this node, a crash and a restart change nothing.
+    /// It looks at no entry of the log, and copies what it sends, commits, proposes and applies.
+    pub fn plan(&self, event: &Event<B>) -> Result<Outcome<B>, NodeFault>
+        ensures planned { plans self.now.me event.now self.now.state ≡ true →
+            Answers (is_round_refused event.now self.now.state) (is_full_refused B.same event.now self.now.state)
+            (outcome_of B.same self.now.members event.now self.now.state).disagrees
+            (λ outcome. Planned B.same self.now.members event.now self.now.state outcome) result }
+        ensures nothing { plans self.now.me event.now self.now.state ≡ false → result ≡ Ok (unchanged (length self.now.state.applied)) }
+        ensures fits { IfOk result (λ outcome. Fits self.now.me self.now.members outcome self.now.state) }
+    {
+        if !self.plans(event) {
+            return Ok(self.nothing());
+        }
+        self.plan_own(event)
+    }
+
+    // The same, of an event of this node that is possible.
+    fn plan_own(&self, event: &Event<B>) -> Result<Outcome<B>, NodeFault>
+        requires up { self.now.state.up ≡ true }
+        requires own { owner event.now ≡ self.now.me }
+        requires planned { is_planned event.now ≡ true }
+        ensures { Answered self.now.me self.now.members self.now.state (is_round_refused event.now self.now.state)
+            (is_full_refused B.same event.now self.now.state) (on_event B.same self.now.members event.now (begun self.now.state)) result }
+    {
+        match event {
+            Event::Take {
+                transport,
+                body,
+                ..
+            } => self.plan_take(*transport, body),
+            Event::Tick { .. } => self.plan_tick(),
+            Event::Start { .. } => self.plan_start(),
+            Event::Suspect { other, .. } => self.plan_suspect(*other),
+            Event::Deliver { packet } => self.plan_packet(packet),
+            Event::Crash { .. } => unreachable!(),
+            Event::Restart { .. } => unreachable!(),
+        }
+    }
+
+    // Whether it plans the event: its own, and possible.
+    fn plans(&self, event: &Event<B>) -> bool
+        ensures { result ≡ plans self.now.me event.now self.now.state }
+    {
+        owner(event) == self.me() && self.is_possible(event)
+    }
+
+    // Whether the event is possible at a node that is up.
+    fn is_possible(&self, event: &Event<B>) -> bool
+        ensures { result ≡ is_planned event.now && possible event.now self.now.state }
+    {
+        match event {
+            Event::Take { transport, .. } => self.is_up() && 0 < *transport,
+            Event::Tick { .. } => self.is_up(),
+            Event::Start { .. } => self.is_up(),
+            Event::Suspect { .. } => self.is_up(),
+            Event::Deliver { .. } => self.is_up(),
+            Event::Crash { .. } => false,
+            Event::Restart { .. } => false,
+        }
+    }
+
+    // What changes nothing.
+    fn nothing(&self) -> Outcome<B>
+        ensures value { result ≡ unchanged (length self.now.state.applied) }
+        ensures fits { Fits self.now.me self.now.members result self.now.state }
+    {
+        self.begins();
+        Outcome::nothing(self.alloc(), self.applied())
+    }
+
+    // Whether one entry more may be pending.
+    #[tactic(auto, unfolding(crate::specs::Events::most_pending))]
+    fn has_room(&self) -> bool
+        ensures { result ≡ has_room self.now.state }
+    {
+        self.pending().len() < MOST_PENDING
+    }
+
+    // The act is pending as the node's next Item.
+    fn plan_take(&self, transport: u32, body: &B) -> Result<Outcome<B>, NodeFault>
+        requires { self.now.state.up ≡ true }
+        ensures { Answered self.now.me self.now.members self.now.state false (not (takes self.now.state))
+            (on_take B.same self.now.members self.now.me transport body.now (begun self.now.state)) result }
+    {
+        if !self.takes() {
+            return Err(NodeFault::Full);
+        }
+        let Ok(copy) = body.copy(self.alloc()) else {
+            return Err(NodeFault::Memory);
+        };
+        self.plan_with(Entry::Item {
+            node: self.me(),
+            boot: self.boot(),
+            seq: self.taken() + 1,
+            transport,
+            body: copy,
+        })
+    }
+
+    // Whether it takes one act more.
+    #[tactic(auto, unfolding(crate::specs::Events::last_number))]
+    fn takes(&self) -> bool
+        ensures { result ≡ takes self.now.state }
+    {
+        self.has_room() && self.taken() < LAST_NUMBER
+    }
+
+    // The entry becomes pending, and is pushed with what is.
+    fn plan_with(&self, entry: Entry<B>) -> Result<Outcome<B>, NodeFault>
+        requires { self.now.state.up ≡ true }
+        ensures { Answered self.now.me self.now.members self.now.state false false
+            (push B.same self.now.members self.now.me (begun (with_pending_entry (Some entry) self.now.state))) result }
+    {
+        let planned = self.plan_pending(&entry);
+        added_to(planned, entry)
+    }
+
+    // The same, but for the entry itself.
+    fn plan_pending(&self, entry: &Entry<B>) -> Result<Outcome<B>, NodeFault>
+        requires { self.now.state.up ≡ true }
+        ensures { Answers false false
+            (settle self.now.me (push B.same self.now.members self.now.me (begun (with_pending_entry (Some entry.now) self.now.state)))).disagrees
+            (λ outcome. Settled self.now.me self.now.members self.now.state
+            (push B.same self.now.members self.now.me (begun (with_pending_entry (Some entry.now) self.now.state)))
+            (with_added (Some entry.now) outcome)) result }
+    {
+        let mut draft = Draft::of(self.alloc(), self, Some(entry));
+        let Ok(()) = draft.push() else {
+            return Err(NodeFault::Memory);
+        };
+        draft.settle()
+    }
+
+    // What waits for an answer is sent again, what is pending is pushed, and the others are asked for what it lacks.
+    fn plan_tick(&self) -> Result<Outcome<B>, NodeFault>
+        requires { self.now.state.up ≡ true }
+        ensures { Answered self.now.me self.now.members self.now.state false false
+            (on_tick B.same self.now.members self.now.me (begun self.now.state)) result }
+    {
+        let mut draft = Draft::of(self.alloc(), self, None);
+        let Ok(()) = draft.on_tick() else {
+            return Err(NodeFault::Memory);
+        };
+        draft.finish()
+    }
+
+    // A ballot above all that it saw.
+    fn plan_start(&self) -> Result<Outcome<B>, NodeFault>
+        requires { self.now.state.up ≡ true }
+        ensures { Answered self.now.me self.now.members self.now.state (not (starts self.now.me self.now.state)) false
+            (on_start self.now.members self.now.me (begun self.now.state)) result }
+    {
+        let mut draft = Draft::of(self.alloc(), self, None);
+        if !draft.starts() {
+            return Err(NodeFault::Rounds);
+        }
+        let Ok(()) = draft.start() else {
+            return Err(NodeFault::Memory);
+        };
+        draft.finish()
+    }
+
+    // The Lost of the other's live boot becomes pending, unless it is.
+    fn plan_suspect(&self, other: u8) -> Result<Outcome<B>, NodeFault>
+        requires { self.now.state.up ≡ true }
+        ensures { Answered self.now.me self.now.members self.now.state false
+            (is_some (new_lost B.same self.now.me other self.now.state) && not (has_room self.now.state))
+            (on_suspect B.same self.now.members self.now.me other (begun self.now.state)) result }
+    {
+        let Some(lost) = self.new_lost(other) else {
+            return Draft::of(self.alloc(), self, None).finish();
+        };
+        if !self.has_room() {
+            return Err(NodeFault::Full);
+        }
+        self.plan_with(lost)
+    }
+
+    // The Lost of the other's live boot, unless it is pending.
+    fn new_lost(&self, other: u8) -> Option<Entry<B>>
+        ensures { result ≡ new_lost B.same self.now.me other self.now.state }
+    {
+        if other == self.me() {
+            return None;
+        }
+        let Some(boot) = self.live_boot(other) else {
+            return None;
+        };
+        let lost = Entry::Lost { node: other, boot };
+        if is_pending(self.pending(), &lost) {
+            return None;
+        }
+        Some(lost)
+    }
+
+    // The live boot of the other.
+    fn live_boot(&self, other: u8) -> Option<u64>
+        ensures { result ≡ live_in (standing other self.now.state.applied) }
+    {
+        self.roll().live(other)
+    }
+
+    // The packet reaches the node.
+    fn plan_packet(&self, packet: &Packet<B>) -> Result<Outcome<B>, NodeFault>
+        requires { self.now.state.up ≡ true }
+        ensures { Answered self.now.me self.now.members self.now.state false false
+            (on_packet B.same self.now.members self.now.me packet.now.sender packet.now.kind
+            (seeing (round_in packet.now.kind) (begun self.now.state))) result }
+    {
+        let mut draft = Draft::of(self.alloc(), self, None);
+        let Ok(()) = draft.on_packet(packet.sender, &packet.kind) else {
+            return Err(NodeFault::Memory);
+        };
+        draft.finish()
+    }
+}
+
+// An outcome by which the entry becomes pending.
+fn added_to<B: Drop>(
+    planned: Result<Outcome<B>, NodeFault>,
+    entry: Entry<B>,
+) -> Result<Outcome<B>, NodeFault>
+    ensures { result ≡ added_in entry planned }
+{
+    let mut outcome = planned?;
+    outcome.moves.added = Some(entry);
+    Ok(outcome)
+}
+
+// Whose event it is.
+fn owner<B>(event: &Event<B>) -> u8
+    ensures { result ≡ owner event.now }
+{
+    match event {
+        Event::Take { node, .. } => *node,
+        Event::Tick { node } => *node,
+        Event::Start { node } => *node,
+        Event::Suspect { node, .. } => *node,
+        Event::Deliver { packet } => packet.addressee,
+        Event::Crash { node } => *node,
+        Event::Restart { node } => *node,
+    }
+}
+
+// Whether an equal entry is pending.
+fn is_pending<B: Body>(pending: &[Entry<B>], wanted: &Entry<B>) -> bool
+    ensures { result ≡ is_pending B.same pending.now wanted.now }
+{
+    for entry in pending {
+        if entry.same(wanted) {
+            return true;
+        }
+    }
+    false
+}

@@ -1,0 +1,167 @@
+//! What a packet brings about at its addressee.
+
+ghost use Rattle.std.specs.Prelude.{◌≡◌, [], OnOk, IsOkUnless};
+ghost use Rattle.paxos_node.specs.declared.fault.NodeFault.TheVariants.{Memory};
+ghost use Rattle.paxos_node.specs.Replies.{refuse, on_prepare, on_accept, on_promise, on_forward, told_from, on_packet, round_in, round_of_votes};
+ghost use Rattle.paxos_node.specs.Drafting.{seeing};
+ghost use Rattle.paxos_node.specs.Turn.{send};
+
+use crate::draft::Draft;
+use crate::fault::NodeFault;
+use paxos_packets::{Ballot, Body, Entry, Kind, Vote, Votes};
+
+impl<'a, B: Body> Draft<'a, B> {
+    // What the packet brings about, where nothing happened before it.
+    pub(crate) fn on_packet(&mut self, sender: u8, kind: &Kind<B>) -> Result<(), NodeFault>
+        requires votes { self.old.turn.change.votes ≡ [] }
+        requires role { self.old.turn.node.proposer.role ≡ self.old.of.state.proposer.role }
+        ensures of { self.new.of ≡ self.old.of }
+        ensures turn { OnOk result (self.new.turn ≡ on_packet B.same self.old.of.members self.old.of.me sender kind.now
+            (seeing (round_in kind.now) self.old.turn)) }
+        ensures memory { IsOkUnless result Memory }
+    {
+        self.saw(round_in(kind))?;
+        self.answer(sender, kind)?;
+        Ok(())
+    }
+
+    // The same, once its rounds were seen.
+    fn answer(&mut self, sender: u8, kind: &Kind<B>) -> Result<(), NodeFault>
+        requires votes { self.old.turn.change.votes ≡ [] }
+        requires role { self.old.turn.node.proposer.role ≡ self.old.of.state.proposer.role }
+        ensures of { self.new.of ≡ self.old.of }
+        ensures turn { OnOk result (self.new.turn ≡ on_packet B.same self.old.of.members self.old.of.me sender kind.now self.old.turn) }
+        ensures memory { IsOkUnless result Memory }
+    {
+        match kind {
+            Kind::Prepare { ballot, first } => self.on_prepare(sender, *ballot, *first),
+            Kind::Promise { ballot, votes } => self.on_promise(sender, *ballot, votes),
+            Kind::Accept { vote } => self.on_accept(sender, vote),
+            Kind::Accepted { vote } => self.count(sender, vote),
+            Kind::Nack { ballot, promised } => self.on_nack(*ballot, *promised),
+            Kind::Forward { entries } => self.on_forward(entries.as_slice()),
+            Kind::Learned { slot, entry } => self.hear_learned(*slot, entry),
+            Kind::Ask { first } => self.tell_from(sender, *first),
+        }
+    }
+
+    // What it learned in the slot and the 63 behind it is told.
+    #[tactic(auto, using(crate::proofs::Planning::told_alike))]
+    fn tell_from(&mut self, sender: u8, first: u64) -> Result<(), NodeFault>
+        ensures of { self.new.of ≡ self.old.of }
+        ensures turn { OnOk result (self.new.turn
+            ≡ send (told_from self.old.of.me sender first self.old.turn.node.learner.learned) self.old.turn) }
+        ensures memory { IsOkUnless result Memory }
+    {
+        let told = self.learned_from(first)?;
+        self.tell(told, sender)?;
+        Ok(())
+    }
+
+    // The promise forbids the ballot.
+    fn refuse(&mut self, sender: u8, ballot: Ballot) -> Result<(), NodeFault>
+        ensures of { self.new.of ≡ self.old.of }
+        ensures turn { OnOk result (self.new.turn ≡ refuse self.old.of.me sender ballot self.old.turn) }
+        ensures memory { IsOkUnless result Memory }
+    {
+        let promised = self.promised().unwrap_or(ballot);
+        self.send_to(Kind::Nack { ballot, promised }, sender)?;
+        Ok(())
+    }
+
+    // A promise of the ballot is asked for, and nothing was voted for before.
+    pub(crate) fn on_prepare(
+        &mut self,
+        sender: u8,
+        ballot: Ballot,
+        first: u64,
+    ) -> Result<(), NodeFault>
+        requires { self.old.turn.change.votes ≡ [] }
+        ensures of { self.new.of ≡ self.old.of }
+        ensures turn { OnOk result (self.new.turn ≡ on_prepare self.old.of.me sender ballot first self.old.turn) }
+        ensures memory { IsOkUnless result Memory }
+    {
+        if !self.may_promise(ballot) {
+            self.refuse(sender, ballot)?;
+            return Ok(());
+        }
+        let votes = self.votes_from(first)?;
+        self.promise(ballot)?;
+        self.send_to(Kind::Promise { ballot, votes }, sender)?;
+        Ok(())
+    }
+
+    // A vote is asked for.
+    pub(crate) fn on_accept(&mut self, sender: u8, vote: &Vote<B>) -> Result<(), NodeFault>
+        ensures of { self.new.of ≡ self.old.of }
+        ensures turn { OnOk result (self.new.turn
+            ≡ on_accept B.same self.old.of.members self.old.of.me sender vote.now self.old.turn) }
+        ensures memory { IsOkUnless result Memory }
+    {
+        if !self.may_accept(vote.ballot) {
+            self.refuse(sender, vote.ballot)?;
+            return Ok(());
+        }
+        self.cast(vote)?;
+        Ok(())
+    }
+
+    // With a majority of promises the node leads, and proposes what the reports call for, and what is pending.
+    pub(crate) fn on_promise(
+        &mut self,
+        sender: u8,
+        ballot: Ballot,
+        votes: &Votes<B>,
+    ) -> Result<(), NodeFault>
+        requires { self.old.turn.node.proposer.role ≡ self.old.of.state.proposer.role }
+        ensures of { self.new.of ≡ self.old.of }
+        ensures turn { OnOk result (self.new.turn
+            ≡ on_promise B.same self.old.of.members self.old.of.me sender ballot votes.now self.old.turn) }
+        ensures memory { IsOkUnless result Memory }
+    {
+        let Some(entries) = self.hear_promise(sender, ballot, votes)? else {
+            return Ok(());
+        };
+        self.propose_all(entries.as_slice())?;
+        self.push()?;
+        Ok(())
+    }
+
+    // Entries are forwarded to a leader.
+    pub(crate) fn on_forward(&mut self, entries: &[Entry<B>]) -> Result<(), NodeFault>
+        ensures of { self.new.of ≡ self.old.of }
+        ensures turn { OnOk result (self.new.turn
+            ≡ on_forward B.same self.old.of.members self.old.of.me entries.now self.old.turn) }
+        ensures memory { IsOkUnless result Memory }
+    {
+        if !self.is_leading() {
+            return Ok(());
+        }
+        self.propose_each(entries)?;
+        Ok(())
+    }
+}
+
+// The greatest round of the ballots in a packet.
+fn round_in<B>(kind: &Kind<B>) -> u64
+    ensures { result ≡ round_in kind.now }
+{
+    match kind {
+        Kind::Prepare { ballot, .. } => ballot.round,
+        Kind::Promise { ballot, votes } => ballot.round.max(round_of_votes(votes.as_slice())),
+        Kind::Accept { vote } => vote.ballot.round,
+        Kind::Accepted { vote } => vote.ballot.round,
+        Kind::Nack { ballot, promised } => ballot.round.max(promised.round),
+        Kind::Forward { .. } | Kind::Learned { .. } | Kind::Ask { .. } => 0,
+    }
+}
+
+fn round_of_votes<B>(votes: &[Vote<B>]) -> u64
+    ensures { result ≡ round_of_votes votes.now }
+{
+    let mut round = 0;
+    for vote in votes {
+        round = vote.ballot.round.max(round);
+    }
+    round
+}

@@ -1,0 +1,54 @@
+//! A ballot that begins.
+
+ghost use Rattle.std.specs.Prelude.{◌≡◌, [], suc, length, true, OnOk, IsOkUnless};
+ghost use Rattle.paxos_proposer.specs.Proposer.{new_ballot, round_of};
+ghost use Rattle.paxos_node.specs.declared.fault.NodeFault.TheVariants.{Memory};
+ghost use Rattle.paxos_node.specs.Events.{begin, starts};
+
+use crate::draft::Draft;
+use crate::fault::NodeFault;
+use paxos_packets::{Ballot, Body, Kind};
+
+// The greatest round.
+const LAST_ROUND: u64 = (1 << 48) - 1;
+
+impl<'a, B: Body> Draft<'a, B> {
+    // Whether a round is left above all that it saw and promised.
+    pub(crate) fn starts(&self) -> bool
+        ensures { result ≡ starts self.now.of.me self.now.turn.node }
+    {
+        round_of(self.promised()) < LAST_ROUND && self.next_ballot().is_some()
+    }
+
+    // It begins a ballot above all that it saw and promised.
+    pub(crate) fn start(&mut self) -> Result<(), NodeFault>
+        requires votes { self.old.turn.change.votes ≡ [] }
+        requires starts { starts self.old.of.me self.old.turn.node ≡ true }
+        ensures of { self.new.of ≡ self.old.of }
+        ensures turn { OnOk result (self.new.turn ≡ begin self.old.of.members self.old.of.me
+            (new_ballot self.old.of.me self.old.turn.node.rows.promised self.old.turn.node.proposer)
+            (suc (length self.old.turn.node.applied)) self.old.turn) }
+        ensures memory { IsOkUnless result Memory }
+    {
+        self.saw(round_of(self.promised()))?;
+        let Some(ballot) = self.next_ballot() else {
+            unreachable!()
+        };
+        let first = self.applied() + 1;
+        let votes = self.votes_from(first)?;
+        self.prepare(first, votes)?;
+        self.commit_promise(ballot);
+        self.send_to_others(&Kind::Prepare { ballot, first })?;
+        Ok(())
+    }
+}
+
+// The round of a promise, 0 where there is none.
+fn round_of(promised: Option<Ballot>) -> u64
+    ensures { result ≡ round_of promised }
+{
+    match promised {
+        Some(promised) => promised.round,
+        None => 0,
+    }
+}
