@@ -1,17 +1,20 @@
 //! What a leader proposes, and what another node forwards.
 
-ghost use Rattle.std.specs.Prelude.{◌≡◌, [], ◌∷◌, ◌++◌, take, OnOk, IfOk, IsOkUnless, option_copied};
-ghost use Rattle.paxos_node.specs.declared.fault.NodeFault.TheVariants.{Memory};
-ghost use Rattle.paxos_node.specs.Adopting.{pending_with};
-ghost use Rattle.paxos_node.specs.Drafting.{listed};
-ghost use Rattle.paxos_node.specs.Proposals.{propose, propose_all, propose_new, propose_each, forwarded, push};
-ghost use Rattle.paxos_node.specs.Turn.{send, cast};
+ghost use Rattle.std.specs.Prelude.{◌≡◌, ◌∷◌, [], ◌++◌, length, true, is_some, OnOk, IfOk, IsOkUnless, option_copied, take};
 ghost use Rattle.paxos_packets.specs.Packet.{to_others};
+ghost use Rattle.paxos_node.specs.declared.fault.NodeFault.TheVariants.{Memory};
+ghost use Rattle.paxos_proposer.specs.Proposer.{submitted};
+ghost use Rattle.paxos_proposer.specs.Proposing.{offer_of};
+ghost use Rattle.paxos_node.specs.Adopting.{pending_with};
+ghost use Rattle.paxos_node.specs.Drafting.{in_role, listed};
+ghost use Rattle.paxos_node.specs.Proposals.{stands, propose, propose_all, propose_new, propose_each, forwarded, push};
+ghost use Rattle.paxos_node.specs.Turn.{send, cast};
 ghost use Rattle.paxos_packets.specs.declared.packet.Kind.TheVariants.{Accept};
 
 use crate::draft::Draft;
 use crate::fault::NodeFault;
 use paxos_packets::{Body, Entries, Entry, Kind, Vote};
+use paxos_proposer::Offer;
 use std::alloc::Global;
 
 impl<'a, B: Body> Draft<'a, B> {
@@ -136,6 +139,47 @@ impl<'a, B: Body> Draft<'a, B> {
         }
         self.send_to(Kind::Forward { entries }, promised.node)?;
         Ok(())
+    }
+
+    // Where it would propose next, if it leads and a slot is left.
+    fn offer(&self) -> Option<Offer>
+        ensures { result ≡ offer_of self.now.turn.node.proposer.role }
+    {
+        self.proposing.offer()
+    }
+
+    // Whether an equal entry stands in a slot of its ballot that is not applied.
+    fn stands(&self, entry: &Entry<B>) -> bool
+        ensures { result ≡ stands B.same (length self.now.turn.node.applied) self.now.turn.node.proposer.role entry.now }
+    {
+        self.proposing.stands(self.node.applied(), entry)
+    }
+
+    // The entry is proposed in a leader's next slot.
+    fn submit(&mut self, entry: &Entry<B>) -> Result<(), NodeFault>
+        requires { is_some (offer_of self.old.turn.node.proposer.role) ≡ true }
+        ensures of { self.new.of ≡ self.old.of }
+        ensures turn { OnOk result (self.new.turn ≡ in_role (submitted entry.now self.old.turn.node.proposer.role) self.old.turn) }
+        ensures memory { IsOkUnless result Memory }
+    {
+        let Ok(()) = self.proposing.submit(entry) else {
+            return Err(NodeFault::Memory);
+        };
+        Ok(())
+    }
+
+    // What is pending, but for the entry that becomes so.
+    fn pending(&self) -> &'a [Entry<B>]
+        ensures { self.now.turn.node.pending ≡ pending_with self.now.of.added result.now }
+    {
+        self.node.pending()
+    }
+
+    // The entry that becomes pending.
+    fn added(&self) -> Option<&'a Entry<B>>
+        ensures { option_copied result ≡ self.now.of.added }
+    {
+        self.added
     }
 }
 

@@ -1,14 +1,18 @@
 //! What a packet brings about at its addressee.
 
-ghost use Rattle.std.specs.Prelude.{◌≡◌, [], OnOk, IsOkUnless};
+ghost use Rattle.std.specs.Prelude.{◌≡◌, ◌+◌, ◌∷◌, [], ◌++◌, map, OnOk, IfOk, IsOkUnless};
+ghost use Rattle.paxos_learner.specs.Learner.{learned_within};
 ghost use Rattle.paxos_node.specs.declared.fault.NodeFault.TheVariants.{Memory};
-ghost use Rattle.paxos_node.specs.Replies.{refuse, on_prepare, on_accept, on_promise, on_forward, told_from, on_packet, round_in, round_of_votes};
-ghost use Rattle.paxos_node.specs.Drafting.{seeing};
+ghost use Rattle.paxos_proposer.specs.Promises.{promised, called_by};
+ghost use Rattle.paxos_proposer.specs.Proposer.{nacked};
+ghost use Rattle.paxos_node.specs.Drafting.{in_role, seeing, told_to};
 ghost use Rattle.paxos_node.specs.Turn.{send};
+ghost use Rattle.paxos_node.specs.Replies.{refuse, on_prepare, on_accept, on_promise, on_forward, told_from, on_packet, round_in, round_of_votes};
 
 use crate::draft::Draft;
 use crate::fault::NodeFault;
-use paxos_packets::{Ballot, Body, Entry, Kind, Vote, Votes};
+use paxos_learner::LearnedEntry;
+use paxos_packets::{Ballot, Body, Entries, Entry, Kind, Packet, Vote, Votes};
 
 impl<'a, B: Body> Draft<'a, B> {
     // What the packet brings about, where nothing happened before it.
@@ -140,6 +144,74 @@ impl<'a, B: Body> Draft<'a, B> {
         self.propose_each(entries)?;
         Ok(())
     }
+
+    // A ballot of this round came.
+    pub(crate) fn saw(&mut self, round: u64) -> Result<(), NodeFault>
+        ensures of { self.new.of ≡ self.old.of }
+        ensures turn { OnOk result (self.new.turn ≡ seeing round self.old.turn) }
+        ensures memory { IsOkUnless result Memory }
+    {
+        let Ok(()) = self.proposing.saw(round) else {
+            return Err(NodeFault::Memory);
+        };
+        Ok(())
+    }
+
+    // A member's promise is counted. The entries that it calls for, where it makes the node lead.
+    fn hear_promise(
+        &mut self,
+        sender: u8,
+        ballot: Ballot,
+        votes: &Votes<B>,
+    ) -> Result<Option<Entries<B>>, NodeFault>
+        requires { self.old.turn.node.proposer.role ≡ self.old.of.state.proposer.role }
+        ensures of { self.new.of ≡ self.old.of }
+        ensures turn { OnOk result (self.new.turn
+            ≡ in_role (promised self.old.of.members sender ballot votes.now self.old.turn.node.proposer.role) self.old.turn) }
+        ensures called { IfOk result (λ called. called
+            ≡ called_by self.old.of.members sender ballot votes.now self.old.turn.node.proposer.role) }
+        ensures memory { IsOkUnless result Memory }
+    {
+        let Ok(copy) = votes.copy(self.alloc) else {
+            return Err(NodeFault::Memory);
+        };
+        let Ok(called) = self.proposing.on_promise(sender, ballot, copy) else {
+            return Err(NodeFault::Memory);
+        };
+        Ok(called)
+    }
+
+    // A ballot is refused for a promise of another.
+    fn on_nack(&mut self, ballot: Ballot, promised: Ballot) -> Result<(), NodeFault>
+        ensures of { self.new.of ≡ self.old.of }
+        ensures turn { OnOk result (self.new.turn ≡ in_role (nacked ballot promised self.old.turn.node.proposer.role) self.old.turn) }
+        ensures memory { IsOkUnless result Memory }
+    {
+        let Ok(()) = self.proposing.on_nack(ballot, promised) else {
+            return Err(NodeFault::Memory);
+        };
+        Ok(())
+    }
+
+    // Copies of what would be learned in the slot with this number and the 63 behind it.
+    fn learned_from(&self, first: u64) -> Result<Vec<LearnedEntry<B>>, NodeFault>
+        ensures learned { IfOk result (λ told. told.items ≡ learned_within first (first + 64) self.now.turn.node.learner.learned) }
+        ensures memory { IsOkUnless result Memory }
+    {
+        let Ok(told) = self.hearing.learned_from(first) else {
+            return Err(NodeFault::Memory);
+        };
+        Ok(told)
+    }
+
+    // This is told to the member.
+    fn tell(&mut self, told: Vec<LearnedEntry<B>>, to: u8) -> Result<(), NodeFault>
+        ensures of { self.new.of ≡ self.old.of }
+        ensures turn { OnOk result (self.new.turn ≡ send (map (told_to self.old.of.me to) told.items) self.old.turn) }
+        ensures memory { IsOkUnless result Memory }
+    {
+        put_told(&mut self.packets, self.me, told, to)
+    }
 }
 
 // The greatest round of the ballots in a packet.
@@ -164,4 +236,41 @@ fn round_of_votes<B>(votes: &[Vote<B>]) -> u64
         round = vote.ballot.round.max(round);
     }
     round
+}
+
+// What was learned is told to the member.
+fn put_told<B: Drop>(
+    packets: &mut Vec<Packet<B>>,
+    me: u8,
+    told: Vec<LearnedEntry<B>>,
+    to: u8,
+) -> Result<(), NodeFault>
+    ensures ok { OnOk result (packets.new.items ≡ packets.old.items ++ map (told_to me to) told.items) }
+    ensures memory { IsOkUnless result Memory }
+{
+    for one in told {
+        put_one(packets, me, one, to)?;
+    }
+    Ok(())
+}
+
+fn put_one<B: Drop>(
+    packets: &mut Vec<Packet<B>>,
+    me: u8,
+    told: LearnedEntry<B>,
+    to: u8,
+) -> Result<(), NodeFault>
+    ensures ok { OnOk result (packets.new.items ≡ packets.old.items ++ told_to me to told ∷ []) }
+    ensures memory { IsOkUnless result Memory }
+{
+    let Ok(()) = packets.reserve(1) else {
+        return Err(NodeFault::Memory);
+    };
+    let LearnedEntry { slot, entry } = told;
+    packets.push_reserved(Packet {
+        sender: me,
+        addressee: to,
+        kind: Kind::Learned { slot, entry },
+    });
+    Ok(())
 }

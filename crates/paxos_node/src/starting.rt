@@ -1,13 +1,14 @@
 //! A ballot that begins.
 
-ghost use Rattle.std.specs.Prelude.{◌≡◌, [], suc, length, true, OnOk, IsOkUnless};
-ghost use Rattle.paxos_proposer.specs.Proposer.{new_ballot, round_of};
+ghost use Rattle.std.specs.Prelude.{◌≡◌, ◌≤◌, suc, false, [], length, true, OnOk, IsOkUnless};
 ghost use Rattle.paxos_node.specs.declared.fault.NodeFault.TheVariants.{Memory};
+ghost use Rattle.paxos_proposer.specs.Proposer.{is_spent, new_ballot, round_of};
+ghost use Rattle.paxos_node.specs.Drafting.{next_own, with_prepared, committing};
 ghost use Rattle.paxos_node.specs.Events.{begin, starts};
 
 use crate::draft::Draft;
 use crate::fault::NodeFault;
-use paxos_packets::{Ballot, Body, Kind};
+use paxos_packets::{Ballot, Body, Kind, Votes};
 
 // The greatest round.
 const LAST_ROUND: u64 = (1 << 48) - 1;
@@ -40,6 +41,38 @@ impl<'a, B: Body> Draft<'a, B> {
         self.commit_promise(ballot);
         self.send_to_others(&Kind::Prepare { ballot, first })?;
         Ok(())
+    }
+
+    // The ballot that it would begin, if a round is left.
+    fn next_ballot(&self) -> Option<Ballot>
+        ensures { result ≡ next_own self.now.of.me self.now.turn.node.proposer }
+    {
+        match self.proposing.next_ballot() {
+            Ok(ballot) => Some(ballot),
+            Err(_) => None,
+        }
+    }
+
+    // It begins its next ballot, in which it reports these votes.
+    fn prepare(&mut self, first: u64, votes: Votes<B>) -> Result<(), NodeFault>
+        requires first { 1 ≤ first }
+        requires round { is_spent self.old.turn.node.proposer ≡ false }
+        ensures of { self.new.of ≡ self.old.of }
+        ensures turn { OnOk result (self.new.turn ≡ with_prepared self.old.of.me first votes self.old.turn) }
+        ensures memory { IsOkUnless result Memory }
+    {
+        let Ok(()) = self.proposing.start(first, votes) else {
+            return Err(NodeFault::Memory);
+        };
+        Ok(())
+    }
+
+    // The promise is committed.
+    fn commit_promise(&mut self, ballot: Ballot)
+        ensures of { self.new.of ≡ self.old.of }
+        ensures turn { self.new.turn ≡ committing ballot self.old.turn }
+    {
+        self.change.promised = Some(ballot);
     }
 }
 

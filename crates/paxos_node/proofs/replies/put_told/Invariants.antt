@@ -1,7 +1,7 @@
 use Rattle.std.proofs.Common.{◌≡◌, ◌++◌, map}
 use Rattle.std.specs.Vec.Iter.{into_iter_items}
 use Rattle.paxos_node.specs.Drafting.{told_to}
-use Rattle.paxos_node.proofs.draft.put_told.Given as goal
+use Rattle.paxos_node.proofs.replies.put_told.Given as goal
 
 -- with what is still to be told, what is there is what was there with all of it
 abbrev pub invariant-loop-one : goal.invariant-loop-one
