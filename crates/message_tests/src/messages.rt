@@ -1,7 +1,7 @@
 // Rows of messages: what is read of a text, and the one text that is written.
 use std::alloc::Global;
 use std::test::Fail;
-use wamp_messages::{Memory, Message, Read, UnfitKind, read, write};
+use wamp_messages::{Memory, Message, Parser, Read, UnfitKind, read, read_by, write};
 
 const WELCOME: &str = "[2,1,{\"roles\":{\"broker\":{\"features\":{\
     \"pattern_based_subscription\":true,\"publisher_exclusion\":true}},\
@@ -218,6 +218,53 @@ fn what_is_read_is_written_as_its_one_text(rt: HostRuntime) -> Result<(), Fail> 
         WELCOME,
     ] {
         assert!(rt; is_written_again(rt.alloc(), text)?, "{text}");
+    }
+    Ok(())
+}
+
+// What is read in kept room. It has no contract either.
+fn read_in(parser: &mut Parser, octets: &[u8]) -> Result<Read, Memory> {
+    read_by(parser, octets)
+}
+
+fn fault_in(parser: &mut Parser, text: &str) -> Result<u8, Fail> {
+    let done = read_in(parser, text.as_bytes())?;
+    Ok(fault_number(&done))
+}
+
+fn is_read_in(parser: &mut Parser, alloc: Global, text: &str) -> Result<bool, Fail> {
+    let done = read_in(parser, text.as_bytes())?;
+    is_good(alloc, &done, text)
+}
+
+#[test]
+fn one_parser_tells_the_fault_of_each_text(rt: HostRuntime) -> Result<(), Fail> {
+    let mut parser = Parser::new(rt.alloc());
+    for (text, number) in [
+        ("[32,1,{},\"a\"]", 0),
+        ("{", 21),
+        ("[32,1,{},\"a\"]]", 21),
+        ("[32,1,{},\"a\"] 1", 21),
+        ("[]", 23),
+        ("[32,1.0,{},\"a\"]", 25),
+        ("[16,0,{},\"a\",[0.5]]", 26),
+        ("[32,1,{},\"a\"]", 0),
+    ] {
+        assert_eq!(rt; fault_in(&mut parser, text)?, number, "{text}");
+    }
+    Ok(())
+}
+
+#[test]
+fn one_parser_reads_message_after_message(rt: HostRuntime) -> Result<(), Fail> {
+    let mut parser = Parser::new(rt.alloc());
+    for text in [
+        "[16,2,{\"acknowledge\":true},\"a.b\",[-1,[],{\"a\":{\"b\":[null,false]}}]]",
+        "[32,1,{\"match\":\"prefix\"},\"com.a.x\"]",
+        "[8,32,1,{},\"wamp.error.invalid_argument\",[],{\"a\":\"x\\n\"}]",
+        "[48,7,{},\"p.q\",[18446744073709551615,-9223372036854775808]]",
+    ] {
+        assert!(rt; is_read_in(&mut parser, rt.alloc(), text)?, "{text}");
     }
     Ok(())
 }
