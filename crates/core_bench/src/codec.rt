@@ -1,20 +1,14 @@
 // Acts as octets: putting one beside writing its message, taking one beside reading its text and writing it.
+use crate::bodies::{act_of, text_of};
 use crate::fault::BenchFault;
 use act_codec::{Act, ActCoder, Coder};
-use realm_acts::{Id, Read, Shared};
-use std::alloc::{AllocError, Global};
+use realm_acts::Read;
+use std::alloc::Global;
 use std::time::Instant;
 use wamp_messages::{Message, read, write};
 
 // How often the calls take turns; of each its fastest turn is told.
 const TURNS: u64 = 8;
-
-// A PUBLISH whose text has 200 octets, but for its one argument.
-const FRONT: &str = "[16,1,{\"acknowledge\":true},\"com.example.topic\",[\"";
-
-const ARGUMENT: [u8; 148] = [b'x'; 148];
-
-const BACK: &str = "\"]]";
 
 // What is measured: the act, its octets, and the text of its message.
 #[derive(Clone, Copy)]
@@ -50,20 +44,6 @@ impl Timed {
             nanos: u128::MAX,
         }
     }
-}
-
-fn text_of(alloc: Global) -> Result<Vec<u8>, AllocError> {
-    let mut text = Vec::from_slice(alloc, FRONT.as_bytes())?;
-    text.extend_from_slice(&ARGUMENT)?;
-    text.extend_from_slice(BACK.as_bytes())?;
-    Ok(text)
-}
-
-fn act_of(alloc: Global, text: &[u8]) -> Result<Act, BenchFault> {
-    let read = read(alloc, text)?;
-    let read = Shared::new(alloc, read)?;
-    let draw = Id::new(1).ok_or(BenchFault::Text)?;
-    Ok(Act::Said { draw, read })
 }
 
 // The message that an act says.

@@ -1,4 +1,5 @@
 use act_codec::CodecFault;
+use paxos_node::NodeFault;
 use replica_machine::{Failed, LearnFault};
 use std::alloc::{AllocError, AllocFailed};
 use std::io;
@@ -18,6 +19,12 @@ pub enum BenchFault {
     Codec(#[from] CodecFault),
     #[error("the text is no message")]
     Text,
+    #[error("an event was not planned or not adopted: {0}")]
+    Node(#[from] NodeFault),
+    #[error("no node has this number")]
+    Nobody,
+    #[error("entries stay pending, or an act was not applied at each node")]
+    Stuck,
     #[error("out of memory")]
     Memory,
     #[error("the clock or standard output failed")]

@@ -1,9 +1,12 @@
-//! Measures of the consensus core, each over a run of this program: `core_bench log N W` and `core_bench codec N`.
+//! Measures of the consensus core, each over a run of this program: `core_bench log N W`, `core_bench codec N`
+//! and `core_bench nodes N W number|act`.
 #![tactic(auto)]
 
+mod bodies;
 mod codec;
 mod fault;
 mod log;
+mod nodes;
 
 use crate::fault::BenchFault;
 use std::env;
@@ -13,11 +16,14 @@ use std::process::ExitCode;
 const USAGE: &str = "\
 usage: core_bench log N W
        core_bench codec N
+       core_bench nodes N W number|act
        core_bench all N W
   log N W  learns N entries in windows of W slots, the last slot of each first, and applies them
   codec N  puts and takes a PUBLISH with 200 octets of text N times a turn, beside writing it and reading its text
-  all N W  does both, one after the other
-  Counts are printed, and on standard error the nanoseconds of an entry or a call";
+  nodes N W number|act
+           takes N acts with such bodies, W at a time, at two of three nodes by turns, and passes their packets by hand
+  all N W  does each, one after the other
+  Counts are printed, and on standard error the nanoseconds of an entry, a call, an event or an act";
 
 // The words of the command line, without the program's own name; none where they cannot be read.
 fn words_of(rt: &HostRuntime) -> Result<Vec<String>, Error> {
@@ -50,10 +56,12 @@ fn ended(rt: &HostRuntime, done: Result<(), BenchFault>) -> ExitCode {
     }
 }
 
-// Both measures, one after the other.
+// Each measure, one after the other.
 fn run_all(rt: &HostRuntime, number: u64, window: u64) -> Result<(), BenchFault> {
     log::run(rt, number, window)?;
-    codec::run(rt, number)
+    codec::run(rt, number)?;
+    nodes::run_numbers(rt, number, window)?;
+    nodes::run_acts(rt, number, window)
 }
 
 // The measure of two numbers that is so named.
@@ -73,6 +81,15 @@ fn by_one(rt: &HostRuntime, kind: &str, number: u64) -> ExitCode {
     }
 }
 
+// The measure of nodes over bodies that are so named.
+fn by_body(rt: &HostRuntime, kind: &str, number: u64, window: u64, body: &str) -> ExitCode {
+    match (kind, body) {
+        ("nodes", "number") => ended(rt, nodes::run_numbers(rt, number, window)),
+        ("nodes", "act") => ended(rt, nodes::run_acts(rt, number, window)),
+        _ => misuse(rt),
+    }
+}
+
 // What the words of the command line ask for.
 fn ordered(rt: &HostRuntime, words: &[String]) -> ExitCode {
     match words {
@@ -82,6 +99,19 @@ fn ordered(rt: &HostRuntime, words: &[String]) -> ExitCode {
         },
         [kind, number, window] => match (number_of(number.as_str()), number_of(window.as_str())) {
             (Some(number), Some(window)) => by_two(rt, kind.as_str(), number, window),
+            _ => misuse(rt),
+        },
+        [kind, number, window, body] => match (
+            number_of(number.as_str()),
+            number_of(window.as_str()),
+        ) {
+            (Some(number), Some(window)) => by_body(
+                rt,
+                kind.as_str(),
+                number,
+                window,
+                body.as_str(),
+            ),
             _ => misuse(rt),
         },
         _ => misuse(rt),
