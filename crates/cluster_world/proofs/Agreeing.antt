@@ -14,7 +14,7 @@ use Rattle.cluster_world.specs.Laws.{LearnedIsChosen, ChosenIsOne, ToldIsChosen,
 use Rattle.cluster_world.specs.Laws.{LogsArePrefixes}
 use Rattle.paxos_packets.specs.Body.{IsEquality}
 
-chosen_out : {B : Type 0} (members : ℕ) (sent : List (Packet B)) (slot : ℕ) (e : Entry B) → IsChosen members sent slot e
+pub chosen_out : {B : Type 0} (members : ℕ) (sent : List (Packet B)) (slot : ℕ) (e : Entry B) → IsChosen members sent slot e
     → Chosen members sent slot e
 chosen_out members sent slot e c = (c.ballot, c.quorum, c.most, λ k m q. let s = c.voted k m q in (s.to, s.is))
 
@@ -24,7 +24,7 @@ chosen_in members sent slot e c =
     record { ballot = c.0; quorum = c.1; most = c.2; voted = λ k m q. let s = c.3 k m q in record { to = s.0; is = s.1 } }
 
 -- lists that agree where both have an element
-prefixes : {A : Type 0} (xs ys : List A) → ((i : ℕ) (d e : A) → slice_get xs i ≡ Some d → slice_get ys i ≡ Some e → d ≡ e)
+pub prefixes : {A : Type 0} (xs ys : List A) → ((i : ℕ) (d e : A) → slice_get xs i ≡ Some d → slice_get ys i ≡ Some e → d ≡ e)
     → IsPrefixOf xs ys ⊎ IsPrefixOf ys xs
 prefixes [] ys h = inl (ys, refl)
 prefixes (x ∷ xs) [] h = inr (x ∷ xs, refl)
@@ -41,7 +41,7 @@ module _ {B : Type 0} (same : B → B → Bool) (equal : IsEquality same) where
       chosen_out members w.sent f.slot f.entry (((world_ok same equal members (omega arith) events).inv.nodes k).learned f h)
 
   -- of one world
-  one : (members : ℕ) → 3 ≤ members → (events : List (Event B)) (slot : ℕ) (d e : Entry B)
+  pub one : (members : ℕ) → 3 ≤ members → (events : List (Event B)) (slot : ℕ) (d e : Entry B)
       → IsChosen members (played same members events).sent slot d → IsChosen members (played same members events).sent slot e → d ≡ e
   one members l events slot d e a b =
       let w = played same members events in
@@ -65,7 +65,7 @@ module _ {B : Type 0} (same : B → B → Bool) (equal : IsEquality same) where
       chosen_out members w.sent (suc i) e (((world_ok same equal members (omega arith) events).log k).at i e h)
 
   -- what was chosen stays chosen
-  chosen_on : (members : ℕ) (early later : List (Event B)) (slot : ℕ) (e : Entry B)
+  pub chosen_on : (members : ℕ) (early later : List (Event B)) (slot : ℕ) (e : Entry B)
       → IsChosen members (played same members early).sent slot e → IsChosen members (played same members (early ++ later)).sent slot e
   chosen_on members early later slot e c =
       record {
@@ -107,4 +107,4 @@ module _ {B : Type 0} (same : B → B → Bool) (equal : IsEquality same) where
   pub never_disagrees : NeverDisagrees B same
   never_disagrees members l events e s p =
       let many : 2 ≤ members = omega arith in
-      (event_goes same equal members many (played same members events) e (world_ok same equal members many events) s).agrees refl
+      (event_goes same equal members many (played same members events) e (world_ok same equal members many events) s).goes.agrees refl

@@ -34,10 +34,10 @@ record MadeBoot {B : Type 0} (e : Event B) (x : NodeState B) (n b : ℕ) : Type 
   boot : b ≡ suc x.rows.boot
 
 -- a Lost is made by a Suspect alone
-record MadeLost {B : Type 0} (e : Event B) (x : NodeState B) (n b : ℕ) : Type 0 where
-  by : ℕ
-  is : e ≡ Suspect by n
-  live : live_in (standing n x.applied) ≡ Some b
+pub record MadeLost {B : Type 0} (e : Event B) (x : NodeState B) (n b : ℕ) : Type 0 where
+  pub by : ℕ
+  pub is : e ≡ Suspect by n
+  pub live : live_in (standing n x.applied) ≡ Some b
 
 abbrev NoBoot : {B : Type 0} → List (Entry B) → Type 0
 NoBoot es = (n b : ℕ) → Has es (Boot n b) → ⊥
@@ -125,7 +125,7 @@ module _ {B : Type 0} (same : B → B → Bool) where
       down true e = absurd (off e)
       down false e = refl
 
-  made_lost : (e : Event B) (x : NodeState B) (n b : ℕ) → Has (made_by same e x) (Lost n b) → MadeLost e x n b
+  pub made_lost : (e : Event B) (x : NodeState B) (n b : ℕ) → Has (made_by same e x) (Lost n b) → MadeLost e x n b
   made_lost (Take m t body) x n b h = absurd (taken_no_lost m t body x n b h)
   made_lost (Tick m) x n b h = absurd (has_nil h)
   made_lost (Start m) x n b h = absurd (has_nil h)
@@ -354,7 +354,7 @@ module _ {B : Type 0} (same : B → B → Bool) where
         (subst (λ (z : World B). Losts (early ++ e ∷ todo) z.made) (sym (play_on same members early (e ∷ []) (first_world members)))
         (lost_next early e todo h))))
 
-    first_no_lost : (k n b : ℕ) → Has (first_boots {B = B} k) (Lost n b) → ⊥
+    pub first_no_lost : (k n b : ℕ) → Has (first_boots {B = B} k) (Lost n b) → ⊥
     first_no_lost zero n b h = has_nil h
     first_no_lost (suc k) n b h =
         ⊎_elim (λ a. first_no_lost k n b a) (λ a. differ (has_one a)) (has_cases (first_boots k) (Boot (suc k) 1 ∷ []) h)

@@ -74,7 +74,7 @@ module _ {B : Type 0} (same : B → B → Bool) (equal : IsEquality same) (membe
   then_to s r = step_on same equal members many at n before s.path r
 
   -- a role that is no leader's, or the same
-  free_same : (t u : Turn B) → Go t u → u.node.proposer.role ≡ t.node.proposer.role → Fr t → Fr u
+  pub free_same : (t u : Turn B) → Go t u → u.node.proposer.role ≡ t.node.proposer.role → Fr t → Fr u
   free_same t u g e f = subst (λ r. RoleFree members (now u) (all u) r) (sym e) (role_free_grows members g.grows t.node.proposer.role f)
 
   -- packets that promise and propose nothing new
@@ -101,7 +101,7 @@ module _ {B : Type 0} (same : B → B → Bool) (equal : IsEquality same) (membe
       → NodeOk members (now t) (all t) n (record t.node { proposer = record { role = r; seen = seen } })
   with_role_ok t inv r seen ok = let m = mine t inv in record { rows = m.rows; role = ok; heard = m.heard; learned = m.learned }
 
-  role_path : (t : Turn B) → St t → (r : Role B) (seen : ℕ) → RoleOk (now t) t.node.rows.promised (all t) n r
+  pub role_path : (t : Turn B) → St t → (r : Role B) (seen : ℕ) → RoleOk (now t) t.node.rows.promised (all t) n r
       → Way t.node.taken t (record t { node = record t.node { proposer = record { role = r; seen = seen } } })
   role_path t inv r seen ok =
       record {
@@ -115,7 +115,7 @@ module _ {B : Type 0} (same : B → B → Bool) (equal : IsEquality same) (membe
       → NodeOk members (now t) (all t) n (record t.node { pending = pending; taken = taken })
   pending_ok t inv pending taken = let m = mine t inv in record { rows = m.rows; role = m.role; heard = m.heard; learned = m.learned }
 
-  pending_step : (t : Turn B) → St t → Fr t → (pending : List (Entry B)) (taken : ℕ)
+  pub pending_step : (t : Turn B) → St t → Fr t → (pending : List (Entry B)) (taken : ℕ)
       → ToBy taken t (record t { node = record t.node { pending = pending; taken = taken } })
   pending_step t inv free pending taken =
       let g : Go t (record t { node = record t.node { pending = pending; taken = taken } }) =
@@ -189,7 +189,7 @@ module _ {B : Type 0} (same : B → B → Bool) (equal : IsEquality same) (membe
 
   -- proposals and push
 
-  propose_new_step : (e : Entry B) (t : Turn B) → St t → Fr t → To t (propose_new same members n e t)
+  pub propose_new_step : (e : Entry B) (t : Turn B) → St t → Fr t → To t (propose_new same members n e t)
   propose_new_step e t inv free =
       cond_both (stands same (length t.node.applied) t.node.proposer.role e) t (propose same members n e t) (λ z. To t z)
       (λ d. stood t inv free)
@@ -219,7 +219,7 @@ module _ {B : Type 0} (same : B → B → Bool) (equal : IsEquality same) (membe
 
   -- Promise
 
-  lead_step : (t : Turn B) (b : Ballot) (floor : ℕ) (cs : List (CountedPromise B)) → St t → PreparingOk (now t) t.node.rows.promised (all t) n b floor cs
+  pub lead_step : (t : Turn B) (b : Ballot) (floor : ℕ) (cs : List (CountedPromise B)) → St t → PreparingOk (now t) t.node.rows.promised (all t) n b floor cs
       → is_majority members (is_counted cs) ≡ true → To t (lead same members n b floor (reports cs) t)
   lead_step t b floor cs inv ok most =
       step_on same equal members many at n before g
@@ -256,6 +256,32 @@ module _ {B : Type 0} (same : B → B → Bool) (equal : IsEquality same) (membe
       (λ e. let a = lead_step t b floor cs inv ok e in then_to a (push_step (lead same members n b floor (reports cs) t) a.path.going.inv a.free))
       (λ e. record { path = role_path t inv (Preparing b floor cs) t.node.proposer.seen ok; free = tt })
 
+  -- one promise more
+  pub promised_ok : (t : Turn B) (from : ℕ) (b : Ballot) (votes : List (Vote B)) → St t → Sent (all t) from (Promise b votes) → (c : Ballot) (floor : ℕ)
+      (cs : List (CountedPromise B)) → t.node.proposer.role ≡ Preparing c floor cs → b ≡ c
+      → PreparingOk (now t) t.node.rows.promised (all t) n c floor (cs ++ record { node = from; votes = votes } ∷ [])
+  promised_ok t from b votes inv s c floor cs is e =
+      record {
+        owner = ok.owner;
+        exact = ok.exact;
+        only = ok.only;
+        asked = ok.asked;
+        none = ok.none;
+        kept =
+            λ d h. ⊎_elim (λ o. ok.kept d o) (λ o. subst (λ (z : CountedPromise B). Tells (now t) (all t) z.node c floor z.votes) (has_one o) tells)
+            (has_cases cs (record { node = from; votes = votes } ∷ []) h);
+      }
+    where
+      ok : PreparingOk (now t) t.node.rows.promised (all t) n c floor cs
+      ok = subst (λ r. RoleOk (now t) t.node.rows.promised (all t) n r) is (mine t inv).role
+
+      tells : Tells (now t) (all t) from c floor votes
+      tells =
+          let told = inv.packets.told from b votes s in
+          let here' = subst (λ z. Known (all t) (Prepare z told.floor)) e told.asked in
+          subst (λ f. Tells (now t) (all t) from c f votes) (ok.only told.floor here')
+          (subst (λ z. Tells (now t) (all t) from z told.floor votes) e told.tells)
+
   promise_step : (t : Turn B) (from : ℕ) (b : Ballot) (votes : List (Vote B)) → St t → Fr t → Sent (all t) from (Promise b votes) → (r : Role B)
       → t.node.proposer.role ≡ r → To t (on_promise_as same members n from b votes r t)
   promise_step t from b votes inv free s Idle is = stood t inv free
@@ -264,32 +290,8 @@ module _ {B : Type 0} (same : B → B → Bool) (equal : IsEquality same) (membe
       cond_both (same_ballot b c && not (is_counted cs from)) (count_promise same members n c floor (cs ++ record { node = from; votes = votes } ∷ []) t) t
       (λ u. To t u)
       (λ e. count_promise_step t c floor (cs ++ record { node = from; votes = votes } ∷ []) inv
-      (more (ballot_sound b c (and_parts (same_ballot b c) (not (is_counted cs from)) e).0)))
+      (promised_ok t from b votes inv s c floor cs is (ballot_sound b c (and_parts (same_ballot b c) (not (is_counted cs from)) e).0)))
       (λ e. stood t inv free)
-    where
-      ok : PreparingOk (now t) t.node.rows.promised (all t) n c floor cs
-      ok = subst (λ r. RoleOk (now t) t.node.rows.promised (all t) n r) is (mine t inv).role
-
-      tells : b ≡ c → Tells (now t) (all t) from c floor votes
-      tells e =
-          let told = inv.packets.told from b votes s in
-          let here' = subst (λ z. Known (all t) (Prepare z told.floor)) e told.asked in
-          subst (λ f. Tells (now t) (all t) from c f votes) (ok.only told.floor here')
-          (subst (λ z. Tells (now t) (all t) from z told.floor votes) e told.tells)
-
-      more : b ≡ c → PreparingOk (now t) t.node.rows.promised (all t) n c floor (cs ++ record { node = from; votes = votes } ∷ [])
-      more e =
-          record {
-            owner = ok.owner;
-            exact = ok.exact;
-            only = ok.only;
-            asked = ok.asked;
-            none = ok.none;
-            kept =
-                λ d h.
-                ⊎_elim (λ o. ok.kept d o) (λ o. subst (λ (z : CountedPromise B). Tells (now t) (all t) z.node c floor z.votes) (has_one o) (tells e))
-                (has_cases cs (record { node = from; votes = votes } ∷ []) h);
-          }
 
   -- Nack
 
@@ -443,7 +445,7 @@ module _ {B : Type 0} (same : B → B → Bool) (equal : IsEquality same) (membe
       (λ a. offers_quiet sent learned vs (λ w h. ok w (there h)) k kind a)
       (sent_cases (if is_learned v.slot learned then [] else to_others members n (Accept v)) (accepts_again members n learned vs) s)
 
-  again_quiet : (promised : ℕ → Option Ballot) (o : Option Ballot) (sent : List (Packet B)) (learned : List (LearnedEntry B)) (r : Role B)
+  pub again_quiet : (promised : ℕ → Option Ballot) (o : Option Ballot) (sent : List (Packet B)) (learned : List (LearnedEntry B)) (r : Role B)
       → RoleOk promised o sent n r → (k : ℕ) (kind : Kind B) → Sent (again members n r learned) k kind → (k ≡ n) × QuietKind members sent n kind
   again_quiet promised o sent learned Idle ok k kind s = absurd (sent_nil k kind s)
   again_quiet promised o sent learned (Preparing b floor cs) ok k kind s =

@@ -12,8 +12,8 @@ use Rattle.cluster_world.proofs.Growth.{role_free_grows, chosen_grows}
 use Rattle.cluster_world.proofs.InvariantKept.{sent_left}
 use Rattle.cluster_world.proofs.AcceptorTests.{sent_nil}
 use Rattle.cluster_world.proofs.WithNode.{with_node, with_node_mine, with_node_other}
-use Rattle.cluster_world.proofs.Events.{take_step, tick_step, start_step, suspect_step, deliver_step}
-use Rattle.cluster_world.proofs.Settling.{Logged, logged_nil, Good, Goes, down_goes, start_goes, step_goes}
+use Rattle.cluster_world.proofs.Events.{ToBy, take_step, tick_step, start_step, suspect_step, deliver_step}
+use Rattle.cluster_world.proofs.Settling.{Logged, logged_nil, Good, Goes, down_goes, start_goes, step_goes, step_logged}
 use Rattle.cluster_world.specs.Has.{Has, there}
 use Rattle.paxos_packets.specs.Body.{IsEquality}
 use Rattle.paxos_packets.specs.declared.entry.Entry.{Entry}
@@ -24,7 +24,7 @@ use Rattle.paxos_node.specs.declared.event.Event.{Event}
 use Rattle.paxos_node.specs.declared.event.Event.TheVariants.{Take, Tick, Start, Suspect, Deliver, Crash, Restart}
 use Rattle.paxos_node.specs.Node.{NodeState, Turn}
 use Rattle.paxos_node.specs.Turn.{begun}
-use Rattle.paxos_node.specs.Applying.{started, first_rows}
+use Rattle.paxos_node.specs.Applying.{started, first_rows, settle}
 use Rattle.paxos_packets.specs.Rows.{last_boot}
 use Rattle.paxos_node.specs.Events.{owner, possible, outcome_of, new_lost}
 use Rattle.cluster_world.specs.World.{World, absent, node_at, put_node, founded, first_world, is_among, was_sent, done, next, play, played}
@@ -88,7 +88,7 @@ plain_ok members promised k x p =
       learned = λ f i. absurd (in_none x.learner.learned f p.learned i);
     }
 
-first_ok : {B : Type 0} (members : ℕ) → WorldOk {B = B} members (first_world members)
+pub first_ok : {B : Type 0} (members : ℕ) → WorldOk {B = B} members (first_world members)
 first_ok {B} members =
     record {
       inv = record {
@@ -172,10 +172,12 @@ within nodes e (suc i) h =
     (λ l. absurd (absent_cannot e (subst (λ x. possible e x ≡ true) (get_or_past nodes i absent l) h))) (cases_lt i (length nodes))
 
 module _ {B : Type 0} (same : B → B → Bool) (equal : IsEquality same) (members : ℕ) (many : 2 ≤ members) where
-  abbrev From : World B → ℕ → Turn B → Type 0
-  From w k o = Goes same equal members many (node_at w.nodes) k w.sent (begun (node_at w.nodes k)) o
+  -- an outcome at a node of the world: where the node goes, and what it had applied then
+  pub record From (w : World B) (k : ℕ) (o : Turn B) : Type 0 where
+    pub goes : Goes same equal members many (node_at w.nodes) k w.sent (begun (node_at w.nodes k)) o
+    pub logged : Logged members (w.sent ++ o.packets) ((node_at w.nodes k).applied ++ o.applied)
 
-  start_good : (w : World B) (k : ℕ) → WorldOk members w
+  pub start_good : (w : World B) (k : ℕ) → WorldOk members w
       → Good same equal members many (node_at w.nodes) k w.sent (begun (node_at w.nodes k))
   start_good w k ok =
       record {
@@ -190,47 +192,67 @@ module _ {B : Type 0} (same : B → B → Bool) (equal : IsEquality same) (membe
         log = subst (λ l. Logged members l (node_at w.nodes k).applied) (sym (append-nil w.sent)) (ok.log k);
       }
 
+  by_step : {j : ℕ} (w : World B) (k : ℕ) (u : Turn B) → WorldOk members w
+      → ToBy same equal members many (node_at w.nodes) k w.sent j (begun (node_at w.nodes k)) u → From w k (settle k u)
+  by_step w k u ok s =
+      let g = start_good w k ok in
+      record {
+        goes = step_goes same equal members many (node_at w.nodes) k w.sent (begun (node_at w.nodes k)) u g s;
+        logged = step_logged same equal members many (node_at w.nodes) k w.sent (begun (node_at w.nodes k)) u g refl s;
+      }
+
+  -- nothing is applied, and nothing sent
+  quiet_logged : (w : World B) (k : ℕ) → WorldOk members w → Logged members (w.sent ++ []) ((node_at w.nodes k).applied ++ [])
+  quiet_logged w k ok =
+      subst (λ (z : List (Packet B) × List (Entry B)). Logged members z.0 z.1)
+      (λ i. (sym (append-nil w.sent) i, sym (append-nil (node_at w.nodes k).applied) i)) (ok.log k)
+
   -- the node's part of each event
   pub event_goes : (w : World B) (e : Event B) → WorldOk members w → was_sent same e w.sent ≡ true
       → From w (owner e) (outcome_of same members e (node_at w.nodes (owner e)))
   event_goes w (Take k t body) ok s =
       let g = start_good w k ok in
-      step_goes same equal members many (node_at w.nodes) k w.sent (begun (node_at w.nodes k)) _ g
+      by_step w k _ ok
       (take_step same equal members many (node_at w.nodes) k w.sent (begun (node_at w.nodes k)) t body g.inv g.free)
   event_goes w (Tick k) ok s =
       let g = start_good w k ok in
-      step_goes same equal members many (node_at w.nodes) k w.sent (begun (node_at w.nodes k)) _ g
-      (tick_step same equal members many (node_at w.nodes) k w.sent (begun (node_at w.nodes k)) g.inv g.free)
+      by_step w k _ ok (tick_step same equal members many (node_at w.nodes) k w.sent (begun (node_at w.nodes k)) g.inv g.free)
   event_goes w (Start k) ok s =
       let g = start_good w k ok in
-      step_goes same equal members many (node_at w.nodes) k w.sent (begun (node_at w.nodes k)) _ g
-      (start_step same equal members many (node_at w.nodes) k w.sent (begun (node_at w.nodes k)) g.inv g.free)
+      by_step w k _ ok (start_step same equal members many (node_at w.nodes) k w.sent (begun (node_at w.nodes k)) g.inv g.free)
   event_goes w (Suspect k j) ok s =
       let g = start_good w k ok in
-      step_goes same equal members many (node_at w.nodes) k w.sent (begun (node_at w.nodes k)) _ g
+      by_step w k _ ok
       (suspect_step same equal members many (node_at w.nodes) k w.sent (begun (node_at w.nodes k)) (new_lost same k j (node_at w.nodes k))
       g.inv g.free)
   event_goes w (Deliver p) ok s =
       let k = p.addressee in
       let g = start_good w k ok in
-      step_goes same equal members many (node_at w.nodes) k w.sent (begun (node_at w.nodes k)) _ g
+      by_step w k _ ok
       (deliver_step same equal members many (node_at w.nodes) k w.sent (begun (node_at w.nodes k)) p.sender p.kind g.inv g.free
       (sent_left [] (record { to = p.addressee; is = among_has same equal p w.sent s })))
-  event_goes w (Crash k) ok s = down_goes same equal members many (node_at w.nodes) k w.sent (begun (node_at w.nodes k)) (start_good w k ok)
+  event_goes w (Crash k) ok s =
+      record {
+        goes = down_goes same equal members many (node_at w.nodes) k w.sent (begun (node_at w.nodes k)) (start_good w k ok);
+        logged = quiet_logged w k ok;
+      }
   event_goes w (Restart k) ok s =
-      start_goes same equal members many (node_at w.nodes) k w.sent (begun (node_at w.nodes k)) (start_good w k ok)
+      record {
+        goes = start_goes same equal members many (node_at w.nodes) k w.sent (begun (node_at w.nodes k)) (start_good w k ok);
+        logged = quiet_logged w k ok;
+      }
 
   done_ok : (w : World B) (e : Event B) (o : Turn B) → Within w.nodes (owner e) → WorldOk members w → From w (owner e) o
       → WorldOk members (done same w e (node_at w.nodes (owner e)) o)
   done_ok w e o l ok g =
       record {
-        inv = subst (λ at. Inv members at later) (sym is) g.going.inv;
+        inv = subst (λ at. Inv members at later) (sym is) g.goes.going.inv;
         free = λ j. subst (λ (at : ℕ → NodeState B). RoleFree members (promises at) later (at j).proposer.role) (sym is) (free j);
         log = λ j. ⊎_elim
             (λ (s : j ≡ k). subst (λ i. Logged members later (node_at (put_node w.nodes k o.node) i).applied) (sym s)
-            (subst (λ (x : NodeState B). Logged members later x.applied) (sym (node_same w.nodes k o.node l)) g.log))
+            (subst (λ (x : NodeState B). Logged members later x.applied) (sym (node_same w.nodes k o.node l)) g.goes.log))
             (λ s. subst (λ (x : NodeState B). Logged members later x.applied) (sym (node_other w.nodes k o.node j s))
-            (record { at = λ i f h. chosen_grows g.going.grows (chosen_later ((ok.log j).at i f h)) }))
+            (record { at = λ i f h. chosen_grows g.goes.going.grows (chosen_later ((ok.log j).at i f h)) }))
             (cases_eq j k);
       }
     where
@@ -248,7 +270,7 @@ module _ {B : Type 0} (same : B → B → Bool) (equal : IsEquality same) (membe
 
       other_free : (j : ℕ) → RoleFree members (promises (with_node (node_at w.nodes) k o.node)) later (node_at w.nodes j).proposer.role
       other_free j =
-          role_free_grows members g.going.grows (node_at w.nodes j).proposer.role
+          role_free_grows members g.goes.going.grows (node_at w.nodes j).proposer.role
           (subst (λ at. RoleFree members (promises at) (w.sent ++ []) (node_at w.nodes j).proposer.role)
           (sym (with_node_itself (node_at w.nodes) k))
           (subst (λ l. RoleFree members (promises (node_at w.nodes)) l (node_at w.nodes j).proposer.role) (sym (append-nil w.sent))
@@ -260,12 +282,12 @@ module _ {B : Type 0} (same : B → B → Bool) (equal : IsEquality same) (membe
           ⊎_elim
           (λ (s : j ≡ k). subst (λ (x : NodeState B). RoleFree members (promises (with_node (node_at w.nodes) k o.node)) later
           x.proposer.role) (sym (ap (λ i. with_node (node_at w.nodes) k o.node i) s ∙ with_node_mine (node_at w.nodes) k o.node))
-          g.free)
+          g.goes.free)
           (λ s. subst (λ (x : NodeState B). RoleFree members (promises (with_node (node_at w.nodes) k o.node)) later x.proposer.role)
           (sym (with_node_other (node_at w.nodes) k o.node j s)) (other_free j))
           (cases_eq j k)
 
-  next_ok : (w : World B) (e : Event B) → WorldOk members w → WorldOk members (next same members w e)
+  pub next_ok : (w : World B) (e : Event B) → WorldOk members w → WorldOk members (next same members w e)
   next_ok w e ok =
       cond_both (was_sent same e w.sent && possible e (node_at w.nodes (owner e)))
       (done same w e (node_at w.nodes (owner e)) (outcome_of same members e (node_at w.nodes (owner e)))) w (λ z. WorldOk members z)

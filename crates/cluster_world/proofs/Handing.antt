@@ -140,7 +140,7 @@ module _ {B S Y : Type 0} (m : Machine B S Y) where
           all = λ u t n b. ⊎_elim
               (λ (c : (o.node.up ≡ true) × (o.node.applied ≡ x.applied ++ o.applied) × (o.node.taken ≡ acts_after e x)). own_ok as'
               (owner e) x o.applied r.was ok t n (b ∙ r.from.boot_is) ∙ ap (λ l. said m t l) (sym c.1))
-              (λ c. absurd (off (sym c ∙ u)))
+              (λ c. absurd (off (sym c.0 ∙ u)))
               r.from.case;
           past =
               λ t n b.

@@ -1,5 +1,5 @@
 -- Votes are counted, and entries learned.
-use Rattle.std.proofs.Common.{◌≡◌, ◌⊎◌, inl, inr, ⊎_elim, ℕ, zero, suc, Bool, true, false, not, ◌&&◌, eqb, refl, sym, ap, ◌∙◌, subst, List, [], ◌∷◌, ◌++◌}
+use Rattle.std.proofs.Common.{◌≡◌, ◌⊎◌, inl, inr, ⊎_elim, ℕ, zero, suc, Bool, true, false, not, ◌&&◌, eqb, refl, sym, ap, ◌∙◌, subst, List, [], ◌∷◌}
 use Rattle.std.proofs.Common.{Option, Some, None}
 use Rattle.std.specs.Prelude.{nat_lt, option_map, ◌==◌}
 use Rattle.std.specs.List.{find}
@@ -7,7 +7,7 @@ use Rattle.std.proofs.lemmas.Bool.{cond_both, cases_eq, eqb-true, ltb-true}
 use Rattle.std.proofs.lemmas.List.{get_or-set_other}
 use Rattle.std.specs.Option.{unwrap_or}
 use Rattle.std.specs.Map.{lookup}
-use Rattle.cluster_world.proofs.Lists.{has_cons, has_one, has_first, has_cases}
+use Rattle.cluster_world.proofs.Lists.{has_cons, has_one, has_first}
 use Rattle.paxos_packets.specs.Entry.{entry_equality, same_entry}
 use Rattle.cluster_world.proofs.Invariant.{vote, Sent, Known, IsChosen, VoteOf, PacketsOk, NodeOk}
 use Rattle.cluster_world.proofs.OneChosen.{chosen_one}
@@ -150,6 +150,21 @@ module _ {B : Type 0} (members : ℕ) (promised : ℕ → Option Ballot) (sent :
           ⊎_elim (λ e. subst (λ z. VoteOf sent p z) (sym e) (record { entry = v.entry; is = s }))
           (λ r. let h = heard_at l.heard p j r in subst (λ z. VoteOf sent z j) h.2 (ok.heard h.0 h.1 j h.3))
           (with_cases (nodes_heard p l.heard) k j q)
+
+  -- where nobody is known to have voted, a vote is heard alone
+  pub heard_alone : (l : LearnerState B) (k : ℕ) (v : Vote B) → LearnerOk members sent l → ((j : ℕ) → VoteOf sent (place_of v) j → ⊥) → (j : ℕ)
+      → is_in (nodes_heard (place_of v) (hears k v l).heard) j ≡ true → j ≡ k
+  heard_alone l k v ok none j q =
+      let h = heard_at (hears k v l).heard p j q in
+      ⊎_elim (λ o. absurd (none j (subst (λ z. VoteOf sent z j) h.2 (ok.heard h.0 o j h.3))))
+      (λ e. ⊎_elim (λ s. s) (λ r. absurd (old r)) (with_cases (nodes_heard p l.heard) k j (subst (λ z. is_in z j ≡ true) (sym e.1) h.3)))
+      (tally_cases l.heard p (set_with (nodes_heard p l.heard) k) h.0 h.1)
+    where
+      p : Place
+      p = place_of v
+
+      old : is_in (nodes_heard p l.heard) j ≡ true → ⊥
+      old r = let g = heard_at l.heard p j r in none j (subst (λ z. VoteOf sent z j) g.2 (ok.heard g.0 g.1 j g.3))
 
   -- a majority was heard
   most_chosen : (l : LearnerState B) (v : Vote B) → PacketsOk members promised sent → LearnerOk members sent l → Known sent (Accept v)

@@ -20,4 +20,8 @@ pub mod Handing
 pub mod Sources
 pub mod Taking
 pub mod Booting
+pub mod Applied
+pub mod AtOnce
+pub mod EventsAtOnce
+pub mod Waiting
 pub mod Stepping

@@ -86,7 +86,7 @@ module _ {B : Type 0} (members : ℕ) (many : 2 ≤ members) (at : ℕ → NodeS
       (mine_ok members at n (voted_at v x) later a.inv))
       (sent_right sent (others_sent members n many (Accepted v)))
 
-  leads : (x : NodeState B) (sent : List (Packet B)) (b : Ballot) (next : ℕ) (table : List (Vote B)) → Inv members (with_node at n x) sent
+  pub leads : (x : NodeState B) (sent : List (Packet B)) (b : Ballot) (next : ℕ) (table : List (Vote B)) → Inv members (with_node at n x) sent
       → x.proposer.role ≡ Leading b next table → LeadingOk x.rows.promised sent n b next table
   leads x sent b next table inv is =
       subst (λ r. RoleOk (promises (with_node at n x)) x.rows.promised sent n r) is (mine_ok members at n x sent inv).role
@@ -172,20 +172,20 @@ module _ {B : Type 0} (same : B → B → Bool) (equal : IsEquality same) (membe
   pub step_on : {k : ℕ} {t u v : Turn B} → Path k t u → Step u v → StepTo k t v
   step_on g s = record { path = path_on g s.path; free = s.free }
 
-  propose_made : (t : Turn B) (b : Ballot) (next : ℕ) (table : List (Vote B)) (e : Entry B) → t.node.proposer.role ≡ Leading b next table
+  pub propose_made : (t : Turn B) (b : Ballot) (next : ℕ) (table : List (Vote B)) (e : Entry B) → t.node.proposer.role ≡ Leading b next table
       → nat_lt next slot_end ≡ true
       → propose same members n e t ≡ cast same members n (next_vote b next e) (offer members n b next table e t)
   propose_made t b next table e is l =
       ap (λ r. propose_as same members n r e t) is
       ∙ cond-true (nat_lt next slot_end) (cast same members n (next_vote b next e) (offer members n b next table e t)) t l
 
-  propose_full : (t : Turn B) (b : Ballot) (next : ℕ) (table : List (Vote B)) (e : Entry B) → t.node.proposer.role ≡ Leading b next table
+  pub propose_full : (t : Turn B) (b : Ballot) (next : ℕ) (table : List (Vote B)) (e : Entry B) → t.node.proposer.role ≡ Leading b next table
       → nat_lt next slot_end ≡ false → propose same members n e t ≡ t
   propose_full t b next table e is l =
       ap (λ r. propose_as same members n r e t) is
       ∙ cond-false (nat_lt next slot_end) (cast same members n (next_vote b next e) (offer members n b next table e t)) t l
 
-  propose_path : (t : Turn B) (b : Ballot) (next : ℕ) (table : List (Vote B)) (e : Entry B) → State t
+  pub propose_path : (t : Turn B) (b : Ballot) (next : ℕ) (table : List (Vote B)) (e : Entry B) → State t
       → t.node.proposer.role ≡ Leading b next table
       → Safe members (promises (with_node at n t.node)) (before ++ t.packets) (next_vote b next e)
       → Path t.node.taken t (cast same members n (next_vote b next e) (offer members n b next table e t))
@@ -205,7 +205,7 @@ module _ {B : Type 0} (same : B → B → Bool) (equal : IsEquality same) (membe
         stays = record { boot = refl; up = refl; log = refl; news = refl; acts = refl };
       }
 
-  proposed_role : (t : Turn B) (b : Ballot) (next : ℕ) (table : List (Vote B)) (e : Entry B)
+  pub proposed_role : (t : Turn B) (b : Ballot) (next : ℕ) (table : List (Vote B)) (e : Entry B)
       → (cast same members n (next_vote b next e) (offer members n b next table e t)).node.proposer.role ≡ offered b next table e
   proposed_role t b next table e = cond-false (below b b) Idle (offered b next table e) (below_self b)
 

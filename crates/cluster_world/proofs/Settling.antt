@@ -65,25 +65,29 @@ run_ok {B} members sent (f ∷ fs) slot ok =
     go rest false true e = rest slot
     go rest false false e = tt
 
+pub longer : {E : Type 0} (xs : List E) (x : E) → length (xs ++ x ∷ []) ≡ suc (length xs)
+longer xs x = length-append xs (x ∷ []) ∙ plus_one (length xs)
+  where
+    plus_one : (k : ℕ) → k + 1 ≡ suc k
+    plus_one k = omega arith
+
 -- a turn from this log and boot: up, with what it applied at the end of the log; or down
 pub record From {B : Type 0} (log : List (Entry B)) (boot acts : ℕ) (o : Turn B) : Type 0 where
   pub boot_is : o.node.rows.boot ≡ boot
-  pub case : ((o.node.up ≡ true) × (o.node.applied ≡ log ++ o.applied) × (o.node.taken ≡ acts)) ⊎ (o.node.up ≡ false)
+  pub case :
+      ((o.node.up ≡ true) × (o.node.applied ≡ log ++ o.applied) × (o.node.taken ≡ acts))
+      ⊎ ((o.node.up ≡ false) × (o.node.applied ≡ []))
 
-pub applies_from : {B : Type 0} (n : ℕ) (log : List (Entry B)) (boot acts : ℕ) (es : List (Entry B)) (o : Turn B) → From log boot acts o
-    → From log boot acts (apply_all n es o)
-applies_from n log boot acts [] o f = f
-applies_from {B} n log boot acts (e ∷ es) o f =
+abbrev Up : {B : Type 0} → List (Entry B) → ℕ → Turn B → Type 0
+Up log acts o = (o.node.up ≡ true) × (o.node.applied ≡ log ++ o.applied) × (o.node.taken ≡ acts)
+
+applies_from : {B : Type 0} (n : ℕ) (log : List (Entry B)) (boot acts : ℕ) (es : List (Entry B)) (o : Turn B) → o.node.rows.boot ≡ boot
+    → Up log acts o → From log boot acts (apply_all n es o)
+applies_from n log boot acts [] o b c = record { boot_is = b; case = inl c }
+applies_from n log boot acts (e ∷ es) o b c =
     cond_both (ends n o.node e) (go_down (note e o)) (apply_all n es (note e o)) (λ z. From log boot acts z)
-    (λ t. record { boot_is = f.boot_is; case = inr refl })
-    (λ t. applies_from n log boot acts es (note e o) (record {
-      boot_is = f.boot_is;
-      case =
-          ⊎_elim
-          (λ (c : (o.node.up ≡ true) × (o.node.applied ≡ log ++ o.applied) × (o.node.taken ≡ acts)). inl
-          (c.0, ap (λ l. l ++ e ∷ []) c.1 ∙ append_assoc log o.applied (e ∷ []), c.2))
-          (λ c. inr c) f.case;
-    }))
+    (λ t. record { boot_is = b; case = inr (refl, refl) })
+    (λ t. applies_from n log boot acts es (note e o) b (c.0, ap (λ l. l ++ e ∷ []) c.1 ∙ append_assoc log o.applied (e ∷ []), c.2))
 
 module _ {B : Type 0} (same : B → B → Bool) (equal : IsEquality same) (members : ℕ) (many : 2 ≤ members) (at : ℕ → NodeState B) (n : ℕ)
     (before : List (Packet B)) where
@@ -160,45 +164,59 @@ module _ {B : Type 0} (same : B → B → Bool) (equal : IsEquality same) (membe
       let a = note_goes e o ok r.0 in
       cond_both (ends n o.node e) (go_down (note e o)) (apply_all n es (note e o)) (λ z. Goes o z)
       (λ t. goes_on a (down_goes (note e o) (good_of a)))
-      (λ t. goes_on a (apply_goes es (note e o) (good_of a) (subst (λ k. RunOk members (before ++ o.packets) (suc k) es) (sym longer) r.1)))
-    where
-      longer : length (o.node.applied ++ e ∷ []) ≡ suc (length o.node.applied)
-      longer = length-append o.node.applied (e ∷ []) ∙ plus_one (length o.node.applied)
-        where
-          plus_one : (k : ℕ) → k + 1 ≡ suc k
-          plus_one k = omega arith
+      (λ t. goes_on a (apply_goes es (note e o) (good_of a)
+      (subst (λ k. RunOk members (before ++ o.packets) (suc k) es) (sym (longer o.node.applied e)) r.1)))
 
   settle_goes : (o : Turn B) → Good o → Goes o (settle n o)
   settle_goes o ok =
       apply_goes (run_from (suc (length o.node.applied)) o.node.learner.learned) o ok
       (run_ok members (before ++ o.packets) o.node.learner.learned (suc (length o.node.applied)) (mine o ok).learned)
 
-  -- a step, and what it taught is applied
+  -- a step
+  arrives : {k : ℕ} (t u : Turn B) → Good t → ToBy same equal members many at n before k t u → Goes t u
+  arrives t u ok s =
+      record {
+        going = s.path.going;
+        free = s.free;
+        log =
+            subst (λ l. Logged members (before ++ u.packets) l) (sym s.path.stays.log)
+            (record { at = λ i e h. chosen_grows s.path.going.grows (ok.log.at i e h) });
+        agrees = s.path.agrees;
+      }
+
+  -- and what it taught is applied
   pub step_goes : {k : ℕ} (t u : Turn B) → Good t → ToBy same equal members many at n before k t u → Goes t (settle n u)
-  step_goes t u ok s = goes_on a (settle_goes u (good_of a))
+  step_goes t u ok s = let a = arrives t u ok s in goes_on a (settle_goes u (good_of a))
+
+  -- what was applied is chosen, in a node that it took down too
+  apply_logged : (log es : List (Entry B)) (o : Turn B) → o.node.applied ≡ log ++ o.applied
+      → Logged members (before ++ o.packets) o.node.applied → RunOk members (before ++ o.packets) (suc (length o.node.applied)) es
+      → Logged members (before ++ (apply_all n es o).packets) (log ++ (apply_all n es o).applied)
+  apply_logged log [] o is ok r = subst (λ l. Logged members (before ++ o.packets) l) is ok
+  apply_logged log (e ∷ es) o is ok r =
+      cond_both (ends n o.node e) (go_down (note e o)) (apply_all n es (note e o))
+      (λ z. Logged members (before ++ z.packets) (log ++ z.applied))
+      (λ t. subst (λ l. Logged members (before ++ o.packets) l) more all)
+      (λ t. apply_logged log es (note e o) more all
+      (subst (λ k. RunOk members (before ++ o.packets) (suc k) es) (sym (longer o.node.applied e)) r.1))
     where
-      a : Goes t u
-      a =
-          record {
-            going = s.path.going;
-            free = s.free;
-            log =
-                subst (λ l. Logged members (before ++ u.packets) l) (sym s.path.stays.log)
-                (record { at = λ i e h. chosen_grows s.path.going.grows (ok.log.at i e h) });
-            agrees = s.path.agrees;
-          }
+      all : Logged members (before ++ o.packets) (o.node.applied ++ e ∷ [])
+      all = logged_push members (before ++ o.packets) o.node.applied e ok r.0
+
+      more : o.node.applied ++ e ∷ [] ≡ log ++ (o.applied ++ e ∷ [])
+      more = ap (λ l. l ++ e ∷ []) is ∙ append_assoc log o.applied (e ∷ [])
+
+  pub step_logged : {k : ℕ} (t u : Turn B) → Good t → t.applied ≡ [] → ToBy same equal members many at n before k t u
+      → Logged members (before ++ (settle n u).packets) (t.node.applied ++ (settle n u).applied)
+  step_logged t u ok none s =
+      let a = arrives t u ok s in
+      apply_logged t.node.applied (run_from (suc (length u.node.applied)) u.node.learner.learned) u
+      (s.path.stays.log ∙ sym (ap (λ l. t.node.applied ++ l) (s.path.stays.news ∙ none) ∙ append-nil t.node.applied)) a.log
+      (run_ok members (before ++ u.packets) u.node.learner.learned (suc (length u.node.applied)) (mine u (good_of a)).learned)
 
 -- from the log and boot of the node that had the turn
 pub step_from : {B : Type 0} (n : ℕ) {k : ℕ} (t u : Turn B) → t.node.up ≡ true → t.applied ≡ [] → Stays k t u
     → From t.node.applied t.node.rows.boot k (settle n u)
 step_from n {k} t u up none s =
-    applies_from n t.node.applied t.node.rows.boot k (run_from (suc (length u.node.applied)) u.node.learner.learned) u
-    (record {
-      boot_is = s.boot;
-      case = inl (
-        s.up ∙ up,
-        s.log
-            ∙ sym (ap (λ l. t.node.applied ++ l) (s.news ∙ none) ∙ append-nil t.node.applied),
-        s.acts,
-      );
-    })
+    applies_from n t.node.applied t.node.rows.boot k (run_from (suc (length u.node.applied)) u.node.learner.learned) u s.boot
+    (s.up ∙ up, s.log ∙ sym (ap (λ l. t.node.applied ++ l) (s.news ∙ none) ∙ append-nil t.node.applied), s.acts)

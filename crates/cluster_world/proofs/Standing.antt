@@ -159,7 +159,7 @@ up_from same members (Start n) x u p = step_from n (begun x) _ u refl (begins sa
 up_from same members (Suspect n other) x u p = step_from n (begun x) _ u refl (suspects same members n (new_lost same n other x) (begun x))
 up_from same members (Deliver q) x u p =
     step_from q.addressee (begun x) _ u refl (delivers same members q.addressee q.sender q.kind (begun x))
-up_from same members (Crash n) x u p = record { boot_is = refl; case = inr refl }
+up_from same members (Crash n) x u p = record { boot_is = refl; case = inr (refl, refl) }
 up_from same members (Restart n) x u p = absurd (no (sym (ap not u) ∙ lift p))
   where
     lift : (not x.up && nat_lt x.rows.boot Rattle.paxos_packets.specs.Rows.last_boot) ≡ true → not x.up ≡ true

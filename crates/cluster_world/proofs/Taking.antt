@@ -27,17 +27,17 @@ off : false ≡ true → ⊥
 off e = cc
 
 module _ {B : Type 0} (same : B → B → Bool) (members : ℕ) where
-  abbrev at' : World B → Event B → NodeState B
+  abbrev pub at' : World B → Event B → NodeState B
   at' w e = node_at w.nodes (owner e)
 
-  abbrev goes : World B → Event B → Turn B
+  abbrev pub goes : World B → Event B → Turn B
   goes w e = outcome_of same members e (at' w e)
 
   -- what an event makes of a world: nothing, or what its node does
-  abbrev May : World B → Event B → Type 0
+  abbrev pub May : World B → Event B → Type 0
   May w e = (was_sent same e w.sent ≡ true) × (possible e (at' w e) ≡ true)
 
-  by_next : (P : World B → Type 0) (w : World B) (e : Event B) → P w → (May w e → P (done same w e (at' w e) (goes w e))) → P (next same members w e)
+  pub by_next : (P : World B → Type 0) (w : World B) (e : Event B) → P w → (May w e → P (done same w e (at' w e) (goes w e))) → P (next same members w e)
   by_next P w e stay go =
       cond_both (was_sent same e w.sent && possible e (at' w e)) (done same w e (at' w e) (goes w e)) w P
       (λ t. go (and_parts (was_sent same e w.sent) (possible e (at' w e)) t)) (λ t. stay)
@@ -401,7 +401,7 @@ module _ {B : Type 0} (same : B → B → Bool) (members : ℕ) where
                 ∙ (length-append (acts_of (owner e) x.rows.boot w.made) (acts_of (owner e) x.rows.boot more)
                 ∙ (sum (length (acts_of (owner e) x.rows.boot w.made)) (length (acts_of (owner e) x.rows.boot more)) x.taken (old.now r.was)
                 ∙ (adds.own ∙ sym c.2)))))
-                (λ c. absurd (off (sym c ∙ u)))
+                (λ c. absurd (off (sym c.0 ∙ u)))
                 r.from.case;
             later =
                 λ b l.

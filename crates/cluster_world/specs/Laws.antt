@@ -1,13 +1,15 @@
 -- The laws over every list of events (docs/CONSENSUS.md, "What holds over every list of events").
-use Rattle.std.specs.Prelude.{◌≡◌, ◌⊎◌, ℕ, suc, ◌≤◌, Bool, true, false, Some, List, ◌++◌, slice_get}
+use Rattle.std.specs.Prelude.{◌≡◌, ◌⊎◌, ℕ, suc, ◌≤◌, Bool, true, false, Some, List, [], ◌∷◌, ◌++◌, slice_get}
 use Rattle.cluster_world.specs.Has.{Has}
 use Rattle.paxos_packets.specs.declared.entry.Entry.{Entry}
 use Rattle.paxos_packets.specs.declared.packet.Kind.TheVariants.{Learned}
 use Rattle.paxos_learner.specs.declared.learned.LearnedEntry.{LearnedEntry}
 use Rattle.paxos_node.specs.declared.event.Event.{Event}
 use Rattle.paxos_node.specs.Events.{owner, possible, outcome_of}
-use Rattle.cluster_world.specs.World.{World, node_at, was_sent, played, log_of}
+use Rattle.cluster_world.specs.World.{Applied, World, node_at, was_sent, played, log_of}
 use Rattle.cluster_world.specs.Chosen.{WasSent, Chosen}
+use Rattle.cluster_world.specs.Answers.{log_after}
+use Rattle.cluster_world.specs.Steps.{may}
 
 -- the node has learned this
 abbrev pub HasLearned : {B : Type 0} → World B → ℕ → LearnedEntry B → Type 0
@@ -63,3 +65,35 @@ LogsArePrefixes B same =
     (members : ℕ) → 3 ≤ members → (early later : List (Event B)) (j k : ℕ) →
     IsPrefixOf (log_of (played same members early) j) (log_of (played same members (early ++ later)) k)
     ⊎ IsPrefixOf (log_of (played same members (early ++ later)) k) (log_of (played same members early) j)
+
+-- what a node had applied once an event was over: its log before it with what it applied in it, a Lost of its own boot too
+abbrev pub applied_behind : {B : Type 0} → Applied B → List (Entry B)
+applied_behind a = a.log ++ a.entries
+
+-- whatever a node ever applied, in whatever boot, is chosen in its slot
+abbrev pub AppliedIsChosen : (B : Type 0) → (B → B → Bool) → Type 0
+AppliedIsChosen B same =
+    (members : ℕ) → 3 ≤ members → (events : List (Event B)) (a : Applied B) (i : ℕ) (e : Entry B) →
+    Has (played same members events).applied a → slice_get (applied_behind a) i ≡ Some e →
+    Chosen members (played same members events).sent (suc i) e
+
+-- of two such lists, at any two moments, one is a prefix of the other
+abbrev pub AppliedArePrefixes : (B : Type 0) → (B → B → Bool) → Type 0
+AppliedArePrefixes B same =
+    (members : ℕ) → 3 ≤ members → (early later : List (Event B)) (a b : Applied B) →
+    Has (played same members early).applied a → Has (played same members (early ++ later)).applied b →
+    IsPrefixOf (applied_behind a) (applied_behind b) ⊎ IsPrefixOf (applied_behind b) (applied_behind a)
+
+-- the log with which an event leaves its node is such a list, where it goes down with it, too
+abbrev pub LogAfterIsApplied : (B : Type 0) → (B → B → Bool) → Type 0
+LogAfterIsApplied B same =
+    (members : ℕ) (events : List (Event B)) (e : Event B) → may same (played same members events) e ≡ true →
+    (a : Applied B) × Has (played same members (events ++ e ∷ [])).applied a
+    × (applied_behind a ≡ log_after same members e (node_at (played same members events).nodes (owner e)))
+
+-- and so is each log, but for the empty one
+abbrev pub LogIsApplied : (B : Type 0) → (B → B → Bool) → Type 0
+LogIsApplied B same =
+    (members : ℕ) (events : List (Event B)) (node : ℕ) →
+    (log_of (played same members events) node ≡ [])
+    ⊎ ((a : Applied B) × Has (played same members events).applied a × (applied_behind a ≡ log_of (played same members events) node))

@@ -6,3 +6,4 @@ pub mod Answers
 pub mod Origins
 pub mod Examples
 pub mod Steps
+pub mod AtOnce

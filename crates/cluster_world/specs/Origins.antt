@@ -52,3 +52,17 @@ abbrev pub LostsWereSuspected : (B : Type 0) → (B → B → Bool) → Type 0
 LostsWereSuspected B same =
     (members : ℕ) (events : List (Event B)) (node n b : ℕ) → Has (log_of (played same members events) node) (Lost n b)
     → Suspected same members events n b
+
+-- it was pending then at some node, another than the lost one
+pub record WasPending {B : Type 0} (same : B → B → Bool) (members : ℕ) (events : List (Event B)) (n b : ℕ) : Type 0 where
+  pub early : List (Event B)
+  pub later : List (Event B)
+  pub is : events ≡ early ++ later
+  pub by : ℕ
+  pub other : by ≡ n → ⊥
+  pub pending : Has (node_at (played same members early).nodes by).pending (Lost n b)
+
+abbrev pub LostsWerePending : (B : Type 0) → (B → B → Bool) → Type 0
+LostsWerePending B same =
+    (members : ℕ) → 3 ≤ members → (events : List (Event B)) (node n b : ℕ) → Has (log_of (played same members events) node) (Lost n b)
+    → WasPending same members events n b

@@ -1,6 +1,7 @@
 //! Laws over every list of events, each the contract of a function that does nothing.
 ghost use Rattle.cluster_world.specs.Answers.{HandedIsSaid, HandedStays};
-ghost use Rattle.cluster_world.specs.Origins.{ItemsWereTaken, BootsWereHad, LostsWereSuspected};
+ghost use Rattle.cluster_world.specs.AtOnce.{AppliesAsAtOnce};
+ghost use Rattle.cluster_world.specs.Origins.{ItemsWereTaken, BootsWereHad, LostsWereSuspected, LostsWerePending};
 ghost use Rattle.replica_machine.specs.Laws.{ItemsAreNumbered};
 ghost use Rattle.std.specs.Prelude.{◌≡◌, true, false, [], ◌∷◌};
 ghost use Rattle.paxos_packets.specs.declared.entry.Entry.TheVariants.{Boot};
@@ -10,7 +11,7 @@ ghost use Rattle.cluster_world.specs.Examples.{asked_again, lost_node, duel, ses
 ghost use Rattle.cluster_world.specs.Examples.{lost_log, duel_log, crash_packets, logs, ups, sums_handed};
 ghost use Rattle.cluster_world.specs.Steps.{SentIsAmong, NodesAreMembers, OneEventMore, EventGoes, EventStays};
 ghost use Rattle.cluster_world.specs.Laws.{LearnedIsChosen, ChosenIsOne, ToldIsChosen, LearnedIsOne, NeverDisagrees};
-ghost use Rattle.cluster_world.specs.Laws.{LogIsChosen, LogsArePrefixes};
+ghost use Rattle.cluster_world.specs.Laws.{LogIsChosen, LogsArePrefixes, AppliedIsChosen, AppliedArePrefixes, LogAfterIsApplied, LogIsApplied};
 
 use paxos_packets::Body;
 
@@ -39,6 +40,15 @@ pub fn log_agreement<B: Body>()
     ensures prefixes { LogsArePrefixes B B.same }
 {}
 
+/// What is applied is chosen: whatever a node ever applied, in whatever boot, a Lost of that boot too, is chosen in its slot, and of two such
+/// lists, at any two moments, one is a prefix of the other. Each event leaves its node with such a list, and each log is one or empty.
+pub fn applied_is_chosen<B: Body>()
+    ensures chosen { AppliedIsChosen B B.same }
+    ensures prefixes { AppliedArePrefixes B B.same }
+    ensures after { LogAfterIsApplied B B.same }
+    ensures logs { LogIsApplied B B.same }
+{}
+
 /// No disagreement: no event tells a node another entry of a slot that it has learned.
 pub fn no_disagreement<B: Body>()
     ensures { NeverDisagrees B B.same }
@@ -51,14 +61,22 @@ pub fn answers<B: Body, S, Y>()
     ensures stays { HandedStays B B.same S Y }
 {}
 
+/// Applying at an event's end is applying at once: in every world an event makes of its node what it would make of one that applies each entry
+/// as soon as it learned it. For a vote of its own for a new proposal teaches a node nothing, since nobody else can have voted for that slot
+/// in that ballot before.
+pub fn applies_as_at_once<B: Body>()
+    ensures { AppliesAsAtOnce B B.same }
+{}
+
 /// At most once: the items of a boot that take effect in a log are numbered 1, 2, 3 and so on; each item in a log is the act, with
 /// transport and body, that its node took under that number in that boot; a boot in a log is one that its node had, and a loss
-/// comes from a suspicion.
+/// comes from a suspicion, and was pending at another node than the lost one.
 pub fn at_most_once<B: Body>()
     ensures numbered { ItemsAreNumbered B }
     ensures taken { ItemsWereTaken B B.same }
     ensures boots { BootsWereHad B B.same }
     ensures losses { LostsWereSuspected B B.same }
+    ensures pending { LostsWerePending B B.same }
 {}
 
 /// Runs by hand, computed: for each the logs of all nodes, and who is up.

@@ -1,0 +1,310 @@
+-- Each event in every world makes of its node what it would make of one that applies at once.
+use Rattle.std.proofs.Common.{◌≡◌, ⊎_elim, ℕ, suc, ◌-◌, ◌≤◌, Bool, true, false, not, ◌&&◌, refl, sym, ap, subst, arith}
+use Rattle.std.proofs.Common.{List, [], ◌∷◌, ◌++◌, length, Option, Some, None}
+use Rattle.std.specs.Prelude.{if◌then◌else◌}
+use Rattle.std.proofs.lemmas.Bool.{cond_both, and_parts, cases_eq}
+use Rattle.cluster_world.proofs.Invariant.{Sent, PreparingOk, promises}
+use Rattle.cluster_world.proofs.InvariantKept.{sent_left}
+use Rattle.cluster_world.proofs.Growth.{tells_grows}
+use Rattle.cluster_world.proofs.WithNode.{with_node}
+use Rattle.cluster_world.proofs.Reports.{all_called}
+use Rattle.cluster_world.proofs.Proposals.{State, FreeAt}
+use Rattle.cluster_world.proofs.Events.{Way, role_path, free_same, propose_new_step, lead_step, promised_ok, mine, sends, again_quiet, pending_step}
+use Rattle.cluster_world.proofs.EveryWorld.{WorldOk, world_ok, start_good, among_has, within, node_same, node_other, plain_at}
+use Rattle.cluster_world.proofs.Taking.{by_next}
+use Rattle.cluster_world.proofs.Applied.{in_every}
+use Rattle.cluster_world.proofs.AtOnce.{AtRest, settle_rest, rest_settled, apply_send, Calm, calm_here, calm_rest, Agrees, agrees_here, then_agrees, end_agrees}
+use Rattle.cluster_world.proofs.AtOnce.{proposes, recovers}
+use Rattle.paxos_packets.specs.Ballot.{ballot_sound, same_ballot}
+use Rattle.paxos_packets.specs.Members.{is_majority}
+use Rattle.paxos_packets.specs.Packet.{packet, to_others}
+use Rattle.paxos_packets.specs.Vote.{votes_from}
+use Rattle.paxos_packets.specs.declared.ballot.Ballot.{Ballot}
+use Rattle.paxos_packets.specs.declared.entry.Entry.{Entry}
+use Rattle.paxos_packets.specs.declared.packet.Kind.{Kind}
+use Rattle.paxos_packets.specs.declared.packet.Packet.{Packet}
+use Rattle.paxos_packets.specs.declared.vote.Vote.{Vote}
+use Rattle.paxos_packets.specs.declared.packet.Kind.TheVariants.{Prepare, Promise, Accept, Accepted, Nack, Forward, Ask, Learned}
+use Rattle.paxos_acceptor.specs.Acceptor.{may_promise, may_accept}
+use Rattle.paxos_proposer.specs.declared.promises.CountedPromise.{CountedPromise}
+use Rattle.paxos_proposer.specs.Role.{Role, Idle, Preparing, Leading}
+use Rattle.paxos_proposer.specs.Proposer.{new_ballot, is_leading}
+use Rattle.paxos_proposer.specs.Reports.{is_counted, reports, past_reports, called_for}
+use Rattle.paxos_learner.specs.Learner.{run_from}
+use Rattle.paxos_node.specs.declared.event.Event.{Event}
+use Rattle.paxos_node.specs.declared.event.Event.TheVariants.{Take, Tick, Start, Suspect, Deliver, Crash, Restart}
+use Rattle.paxos_node.specs.Node.{NodeState, Turn}
+use Rattle.paxos_node.specs.Turn.{with_role, with_pending, begun, send, promise, vote as vote_at_end, count as count_at_end, cast as cast_at_end}
+use Rattle.paxos_node.specs.Proposals.{stands, forwarded, propose as propose_at_end, propose_new as propose_new_at_end, lead as lead_at_end}
+use Rattle.paxos_node.specs.Proposals.{propose_each as propose_each_at_end, push as push_at_end}
+use Rattle.paxos_node.specs.Replies.{saw, refuse, told_from, on_nack, count_promise as count_promise_at_end, on_promise_as as on_promise_as_at_end}
+use Rattle.paxos_node.specs.Replies.{on_packet as on_packet_at_end}
+use Rattle.paxos_node.specs.Events.{takes, with_item, again, ask, begin, starts, on_start, has_room, new_lost, on_event, owner, possible, outcome_of}
+use Rattle.paxos_node.specs.Events.{on_take as on_take_at_end, on_tick as on_tick_at_end, suspected as suspected_at_end}
+use Rattle.paxos_node.specs.Applying.{settle}
+use Rattle.cluster_world.specs.AtOnce as now
+use Rattle.cluster_world.specs.AtOnce.{AppliesAsAtOnce}
+use Rattle.cluster_world.specs.World.{World, node_at, put_node, first_world, was_sent, next, played}
+use Rattle.paxos_packets.specs.Body.{IsEquality}
+
+module _ {B : Type 0} (same : B → B → Bool) (equal : IsEquality same) (members : ℕ) (many : 2 ≤ members) (at : ℕ → NodeState B) (n : ℕ)
+    (before : List (Packet B)) where
+  abbrev St : Turn B → Type 0
+  St t = State same equal members many at n before t
+
+  abbrev Fr : Turn B → Type 0
+  Fr t = FreeAt same equal members many at n before t
+
+  abbrev all : Turn B → List (Packet B)
+  all t = before ++ t.packets
+
+  proposes_new : (e : Entry B) (t : Turn B) → St t → AtRest t.node
+      → Agrees t (now.propose_new same members n e t) (propose_new_at_end same members n e t)
+  proposes_new e t inv rest =
+      let a = proposes same equal members many at n before e t inv rest in
+      record {
+        is = ap (λ u. if stands same (length t.node.applied) t.node.proposer.role e then t else u) a.is;
+        calm = cond_both (stands same (length t.node.applied) t.node.proposer.role e) t (propose_at_end same members n e t) (λ u. Calm t u)
+            (λ d. calm_here t) (λ d. a.calm);
+      }
+
+  proposes_each : (es : List (Entry B)) (t : Turn B) → St t → Fr t → AtRest t.node
+      → Agrees t (now.propose_each same members n es t) (propose_each_at_end same members n es t)
+  proposes_each [] t inv free rest = agrees_here t
+  proposes_each (e ∷ es) t inv free rest =
+      let a = proposes_new e t inv rest in
+      let s = propose_new_step same equal members many at n before e t inv free in
+      then_agrees (λ z. now.propose_each same members n es z) a
+      (proposes_each es (propose_new_at_end same members n e t) s.path.going.inv s.free (calm_rest a.calm rest))
+
+  pub pushes : (t : Turn B) → St t → Fr t → AtRest t.node → Agrees t (now.push same members n t) (push_at_end same members n t)
+  pushes t inv free rest =
+      let a = proposes_each t.node.pending t inv free rest in
+      record {
+        is = ap (λ u. if is_leading t.node.proposer.role then u else send (forwarded n t.node.rows.promised t.node.pending) t) a.is;
+        calm = cond_both (is_leading t.node.proposer.role) (propose_each_at_end same members n t.node.pending t)
+            (send (forwarded n t.node.rows.promised t.node.pending) t) (λ u. Calm t u)
+            (λ d. a.calm) (λ d. record { learned = refl; log = refl; pending = refl });
+      }
+
+  -- packets
+
+  leads : (t : Turn B) (b : Ballot) (floor : ℕ) (cs : List (CountedPromise B)) → St t
+      → PreparingOk (promises (with_node at n t.node)) t.node.rows.promised (all t) n b floor cs → is_majority members (is_counted cs) ≡ true
+      → AtRest t.node → Agrees t (now.lead same members n b floor (reports cs) t) (lead_at_end same members n b floor (reports cs) t)
+  leads t b floor cs inv ok most rest =
+      let a =
+      recovers same equal members many at n before (called_for floor (reports cs)) u b floor [] g.going.inv refl
+      (all_called members (promises (with_node at n u.node)) (all u) b floor cs most (λ c h. tells_grows g.going.grows (ok.kept c h))
+      (past_reports floor (reports cs) - floor) floor (omega arith)) rest in
+      record { is = a.is; calm = record { learned = a.calm.learned; log = a.calm.log; pending = a.calm.pending } }
+    where
+      u : Turn B
+      u = record t { node = with_role (Leading b floor []) t.node }
+
+      g : Way same equal members many at n before t.node.taken t u
+      g =
+          role_path same equal members many at n before t inv (Leading b floor []) t.node.proposer.seen
+          (record {
+            owner = ok.owner;
+            exact = ok.exact;
+            made = λ v p e. absurd (ok.none v p e);
+            own = λ v h. absurd (elim h [ ]);
+            owned = λ v h. absurd (elim h [ ]);
+          })
+
+  counts_promise : (t : Turn B) (b : Ballot) (floor : ℕ) (cs : List (CountedPromise B)) → St t
+      → PreparingOk (promises (with_node at n t.node)) t.node.rows.promised (all t) n b floor cs → AtRest t.node
+      → Agrees t (now.count_promise same members n b floor cs t) (count_promise_at_end same members n b floor cs t)
+  counts_promise t b floor cs inv ok rest = go (is_majority members (is_counted cs)) refl
+    where
+      go : (m : Bool) → is_majority members (is_counted cs) ≡ m
+          → Agrees t
+          (if m then now.push same members n (now.lead same members n b floor (reports cs) t)
+          else record t { node = with_role (Preparing b floor cs) t.node })
+          (if m then push_at_end same members n (lead_at_end same members n b floor (reports cs) t)
+          else record t { node = with_role (Preparing b floor cs) t.node })
+      go true e =
+          let a = leads t b floor cs inv ok e rest in
+          let s = lead_step same equal members many at n before t b floor cs inv ok e in
+          then_agrees (λ z. now.push same members n z) a
+          (pushes (lead_at_end same members n b floor (reports cs) t) s.path.going.inv s.free (calm_rest a.calm rest))
+      go false e = record { is = refl; calm = record { learned = refl; log = refl; pending = refl } }
+
+  hears_promise : (t : Turn B) (from : ℕ) (b : Ballot) (votes : List (Vote B)) → St t → Sent (all t) from (Promise b votes) → AtRest t.node
+      → (r : Role B) → t.node.proposer.role ≡ r
+      → Agrees t (now.on_promise_as same members n from b votes r t) (on_promise_as_at_end same members n from b votes r t)
+  hears_promise t from b votes inv s rest Idle is = agrees_here t
+  hears_promise t from b votes inv s rest (Leading c next table) is = agrees_here t
+  hears_promise t from b votes inv s rest (Preparing c floor cs) is = go (same_ballot b c && not (is_counted cs from)) refl
+    where
+      more : List (CountedPromise B)
+      more = cs ++ record { node = from; votes = votes } ∷ []
+
+      go : (m : Bool) → (same_ballot b c && not (is_counted cs from)) ≡ m
+          → Agrees t (if m then now.count_promise same members n c floor more t else t)
+          (if m then count_promise_at_end same members n c floor more t else t)
+      go true e =
+          counts_promise t c floor more inv
+          (promised_ok same equal members many at n before t from b votes inv s c floor cs is
+          (ballot_sound b c (and_parts (same_ballot b c) (not (is_counted cs from)) e).0)) rest
+      go false e = agrees_here t
+
+  -- at the end it is the same
+  abbrev Ends : Turn B → Turn B → Type 0
+  Ends u v = settle n v ≡ u
+
+  refuses : (t : Turn B) (from : ℕ) (b : Ballot) → AtRest t.node → Ends (refuse n from b t) (refuse n from b t)
+  refuses t from b rest = settle_rest n (refuse n from b t) rest
+
+  ends_packet : (t : Turn B) (from : ℕ) (kind : Kind B) → St t → Fr t → Sent (all t) from kind → AtRest t.node
+      → Ends (now.on_packet same members n from kind t) (on_packet_at_end same members n from kind t)
+  ends_packet t from (Prepare b floor) inv free s rest =
+      cond_both (may_promise t.node.rows.promised b)
+      (send (packet n (Promise b (votes_from floor t.node.rows.votes)) from ∷ []) (promise b t)) (refuse n from b t) (λ u. Ends u u)
+      (λ e. settle_rest n (send (packet n (Promise b (votes_from floor t.node.rows.votes)) from ∷ []) (promise b t)) rest)
+      (λ e. refuses t from b rest)
+  ends_packet t from (Promise b votes) inv free s rest = end_agrees n rest (hears_promise t from b votes inv s rest t.node.proposer.role refl)
+  ends_packet t from (Accept v) inv free s rest = go (may_accept t.node.rows.promised v.ballot)
+    where
+      counted : Turn B
+      counted = count_at_end same members n v (vote_at_end v t)
+
+      go : (m : Bool) → Ends (if m then now.cast same members n v t else refuse n from v.ballot t)
+          (if m then cast_at_end same members n v t else refuse n from v.ballot t)
+      go true =
+          apply_send n (to_others members n (Accepted v)) (run_from (suc (length counted.node.applied)) counted.node.learner.learned) counted
+      go false = refuses t from v.ballot rest
+  ends_packet t from (Accepted v) inv free s rest = refl
+  ends_packet t from (Nack b p) inv free s rest = settle_rest n (on_nack b p t) rest
+  ends_packet t from (Forward es) inv free s rest =
+      let a = proposes_each es t inv free rest in
+      end_agrees n rest
+      (record {
+        is = ap (λ u. if is_leading t.node.proposer.role then u else t) a.is;
+        calm = cond_both (is_leading t.node.proposer.role) (propose_each_at_end same members n es t) t (λ u. Calm t u) (λ d. a.calm)
+            (λ d. calm_here t);
+      })
+  ends_packet t from (Ask slot) inv free s rest = settle_rest n (send (told_from n from slot t.node.learner.learned) t) rest
+  ends_packet t from (Learned slot e) inv free s rest = refl
+
+  pub ends_deliver : (t : Turn B) (from : ℕ) (kind : Kind B) → St t → Fr t → Sent (all t) from kind → AtRest t.node
+      → Ends (now.on_packet same members n from kind (record t { node = saw kind t.node }))
+      (on_packet_at_end same members n from kind (record t { node = saw kind t.node }))
+  ends_deliver t from kind inv free s rest =
+      let g =
+      role_path same equal members many at n before t inv t.node.proposer.role (saw kind t.node).proposer.seen
+      (mine same equal members many at n before t inv).role in
+      ends_packet (record t { node = saw kind t.node }) from kind g.going.inv
+      (free_same same equal members many at n before t (record t { node = saw kind t.node }) g.going refl free) s rest
+
+  -- other events
+
+  pub ends_start : (t : Turn B) → AtRest t.node → Ends (on_start members n t) (on_start members n t)
+  ends_start t rest =
+      cond_both (starts n t.node) (begin members n b floor t) t (λ u. Ends u u) (λ e. settle_rest n (begin members n b floor t) rest)
+      (λ e. settle_rest n t rest)
+    where
+      b : Ballot
+      b = new_ballot n t.node.rows.promised t.node.proposer
+
+      floor : ℕ
+      floor = suc (length t.node.applied)
+
+  pub ends_tick : (t : Turn B) → St t → Fr t → AtRest t.node
+      → Ends (now.on_tick same members n t) (on_tick_at_end same members n t)
+  ends_tick t inv free rest =
+      let a =
+      sends same equal members many at n before t (again members n t.node.proposer.role t.node.learner.learned) inv free
+      (again_quiet same equal members many at n before (promises (with_node at n t.node)) t.node.rows.promised (all t)
+      t.node.learner.learned t.node.proposer.role (mine same equal members many at n before t inv).role) in
+      let u = send (again members n t.node.proposer.role t.node.learner.learned) t in
+      let p = pushes u a.path.going.inv a.free rest in
+      end_agrees {t = u} n rest
+      (then_agrees (λ z. ask members n z) p
+      (record { is = refl; calm = record { learned = refl; log = refl; pending = refl } }))
+
+  -- more is pending, and pushed
+  pub ends_pending : (t : Turn B) (pending : List (Entry B)) (taken : ℕ) → St t → Fr t → AtRest t.node
+      → Agrees (record t { node = record t.node { pending = pending; taken = taken } })
+      (now.push same members n (record t { node = record t.node { pending = pending; taken = taken } }))
+      (push_at_end same members n (record t { node = record t.node { pending = pending; taken = taken } }))
+  ends_pending t pending taken inv free rest =
+      let a = pending_step same equal members many at n before t inv free pending taken in
+      pushes (record t { node = record t.node { pending = pending; taken = taken } }) a.path.going.inv a.free rest
+
+  pub ends_take : (t : Turn B) (transport : ℕ) (body : B) → St t → Fr t → AtRest t.node
+      → Ends (now.on_take same members n transport body t) (on_take_at_end same members n transport body t)
+  ends_take t transport body inv free rest = go (takes t.node)
+    where
+      u : Turn B
+      u = record t { node = with_item n transport body t.node }
+
+      go : (m : Bool) → Ends (if m then now.push same members n u else t) (if m then push_at_end same members n u else t)
+      go true = end_agrees {t = u} n rest (ends_pending t u.node.pending (suc t.node.taken) inv free rest)
+      go false = settle_rest n t rest
+
+  pub ends_suspect : (t : Turn B) (lost : Option (Entry B)) → St t → Fr t → AtRest t.node
+      → Ends (now.suspected same members n lost t) (suspected_at_end same members n lost t)
+  ends_suspect t None inv free rest = settle_rest n t rest
+  ends_suspect t (Some lost) inv free rest = go (has_room t.node)
+    where
+      u : Turn B
+      u = record t { node = with_pending (t.node.pending ++ lost ∷ []) t.node }
+
+      go : (m : Bool) → Ends (if m then now.push same members n u else t) (if m then push_at_end same members n u else t)
+      go true = end_agrees {t = u} n rest (ends_pending t u.node.pending t.node.taken inv free rest)
+      go false = settle_rest n t rest
+
+-- every world
+
+module _ {B : Type 0} (same : B → B → Bool) (members : ℕ) where
+  abbrev pub AllRest : World B → Type 0
+  AllRest w = (k : ℕ) → AtRest (node_at w.nodes k)
+
+  next_rest : (w : World B) (e : Event B) → AllRest w → AllRest (next same members w e)
+  next_rest w e all =
+      by_next same members (λ z. AllRest z) w e all
+      (λ m k. ⊎_elim
+      (λ (i : k ≡ owner e). subst (λ j. AtRest (node_at (put_node w.nodes (owner e) o.node) j)) (sym i)
+      (subst (λ x. AtRest x) (sym (node_same w.nodes (owner e) o.node (within w.nodes e (owner e) m.1)))
+      (rest_settled (owner e) (on_event same members e (begun (node_at w.nodes (owner e)))))))
+      (λ i. subst (λ x. AtRest x) (sym (node_other w.nodes (owner e) o.node k i)) (all k))
+      (cases_eq k (owner e)))
+    where
+      o : Turn B
+      o = outcome_of same members e (node_at w.nodes (owner e))
+
+  pub all_rest : (events : List (Event B)) → AllRest (played same members events)
+  all_rest events =
+      in_every same members (λ w. AllRest w) next_rest events (first_world members)
+      (λ k. (λ i. run_from (suc (length ((plain_at {B = B} members k).applied i))) ((plain_at {B = B} members k).learned i)))
+
+module _ {B : Type 0} (same : B → B → Bool) (equal : IsEquality same) where
+  as_at_once : (members : ℕ) (many : 2 ≤ members) (w : World B) (e : Event B) → WorldOk members w → AtRest (node_at w.nodes (owner e))
+      → was_sent same e w.sent ≡ true
+      → outcome_of same members e (node_at w.nodes (owner e)) ≡ now.outcome_at_once same members e (node_at w.nodes (owner e))
+  as_at_once members many w (Take k t body) ok rest s =
+      let g = start_good same equal members many w k ok in
+      ends_take same equal members many (node_at w.nodes) k w.sent (begun (node_at w.nodes k)) t body g.inv g.free rest
+  as_at_once members many w (Tick k) ok rest s =
+      let g = start_good same equal members many w k ok in
+      ends_tick same equal members many (node_at w.nodes) k w.sent (begun (node_at w.nodes k)) g.inv g.free rest
+  as_at_once members many w (Start k) ok rest s =
+      ends_start same equal members many (node_at w.nodes) k w.sent (begun (node_at w.nodes k)) rest
+  as_at_once members many w (Suspect k j) ok rest s =
+      let g = start_good same equal members many w k ok in
+      ends_suspect same equal members many (node_at w.nodes) k w.sent (begun (node_at w.nodes k)) (new_lost same k j (node_at w.nodes k))
+      g.inv g.free rest
+  as_at_once members many w (Deliver p) ok rest s =
+      let g = start_good same equal members many w p.addressee ok in
+      ends_deliver same equal members many (node_at w.nodes) p.addressee w.sent (begun (node_at w.nodes p.addressee)) p.sender p.kind
+      g.inv g.free (sent_left [] (record { to = p.addressee; is = among_has same equal p w.sent s })) rest
+  as_at_once members many w (Crash k) ok rest s = refl
+  as_at_once members many w (Restart k) ok rest s = refl
+
+  pub applies_as_at_once : AppliesAsAtOnce B same
+  applies_as_at_once members l events e t =
+      let w = played same members events in
+      as_at_once members (omega arith) w e (world_ok same equal members (omega arith) events) (all_rest same members events (owner e))
+      (and_parts (was_sent same e w.sent) (possible e (node_at w.nodes (owner e))) t).0
