@@ -7,4 +7,6 @@ mod hearing;
 #[cfg(test)]
 mod nodes;
 #[cfg(test)]
+mod planning;
+#[cfg(test)]
 mod proposing;
