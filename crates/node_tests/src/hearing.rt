@@ -34,7 +34,14 @@ fn vote_in(slot: Slot) -> Vote<Number> {
     }
 }
 
-// What it is to hear, where node 2 votes in the first slot and a member tells of the second.
+// Node 2 votes in the first slot, and a member tells of the second.
+fn plan(hearing: &mut Hearing<'_, Number>, first: Slot, second: Slot) -> Result<(), LearnerFault> {
+    let _agrees = hearing.vote(2, &vote_in(first))?;
+    let _free = hearing.tell(second, &Entry::Noop)?;
+    Ok(())
+}
+
+// What it is to hear then.
 fn planned(
     alloc: Global,
     learner: &Learner<Number>,
@@ -42,28 +49,36 @@ fn planned(
     second: Slot,
 ) -> Result<Vec<News<Number>>, LearnerFault> {
     let mut hearing = Hearing::of(alloc, learner);
-    let _agrees = hearing.vote(2, &vote_in(first))?;
-    let _free = hearing.tell(second, &Entry::Noop)?;
+    plan(&mut hearing, first, second)?;
     Ok(hearing.into_news())
 }
 
-// How what is told of the slot stands to what would be learned: first none is, then another is.
+// How what is told of the slot stands to what would be learned: first none is, then another is; and whether the first one stays.
+fn tells(
+    hearing: &mut Hearing<'_, Number>,
+    slot: Slot,
+) -> Result<(bool, bool, bool), LearnerFault> {
+    let before = hearing.tell(slot, &Entry::Noop)?;
+    let behind = hearing.tell(slot, &BOOT)?;
+    Ok((before, behind, would_have(hearing, slot, &Entry::Noop)))
+}
+
 fn disagree(
     alloc: Global,
     learner: &Learner<Number>,
     slot: Slot,
 ) -> Result<(bool, bool, bool), LearnerFault> {
     let mut hearing = Hearing::of(alloc, learner);
-    let before = hearing.tell(slot, &Entry::Noop)?;
-    let behind = hearing.tell(slot, &BOOT)?;
-    Ok((before, behind, would_have(&hearing, slot, &Entry::Noop)))
+    tells(&mut hearing, slot)
 }
 
-// It heard node 1 vote in the slot.
-fn started(alloc: Global, members: Members, slot: Slot) -> Result<Learner<Number>, LearnerFault> {
-    let mut learner = Learner::new(alloc, members);
-    learner.vote(1, FIRST, slot, &BOOT)?;
-    Ok(learner)
+fn learner(alloc: Global) -> Result<Learner<Number>, Fail> {
+    let members = Members::new(3).ok_or("3 members")?;
+    Ok(Learner::new(alloc, members))
+}
+
+fn slot(number: u64) -> Result<Slot, Fail> {
+    Ok(Slot::new(number).ok_or("a slot")?)
 }
 
 // What was planned is heard.
@@ -73,43 +88,56 @@ fn hear(learner: &mut Learner<Number>, news: Vec<News<Number>>) -> Result<(), Le
     Ok(())
 }
 
+// What is planned is heard: how many news there were, and whether none was learned before.
+fn take(
+    alloc: Global,
+    learner: &mut Learner<Number>,
+    first: Slot,
+    second: Slot,
+) -> Result<(usize, bool), LearnerFault> {
+    learner.vote(1, FIRST, first, &BOOT)?;
+    let news = planned(alloc, learner, first, second)?;
+    let before = (news.len(), learner.learned(first).is_none());
+    hear(learner, news)?;
+    Ok(before)
+}
+
+fn is_heard(rt: &impl Abort, alloc: Global, learner: &mut Learner<Number>) -> Result<(), Fail> {
+    let first = slot(1)?;
+    let second = slot(2)?;
+    assert!(rt; take(alloc, learner, first, second)? == (2, true));
+    assert!(rt; has_learned(learner, first, &BOOT));
+    assert!(rt; has_learned(learner, second, &Entry::Noop));
+    Ok(())
+}
+
 #[test]
 fn what_is_planned_is_heard(rt: HostRuntime) -> Result<(), Fail> {
-    let members = Members::new(3).ok_or("3 members")?;
-    let first = Slot::new(1).ok_or("slot 1")?;
-    let second = Slot::new(2).ok_or("slot 2")?;
-    let mut learner = started(rt.alloc(), members, first)?;
-    let news = planned(rt.alloc(), &learner, first, second)?;
-    assert_eq!(rt; news.len(), 2);
-    assert!(rt; learner.learned(first).is_none());
-    hear(&mut learner, news)?;
-    assert!(rt; has_learned(&learner, first, &BOOT));
-    assert!(rt; has_learned(&learner, second, &Entry::Noop));
+    let mut learner = learner(rt.alloc())?;
+    is_heard(&rt, rt.alloc(), &mut learner)
+}
+
+fn would_disagree(rt: &impl Abort, alloc: Global, learner: &Learner<Number>) -> Result<(), Fail> {
+    let slot = slot(2)?;
+    assert!(rt; disagree(alloc, learner, slot)? == (false, true, true));
+    assert!(rt; learner.learned(slot).is_none());
     Ok(())
 }
 
 #[test]
 fn another_entry_would_disagree(rt: HostRuntime) -> Result<(), Fail> {
-    let members = Members::new(3).ok_or("3 members")?;
-    let slot = Slot::new(2).ok_or("slot 2")?;
-    let learner = Learner::<Number>::new(rt.alloc(), members);
-    let (before, behind, kept) = disagree(rt.alloc(), &learner, slot)?;
-    assert!(rt; !before);
-    assert!(rt; behind);
-    assert!(rt; kept);
-    assert!(rt; learner.learned(slot).is_none());
-    Ok(())
+    let learner = learner(rt.alloc())?;
+    would_disagree(&rt, rt.alloc(), &learner)
 }
 
-// What it would tell where Noops were learned in slots 1, 2 and 4.
-fn told(alloc: Global, learner: &Learner<Number>) -> Result<Hearing<'_, Number>, LearnerFault> {
-    let mut hearing = Hearing::of(alloc, learner);
+// It is told of Noops in slots 1, 2 and 4.
+fn tell_all(hearing: &mut Hearing<'_, Number>) -> Result<(), LearnerFault> {
     for number in [1, 2, 4] {
         if let Some(slot) = Slot::new(number) {
             let _free = hearing.tell(slot, &Entry::Noop)?;
         }
     }
-    Ok(hearing)
+    Ok(())
 }
 
 // How long the run behind so many slots is.
@@ -124,27 +152,33 @@ fn window(hearing: &Hearing<Number>, first: u64) -> Result<usize, LearnerFault> 
     Ok(told.len())
 }
 
+// How long the run behind so many slots is, and how many slots are told from that one on.
+const RUNS: &[(u64, usize, usize)] = &[
+    (0, 2, 3),
+    (1, 1, 3),
+    (2, 0, 2),
+    (3, 1, 1),
+    (4, 0, 1),
+    (5, 0, 0),
+    (u64::MAX, 0, 0),
+];
+
 fn are_told(rt: &impl Abort, hearing: &Hearing<Number>) -> Result<(), Fail> {
-    let rows = [
-        (0, 2, 3),
-        (1, 1, 3),
-        (2, 0, 2),
-        (3, 1, 1),
-        (4, 0, 1),
-        (5, 0, 0),
-        (u64::MAX, 0, 0),
-    ];
-    for (slot, behind, from) in rows {
-        assert_eq!(rt; run(hearing, slot)?, behind, "{slot}");
-        assert_eq!(rt; window(hearing, slot)?, from, "{slot}");
+    for (slot, behind, from) in RUNS {
+        assert_eq!(rt; run(hearing, *slot)?, *behind, "{slot}");
+        assert_eq!(rt; window(hearing, *slot)?, *from, "{slot}");
     }
     Ok(())
 }
 
+fn ends(rt: &impl Abort, alloc: Global, learner: &Learner<Number>) -> Result<(), Fail> {
+    let mut hearing = Hearing::of(alloc, learner);
+    tell_all(&mut hearing)?;
+    are_told(rt, &hearing)
+}
+
 #[test]
 fn a_run_ends_at_a_gap(rt: HostRuntime) -> Result<(), Fail> {
-    let members = Members::new(3).ok_or("3 members")?;
-    let learner = Learner::<Number>::new(rt.alloc(), members);
-    let hearing = told(rt.alloc(), &learner)?;
-    are_told(&rt, &hearing)
+    let learner = learner(rt.alloc())?;
+    ends(&rt, rt.alloc(), &learner)
 }

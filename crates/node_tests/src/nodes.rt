@@ -1,25 +1,35 @@
 use core_tests::Number;
 use paxos_node::{Node, NodeFault};
 use paxos_packets::{Ballot, Members, Rows, Votes};
+use std::alloc::Global;
 use std::process::Abort;
 use std::test::Fail;
 
-#[test]
-fn a_node_begins_with_its_rows(rt: HostRuntime) -> Result<(), Fail> {
+const PROMISED: Ballot = Ballot { round: 4, node: 2 };
+
+fn node_of(alloc: Global) -> Result<Node<Number>, Fail> {
     let members = Members::new(3).ok_or("3 members")?;
-    let promised = Ballot { round: 4, node: 2 };
     let rows = Rows {
         boot: 3,
-        promised: Some(promised),
-        votes: Votes::new(rt.alloc()),
+        promised: Some(PROMISED),
+        votes: Votes::new(alloc),
     };
-    let node = Node::<Number>::of(rt.alloc(), 1, members, rows)?;
+    Ok(Node::of(alloc, 1, members, rows)?)
+}
+
+fn is_begun(rt: &impl Abort, node: &Node<Number>) {
     assert!(rt; node.is_up());
     assert!(rt; node.has_pending());
     assert_eq!(rt; node.applied(), 0);
     assert_eq!(rt; node.boot(), 3);
-    assert!(rt; node.promised() == Some(promised));
+    assert!(rt; node.promised() == Some(PROMISED));
     assert!(rt; node.votes().is_empty());
+}
+
+#[test]
+fn a_node_begins_with_its_rows(rt: HostRuntime) -> Result<(), Fail> {
+    let node = node_of(rt.alloc())?;
+    is_begun(&rt, &node);
     assert_eq!(rt; node.into_rows().boot, 3);
     Ok(())
 }

@@ -10,13 +10,18 @@ use std::test::Fail;
 
 const FIRST: Ballot = Ballot { round: 1, node: 1 };
 
-// What is done where a round is seen, and refusals come to a proposer at rest.
-fn seen(alloc: Global, proposer: &Proposer<Number>) -> Result<(Ballot, usize), ProposerFault> {
-    let mut draft = Proposing::of(alloc, proposer);
+// A round is seen, and refusals come to a proposer at rest; its next ballot.
+fn see(draft: &mut Proposing<'_, Number>) -> Result<Ballot, ProposerFault> {
     draft.saw(4)?;
     draft.step_down(FIRST)?;
     draft.on_nack(FIRST, Ballot { round: 2, node: 2 })?;
-    let next = draft.next_ballot()?;
+    draft.next_ballot()
+}
+
+// That ballot, and how much is to be done.
+fn seen(alloc: Global, proposer: &Proposer<Number>) -> Result<(Ballot, usize), ProposerFault> {
+    let mut draft = Proposing::of(alloc, proposer);
+    let next = see(&mut draft)?;
     Ok((next, draft.into_moves().len()))
 }
 
@@ -60,32 +65,53 @@ fn take(proposer: &mut Proposer<Number>, moves: Vec<Move<Number>>) -> Result<(),
     Ok(())
 }
 
-#[test]
-fn what_is_seen_is_planned(rt: HostRuntime) -> Result<(), Fail> {
+fn proposer(alloc: Global) -> Result<Proposer<Number>, Fail> {
     let members = Members::new(3).ok_or("3 members")?;
-    let proposer = Proposer::<Number>::new(rt.alloc(), 1, members);
-    let (next, moves) = seen(rt.alloc(), &proposer)?;
-    assert!(rt; next == Ballot { round: 5, node: 1 });
-    assert_eq!(rt; moves, 1);
+    Ok(Proposer::new(alloc, 1, members))
+}
+
+fn is_seen(rt: &impl Abort, alloc: Global, proposer: &Proposer<Number>) -> Result<(), Fail> {
+    assert!(rt; seen(alloc, proposer)? == (Ballot { round: 5, node: 1 }, 1));
     assert!(rt; proposer.next_ballot() == Ok(FIRST));
     Ok(())
 }
 
 #[test]
-fn what_is_planned_is_done(rt: HostRuntime) -> Result<(), Fail> {
-    let members = Members::new(3).ok_or("3 members")?;
-    let mut proposer = Proposer::<Number>::new(rt.alloc(), 1, members);
-    let moves = begun(rt.alloc(), &proposer)?;
-    assert_eq!(rt; moves.len(), 1);
-    assert!(rt; proposer.ballot().is_none());
-    take(&mut proposer, moves)?;
+fn what_is_seen_is_planned(rt: HostRuntime) -> Result<(), Fail> {
+    let proposer = proposer(rt.alloc())?;
+    is_seen(&rt, rt.alloc(), &proposer)
+}
+
+// It begins: how many moves that takes, and whether it had no ballot before.
+fn begin(alloc: Global, proposer: &mut Proposer<Number>) -> Result<(usize, bool), ProposerFault> {
+    let moves = begun(alloc, proposer)?;
+    let before = (moves.len(), proposer.ballot().is_none());
+    take(proposer, moves)?;
+    Ok(before)
+}
+
+// It leads: how many moves that takes, how many entries the promises call for, and whether the entry stands in what is planned.
+fn lead(
+    alloc: Global,
+    proposer: &mut Proposer<Number>,
+) -> Result<(usize, usize, bool), ProposerFault> {
+    let (moves, called, stands) = led(alloc, proposer)?;
+    let planned = (moves.len(), called, stands);
+    take(proposer, moves)?;
+    Ok(planned)
+}
+
+fn is_done(rt: &impl Abort, alloc: Global, proposer: &mut Proposer<Number>) -> Result<(), Fail> {
+    assert!(rt; begin(alloc, proposer)? == (1, true));
     assert!(rt; proposer.ballot() == Some(FIRST));
-    let (moves, called, stands) = led(rt.alloc(), &proposer)?;
-    assert_eq!(rt; moves.len(), 2);
-    assert_eq!(rt; called, 0);
-    assert!(rt; stands);
-    take(&mut proposer, moves)?;
+    assert!(rt; lead(alloc, proposer)? == (2, 0, true));
     assert!(rt; proposer.is_leading());
     assert!(rt; proposer.stands(0, &Entry::Noop));
     Ok(())
+}
+
+#[test]
+fn what_is_planned_is_done(rt: HostRuntime) -> Result<(), Fail> {
+    let mut proposer = proposer(rt.alloc())?;
+    is_done(&rt, rt.alloc(), &mut proposer)
 }
