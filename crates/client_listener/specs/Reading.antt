@@ -69,7 +69,7 @@ Finishes result old new before finished = (after : List FromClient) × Puts resu
 -- ---- How the reading stands between its steps. This is for private clauses.
 
 -- the item was put, or the turns are spent
-abbrev pub Adds : Result (Unit {0}) ListenFault → FromClient → List FromClient → List FromClient → ℕ → Type 0
+abbrev pub Adds : {T : Type 0} → Result (Unit {0}) ListenFault → T → List T → List T → ℕ → Type 0
 Adds (Ok x) item before after turns = after ≡ before ++ item ∷ []
 Adds (Err other) item before after turns = (other ≡ fault.Turns) × (after ≡ before) × (turns ≡ 0)
 

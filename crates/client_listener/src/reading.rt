@@ -170,12 +170,12 @@ fn put_next<R: Read>(
     Ok(true)
 }
 
-// Puts an item, as soon as the ring has room for it.
-fn put<R: Read>(
+// Puts an item, as soon as the ring has room for it. It speaks of any item, so that each way out drops one of a type without variants.
+fn put<T: Drop, R: Read>(
     clock: &impl Clock,
     reader: &mut R,
-    producer: &mut Producer<FromClient>,
-    item: FromClient,
+    producer: &mut Producer<T>,
+    item: T,
     turns: &mut u64,
 ) -> Result<(), ListenFault>
     ensures adds { Adds result item (sent producer.old) (sent producer.new) turns.new }
