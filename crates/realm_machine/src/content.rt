@@ -63,7 +63,10 @@ impl Content {
     {
         match place {
             Some(transport) => self.reply(*transport, message),
-            None => Ok(Vec::new(self.alloc)),
+            None => {
+                drop(message);
+                Ok(Vec::new(self.alloc))
+            }
         }
     }
 
