@@ -1,5 +1,6 @@
 use crate::{Count, Number, Refuses};
 use replica_machine::{AppliedLog, Entry, LearnFault, Machine, Roll, Slot};
+use std::process::Abort;
 use std::test::Fail;
 
 // The Boot of node 1, or its Item with this number, which holds ten times the number.
@@ -49,11 +50,10 @@ fn step(log: &mut AppliedLog<Count>) -> Result<Option<(u64, bool, Option<u64>)>,
     )))
 }
 
-#[test]
-fn items_out_of_order_are_skipped(rt: HostRuntime) -> Result<(), Fail> {
-    let mut log = AppliedLog::new(rt.alloc(), Count::new(rt.alloc()));
-    learn_behind(&mut log, &OUT_OF_ORDER, 1)?;
-    assert_eq!(rt; step(&mut log)?, None);
+// Goes along a log by reference: who owns it drops it at each of its exits.
+fn skips(rt: &impl Abort, log: &mut AppliedLog<Count>) -> Result<(), Fail> {
+    learn_behind(log, &OUT_OF_ORDER, 1)?;
+    assert_eq!(rt; step(log)?, None);
     log.learn(slot(0)?, entry(0))?;
     let told = [
         (1, true, None),
@@ -64,12 +64,18 @@ fn items_out_of_order_are_skipped(rt: HostRuntime) -> Result<(), Fail> {
         (6, true, Some(60)),
     ];
     for row in &told {
-        assert_eq!(rt; step(&mut log)?, Some(*row));
+        assert_eq!(rt; step(log)?, Some(*row));
     }
-    assert_eq!(rt; step(&mut log)?, None);
+    assert_eq!(rt; step(log)?, None);
     assert_eq!(rt; log.machine().sum(), 60);
     assert_eq!(rt; log.applied().len(), 6);
     Ok(())
+}
+
+#[test]
+fn items_out_of_order_are_skipped(rt: HostRuntime) -> Result<(), Fail> {
+    let mut log = AppliedLog::new(rt.alloc(), Count::new(rt.alloc()));
+    skips(&rt, &mut log)
 }
 
 // The number of the fault with which an entry is not learned in a slot, by its place from 0; 0 where it is.
@@ -84,18 +90,22 @@ fn refusal(log: &mut AppliedLog<Count>, place: usize, seq: u32) -> u8 {
     }
 }
 
+fn keeps_entries(rt: &impl Abort, log: &mut AppliedLog<Count>) -> Result<(), Fail> {
+    learn_behind(log, &[0, 1], 0)?;
+    assert_eq!(rt; step(log)?, Some((1, true, None)));
+    // another entry, in a slot that is applied and in one that is not, and the same again
+    for (place, seq, number) in [(0, 1, 46), (1, 2, 46), (0, 0, 0), (1, 1, 0)] {
+        assert_eq!(rt; refusal(log, place, seq), number);
+    }
+    assert_eq!(rt; log.applied().len(), 1);
+    assert_eq!(rt; step(log)?, Some((2, true, Some(10))));
+    Ok(())
+}
+
 #[test]
 fn one_entry_stands_in_a_slot(rt: HostRuntime) -> Result<(), Fail> {
     let mut log = AppliedLog::new(rt.alloc(), Count::new(rt.alloc()));
-    learn_behind(&mut log, &[0, 1], 0)?;
-    assert_eq!(rt; step(&mut log)?, Some((1, true, None)));
-    // another entry, in a slot that is applied and in one that is not, and the same again
-    for (place, seq, number) in [(0, 1, 46), (1, 2, 46), (0, 0, 0), (1, 1, 0)] {
-        assert_eq!(rt; refusal(&mut log, place, seq), number);
-    }
-    assert_eq!(rt; log.applied().len(), 1);
-    assert_eq!(rt; step(&mut log)?, Some((2, true, Some(10))));
-    Ok(())
+    keeps_entries(&rt, &mut log)
 }
 
 #[test]
