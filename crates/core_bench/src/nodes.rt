@@ -77,18 +77,6 @@ fn empty<B>(alloc: Global) -> Cluster<B> {
 
 // One event, and the packets that it sends.
 
-fn owner<B>(event: &Event<B>) -> u8 {
-    match event {
-        Event::Take { node, .. } => *node,
-        Event::Tick { node } => *node,
-        Event::Start { node } => *node,
-        Event::Suspect { node, .. } => *node,
-        Event::Deliver { packet } => packet.addressee,
-        Event::Crash { node } => *node,
-        Event::Restart { node } => *node,
-    }
-}
-
 fn member_of<B>(members: &mut [Member<B>], number: u8) -> Result<&mut Member<B>, BenchFault> {
     let index = usize::from(number.saturating_sub(1));
     members.get_mut(index).ok_or(BenchFault::Nobody)
@@ -135,17 +123,21 @@ fn send<B: Drop>(sent: &mut VecDeque<Packet<B>>, packets: Packets<B>) -> Result<
     Ok(())
 }
 
-// The event happens at its node; what it sends is under way.
-fn happen<B: Body>(cluster: &mut Cluster<B>, event: &Event<B>) -> Result<(), BenchFault> {
+// The event happens at its node, which has this number; what it sends is under way.
+fn happen<B: Body>(
+    cluster: &mut Cluster<B>,
+    number: u8,
+    event: &Event<B>,
+) -> Result<(), BenchFault> {
     cluster.counts.events = cluster.counts.events.saturating_add(1);
-    let member = member_of(&mut cluster.members, owner(event))?;
+    let member = member_of(&mut cluster.members, number)?;
     let packets = step(member, event)?;
     send(&mut cluster.sent, packets)
 }
 
 fn deliver<B: Body>(cluster: &mut Cluster<B>, packet: Packet<B>) -> Result<(), BenchFault> {
     cluster.counts.packets = cluster.counts.packets.saturating_add(1);
-    happen(cluster, &Event::Deliver { packet })
+    happen(cluster, packet.addressee, &Event::Deliver { packet })
 }
 
 // Each packet that is under way reaches its addressee, and so do those that are sent for it.
@@ -165,7 +157,7 @@ fn settle<B: Body>(cluster: &mut Cluster<B>, number: u8) -> Result<(), BenchFaul
         if !member_of(&mut cluster.members, number)?.node.has_pending() {
             return Ok(());
         }
-        happen(cluster, &Event::Tick { node: number })?;
+        happen(cluster, number, &Event::Tick { node: number })?;
         pass_all(cluster)?;
     }
     Err(BenchFault::Stuck)
@@ -173,7 +165,7 @@ fn settle<B: Body>(cluster: &mut Cluster<B>, number: u8) -> Result<(), BenchFaul
 
 // The first node leads, and the Boot of each is applied.
 fn begin<B: Body>(cluster: &mut Cluster<B>) -> Result<(), BenchFault> {
-    happen(cluster, &Event::Start { node: 1 })?;
+    happen(cluster, 1, &Event::Start { node: 1 })?;
     pass_all(cluster)?;
     for number in 1..=NODES {
         settle(cluster, number)?;
@@ -190,6 +182,7 @@ fn begin<B: Body>(cluster: &mut Cluster<B>) -> Result<(), BenchFault> {
 fn take<B: Body>(cluster: &mut Cluster<B>, node: u8, body: B) -> Result<(), BenchFault> {
     happen(
         cluster,
+        node,
         &Event::Take {
             node,
             transport: 1,
