@@ -126,12 +126,10 @@ fn steps(log: &mut AppliedLog<Refuses>, times: u32) -> u32 {
     told
 }
 
-#[test]
-fn a_machine_that_refuses_spoils_the_log(rt: HostRuntime) -> Result<(), Fail> {
-    let mut log = AppliedLog::new(rt.alloc(), Refuses::new(rt.alloc(), 3));
-    learn_behind(&mut log, &OUT_OF_ORDER, 0)?;
+fn spoils(rt: &impl Abort, log: &mut AppliedLog<Refuses>) -> Result<(), Fail> {
+    learn_behind(log, &OUT_OF_ORDER, 0)?;
     // of the six slots the first, second and fifth take effect; the sixth is refused
-    assert_eq!(rt; steps(&mut log, 5), 5);
+    assert_eq!(rt; steps(log, 5), 5);
     for _again in 0..3u8 {
         assert_eq!(rt; log.advance().err().map(|failed| failed.number()), Some(48));
     }
@@ -142,32 +140,56 @@ fn a_machine_that_refuses_spoils_the_log(rt: HostRuntime) -> Result<(), Fail> {
 }
 
 #[test]
-fn a_roll_goes_along_with_a_log(rt: HostRuntime) {
-    let mut roll = Roll::new();
+fn a_machine_that_refuses_spoils_the_log(rt: HostRuntime) -> Result<(), Fail> {
+    let mut log = AppliedLog::new(rt.alloc(), Refuses::new(rt.alloc(), 3));
+    spoils(&rt, &mut log)
+}
+
+// Entries one behind the other, of which node and boot, and whether each takes effect.
+const TAKEN: &[(&str, u8, u64, bool)] = &[
+    ("noop", 0, 0, false),
+    ("boot", 3, 2, true),
+    ("boot", 3, 2, false),
+    ("lost", 3, 1, false),
+    ("lost", 3, 2, true),
+    ("boot", 255, 9, true),
+];
+
+fn taken(word: &str, node: u8, boot: u64) -> Entry<Number> {
+    if word == "noop" {
+        return Entry::Noop;
+    }
+    if word == "boot" {
+        return Entry::Boot { node, boot };
+    }
+    Entry::Lost { node, boot }
+}
+
+// The first item of node 255.
+fn item() -> Entry<Number> {
+    Entry::Item {
+        node: 255,
+        boot: 9,
+        seq: 1,
+        transport: 1,
+        body: Number::new(1),
+    }
+}
+
+fn goes_along(rt: &impl Abort, roll: &mut Roll) {
     assert_eq!(rt; roll.live(3), None);
-    let table: [(Entry<Number>, bool); 6] = [
-        (Entry::Noop, false),
-        (Entry::Boot { node: 3, boot: 2 }, true),
-        (Entry::Boot { node: 3, boot: 2 }, false),
-        (Entry::Lost { node: 3, boot: 1 }, false),
-        (Entry::Lost { node: 3, boot: 2 }, true),
-        (Entry::Boot { node: 255, boot: 9 }, true),
-    ];
-    for (entry, took) in &table {
-        assert_eq!(rt; roll.take(entry), *took);
+    for (word, node, boot, took) in TAKEN {
+        assert_eq!(rt; roll.take(&taken(word, *node, *boot)), *took);
     }
     assert_eq!(rt; roll.live(3), None);
     assert_eq!(rt; roll.live(255), Some(9));
-    assert_eq!(rt;
-        roll.take(&Entry::<Number>::Item {
-            node: 255,
-            boot: 9,
-            seq: 1,
-            transport: 1,
-            body: Number::new(1)
-        }),
-        true
-    );
+    assert!(rt; roll.take(&item()));
     assert_eq!(rt; roll.taken(255), 1);
     assert_eq!(rt; roll.taken(3), 0);
+}
+
+#[test]
+fn a_roll_goes_along_with_a_log(rt: HostRuntime) {
+    let mut roll = Roll::new();
+    goes_along(&rt, &mut roll);
 }
