@@ -28,10 +28,10 @@ fn letter(item: &FromClient) -> char {
 
 // The letter of the next item of the ring, which is taken out.
 pub fn next_letter(consumer: &mut Consumer<FromClient>) -> Option<char> {
-    match consumer.pop() {
-        Ok(item) => Some(letter(&item)),
-        Err(_) => None,
-    }
+    let item = consumer.pop().ok()?;
+    let letter = letter(&item);
+    drop(item);
+    Some(letter)
 }
 
 // The letters of what is in a ring.

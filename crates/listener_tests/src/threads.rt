@@ -1,12 +1,12 @@
 // Rings between two threads: what one puts for a client's octets the other takes, and what one hands over the other writes.
 use crate::reading::next_letter;
 use crate::streams::{COUNT, FRAME, frames};
+use crate::writing::message_of;
 use client_listener::{FromClient, ToClient, read_transport, write_transport};
 use rtrb::{Consumer, Producer, PushError, RingBuffer};
 use std::alloc::Global;
 use std::test::Fail;
 use std::thread;
-use wamp_messages::{Read, read};
 
 // How many messages come out of a ring, up to the last item.
 fn count_messages(consumer: Consumer<FromClient>) -> u32 {
@@ -38,16 +38,8 @@ fn ten_thousand_messages_are_read_for_another_thread(rt: HostRuntime) -> Result<
     Ok(())
 }
 
-// The message of a frame, to be sent.
-fn message(alloc: Global) -> Option<ToClient> {
-    match read(alloc, &FRAME[4..]) {
-        Ok(Read::Good(message)) => Some(ToClient::Send(message)),
-        _ => None,
-    }
-}
-
 // Hands an item over as soon as the ring has room for it.
-fn hand(producer: &mut Producer<ToClient>, item: ToClient) {
+fn hand<T: Drop>(producer: &mut Producer<T>, item: T) {
     let mut item = item;
     for _ in 0..u64::MAX {
         match producer.push(item) {
@@ -60,7 +52,7 @@ fn hand(producer: &mut Producer<ToClient>, item: ToClient) {
 
 // Hands a message over, if it could be made.
 fn hand_message(alloc: Global, producer: &mut Producer<ToClient>) -> bool {
-    match message(alloc) {
+    match message_of(alloc, &FRAME[4..]) {
         Some(item) => {
             hand(producer, item);
             true

@@ -28,7 +28,7 @@ const TEXTS: [&str; 5] = [
 ];
 
 // The message of a text, to be sent.
-fn message_of(alloc: Global, text: &[u8]) -> Option<ToClient> {
+pub fn message_of(alloc: Global, text: &[u8]) -> Option<ToClient> {
     match read(alloc, text) {
         Ok(ReadResult::Good(message)) => Some(ToClient::Send(message)),
         _ => None,
@@ -41,7 +41,7 @@ fn pong_of(alloc: Global, length: usize) -> Result<ToClient, Fail> {
 }
 
 // Hands an item to a ring. Answers whether there is one, and the ring had room for it.
-fn hand(producer: &mut Producer<ToClient>, item: Option<ToClient>) -> bool {
+fn hand<T: Drop>(producer: &mut Producer<T>, item: Option<T>) -> bool {
     match item {
         Some(item) => producer.push(item).is_ok(),
         None => false,
