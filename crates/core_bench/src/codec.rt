@@ -84,7 +84,9 @@ fn written_again(alloc: Global, read: &Read) -> Result<usize, BenchFault> {
 
 fn read_and_written(alloc: Global, text: &[u8]) -> Result<usize, BenchFault> {
     let read = read(alloc, text)?;
-    written_again(alloc, &read)
+    let octets = written_again(alloc, &read);
+    drop(read);
+    octets
 }
 
 fn make(alloc: Global, sample: &Sample<'_>, call: Call) -> Result<usize, BenchFault> {

@@ -38,12 +38,21 @@ fn step(log: &mut AppliedLog<Count>, from: u64, to: u64) -> Result<u64, BenchFau
 /// applied and the machine's sum, and on standard error the nanoseconds an entry.
 pub fn run(rt: &HostRuntime, entries: u64, window: u64) -> Result<(), BenchFault> {
     let mut log = AppliedLog::new(rt.alloc(), Count::new(rt.alloc()));
+    run_over(rt, &mut log, entries, window)
+}
+
+fn run_over(
+    rt: &HostRuntime,
+    log: &mut AppliedLog<Count>,
+    entries: u64,
+    window: u64,
+) -> Result<(), BenchFault> {
     let start = Instant::now(rt)?;
     let mut applied = 0u64;
     for turn in 0..entries.div_ceil(window.max(1)) {
         let learned = turn.saturating_mul(window);
         let next = entries.min(learned.saturating_add(window));
-        applied = applied.saturating_add(step(&mut log, learned, next)?);
+        applied = applied.saturating_add(step(log, learned, next)?);
     }
     let taken = start.elapsed(rt)?;
     println!(rt;
