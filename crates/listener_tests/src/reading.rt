@@ -28,7 +28,9 @@ fn letter(item: &FromClient) -> char {
 
 // The letter of the next item of the ring, which is taken out.
 pub fn next_letter(consumer: &mut Consumer<FromClient>) -> Option<char> {
-    let item = consumer.pop().ok()?;
+    let Ok(item) = consumer.pop() else {
+        return None;
+    };
     let letter = letter(&item);
     drop(item);
     Some(letter)
