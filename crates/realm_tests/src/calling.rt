@@ -1,32 +1,16 @@
-use crate::realm::{check, in_one_text, realm_of, replies};
+use crate::realm::{HELLO, check, in_one_text, realm_of, replies};
 use realm_machine::{Failed, Realm, Say, Transport};
 use std::alloc::Global;
 use std::process::Abort;
 use std::test::Fail;
 
-const HELLO: &str = "[1,\"realm1\",{}]";
-
 // A HELLO that announces call canceling.
-const HELLO_CANCELING: &str =
+const CANCELING: &str =
     "[1,\"realm1\",{\"roles\":{\"callee\":{\"features\":{\"call_canceling\":true}}}}]";
 
 #[test]
 fn canceled_calls(rt: HostRuntime) -> Result<(), Fail> {
     let rows = [
-        (1, 1, "connect", ""),
-        (2, 1, "connect", ""),
-        (
-            1,
-            1,
-            HELLO_CANCELING,
-            "1 [2,1,{\"roles\":{\"broker\":{\"features\":{\"pattern_based_subscrip;",
-        ),
-        (
-            2,
-            2,
-            HELLO,
-            "2 [2,2,{\"roles\":{\"broker\":{\"features\":{\"pattern_based_subscrip;",
-        ),
         (1, 3, "[64,1,{},\"p.q\"]", "1 [65,1,1];"),
         (2, 3, "[48,7,{},\"p.q\",[1]]", "1 [68,1,1,{},[1]];"),
         (
@@ -61,33 +45,13 @@ fn canceled_calls(rt: HostRuntime) -> Result<(), Fail> {
         ),
         (1, 3, "[70,4,{}]", "2 [50,10,{}];"),
     ];
-    check(&rt, rt.alloc(), 4096, rows.as_slice())
+    let clients = [Some(CANCELING), Some(HELLO)];
+    check(&rt, rt.alloc(), 4096, clients.as_slice(), rows.as_slice())
 }
 
 #[test]
 fn callees_take_turns(rt: HostRuntime) -> Result<(), Fail> {
     let rows = [
-        (1, 1, "connect", ""),
-        (2, 1, "connect", ""),
-        (3, 1, "connect", ""),
-        (
-            1,
-            1,
-            HELLO,
-            "1 [2,1,{\"roles\":{\"broker\":{\"features\":{\"pattern_based_subscrip;",
-        ),
-        (
-            2,
-            2,
-            HELLO,
-            "2 [2,2,{\"roles\":{\"broker\":{\"features\":{\"pattern_based_subscrip;",
-        ),
-        (
-            3,
-            3,
-            HELLO,
-            "3 [2,3,{\"roles\":{\"broker\":{\"features\":{\"pattern_based_subscrip;",
-        ),
         (
             1,
             3,
@@ -135,26 +99,13 @@ fn callees_take_turns(rt: HostRuntime) -> Result<(), Fail> {
             "1 [8,48,2,{},\"wamp.error.canceled\"];2 [3,{},\"wamp.error.protocol_violation\"];2 close;",
         ),
     ];
-    check(&rt, rt.alloc(), 3, rows.as_slice())
+    let clients = [Some(HELLO), Some(HELLO), Some(HELLO)];
+    check(&rt, rt.alloc(), 3, clients.as_slice(), rows.as_slice())
 }
 
 #[test]
 fn unfit_calls_and_answers(rt: HostRuntime) -> Result<(), Fail> {
     let rows = [
-        (1, 1, "connect", ""),
-        (2, 1, "connect", ""),
-        (
-            1,
-            1,
-            HELLO,
-            "1 [2,1,{\"roles\":{\"broker\":{\"features\":{\"pattern_based_subscrip;",
-        ),
-        (
-            2,
-            2,
-            HELLO,
-            "2 [2,2,{\"roles\":{\"broker\":{\"features\":{\"pattern_based_subscrip;",
-        ),
         (
             2,
             3,
@@ -213,20 +164,13 @@ fn unfit_calls_and_answers(rt: HostRuntime) -> Result<(), Fail> {
             "2 [3,{},\"wamp.error.protocol_violation\"];2 close;",
         ),
     ];
-    check(&rt, rt.alloc(), 4096, rows.as_slice())
+    let clients = [Some(HELLO), Some(HELLO)];
+    check(&rt, rt.alloc(), 4096, clients.as_slice(), rows.as_slice())
 }
 
 #[test]
 fn one_open_call(rt: HostRuntime) -> Result<(), Fail> {
     let rows = [
-        (1, 1, "connect", ""),
-        (2, 1, "connect", ""),
-        (
-            1,
-            1,
-            HELLO,
-            "1 [2,1,{\"roles\":{\"broker\":{\"features\":{\"pattern_based_subscrip;",
-        ),
         (1, 3, "[64,4,{},\"p\"]", "1 [65,4,1];"),
         (1, 3, "[48,5,{},\"p\"]", "1 [68,1,1,{}];"),
         (
@@ -245,26 +189,13 @@ fn one_open_call(rt: HostRuntime) -> Result<(), Fail> {
             "1 [3,{},\"wamp.error.protocol_violation\"];1 close;",
         ),
     ];
-    check(&rt, rt.alloc(), 1, rows.as_slice())
+    let clients = [Some(HELLO), None];
+    check(&rt, rt.alloc(), 1, clients.as_slice(), rows.as_slice())
 }
 
 #[test]
 fn callers_and_callees_leave(rt: HostRuntime) -> Result<(), Fail> {
     let rows = [
-        (1, 1, "connect", ""),
-        (2, 1, "connect", ""),
-        (
-            1,
-            1,
-            HELLO_CANCELING,
-            "1 [2,1,{\"roles\":{\"broker\":{\"features\":{\"pattern_based_subscrip;",
-        ),
-        (
-            2,
-            2,
-            HELLO,
-            "2 [2,2,{\"roles\":{\"broker\":{\"features\":{\"pattern_based_subscrip;",
-        ),
         (1, 3, "[64,1,{},\"p\"]", "1 [65,1,1];"),
         (2, 3, "[48,3,{},\"p\"]", "1 [68,1,1,{}];"),
         (
@@ -276,7 +207,7 @@ fn callers_and_callees_leave(rt: HostRuntime) -> Result<(), Fail> {
         (
             1,
             5,
-            HELLO_CANCELING,
+            CANCELING,
             "1 [2,5,{\"roles\":{\"broker\":{\"features\":{\"pattern_based_subscrip;",
         ),
         (1, 3, "[64,1,{},\"p\"]", "1 [65,1,2];"),
@@ -284,40 +215,13 @@ fn callers_and_callees_leave(rt: HostRuntime) -> Result<(), Fail> {
         (2, 3, "hang up", "1 [69,1,{\"mode\":\"killnowait\"}];"),
         (1, 3, "[70,1,{}]", ""),
     ];
-    check(&rt, rt.alloc(), 4096, rows.as_slice())
+    let clients = [Some(CANCELING), Some(HELLO)];
+    check(&rt, rt.alloc(), 4096, clients.as_slice(), rows.as_slice())
 }
 
 #[test]
 fn a_violation_ends_calls_both_ways(rt: HostRuntime) -> Result<(), Fail> {
     let rows = [
-        (1, 1, "connect", ""),
-        (2, 1, "connect", ""),
-        (3, 1, "connect", ""),
-        (4, 1, "connect", ""),
-        (
-            1,
-            1,
-            HELLO,
-            "1 [2,1,{\"roles\":{\"broker\":{\"features\":{\"pattern_based_subscrip;",
-        ),
-        (
-            2,
-            2,
-            HELLO_CANCELING,
-            "2 [2,2,{\"roles\":{\"broker\":{\"features\":{\"pattern_based_subscrip;",
-        ),
-        (
-            3,
-            3,
-            HELLO,
-            "3 [2,3,{\"roles\":{\"broker\":{\"features\":{\"pattern_based_subscrip;",
-        ),
-        (
-            4,
-            4,
-            HELLO,
-            "4 [2,4,{\"roles\":{\"broker\":{\"features\":{\"pattern_based_subscrip;",
-        ),
         (1, 3, "[64,1,{},\"s\"]", "1 [65,1,1];"),
         (2, 3, "[64,1,{},\"e\"]", "2 [65,1,2];"),
         (1, 3, "[48,1,{},\"e\"]", "2 [68,1,2,{}];"),
@@ -331,7 +235,8 @@ fn a_violation_ends_calls_both_ways(rt: HostRuntime) -> Result<(), Fail> {
             "3 [8,48,5,{},\"wamp.error.canceled\"];4 [8,48,6,{},\"wamp.error.canceled\"];2 [69,1,{\"mode\":\"killnowait\"}];1 [3,{},\"wamp.error.protocol_violation\"];1 close;",
         ),
     ];
-    check(&rt, rt.alloc(), 4096, rows.as_slice())
+    let clients = [Some(HELLO), Some(CANCELING), Some(HELLO), Some(HELLO)];
+    check(&rt, rt.alloc(), 4096, clients.as_slice(), rows.as_slice())
 }
 
 fn at(node: u8, number: u32) -> Transport {

@@ -92,19 +92,76 @@ pub fn replies(
     told(alloc, realm, transport, &said)
 }
 
-// What a transport does, with the draw for it, and what the realm says then; in a realm with this limit.
+// Each transport does what its row says, with the draw for it; and the realm says then what the row says.
+fn goes(
+    rt: &impl Abort,
+    alloc: Global,
+    realm: &mut Realm,
+    rows: &[(u32, u64, &str, &str)],
+) -> Result<(), Fail> {
+    for (number, draw, text, says) in rows {
+        let octets = replies(alloc, realm, transport(*number), *draw, text)?;
+        assert!(rt; octets.as_slice() == says.as_bytes(), "{number} {text}");
+    }
+    Ok(())
+}
+
+/// A HELLO.
+pub const HELLO: &str = "[1,\"realm1\",{}]";
+
+// A client as which one of four connects, and what its HELLO is answered where its number is the draw.
+const CLIENTS: [(u32, u64, &str); 4] = [
+    (
+        1,
+        1,
+        "1 [2,1,{\"roles\":{\"broker\":{\"features\":{\"pattern_based_subscrip;",
+    ),
+    (
+        2,
+        2,
+        "2 [2,2,{\"roles\":{\"broker\":{\"features\":{\"pattern_based_subscrip;",
+    ),
+    (
+        3,
+        3,
+        "3 [2,3,{\"roles\":{\"broker\":{\"features\":{\"pattern_based_subscrip;",
+    ),
+    (
+        4,
+        4,
+        "4 [2,4,{\"roles\":{\"broker\":{\"features\":{\"pattern_based_subscrip;",
+    ),
+];
+
+// Connects the clients, and then opens a session for each that has a HELLO.
+fn opens(
+    rt: &impl Abort,
+    alloc: Global,
+    realm: &mut Realm,
+    clients: &[Option<&str>],
+) -> Result<(), Fail> {
+    for ((number, draw, _welcome), _hello) in CLIENTS.iter().zip(clients.iter()) {
+        goes(rt, alloc, realm, &[(*number, *draw, "connect", "")])?;
+    }
+    for ((number, draw, welcome), hello) in CLIENTS.iter().zip(clients.iter()) {
+        if let Some(hello) = hello {
+            goes(rt, alloc, realm, &[(*number, *draw, hello, welcome)])?;
+        }
+    }
+    Ok(())
+}
+
+// Rows in a realm with this limit, in which clients are connected, each with a session by its HELLO, or with none.
 pub fn check(
     rt: &impl Abort,
     alloc: Global,
     limit: u32,
+    clients: &[Option<&str>],
     rows: &[(u32, u64, &str, &str)],
 ) -> Result<(), Fail> {
     let mut realm = realm_of(alloc, limit)?;
-    for (number, draw, text, says) in rows {
-        let octets = replies(alloc, &mut realm, transport(*number), *draw, text)?;
-        assert!(rt; octets.as_slice() == says.as_bytes(), "{number} {text}");
-    }
-    Ok(())
+    opens(rt, alloc, &mut realm, clients)?;
+    goes(rt, alloc, &mut realm, rows)
 }
 
 #[test]
@@ -165,20 +222,12 @@ fn two_clients_and_one_topic(rt: HostRuntime) -> Result<(), Fail> {
         (2, 6, "[1,\"realm1\",{}]", ""),
         (1, 6, "hang up", ""),
     ];
-    check(&rt, rt.alloc(), 4096, rows.as_slice())
+    check(&rt, rt.alloc(), 4096, &[], rows.as_slice())
 }
 
 #[test]
 fn limits_of_one_and_refusals(rt: HostRuntime) -> Result<(), Fail> {
     let rows = [
-        (1, 1, "connect", ""),
-        (2, 1, "connect", ""),
-        (
-            1,
-            1,
-            "[1,\"realm1\",{}]",
-            "1 [2,1,{\"roles\":{\"broker\":{\"features\":{\"pattern_based_subscrip;",
-        ),
         (
             2,
             2,
@@ -219,26 +268,13 @@ fn limits_of_one_and_refusals(rt: HostRuntime) -> Result<(), Fail> {
             "1 [3,{},\"wamp.error.protocol_violation\"];1 close;",
         ),
     ];
-    check(&rt, rt.alloc(), 1, rows.as_slice())
+    let clients = [Some(HELLO), None];
+    check(&rt, rt.alloc(), 1, clients.as_slice(), rows.as_slice())
 }
 
 #[test]
 fn events_name_their_topics(rt: HostRuntime) -> Result<(), Fail> {
     let rows = [
-        (1, 1, "connect", ""),
-        (2, 1, "connect", ""),
-        (
-            1,
-            1,
-            "[1,\"realm1\",{}]",
-            "1 [2,1,{\"roles\":{\"broker\":{\"features\":{\"pattern_based_subscrip;",
-        ),
-        (
-            2,
-            2,
-            "[1,\"realm1\",{}]",
-            "2 [2,2,{\"roles\":{\"broker\":{\"features\":{\"pattern_based_subscrip;",
-        ),
         (
             1,
             3,
@@ -278,26 +314,13 @@ fn events_name_their_topics(rt: HostRuntime) -> Result<(), Fail> {
         ),
         (1, 9, "[16,2,{},\"a.x.b\"]", ""),
     ];
-    check(&rt, rt.alloc(), 4096, rows.as_slice())
+    let clients = [Some(HELLO), Some(HELLO)];
+    check(&rt, rt.alloc(), 4096, clients.as_slice(), rows.as_slice())
 }
 
 #[test]
 fn one_session_in_three_matches(rt: HostRuntime) -> Result<(), Fail> {
     let rows = [
-        (1, 1, "connect", ""),
-        (2, 1, "connect", ""),
-        (
-            1,
-            1,
-            "[1,\"realm1\",{}]",
-            "1 [2,1,{\"roles\":{\"broker\":{\"features\":{\"pattern_based_subscrip;",
-        ),
-        (
-            2,
-            2,
-            "[1,\"realm1\",{}]",
-            "2 [2,2,{\"roles\":{\"broker\":{\"features\":{\"pattern_based_subscrip;",
-        ),
         (1, 3, "[32,1,{},\"a.b\"]", "1 [33,1,1];"),
         (1, 3, "[32,2,{\"match\":\"prefix\"},\"a\"]", "1 [33,2,2];"),
         (
@@ -321,19 +344,13 @@ fn one_session_in_three_matches(rt: HostRuntime) -> Result<(), Fail> {
         ),
         (2, 9, "[16,3,{},\"wamp.x\"]", ""),
     ];
-    check(&rt, rt.alloc(), 4096, rows.as_slice())
+    let clients = [Some(HELLO), Some(HELLO)];
+    check(&rt, rt.alloc(), 4096, clients.as_slice(), rows.as_slice())
 }
 
 #[test]
 fn patterns_of_empty_components(rt: HostRuntime) -> Result<(), Fail> {
     let rows = [
-        (1, 1, "connect", ""),
-        (
-            1,
-            1,
-            "[1,\"realm1\",{}]",
-            "1 [2,1,{\"roles\":{\"broker\":{\"features\":{\"pattern_based_subscrip;",
-        ),
         (1, 3, "[32,1,{\"match\":\"prefix\"},\"\"]", "1 [33,1,1];"),
         (1, 3, "[32,2,{\"match\":\"wildcard\"},\".\"]", "1 [33,2,2];"),
         (
@@ -343,19 +360,13 @@ fn patterns_of_empty_components(rt: HostRuntime) -> Result<(), Fail> {
             "1 [36,1,5,{\"topic\":\"a.b\"},[],{\"k\":1}];1 [36,2,5,{\"topic\":\"a.b\"},[],{\"k\":1}];",
         ),
     ];
-    check(&rt, rt.alloc(), 4096, rows.as_slice())
+    let clients = [Some(HELLO)];
+    check(&rt, rt.alloc(), 4096, clients.as_slice(), rows.as_slice())
 }
 
 #[test]
 fn single_subscriptions_are_left(rt: HostRuntime) -> Result<(), Fail> {
     let rows = [
-        (1, 1, "connect", ""),
-        (
-            1,
-            1,
-            "[1,\"realm1\",{}]",
-            "1 [2,1,{\"roles\":{\"broker\":{\"features\":{\"pattern_based_subscrip;",
-        ),
         (1, 2, "[32,1,{},\"a.b\"]", "1 [33,1,1];"),
         (1, 2, "[32,2,{},\"a.b\"]", "1 [33,2,1];"),
         (1, 2, "[34,3,1]", "1 [35,3];"),
@@ -385,26 +396,13 @@ fn single_subscriptions_are_left(rt: HostRuntime) -> Result<(), Fail> {
             "1 [3,{},\"wamp.error.protocol_violation\"];1 close;",
         ),
     ];
-    check(&rt, rt.alloc(), 4096, rows.as_slice())
+    let clients = [Some(HELLO)];
+    check(&rt, rt.alloc(), 4096, clients.as_slice(), rows.as_slice())
 }
 
 #[test]
 fn a_procedure_passes_on(rt: HostRuntime) -> Result<(), Fail> {
     let rows = [
-        (1, 1, "connect", ""),
-        (2, 1, "connect", ""),
-        (
-            1,
-            1,
-            "[1,\"realm1\",{}]",
-            "1 [2,1,{\"roles\":{\"broker\":{\"features\":{\"pattern_based_subscrip;",
-        ),
-        (
-            2,
-            2,
-            "[1,\"realm1\",{}]",
-            "2 [2,2,{\"roles\":{\"broker\":{\"features\":{\"pattern_based_subscrip;",
-        ),
         (1, 3, "[64,1,{},\"a.b\"]", "1 [65,1,1];"),
         (
             2,
@@ -436,19 +434,13 @@ fn a_procedure_passes_on(rt: HostRuntime) -> Result<(), Fail> {
         (2, 3, "[64,7,{},\"a.b\"]", "2 [65,7,5];"),
         (2, 3, "hang up", ""),
     ];
-    check(&rt, rt.alloc(), 4096, rows.as_slice())
+    let clients = [Some(HELLO), Some(HELLO)];
+    check(&rt, rt.alloc(), 4096, clients.as_slice(), rows.as_slice())
 }
 
 #[test]
 fn refused_procedures(rt: HostRuntime) -> Result<(), Fail> {
     let rows = [
-        (1, 1, "connect", ""),
-        (
-            1,
-            1,
-            "[1,\"realm1\",{}]",
-            "1 [2,1,{\"roles\":{\"broker\":{\"features\":{\"pattern_based_subscrip;",
-        ),
         (
             1,
             2,
@@ -498,5 +490,6 @@ fn refused_procedures(rt: HostRuntime) -> Result<(), Fail> {
             "1 [3,{},\"wamp.error.protocol_violation\"];1 close;",
         ),
     ];
-    check(&rt, rt.alloc(), 1, rows.as_slice())
+    let clients = [Some(HELLO)];
+    check(&rt, rt.alloc(), 1, clients.as_slice(), rows.as_slice())
 }
