@@ -84,6 +84,22 @@ fn canceled(calls: &mut Calls, call: &Open, mode: Mode, announces: bool) -> u64 
     answer_of(given.map(|cancelled| number_of_cancelled(&cancelled)))
 }
 
+// The open invocations of the callee.
+fn invocations(calls: &Calls, callee: Id) -> Result<u64, Fail> {
+    let found = calls.open_of(callee)?;
+    Ok(digits_of(&found))
+}
+
+fn without_callee(calls: &mut Calls, callee: Id) -> Result<u64, Fail> {
+    let ended = calls.leave_callee(callee)?;
+    Ok(numbers_of(&ended))
+}
+
+fn without_caller(calls: &mut Calls, caller: Id) -> Result<u64, Fail> {
+    let ended = calls.leave_caller(caller)?;
+    Ok(numbers_of(&ended))
+}
+
 // What one step answers.
 fn step(calls: &mut Calls, word: &str, call: &Open) -> Result<u64, Fail> {
     if word == "open" {
@@ -100,20 +116,17 @@ fn step(calls: &mut Calls, word: &str, call: &Open) -> Result<u64, Fail> {
         return Ok(if calls.is_full(call.caller) { 1 } else { 0 });
     }
     if word == "invocations" {
-        let found = calls.open_of(call.callee)?;
-        return Ok(digits_of(&found));
+        return invocations(calls, call.callee);
     }
     if word == "answer" {
         let given = calls.answer(call.callee, call.invocation);
         return Ok(answer_of(given.map(|call| number_of(&call))));
     }
     if word == "callee leaves" {
-        let ended = calls.leave_callee(call.callee)?;
-        return Ok(numbers_of(&ended));
+        return without_callee(calls, call.callee);
     }
     if word == "caller leaves" {
-        let ended = calls.leave_caller(call.caller)?;
-        return Ok(numbers_of(&ended));
+        return without_caller(calls, call.caller);
     }
     if word == "open calls" {
         return Ok(numbers_of(calls.as_slice()));
@@ -141,110 +154,105 @@ fn stopped(calls: &mut Calls, word: &str, call: &Open) -> u64 {
     canceled(calls, call, Mode::KillNoWait, true)
 }
 
-// One table: the word, then caller, request, callee and invocation, and the answer.
-fn goes(
-    rt: &impl Abort,
-    calls: &mut Calls,
-    rows: &[(&'static str, u64, u64, u64, u64, u64)],
-) -> Result<(), Fail> {
-    for (word, caller, request, callee, invocation, answer) in rows {
-        let call = Open {
-            caller: id(*caller)?,
-            request: id(*request)?,
-            callee: id(*callee)?,
-            invocation: id(*invocation)?,
-        };
-        let given = step(calls, word, &call)?;
-        assert_eq!(rt;
-            given,
-            *answer,
-            "{word} {caller} {request} {callee} {invocation}"
-        );
+// The word, then caller, request, callee and invocation, and the answer.
+type Row = (&'static str, u64, u64, u64, u64, u64);
+
+fn call_of(row: &Row) -> Result<Open, Fail> {
+    Ok(Open {
+        caller: id(row.1)?,
+        request: id(row.2)?,
+        callee: id(row.3)?,
+        invocation: id(row.4)?,
+    })
+}
+
+fn is_answered(calls: &mut Calls, row: &Row) -> Result<bool, Fail> {
+    let call = call_of(row)?;
+    Ok(step(calls, row.0, &call)? == row.5)
+}
+
+fn goes(rt: &impl Abort, calls: &mut Calls, rows: &[Row]) -> Result<(), Fail> {
+    for row in rows {
+        assert!(rt; is_answered(calls, row)?, "{} {} {}", row.0, row.1, row.2);
     }
     Ok(())
 }
 
+const OPENS_AND_ANSWERS_CALLS: &[Row] = &[
+    ("has", 1, 5, 9, 1, 0),
+    ("full", 1, 5, 9, 1, 0),
+    ("open", 1, 5, 9, 1, 0),
+    ("open", 1, 5, 9, 2, 1),
+    ("open", 2, 5, 9, 1, 1),
+    ("has", 1, 5, 9, 1, 1),
+    ("callee", 1, 5, 1, 1, 9),
+    ("open", 1, 6, 1, 1, 0),
+    ("full", 1, 5, 9, 1, 1),
+    ("open", 1, 7, 9, 2, 103),
+    ("full", 2, 5, 9, 1, 0),
+    ("open", 2, 5, 9, 3, 0),
+    ("open", 2, 6, 1, 2, 0),
+    ("invocations", 1, 1, 9, 1, 13),
+    ("invocations", 1, 1, 1, 1, 12),
+    ("invocations", 1, 1, 3, 1, 0),
+    ("open calls", 1, 1, 1, 1, 15_16_25_26),
+    ("answer", 1, 1, 9, 2, 108),
+    ("answer", 1, 1, 9, 3, 25),
+    ("answer", 1, 1, 9, 3, 108),
+    ("has", 2, 5, 9, 3, 0),
+    ("callee", 2, 5, 1, 1, 0),
+    ("full", 2, 5, 9, 1, 0),
+    ("open", 2, 7, 9, 3, 0),
+    ("open calls", 1, 1, 1, 1, 15_16_26_27),
+];
+
 #[test]
 fn opens_and_answers_calls(rt: HostRuntime) -> Result<(), Fail> {
     let mut calls = Calls::new(rt.alloc(), 2);
-    goes(
-        &rt,
-        &mut calls,
-        &[
-            ("has", 1, 5, 9, 1, 0),
-            ("full", 1, 5, 9, 1, 0),
-            ("open", 1, 5, 9, 1, 0),
-            ("open", 1, 5, 9, 2, 1),
-            ("open", 2, 5, 9, 1, 1),
-            ("has", 1, 5, 9, 1, 1),
-            ("callee", 1, 5, 1, 1, 9),
-            ("open", 1, 6, 1, 1, 0),
-            ("full", 1, 5, 9, 1, 1),
-            ("open", 1, 7, 9, 2, 103),
-            ("full", 2, 5, 9, 1, 0),
-            ("open", 2, 5, 9, 3, 0),
-            ("open", 2, 6, 1, 2, 0),
-            ("invocations", 1, 1, 9, 1, 13),
-            ("invocations", 1, 1, 1, 1, 12),
-            ("invocations", 1, 1, 3, 1, 0),
-            ("open calls", 1, 1, 1, 1, 15_16_25_26),
-            ("answer", 1, 1, 9, 2, 108),
-            ("answer", 1, 1, 9, 3, 25),
-            ("answer", 1, 1, 9, 3, 108),
-            ("has", 2, 5, 9, 3, 0),
-            ("callee", 2, 5, 1, 1, 0),
-            ("full", 2, 5, 9, 1, 0),
-            ("open", 2, 7, 9, 3, 0),
-            ("open calls", 1, 1, 1, 1, 15_16_26_27),
-        ],
-    )
+    goes(&rt, &mut calls, OPENS_AND_ANSWERS_CALLS)
 }
+
+const CANCELS_CALLS: &[Row] = &[
+    ("kill", 2, 5, 1, 1, 108),
+    ("open", 2, 5, 9, 1, 0),
+    ("open", 2, 6, 9, 2, 0),
+    ("open", 2, 7, 9, 3, 0),
+    ("kill", 2, 5, 1, 1, 25_02),
+    ("kill", 2, 5, 1, 1, 25_02),
+    ("has", 2, 5, 1, 1, 1),
+    ("kill no wait", 2, 5, 1, 1, 25_13),
+    ("kill", 2, 5, 1, 1, 108),
+    ("answer", 1, 1, 9, 1, 108),
+    ("skip", 2, 6, 1, 1, 26_10),
+    ("skip", 2, 6, 1, 1, 108),
+    ("kill unannounced", 2, 7, 1, 1, 27_10),
+    ("open calls", 1, 1, 1, 1, 0),
+];
 
 #[test]
 fn cancels_calls(rt: HostRuntime) -> Result<(), Fail> {
     let mut calls = Calls::new(rt.alloc(), 4);
-    goes(
-        &rt,
-        &mut calls,
-        &[
-            ("kill", 2, 5, 1, 1, 108),
-            ("open", 2, 5, 9, 1, 0),
-            ("open", 2, 6, 9, 2, 0),
-            ("open", 2, 7, 9, 3, 0),
-            ("kill", 2, 5, 1, 1, 25_02),
-            ("kill", 2, 5, 1, 1, 25_02),
-            ("has", 2, 5, 1, 1, 1),
-            ("kill no wait", 2, 5, 1, 1, 25_13),
-            ("kill", 2, 5, 1, 1, 108),
-            ("answer", 1, 1, 9, 1, 108),
-            ("skip", 2, 6, 1, 1, 26_10),
-            ("skip", 2, 6, 1, 1, 108),
-            ("kill unannounced", 2, 7, 1, 1, 27_10),
-            ("open calls", 1, 1, 1, 1, 0),
-        ],
-    )
+    goes(&rt, &mut calls, CANCELS_CALLS)
 }
+
+const ENDS_THE_CALLS_OF_A_SESSION: &[Row] = &[
+    ("open", 4, 1, 5, 1, 0),
+    ("open", 4, 2, 4, 1, 0),
+    ("open", 3, 5, 4, 2, 0),
+    ("open", 2, 6, 4, 3, 0),
+    ("open", 3, 7, 2, 1, 0),
+    ("open", 4, 3, 2, 2, 0),
+    ("callee leaves", 1, 1, 4, 1, 35_26),
+    ("open calls", 1, 1, 1, 1, 41_42_37_43),
+    ("caller leaves", 4, 1, 1, 1, 41_43),
+    ("open calls", 1, 1, 1, 1, 37),
+    ("callee leaves", 1, 1, 4, 1, 0),
+    ("caller leaves", 4, 1, 1, 1, 0),
+    ("open calls", 1, 1, 1, 1, 37),
+];
 
 #[test]
 fn ends_the_calls_of_a_session(rt: HostRuntime) -> Result<(), Fail> {
     let mut calls = Calls::new(rt.alloc(), 4);
-    goes(
-        &rt,
-        &mut calls,
-        &[
-            ("open", 4, 1, 5, 1, 0),
-            ("open", 4, 2, 4, 1, 0),
-            ("open", 3, 5, 4, 2, 0),
-            ("open", 2, 6, 4, 3, 0),
-            ("open", 3, 7, 2, 1, 0),
-            ("open", 4, 3, 2, 2, 0),
-            ("callee leaves", 1, 1, 4, 1, 35_26),
-            ("open calls", 1, 1, 1, 1, 41_42_37_43),
-            ("caller leaves", 4, 1, 1, 1, 41_43),
-            ("open calls", 1, 1, 1, 1, 37),
-            ("callee leaves", 1, 1, 4, 1, 0),
-            ("caller leaves", 4, 1, 1, 1, 0),
-            ("open calls", 1, 1, 1, 1, 37),
-        ],
-    )
+    goes(&rt, &mut calls, ENDS_THE_CALLS_OF_A_SESSION)
 }

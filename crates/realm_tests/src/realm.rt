@@ -2,7 +2,7 @@ use realm_machine::{Act, Failed, Id, Limits, Out, Realm, Say, Shared, Transport}
 use std::alloc::Global;
 use std::process::Abort;
 use std::test::Fail;
-use wamp_messages::{Memory, read, write};
+use wamp_messages::{Memory, Read, read, write};
 
 pub fn realm_of(alloc: Global, limit: u32) -> Result<Realm, Fail> {
     let name = String::from_str(alloc, "realm1")?;
@@ -13,6 +13,12 @@ pub fn realm_of(alloc: Global, limit: u32) -> Result<Realm, Fail> {
         calls: limit,
     };
     Ok(Realm::new(alloc, name, limits))
+}
+
+// What is read of a text; want of memory is let go by std's call, so that no exit here drops what was read.
+fn shared(alloc: Global, text: &str) -> Option<Shared<Read>> {
+    let read = read(alloc, text.as_bytes()).ok()?;
+    Shared::new(alloc, read).ok()
 }
 
 // `connect`, `hang up`, or the text of a message.
@@ -26,7 +32,7 @@ fn parsed(alloc: Global, draw: u64, text: &str) -> Result<Act, Memory> {
     let Some(draw) = Id::new(draw) else {
         return Err(Memory);
     };
-    let Ok(read) = Shared::new(alloc, read(alloc, text.as_bytes())?) else {
+    let Some(read) = shared(alloc, text) else {
         return Err(Memory);
     };
     Ok(Act::Said { draw, read })
@@ -92,16 +98,20 @@ pub fn replies(
     told(alloc, realm, transport, &said)
 }
 
-// Each transport does what its row says, with the draw for it; and the realm says then what the row says.
-fn goes(
-    rt: &impl Abort,
-    alloc: Global,
-    realm: &mut Realm,
-    rows: &[(u32, u64, &str, &str)],
-) -> Result<(), Fail> {
-    for (number, draw, text, says) in rows {
-        let octets = replies(alloc, realm, transport(*number), *draw, text)?;
-        assert!(rt; octets.as_slice() == says.as_bytes(), "{number} {text}");
+/// What a transport does, with the draw for it, and what the realm says then.
+pub type Row = (u32, u64, &'static str, &'static str);
+
+// Whether the realm says what the row says.
+fn is_said(alloc: Global, realm: &mut Realm, row: &Row) -> Result<bool, Fail> {
+    let (number, draw, text, says) = *row;
+    let octets = replies(alloc, realm, transport(number), draw, text)?;
+    Ok(octets.as_slice() == says.as_bytes())
+}
+
+// Each transport does what its row says; and the realm says then what the row says.
+fn goes(rt: &impl Abort, alloc: Global, realm: &mut Realm, rows: &[Row]) -> Result<(), Fail> {
+    for row in rows {
+        assert!(rt; is_said(alloc, realm, row)?, "{} {}", row.0, row.2);
     }
     Ok(())
 }
@@ -110,7 +120,7 @@ fn goes(
 pub const HELLO: &str = "[1,\"realm1\",{}]";
 
 // A client as which one of four connects, and what its HELLO is answered where its number is the draw.
-const CLIENTS: [(u32, u64, &str); 4] = [
+const CLIENTS: &[(u32, u64, &str)] = &[
     (
         1,
         1,
@@ -133,22 +143,44 @@ const CLIENTS: [(u32, u64, &str); 4] = [
     ),
 ];
 
-// Connects the clients, and then opens a session for each that has a HELLO.
+fn connects(rt: &impl Abort, alloc: Global, realm: &mut Realm, clients: usize) -> Result<(), Fail> {
+    for (number, draw, _welcome) in CLIENTS.iter().take(clients) {
+        assert!(rt;
+            is_said(alloc, realm, &(*number, *draw, "connect", ""))?,
+            "{number}"
+        );
+    }
+    Ok(())
+}
+
+// Opens a session for each client that has a HELLO.
 fn opens(
     rt: &impl Abort,
     alloc: Global,
     realm: &mut Realm,
-    clients: &[Option<&str>],
+    clients: &[Option<&'static str>],
 ) -> Result<(), Fail> {
-    for ((number, draw, _welcome), _hello) in CLIENTS.iter().zip(clients.iter()) {
-        goes(rt, alloc, realm, &[(*number, *draw, "connect", "")])?;
-    }
     for ((number, draw, welcome), hello) in CLIENTS.iter().zip(clients.iter()) {
         if let Some(hello) = hello {
-            goes(rt, alloc, realm, &[(*number, *draw, hello, welcome)])?;
+            assert!(rt;
+                is_said(alloc, realm, &(*number, *draw, hello, welcome))?,
+                "{number}"
+            );
         }
     }
     Ok(())
+}
+
+fn opens_and_goes(
+    rt: &impl Abort,
+    alloc: Global,
+    realm: &mut Realm,
+    clients: &[Option<&'static str>],
+    rows: &[Row],
+) -> Result<(), Fail> {
+    connects(rt, alloc, realm, clients.len())?;
+    opens(rt, alloc, realm, clients)?;
+    goes(rt, alloc, realm, rows)
 }
 
 // Rows in a realm with this limit, in which clients are connected, each with a session by its HELLO, or with none.
@@ -156,340 +188,276 @@ pub fn check(
     rt: &impl Abort,
     alloc: Global,
     limit: u32,
-    clients: &[Option<&str>],
-    rows: &[(u32, u64, &str, &str)],
+    clients: &[Option<&'static str>],
+    rows: &[Row],
 ) -> Result<(), Fail> {
     let mut realm = realm_of(alloc, limit)?;
-    opens(rt, alloc, &mut realm, clients)?;
-    goes(rt, alloc, &mut realm, rows)
+    opens_and_goes(rt, alloc, &mut realm, clients, rows)
 }
+
+const TWO_CLIENTS_AND_ONE_TOPIC: &[Row] = &[
+    (1, 1, "connect", ""),
+    (2, 1, "connect", ""),
+    (
+        1,
+        1,
+        "[1,\"realm1\",{}]",
+        "1 [2,1,{\"roles\":{\"broker\":{\"features\":{\"pattern_based_subscrip;",
+    ),
+    (1, 2, "[32,1,{},\"a.b\"]", "1 [33,1,1];"),
+    (
+        1,
+        3,
+        "[16,2,{\"acknowledge\":true,\"exclude_me\":false},\"a.b\",[\"hi\"]]",
+        "1 [17,2,3];1 [36,1,3,{},[\"hi\"]];",
+    ),
+    (
+        2,
+        1,
+        "[1,\"realm1\",{}]",
+        "2 [2,2,{\"roles\":{\"broker\":{\"features\":{\"pattern_based_subscrip;",
+    ),
+    (2, 2, "[32,1,{},\"a.b\"]", "2 [33,1,1];"),
+    (
+        2,
+        9,
+        "[16,3,{},\"a.b\",[\"hi\"]]",
+        "1 [36,1,9,{},[\"hi\"]];",
+    ),
+    (
+        2,
+        9,
+        "[16,3,{\"exclude_me\":false},\"a.b\"]",
+        "1 [36,1,9,{}];2 [36,1,9,{}];",
+    ),
+    (
+        1,
+        4,
+        "[6,{},\"wamp.close.close_realm\"]",
+        "1 [6,{},\"wamp.close.goodbye_and_out\"];",
+    ),
+    (
+        2,
+        9,
+        "[16,3,{\"exclude_me\":false},\"a.b\"]",
+        "2 [36,1,9,{}];",
+    ),
+    (
+        2,
+        5,
+        "[1,\"realm2\",{}]",
+        "2 [3,{},\"wamp.error.protocol_violation\"];2 close;",
+    ),
+    (2, 6, "[1,\"realm1\",{}]", ""),
+    (1, 6, "hang up", ""),
+];
 
 #[test]
 fn two_clients_and_one_topic(rt: HostRuntime) -> Result<(), Fail> {
-    let rows = [
-        (1, 1, "connect", ""),
-        (2, 1, "connect", ""),
-        (
-            1,
-            1,
-            "[1,\"realm1\",{}]",
-            "1 [2,1,{\"roles\":{\"broker\":{\"features\":{\"pattern_based_subscrip;",
-        ),
-        (1, 2, "[32,1,{},\"a.b\"]", "1 [33,1,1];"),
-        (
-            1,
-            3,
-            "[16,2,{\"acknowledge\":true,\"exclude_me\":false},\"a.b\",[\"hi\"]]",
-            "1 [17,2,3];1 [36,1,3,{},[\"hi\"]];",
-        ),
-        (
-            2,
-            1,
-            "[1,\"realm1\",{}]",
-            "2 [2,2,{\"roles\":{\"broker\":{\"features\":{\"pattern_based_subscrip;",
-        ),
-        (2, 2, "[32,1,{},\"a.b\"]", "2 [33,1,1];"),
-        (
-            2,
-            9,
-            "[16,3,{},\"a.b\",[\"hi\"]]",
-            "1 [36,1,9,{},[\"hi\"]];",
-        ),
-        (
-            2,
-            9,
-            "[16,3,{\"exclude_me\":false},\"a.b\"]",
-            "1 [36,1,9,{}];2 [36,1,9,{}];",
-        ),
-        (
-            1,
-            4,
-            "[6,{},\"wamp.close.close_realm\"]",
-            "1 [6,{},\"wamp.close.goodbye_and_out\"];",
-        ),
-        (
-            2,
-            9,
-            "[16,3,{\"exclude_me\":false},\"a.b\"]",
-            "2 [36,1,9,{}];",
-        ),
-        (
-            2,
-            5,
-            "[1,\"realm2\",{}]",
-            "2 [3,{},\"wamp.error.protocol_violation\"];2 close;",
-        ),
-        (2, 6, "[1,\"realm1\",{}]", ""),
-        (1, 6, "hang up", ""),
-    ];
-    check(&rt, rt.alloc(), 4096, &[], rows.as_slice())
+    check(&rt, rt.alloc(), 4096, &[], TWO_CLIENTS_AND_ONE_TOPIC)
 }
+
+const LIMITS_OF_ONE_AND_REFUSALS: &[Row] = &[
+    (
+        2,
+        2,
+        "[1,\"realm1\",{}]",
+        "2 [3,{},\"cluster.error.limit\"];2 close;",
+    ),
+    (1, 3, "[32,1,{},\"a\"]", "1 [33,1,1];"),
+    (
+        1,
+        4,
+        "[32,2,{},\"b\"]",
+        "1 [8,32,2,{},\"cluster.error.limit\"];",
+    ),
+    (1, 5, "[32,3,{},\"a\"]", "1 [33,3,1];"),
+    (
+        1,
+        6,
+        "[32,4,{\"match\":\"prefix\"},\"a\"]",
+        "1 [8,32,4,{},\"cluster.error.limit\"];",
+    ),
+    (
+        1,
+        7,
+        "[32,5,{},\"a..b\"]",
+        "1 [8,32,5,{},\"wamp.error.invalid_uri\"];",
+    ),
+    (1, 8, "[16,6,{},\"a b\"]", ""),
+    (
+        1,
+        9,
+        "[16,7,{\"acknowledge\":true},\"wamp.a\"]",
+        "1 [8,16,7,{},\"wamp.error.invalid_uri\"];",
+    ),
+    (
+        1,
+        9,
+        "{}",
+        "1 [3,{},\"wamp.error.protocol_violation\"];1 close;",
+    ),
+];
 
 #[test]
 fn limits_of_one_and_refusals(rt: HostRuntime) -> Result<(), Fail> {
-    let rows = [
-        (
-            2,
-            2,
-            "[1,\"realm1\",{}]",
-            "2 [3,{},\"cluster.error.limit\"];2 close;",
-        ),
-        (1, 3, "[32,1,{},\"a\"]", "1 [33,1,1];"),
-        (
-            1,
-            4,
-            "[32,2,{},\"b\"]",
-            "1 [8,32,2,{},\"cluster.error.limit\"];",
-        ),
-        (1, 5, "[32,3,{},\"a\"]", "1 [33,3,1];"),
-        (
-            1,
-            6,
-            "[32,4,{\"match\":\"prefix\"},\"a\"]",
-            "1 [8,32,4,{},\"cluster.error.limit\"];",
-        ),
-        (
-            1,
-            7,
-            "[32,5,{},\"a..b\"]",
-            "1 [8,32,5,{},\"wamp.error.invalid_uri\"];",
-        ),
-        (1, 8, "[16,6,{},\"a b\"]", ""),
-        (
-            1,
-            9,
-            "[16,7,{\"acknowledge\":true},\"wamp.a\"]",
-            "1 [8,16,7,{},\"wamp.error.invalid_uri\"];",
-        ),
-        (
-            1,
-            9,
-            "{}",
-            "1 [3,{},\"wamp.error.protocol_violation\"];1 close;",
-        ),
-    ];
-    let clients = [Some(HELLO), None];
-    check(&rt, rt.alloc(), 1, clients.as_slice(), rows.as_slice())
+    check(
+        &rt,
+        rt.alloc(),
+        1,
+        &[Some(HELLO), None],
+        LIMITS_OF_ONE_AND_REFUSALS,
+    )
 }
+
+const EVENTS_NAME_THEIR_TOPICS: &[Row] = &[
+    (
+        1,
+        3,
+        "[32,1,{\"match\":\"prefix\"},\"com.a.x\"]",
+        "1 [33,1,1];",
+    ),
+    (
+        2,
+        500,
+        "[16,2,{\"acknowledge\":true},\"com.a.x-low\",[\"hi\"]]",
+        "2 [17,2,500];1 [36,1,500,{\"topic\":\"com.a.x-low\"},[\"hi\"]];",
+    ),
+    (2, 9, "[16,2,{},\"com.a\"]", ""),
+    (
+        1,
+        3,
+        "[32,2,{\"match\":\"exact\"},\"a..b\"]",
+        "1 [8,32,2,{},\"wamp.error.invalid_uri\"];",
+    ),
+    (
+        1,
+        3,
+        "[32,3,{\"match\":\"wildcard\"},\"a..b\"]",
+        "1 [33,3,2];",
+    ),
+    (
+        1,
+        3,
+        "[32,4,{\"match\":\"prefix\"},\"a b\"]",
+        "1 [8,32,4,{},\"wamp.error.invalid_uri\"];",
+    ),
+    (
+        2,
+        9,
+        "[16,2,{},\"a.x.b\"]",
+        "1 [36,2,9,{\"topic\":\"a.x.b\"}];",
+    ),
+    (1, 9, "[16,2,{},\"a.x.b\"]", ""),
+];
 
 #[test]
 fn events_name_their_topics(rt: HostRuntime) -> Result<(), Fail> {
-    let rows = [
-        (
-            1,
-            3,
-            "[32,1,{\"match\":\"prefix\"},\"com.a.x\"]",
-            "1 [33,1,1];",
-        ),
-        (
-            2,
-            500,
-            "[16,2,{\"acknowledge\":true},\"com.a.x-low\",[\"hi\"]]",
-            "2 [17,2,500];1 [36,1,500,{\"topic\":\"com.a.x-low\"},[\"hi\"]];",
-        ),
-        (2, 9, "[16,2,{},\"com.a\"]", ""),
-        (
-            1,
-            3,
-            "[32,2,{\"match\":\"exact\"},\"a..b\"]",
-            "1 [8,32,2,{},\"wamp.error.invalid_uri\"];",
-        ),
-        (
-            1,
-            3,
-            "[32,3,{\"match\":\"wildcard\"},\"a..b\"]",
-            "1 [33,3,2];",
-        ),
-        (
-            1,
-            3,
-            "[32,4,{\"match\":\"prefix\"},\"a b\"]",
-            "1 [8,32,4,{},\"wamp.error.invalid_uri\"];",
-        ),
-        (
-            2,
-            9,
-            "[16,2,{},\"a.x.b\"]",
-            "1 [36,2,9,{\"topic\":\"a.x.b\"}];",
-        ),
-        (1, 9, "[16,2,{},\"a.x.b\"]", ""),
-    ];
-    let clients = [Some(HELLO), Some(HELLO)];
-    check(&rt, rt.alloc(), 4096, clients.as_slice(), rows.as_slice())
+    check(
+        &rt,
+        rt.alloc(),
+        4096,
+        &[Some(HELLO), Some(HELLO)],
+        EVENTS_NAME_THEIR_TOPICS,
+    )
 }
+
+const ONE_SESSION_IN_THREE_MATCHES: &[Row] = &[
+    (1, 3, "[32,1,{},\"a.b\"]", "1 [33,1,1];"),
+    (1, 3, "[32,2,{\"match\":\"prefix\"},\"a\"]", "1 [33,2,2];"),
+    (
+        1,
+        3,
+        "[32,3,{\"match\":\"wildcard\"},\"a.\"]",
+        "1 [33,3,3];",
+    ),
+    (
+        2,
+        9,
+        "[16,1,{},\"a.b\"]",
+        "1 [36,1,9,{}];1 [36,2,9,{\"topic\":\"a.b\"}];1 [36,3,9,{\"topic\":\"a.b\"}];",
+    ),
+    (1, 3, "[32,4,{},\"wamp.x\"]", "1 [33,4,4];"),
+    (
+        2,
+        9,
+        "[16,2,{\"acknowledge\":true},\"wamp.x\"]",
+        "2 [8,16,2,{},\"wamp.error.invalid_uri\"];",
+    ),
+    (2, 9, "[16,3,{},\"wamp.x\"]", ""),
+];
 
 #[test]
 fn one_session_in_three_matches(rt: HostRuntime) -> Result<(), Fail> {
-    let rows = [
-        (1, 3, "[32,1,{},\"a.b\"]", "1 [33,1,1];"),
-        (1, 3, "[32,2,{\"match\":\"prefix\"},\"a\"]", "1 [33,2,2];"),
-        (
-            1,
-            3,
-            "[32,3,{\"match\":\"wildcard\"},\"a.\"]",
-            "1 [33,3,3];",
-        ),
-        (
-            2,
-            9,
-            "[16,1,{},\"a.b\"]",
-            "1 [36,1,9,{}];1 [36,2,9,{\"topic\":\"a.b\"}];1 [36,3,9,{\"topic\":\"a.b\"}];",
-        ),
-        (1, 3, "[32,4,{},\"wamp.x\"]", "1 [33,4,4];"),
-        (
-            2,
-            9,
-            "[16,2,{\"acknowledge\":true},\"wamp.x\"]",
-            "2 [8,16,2,{},\"wamp.error.invalid_uri\"];",
-        ),
-        (2, 9, "[16,3,{},\"wamp.x\"]", ""),
-    ];
-    let clients = [Some(HELLO), Some(HELLO)];
-    check(&rt, rt.alloc(), 4096, clients.as_slice(), rows.as_slice())
+    check(
+        &rt,
+        rt.alloc(),
+        4096,
+        &[Some(HELLO), Some(HELLO)],
+        ONE_SESSION_IN_THREE_MATCHES,
+    )
 }
+
+const PATTERNS_OF_EMPTY_COMPONENTS: &[Row] = &[
+    (1, 3, "[32,1,{\"match\":\"prefix\"},\"\"]", "1 [33,1,1];"),
+    (1, 3, "[32,2,{\"match\":\"wildcard\"},\".\"]", "1 [33,2,2];"),
+    (
+        1,
+        5,
+        "[16,4,{\"exclude_me\":false},\"a.b\",[],{\"k\":1}]",
+        "1 [36,1,5,{\"topic\":\"a.b\"},[],{\"k\":1}];1 [36,2,5,{\"topic\":\"a.b\"},[],{\"k\":1}];",
+    ),
+];
 
 #[test]
 fn patterns_of_empty_components(rt: HostRuntime) -> Result<(), Fail> {
-    let rows = [
-        (1, 3, "[32,1,{\"match\":\"prefix\"},\"\"]", "1 [33,1,1];"),
-        (1, 3, "[32,2,{\"match\":\"wildcard\"},\".\"]", "1 [33,2,2];"),
-        (
-            1,
-            5,
-            "[16,4,{\"exclude_me\":false},\"a.b\",[],{\"k\":1}]",
-            "1 [36,1,5,{\"topic\":\"a.b\"},[],{\"k\":1}];1 [36,2,5,{\"topic\":\"a.b\"},[],{\"k\":1}];",
-        ),
-    ];
-    let clients = [Some(HELLO)];
-    check(&rt, rt.alloc(), 4096, clients.as_slice(), rows.as_slice())
+    check(
+        &rt,
+        rt.alloc(),
+        4096,
+        &[Some(HELLO)],
+        PATTERNS_OF_EMPTY_COMPONENTS,
+    )
 }
+
+const SINGLE_SUBSCRIPTIONS_ARE_LEFT: &[Row] = &[
+    (1, 2, "[32,1,{},\"a.b\"]", "1 [33,1,1];"),
+    (1, 2, "[32,2,{},\"a.b\"]", "1 [33,2,1];"),
+    (1, 2, "[34,3,1]", "1 [35,3];"),
+    (
+        1,
+        2,
+        "[34,4,1]",
+        "1 [8,34,4,{},\"wamp.error.no_such_subscription\"];",
+    ),
+    (1, 2, "[32,5,{},\"a.b\"]", "1 [33,5,2];"),
+    (
+        1,
+        9,
+        "[16,6,{\"exclude_me\":false},\"a.b\"]",
+        "1 [36,2,9,{}];",
+    ),
+    (
+        1,
+        2,
+        "[34,7,1]",
+        "1 [8,34,7,{},\"wamp.error.no_such_subscription\"];",
+    ),
+    (
+        1,
+        2,
+        "[35,9]",
+        "1 [3,{},\"wamp.error.protocol_violation\"];1 close;",
+    ),
+];
 
 #[test]
 fn single_subscriptions_are_left(rt: HostRuntime) -> Result<(), Fail> {
-    let rows = [
-        (1, 2, "[32,1,{},\"a.b\"]", "1 [33,1,1];"),
-        (1, 2, "[32,2,{},\"a.b\"]", "1 [33,2,1];"),
-        (1, 2, "[34,3,1]", "1 [35,3];"),
-        (
-            1,
-            2,
-            "[34,4,1]",
-            "1 [8,34,4,{},\"wamp.error.no_such_subscription\"];",
-        ),
-        (1, 2, "[32,5,{},\"a.b\"]", "1 [33,5,2];"),
-        (
-            1,
-            9,
-            "[16,6,{\"exclude_me\":false},\"a.b\"]",
-            "1 [36,2,9,{}];",
-        ),
-        (
-            1,
-            2,
-            "[34,7,1]",
-            "1 [8,34,7,{},\"wamp.error.no_such_subscription\"];",
-        ),
-        (
-            1,
-            2,
-            "[35,9]",
-            "1 [3,{},\"wamp.error.protocol_violation\"];1 close;",
-        ),
-    ];
-    let clients = [Some(HELLO)];
-    check(&rt, rt.alloc(), 4096, clients.as_slice(), rows.as_slice())
-}
-
-#[test]
-fn a_procedure_passes_on(rt: HostRuntime) -> Result<(), Fail> {
-    let rows = [
-        (1, 3, "[64,1,{},\"a.b\"]", "1 [65,1,1];"),
-        (
-            2,
-            3,
-            "[64,1,{},\"a.b\"]",
-            "2 [8,64,1,{},\"wamp.error.procedure_already_exists\"];",
-        ),
-        (
-            1,
-            3,
-            "[6,{},\"x\"]",
-            "1 [6,{},\"wamp.close.goodbye_and_out\"];",
-        ),
-        (2, 3, "[64,2,{},\"a.b\"]", "2 [65,2,2];"),
-        (2, 3, "[64,3,{\"invoke\":\"last\"},\"p\"]", "2 [65,3,3];"),
-        (
-            2,
-            3,
-            "[64,4,{\"invoke\":\"last\",\"match\":\"prefix\"},\"p\"]",
-            "2 [65,4,4];",
-        ),
-        (2, 3, "[66,5,2]", "2 [67,5];"),
-        (
-            2,
-            3,
-            "[66,6,2]",
-            "2 [8,66,6,{},\"wamp.error.no_such_registration\"];",
-        ),
-        (2, 3, "[64,7,{},\"a.b\"]", "2 [65,7,5];"),
-        (2, 3, "hang up", ""),
-    ];
-    let clients = [Some(HELLO), Some(HELLO)];
-    check(&rt, rt.alloc(), 4096, clients.as_slice(), rows.as_slice())
-}
-
-#[test]
-fn refused_procedures(rt: HostRuntime) -> Result<(), Fail> {
-    let rows = [
-        (
-            1,
-            2,
-            "[64,1,{},\"wamp.x\"]",
-            "1 [8,64,1,{},\"wamp.error.invalid_uri\"];",
-        ),
-        (
-            1,
-            2,
-            "[64,1,{\"match\":\"prefix\"},\"wamp\"]",
-            "1 [8,64,1,{},\"wamp.error.invalid_uri\"];",
-        ),
-        (
-            1,
-            2,
-            "[64,1,{},\"a..b\"]",
-            "1 [8,64,1,{},\"wamp.error.invalid_uri\"];",
-        ),
-        (
-            1,
-            2,
-            "[64,1,{\"invoke\":\"random\"},\"p\"]",
-            "1 [8,64,1,{},\"wamp.error.invalid_argument\"];",
-        ),
-        (
-            1,
-            2,
-            "[66,2,9]",
-            "1 [8,66,2,{},\"wamp.error.no_such_registration\"];",
-        ),
-        (
-            1,
-            2,
-            "[64,3,{\"match\":\"wildcard\"},\"a..b\"]",
-            "1 [65,3,1];",
-        ),
-        (
-            1,
-            2,
-            "[64,4,{},\"p\"]",
-            "1 [8,64,4,{},\"cluster.error.limit\"];",
-        ),
-        (
-            1,
-            2,
-            "[65,1,1]",
-            "1 [3,{},\"wamp.error.protocol_violation\"];1 close;",
-        ),
-    ];
-    let clients = [Some(HELLO)];
-    check(&rt, rt.alloc(), 1, clients.as_slice(), rows.as_slice())
+    check(
+        &rt,
+        rt.alloc(),
+        4096,
+        &[Some(HELLO)],
+        SINGLE_SUBSCRIPTIONS_ARE_LEFT,
+    )
 }

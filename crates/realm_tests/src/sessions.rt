@@ -1,5 +1,6 @@
 // Rows on sessions and on the faults of a realm's parts.
 use realm_sessions::{RealmFault, Sessions, Transport};
+use std::process::Abort;
 use std::test::Fail;
 use wamp_ids::Id;
 
@@ -73,38 +74,50 @@ fn step(sessions: &mut Sessions, word: &str, number: u32, id: u64) -> u64 {
     place_of(sessions, id)
 }
 
-#[test]
-fn opens_and_closes_sessions(rt: HostRuntime) -> Result<(), Fail> {
-    let mut sessions = Sessions::new(rt.alloc(), 2);
-    for (word, number, id, answer) in [
-        ("session", 1, 0, 8),
-        ("open", 1, 5, 0),
-        ("connect", 1, 0, 0),
-        ("session", 1, 0, 0),
-        ("open", 1, 5, 5),
-        ("connect", 1, 0, 0),
-        ("session", 1, 0, 5),
-        ("connect", 2, 0, 0),
-        ("open", 2, 5, 6),
-        ("place", 0, 5, 11),
-        ("place", 0, 6, 2),
-        ("place", 0, 7, 0),
-        ("connect", 3, 0, 0),
-        ("open", 3, 9, 103),
-        ("session", 3, 0, 0),
-        ("close", 1, 0, 0),
-        ("session", 1, 0, 0),
-        ("place", 0, 5, 0),
-        ("open", 3, 9_007_199_254_740_992, 9_007_199_254_740_992),
-        ("remove", 2, 0, 0),
-        ("session", 2, 0, 8),
-        ("open", 1, 9_007_199_254_740_992, 1),
-        ("place", 0, 9_007_199_254_740_992, 3),
-    ] {
-        let given = step(&mut sessions, word, number, id);
-        assert_eq!(rt; given, answer, "{word} {number} {id}");
+// A word, the number of a transport, an id, and the answer.
+type Row = (&'static str, u32, u64, u64);
+
+const ROWS: &[Row] = &[
+    ("session", 1, 0, 8),
+    ("open", 1, 5, 0),
+    ("connect", 1, 0, 0),
+    ("session", 1, 0, 0),
+    ("open", 1, 5, 5),
+    ("connect", 1, 0, 0),
+    ("session", 1, 0, 5),
+    ("connect", 2, 0, 0),
+    ("open", 2, 5, 6),
+    ("place", 0, 5, 11),
+    ("place", 0, 6, 2),
+    ("place", 0, 7, 0),
+    ("connect", 3, 0, 0),
+    ("open", 3, 9, 103),
+    ("session", 3, 0, 0),
+    ("close", 1, 0, 0),
+    ("session", 1, 0, 0),
+    ("place", 0, 5, 0),
+    ("open", 3, 9_007_199_254_740_992, 9_007_199_254_740_992),
+    ("remove", 2, 0, 0),
+    ("session", 2, 0, 8),
+    ("open", 1, 9_007_199_254_740_992, 1),
+    ("place", 0, 9_007_199_254_740_992, 3),
+];
+
+fn is_answered(sessions: &mut Sessions, row: &Row) -> bool {
+    let (word, number, id, answer) = *row;
+    step(sessions, word, number, id) == answer
+}
+
+fn goes(rt: &impl Abort, sessions: &mut Sessions) {
+    for row in ROWS {
+        assert!(rt; is_answered(sessions, row), "{} {} {}", row.0, row.1, row.2);
     }
-    Ok(())
+}
+
+#[test]
+fn opens_and_closes_sessions(rt: HostRuntime) {
+    let mut sessions = Sessions::new(rt.alloc(), 2);
+    goes(&rt, &mut sessions);
 }
 
 // The session's next invocation, 0 where there is none.
@@ -118,89 +131,118 @@ fn next_of(sessions: &mut Sessions, session: u64, taken: &[Id]) -> u64 {
     }
 }
 
+// A session, two ids that are taken, and its next invocation.
+const INVOCATIONS: &[(u64, [u64; 2], u64)] = &[
+    (5, [9_007_199_254_740_992, 4], 1),
+    (5, [9_007_199_254_740_992, 4], 2),
+    (6, [1, 4], 2),
+    (6, [1, 4], 3),
+    (6, [1, 4], 5),
+    (5, [1, 4], 3),
+    (5, [4, 1], 5),
+    (7, [1, 4], 0),
+];
+
+fn id(number: u64) -> Result<Id, Fail> {
+    Ok(Id::new(number).ok_or("an id")?)
+}
+
+// Connects two transports, and opens sessions 5 and 6 there.
+fn open_both(sessions: &mut Sessions) -> Result<(u64, u64), Fail> {
+    sessions.connect(transport(1, 1))?;
+    sessions.connect(transport(1, 2))?;
+    Ok((opened(sessions, 1, 5), opened(sessions, 2, 6)))
+}
+
+fn is_next(
+    sessions: &mut Sessions,
+    session: u64,
+    taken: [u64; 2],
+    next: u64,
+) -> Result<bool, Fail> {
+    let taken = [id(taken[0])?, id(taken[1])?];
+    Ok(next_of(sessions, session, &taken) == next)
+}
+
+fn hands_out(rt: &impl Abort, sessions: &mut Sessions) -> Result<(), Fail> {
+    assert!(rt; open_both(sessions)? == (5, 6));
+    for (session, taken, next) in INVOCATIONS {
+        assert!(rt; is_next(sessions, *session, *taken, *next)?, "{session}");
+    }
+    assert!(rt; place_of(sessions, 5) == 11);
+    Ok(())
+}
+
 #[test]
 fn hands_out_ids_of_invocations(rt: HostRuntime) -> Result<(), Fail> {
     let mut sessions = Sessions::new(rt.alloc(), 2);
-    sessions.connect(transport(1, 1))?;
-    sessions.connect(transport(1, 2))?;
-    assert_eq!(rt; opened(&mut sessions, 1, 5), 5);
-    assert_eq!(rt; opened(&mut sessions, 2, 6), 6);
-    let one = Id::new(1).ok_or("1")?;
-    let four = Id::new(4).ok_or("4")?;
-    let last = Id::new(9_007_199_254_740_992).ok_or("2^53")?;
-    for (session, taken, next) in [
-        (5, [last, four], 1),
-        (5, [last, four], 2),
-        (6, [one, four], 2),
-        (6, [one, four], 3),
-        (6, [one, four], 5),
-        (5, [one, four], 3),
-        (5, [four, one], 5),
-        (7, [one, four], 0),
-    ] {
-        let given = next_of(&mut sessions, session, &taken);
-        assert_eq!(rt; given, next, "{session}");
+    hands_out(&rt, &mut sessions)
+}
+
+fn connect_all(sessions: &mut Sessions) -> Result<(), Fail> {
+    for (node, number) in [(1, 4), (2, 1), (1, 2), (1, 4), (2, 3)] {
+        sessions.connect(transport(node, number))?;
     }
-    assert_eq!(rt; place_of(&sessions, 5), 11);
+    Ok(())
+}
+
+fn are_of(sessions: &Sessions, node: u8, wanted: &[Transport]) -> Result<bool, Fail> {
+    let found = sessions.of_origin(node)?;
+    Ok(found.as_slice() == wanted)
+}
+
+fn gives_all(rt: &impl Abort, sessions: &mut Sessions) -> Result<(), Fail> {
+    connect_all(sessions)?;
+    assert!(rt; are_of(sessions, 1, &[transport(1, 4), transport(1, 2)])?);
+    assert!(rt; are_of(sessions, 2, &[transport(2, 1), transport(2, 3)])?);
+    assert!(rt; are_of(sessions, 3, &[])?);
+    assert_eq!(rt; sessions.as_slice().len(), 4);
     Ok(())
 }
 
 #[test]
 fn gives_the_transports_of_a_node(rt: HostRuntime) -> Result<(), Fail> {
     let mut sessions = Sessions::new(rt.alloc(), 2);
-    for (node, number) in [(1, 4), (2, 1), (1, 2), (1, 4), (2, 3)] {
-        sessions.connect(transport(node, number))?;
-    }
-    let first = sessions.of_origin(1)?;
-    assert_eq!(rt;
-        first.as_slice(),
-        [transport(1, 4), transport(1, 2)].as_slice()
-    );
-    let second = sessions.of_origin(2)?;
-    assert_eq!(rt;
-        second.as_slice(),
-        [transport(2, 1), transport(2, 3)].as_slice()
-    );
-    assert_eq!(rt; sessions.of_origin(3)?.len(), 0);
-    assert_eq!(rt; sessions.as_slice().len(), 4);
-    Ok(())
+    gives_all(&rt, &mut sessions)
 }
 
+// Each fault, its number and its URI.
+const FAULTS: &[(RealmFault, u8, Option<&str>)] = &[
+    (RealmFault::InvalidUri, 101, Some("wamp.error.invalid_uri")),
+    (
+        RealmFault::InvalidArgument,
+        102,
+        Some("wamp.error.invalid_argument"),
+    ),
+    (RealmFault::Limit, 103, Some("cluster.error.limit")),
+    (
+        RealmFault::AlreadyExists,
+        104,
+        Some("wamp.error.procedure_already_exists"),
+    ),
+    (
+        RealmFault::NoSuchRegistration,
+        105,
+        Some("wamp.error.no_such_registration"),
+    ),
+    (
+        RealmFault::NoSuchSubscription,
+        106,
+        Some("wamp.error.no_such_subscription"),
+    ),
+    (
+        RealmFault::NoSuchProcedure,
+        107,
+        Some("wamp.error.no_such_procedure"),
+    ),
+    (RealmFault::NotOpen, 108, None),
+    (RealmFault::Memory, 109, None),
+];
+
 #[test]
-fn seven_faults_have_uris(rt: HostRuntime) -> Result<(), Fail> {
-    for (fault, number, uri) in [
-        (RealmFault::InvalidUri, 101, Some("wamp.error.invalid_uri")),
-        (
-            RealmFault::InvalidArgument,
-            102,
-            Some("wamp.error.invalid_argument"),
-        ),
-        (RealmFault::Limit, 103, Some("cluster.error.limit")),
-        (
-            RealmFault::AlreadyExists,
-            104,
-            Some("wamp.error.procedure_already_exists"),
-        ),
-        (
-            RealmFault::NoSuchRegistration,
-            105,
-            Some("wamp.error.no_such_registration"),
-        ),
-        (
-            RealmFault::NoSuchSubscription,
-            106,
-            Some("wamp.error.no_such_subscription"),
-        ),
-        (
-            RealmFault::NoSuchProcedure,
-            107,
-            Some("wamp.error.no_such_procedure"),
-        ),
-        (RealmFault::NotOpen, 108, None),
-        (RealmFault::Memory, 109, None),
-    ] {
-        assert_eq!(rt; fault.number(), number);
-        assert_eq!(rt; fault.uri(), uri);
+fn seven_faults_have_uris(rt: HostRuntime) {
+    for (fault, number, uri) in FAULTS {
+        assert_eq!(rt; fault.number(), *number);
+        assert_eq!(rt; fault.uri(), *uri);
     }
-    Ok(())
 }

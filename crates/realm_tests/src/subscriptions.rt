@@ -1,6 +1,6 @@
 // Rows on subscriptions.
 use realm_subscriptions::{Receiver, Subscriptions};
-use std::test::Fail;
+use std::process::Abort;
 use wamp_ids::{Id, Match, Pattern, Uri};
 
 // The id that is answered, or the fault's number; 0 where nothing is asked.
@@ -87,44 +87,62 @@ fn step(subscriptions: &mut Subscriptions, word: &str, session: u64, text: &str,
     told(subscriptions, text, id)
 }
 
-#[test]
-fn comes_to_subscriptions_and_leaves_them(rt: HostRuntime) -> Result<(), Fail> {
-    let mut subscriptions = Subscriptions::new(rt.alloc(), 3);
-    for (word, session, text, id, answer) in [
-        ("unsubscribe", 7, "", 1, 106),
-        ("exact", 7, "a.b", 0, 1),
-        ("exact", 7, "a.b", 0, 1),
-        ("unsubscribe", 8, "", 1, 106),
-        ("unsubscribe", 7, "", 1, 0),
-        ("unsubscribe", 7, "", 1, 106),
-        ("wildcard", 7, "a.", 0, 2),
-        ("prefix", 7, "a", 0, 3),
-        ("exact", 8, "a.b", 0, 4),
-        ("exact", 7, "a.b", 0, 4),
-        ("told", 0, "a.b", 0, 237_327_418_417),
-        ("told", 0, "a.b", 7, 418),
-        ("told", 0, "a.c", 0, 237_327),
-        ("told", 0, "ab.c", 9, 327),
-        ("told", 0, "b", 0, 0),
-        ("exact", 7, "c", 0, 103),
-        ("exact", 7, "a.b", 0, 4),
-        ("exact", 8, "c", 0, 5),
-        ("unsubscribe", 8, "", 5, 0),
-        ("exact", 8, "c", 0, 6),
-        ("unsubscribe", 8, "", 4, 0),
-        ("told", 0, "a.b", 0, 237_327_417),
-        ("leave", 7, "", 0, 1),
-        ("told", 0, "a.b", 0, 0),
-        ("told", 0, "c", 0, 618),
-        ("prefix", 7, "", 0, 7),
-        ("wildcard", 7, ".", 0, 8),
-        ("told", 0, "a.b", 0, 727_837),
-        ("told", 0, "c", 0, 618_727),
-        ("leave", 8, "", 0, 2),
-        ("leave", 7, "", 0, 0),
-    ] {
-        let given = step(&mut subscriptions, word, session, text, id);
-        assert_eq!(rt; given, answer, "{word} {session} {text} {id}");
+// What is done by whom, with which text and id, and what is answered.
+type Row = (&'static str, u64, &'static str, u64, u64);
+
+const ROWS: &[Row] = &[
+    ("unsubscribe", 7, "", 1, 106),
+    ("exact", 7, "a.b", 0, 1),
+    ("exact", 7, "a.b", 0, 1),
+    ("unsubscribe", 8, "", 1, 106),
+    ("unsubscribe", 7, "", 1, 0),
+    ("unsubscribe", 7, "", 1, 106),
+    ("wildcard", 7, "a.", 0, 2),
+    ("prefix", 7, "a", 0, 3),
+    ("exact", 8, "a.b", 0, 4),
+    ("exact", 7, "a.b", 0, 4),
+    ("told", 0, "a.b", 0, 237_327_418_417),
+    ("told", 0, "a.b", 7, 418),
+    ("told", 0, "a.c", 0, 237_327),
+    ("told", 0, "ab.c", 9, 327),
+    ("told", 0, "b", 0, 0),
+    ("exact", 7, "c", 0, 103),
+    ("exact", 7, "a.b", 0, 4),
+    ("exact", 8, "c", 0, 5),
+    ("unsubscribe", 8, "", 5, 0),
+    ("exact", 8, "c", 0, 6),
+    ("unsubscribe", 8, "", 4, 0),
+    ("told", 0, "a.b", 0, 237_327_417),
+    ("leave", 7, "", 0, 1),
+    ("told", 0, "a.b", 0, 0),
+    ("told", 0, "c", 0, 618),
+    ("prefix", 7, "", 0, 7),
+    ("wildcard", 7, ".", 0, 8),
+    ("told", 0, "a.b", 0, 727_837),
+    ("told", 0, "c", 0, 618_727),
+    ("leave", 8, "", 0, 2),
+    ("leave", 7, "", 0, 0),
+];
+
+fn is_answered(subscriptions: &mut Subscriptions, row: &Row) -> bool {
+    let (word, session, text, id, answer) = *row;
+    step(subscriptions, word, session, text, id) == answer
+}
+
+fn goes(rt: &impl Abort, subscriptions: &mut Subscriptions) {
+    for row in ROWS {
+        assert!(rt;
+            is_answered(subscriptions, row),
+            "{} {} {}",
+            row.0,
+            row.1,
+            row.2
+        );
     }
-    Ok(())
+}
+
+#[test]
+fn comes_to_subscriptions_and_leaves_them(rt: HostRuntime) {
+    let mut subscriptions = Subscriptions::new(rt.alloc(), 3);
+    goes(&rt, &mut subscriptions);
 }
