@@ -6,3 +6,4 @@ pub mod Args
 pub mod Equal
 pub mod Laws
 pub mod Fault
+pub mod Held

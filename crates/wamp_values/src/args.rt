@@ -4,6 +4,7 @@ ghost use Rattle.serde_json.specs.Find.{as_array, as_object};
 ghost use Rattle.wamp_values.specs.Args.{args_tokens, IsArgs, IsArguments, IsArgumentsKw};
 ghost use Rattle.wamp_values.specs.Tokens.{data_tokens, Appends};
 
+use crate::held::HeldPayload;
 use crate::memory::Memory;
 use crate::payload::Payload;
 use json::Writer;
@@ -13,7 +14,7 @@ use std::marker::Model;
 /// A payload that is an array (WAMP specification, "Protocol Messages": Arguments|list).
 #[derive(Debug, Drop)]
 pub struct Arguments {
-    list: Payload,
+    list: HeldPayload,
 }
 
 impl Model for Arguments {
@@ -32,12 +33,15 @@ impl Model for Arguments {
 }
 
 impl Arguments {
-    /// The payload as arguments, where it is an array.
+    /// The payload as arguments, where it is an array. It is held once from there on, which takes one allocation; where there is no
+    /// memory for that, it is held as it is.
     pub fn of(payload: Payload) -> Option<Arguments>
         ensures { result ≡ (if is_some (as_array payload) then Some payload else None) }
     {
         if payload.value().is_array() {
-            Some(Arguments { list: payload })
+            Some(Arguments {
+                list: HeldPayload::of(payload),
+            })
         } else {
             None
         }
@@ -48,10 +52,11 @@ impl Arguments {
         ensures value { view result.now ≡ self.now }
         ensures arguments { IsArguments self.now }
     {
-        self.list.value()
+        self.list.get().value()
     }
 
-    /// An equal array. Where memory runs out there is none, and nothing has changed.
+    /// An equal array: one holder more of what is held once, in constant time and without memory. One that is held alone is copied;
+    /// where memory runs out there is none, and nothing has changed.
     pub fn copy(&self) -> Result<Arguments, Memory>
         ensures { IfOk result (λ made. made ≡ self.now) }
     {
@@ -64,7 +69,7 @@ impl Arguments {
     pub fn same(&self, other: &Arguments) -> bool
         ensures { IsTrue result ↔ (self.now ≡ other.now) }
     {
-        self.list.same(&other.list)
+        self.list.get().same(other.list.get())
     }
 
     /// Writes the array's tokens, as `Payload::put` does.
@@ -72,14 +77,14 @@ impl Arguments {
         ensures tokens { Appends result out.old out.new (data_tokens self.now) }
         ensures arguments { IsArguments self.now }
     {
-        self.list.put(out)
+        self.list.get().put(out)
     }
 }
 
 /// A payload that is an object (WAMP specification, "Protocol Messages": ArgumentsKw|dict).
 #[derive(Debug, Drop)]
 pub struct ArgumentsKw {
-    dict: Payload,
+    dict: HeldPayload,
 }
 
 impl Model for ArgumentsKw {
@@ -98,12 +103,14 @@ impl Model for ArgumentsKw {
 }
 
 impl ArgumentsKw {
-    /// The payload as arguments by name, where it is an object.
+    /// The payload as arguments by name, where it is an object, held as [`Arguments::of`] holds an array.
     pub fn of(payload: Payload) -> Option<ArgumentsKw>
         ensures { result ≡ (if is_some (as_object payload) then Some payload else None) }
     {
         if payload.value().is_object() {
-            Some(ArgumentsKw { dict: payload })
+            Some(ArgumentsKw {
+                dict: HeldPayload::of(payload),
+            })
         } else {
             None
         }
@@ -114,10 +121,10 @@ impl ArgumentsKw {
         ensures value { view result.now ≡ self.now }
         ensures arguments { IsArgumentsKw self.now }
     {
-        self.dict.value()
+        self.dict.get().value()
     }
 
-    /// An equal object. Where memory runs out there is none, and nothing has changed.
+    /// An equal object, as [`Arguments::copy`] makes an equal array.
     pub fn copy(&self) -> Result<ArgumentsKw, Memory>
         ensures { IfOk result (λ made. made ≡ self.now) }
     {
@@ -130,7 +137,7 @@ impl ArgumentsKw {
     pub fn same(&self, other: &ArgumentsKw) -> bool
         ensures { IsTrue result ↔ (self.now ≡ other.now) }
     {
-        self.dict.same(&other.dict)
+        self.dict.get().same(other.dict.get())
     }
 
     /// Writes the object's tokens, as `Payload::put` does.
@@ -138,7 +145,7 @@ impl ArgumentsKw {
         ensures tokens { Appends result out.old out.new (data_tokens self.now) }
         ensures arguments { IsArgumentsKw self.now }
     {
-        self.dict.put(out)
+        self.dict.get().put(out)
     }
 }
 
@@ -151,7 +158,7 @@ pub enum Args {
 }
 
 impl Args {
-    /// Equal arguments. Where memory runs out there are none, and nothing has changed.
+    /// Equal arguments, as [`Arguments::copy`] makes them.
     pub fn copy(&self) -> Result<Args, Memory>
         ensures { IfOk result (λ made. made ≡ self.now) }
     {

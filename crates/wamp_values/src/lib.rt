@@ -5,6 +5,7 @@ mod args;
 mod equal;
 mod fault;
 mod fitness;
+mod held;
 pub mod laws;
 mod memory;
 mod options;
