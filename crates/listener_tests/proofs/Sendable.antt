@@ -1,6 +1,6 @@
 -- What goes through a ring may go to another thread. The check looks for this by itself, but gives up at the 22 kinds of a message, whose
 -- arguments hold one another; so a kind is shown from its fields, and a message from its kinds.
-use denote.Param.Send.{IsSend, sendable, enum_send}
+use denote.Param.Send.{IsSend, IsSync, sendable, enum_send}
 use denote.Enum.Declared.{shape}
 use Rattle.std.proofs.Crossing as heap
 use Rattle.std.proofs.MapsCrossing as maps
@@ -54,11 +54,21 @@ value_send = let n = number_send in search (sendable, heap.crosses, maps.crosses
 payload_send : IsSend payload.the_field.row
 payload_send = let v = value_send in search sendable depth 20
 
+-- arguments are held once, by several threads at a time
+number_sync : IsSync number.the_field.row
+number_sync = search sendable depth 20
+
+value_sync : IsSync value.the_field.row
+value_sync = let n = number_sync in search (sendable, heap.crosses, maps.crosses, knot.sync-Value) depth 20
+
+payload_sync : IsSync payload.the_field.row
+payload_sync = let v = value_sync in search sendable depth 20
+
 arguments_send : IsSend arguments.the_field.row
-arguments_send = let v = payload_send in search sendable depth 20
+arguments_send = let v = payload_send in let w = payload_sync in search (sendable, heap.crosses) depth 20
 
 arguments_kw_send : IsSend arguments_kw.the_field.row
-arguments_kw_send = let v = payload_send in search sendable depth 20
+arguments_kw_send = let v = payload_send in let w = payload_sync in search (sendable, heap.crosses) depth 20
 
 args_send : IsSend args.the_field.row
 args_send = let v = arguments_send in let w = arguments_kw_send in search sendable depth 20
