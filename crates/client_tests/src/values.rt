@@ -241,8 +241,12 @@ fn dict_is_copied(dict: &ArgumentsKw) -> Result<bool, Memory> {
 
 #[test]
 fn arguments_are_copied(rt: HostRuntime) -> Result<(), Fail> {
-    assert!(rt; list_is_copied(&list(rt.alloc(), "[\"hi\"]")?)?);
-    assert!(rt; dict_is_copied(&dict(rt.alloc(), "{\"a\":1}")?)?);
+    for text in ["[\"hi\"]", "[]"] {
+        assert!(rt; list_is_copied(&list(rt.alloc(), text)?)?, "{text}");
+    }
+    for text in ["{\"a\":1}", "{}"] {
+        assert!(rt; dict_is_copied(&dict(rt.alloc(), text)?)?, "{text}");
+    }
     Ok(())
 }
 
