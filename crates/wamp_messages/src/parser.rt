@@ -14,6 +14,9 @@ use std::alloc::{AllocError, AllocFailed, Global};
 // How deep a value may nest, as in `serde_json`.
 const DEPTH: usize = 127;
 
+// Room for the elements of a message, which are seven at the most.
+const ELEMENTS: usize = 8;
+
 /// What reading needs: the allocator, and room that is kept from message to message.
 #[derive(Drop)]
 pub struct Parser {
@@ -115,12 +118,17 @@ fn items_in(alloc: Global, reader: &mut Reader<'_>, depth: usize) -> Result<Vec<
         ≡ Some (items_view found.items, reader.new)) }
     ensures shorter { OnOk result (length reader.new < length reader.old) }
 {
-    let mut found = Vec::new(alloc);
+    let mut found = Vec::with_capacity(alloc, room_at(depth))?;
     'items: while !reader.take_end_array() {
         let item = value_in(alloc, reader, depth)?;
         found.push(item)?;
     }
     Ok(found)
+}
+
+// For how many items of an array there is room from the first, where they may nest this deep: the outermost array is a message.
+fn room_at(depth: usize) -> usize {
+    if depth == DEPTH - 1 { ELEMENTS } else { 0 }
 }
 
 // The members of an object whose brace was passed, and its end. Of members with one key the last stays.
