@@ -1,12 +1,12 @@
 -- What a node commits in an event is all that changes its rows.
-use Rattle.std.proofs.Common.{◌≡◌, ⊎_elim, ℕ, suc, ◌<◌, Bool, true, false, not, ◌&&◌, eqb, refl, sym, ap, ◌∙◌, subst, arith, List, [], ◌∷◌}
+use Rattle.std.proofs.Common.{◌≡◌, ℕ, suc, Bool, true, false, not, ◌&&◌, refl, sym, ap, ◌∙◌, List, [], ◌∷◌}
 use Rattle.std.proofs.Common.{◌++◌, length, Option, Some, None}
-use Rattle.std.specs.Prelude.{if◌then◌else◌, nat_lt}
-use Rattle.std.proofs.lemmas.Bool.{cond_both, cond-true, cond-false, and_parts, eq-eqb, ne_eqb, lt-ltb, cases_order, le-ltb}
+use Rattle.std.specs.Prelude.{nat_lt}
+use Rattle.std.proofs.lemmas.Bool.{cond_both, and_parts}
 use Rattle.paxos_packets.specs.Members.{is_majority}
 use Rattle.paxos_packets.specs.Ballot.{same_ballot}
-use Rattle.paxos_packets.proofs.Ascending.{AllAfter, Ascends}
-use Rattle.paxos_packets.specs.Vote.{put_vote, put_votes, votes_from}
+use Rattle.paxos_packets.proofs.Ascending.{Ascends}
+use Rattle.paxos_packets.specs.Vote.{votes_from}
 use Rattle.paxos_packets.specs.Packet.{packet}
 use Rattle.paxos_packets.specs.declared.ballot.Ballot.{Ballot}
 use Rattle.paxos_packets.specs.declared.entry.Entry.{Entry}
@@ -22,114 +22,19 @@ use Rattle.paxos_proposer.specs.Proposer.{slot_end, next_vote, new_ballot, is_le
 use Rattle.paxos_proposer.specs.Reports.{is_counted, reports, called_for}
 use Rattle.paxos_node.specs.declared.event.Event.{Event}
 use Rattle.paxos_node.specs.declared.event.Event.TheVariants.{Take, Tick, Start, Suspect, Deliver, Crash, Restart}
-use Rattle.paxos_node.specs.Node.{Turn}
-use Rattle.paxos_node.specs.Turn.{with_role, with_pending, begun, send, promise, vote, cast}
-use Rattle.paxos_node.specs.Proposals.{offer, propose_as, propose, propose_all, lead, stands, propose_new, propose_each, forwarded, push}
-use Rattle.paxos_node.specs.Replies.{saw, refuse, count_promise, on_promise_as, on_packet}
+use Rattle.paxos_turn.specs.Node.{Turn}
+use Rattle.paxos_turn.specs.Turn.{with_role, with_pending, begun, send, promise, vote, cast}
+use Rattle.paxos_turn.specs.Proposals.{offer, propose_as, propose, propose_all, lead, stands, propose_new, propose_each, forwarded, push}
+use Rattle.paxos_turn.specs.Replies.{saw, refuse, count_promise, on_promise_as, on_packet}
 use Rattle.paxos_node.specs.Applying.{note, ends, go_down, apply_all, settle}
 use Rattle.paxos_packets.specs.Rows.{last_boot}
-use Rattle.paxos_node.specs.Events.{takes, with_item, on_take, again, on_tick, begin, starts, on_start, has_room, suspected}
+use Rattle.paxos_node.specs.Events.{takes, with_item, on_take, has_room, suspected}
+use Rattle.paxos_turn.specs.Ticking.{again, on_tick}
+use Rattle.paxos_turn.specs.Starting.{begin, starts, on_start}
 use Rattle.paxos_node.specs.Events.{new_lost, possible, outcome_of}
 use Rattle.paxos_learner.specs.Learner.{run_from}
+use Rattle.paxos_turn.proofs.Putting.{votes_put}
 use Rattle.paxos_node.specs.Laws.{CommitsItsChange}
-
--- votes that are put, one after the other
-
-module _ {B : Type 0} where
-  put_eq : (v w : Vote B) (ws : List (Vote B)) → v.slot ≡ w.slot → put_vote v (w ∷ ws) ≡ v ∷ ws
-  put_eq v w ws e =
-      cond-true (eqb v.slot w.slot) (v ∷ ws) (if nat_lt v.slot w.slot then v ∷ (w ∷ ws) else w ∷ put_vote v ws) (eq-eqb v.slot w.slot e)
-
-  put_lt : (v w : Vote B) (ws : List (Vote B)) → v.slot < w.slot → put_vote v (w ∷ ws) ≡ v ∷ (w ∷ ws)
-  put_lt v w ws l =
-      cond-false (eqb v.slot w.slot) (v ∷ ws) (if nat_lt v.slot w.slot then v ∷ (w ∷ ws) else w ∷ put_vote v ws)
-      (ne_eqb v.slot w.slot (apart l))
-      ∙ cond-true (nat_lt v.slot w.slot) (v ∷ (w ∷ ws)) (w ∷ put_vote v ws) (lt-ltb v.slot w.slot l)
-    where
-      apart : v.slot < w.slot → v.slot ≡ w.slot → ⊥
-      apart l e = omega arith
-
-  put_gt : (v w : Vote B) (ws : List (Vote B)) → w.slot < v.slot → put_vote v (w ∷ ws) ≡ w ∷ put_vote v ws
-  put_gt v w ws l =
-      cond-false (eqb v.slot w.slot) (v ∷ ws) (if nat_lt v.slot w.slot then v ∷ (w ∷ ws) else w ∷ put_vote v ws)
-      (ne_eqb v.slot w.slot (apart l))
-      ∙ cond-false (nat_lt v.slot w.slot) (v ∷ (w ∷ ws)) (w ∷ put_vote v ws) (past l)
-    where
-      apart : w.slot < v.slot → v.slot ≡ w.slot → ⊥
-      apart l e = omega arith
-
-      past : w.slot < v.slot → nat_lt v.slot w.slot ≡ false
-      past l = le-ltb v.slot w.slot (omega arith)
-
-  -- in two slots, in either order
-  put_two : (a b : Vote B) → a.slot < b.slot → (ws : List (Vote B)) → put_vote a (put_vote b ws) ≡ put_vote b (put_vote a ws)
-  put_two a b l [] = put_lt a b [] l ∙ sym (put_gt b a [] l)
-  put_two a b l (x ∷ ws) =
-      ⊎_elim
-      (λ (e : a.slot ≡ x.slot).
-      let p : x.slot < b.slot = omega arith in
-      ap (λ l. put_vote a l) (put_gt b x ws p)
-      ∙ (put_eq a x (put_vote b ws) e ∙ (sym (put_gt b a ws l) ∙ ap (λ l. put_vote b l) (sym (put_eq a x ws e)))))
-      (λ r. ⊎_elim
-      (λ (h : a.slot < x.slot). before h ∙ (sym (put_gt b a (x ∷ ws) l) ∙ ap (λ l. put_vote b l) (sym (put_lt a x ws h))))
-      (λ (h : x.slot < a.slot).
-      let p : x.slot < b.slot = omega arith in
-      ap (λ l. put_vote a l) (put_gt b x ws p)
-      ∙ (put_gt a x (put_vote b ws) h ∙ (ap (λ l. x ∷ l) (put_two a b l ws)
-      ∙ (sym (put_gt b x (put_vote a ws) p) ∙ ap (λ l. put_vote b l) (sym (put_gt a x ws h))))))
-      r)
-      (cases_order a.slot x.slot)
-    where
-      -- a stands in front of whatever b leaves
-      before : a.slot < x.slot → put_vote a (put_vote b (x ∷ ws)) ≡ a ∷ put_vote b (x ∷ ws)
-      before h =
-          ⊎_elim
-          (λ (e : b.slot ≡ x.slot). ap (λ l. put_vote a l) (put_eq b x ws e) ∙ (put_lt a b ws l ∙ ap (λ l. a ∷ l) (sym (put_eq b x ws e))))
-          (λ r. ⊎_elim
-          (λ (g : b.slot < x.slot). ap (λ l. put_vote a l) (put_lt b x ws g)
-          ∙ (put_lt a b (x ∷ ws) l ∙ ap (λ l. a ∷ l) (sym (put_lt b x ws g))))
-          (λ (g : x.slot < b.slot). ap (λ l. put_vote a l) (put_gt b x ws g)
-          ∙ (put_lt a x (put_vote b ws) h ∙ ap (λ l. a ∷ l) (sym (put_gt b x ws g))))
-          r)
-          (cases_order b.slot x.slot)
-
-  -- in one slot the last one stands
-  put_same : (a b : Vote B) → a.slot ≡ b.slot → (ws : List (Vote B)) → put_vote a (put_vote b ws) ≡ put_vote a ws
-  put_same a b e [] = put_eq a b [] e
-  put_same a b e (x ∷ ws) =
-      ⊎_elim
-      (λ (h : b.slot ≡ x.slot). ap (λ l. put_vote a l) (put_eq b x ws h) ∙ (put_eq a b ws e ∙ sym (put_eq a x ws (e ∙ h))))
-      (λ r. ⊎_elim
-      (λ (h : b.slot < x.slot). let p : a.slot < x.slot = omega arith in ap (λ l. put_vote a l) (put_lt b x ws h)
-      ∙ (put_eq a b (x ∷ ws) e ∙ sym (put_lt a x ws p)))
-      (λ (h : x.slot < b.slot). let p : x.slot < a.slot = omega arith in ap (λ l. put_vote a l) (put_gt b x ws h)
-      ∙ (put_gt a x (put_vote b ws) p ∙ (ap (λ l. x ∷ l) (put_same a b e ws) ∙ sym (put_gt a x ws p))))
-      r)
-      (cases_order b.slot x.slot)
-
-  -- a vote in front of others
-  put_front : (v : Vote B) (cs ws : List (Vote B)) → AllAfter v.slot cs → put_vote v (put_votes cs ws) ≡ put_votes cs (put_vote v ws)
-  put_front v [] ws h = refl
-  put_front v (c ∷ cs) ws h = put_front v cs (put_vote c ws) h.1 ∙ ap (λ l. put_votes cs l) (put_two v c h.0 ws)
-
-  all_after : (a b : ℕ) → a < b → (cs : List (Vote B)) → AllAfter b cs → AllAfter a cs
-  all_after a b l [] h = tt
-  all_after a b l (c ∷ cs) h = let p : b < c.slot = h.0 in (omega arith, all_after a b l cs h.1)
-
-  pub votes_put : (v : Vote B) (cs ws : List (Vote B)) → Ascends cs → put_votes (put_vote v cs) ws ≡ put_vote v (put_votes cs ws)
-  votes_put v [] ws h = refl
-  votes_put v (c ∷ cs) ws h =
-      ⊎_elim
-      (λ (e : v.slot ≡ c.slot).
-      ap (λ l. put_votes l ws) (put_eq v c cs e)
-      ∙ (ap (λ l. put_votes cs l) (sym (put_same v c e ws))
-      ∙ sym (put_front v cs (put_vote c ws) (subst (λ s. AllAfter s cs) (sym e) h.0))))
-      (λ r. ⊎_elim
-      (λ (l : v.slot < c.slot). ap (λ z. put_votes z ws) (put_lt v c cs l)
-      ∙ sym (put_front v (c ∷ cs) ws (l, all_after v.slot c.slot l cs h.0)))
-      (λ (l : c.slot < v.slot). ap (λ z. put_votes z ws) (put_gt v c cs l) ∙ votes_put v cs (put_vote c ws) h.1)
-      r)
-      (cases_order v.slot c.slot)
 
 -- the rows so far are those of before with the change so far
 pub record Commits {B : Type 0} (rows : Rows B) (o : Turn B) : Type 0 where

@@ -17,10 +17,13 @@ use Rattle.replica_machine.specs.Roll.{standing, standing_after, is_live}
 use Rattle.paxos_node.specs.declared.fault.NodeFault.{NodeFault}
 use Rattle.paxos_node.specs.declared.fault.NodeFault.TheVariants.{Rounds, Full, Disagree, Memory}
 use Rattle.paxos_node.specs.declared.outcome.Outcome.{Outcome}
-use Rattle.paxos_node.specs.Node.{NodeState, Turn}
-use Rattle.paxos_node.specs.Adopting.{proposer_of, learner_of, pending_behind, Settled}
+use Rattle.paxos_turn.specs.Node.{NodeState, Turn}
+use Rattle.paxos_turn.specs.Parts.{proposer_of, learner_of}
+use Rattle.paxos_node.specs.Adopting.{pending_behind, Settled}
 use Rattle.paxos_node.specs.Applying.{note, ends, down, go_down, apply_all, settle, ends_boot, count_to_end, has_end}
-use Rattle.paxos_node.specs.Drafting.{Known, with_added, added_in, turn_behind}
+use Rattle.paxos_turn.specs.Drafting.{Known, turn_behind}
+use Rattle.paxos_turn.specs.declared.effects.Effects.{Effects}
+use Rattle.paxos_node.specs.Outcome.{outcome_with, with_added, added_in}
 use Rattle.paxos_node.specs.Plans.{Answers}
 use Rattle.paxos_node.proofs.Adoption.{length_both}
 use Rattle.paxos_node.proofs.Rolling.{from_last}
@@ -136,30 +139,31 @@ ended_node : {B : Type 0} (b : Bool) (t : Turn B) → cond b (down t.node.rows) 
 ended_node true t = refl
 ended_node false t = refl
 
-pub settled : {B : Type 0} (k : Known B) (other : Bool) (o : Outcome B) (run : List (Entry B)) → other ≡ false → k.state.up ≡ true
-    → run ≡ run_from (suc (length k.state.applied)) (hear_all o.moves.news (learner_of k.members k.state)).learner.learned
-    → o.applied ≡ take (count_to_end k.me k.state.rows.boot (standing k.me k.state.applied) run) run
-    → o.is_down ≡ has_end k.me k.state.rows.boot (standing k.me k.state.applied) run
-    → o.moves.log ≡ cond o.is_down 0 (length k.state.applied + length o.applied)
-    → ArePossible o.moves.proposer (proposer_of k.me k.members k.state)
+pub settled : {B : Type 0} (k : Known B) (other : Bool) (e : Effects B) (run applied : List (Entry B)) (is_down : Bool) (log : ℕ)
+    → other ≡ false → k.state.up ≡ true
+    → run ≡ run_from (suc (length k.state.applied)) (hear_all e.news.items (learner_of k.members k.state)).learner.learned
+    → applied ≡ take (count_to_end k.me k.state.rows.boot (standing k.me k.state.applied) run) run
+    → is_down ≡ has_end k.me k.state.rows.boot (standing k.me k.state.applied) run
+    → log ≡ cond is_down 0 (length k.state.applied + length applied)
+    → ArePossible e.moves.items (proposer_of k.me k.members k.state)
     → Begins k.state.applied k.state.learner.learned
-    → Rises 0 (hear_all o.moves.news (learner_of k.members k.state)).learner.learned
-    → Settled k.me k.members k.state (turn_behind k other o) (with_added k.added o)
-settled {B} k other o run agree up run_is applied_is down_is log_is moves begins rises =
+    → Rises 0 (hear_all e.news.items (learner_of k.members k.state)).learner.learned
+    → Settled k.me k.members k.state (turn_behind k other e) (with_added k.added (outcome_with e applied is_down log))
+settled {B} k other e run applied is_down log agree up run_is applied_is down_is log_is moves begins rises =
     record {
-      agrees = ap (λ (u : Turn B). u.disagrees) whole ∙ ended_disagrees o.is_down now ∙ agree;
-      change = ended_change o.is_down now ∙ ap (λ (u : Turn B). u.change) (sym whole);
-      packets = ended_packets o.is_down now ∙ ap (λ (u : Turn B). u.packets) (sym whole);
-      applied = ended_applied o.is_down now ∙ ap (λ (u : Turn B). u.applied) (sym whole);
-      is_down = ended_up o.is_down now up ∙ ap (λ (u : Turn B). not u.node.up) (sym whole);
+      agrees = ap (λ (u : Turn B). u.disagrees) whole ∙ ended_disagrees is_down now ∙ agree;
+      change = ended_change is_down now ∙ ap (λ (u : Turn B). u.change) (sym whole);
+      packets = ended_packets is_down now ∙ ap (λ (u : Turn B). u.packets) (sym whole);
+      applied = ended_applied is_down now ∙ ap (λ (u : Turn B). u.applied) (sym whole);
+      is_down = ended_up is_down now up ∙ ap (λ (u : Turn B). not u.node.up) (sym whole);
       fits = record { moves = moves; applied = goes; within = within };
-      node = ended_node o.is_down now ∙ ap (λ (u : Turn B). u.node) (sym whole);
-      log = log_is ∙ ended_log o.is_down now (length k.state.applied + length o.applied) (sym (length_both k.state.applied o.applied))
+      node = ended_node is_down now ∙ ap (λ (u : Turn B). u.node) (sym whole);
+      log = log_is ∙ ended_log is_down now (length k.state.applied + length applied) (sym (length_both k.state.applied applied))
           ∙ ap (λ (u : Turn B). length u.node.applied) (sym whole);
     }
   where
     learned : List (LearnedEntry B)
-    learned = (hear_all o.moves.news (learner_of k.members k.state)).learner.learned
+    learned = (hear_all e.news.items (learner_of k.members k.state)).learner.learned
 
     s : Standing
     s = standing k.me k.state.applied
@@ -168,24 +172,24 @@ settled {B} k other o run agree up run_is applied_is down_is log_is moves begins
     boot = k.state.rows.boot
 
     now : Turn B
-    now = noted o.applied (turn_behind k other o)
+    now = noted applied (turn_behind k other e)
 
-    whole : settle k.me (turn_behind k other o) ≡ ended o.is_down now
+    whole : settle k.me (turn_behind k other e) ≡ ended is_down now
     whole =
-        applied_at_once k.me boot (run_from (suc (length k.state.applied)) learned) s (turn_behind k other o) refl refl
-        ∙ ap (λ (r : List (Entry B)). ended (has_end k.me boot s r) (noted (take (count_to_end k.me boot s r) r) (turn_behind k other o))) (sym run_is)
-        ∙ (λ i. ended (sym down_is i) (noted (sym applied_is i) (turn_behind k other o)))
+        applied_at_once k.me boot (run_from (suc (length k.state.applied)) learned) s (turn_behind k other e) refl refl
+        ∙ ap (λ (r : List (Entry B)). ended (has_end k.me boot s r) (noted (take (count_to_end k.me boot s r) r) (turn_behind k other e))) (sym run_is)
+        ∙ (λ i. ended (sym down_is i) (noted (sym applied_is i) (turn_behind k other e)))
 
-    goes : Begins (k.state.applied ++ o.applied) learned
+    goes : Begins (k.state.applied ++ applied) learned
     goes =
         subst (λ (es : List (Entry B)). Begins (k.state.applied ++ es) learned)
         (ap (λ (r : List (Entry B)). take (count_to_end k.me boot s run) r) (sym run_is) ∙ sym applied_is)
-        (goes_on k.state.applied o.moves.news (learner_of k.members k.state) (count_to_end k.me boot s run) begins rises)
+        (goes_on k.state.applied e.news.items (learner_of k.members k.state) (count_to_end k.me boot s run) begins rises)
 
-    within : length k.state.applied + length o.applied < 2 ^ 40
+    within : length k.state.applied + length applied < 2 ^ 40
     within =
-        let h = short 0 (k.state.applied ++ o.applied) learned goes rises in
-        let l = length_both k.state.applied o.applied in
+        let h = short 0 (k.state.applied ++ applied) learned goes rises in
+        let l = length_both k.state.applied applied in
         omega arith
 
 applied_disagrees : {B : Type 0} (me : ℕ) (es : List (Entry B)) (t : Turn B) → (apply_all me es t).disagrees ≡ t.disagrees

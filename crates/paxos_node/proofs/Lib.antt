@@ -2,10 +2,7 @@ pub mod Committing
 pub mod Adoption
 pub mod Judging
 pub mod Parts
-pub mod Planning
 pub mod Rolling
 pub mod Seeing
 pub mod Ending
-pub mod Rounds
-pub mod Again
 pub mod Answering

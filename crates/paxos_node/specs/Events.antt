@@ -1,31 +1,20 @@
 -- One node in one event: a function of the event and the node alone (docs/CONSENSUS.md, "Events").
-use Rattle.std.specs.Prelude.{ℕ, suc, max, Bool, false, not, ◌&&◌, nat_lt, ◌==◌, Option, Some, None, is_some, List, [], ◌∷◌, ◌++◌, map}
-use Rattle.std.specs.Prelude.{filter, length, if◌then◌else◌}
-use Rattle.std.specs.List.{list_any, flat_map}
-use Rattle.paxos_packets.specs.Members.{others}
+use Rattle.std.specs.Prelude.{ℕ, suc, Bool, false, not, ◌&&◌, nat_lt, ◌==◌, Option, Some, None, is_some, List, [], ◌∷◌, ◌++◌}
+use Rattle.std.specs.Prelude.{length, if◌then◌else◌}
+use Rattle.std.specs.List.{list_any}
 use Rattle.paxos_packets.specs.Entry.{same_entry}
-use Rattle.paxos_packets.specs.Packet.{packet, to_others}
 use Rattle.paxos_packets.specs.Rows.{last_boot, raised}
-use Rattle.paxos_packets.specs.Vote.{votes_from}
-use Rattle.paxos_packets.specs.declared.ballot.Ballot.{Ballot}
 use Rattle.paxos_packets.specs.declared.entry.Entry.{Entry}
 use Rattle.paxos_packets.specs.declared.entry.Entry.TheVariants.{Boot, Lost, Item}
-use Rattle.paxos_packets.specs.declared.vote.Vote.{Vote}
-use Rattle.paxos_packets.specs.declared.packet.Kind.TheVariants.{Prepare, Accept, Ask}
-use Rattle.paxos_packets.specs.declared.packet.Packet.{Packet}
-use Rattle.paxos_acceptor.specs.Acceptor.{with_promise}
-use Rattle.paxos_proposer.specs.Role.{Role, Idle, Preparing, Leading}
-use Rattle.paxos_proposer.specs.Proposer.{new_ballot, rounds_spent, asking}
-use Rattle.paxos_proposer.specs.Reports.{is_counted}
-use Rattle.paxos_learner.specs.declared.learned.LearnedEntry.{LearnedEntry}
-use Rattle.paxos_learner.specs.Learner.{is_learned}
 use Rattle.replica_machine.specs.Roll.{standing, live_in}
+use Rattle.paxos_turn.specs.Node.{NodeState, Turn}
+use Rattle.paxos_turn.specs.Turn.{with_pending, begun}
+use Rattle.paxos_turn.specs.Proposals.{push}
+use Rattle.paxos_turn.specs.Replies.{saw, on_packet}
+use Rattle.paxos_turn.specs.Starting.{starts, on_start}
+use Rattle.paxos_turn.specs.Ticking.{on_tick}
 use Rattle.paxos_node.specs.declared.event.Event.{Event}
 use Rattle.paxos_node.specs.declared.event.Event.TheVariants.{Take, Tick, Start, Suspect, Deliver, Crash, Restart}
-use Rattle.paxos_node.specs.Node.{NodeState, Turn}
-use Rattle.paxos_node.specs.Turn.{with_pending, begun, send, and_promise}
-use Rattle.paxos_node.specs.Proposals.{push}
-use Rattle.paxos_node.specs.Replies.{saw, on_packet}
 use Rattle.paxos_node.specs.Applying.{started, go_down, settle}
 
 -- the greatest number of an act, and how many entries may be pending
@@ -52,47 +41,6 @@ with_item me transport body x = record x { pending = x.pending ++ new_item me tr
 abbrev pub on_take : {B : Type 0} → (B → B → Bool) → ℕ → ℕ → ℕ → B → Turn B → Turn B
 on_take same members me transport body o =
     if takes o.node then push same members me (record o { node = with_item me transport body o.node })
-    else o
-
--- Tick: what waits for an answer is sent again
-
--- the votes proposed in slots that aren't learned, slot by slot
-abbrev pub accepts_again : {B : Type 0} → ℕ → ℕ → List (LearnedEntry B) → List (Vote B) → List (Packet B)
-accepts_again members me learned votes =
-    flat_map (λ v. if is_learned v.slot learned then [] else to_others members me (Accept v)) votes
-
-abbrev pub again : {B : Type 0} → ℕ → ℕ → Role B → List (LearnedEntry B) → List (Packet B)
-again members me Idle learned = []
-again members me (Preparing b first promises) learned =
-    map (packet me (Prepare b first)) (filter (λ k. not (is_counted promises k)) (others me members))
-again members me (Leading b next proposed) learned = accepts_again members me learned proposed
-
--- it asks the others for the slots that it lacks
-abbrev pub ask : {B : Type 0} → ℕ → ℕ → Turn B → Turn B
-ask members me o = send (to_others members me (Ask (suc (length o.node.applied)))) o
-
-abbrev pub on_tick : {B : Type 0} → (B → B → Bool) → ℕ → ℕ → Turn B → Turn B
-on_tick same members me o = ask members me (push same members me (send (again members me o.node.proposer.role o.node.learner.learned) o))
-
--- Start: a ballot above all that it saw, which it has seen then
-
-abbrev pub begin : {B : Type 0} → ℕ → ℕ → Ballot → ℕ → Turn B → Turn B
-begin members me b first o =
-    record o {
-      node = record o.node {
-        rows = with_promise b o.node.rows;
-        proposer = record { role = asking me b first (votes_from first o.node.rows.votes); seen = max o.node.proposer.seen b.round };
-      };
-      change = and_promise b o.change;
-      packets = o.packets ++ to_others members me (Prepare b first);
-    }
-
-abbrev pub starts : {B : Type 0} → ℕ → NodeState B → Bool
-starts me x = not (rounds_spent me x.rows.promised x.proposer)
-
-abbrev pub on_start : {B : Type 0} → ℕ → ℕ → Turn B → Turn B
-on_start members me o =
-    if starts me o.node then begin members me (new_ballot me o.node.rows.promised o.node.proposer) (suc (length o.node.applied)) o
     else o
 
 -- Suspect: another's Lost is pending

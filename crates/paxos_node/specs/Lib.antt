@@ -1,7 +1,3 @@
-pub mod Node
-pub mod Turn
-pub mod Proposals
-pub mod Replies
 pub mod Applying
 pub mod Events
 pub mod Examples
@@ -9,6 +5,6 @@ pub mod Laws
 pub mod Steps
 pub mod Fault
 pub mod Adopting
+pub mod Outcome
 pub mod Held
-pub mod Drafting
 pub mod Plans

@@ -3,20 +3,23 @@
 ghost use Rattle.std.specs.Prelude.{◌≡◌, true, false, not, ◌&&◌, is_some, length, Some, Ok, IfOk};
 ghost use Rattle.paxos_node.specs.Adopting.{Fits, Settled, Planned};
 ghost use Rattle.paxos_node.specs.Applying.{settle};
-ghost use Rattle.paxos_node.specs.Drafting.{with_pending_entry, with_added, added_in, seeing};
-ghost use Rattle.paxos_node.specs.Events.{owner, possible, on_event, on_take, on_tick, on_start, on_suspect, outcome_of, has_room, takes, starts, new_lost, is_pending};
+ghost use Rattle.paxos_turn.specs.Drafting.{with_pending_entry, seeing};
+ghost use Rattle.paxos_node.specs.Outcome.{with_added, added_in};
+ghost use Rattle.paxos_node.specs.Events.{owner, possible, on_event, on_take, on_suspect, outcome_of, has_room, takes, new_lost, is_pending};
+ghost use Rattle.paxos_turn.specs.Ticking.{on_tick};
+ghost use Rattle.paxos_turn.specs.Starting.{on_start, starts};
 ghost use Rattle.paxos_node.specs.Events.{is_round_refused, is_full_refused};
 ghost use Rattle.paxos_node.specs.Plans.{is_planned, plans, unchanged, Answers, Answered};
-ghost use Rattle.paxos_node.specs.Proposals.{push};
-ghost use Rattle.paxos_node.specs.Replies.{on_packet, round_in};
-ghost use Rattle.paxos_node.specs.Turn.{begun};
+ghost use Rattle.paxos_turn.specs.Proposals.{push};
+ghost use Rattle.paxos_turn.specs.Replies.{on_packet, round_in};
+ghost use Rattle.paxos_turn.specs.Turn.{begun};
 ghost use Rattle.replica_machine.specs.Roll.{standing, live_in};
 
-use crate::draft::Draft;
 use crate::event::Event;
 use crate::fault::NodeFault;
 use crate::node::Node;
 use crate::outcome::Outcome;
+use crate::settling::{finish, settle};
 use paxos_packets::{Body, Entry, Packet};
 
 // The greatest number of an act, and how many entries may be pending.
@@ -152,11 +155,11 @@ impl<B: Body> Node<B> {
             (push B.same self.now.members self.now.me (begun (with_pending_entry (Some entry.now) self.now.state)))
             (with_added (Some entry.now) outcome)) result }
     {
-        let mut draft = Draft::of(self.alloc(), self, Some(entry));
+        let mut draft = self.draft(Some(entry));
         let Ok(()) = draft.push() else {
             return Err(NodeFault::Memory);
         };
-        draft.settle()
+        settle(draft, self.roll())
     }
 
     // What waits for an answer is sent again, what is pending is pushed, and the others are asked for what it lacks.
@@ -165,11 +168,11 @@ impl<B: Body> Node<B> {
         ensures { Answered self.now.me self.now.members self.now.state false false
             (on_tick B.same self.now.members self.now.me (begun self.now.state)) result }
     {
-        let mut draft = Draft::of(self.alloc(), self, None);
+        let mut draft = self.draft(None);
         let Ok(()) = draft.on_tick() else {
             return Err(NodeFault::Memory);
         };
-        draft.finish()
+        finish(draft, self.roll())
     }
 
     // A ballot above all that it saw.
@@ -178,14 +181,14 @@ impl<B: Body> Node<B> {
         ensures { Answered self.now.me self.now.members self.now.state (not (starts self.now.me self.now.state)) false
             (on_start self.now.members self.now.me (begun self.now.state)) result }
     {
-        let mut draft = Draft::of(self.alloc(), self, None);
+        let mut draft = self.draft(None);
         if !draft.starts() {
             return Err(NodeFault::Rounds);
         }
         let Ok(()) = draft.start() else {
             return Err(NodeFault::Memory);
         };
-        draft.finish()
+        finish(draft, self.roll())
     }
 
     // The Lost of the other's live boot becomes pending, unless it is.
@@ -196,7 +199,7 @@ impl<B: Body> Node<B> {
             (on_suspect B.same self.now.members self.now.me other (begun self.now.state)) result }
     {
         let Some(lost) = self.new_lost(other) else {
-            return Draft::of(self.alloc(), self, None).finish();
+            return finish(self.draft(None), self.roll());
         };
         if !self.has_room() {
             return Err(NodeFault::Full);
@@ -235,11 +238,11 @@ impl<B: Body> Node<B> {
             (on_packet B.same self.now.members self.now.me packet.now.sender packet.now.kind
             (seeing (round_in packet.now.kind) (begun self.now.state))) result }
     {
-        let mut draft = Draft::of(self.alloc(), self, None);
+        let mut draft = self.draft(None);
         let Ok(()) = draft.on_packet(packet.sender, &packet.kind) else {
             return Err(NodeFault::Memory);
         };
-        draft.finish()
+        finish(draft, self.roll())
     }
 }
 

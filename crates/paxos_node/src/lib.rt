@@ -2,7 +2,6 @@
 //! for a slot (docs/CONSENSUS.md).
 #![tactic(auto)]
 
-mod draft;
 mod event;
 mod events;
 mod fault;
@@ -11,11 +10,7 @@ mod moves;
 mod node;
 mod outcome;
 mod packets;
-mod proposals;
-mod replies;
 mod settling;
-mod starting;
-mod ticking;
 mod waiting;
 
 pub use event::Event;

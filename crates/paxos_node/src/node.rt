@@ -1,11 +1,13 @@
-ghost use Rattle.std.specs.Prelude.{◌≡◌, ◌<◌, ◌^◌, [], true, false, nat_lt, length, IfOk, OnOk, OnErr, IsOkUnless, Err};
+ghost use Rattle.std.specs.Prelude.{◌≡◌, ◌<◌, ◌^◌, true, false, nat_lt, length, IfOk, OnOk, OnErr, IsOkUnless, Err, option_copied};
 ghost use Rattle.paxos_node.specs.declared.fault.NodeFault.TheVariants.{Memory};
-ghost use Rattle.paxos_node.specs.Adopting.{adopted, proposer_of, learner_of, Fits};
+ghost use Rattle.paxos_node.specs.Adopting.{adopted, Fits};
+ghost use Rattle.paxos_turn.specs.Parts.{proposer_of, learner_of};
 ghost use Rattle.paxos_node.specs.Applying.{down, started};
 ghost use Rattle.paxos_node.specs.Held.{HasRoom};
 ghost use Rattle.paxos_learner.specs.Learned.{Begins};
-ghost use Rattle.paxos_packets.specs.Vote.{votes_from};
 ghost use Rattle.paxos_proposer.specs.Proposer.{round_of};
+ghost use Rattle.paxos_turn.specs.Drafting.{known, with_pending_entry};
+ghost use Rattle.paxos_turn.specs.Turn.{begun};
 ghost use Rattle.replica_machine.specs.Roll.{IsRollOf};
 
 use crate::fault::NodeFault;
@@ -14,9 +16,10 @@ use crate::outcome::Outcome;
 use crate::packets::Packets;
 use crate::waiting::{apply_all, wait};
 use paxos_acceptor::Acceptor;
-use paxos_learner::{Hearing, Learner};
-use paxos_packets::{Ballot, Body, Entries, Entry, Members, Rows, Vote, Votes};
-use paxos_proposer::{Proposer, Proposing};
+use paxos_learner::Learner;
+use paxos_packets::{Ballot, Body, Entries, Entry, Members, Rows, Vote};
+use paxos_proposer::Proposer;
+use paxos_turn::{Draft, Parts};
 use replica_machine::Roll;
 use std::alloc::Global;
 use std::marker::Model;
@@ -44,7 +47,7 @@ impl<B> Model for Node<B> {
     ghost use Rattle.std.specs.Prelude.{◌≡◌, ◌-◌, ◌<◌, ◌^◌, length, vec_len, vec_capacity};
     ghost use Rattle.paxos_learner.specs.Learned.{Begins};
     ghost use Rattle.replica_machine.specs.Roll.{IsRollOf};
-    ghost use Rattle.paxos_node.specs.Adopting.{first_learned};
+    ghost use Rattle.paxos_turn.specs.Parts.{first_learned};
     ghost use Rattle.paxos_node.specs.Held.{Held};
 
     ghost Value = { Held B };
@@ -85,30 +88,9 @@ impl<B> Node<B> {
         self.me
     }
 
-    // The members.
-    pub(crate) fn members(&self) -> Members
-        ensures { result ≡ self.now.members }
-    {
-        self.members
-    }
-
     // Where its memory comes from.
     pub(crate) fn alloc(&self) -> Global {
         self.alloc
-    }
-
-    // Its proposer.
-    pub(crate) fn proposer(&self) -> &Proposer<B>
-        ensures { result.now.state ≡ proposer_of self.now.me self.now.members self.now.state }
-    {
-        &self.proposer
-    }
-
-    // Its learner.
-    pub(crate) fn learner(&self) -> &Learner<B>
-        ensures { result.now.state ≡ learner_of self.now.members self.now.state }
-    {
-        &self.learner
     }
 
     // Where each node stands behind its log.
@@ -139,20 +121,32 @@ impl<B> Node<B> {
         self.pending.as_slice()
     }
 
-    // Its proposer, to which nothing is to be done.
-    pub(crate) fn proposing(&self, alloc: Global) -> Proposing<'_, B>
-        ensures before { result.before ≡ proposer_of self.now.me self.now.members self.now.state }
-        ensures moves { result.moves ≡ [] }
+    // Its parts, where it is up.
+    fn parts(&self) -> Parts<'_, B>
+        requires { self.now.state.up ≡ true }
+        ensures me { result.me ≡ self.now.me }
+        ensures members { result.members ≡ self.now.members }
+        ensures state { result.state ≡ self.now.state }
     {
-        Proposing::of(alloc, &self.proposer)
+        Parts::of(
+            self.me,
+            self.members,
+            &self.acceptor,
+            &self.proposer,
+            &self.learner,
+            self.applied,
+            self.pending.as_slice(),
+            self.taken,
+        )
     }
 
-    // Its learner, which is to hear nothing.
-    pub(crate) fn hearing(&self, alloc: Global) -> Hearing<'_, B>
-        ensures before { result.before ≡ learner_of self.now.members self.now.state }
-        ensures news { result.news ≡ [] }
+    // What an event makes of it, where nothing happened yet and this entry becomes pending.
+    pub(crate) fn draft<'a>(&'a self, added: Option<&'a Entry<B>>) -> Draft<'a, B>
+        requires { self.now.state.up ≡ true }
+        ensures of { result.of ≡ known self.now.me self.now.members self.now.state (option_copied added.entry) }
+        ensures turn { result.turn ≡ begun (with_pending_entry (option_copied added.entry) self.now.state) }
     {
-        Hearing::of(alloc, &self.learner)
+        Draft::of(self.alloc, self.parts(), added)
     }
 
     /// Whether the node is up.
@@ -242,17 +236,6 @@ impl<B: Drop> Node<B> {
 }
 
 impl<B: Body> Node<B> {
-    // Copies of its votes from the slot with this number on.
-    pub(crate) fn votes_from(&self, alloc: Global, first: u64) -> Result<Votes<B>, NodeFault>
-        ensures votes { IfOk result (λ votes. votes ≡ votes_from first self.now.state.rows.votes) }
-        ensures memory { IsOkUnless result Memory }
-    {
-        match self.acceptor.votes_from(alloc, first) {
-            Ok(votes) => Ok(votes),
-            Err(_) => Err(NodeFault::Memory),
-        }
-    }
-
     /// Takes all memory that adopting this outcome needs. With `Memory` as well as without it the node is as it was.
     pub fn make_room(&mut self, outcome: &Outcome<B>) -> Result<(), NodeFault>
         ensures ok { OnOk result (HasRoom outcome.now self.new) }

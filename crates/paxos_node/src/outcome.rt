@@ -1,9 +1,11 @@
 ghost use Rattle.std.specs.Prelude.{◌≡◌};
+ghost use Rattle.paxos_node.specs.Outcome.{outcome_with};
 ghost use Rattle.paxos_node.specs.Plans.{unchanged};
 
 use crate::moves::Moves;
 use crate::packets::Packets;
 use paxos_packets::{Change, Entries, Votes};
+use paxos_turn::Effects;
 use std::alloc::Global;
 
 /// What an event is to make of a node: it is committed first, and adopted then.
@@ -36,6 +38,35 @@ impl<B> Outcome<B> {
             moves: Moves {
                 proposer: Vec::new(alloc),
                 news: Vec::new(alloc),
+                added: None,
+                log,
+            },
+        }
+    }
+
+    // These effects, where this is applied then, and the log behind it has this length.
+    pub(crate) fn with(
+        effects: Effects<B>,
+        applied: Entries<B>,
+        is_down: bool,
+        log: u64,
+    ) -> Outcome<B>
+        ensures { result ≡ outcome_with effects applied is_down log }
+    {
+        let Effects {
+            change,
+            packets,
+            moves,
+            news,
+        } = effects;
+        Outcome {
+            change,
+            packets: Packets::of(packets),
+            applied,
+            is_down,
+            moves: Moves {
+                proposer: moves,
+                news,
                 added: None,
                 log,
             },

@@ -1,8 +1,8 @@
 use Rattle.std.proofs.Common.{◌≡◌, ℕ, true, Option, Some, None, sym, ◌∙◌, rules}
 use Rattle.paxos_packets.specs.declared.entry.Entry.{Entry}
-use Rattle.paxos_node.specs.Node.{NodeState}
-use Rattle.paxos_node.specs.Turn.{begun}
-use Rattle.paxos_node.specs.Drafting.{known}
+use Rattle.paxos_turn.specs.Node.{NodeState}
+use Rattle.paxos_turn.specs.Turn.{begun}
+use Rattle.paxos_turn.specs.Drafting.{known}
 use Rattle.paxos_node.specs.Events.{has_room, new_lost}
 use Rattle.paxos_node.proofs.Answering.{answered_of, none_answered, lost_answered}
 use Rattle.paxos_node.proofs.node.Node.plan_suspect.Goals as goal
@@ -14,8 +14,8 @@ returns-in_default g c =
     let x : NodeState g.row.B.Denot = c.args.self.now.state in
     let none : ◌≡◌ {A = Option (Entry g.row.B.Denot)} None (new_lost g.B.Body.same me c.args.other x) = search rules in
     none_answered g.B.Body.same me members x c.finish.result c.args.other none
-    (answered_of c.of.result (record { of = known me members x None; turn = begun x }) c.finish.result
-    (λ i. record { of = c.of.ensures.of i; turn = c.of.ensures.turn i }) c.finish.ensures)
+    (answered_of c.draft.result (record { of = known me members x None; turn = begun x }) c.finish.result
+    (λ i. record { of = c.draft.ensures.of i; turn = c.draft.ensures.turn i }) c.finish.ensures)
 
 pub returns : goal.returns
 returns g c =

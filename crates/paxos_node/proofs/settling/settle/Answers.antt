@@ -1,0 +1,49 @@
+use Rattle.std.proofs.Common.{◌≡◌, ℕ, suc, false, cond, ◌+◌, List, take, length, ap, refl, sym, ◌∙◌, subst}
+use Rattle.paxos_packets.specs.declared.entry.Entry.{Entry}
+use Rattle.paxos_learner.specs.Hearing.{hear_all}
+use Rattle.paxos_learner.specs.Learner.{run_from}
+use Rattle.replica_machine.specs.Roll.{standing}
+use Rattle.paxos_turn.specs.declared.effects.Effects.{Effects}
+use Rattle.paxos_turn.specs.Drafting.{Known}
+use Rattle.paxos_turn.specs.Node.{Turn}
+use Rattle.paxos_turn.specs.Parts.{learner_of}
+use Rattle.paxos_node.specs.declared.outcome.Outcome.{Outcome}
+use Rattle.paxos_node.specs.Adopting.{Settled}
+use Rattle.paxos_node.specs.Applying.{count_to_end, has_end}
+use Rattle.paxos_node.specs.Outcome.{outcome_with, with_added}
+use Rattle.paxos_node.proofs.Ending.{settled, settled_disagrees}
+use Rattle.paxos_node.proofs.settling.settle.Goals as goal
+
+pub returns-clause-settled : goal.returns-clause-settled
+returns-clause-settled g c =
+    let k : Known g.row.B.Denot = c.args.draft.of in
+    let t : Turn g.row.B.Denot = c.args.draft.turn in
+    let e : Effects g.row.B.Denot = c.into_effects.result in
+    let run : List (Entry g.row.B.Denot) = c.in-Ok.run' in
+    let o : Outcome g.row.B.Denot = outcome_with e c.first_of-applied.result c.until_lost-count.result.1 c.log_behind-log.result in
+    let agrees : t.disagrees ≡ false = sym c.disagrees.ensures ∙ c.if-disagrees.false in
+    let run_is : run ≡ run_from (suc (length k.state.applied)) (hear_all e.news.items (learner_of k.members k.state)).learner.learned =
+    c.in-Ok.ensures ∙ ap (λ (u : Turn g.row.B.Denot). run_from (suc (length k.state.applied)) u.node.learner.learned) c.into_effects.ensures.turn in
+    let counted : c.until_lost-count.result.0 ≡ count_to_end k.me k.state.rows.boot (standing k.me k.state.applied) run =
+    c.until_lost-count.ensures.count
+    ∙ (λ i. count_to_end (c.me.ensures i) (c.boot.ensures i) (c.standing_in-standing.ensures i) (c.as_slice.ensures i)) in
+    let down : c.until_lost-count.result.1 ≡ has_end k.me k.state.rows.boot (standing k.me k.state.applied) run =
+    c.until_lost-count.ensures.is_down
+    ∙ (λ i. has_end (c.me.ensures i) (c.boot.ensures i) (c.standing_in-standing.ensures i) (c.as_slice.ensures i)) in
+    let applied : c.first_of-applied.result ≡ take (count_to_end k.me k.state.rows.boot (standing k.me k.state.applied) run) run =
+    c.first_of-applied.ensures ∙ ap (λ (n : ℕ). take n run) counted in
+    let log : c.log_behind-log.result ≡ cond c.until_lost-count.result.1 0 (length k.state.applied + length c.first_of-applied.result) =
+    c.log_behind-log.ensures ∙ (λ i. cond c.until_lost-count.result.1 0 (c.applied.ensures.length i + length (c.as_slice-2.ensures i))) in
+    let plan : Settled k.me k.members k.state t (with_added k.added o) =
+    subst (λ (u : Turn g.row.B.Denot). Settled k.me k.members k.state u (with_added k.added o)) (sym c.into_effects.ensures.turn)
+    (settled k t.disagrees e run c.first_of-applied.result c.until_lost-count.result.1 c.log_behind-log.result agrees c.requires.up run_is applied down log
+    c.into_effects.ensures.moves c.begins.ensures c.into_effects.ensures.rises) in (
+      refl,
+      refl,
+      plan.agrees,
+      subst (λ (p : Outcome g.row.B.Denot). Settled k.me k.members k.state t (with_added k.added p)) (sym c.with.ensures) plan,
+    )
+
+pub returns-then-disagrees-clause-settled : goal.returns-then-disagrees-clause-settled
+returns-then-disagrees-clause-settled g c =
+    (refl, refl, settled_disagrees c.args.draft.of.me c.args.draft.turn ∙ sym c.disagrees.ensures ∙ c.if-disagrees.true)

@@ -1,0 +1,5 @@
+pub mod Staying
+pub mod Putting
+pub mod Planning
+pub mod Rounds
+pub mod Again

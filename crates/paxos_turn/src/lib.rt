@@ -1,0 +1,15 @@
+//! What an event makes of a node before anything is applied: what it commits and sends, what it does to the proposer, and what the
+//! learner hears. It is planned on the parts of the node by reference, which stay as they are (docs/CONSENSUS.md, "One node").
+#![tactic(auto)]
+
+mod draft;
+mod effects;
+mod parts;
+mod proposals;
+mod replies;
+mod starting;
+mod ticking;
+
+pub use draft::Draft;
+pub use effects::Effects;
+pub use parts::Parts;
