@@ -16,14 +16,17 @@ fn fault_number(done: &Read) -> u8 {
     }
 }
 
-// What is read. It has no contract, so that nothing is known of the value: a proof carries what is known through each drop.
+// What is read. It has no contract, so that nothing is known of the value: a proof carries what is known through each drop. What owns one
+// drops it by std's call, since an exit of its own would be proved for each kind of message.
 fn read_of(alloc: Global, octets: &[u8]) -> Result<Read, Memory> {
     read(alloc, octets)
 }
 
 fn fault(alloc: Global, octets: &[u8]) -> Result<u8, Fail> {
     let done = read_of(alloc, octets)?;
-    Ok(fault_number(&done))
+    let number = fault_number(&done);
+    drop(done);
+    Ok(number)
 }
 
 // Whether this is the unfit request 1 of this kind.
@@ -40,7 +43,9 @@ fn is_unfit(done: &Read, wanted: UnfitKind, silent: bool) -> bool {
 
 fn reads_unfit(alloc: Global, text: &str, kind: UnfitKind, quiet: bool) -> Result<bool, Fail> {
     let done = read_of(alloc, text.as_bytes())?;
-    Ok(is_unfit(&done, kind, quiet))
+    let unfit = is_unfit(&done, kind, quiet);
+    drop(done);
+    Ok(unfit)
 }
 
 fn is_spelled(alloc: Global, message: &Message, text: &str) -> Result<bool, Fail> {
@@ -67,7 +72,9 @@ fn is_copy(alloc: Global, copy: &Message, message: &Message, text: &str) -> Resu
 
 fn is_copied(alloc: Global, message: &Message, text: &str) -> Result<bool, Fail> {
     let copy = copy_of(message)?;
-    is_copy(alloc, &copy, message, text)
+    let equal = is_copy(alloc, &copy, message, text);
+    drop(copy);
+    equal
 }
 
 // Whether this is a message, and has the text.
@@ -81,7 +88,9 @@ fn is_good(alloc: Global, done: &Read, text: &str) -> Result<bool, Fail> {
 // Whether the message that is read of the one text has the other.
 fn is_written_as(alloc: Global, text: &str, written: &str) -> Result<bool, Fail> {
     let done = read_of(alloc, text.as_bytes())?;
-    is_good(alloc, &done, written)
+    let good = is_good(alloc, &done, written);
+    drop(done);
+    good
 }
 
 // Whether the text is that of the message that is read of it.
@@ -229,12 +238,16 @@ fn read_in(parser: &mut Parser, octets: &[u8]) -> Result<Read, Memory> {
 
 fn fault_in(parser: &mut Parser, text: &str) -> Result<u8, Fail> {
     let done = read_in(parser, text.as_bytes())?;
-    Ok(fault_number(&done))
+    let number = fault_number(&done);
+    drop(done);
+    Ok(number)
 }
 
 fn is_read_in(parser: &mut Parser, alloc: Global, text: &str) -> Result<bool, Fail> {
     let done = read_in(parser, text.as_bytes())?;
-    is_good(alloc, &done, text)
+    let good = is_good(alloc, &done, text);
+    drop(done);
+    good
 }
 
 #[test]
