@@ -98,39 +98,42 @@ fn is_written_again(alloc: Global, text: &str) -> Result<bool, Fail> {
     is_written_as(alloc, text, text)
 }
 
+// Texts that are no message, and the number of the first fault of each.
+const FAULTS: &[(&str, u8)] = &[
+    ("{", 21),
+    ("{}", 22),
+    ("[]", 23),
+    ("[5,\"x\",{}]", 23),
+    ("[4,\"x\",{}]", 23),
+    ("[71,1,{}]", 23),
+    ("[33,1]", 24),
+    ("[34,1]", 24),
+    ("[66,1]", 24),
+    ("[67,1,2]", 24),
+    ("[32,1,{},\"a\",[]]", 24),
+    ("[32,1,[],\"a\"]", 25),
+    ("[32,1.0,{},\"a\"]", 25),
+    ("[32,-1,[],\"a\"]", 25),
+    ("[8,33,0,{},\"a\"]", 25),
+    ("[36,0,1,{},[0.5]]", 25),
+    ("[34,-1,\"1\"]", 25),
+    ("[64,1,{},7]", 25),
+    ("[66,\"1\",0]", 25),
+    ("[50,0,{},[0.5]]", 25),
+    ("[69,0,{}]", 25),
+    ("[68,1,1,{\"procedure\":1}]", 25),
+    ("[32,0,{},\"a\"]", 26),
+    ("[32,-1,{},\"a\"]", 26),
+    ("[16,0,{},\"a\",[0.5]]", 26),
+    ("[34,0,1]", 26),
+    ("[64,0,{\"invoke\":\"random\"},\"p\"]", 26),
+    ("[70,0,{},[0.5]]", 26),
+];
+
 #[test]
 fn faults_come_in_the_order_of_their_numbers(rt: HostRuntime) -> Result<(), Fail> {
-    for (text, number) in [
-        ("{", 21),
-        ("{}", 22),
-        ("[]", 23),
-        ("[5,\"x\",{}]", 23),
-        ("[4,\"x\",{}]", 23),
-        ("[71,1,{}]", 23),
-        ("[33,1]", 24),
-        ("[34,1]", 24),
-        ("[66,1]", 24),
-        ("[67,1,2]", 24),
-        ("[32,1,{},\"a\",[]]", 24),
-        ("[32,1,[],\"a\"]", 25),
-        ("[32,1.0,{},\"a\"]", 25),
-        ("[32,-1,[],\"a\"]", 25),
-        ("[8,33,0,{},\"a\"]", 25),
-        ("[36,0,1,{},[0.5]]", 25),
-        ("[34,-1,\"1\"]", 25),
-        ("[64,1,{},7]", 25),
-        ("[66,\"1\",0]", 25),
-        ("[50,0,{},[0.5]]", 25),
-        ("[69,0,{}]", 25),
-        ("[68,1,1,{\"procedure\":1}]", 25),
-        ("[32,0,{},\"a\"]", 26),
-        ("[32,-1,{},\"a\"]", 26),
-        ("[16,0,{},\"a\",[0.5]]", 26),
-        ("[34,0,1]", 26),
-        ("[64,0,{\"invoke\":\"random\"},\"p\"]", 26),
-        ("[70,0,{},[0.5]]", 26),
-    ] {
-        assert_eq!(rt; fault(rt.alloc(), text.as_bytes())?, number, "{text}");
+    for (text, number) in FAULTS {
+        assert_eq!(rt; fault(rt.alloc(), text.as_bytes())?, *number, "{text}");
     }
     assert_eq!(rt; fault(rt.alloc(), &[0x5b, 0x22, 0xff, 0x22, 0x5d])?, 21);
     Ok(())
@@ -197,36 +200,39 @@ fn keys_are_written_in_their_order(rt: HostRuntime) -> Result<(), Fail> {
     Ok(())
 }
 
+// A text of each kind of message, with the keys that are written.
+const WRITTEN: &[&str] = &[
+    "[1,\"realm1\",{}]",
+    "[1,\"realm1\",{\"roles\":{\"callee\":{\"features\":{\"call_canceling\":true}}}}]",
+    "[3,{},\"wamp.error.protocol_violation\"]",
+    "[6,{},\"wamp.close.goodbye_and_out\"]",
+    "[8,32,1,{},\"wamp.error.invalid_argument\",[],{\"a\":-1}]",
+    "[16,2,{\"acknowledge\":true,\"exclude_me\":false},\"a.b\",[\"hi\"]]",
+    "[17,2,3]",
+    "[32,1,{\"match\":\"prefix\"},\"com.a.x\"]",
+    "[33,1,9007199254740992]",
+    "[34,3,1]",
+    "[35,3]",
+    "[64,1,{},\"a.b\"]",
+    "[64,1,{\"invoke\":\"roundrobin\"},\"a\"]",
+    "[64,1,{\"invoke\":\"last\",\"match\":\"prefix\"},\"a\"]",
+    "[65,1,1]",
+    "[66,2,9]",
+    "[67,2]",
+    "[48,7,{},\"p.q\",[1]]",
+    "[49,7,{\"mode\":\"skip\"}]",
+    "[50,7,{},[2]]",
+    "[68,1,1,{\"procedure\":\"p.q\"},[1]]",
+    "[69,1,{\"mode\":\"killnowait\"}]",
+    "[70,1,{},[2],{\"a\":1}]",
+    "[36,1,500,{\"topic\":\"com.a.x-low\"},[\"hi\"]]",
+    WELCOME,
+];
+
 #[test]
 fn what_is_read_is_written_as_its_one_text(rt: HostRuntime) -> Result<(), Fail> {
-    for text in [
-        "[1,\"realm1\",{}]",
-        "[1,\"realm1\",{\"roles\":{\"callee\":{\"features\":{\"call_canceling\":true}}}}]",
-        "[3,{},\"wamp.error.protocol_violation\"]",
-        "[6,{},\"wamp.close.goodbye_and_out\"]",
-        "[8,32,1,{},\"wamp.error.invalid_argument\",[],{\"a\":-1}]",
-        "[16,2,{\"acknowledge\":true,\"exclude_me\":false},\"a.b\",[\"hi\"]]",
-        "[17,2,3]",
-        "[32,1,{\"match\":\"prefix\"},\"com.a.x\"]",
-        "[33,1,9007199254740992]",
-        "[34,3,1]",
-        "[35,3]",
-        "[64,1,{},\"a.b\"]",
-        "[64,1,{\"invoke\":\"roundrobin\"},\"a\"]",
-        "[64,1,{\"invoke\":\"last\",\"match\":\"prefix\"},\"a\"]",
-        "[65,1,1]",
-        "[66,2,9]",
-        "[67,2]",
-        "[48,7,{},\"p.q\",[1]]",
-        "[49,7,{\"mode\":\"skip\"}]",
-        "[50,7,{},[2]]",
-        "[68,1,1,{\"procedure\":\"p.q\"},[1]]",
-        "[69,1,{\"mode\":\"killnowait\"}]",
-        "[70,1,{},[2],{\"a\":1}]",
-        "[36,1,500,{\"topic\":\"com.a.x-low\"},[\"hi\"]]",
-        WELCOME,
-    ] {
-        assert!(rt; is_written_again(rt.alloc(), text)?, "{text}");
+    for text in WRITTEN {
+        assert!(rt; is_written_again(rt.alloc(), *text)?, "{text}");
     }
     Ok(())
 }
