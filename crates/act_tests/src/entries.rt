@@ -33,7 +33,11 @@ fn said(alloc: Global, read: &[u8], text: &str) -> Result<Vec<u8>, AllocError> {
 // What the octets are taken as: the number of the fault, the letter of the act where the entry is put as these octets again, or 0.
 fn answer(alloc: Global, octets: &[u8]) -> u8 {
     match take_entry::<Act, ActCoder>(alloc, octets) {
-        Ok(entry) => letter_again(alloc, &entry, octets),
+        Ok(entry) => {
+            let letter = letter_again(alloc, &entry, octets);
+            drop(entry);
+            letter
+        }
         Err(fault) => fault.number(),
     }
 }
@@ -165,7 +169,11 @@ fn refusal(alloc: Global, entry: &Entry<Act>) -> u8 {
 // The same for an unfit request; 1 where there is none.
 fn unfit_refusal(alloc: Global, kind: UnfitKind, quiet: bool) -> u8 {
     match unfit(alloc, kind, quiet) {
-        Some(entry) => refusal(alloc, &entry),
+        Some(entry) => {
+            let number = refusal(alloc, &entry);
+            drop(entry);
+            number
+        }
         None => 1,
     }
 }
@@ -200,10 +208,19 @@ fn is_subscribe(entry: &Entry<Act>, number: u64) -> bool {
     }
 }
 
+// Whether an entry is equal to its copy, which tells the same letter.
+fn is_equal(entry: &Entry<Act>, copy: &Entry<Act>) -> bool {
+    entry.same(copy) && letter(copy) == letter(entry)
+}
+
 // Whether an entry and its copy are equal.
 fn is_copied(alloc: Global, entry: &Entry<Act>) -> bool {
     match entry.copy(alloc) {
-        Ok(copy) => entry.same(&copy) && letter(&copy) == letter(entry),
+        Ok(copy) => {
+            let equal = is_equal(entry, &copy);
+            drop(copy);
+            equal
+        }
         Err(_) => false,
     }
 }

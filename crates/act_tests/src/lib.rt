@@ -1,4 +1,5 @@
 //! Tests of acts as octets, over public calls.
 #![tactic(auto)]
 
+#[cfg(test)]
 mod entries;
