@@ -55,15 +55,25 @@ fn serve<R: Read, W: Write>(
     let chunk = room.as_mut_slice();
     let mut service = Service::new(alloc, realm, limit)?;
     match act_out(writer, &mut service, &Act::Connect)? {
-        Progress::Closed => return Ok(()),
+        Progress::Closed => {
+            drop(service);
+            return Ok(());
+        }
         _ => {}
     }
     for _turn in 0..MOST_TURNS {
         match turn(reader, writer, &mut service, chunk) {
             Ok(true) => {}
-            Ok(false) => return Ok(()),
-            Err(fault) => return Err(fault),
+            Ok(false) => {
+                drop(service);
+                return Ok(());
+            }
+            Err(fault) => {
+                drop(service);
+                return Err(fault);
+            }
         }
     }
+    drop(service);
     Err(RunFault::from(ListenFault::Turns))
 }
