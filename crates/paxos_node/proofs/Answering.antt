@@ -14,7 +14,8 @@ use Rattle.paxos_node.specs.declared.outcome.Outcome.{Outcome}
 use Rattle.paxos_turn.specs.Node.{NodeState, Turn}
 use Rattle.paxos_turn.specs.Turn.{begun, with_pending}
 use Rattle.paxos_turn.specs.Parts.{taken_with}
-use Rattle.paxos_node.specs.Adopting.{Fits, Settled}
+use Rattle.paxos_turn.proofs.Standing.{no_front}
+use Rattle.paxos_node.specs.Adopting.{pending_behind, Fits, Settled}
 use Rattle.paxos_node.specs.Applying.{settle}
 use Rattle.paxos_turn.specs.Drafting.{Drafted, with_pending_entry, seeing}
 use Rattle.paxos_node.specs.Outcome.{with_added}
@@ -198,6 +199,7 @@ nothing_fits {B} me members n x p l b =
       moves = tt;
       applied = subst (λ (es : List (Entry B)). Begins es x.learner.learned) (sym (append-nil x.applied)) b;
       within = omega arith;
+      front = no_front (length (x.applied ++ [])) x.proposer.role (pending_behind x.applied [] x.pending);
     }
 
 pub planned_fits : {B : Type 0} (me members : ℕ) (x : NodeState B) (rounds full other : Bool) (t : Turn B) (r : Result (Outcome B) NodeFault)

@@ -1,11 +1,11 @@
 -- An event's end: what is applied entry by entry is applied at once, up to the entry that tells its boot lost; and what is planned then.
-use Rattle.std.proofs.Common.{◌≡◌, ◌<◌, ◌+◌, ◌^◌, ℕ, suc, Bool, true, false, cond, not, ◌&&◌, ◌||◌, Result, Ok, Err, Some, None, List, [], ◌∷◌, ◌++◌, take, length}
+use Rattle.std.proofs.Common.{◌≡◌, ◌<◌, ◌≤◌, ◌+◌, ◌^◌, ℕ, suc, Bool, true, false, cond, not, ◌&&◌, ◌||◌, Result, Ok, Err, Option, Some, None, List, [], ◌∷◌, ◌++◌, take, length}
 use Rattle.std.proofs.Common.{refl, ap, sym, ◌∙◌, subst, append_assoc, append-nil, arith, eqb}
 use Rattle.std.proofs.lemmas.Bool.{eqb-true}
 use Rattle.std.specs.Prelude.{IfOk}
 use Rattle.paxos_packets.specs.declared.entry.Entry.{Entry}
 use Rattle.paxos_packets.specs.declared.entry.Entry.TheVariants.{Noop, Boot, Lost, Item}
-use Rattle.paxos_proposer.specs.Moves.{ArePossible}
+use Rattle.paxos_proposer.specs.Moves.{after_moves, ArePossible}
 use Rattle.paxos_learner.specs.declared.learned.LearnedEntry.{LearnedEntry}
 use Rattle.paxos_learner.specs.Hearing.{hear_all}
 use Rattle.paxos_learner.specs.Learned.{numbered, Rises, Begins}
@@ -18,9 +18,13 @@ use Rattle.paxos_node.specs.declared.fault.NodeFault.{NodeFault}
 use Rattle.paxos_node.specs.declared.fault.NodeFault.TheVariants.{Rounds, Full, Disagree, Memory}
 use Rattle.paxos_node.specs.declared.outcome.Outcome.{Outcome}
 use Rattle.paxos_turn.specs.Node.{NodeState, Turn}
-use Rattle.paxos_turn.specs.Parts.{proposer_of, learner_of}
-use Rattle.paxos_node.specs.Adopting.{pending_behind, Settled}
+use Rattle.paxos_turn.specs.Parts.{proposer_of, learner_of, pending_with}
+use Rattle.paxos_node.specs.Adopting.{pending_behind, front_behind, Settled}
 use Rattle.paxos_node.specs.Applying.{note, ends, down, go_down, apply_all, settle, ends_boot, count_to_end, has_end}
+use Rattle.paxos_turn.specs.Front.{AllStand, IsFront}
+use Rattle.paxos_turn.proofs.Planning.{first_full}
+use Rattle.paxos_turn.proofs.Standing.{no_front}
+use Rattle.paxos_proposer.specs.Role.{Role}
 use Rattle.paxos_turn.specs.Drafting.{Known, turn_behind}
 use Rattle.paxos_turn.specs.declared.effects.Effects.{Effects}
 use Rattle.paxos_node.specs.Outcome.{outcome_with, with_added, added_in}
@@ -139,7 +143,17 @@ ended_node : {B : Type 0} (b : Bool) (t : Turn B) → cond b (down t.node.rows) 
 ended_node true t = refl
 ended_node false t = refl
 
-pub settled : {B : Type 0} (k : Known B) (other : Bool) (e : Effects B) (run applied : List (Entry B)) (is_down : Bool) (log : ℕ)
+-- what stood at the front stands where nothing is applied
+
+still_front : {B : Type 0} (n : ℕ) (role : Role B) (log applied pending : List (Entry B)) (added : Option (Entry B)) → IsFront n (length log) role pending
+    → n ≤ length pending → IsFront (front_behind n applied) (length (log ++ applied)) role (pending_behind log applied (pending_with added pending))
+still_front {B} n role log [] pending added front most = λ same ok leads.
+    subst (λ (es : List (Entry B)). AllStand same (length (log ++ [])) role es) (sym (first_full n added pending most))
+    (subst (λ (l : List (Entry B)). AllStand same (length l) role (take n pending)) (sym (append-nil log)) (front same ok leads))
+still_front n role log (e ∷ es) pending added front most =
+    no_front (length (log ++ e ∷ es)) role (pending_behind log (e ∷ es) (pending_with added pending))
+
+pub settled : {B : Type 0} (k : Known B) (other : Bool) (e : Effects B) (run applied : List (Entry B)) (is_down : Bool) (log front : ℕ)
     → other ≡ false → k.state.up ≡ true
     → run ≡ run_from (suc (length k.state.applied)) (hear_all e.news.items (learner_of k.members k.state)).learner.learned
     → applied ≡ take (count_to_end k.me k.state.rows.boot (standing k.me k.state.applied) run) run
@@ -148,15 +162,17 @@ pub settled : {B : Type 0} (k : Known B) (other : Bool) (e : Effects B) (run app
     → ArePossible e.moves.items (proposer_of k.me k.members k.state)
     → Begins k.state.applied k.state.learner.learned
     → Rises 0 (hear_all e.news.items (learner_of k.members k.state)).learner.learned
-    → Settled k.me k.members k.state (turn_behind k other e) (with_added k.added (outcome_with e applied is_down log))
-settled {B} k other e run applied is_down log agree up run_is applied_is down_is log_is moves begins rises =
+    → IsFront front (length k.state.applied) (after_moves e.moves.items (proposer_of k.me k.members k.state)).proposer.role k.state.pending
+    → front ≤ length k.state.pending
+    → Settled k.me k.members k.state (turn_behind k other e) (with_added k.added (outcome_with e applied is_down log (front_behind front applied)))
+settled {B} k other e run applied is_down log front agree up run_is applied_is down_is log_is moves begins rises stand most =
     record {
       agrees = ap (λ (u : Turn B). u.disagrees) whole ∙ ended_disagrees is_down now ∙ agree;
       change = ended_change is_down now ∙ ap (λ (u : Turn B). u.change) (sym whole);
       packets = ended_packets is_down now ∙ ap (λ (u : Turn B). u.packets) (sym whole);
       applied = ended_applied is_down now ∙ ap (λ (u : Turn B). u.applied) (sym whole);
       is_down = ended_up is_down now up ∙ ap (λ (u : Turn B). not u.node.up) (sym whole);
-      fits = record { moves = moves; applied = goes; within = within };
+      fits = record { moves = moves; applied = goes; within = within; front = fronts };
       node = ended_node is_down now ∙ ap (λ (u : Turn B). u.node) (sym whole);
       log = log_is ∙ ended_log is_down now (length k.state.applied + length applied) (sym (length_both k.state.applied applied))
           ∙ ap (λ (u : Turn B). length u.node.applied) (sym whole);
@@ -164,6 +180,9 @@ settled {B} k other e run applied is_down log agree up run_is applied_is down_is
   where
     learned : List (LearnedEntry B)
     learned = (hear_all e.news.items (learner_of k.members k.state)).learner.learned
+
+    role : Role B
+    role = (after_moves e.moves.items (proposer_of k.me k.members k.state)).proposer.role
 
     s : Standing
     s = standing k.me k.state.applied
@@ -185,6 +204,9 @@ settled {B} k other e run applied is_down log agree up run_is applied_is down_is
         subst (λ (es : List (Entry B)). Begins (k.state.applied ++ es) learned)
         (ap (λ (r : List (Entry B)). take (count_to_end k.me boot s run) r) (sym run_is) ∙ sym applied_is)
         (goes_on k.state.applied e.news.items (learner_of k.members k.state) (count_to_end k.me boot s run) begins rises)
+
+    fronts : IsFront (front_behind front applied) (length (k.state.applied ++ applied)) role (pending_behind k.state.applied applied (pending_with k.added k.state.pending))
+    fronts = still_front front role k.state.applied applied k.state.pending k.added stand most
 
     within : length k.state.applied + length applied < 2 ^ 40
     within =
@@ -215,7 +237,7 @@ without_added {B} k t other (Ok o) p q a = (
   a.1,
   a.2,
   subst (λ (u : Outcome B). Settled k.me k.members k.state t u)
-      (λ i. record o { moves = record { proposer = o.moves.proposer; news = o.moves.news; added = (p ∙ sym q) i; log = o.moves.log } }) a.3,
+      (λ i. record o { moves = record { proposer = o.moves.proposer; news = o.moves.news; added = (p ∙ sym q) i; front = o.moves.front; log = o.moves.log } }) a.3,
 )
 without_added k t other (Err Rounds) p q a = a
 without_added k t other (Err Full) p q a = a

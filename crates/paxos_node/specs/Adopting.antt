@@ -10,6 +10,7 @@ use Rattle.paxos_node.specs.declared.event.Event.{Event}
 use Rattle.paxos_node.specs.declared.outcome.Outcome.{Outcome}
 use Rattle.paxos_turn.specs.Node.{NodeState, Turn}
 use Rattle.paxos_turn.specs.Turn.{begun}
+use Rattle.paxos_turn.specs.Front.{IsFront}
 use Rattle.paxos_turn.specs.Parts.{proposer_of, learner_of, pending_with, counted_with}
 use Rattle.paxos_node.specs.Applying.{down, settle}
 use Rattle.paxos_node.specs.Events.{owner, on_event}
@@ -36,11 +37,18 @@ stays_up me members o x =
 abbrev pub adopted : {B : Type 0} → ℕ → ℕ → Outcome B → NodeState B → NodeState B
 adopted me members o x = if o.is_down then down (accepting.adopted x.rows o.change) else stays_up me members o x
 
--- it fits a node: each move is possible in its turn, and what is applied is what is learned next
+-- so many of the first pending entries stand behind it, where nothing is applied
+abbrev pub front_behind : {B : Type 0} → ℕ → List (Entry B) → ℕ
+front_behind n [] = n
+front_behind n (e ∷ es) = 0
+
+-- it fits a node: each move is possible in its turn, what is applied is what is learned next, and the front stands behind it
 pub record Fits {B : Type 0} (me members : ℕ) (o : Outcome B) (x : NodeState B) : Type 0 where
   pub moves : ArePossible o.moves.proposer (proposer_of me members x)
   pub applied : Begins (x.applied ++ o.applied) (hear_all o.moves.news (learner_of members x)).learner.learned
   pub within : length x.applied + length o.applied < 2 ^ 40
+  pub front : IsFront o.moves.front (length (x.applied ++ o.applied)) (after_moves o.moves.proposer (proposer_of me members x)).proposer.role
+      (pending_behind x.applied o.applied (pending_with o.moves.added x.pending))
 
 -- an outcome is what is made of a node so far, once what it would then have learned is applied: what it commits, sends and applies, the
 -- node that adopts it, and the length of that node's log

@@ -5,21 +5,21 @@ use Rattle.paxos_turn.specs.declared.effects.Effects.{Effects}
 use Rattle.paxos_node.specs.declared.fault.NodeFault.{NodeFault}
 use Rattle.paxos_node.specs.declared.outcome.Outcome.{Outcome}
 
--- these effects, where this is applied then, and the log behind it has this length
-abbrev pub outcome_with : {B : Type 0} → Effects B → List (Entry B) → Bool → ℕ → Outcome B
-outcome_with e applied is_down log =
+-- these effects, where this is applied then, the log behind it has this length, and so many of the first pending entries stand
+abbrev pub outcome_with : {B : Type 0} → Effects B → List (Entry B) → Bool → ℕ → ℕ → Outcome B
+outcome_with e applied is_down log front =
     record {
       change = e.change;
       packets = e.packets.items;
       applied = applied;
       is_down = is_down;
-      moves = record { proposer = e.moves.items; news = e.news.items; added = None; log = log };
+      moves = record { proposer = e.moves.items; news = e.news.items; added = None; front = front; log = log };
     }
 
 -- an outcome by which the entry becomes pending
 abbrev pub with_added : {B : Type 0} → Option (Entry B) → Outcome B → Outcome B
 with_added added o =
-    record o { moves = record { proposer = o.moves.proposer; news = o.moves.news; added = added; log = o.moves.log } }
+    record o { moves = record { proposer = o.moves.proposer; news = o.moves.news; added = added; front = o.moves.front; log = o.moves.log } }
 
 abbrev pub added_in : {B : Type 0} → Entry B → Result (Outcome B) NodeFault → Result (Outcome B) NodeFault
 added_in e (Ok o) = Ok (with_added (Some e) o)

@@ -33,7 +33,7 @@ unchanged log =
       packets = [];
       applied = [];
       is_down = false;
-      moves = record { proposer = []; news = []; added = None; log = log };
+      moves = record { proposer = []; news = []; added = None; front = 0; log = log };
     }
 
 -- what is answered: Rounds, Full and Disagree where these refusals hold, in this order; else P, or want of memory, which may come before Disagree

@@ -156,10 +156,11 @@ impl<B: Body> Node<B> {
             (with_added (Some entry.now) outcome)) result }
     {
         let mut draft = self.draft(Some(entry));
-        let Ok(()) = draft.push() else {
+        let front = draft.front(self.front());
+        let Ok(()) = draft.push(front) else {
             return Err(NodeFault::Memory);
         };
-        settle(draft, self.roll())
+        settle(draft, self.roll(), front)
     }
 
     // What waits for an answer is sent again, what is pending is pushed, and the others are asked for what it lacks.

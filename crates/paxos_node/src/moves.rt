@@ -10,6 +10,8 @@ pub struct Moves<B> {
     pub(crate) proposer: Vec<Move<B>>,
     pub(crate) news: Vec<News<B>>,
     pub(crate) added: Option<Entry<B>>,
+    // How many of the first pending entries stand behind it.
+    pub(crate) front: usize,
     // The length of the log behind it, 0 where the node is down.
     pub(crate) log: u64,
 }
@@ -19,5 +21,5 @@ impl<B> Model for Moves<B> {
 
     ghost Value = { Steps B };
 
-    ghost view = { λ m. record { proposer = m.proposer.items; news = m.news.items; added = m.added; log = m.log } };
+    ghost view = { λ m. record { proposer = m.proposer.items; news = m.news.items; added = m.added; front = m.front; log = m.log } };
 }

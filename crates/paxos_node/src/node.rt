@@ -1,12 +1,16 @@
-ghost use Rattle.std.specs.Prelude.{◌≡◌, ◌<◌, ◌^◌, true, false, nat_lt, length, IfOk, OnOk, OnErr, IsOkUnless, Err, option_copied};
+ghost use Rattle.std.specs.Prelude.{◌≡◌, ◌<◌, ◌≤◌, ◌+◌, ◌^◌, vec_len, vec_capacity, true, false, nat_lt, length, IfOk, OnOk, OnErr, IsOkUnless, Err, option_copied};
 ghost use Rattle.paxos_node.specs.declared.fault.NodeFault.TheVariants.{Memory};
 ghost use Rattle.paxos_node.specs.Adopting.{adopted, Fits};
 ghost use Rattle.paxos_turn.specs.Parts.{proposer_of, learner_of};
 ghost use Rattle.paxos_node.specs.Applying.{down, started};
 ghost use Rattle.paxos_node.specs.Held.{HasRoom};
 ghost use Rattle.paxos_learner.specs.Learned.{Begins};
+ghost use Rattle.paxos_learner.specs.Hearing.{HasRoomFor};
+ghost use Rattle.paxos_proposer.specs.Moves.{promises_in, proposals_in};
+ghost use Rattle.paxos_proposer.specs.State.{HasRoom as HasRoomToPropose};
 ghost use Rattle.paxos_proposer.specs.Proposer.{round_of};
 ghost use Rattle.paxos_turn.specs.Drafting.{known, with_pending_entry};
+ghost use Rattle.paxos_turn.specs.Front.{IsFront};
 ghost use Rattle.paxos_turn.specs.Turn.{begun};
 ghost use Rattle.replica_machine.specs.Roll.{IsRollOf};
 
@@ -38,6 +42,8 @@ pub struct Node<B> {
     applied: usize,
     roll: Roll,
     pending: Vec<Entry<B>>,
+    // How many of the first pending entries are known to stand among what this node proposed as a leader.
+    front: usize,
     taken: u64,
     // Whether `adopt` has answered `Memory`.
     failed: bool,
@@ -48,6 +54,7 @@ impl<B> Model for Node<B> {
     ghost use Rattle.paxos_learner.specs.Learned.{Begins};
     ghost use Rattle.replica_machine.specs.Roll.{IsRollOf};
     ghost use Rattle.paxos_turn.specs.Parts.{first_learned};
+    ghost use Rattle.paxos_turn.specs.Front.{IsFront};
     ghost use Rattle.paxos_node.specs.Held.{Held};
 
     ghost Value = { Held B };
@@ -77,7 +84,8 @@ impl<B> Model for Node<B> {
         × (length (first_learned n.applied n.learner.state.learner.learned) ≡ n.applied)
         × IsRollOf (first_learned n.applied n.learner.state.learner.learned) n.roll
         × Begins (first_learned n.applied n.learner.state.learner.learned) n.learner.state.learner.learned
-        × (n.applied < 2 ^ 40) };
+        × (n.applied < 2 ^ 40)
+        × IsFront n.front (length (first_learned n.applied n.learner.state.learner.learned)) n.proposer.state.proposer.role n.pending.items };
 }
 
 impl<B> Node<B> {
@@ -119,6 +127,13 @@ impl<B> Node<B> {
         ensures { result.now ≡ self.now.state.pending }
     {
         self.pending.as_slice()
+    }
+
+    // How many of the first pending entries are known to stand.
+    pub(crate) fn front(&self) -> usize
+        ensures { IsFront result (length self.now.state.applied) self.now.state.proposer.role self.now.state.pending }
+    {
+        self.front
     }
 
     // Its parts, where it is up.
@@ -203,6 +218,7 @@ impl<B: Drop> Node<B> {
     }
 
     /// The node with this number, of these members, that begins with these rows.
+    #[tactic(auto, using(paxos_turn::proofs::Standing::no_front))]
     pub fn of(alloc: Global, me: u8, members: Members, rows: Rows<B>) -> Result<Node<B>, NodeFault>
         ensures me { IfOk result (λ node. node.me ≡ me) }
         ensures members { IfOk result (λ node. node.members ≡ members) }
@@ -229,6 +245,7 @@ impl<B: Drop> Node<B> {
             applied: 0,
             roll: Roll::new(),
             pending,
+            front: 0,
             taken: 0,
             failed: false,
         })
@@ -245,17 +262,13 @@ impl<B: Body> Node<B> {
         ensures failed { self.new.failed ≡ self.old.failed }
         ensures memory { IsOkUnless result Memory }
     {
-        let votes = outcome.change.votes.as_slice().len();
-        let Ok(()) = self.acceptor.make_room(votes) else {
-            return Err(NodeFault::Memory);
-        };
-        let Ok(()) = self.proposer.make_room_for(&outcome.moves.proposer) else {
-            return Err(NodeFault::Memory);
-        };
-        let Ok(()) = self.learner.make_room_for(&outcome.moves.news) else {
-            return Err(NodeFault::Memory);
-        };
-        let Ok(()) = self.pending.reserve(1) else {
+        let Ok(()) = make_room_in(
+            &mut self.acceptor,
+            &mut self.proposer,
+            &mut self.learner,
+            &mut self.pending,
+            outcome,
+        ) else {
             return Err(NodeFault::Memory);
         };
         Ok(())
@@ -289,6 +302,7 @@ impl<B: Body> Node<B> {
             proposer,
             news,
             added,
+            front,
             ..
         } = moves;
         self.proposer.move_in_room(proposer);
@@ -296,6 +310,7 @@ impl<B: Body> Node<B> {
         wait(&mut self.pending, &mut self.taken, added);
         apply_all(&mut self.roll, &mut self.pending, applied.as_slice());
         self.applied += applied.as_slice().len();
+        self.front = front;
         (packets, applied)
     }
 
@@ -325,6 +340,7 @@ impl<B: Body> Node<B> {
     }
 
     // It has only its rows.
+    #[tactic(auto, using(paxos_turn::proofs::Standing::no_front))]
     fn go_down(&mut self)
         ensures state { self.new.state ≡ down self.old.state.rows }
         ensures me { self.new.me ≡ self.old.me }
@@ -337,8 +353,42 @@ impl<B: Body> Node<B> {
         self.applied = 0;
         self.roll = Roll::new();
         self.pending.clear();
+        self.front = 0;
         self.taken = 0;
     }
+}
+
+// Takes the memory for the outcome in each part.
+fn make_room_in<B: Body>(
+    acceptor: &mut Acceptor<B>,
+    proposer: &mut Proposer<B>,
+    learner: &mut Learner<B>,
+    pending: &mut Vec<Entry<B>>,
+    outcome: &Outcome<B>,
+) -> Result<(), NodeFault>
+    ensures votes { OnOk result (length outcome.now.change.votes ≤ acceptor.new.room) }
+    ensures proposer { OnOk result (HasRoomToPropose (promises_in outcome.now.moves.proposer) (proposals_in outcome.now.moves.proposer) proposer.new.room) }
+    ensures learner { OnOk result (HasRoomFor outcome.now.moves.news learner.new) }
+    ensures pending { OnOk result (vec_len pending.new + 1 ≤ vec_capacity pending.new) }
+    ensures rows { acceptor.new.rows ≡ acceptor.old.rows }
+    ensures moved { proposer.new.state ≡ proposer.old.state }
+    ensures heard { learner.new.state ≡ learner.old.state }
+    ensures items { pending.new.items ≡ pending.old.items }
+{
+    let votes = outcome.change.votes.as_slice().len();
+    let Ok(()) = acceptor.make_room(votes) else {
+        return Err(NodeFault::Memory);
+    };
+    let Ok(()) = proposer.make_room_for(&outcome.moves.proposer) else {
+        return Err(NodeFault::Memory);
+    };
+    let Ok(()) = learner.make_room_for(&outcome.moves.news) else {
+        return Err(NodeFault::Memory);
+    };
+    let Ok(()) = pending.reserve(1) else {
+        return Err(NodeFault::Memory);
+    };
+    Ok(())
 }
 
 // The round of a promise.

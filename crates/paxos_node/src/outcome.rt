@@ -39,19 +39,21 @@ impl<B> Outcome<B> {
                 proposer: Vec::new(alloc),
                 news: Vec::new(alloc),
                 added: None,
+                front: 0,
                 log,
             },
         }
     }
 
-    // These effects, where this is applied then, and the log behind it has this length.
+    // These effects, where this is applied then, the log behind it has this length, and so many of the first pending entries stand.
     pub(crate) fn with(
         effects: Effects<B>,
         applied: Entries<B>,
         is_down: bool,
         log: u64,
+        front: usize,
     ) -> Outcome<B>
-        ensures { result ≡ outcome_with effects applied is_down log }
+        ensures { result ≡ outcome_with effects applied is_down log front }
     {
         let Effects {
             change,
@@ -68,6 +70,7 @@ impl<B> Outcome<B> {
                 proposer: moves,
                 news,
                 added: None,
+                front,
                 log,
             },
         }

@@ -1,8 +1,9 @@
 //! What was learned is applied at an event's end.
 
-ghost use Rattle.std.specs.Prelude.{◌≡◌, ◌<◌, ◌+◌, ◌^◌, false, length, true, None, IfOk, take, if◌then◌else◌};
+ghost use Rattle.std.specs.Prelude.{◌≡◌, ◌<◌, ◌≤◌, ◌+◌, ◌^◌, false, length, true, None, IfOk, take, if◌then◌else◌};
+ghost use Rattle.paxos_turn.specs.Front.{FrontOf};
 ghost use Rattle.replica_machine.specs.Roll.{IsRollOf, standing};
-ghost use Rattle.paxos_node.specs.Adopting.{Settled};
+ghost use Rattle.paxos_node.specs.Adopting.{Settled, front_behind};
 ghost use Rattle.paxos_node.specs.Outcome.{with_added};
 ghost use Rattle.paxos_node.specs.Applying.{settle, is_own_lost, ends_boot, count_to_end, has_end};
 ghost use Rattle.paxos_node.specs.Plans.{Answers, Answered};
@@ -13,10 +14,16 @@ use paxos_packets::{Body, Entries, Entry};
 use paxos_turn::Draft;
 use replica_machine::{Roll, Standing};
 
-// What the event makes of the node: what it would then have learned is applied.
-pub(crate) fn settle<B: Body>(draft: Draft<'_, B>, roll: &Roll) -> Result<Outcome<B>, NodeFault>
+// What the event makes of the node: what it would then have learned is applied. The first `front` that were pending stand before that.
+pub(crate) fn settle<B: Body>(
+    draft: Draft<'_, B>,
+    roll: &Roll,
+    front: usize,
+) -> Result<Outcome<B>, NodeFault>
     requires up { draft.of.state.up ≡ true }
     requires roll { IsRollOf draft.of.state.applied roll.now }
+    requires front { FrontOf front draft }
+    requires most { front ≤ length draft.of.state.pending }
     ensures settled { Answers false false (settle draft.entry.of.me draft.entry.turn).disagrees
         (λ outcome. Settled draft.entry.of.me draft.entry.of.members draft.entry.of.state draft.entry.turn
         (with_added draft.entry.of.added outcome)) result }
@@ -33,17 +40,29 @@ pub(crate) fn settle<B: Body>(draft: Draft<'_, B>, roll: &Roll) -> Result<Outcom
     let (count, is_down) = until_lost(standing, draft.me(), draft.boot(), run.as_slice());
     let applied = first_of(run, count);
     let log = log_behind(draft.applied(), applied.as_slice(), is_down);
-    Ok(Outcome::with(draft.into_effects(), applied, is_down, log))
+    let stand = front_behind(front, applied.as_slice());
+    Ok(Outcome::with(draft.into_effects(), applied, is_down, log, stand))
 }
 
 // The same, where no entry becomes pending.
+#[tactic(auto, using(paxos_turn::proofs::Standing::no_front))]
 pub(crate) fn finish<B: Body>(draft: Draft<'_, B>, roll: &Roll) -> Result<Outcome<B>, NodeFault>
     requires up { draft.of.state.up ≡ true }
     requires roll { IsRollOf draft.of.state.applied roll.now }
     requires none { draft.of.added ≡ None }
     ensures { Answered draft.entry.of.me draft.entry.of.members draft.entry.of.state false false draft.entry.turn result }
 {
-    settle(draft, roll)
+    settle(draft, roll, 0)
+}
+
+// How many of the first pending entries stand, once this is applied: none is looked for behind what is applied.
+fn front_behind<B>(front: usize, applied: &[Entry<B>]) -> usize
+    ensures { result ≡ front_behind front applied.now }
+{
+    if applied.is_empty() {
+        return front;
+    }
+    0
 }
 
 // Where the node stands behind its log.

@@ -3,3 +3,4 @@ pub mod Putting
 pub mod Planning
 pub mod Rounds
 pub mod Again
+pub mod Standing

@@ -6,3 +6,4 @@ pub mod Replies
 pub mod Ticking
 pub mod Starting
 pub mod Drafting
+pub mod Front

@@ -1,11 +1,12 @@
 //! What a leader proposes, and what another node forwards.
 
-ghost use Rattle.std.specs.Prelude.{◌≡◌, ◌∷◌, [], ◌++◌, length, true, is_some, OnOk, IfOk, option_copied, take};
+ghost use Rattle.std.specs.Prelude.{◌≡◌, ◌≤◌, drop, ◌∷◌, [], ◌++◌, length, true, is_some, OnOk, IfOk, option_copied, take};
 ghost use Rattle.paxos_packets.specs.Packet.{to_others};
 ghost use Rattle.paxos_proposer.specs.Proposer.{submitted};
 ghost use Rattle.paxos_proposer.specs.Proposing.{offer_of};
 ghost use Rattle.paxos_turn.specs.Parts.{pending_with};
 ghost use Rattle.paxos_turn.specs.Drafting.{in_role, listed};
+ghost use Rattle.paxos_turn.specs.Front.{AllStand, FrontOf};
 ghost use Rattle.paxos_turn.specs.Proposals.{stands, propose, propose_all, propose_new, propose_each, forwarded, push};
 ghost use Rattle.paxos_turn.specs.Turn.{send, cast};
 ghost use Rattle.paxos_packets.specs.declared.packet.Kind.TheVariants.{Accept};
@@ -84,18 +85,58 @@ impl<'a, B: Body> Draft<'a, B> {
         Ok(())
     }
 
-    /// A leader proposes what is pending, and another node forwards it.
-    pub fn push(&mut self) -> Result<(), Memory>
+    /// A leader proposes what is pending, and another node forwards it. The first `front` that were pending before are not looked at: they stand.
+    pub fn push(&mut self, front: usize) -> Result<(), Memory>
+        requires { FrontOf front self.old }
         ensures of { self.new.of ≡ self.old.of }
         ensures turn { OnOk result (self.new.turn ≡ push B.same self.old.of.members self.old.of.me self.old.turn) }
+        ensures front { OnOk result (FrontOf front self.new) }
     {
         if !self.is_leading() {
             self.forward()?;
             return Ok(());
         }
-        self.propose_each(self.pending())?;
+        self.propose_each(self.behind(front))?;
         self.propose_added()?;
         Ok(())
+    }
+
+    /// How many of those that were pending before stand at the front, where the first `from` do. Looks at those alone, and at the first that
+    /// does not stand.
+    pub fn front(&self, from: usize) -> usize
+        requires { FrontOf from self.now }
+        ensures front { FrontOf result self.now }
+        ensures most { result ≤ length self.now.of.state.pending }
+    {
+        let pending = self.node.pending();
+        if pending.len() < from {
+            return 0;
+        }
+        from + self.count_standing(&pending[from..])
+    }
+
+    // How many of the entries stand, up to the first that does not.
+    fn count_standing(&self, entries: &[Entry<B>]) -> usize
+        ensures stand { AllStand B.same (length self.now.turn.node.applied) self.now.turn.node.proposer.role (take result entries.now) }
+        ensures most { result ≤ length entries.now }
+    {
+        let mut count = 0;
+        for entry in entries {
+            if !self.stands(entry) {
+                return count;
+            }
+            count += 1;
+        }
+        count
+    }
+
+    // What was pending before, behind the first `front`.
+    fn behind(&self, front: usize) -> &'a [Entry<B>]
+        ensures rest { result.now ≡ drop front self.now.of.state.pending }
+        ensures pending { self.now.turn.node.pending ≡ pending_with self.now.of.added self.now.of.state.pending }
+    {
+        let pending = self.node.pending();
+        &pending[front.min(pending.len())..]
     }
 
     // It proposes the entry that becomes pending, unless it stands already.

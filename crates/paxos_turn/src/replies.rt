@@ -103,6 +103,7 @@ impl<'a, B: Body> Draft<'a, B> {
     }
 
     // With a majority of promises the node leads, and proposes what the reports call for, and what is pending.
+    #[tactic(auto, using(crate::proofs::Standing::no_front))]
     pub(crate) fn on_promise(
         &mut self,
         sender: u8,
@@ -118,7 +119,7 @@ impl<'a, B: Body> Draft<'a, B> {
             return Ok(());
         };
         self.propose_all(entries.as_slice())?;
-        self.push()?;
+        self.push(0)?;
         Ok(())
     }
 

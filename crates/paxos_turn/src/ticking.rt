@@ -22,6 +22,7 @@ use std::alloc::Global;
 
 impl<'a, B: Body> Draft<'a, B> {
     /// Time has passed: what waits for an answer is sent again, and the others are asked for the slots that it lacks.
+    #[tactic(auto, using(crate::proofs::Standing::no_front))]
     pub fn on_tick(&mut self) -> Result<(), Memory>
         requires role { self.old.turn.node.proposer.role ≡ self.old.of.state.proposer.role }
         requires learner { self.old.turn.node.learner ≡ self.old.of.state.learner }
@@ -29,7 +30,7 @@ impl<'a, B: Body> Draft<'a, B> {
         ensures turn { OnOk result (self.new.turn ≡ on_tick B.same self.old.of.members self.old.of.me self.old.turn) }
     {
         self.again()?;
-        self.push()?;
+        self.push(0)?;
         self.ask()?;
         Ok(())
     }

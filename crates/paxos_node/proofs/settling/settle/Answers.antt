@@ -1,14 +1,16 @@
 use Rattle.std.proofs.Common.{◌≡◌, ℕ, suc, false, cond, ◌+◌, List, take, length, ap, refl, sym, ◌∙◌, subst}
 use Rattle.paxos_packets.specs.declared.entry.Entry.{Entry}
+use Rattle.paxos_proposer.specs.Moves.{after_moves}
 use Rattle.paxos_learner.specs.Hearing.{hear_all}
 use Rattle.paxos_learner.specs.Learner.{run_from}
 use Rattle.replica_machine.specs.Roll.{standing}
 use Rattle.paxos_turn.specs.declared.effects.Effects.{Effects}
 use Rattle.paxos_turn.specs.Drafting.{Known}
 use Rattle.paxos_turn.specs.Node.{Turn}
-use Rattle.paxos_turn.specs.Parts.{learner_of}
+use Rattle.paxos_turn.specs.Front.{IsFront}
+use Rattle.paxos_turn.specs.Parts.{proposer_of, learner_of}
 use Rattle.paxos_node.specs.declared.outcome.Outcome.{Outcome}
-use Rattle.paxos_node.specs.Adopting.{Settled}
+use Rattle.paxos_node.specs.Adopting.{front_behind, Settled}
 use Rattle.paxos_node.specs.Applying.{count_to_end, has_end}
 use Rattle.paxos_node.specs.Outcome.{outcome_with, with_added}
 use Rattle.paxos_node.proofs.Ending.{settled, settled_disagrees}
@@ -20,7 +22,8 @@ returns-clause-settled g c =
     let t : Turn g.row.B.Denot = c.args.draft.turn in
     let e : Effects g.row.B.Denot = c.into_effects.result in
     let run : List (Entry g.row.B.Denot) = c.in-Ok.run' in
-    let o : Outcome g.row.B.Denot = outcome_with e c.first_of-applied.result c.until_lost-count.result.1 c.log_behind-log.result in
+    let o : Outcome g.row.B.Denot = outcome_with e c.first_of-applied.result c.until_lost-count.result.1 c.log_behind-log.result
+    (front_behind c.args.front c.first_of-applied.result) in
     let agrees : t.disagrees ≡ false = sym c.disagrees.ensures ∙ c.if-disagrees.false in
     let run_is : run ≡ run_from (suc (length k.state.applied)) (hear_all e.news.items (learner_of k.members k.state)).learner.learned =
     c.in-Ok.ensures ∙ ap (λ (u : Turn g.row.B.Denot). run_from (suc (length k.state.applied)) u.node.learner.learned) c.into_effects.ensures.turn in
@@ -34,14 +37,21 @@ returns-clause-settled g c =
     c.first_of-applied.ensures ∙ ap (λ (n : ℕ). take n run) counted in
     let log : c.log_behind-log.result ≡ cond c.until_lost-count.result.1 0 (length k.state.applied + length c.first_of-applied.result) =
     c.log_behind-log.ensures ∙ (λ i. cond c.until_lost-count.result.1 0 (c.applied.ensures.length i + length (c.as_slice-2.ensures i))) in
+    let front : IsFront c.args.front (length k.state.applied) (after_moves e.moves.items (proposer_of k.me k.members k.state)).proposer.role k.state.pending =
+    subst (λ (u : Turn g.row.B.Denot). IsFront c.args.front (length u.node.applied) u.node.proposer.role k.state.pending) c.into_effects.ensures.turn
+    c.requires.front in
+    let stand : c.front_behind-stand.result ≡ front_behind c.args.front c.first_of-applied.result =
+    c.front_behind-stand.ensures ∙ ap (λ (es : List (Entry g.row.B.Denot)). front_behind c.args.front es) c.as_slice-3.ensures in
+    let planned : c.with.result ≡ o =
+    c.with.ensures ∙ ap (λ (n : ℕ). outcome_with e c.first_of-applied.result c.until_lost-count.result.1 c.log_behind-log.result n) stand in
     let plan : Settled k.me k.members k.state t (with_added k.added o) =
     subst (λ (u : Turn g.row.B.Denot). Settled k.me k.members k.state u (with_added k.added o)) (sym c.into_effects.ensures.turn)
-    (settled k t.disagrees e run c.first_of-applied.result c.until_lost-count.result.1 c.log_behind-log.result agrees c.requires.up run_is applied down log
-    c.into_effects.ensures.moves c.begins.ensures c.into_effects.ensures.rises) in (
+    (settled k t.disagrees e run c.first_of-applied.result c.until_lost-count.result.1 c.log_behind-log.result c.args.front agrees c.requires.up run_is applied down log
+    c.into_effects.ensures.moves c.begins.ensures c.into_effects.ensures.rises front c.requires.most) in (
       refl,
       refl,
       plan.agrees,
-      subst (λ (p : Outcome g.row.B.Denot). Settled k.me k.members k.state t (with_added k.added p)) (sym c.with.ensures) plan,
+      subst (λ (p : Outcome g.row.B.Denot). Settled k.me k.members k.state t (with_added k.added p)) (sym planned) plan,
     )
 
 pub returns-then-disagrees-clause-settled : goal.returns-then-disagrees-clause-settled

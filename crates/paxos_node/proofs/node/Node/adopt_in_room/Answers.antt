@@ -8,6 +8,7 @@ use Rattle.paxos_learner.specs.Learned.{Begins}
 use Rattle.paxos_learner.specs.Learner as learning
 use Rattle.replica_machine.specs.Roll.{IsRollOf}
 use Rattle.paxos_turn.specs.Node.{NodeState}
+use Rattle.paxos_turn.specs.Front.{IsFront}
 use Rattle.paxos_node.specs.Steps.{Steps}
 use Rattle.paxos_node.specs.Held.{Held, learner_in}
 use Rattle.paxos_turn.specs.Parts.{proposer_of, learner_of, pending_with, counted_with, first_learned}
@@ -56,6 +57,38 @@ invariant_of-self-2 g c =
     let now : first_learned (c.self.inside.applied + length c.as_slice-2.result.now) c.hear_in_room.new.self.state.learner.learned ≡ log ++ more =
     (λ i. first_learned (sym counted i + length (same i)) c.hear_in_room.new.self.state.learner.learned)
     ∙ first_both log more c.hear_in_room.new.self.state.learner.learned begins in
+    let x : NodeState g.row.B.Denot =
+    record {
+      rows = c.self.inside.acceptor.rows;
+      up = c.self.inside.is_up;
+      proposer = c.self.inside.proposer.state.proposer;
+      learner = c.self.inside.learner.state.learner;
+      applied = log;
+      pending = c.self.inside.pending.items;
+      taken = c.self.inside.taken;
+    } in
+    let of_steps : IsFront c.moves.inside.front (length (c.args.self.now.state.applied ++ more))
+    (after_moves c.moves.inside.proposer.items (proposer_of c.args.self.now.me c.args.self.now.members c.args.self.now.state)).proposer.role
+    (pending_behind c.args.self.now.state.applied more (pending_with c.moves.inside.added c.args.self.now.state.pending)) =
+    subst (λ (m : Steps g.row.B.Denot). IsFront m.front (length (c.args.self.now.state.applied ++ more))
+    (after_moves m.proposer (proposer_of c.args.self.now.me c.args.self.now.members c.args.self.now.state)).proposer.role
+    (pending_behind c.args.self.now.state.applied more (pending_with m.added c.args.self.now.state.pending))) (sym c.moves.view_is) c.requires.fits.front in
+    let of_parts : IsFront c.moves.inside.front (length (log ++ more))
+    (after_moves c.moves.inside.proposer.items (proposer_of c.self.inside.me c.self.inside.members x)).proposer.role
+    (pending_behind log more (pending_with c.moves.inside.added c.self.inside.pending.items)) =
+    subst (λ (h : Held g.row.B.Denot). IsFront c.moves.inside.front (length (h.state.applied ++ more))
+    (after_moves c.moves.inside.proposer.items (proposer_of h.me h.members h.state)).proposer.role
+    (pending_behind h.state.applied more (pending_with c.moves.inside.added h.state.pending))) (sym c.self.view_is) of_steps in
+    let moved : c.move_in_room.new.self.state ≡ after_moves c.moves.inside.proposer.items (proposer_of c.self.inside.me c.self.inside.members x) =
+    c.move_in_room.ensures
+    ∙ ap (λ (s : proposing.State g.row.B.Denot). after_moves c.moves.inside.proposer.items s)
+    (proposer_is c.self.inside.proposer.state c.self.inside.me c.self.inside.members c.self.invariant.0 c.self.invariant.1) in
+    let pending : c.apply_all.new.pending.items ≡ pending_behind log more (pending_with c.moves.inside.added c.self.inside.pending.items) =
+    c.apply_all.ensures.pending log c.self.invariant.4 ∙ (λ i. pending_behind log (first i) (c.wait.ensures.pending i)) in
+    let front : IsFront c.moves.inside.front (length (log ++ more)) c.move_in_room.new.self.state.proposer.role c.apply_all.new.pending.items =
+    subst (λ (s : proposing.State g.row.B.Denot). IsFront c.moves.inside.front (length (log ++ more)) s.proposer.role c.apply_all.new.pending.items) (sym moved)
+    (subst (λ (es : List (Entry g.row.B.Denot)). IsFront c.moves.inside.front (length (log ++ more))
+    (after_moves c.moves.inside.proposer.items (proposer_of c.self.inside.me c.self.inside.members x)).proposer.role es) (sym pending) of_parts) in
     let roll : IsRollOf (log ++ more) c.apply_all.new.roll =
     subst (λ (l : List (Entry g.row.B.Denot)). IsRollOf (log ++ l) c.apply_all.new.roll) first (c.apply_all.ensures.roll log c.self.invariant.4) in (
       ap (λ (s : proposing.State g.row.B.Denot). s.me) c.move_in_room.ensures ∙ me_stays c.moves.inside.proposer.items c.self.inside.proposer.state ∙ c.self.invariant.0,
@@ -66,6 +99,8 @@ invariant_of-self-2 g c =
       subst (λ (l : List (Entry g.row.B.Denot)). IsRollOf l c.apply_all.new.roll) (sym now) roll,
       subst (λ (l : List (Entry g.row.B.Denot)). Begins l c.hear_in_room.new.self.state.learner.learned) (sym now) begins,
       subst (λ (n : ℕ). n < 2 ^ 40) (λ i. counted i + length (sym same i)) within,
+      subst (λ (l : List (Entry g.row.B.Denot)). IsFront c.moves.inside.front (length l) c.move_in_room.new.self.state.proposer.role c.apply_all.new.pending.items)
+          (sym now) front,
     )
 
 pub returns-clause-state : goal.returns-clause-state
