@@ -1,5 +1,5 @@
-//! Tests of packets, of the acceptor and of the keeper of its rows in memory, over the crates' public surfaces. A crate with tests
-//! is proved twice, so they stand here.
+//! Tests of packets, of those ever sent, of the acceptor and of the keeper of its rows in memory, over the crates' public surfaces.
+//! A crate with tests is proved twice, so they stand here.
 #![tactic(auto)]
 
 #[cfg(test)]
@@ -8,3 +8,5 @@ mod acceptor;
 mod keeper;
 #[cfg(test)]
 mod packets;
+#[cfg(test)]
+mod sent;

@@ -242,7 +242,7 @@ fn votes_are_put_where_there_is_room(rt: HostRuntime) -> Result<(), Fail> {
     Ok(())
 }
 
-fn packet_of<B: Body>(alloc: Global, kind: &Kind<B>) -> Result<Packet<B>, Memory> {
+pub fn packet_of<B: Body>(alloc: Global, kind: &Kind<B>) -> Result<Packet<B>, Memory> {
     Ok(Packet {
         sender: 1,
         addressee: 2,
@@ -353,7 +353,7 @@ fn kind<B: Body>(alloc: Global, number: u8, body: &B, other: &B) -> Result<Kind<
 }
 
 // A packet of each kind, one with each entry, and ones that differ in one part.
-fn kinds<B: Body>(alloc: Global, body: &B, other: &B) -> Result<Vec<Kind<B>>, Fail> {
+pub fn kinds<B: Body>(alloc: Global, body: &B, other: &B) -> Result<Vec<Kind<B>>, Fail> {
     let mut kinds = Vec::new(alloc);
     for number in 0..14 {
         kinds.push(kind(alloc, number, body, other)?)?;
