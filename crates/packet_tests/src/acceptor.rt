@@ -1,5 +1,5 @@
 use core_tests::Number;
-use paxos_acceptor::{Acceptor, Answer, Memory, laws};
+use paxos_acceptor::{Acceptor, Answer, Memory, Verdict, laws};
 use paxos_packets::{Ballot, Body, Change, Entries, Entry, Kind, Packet, Rows, Slot, Vote, Votes};
 use std::alloc::Global;
 use std::process::Abort;
@@ -21,127 +21,163 @@ fn votes_of<B: Body>(alloc: Global, vote: Option<Vote<B>>) -> Result<Votes<B>, F
     Ok(votes)
 }
 
-// The acceptor plans and adopts what one packet brings about: the change and the answer are those that are wanted.
-fn takes<B: Body>(
-    rt: &impl Abort,
-    alloc: Global,
-    acceptor: &mut Acceptor<B>,
-    kind: Kind<B>,
-    change: Change<B>,
-    want: Answer<B>,
-) -> Result<(), Fail> {
-    let packet = Packet {
+// What is asked, in which ballot; how the acceptor answers, and by which ballot. A ballot is a number that ends in its node.
+type Row = (&'static str, u64, &'static str, u64);
+
+fn ballot_of(number: u64) -> Ballot {
+    Ballot {
+        round: number / 10,
+        node: (number % 10) as u8,
+    }
+}
+
+fn kind_of<B: Body>(alloc: Global, entry: &Entry<B>, row: &Row) -> Result<Kind<B>, Fail> {
+    let ballot = ballot_of(row.1);
+    if row.0 == "prepare" {
+        return Ok(Kind::Prepare { ballot, first: 1 });
+    }
+    if row.0 == "accept" {
+        return Ok(Kind::Accept {
+            vote: vote_for(alloc, ballot, entry)?,
+        });
+    }
+    Ok(Kind::Ask { first: 1 })
+}
+
+fn packet_of<B: Body>(alloc: Global, entry: &Entry<B>, row: &Row) -> Result<Packet<B>, Fail> {
+    Ok(Packet {
         sender: 2,
         addressee: 3,
-        kind,
-    };
-    let verdict = acceptor.plan(alloc, &packet)?;
-    assert_eq!(rt; verdict.change.promised, change.promised);
-    assert!(rt; verdict.change.votes.same(&change.votes));
-    let answered = match (&verdict.answer, &want) {
-        (Answer::Nothing, Answer::Nothing) => true,
-        (Answer::ToSender { kind }, Answer::ToSender { kind: wanted }) => kind.same(wanted),
-        (Answer::ToOthers { kind }, Answer::ToOthers { kind: wanted }) => kind.same(wanted),
-        _ => false,
-    };
-    assert!(rt; answered);
-    acceptor.adopt(verdict.change)?;
-    Ok(())
+        kind: kind_of(alloc, entry, row)?,
+    })
 }
 
-fn prepare<B: Drop>(ballot: Ballot) -> Kind<B> {
-    Kind::Prepare { ballot, first: 1 }
+// A promise of this ballot, that reports the vote in the other ballot, if there is one.
+fn promise<B: Body>(
+    alloc: Global,
+    entry: &Entry<B>,
+    ballot: Ballot,
+    voted: u64,
+) -> Result<Kind<B>, Fail> {
+    let vote = if voted == 0 {
+        None
+    } else {
+        Some(vote_for(alloc, ballot_of(voted), entry)?)
+    };
+    Ok(Kind::Promise {
+        ballot,
+        votes: votes_of(alloc, vote)?,
+    })
 }
 
-fn accept<B: Body>(alloc: Global, ballot: Ballot, entry: &Entry<B>) -> Result<Kind<B>, Fail> {
-    Ok(Kind::Accept {
+// The kind of packet that is wanted in answer.
+fn answer_of<B: Body>(alloc: Global, entry: &Entry<B>, row: &Row) -> Result<Kind<B>, Fail> {
+    let (_, asked, word, other) = *row;
+    let ballot = ballot_of(asked);
+    if word == "promises" {
+        return promise(alloc, entry, ballot, other);
+    }
+    if word == "refuses" {
+        return Ok(Kind::Nack {
+            ballot,
+            promised: ballot_of(other),
+        });
+    }
+    Ok(Kind::Accepted {
         vote: vote_for(alloc, ballot, entry)?,
     })
 }
 
-fn unchanged<B: Drop>(alloc: Global) -> Change<B> {
-    Change {
-        promised: None,
-        votes: Votes::new(alloc),
+fn is_same_kind<B: Body>(
+    alloc: Global,
+    entry: &Entry<B>,
+    row: &Row,
+    kind: &Kind<B>,
+) -> Result<bool, Fail> {
+    let wanted = answer_of(alloc, entry, row)?;
+    Ok(kind.same(&wanted))
+}
+
+// Whether the answer is that of the row: a vote is told to the others, a promise and a refusal to the sender.
+fn is_answer<B: Body>(
+    alloc: Global,
+    entry: &Entry<B>,
+    row: &Row,
+    answer: &Answer<B>,
+) -> Result<bool, Fail> {
+    match answer {
+        Answer::Nothing => Ok(row.2 == "nothing"),
+        Answer::ToSender { kind } => Ok(row.2 != "votes" && is_same_kind(alloc, entry, row, kind)?),
+        Answer::ToOthers { kind } => Ok(row.2 == "votes" && is_same_kind(alloc, entry, row, kind)?),
     }
 }
 
-// The acceptor promises the ballot, and reports this vote.
-fn promises<B: Body>(
-    rt: &impl Abort,
+// Whether the votes are this one alone.
+fn are_voted<B: Body>(
     alloc: Global,
-    acceptor: &mut Acceptor<B>,
-    ballot: Ballot,
-    reported: Option<Vote<B>>,
-) -> Result<(), Fail> {
-    let votes = votes_of(alloc, reported)?;
-    let change = Change {
-        promised: Some(ballot),
-        votes: Votes::new(alloc),
-    };
-    let want = Answer::ToSender {
-        kind: Kind::Promise { ballot, votes },
-    };
-    takes(rt, alloc, acceptor, prepare(ballot), change, want)
-}
-
-// The acceptor refuses what it is asked in this ballot, for its promise of another.
-fn refuses<B: Body>(
-    rt: &impl Abort,
-    alloc: Global,
-    acceptor: &mut Acceptor<B>,
-    kind: Kind<B>,
-    ballot: Ballot,
-    promised: Ballot,
-) -> Result<(), Fail> {
-    let want = Answer::ToSender {
-        kind: Kind::Nack { ballot, promised },
-    };
-    takes(rt, alloc, acceptor, kind, unchanged(alloc), want)
-}
-
-// What an acceptor commits and tells to others that votes for this.
-fn voted<B: Body>(
-    alloc: Global,
-    ballot: Ballot,
     entry: &Entry<B>,
-) -> Result<(Change<B>, Answer<B>), Fail> {
-    let votes = votes_of(alloc, Some(vote_for(alloc, ballot, entry)?))?;
-    let vote = vote_for(alloc, ballot, entry)?;
-    let change = Change {
-        promised: Some(ballot),
-        votes,
-    };
-    let answer = Answer::ToOthers {
-        kind: Kind::Accepted { vote },
-    };
-    Ok((change, answer))
-}
-
-// The acceptor votes for the entry in the ballot.
-fn votes_for<B: Body>(
-    rt: &impl Abort,
-    alloc: Global,
-    acceptor: &mut Acceptor<B>,
     ballot: Ballot,
-    entry: &Entry<B>,
-) -> Result<(), Fail> {
-    let kind = accept(alloc, ballot, entry)?;
-    let (change, want) = voted(alloc, ballot, entry)?;
-    takes(rt, alloc, acceptor, kind, change, want)
+    votes: &Votes<B>,
+) -> Result<bool, Fail> {
+    let wanted = vote_for(alloc, ballot, entry)?;
+    Ok(has_voted(votes.as_slice(), &wanted))
 }
 
-// The acceptor is asked for a vote in a ballot below its promise.
-fn refuses_a_vote<B: Body>(
-    rt: &impl Abort,
+// Whether the change is that of the row: a promise and a vote raise what is promised to their ballot.
+fn is_change<B: Body>(
+    alloc: Global,
+    entry: &Entry<B>,
+    row: &Row,
+    change: &Change<B>,
+) -> Result<bool, Fail> {
+    let ballot = ballot_of(row.1);
+    if row.2 == "votes" {
+        return Ok(
+            change.promised == Some(ballot) && are_voted(alloc, entry, ballot, &change.votes)?,
+        );
+    }
+    let promised = if row.2 == "promises" {
+        Some(ballot)
+    } else {
+        None
+    };
+    Ok(change.promised == promised && change.votes.as_slice().is_empty())
+}
+
+fn is_verdict<B: Body>(
+    alloc: Global,
+    entry: &Entry<B>,
+    row: &Row,
+    verdict: &Verdict<B>,
+) -> Result<bool, Fail> {
+    Ok(
+        is_change(alloc, entry, row, &verdict.change)?
+            && is_answer(alloc, entry, row, &verdict.answer)?,
+    )
+}
+
+// The acceptor plans and adopts what the packet brings about. Whether it is what the row says.
+fn takes<B: Body>(
     alloc: Global,
     acceptor: &mut Acceptor<B>,
     entry: &Entry<B>,
-    ballot: Ballot,
-    promised: Ballot,
-) -> Result<(), Fail> {
-    let kind = accept(alloc, ballot, entry)?;
-    refuses(rt, alloc, acceptor, kind, ballot, promised)
+    row: &Row,
+    packet: &Packet<B>,
+) -> Result<bool, Fail> {
+    let verdict = acceptor.plan(alloc, packet)?;
+    let is_so = is_verdict(alloc, entry, row, &verdict)?;
+    acceptor.adopt(verdict.change)?;
+    Ok(is_so)
+}
+
+fn step<B: Body>(
+    alloc: Global,
+    acceptor: &mut Acceptor<B>,
+    entry: &Entry<B>,
+    row: &Row,
+) -> Result<bool, Fail> {
+    let packet = packet_of(alloc, entry, row)?;
+    takes(alloc, acceptor, entry, row, &packet)
 }
 
 const FIRST: Ballot = Ballot { round: 2, node: 1 };
@@ -149,21 +185,24 @@ const FIRST: Ballot = Ballot { round: 2, node: 1 };
 const HIGH: Ballot = Ballot { round: 2, node: 2 };
 
 // An acceptor of empty rows is asked for two promises, for votes of a lower and of the promised ballot, and for a higher promise.
+const ROWS: &[Row] = &[
+    ("prepare", 21, "promises", 0),
+    ("prepare", 21, "refuses", 21),
+    ("accept", 12, "refuses", 21),
+    ("accept", 21, "votes", 0),
+    ("prepare", 22, "promises", 21),
+    ("ask", 0, "nothing", 0),
+];
+
 fn is_asked<B: Body>(
     rt: &impl Abort,
     alloc: Global,
     acceptor: &mut Acceptor<B>,
     entry: &Entry<B>,
 ) -> Result<(), Fail> {
-    let low = Ballot { round: 1, node: 2 };
-    promises(rt, alloc, acceptor, FIRST, None)?;
-    refuses(rt, alloc, acceptor, prepare(FIRST), FIRST, FIRST)?;
-    refuses_a_vote(rt, alloc, acceptor, entry, low, FIRST)?;
-    votes_for(rt, alloc, acceptor, FIRST, entry)?;
-    let vote = vote_for(alloc, FIRST, entry)?;
-    promises(rt, alloc, acceptor, HIGH, Some(vote))?;
-    let ask = Kind::Ask { first: 1 };
-    takes(rt, alloc, acceptor, ask, unchanged(alloc), Answer::Nothing)?;
+    for row in ROWS {
+        assert!(rt; step(alloc, acceptor, entry, row)?, "{} {}", row.0, row.1);
+    }
     acceptor.make_room(1)?;
     Ok(())
 }
@@ -187,12 +226,6 @@ fn has_rows<B: Body>(acceptor: Acceptor<B>, vote: &Vote<B>) -> bool {
     has_voted(rows.votes.as_slice(), vote)
 }
 
-fn is_found<B: Body>(rt: &impl Abort, acceptor: Acceptor<B>, vote: &Vote<B>) {
-    let left = is_left(&acceptor, vote);
-    let kept = has_rows(acceptor, vote);
-    assert!(rt; left && kept);
-}
-
 // How many votes it copies from the slot with this number on.
 fn copied<B: Body>(alloc: Global, acceptor: &Acceptor<B>, first: u64) -> Result<usize, Fail> {
     let votes = acceptor.votes_from(alloc, first)?;
@@ -206,42 +239,65 @@ fn is_copied<B: Body>(rt: &impl Abort, alloc: Global, acceptor: &Acceptor<B>) ->
     Ok(())
 }
 
-fn plays<B: Body>(rt: &impl Abort, alloc: Global, entry: &Entry<B>) -> Result<(), Fail> {
+fn plays<B: Body>(
+    rt: &impl Abort,
+    alloc: Global,
+    acceptor: &mut Acceptor<B>,
+    entry: &Entry<B>,
+) -> Result<bool, Fail> {
+    is_asked(rt, alloc, acceptor, entry)?;
+    is_copied(rt, alloc, acceptor)?;
     let vote = vote_for(alloc, FIRST, entry)?;
-    let mut acceptor = Acceptor::of(Rows {
+    Ok(is_left(acceptor, &vote))
+}
+
+fn acceptor<B>(alloc: Global) -> Acceptor<B> {
+    Acceptor::of(Rows {
         boot: 1,
         promised: None,
         votes: Votes::new(alloc),
-    });
-    is_asked(rt, alloc, &mut acceptor, entry)?;
-    is_copied(rt, alloc, &acceptor)?;
-    is_found(rt, acceptor, &vote);
+    })
+}
+
+fn is_kept<B: Body>(alloc: Global, acceptor: Acceptor<B>, entry: &Entry<B>) -> Result<bool, Fail> {
+    let vote = vote_for(alloc, FIRST, entry)?;
+    Ok(has_rows(acceptor, &vote))
+}
+
+fn is_voted_for<B: Body>(rt: &impl Abort, alloc: Global, entry: &Entry<B>) -> Result<(), Fail> {
+    let mut acceptor = acceptor(alloc);
+    let is_left = plays(rt, alloc, &mut acceptor, entry)?;
+    let is_kept = is_kept(alloc, acceptor, entry)?;
+    assert!(rt; is_left && is_kept);
     Ok(())
 }
 
 #[test]
 fn a_boot_is_voted_for(rt: HostRuntime) -> Result<(), Fail> {
-    plays(&rt, rt.alloc(), &Entry::<Number>::Boot { node: 1, boot: 1 })
+    is_voted_for(&rt, rt.alloc(), &Entry::<Number>::Boot { node: 1, boot: 1 })
 }
 
-#[test]
-fn an_item_with_memory_is_voted_for(rt: HostRuntime) -> Result<(), Fail> {
-    let mut body = Entries::new(rt.alloc());
-    body.push(Entry::Item {
-        node: 1,
-        boot: 1,
-        seq: 1,
-        transport: 1,
-        body: Number::new(7),
-    })?;
-    let entry = Entry::Item {
+fn item<B: Drop>(body: B) -> Entry<B> {
+    Entry::Item {
         node: 1,
         boot: 1,
         seq: 1,
         transport: 1,
         body,
-    };
-    plays(&rt, rt.alloc(), &entry)
+    }
+}
+
+// An entry whose body has memory of its own.
+fn large(alloc: Global) -> Result<Entry<Entries<Number>>, Fail> {
+    let mut body = Entries::new(alloc);
+    body.push(item(Number::new(7)))?;
+    Ok(item(body))
+}
+
+#[test]
+fn an_item_with_memory_is_voted_for(rt: HostRuntime) -> Result<(), Fail> {
+    let entry = large(rt.alloc())?;
+    is_voted_for(&rt, rt.alloc(), &entry)
 }
 
 #[test]

@@ -61,33 +61,94 @@ fn change(alloc: Global, round: u64, slots: &[u64]) -> Result<Change<Number>, Fa
     })
 }
 
+// One call each: what a test owns it lends to these.
+
+fn boot(keeper: &mut MemKeeper<Number>) -> Answer {
+    answer(&keeper.boot())
+}
+
+fn load(keeper: &mut MemKeeper<Number>) -> Answer {
+    answer(&keeper.load())
+}
+
+fn commit(
+    alloc: Global,
+    keeper: &mut MemKeeper<Number>,
+    round: u64,
+    slots: &[u64],
+) -> Result<u8, Fail> {
+    let change = change(alloc, round, slots)?;
+    Ok(number(keeper.commit(&change)))
+}
+
+// A boot, the promise of round 1, and a vote in slot 1.
+fn first_run(rt: &impl Abort, alloc: Global, keeper: &mut MemKeeper<Number>) -> Result<(), Fail> {
+    assert!(rt; boot(keeper) == (0, 1, 0, [0, 0, 0]));
+    assert!(rt; commit(alloc, keeper, 1, &[])? == 0);
+    assert!(rt; commit(alloc, keeper, 1, &[1])? == 0);
+    Ok(())
+}
+
+fn second_run(rt: &impl Abort, keeper: &mut MemKeeper<Number>) {
+    assert!(rt; load(keeper) == (0, 1, 1, [1, 0, 0]));
+    assert!(rt; boot(keeper) == (0, 2, 1, [1, 0, 0]));
+    assert!(rt; keeper.failures() == 0);
+}
+
 #[test]
 fn what_is_committed_is_loaded(rt: HostRuntime) -> Result<(), Fail> {
-    let alloc = rt.alloc();
-    let mut keeper: MemKeeper<Number> = MemKeeper::new(alloc);
-    assert_eq!(rt; answer(&keeper.boot()), (0, 1, 0, [0, 0, 0]));
-    assert_eq!(rt; number(keeper.commit(&change(alloc, 1, &[])?)), 0);
-    assert_eq!(rt; number(keeper.commit(&change(alloc, 1, &[1])?)), 0);
-    let mut keeper = keeper.reopen();
-    assert_eq!(rt; answer(&keeper.load()), (0, 1, 1, [1, 0, 0]));
-    assert_eq!(rt; answer(&keeper.boot()), (0, 2, 1, [1, 0, 0]));
-    assert_eq!(rt; keeper.failures(), 0);
+    let mut keeper = MemKeeper::new(rt.alloc());
+    first_run(&rt, rt.alloc(), &mut keeper)?;
+    let mut again = keeper.reopen();
+    second_run(&rt, &mut again);
+    Ok(())
+}
+
+fn replaces(rt: &impl Abort, alloc: Global, keeper: &mut MemKeeper<Number>) -> Result<(), Fail> {
+    assert!(rt; commit(alloc, keeper, 1, &[2])? == 0);
+    assert!(rt; commit(alloc, keeper, 2, &[3, 2, 1])? == 0);
+    assert!(rt; commit(alloc, keeper, 3, &[3])? == 0);
+    assert!(rt; load(keeper) == (0, 0, 3, [2, 2, 3]));
     Ok(())
 }
 
 #[test]
 fn a_vote_replaces_that_of_its_slot(rt: HostRuntime) -> Result<(), Fail> {
-    let alloc = rt.alloc();
-    let mut keeper: MemKeeper<Number> = MemKeeper::new(alloc);
-    assert_eq!(rt; number(keeper.commit(&change(alloc, 1, &[2])?)), 0);
-    assert_eq!(rt; number(keeper.commit(&change(alloc, 2, &[3, 2, 1])?)), 0);
-    assert_eq!(rt; number(keeper.commit(&change(alloc, 3, &[3])?)), 0);
-    assert_eq!(rt; answer(&keeper.load()), (0, 0, 3, [2, 2, 3]));
+    let mut keeper = MemKeeper::new(rt.alloc());
+    replaces(&rt, rt.alloc(), &mut keeper)
+}
+
+// Two commits with the rounds 1 and 2 in slots 1 and 2, of which one fails: what these answer.
+fn commits_and_fails(
+    rt: &impl Abort,
+    alloc: Global,
+    keeper: &mut MemKeeper<Number>,
+    wants: (u8, u8),
+) -> Result<(), Fail> {
+    assert!(rt; boot(keeper) == (0, 1, 0, [0, 0, 0]));
+    assert!(rt; commit(alloc, keeper, 1, &[1])? == wants.0);
+    assert!(rt; commit(alloc, keeper, 2, &[2])? == wants.1);
     Ok(())
 }
 
-// A keeper that fails at its kth commit, of two with the rounds 1 and 2 in slots 1 and 2: what these answer, and what is loaded once it
-// is opened again.
+fn has_failed(rt: &impl Abort, keeper: &mut MemKeeper<Number>) {
+    assert!(rt; load(keeper) == (65, 0, 0, [0, 0, 0]));
+    assert!(rt; boot(keeper) == (65, 0, 0, [0, 0, 0]));
+    assert!(rt; keeper.failures() == 1);
+}
+
+fn goes_on(
+    rt: &impl Abort,
+    alloc: Global,
+    keeper: &mut MemKeeper<Number>,
+    want: Answer,
+) -> Result<(), Fail> {
+    assert!(rt; load(keeper) == want);
+    assert!(rt; commit(alloc, keeper, 3, &[3])? == 0);
+    Ok(())
+}
+
+// A keeper that fails at its kth commit: what it answers, and what is loaded once it is opened again.
 fn fails(
     rt: &impl Abort,
     alloc: Global,
@@ -95,17 +156,11 @@ fn fails(
     after: bool,
     wants: (u8, u8, Answer),
 ) -> Result<(), Fail> {
-    let mut keeper: MemKeeper<Number> = MemKeeper::failing(alloc, k, after);
-    assert_eq!(rt; answer(&keeper.boot()), (0, 1, 0, [0, 0, 0]));
-    assert_eq!(rt; number(keeper.commit(&change(alloc, 1, &[1])?)), wants.0);
-    assert_eq!(rt; number(keeper.commit(&change(alloc, 2, &[2])?)), wants.1);
-    assert_eq!(rt; answer(&keeper.load()), (65, 0, 0, [0, 0, 0]));
-    assert_eq!(rt; answer(&keeper.boot()), (65, 0, 0, [0, 0, 0]));
-    assert_eq!(rt; keeper.failures(), 1);
-    let mut keeper = keeper.reopen();
-    assert_eq!(rt; answer(&keeper.load()), wants.2);
-    assert_eq!(rt; number(keeper.commit(&change(alloc, 3, &[3])?)), 0);
-    Ok(())
+    let mut keeper = MemKeeper::failing(alloc, k, after);
+    commits_and_fails(rt, alloc, &mut keeper, (wants.0, wants.1))?;
+    has_failed(rt, &mut keeper);
+    let mut again = keeper.reopen();
+    goes_on(rt, alloc, &mut again, wants.2)
 }
 
 #[test]
