@@ -116,74 +116,84 @@ fn step(
 }
 
 // What is done, by which node and in which round, in which slot, with the Boot of which node; and what is answered.
-fn check(
-    rt: &impl Abort,
-    alloc: Global,
-    rows: &[(&str, u8, u64, u64, u8, u64)],
-) -> Result<(), Fail> {
-    let members = Members::new(3).ok_or("3 members")?;
-    let mut learner = Learner::new(alloc, members);
-    for (word, node, round, slot, of, answer) in rows {
-        let slot = Slot::new(*slot).ok_or("a slot")?;
-        let given = step(&mut learner, word, *node, *round, slot, *of);
-        assert_eq!(rt; given, *answer, "{word} {node} {round}");
+type Row = (&'static str, u8, u64, u64, u8, u64);
+
+fn is_answered(learner: &mut Learner<Number>, row: &Row) -> Result<bool, Fail> {
+    let (word, node, round, slot, of, answer) = *row;
+    let slot = Slot::new(slot).ok_or("a slot")?;
+    Ok(step(learner, word, node, round, slot, of) == answer)
+}
+
+fn goes(rt: &impl Abort, learner: &mut Learner<Number>, rows: &[Row]) -> Result<(), Fail> {
+    for row in rows {
+        assert!(rt; is_answered(learner, row)?, "{} {} {}", row.0, row.1, row.2);
     }
     Ok(())
 }
 
+fn check(rt: &impl Abort, alloc: Global, rows: &[Row]) -> Result<(), Fail> {
+    let members = Members::new(3).ok_or("3 members")?;
+    let mut learner = Learner::new(alloc, members);
+    goes(rt, &mut learner, rows)
+}
+
+const A_MAJORITY_IN_ONE_BALLOT_LEARNS: &[Row] = &[
+    ("vote", 1, 1, 1, 1, 0),
+    ("vote", 1, 1, 1, 1, 0),
+    ("vote", 2, 2, 1, 1, 0),
+    ("vote", 4, 1, 1, 1, 0),
+    ("any", 0, 0, 1, 0, 0),
+    ("vote", 3, 1, 1, 1, 0),
+    ("learned", 0, 0, 1, 1, 1),
+];
+
 #[test]
 fn a_majority_in_one_ballot_learns(rt: HostRuntime) -> Result<(), Fail> {
-    let rows = [
-        ("vote", 1, 1, 1, 1, 0),
-        ("vote", 1, 1, 1, 1, 0),
-        ("vote", 2, 2, 1, 1, 0),
-        ("vote", 4, 1, 1, 1, 0),
-        ("any", 0, 0, 1, 0, 0),
-        ("vote", 3, 1, 1, 1, 0),
-        ("learned", 0, 0, 1, 1, 1),
-    ];
-    check(&rt, rt.alloc(), rows.as_slice())
+    check(&rt, rt.alloc(), A_MAJORITY_IN_ONE_BALLOT_LEARNS)
 }
+
+const ANOTHER_ENTRY_DISAGREES: &[Row] = &[
+    ("tell", 0, 0, 1, 1, 0),
+    ("tell", 0, 0, 1, 1, 0),
+    ("tell", 0, 0, 1, 0, 55),
+    ("vote", 1, 1, 1, 0, 0),
+    ("vote", 2, 1, 1, 0, 55),
+    ("learned", 0, 0, 1, 1, 1),
+];
 
 #[test]
 fn another_entry_disagrees(rt: HostRuntime) -> Result<(), Fail> {
-    let rows = [
-        ("tell", 0, 0, 1, 1, 0),
-        ("tell", 0, 0, 1, 1, 0),
-        ("tell", 0, 0, 1, 0, 55),
-        ("vote", 1, 1, 1, 0, 0),
-        ("vote", 2, 1, 1, 0, 55),
-        ("learned", 0, 0, 1, 1, 1),
-    ];
     assert_eq!(rt; LearnerFault::Memory.number(), 56);
-    check(&rt, rt.alloc(), rows.as_slice())
+    check(&rt, rt.alloc(), ANOTHER_ENTRY_DISAGREES)
 }
+
+const WHAT_IS_TOLD_AHEAD_IS_FOUND: &[Row] = &[
+    ("tell", 0, 0, 2, 2, 0),
+    ("tell", 0, 0, 4, 3, 0),
+    ("any", 0, 0, 1, 0, 0),
+    ("tell", 0, 0, 1, 0, 0),
+    ("learned", 0, 0, 1, 0, 1),
+    ("learned", 0, 0, 2, 2, 1),
+    ("learned", 0, 0, 4, 3, 1),
+];
 
 #[test]
 fn what_is_told_ahead_is_found(rt: HostRuntime) -> Result<(), Fail> {
-    let rows = [
-        ("tell", 0, 0, 2, 2, 0),
-        ("tell", 0, 0, 4, 3, 0),
-        ("any", 0, 0, 1, 0, 0),
-        ("tell", 0, 0, 1, 0, 0),
-        ("learned", 0, 0, 1, 0, 1),
-        ("learned", 0, 0, 2, 2, 1),
-        ("learned", 0, 0, 4, 3, 1),
-    ];
-    check(&rt, rt.alloc(), rows.as_slice())
+    check(&rt, rt.alloc(), WHAT_IS_TOLD_AHEAD_IS_FOUND)
 }
+
+const WHAT_HAS_ROOM_IS_TAKEN_IN: &[Row] = &[
+    ("vote in room", 1, 1, 1, 1, 0),
+    ("any", 0, 0, 1, 0, 0),
+    ("tell in room", 0, 0, 3, 0, 0),
+    ("vote in room", 2, 1, 1, 1, 0),
+    ("learned", 0, 0, 1, 1, 1),
+    ("learned", 0, 0, 3, 0, 1),
+    ("tell in room", 0, 0, 1, 0, 0),
+    ("learned", 0, 0, 1, 1, 1),
+];
 
 #[test]
 fn what_has_room_is_taken_in(rt: HostRuntime) -> Result<(), Fail> {
-    let rows = [
-        ("vote in room", 1, 1, 1, 1, 0),
-        ("any", 0, 0, 1, 0, 0),
-        ("tell in room", 0, 0, 3, 0, 0),
-        ("vote in room", 2, 1, 1, 1, 0),
-        ("learned", 0, 0, 1, 1, 1),
-        ("learned", 0, 0, 3, 0, 1),
-        ("tell in room", 0, 0, 1, 0, 0),
-        ("learned", 0, 0, 1, 1, 1),
-    ];
-    check(&rt, rt.alloc(), rows.as_slice())
+    check(&rt, rt.alloc(), WHAT_HAS_ROOM_IS_TAKEN_IN)
 }

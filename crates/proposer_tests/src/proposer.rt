@@ -218,109 +218,154 @@ fn told_step(proposer: &mut Proposer<Number>, word: &str, one: u64, other: u64) 
 }
 
 // What is done, with which numbers, and what is answered.
-fn check(rt: &impl Abort, alloc: Global, rows: &[(&str, u64, u64, u64)]) -> Result<(), Fail> {
-    let mut proposer = proposer(alloc).ok_or("3 members")?;
-    for (word, one, other, answer) in rows {
-        let given = step(alloc, &mut proposer, word, *one, *other)?;
-        assert_eq!(rt; given, *answer, "{word} {one} {other}");
+type Row = (&'static str, u64, u64, u64);
+
+fn is_answered(alloc: Global, proposer: &mut Proposer<Number>, row: &Row) -> Result<bool, Fail> {
+    let (word, one, other, answer) = *row;
+    Ok(step(alloc, proposer, word, one, other)? == answer)
+}
+
+fn goes(
+    rt: &impl Abort,
+    alloc: Global,
+    proposer: &mut Proposer<Number>,
+    rows: &[Row],
+) -> Result<(), Fail> {
+    for row in rows {
+        assert!(rt;
+            is_answered(alloc, proposer, row)?,
+            "{} {} {}",
+            row.0,
+            row.1,
+            row.2
+        );
     }
     Ok(())
 }
 
+fn check(rt: &impl Abort, alloc: Global, rows: &[Row]) -> Result<(), Fail> {
+    let mut proposer = proposer(alloc).ok_or("3 members")?;
+    goes(rt, alloc, &mut proposer, rows)
+}
+
+const A_FIRST_BALLOT_LEADS_BY_A_MAJORITY: &[Row] = &[
+    ("submit", 0, 0, 53),
+    ("ballot", 0, 0, 0),
+    ("start", 1, 0, 11),
+    ("leads", 0, 0, 0),
+    ("asks from", 0, 0, 1),
+    ("counted", 1, 0, 1),
+    ("counted", 2, 0, 0),
+    ("submit", 0, 0, 53),
+    // its own was counted, and another ballot's is not
+    ("promise", 1, 11, 0),
+    ("promise", 3, 13, 0),
+    ("leads", 0, 0, 0),
+    ("promise", 2, 11, 1),
+    ("leads", 0, 0, 1),
+    ("asks from", 0, 0, 0),
+    ("behind", 0, 0, 0),
+    ("submit", 1, 0, 1),
+    ("submit", 0, 0, 2),
+    ("next", 0, 0, 3),
+    ("behind", 0, 0, 2),
+    ("behind", 1, 0, 1),
+    ("behind", 2, 0, 0),
+    ("behind", u64::MAX, 0, 0),
+];
+
 #[test]
 fn a_first_ballot_leads_by_a_majority(rt: HostRuntime) -> Result<(), Fail> {
-    let rows = [
-        ("submit", 0, 0, 53),
-        ("ballot", 0, 0, 0),
-        ("start", 1, 0, 11),
-        ("leads", 0, 0, 0),
-        ("asks from", 0, 0, 1),
-        ("counted", 1, 0, 1),
-        ("counted", 2, 0, 0),
-        ("submit", 0, 0, 53),
-        // its own was counted, and another ballot's is not
-        ("promise", 1, 11, 0),
-        ("promise", 3, 13, 0),
-        ("leads", 0, 0, 0),
-        ("promise", 2, 11, 1),
-        ("leads", 0, 0, 1),
-        ("asks from", 0, 0, 0),
-        ("behind", 0, 0, 0),
-        ("submit", 1, 0, 1),
-        ("submit", 0, 0, 2),
-        ("next", 0, 0, 3),
-        ("behind", 0, 0, 2),
-        ("behind", 1, 0, 1),
-        ("behind", 2, 0, 0),
-        ("behind", u64::MAX, 0, 0),
-    ];
-    check(&rt, rt.alloc(), rows.as_slice())
+    check(&rt, rt.alloc(), A_FIRST_BALLOT_LEADS_BY_A_MAJORITY)
 }
+
+const ROUNDS_AND_SLOTS_END: &[Row] = &[
+    ("saw", 281_474_976_710_654, 0, 0),
+    ("start", 1_099_511_627_775, 0, 2_814_749_767_106_551),
+    ("start", 1, 0, 51),
+    ("ballot", 0, 0, 2_814_749_767_106_551),
+    ("promise", 2, 2_814_749_767_106_551, 1),
+    ("submit", 1, 0, 1_099_511_627_775),
+    ("submit", 1, 0, 52),
+    ("next", 0, 0, 52),
+];
 
 #[test]
 fn rounds_and_slots_end(rt: HostRuntime) -> Result<(), Fail> {
-    let rows = [
-        ("saw", 281_474_976_710_654, 0, 0),
-        ("start", 1_099_511_627_775, 0, 2_814_749_767_106_551),
-        ("start", 1, 0, 51),
-        ("ballot", 0, 0, 2_814_749_767_106_551),
-        ("promise", 2, 2_814_749_767_106_551, 1),
-        ("submit", 1, 0, 1_099_511_627_775),
-        ("submit", 1, 0, 52),
-        ("next", 0, 0, 52),
-    ];
     assert_eq!(rt; ProposerFault::Memory.number(), 54);
-    check(&rt, rt.alloc(), rows.as_slice())
+    check(&rt, rt.alloc(), ROUNDS_AND_SLOTS_END)
 }
+
+const A_GREATER_BALLOT_ENDS_ITS_OWN: &[Row] = &[
+    ("start", 1, 0, 11),
+    ("step down", 11, 0, 0),
+    ("nack", 11, 11, 0),
+    ("nack", 12, 22, 0),
+    ("ballot", 0, 0, 11),
+    ("nack", 11, 12, 0),
+    ("ballot", 0, 0, 0),
+    ("start", 1, 0, 21),
+    ("promise", 3, 21, 1),
+    ("step down", 22, 0, 0),
+    ("leads", 0, 0, 0),
+    ("submit", 1, 0, 53),
+];
 
 #[test]
 fn a_greater_ballot_ends_its_own(rt: HostRuntime) -> Result<(), Fail> {
-    let rows = [
-        ("start", 1, 0, 11),
-        ("step down", 11, 0, 0),
-        ("nack", 11, 11, 0),
-        ("nack", 12, 22, 0),
-        ("ballot", 0, 0, 11),
-        ("nack", 11, 12, 0),
-        ("ballot", 0, 0, 0),
-        ("start", 1, 0, 21),
-        ("promise", 3, 21, 1),
-        ("step down", 22, 0, 0),
-        ("leads", 0, 0, 0),
-        ("submit", 1, 0, 53),
-    ];
-    check(&rt, rt.alloc(), rows.as_slice())
+    check(&rt, rt.alloc(), A_GREATER_BALLOT_ENDS_ITS_OWN)
 }
+
+const A_PROPOSAL_STANDS_UNTIL_IT_IS_APPLIED: &[Row] = &[
+    ("stands", 0, 1, 0),
+    ("start", 1, 0, 11),
+    ("promise", 2, 11, 1),
+    ("submit", 17, 0, 1),
+    ("submit", 1, 0, 2),
+    ("stands", 0, 17, 1),
+    ("stands", 1, 17, 0),
+    ("stands", 0, 18, 0),
+    ("stands", 1, 1, 1),
+    ("stands", 1, 2, 0),
+    ("stands", 0, 0, 0),
+    ("submit", 17, 0, 3),
+    ("stands", 2, 17, 1),
+];
 
 #[test]
 fn a_proposal_stands_until_it_is_applied(rt: HostRuntime) -> Result<(), Fail> {
-    let rows = [
-        ("stands", 0, 1, 0),
-        ("start", 1, 0, 11),
-        ("promise", 2, 11, 1),
-        ("submit", 17, 0, 1),
-        ("submit", 1, 0, 2),
-        ("stands", 0, 17, 1),
-        ("stands", 1, 17, 0),
-        ("stands", 0, 18, 0),
-        ("stands", 1, 1, 1),
-        ("stands", 1, 2, 0),
-        ("stands", 0, 0, 0),
-        ("submit", 17, 0, 3),
-        ("stands", 2, 17, 1),
-    ];
-    check(&rt, rt.alloc(), rows.as_slice())
+    check(&rt, rt.alloc(), A_PROPOSAL_STANDS_UNTIL_IT_IS_APPLIED)
 }
 
-// The Boots that a proposer of five members is to propose, once these two promises were counted.
+// The Boots that a proposer is to propose, once these two promises were counted.
+fn counted(
+    alloc: Global,
+    proposer: &mut Proposer<Number>,
+    one: &[Report],
+    other: &[Report],
+) -> Result<Option<Vec<u8>>, Fail> {
+    proposer.saw(8);
+    let own = ballot(9, 1);
+    drop(start(alloc, proposer, 2)?);
+    drop(promise(alloc, proposer, 2, own, one)?);
+    promise(alloc, proposer, 4, own, other)
+}
+
 fn called_by(alloc: Global, one: &[Report], other: &[Report]) -> Result<Option<Vec<u8>>, Fail> {
     let members = Members::new(5).ok_or("5 members")?;
     let mut proposer = Proposer::new(alloc, 1, members);
-    proposer.saw(8);
-    let own = ballot(9, 1);
-    drop(start(alloc, &mut proposer, 2)?);
-    drop(promise(alloc, &mut proposer, 2, own, one)?);
-    promise(alloc, &mut proposer, 4, own, other)
+    counted(alloc, &mut proposer, one, other)
+}
+
+// Whether those of one of five members are these.
+fn are_called(
+    alloc: Global,
+    one: &[Report],
+    other: &[Report],
+    wanted: &[u8],
+) -> Result<bool, Fail> {
+    let called = called_by(alloc, one, other)?.ok_or("it leads")?;
+    Ok(called.as_slice() == wanted)
 }
 
 #[test]
@@ -336,31 +381,35 @@ fn the_greatest_ballot_is_called_for(rt: HostRuntime) -> Result<(), Fail> {
         reported(3, ballot(4, 1), 4),
         reported(5, ballot(2, 2), 6),
     ];
-    let called = called_by(rt.alloc(), &one, &other)?.ok_or("it leads")?;
-    assert_eq!(rt; called.as_slice(), [2, 4, 0, 6].as_slice());
+    assert!(rt; are_called(rt.alloc(), &one, &other, &[2, 4, 0, 6])?);
     Ok(())
 }
 
 #[test]
 fn gaps_are_filled(rt: HostRuntime) -> Result<(), Fail> {
     let one = [reported(4, ballot(1, 2), 2)];
-    let called = called_by(rt.alloc(), &one, NONE)?.ok_or("it leads")?;
-    assert_eq!(rt; called.as_slice(), [0, 0, 2].as_slice());
+    assert!(rt; are_called(rt.alloc(), &one, NONE, &[0, 0, 2])?);
     Ok(())
 }
 
-// Does this move in the room made for it, and starts.
-fn moved(alloc: Global, round: u64) -> Result<u64, Fail> {
-    let mut proposer = proposer(alloc).ok_or("3 members")?;
+// Sees the round as a move, in the room made for it.
+fn sees(alloc: Global, proposer: &mut Proposer<Number>, round: u64) -> Result<(), Fail> {
     let mut moves = Vec::new(alloc);
     moves.push(Move::Saw { round })?;
     proposer.make_room_for(&moves)?;
     proposer.move_in_room(moves);
-    started(alloc, &mut proposer, 1)
+    Ok(())
+}
+
+// Does so, and starts.
+fn moved(alloc: Global, proposer: &mut Proposer<Number>, round: u64) -> Result<u64, Fail> {
+    sees(alloc, proposer, round)?;
+    started(alloc, proposer, 1)
 }
 
 #[test]
 fn moves_are_done_in_the_room_made_for_them(rt: HostRuntime) -> Result<(), Fail> {
-    assert_eq!(rt; moved(rt.alloc(), 6)?, 71);
+    let mut proposer = proposer(rt.alloc()).ok_or("3 members")?;
+    assert!(rt; moved(rt.alloc(), &mut proposer, 6)? == 71);
     Ok(())
 }
