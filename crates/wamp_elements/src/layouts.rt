@@ -261,12 +261,14 @@ fn answer_with(
         (item (view request.now) (item (view details.now) no_items)) }
 {
     if !is_whole(request) || !details.is_object() {
+        drop(args);
         return Err(MessageFault::Shape);
     }
-    match id_in(request) {
-        Some(request) => Ok(Answered { request, args }),
-        None => Err(MessageFault::IdRange),
-    }
+    let Some(request) = id_in(request) else {
+        drop(args);
+        return Err(MessageFault::IdRange);
+    };
+    Ok(Answered { request, args })
 }
 
 /// A dictionary and a text: why the sender goes.
@@ -310,9 +312,11 @@ fn reason_with(details: &Value, reason: Value, args: Args) -> Result<Reason, Mes
         (item (view details.now) (item (view reason) no_items)) }
 {
     if !details.is_object() {
+        drop((reason, args));
         return Err(MessageFault::Shape);
     }
     let Value::String(reason) = reason else {
+        drop((reason, args));
         return Err(MessageFault::Shape);
     };
     Ok(Reason {
@@ -373,20 +377,23 @@ fn request_with(
         (item (view request.now) (item (view options) (item (view uri) no_items))) }
 {
     if !is_whole(request) || !options.is_object() {
+        drop((options, uri, args));
         return Err(MessageFault::Shape);
     }
     let Value::String(uri) = uri else {
+        drop((options, uri, args));
         return Err(MessageFault::Shape);
     };
-    match id_in(request) {
-        Some(request) => Ok(UriRequest {
-            request,
-            options,
-            uri: Text::from(uri),
-            args,
-        }),
-        None => Err(MessageFault::IdRange),
-    }
+    let Some(request) = id_in(request) else {
+        drop((options, uri, args));
+        return Err(MessageFault::IdRange);
+    };
+    Ok(UriRequest {
+        request,
+        options,
+        uri: Text::from(uri),
+        args,
+    })
 }
 
 /// Two ids, a dictionary with a text at this key or without that key, and arguments.
@@ -436,23 +443,27 @@ fn labelled_with(
         (item (view first.now) (item (view second.now) (item (view details) no_items))) }
 {
     if !is_whole(first) || !is_whole(second) || !details.is_object() {
+        drop((details, args));
         return Err(MessageFault::Shape);
     }
-    let label = match take_label(&mut details, key) {
+    let label = take_label(&mut details, key);
+    drop(details);
+    let label = match label {
         Some(Value::String(label)) => Some(Text::from(label)),
-        Some(_) => return Err(MessageFault::Shape),
+        Some(other) => {
+            drop((other, args));
+            return Err(MessageFault::Shape);
+        },
         None => None,
     };
-    let Some(first) = id_in(first) else {
+    let (Some(first), Some(second)) = (id_in(first), id_in(second)) else {
+        drop((label, args));
         return Err(MessageFault::IdRange);
     };
-    match id_in(second) {
-        Some(second) => Ok(Labelled {
-            first,
-            second,
-            label,
-            args,
-        }),
-        None => Err(MessageFault::IdRange),
-    }
+    Ok(Labelled {
+        first,
+        second,
+        label,
+        args,
+    })
 }

@@ -85,21 +85,25 @@ fn refusal_with(
         (item (view request.now) (item (view details.now) (item (view error) no_items)))) }
 {
     let Some(kind) = RequestKind::in_element(kind) else {
+        drop((error, args));
         return Err(MessageFault::Shape);
     };
     if !is_whole(request) || !details.is_object() {
+        drop((error, args));
         return Err(MessageFault::Shape);
     }
     let Value::String(error) = error else {
+        drop((error, args));
         return Err(MessageFault::Shape);
     };
-    match id_in(request) {
-        Some(request) => Ok(Refusal {
-            kind,
-            request,
-            error: Text::from(error),
-            args,
-        }),
-        None => Err(MessageFault::IdRange),
-    }
+    let Some(request) = id_in(request) else {
+        drop((error, args));
+        return Err(MessageFault::IdRange);
+    };
+    Ok(Refusal {
+        kind,
+        request,
+        error: Text::from(error),
+        args,
+    })
 }
