@@ -39,6 +39,7 @@ fn publish_of(asked: UriRequest) -> Read
     } = asked;
     let acknowledge = flag_in(&options, "acknowledge", false);
     let exclude_me = flag_in(&options, "exclude_me", true);
+    drop(options);
     match (acknowledge, exclude_me, args) {
         (Some(acknowledge), Some(exclude_me), Some(args)) => {
             Read::Good(Message::Publish(Publish {

@@ -33,19 +33,24 @@ pub(crate) fn read_register(rest: IntoIter<Value>) -> Read
 fn register_of(asked: UriRequest) -> Read
     ensures { result ≡ register_read (seen_asked asked) }
 {
-    let request = asked.request;
-    let Some(matching) = match_in(&asked.options) else {
+    let UriRequest {
+        request,
+        options,
+        uri,
+        args,
+    } = asked;
+    let modes = (match_in(&options), invoke_in(&options));
+    drop((options, args));
+    let (Some(matching), Some(invoke)) = modes else {
+        drop(uri);
         return unfit(request);
     };
-    match invoke_in(&asked.options) {
-        Some(invoke) => Read::Good(Message::Register(Register {
-            request,
-            matching,
-            invoke,
-            procedure: asked.uri,
-        })),
-        None => unfit(request),
-    }
+    Read::Good(Message::Register(Register {
+        request,
+        matching,
+        invoke,
+        procedure: uri,
+    }))
 }
 
 pub(crate) fn put_register(register: &Register, out: &mut Writer) -> Result<(), AllocError>

@@ -32,18 +32,27 @@ pub(crate) fn read_subscribe(rest: IntoIter<Value>) -> Read
 fn subscribe_of(asked: UriRequest) -> Read
     ensures { result ≡ subscribe_read (seen_asked asked) }
 {
-    match match_in(&asked.options) {
-        Some(matching) => Read::Good(Message::Subscribe(Subscribe {
-            request: asked.request,
-            matching,
-            topic: asked.uri,
-        })),
-        None => Read::Unfit {
+    let UriRequest {
+        request,
+        options,
+        uri,
+        args,
+    } = asked;
+    let matching = match_in(&options);
+    drop((options, args));
+    let Some(matching) = matching else {
+        drop(uri);
+        return Read::Unfit {
             kind: UnfitKind::Subscribe,
-            request: asked.request,
+            request,
             quiet: false,
-        },
-    }
+        };
+    };
+    Read::Good(Message::Subscribe(Subscribe {
+        request,
+        matching,
+        topic: uri,
+    }))
 }
 
 pub(crate) fn put_subscribe(subscribe: &Subscribe, out: &mut Writer) -> Result<(), AllocError>
