@@ -1,0 +1,87 @@
+use packet_outboxes::Outboxes;
+use paxos_packets::{Kind, Members, Packet};
+use std::alloc::Global;
+use std::process::Abort;
+use std::test::Fail;
+
+// An Ask of node 2, told by its addressee and its slot.
+type Told = (u8, u64);
+
+// What waits behind the others, and what goes first then; (0, 0) where nothing does.
+const OLDEST_FIRST: &[(&[Told], Told)] = &[
+    (
+        &[(3, 1), (1, 2), (2, 3), (3, 4), (9, 5), (0, 6), (1, 7)],
+        (3, 1),
+    ),
+    (&[], (1, 2)),
+    (&[(3, 8)], (3, 4)),
+    (&[], (1, 7)),
+    (&[], (3, 8)),
+    (&[], (0, 0)),
+    (&[(1, 9)], (1, 9)),
+];
+
+fn put(alloc: Global, outboxes: &mut Outboxes<u32>, asks: &[Told]) -> Result<(), Fail> {
+    let mut packets = Vec::new(alloc);
+    for (addressee, first) in asks {
+        packets.push(Packet {
+            sender: 2,
+            addressee: *addressee,
+            kind: Kind::Ask { first: *first },
+        })?;
+    }
+    outboxes.put_all(packets);
+    Ok(())
+}
+
+fn first_in(packet: &Packet<u32>) -> u64 {
+    match &packet.kind {
+        Kind::Ask { first } => *first,
+        _ => 0,
+    }
+}
+
+fn next(outboxes: &mut Outboxes<u32>) -> Told {
+    match outboxes.take() {
+        Some(packet) => (packet.addressee, first_in(&packet)),
+        None => (0, 0),
+    }
+}
+
+fn outboxes(alloc: Global) -> Result<Outboxes<u32>, Fail> {
+    let members = Members::new(3).ok_or("three members")?;
+    Ok(Outboxes::new(alloc, 2, members)?)
+}
+
+fn goes_first(
+    rt: &impl Abort,
+    alloc: Global,
+    outboxes: &mut Outboxes<u32>,
+    rows: &[(&[Told], Told)],
+) -> Result<(), Fail> {
+    for (asks, first) in rows {
+        put(alloc, outboxes, asks)?;
+        assert_eq!(rt; next(outboxes), *first);
+    }
+    Ok(())
+}
+
+#[test]
+fn the_oldest_packet_goes_first(rt: HostRuntime) -> Result<(), Fail> {
+    let mut outboxes = outboxes(rt.alloc())?;
+    goes_first(&rt, rt.alloc(), &mut outboxes, OLDEST_FIRST)
+}
+
+#[test]
+fn a_full_outbox_loses_its_oldest(rt: HostRuntime) -> Result<(), Fail> {
+    let mut outboxes = outboxes(rt.alloc())?;
+    for first in 2..4_099 {
+        put(rt.alloc(), &mut outboxes, &[(1, first)])?;
+    }
+    goes_first(
+        &rt,
+        rt.alloc(),
+        &mut outboxes,
+        &[(&[(3, 1)], (1, 3)), (&[], (1, 4))],
+    )
+}
