@@ -1,4 +1,4 @@
-ghost use Rattle.std.specs.Prelude.{◌≡◌, ◌<◌, ◌≤◌, ◌+◌, ◌^◌, vec_len, vec_capacity, true, false, nat_lt, length, IfOk, OnOk, OnErr, IsOkUnless, Err, option_copied};
+ghost use Rattle.std.specs.Prelude.{◌≡◌, ◌<◌, ◌≤◌, ◌+◌, ◌^◌, vec_len, vec_capacity, true, false, nat_lt, length, IfOk, IfErr, OnOk, OnErr, IsOkUnless, Err, option_copied};
 ghost use Rattle.paxos_node.specs.declared.fault.NodeFault.TheVariants.{Memory};
 ghost use Rattle.paxos_node.specs.Adopting.{adopted, Fits};
 ghost use Rattle.paxos_turn.specs.Parts.{proposer_of, learner_of};
@@ -218,7 +218,6 @@ impl<B: Drop> Node<B> {
     }
 
     /// The node with this number, of these members, that begins with these rows.
-    #[tactic(auto, using(paxos_turn::proofs::Standing::no_front))]
     pub fn of(alloc: Global, me: u8, members: Members, rows: Rows<B>) -> Result<Node<B>, NodeFault>
         ensures me { IfOk result (λ node. node.me ≡ me) }
         ensures members { IfOk result (λ node. node.members ≡ members) }
@@ -226,10 +225,25 @@ impl<B: Drop> Node<B> {
         ensures failed { IfOk result (λ node. node.failed ≡ false) }
         ensures memory { IsOkUnless result Memory }
     {
+        let Ok(node) = Node::begin(alloc, me, members, rows) else {
+            return Err(NodeFault::Memory);
+        };
+        Ok(node)
+    }
+
+    /// The same; where there is no memory for it, the rows are given back.
+    #[tactic(auto, using(paxos_turn::proofs::Standing::no_front))]
+    pub fn begin(alloc: Global, me: u8, members: Members, rows: Rows<B>) -> Result<Node<B>, Rows<B>>
+        ensures me { IfOk result (λ node. node.me ≡ me) }
+        ensures members { IfOk result (λ node. node.members ≡ members) }
+        ensures state { IfOk result (λ node. node.state ≡ started me rows) }
+        ensures failed { IfOk result (λ node. node.failed ≡ false) }
+        ensures rows { IfErr result (λ kept. kept ≡ rows) }
+    {
         let boot = rows.boot;
         let mut pending = Vec::new(alloc);
         if pending.reserve(1).is_err() {
-            return Err(NodeFault::Memory);
+            return Err(rows);
         }
         pending.push_reserved(Entry::Boot { node: me, boot });
         let mut proposer = Proposer::new(alloc, me, members);
