@@ -8,3 +8,4 @@ pub mod Adopting
 pub mod Outcome
 pub mod Held
 pub mod Plans
+pub mod View

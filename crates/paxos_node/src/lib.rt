@@ -11,6 +11,7 @@ mod node;
 mod outcome;
 mod packets;
 mod settling;
+mod view;
 mod waiting;
 
 pub use event::Event;
@@ -18,3 +19,4 @@ pub use fault::NodeFault;
 pub use node::Node;
 pub use outcome::Outcome;
 pub use packets::Packets;
+pub use view::{NodeView, Opened};
