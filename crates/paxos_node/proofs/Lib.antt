@@ -6,3 +6,4 @@ pub mod Rolling
 pub mod Seeing
 pub mod Ending
 pub mod Answering
+pub mod Making

@@ -1,14 +1,14 @@
 //! What an event makes of a node.
 
-ghost use Rattle.std.specs.Prelude.{◌≡◌, true, false, not, ◌&&◌, is_some, length, Some, Ok, IfOk};
+ghost use Rattle.std.specs.Prelude.{◌≡◌, true, false, not, ◌&&◌, is_some, length, Some, None, Ok, IfOk};
 ghost use Rattle.paxos_node.specs.Adopting.{Fits, Settled, Planned};
 ghost use Rattle.paxos_node.specs.Applying.{settle};
-ghost use Rattle.paxos_turn.specs.Drafting.{with_pending_entry, seeing};
+ghost use Rattle.paxos_turn.specs.Drafting.{with_pending_entry, seeing, listed};
 ghost use Rattle.paxos_node.specs.Outcome.{with_added, added_in};
 ghost use Rattle.paxos_node.specs.Events.{owner, possible, on_event, on_take, on_suspect, outcome_of, has_room, takes, new_lost, is_pending};
 ghost use Rattle.paxos_turn.specs.Ticking.{on_tick};
 ghost use Rattle.paxos_turn.specs.Starting.{on_start, starts};
-ghost use Rattle.paxos_node.specs.Events.{is_round_refused, is_full_refused};
+ghost use Rattle.paxos_node.specs.Events.{is_round_refused, is_full_refused, made_by, taken_by, suspected_by};
 ghost use Rattle.paxos_node.specs.Plans.{is_planned, plans, unchanged, Answers, Answered};
 ghost use Rattle.paxos_turn.specs.Proposals.{push};
 ghost use Rattle.paxos_turn.specs.Replies.{on_packet, round_in};
@@ -38,6 +38,8 @@ impl<B: Body> Node<B> {
             (λ outcome. Planned B.same self.now.members event.now self.now.state outcome) result }
         ensures nothing { plans self.now.me event.now self.now.state ≡ false → result ≡ Ok (unchanged (length self.now.state.applied)) }
         ensures fits { IfOk result (λ outcome. Fits self.now.me self.now.members outcome self.now.state) }
+        ensures made { plans self.now.me event.now self.now.state ≡ true →
+            IfOk result (λ outcome. listed outcome.moves.added ≡ made_by B.same event.now self.now.state) }
     {
         if !self.plans(event) {
             return Ok(self.nothing());
@@ -50,8 +52,9 @@ impl<B: Body> Node<B> {
         requires up { self.now.state.up ≡ true }
         requires own { owner event.now ≡ self.now.me }
         requires planned { is_planned event.now ≡ true }
-        ensures { Answered self.now.me self.now.members self.now.state (is_round_refused event.now self.now.state)
+        ensures answered { Answered self.now.me self.now.members self.now.state (is_round_refused event.now self.now.state)
             (is_full_refused B.same event.now self.now.state) (on_event B.same self.now.members event.now (begun self.now.state)) result }
+        ensures made { IfOk result (λ outcome. listed outcome.moves.added ≡ made_by B.same event.now self.now.state) }
     {
         match event {
             Event::Take {
@@ -110,8 +113,9 @@ impl<B: Body> Node<B> {
     // The act is pending as the node's next Item.
     fn plan_take(&self, transport: u32, body: &B) -> Result<Outcome<B>, NodeFault>
         requires { self.now.state.up ≡ true }
-        ensures { Answered self.now.me self.now.members self.now.state false (not (takes self.now.state))
+        ensures answered { Answered self.now.me self.now.members self.now.state false (not (takes self.now.state))
             (on_take B.same self.now.members self.now.me transport body.now (begun self.now.state)) result }
+        ensures made { IfOk result (λ outcome. listed outcome.moves.added ≡ taken_by self.now.me transport body.now self.now.state) }
     {
         if !self.takes() {
             return Err(NodeFault::Full);
@@ -139,8 +143,9 @@ impl<B: Body> Node<B> {
     // The entry becomes pending, and is pushed with what is.
     fn plan_with(&self, entry: Entry<B>) -> Result<Outcome<B>, NodeFault>
         requires { self.now.state.up ≡ true }
-        ensures { Answered self.now.me self.now.members self.now.state false false
+        ensures answered { Answered self.now.me self.now.members self.now.state false false
             (push B.same self.now.members self.now.me (begun (with_pending_entry (Some entry) self.now.state))) result }
+        ensures added { IfOk result (λ outcome. outcome.moves.added ≡ Some entry) }
     {
         let planned = self.plan_pending(&entry);
         added_to(planned, entry)
@@ -166,8 +171,9 @@ impl<B: Body> Node<B> {
     // What waits for an answer is sent again, what is pending is pushed, and the others are asked for what it lacks.
     fn plan_tick(&self) -> Result<Outcome<B>, NodeFault>
         requires { self.now.state.up ≡ true }
-        ensures { Answered self.now.me self.now.members self.now.state false false
+        ensures answered { Answered self.now.me self.now.members self.now.state false false
             (on_tick B.same self.now.members self.now.me (begun self.now.state)) result }
+        ensures added { IfOk result (λ outcome. outcome.moves.added ≡ None) }
     {
         let mut draft = self.draft(None);
         let Ok(()) = draft.on_tick() else {
@@ -179,8 +185,9 @@ impl<B: Body> Node<B> {
     // A ballot above all that it saw.
     fn plan_start(&self) -> Result<Outcome<B>, NodeFault>
         requires { self.now.state.up ≡ true }
-        ensures { Answered self.now.me self.now.members self.now.state (not (starts self.now.me self.now.state)) false
+        ensures answered { Answered self.now.me self.now.members self.now.state (not (starts self.now.me self.now.state)) false
             (on_start self.now.members self.now.me (begun self.now.state)) result }
+        ensures added { IfOk result (λ outcome. outcome.moves.added ≡ None) }
     {
         let mut draft = self.draft(None);
         if !draft.starts() {
@@ -195,9 +202,11 @@ impl<B: Body> Node<B> {
     // The Lost of the other's live boot becomes pending, unless it is.
     fn plan_suspect(&self, other: u8) -> Result<Outcome<B>, NodeFault>
         requires { self.now.state.up ≡ true }
-        ensures { Answered self.now.me self.now.members self.now.state false
+        ensures answered { Answered self.now.me self.now.members self.now.state false
             (is_some (new_lost B.same self.now.me other self.now.state) && not (has_room self.now.state))
             (on_suspect B.same self.now.members self.now.me other (begun self.now.state)) result }
+        ensures made { IfOk result (λ outcome. listed outcome.moves.added
+            ≡ suspected_by (new_lost B.same self.now.me other self.now.state) self.now.state) }
     {
         let Some(lost) = self.new_lost(other) else {
             return finish(self.draft(None), self.roll());
@@ -235,9 +244,10 @@ impl<B: Body> Node<B> {
     // The packet reaches the node.
     fn plan_packet(&self, packet: &Packet<B>) -> Result<Outcome<B>, NodeFault>
         requires { self.now.state.up ≡ true }
-        ensures { Answered self.now.me self.now.members self.now.state false false
+        ensures answered { Answered self.now.me self.now.members self.now.state false false
             (on_packet B.same self.now.members self.now.me packet.now.sender packet.now.kind
             (seeing (round_in packet.now.kind) (begun self.now.state))) result }
+        ensures added { IfOk result (λ outcome. outcome.moves.added ≡ None) }
     {
         let mut draft = self.draft(None);
         let Ok(()) = draft.on_packet(packet.sender, &packet.kind) else {
@@ -252,7 +262,8 @@ fn added_to<B: Drop>(
     planned: Result<Outcome<B>, NodeFault>,
     entry: Entry<B>,
 ) -> Result<Outcome<B>, NodeFault>
-    ensures { result ≡ added_in entry planned }
+    ensures value { result ≡ added_in entry planned }
+    ensures added { IfOk result (λ outcome. outcome.moves.added ≡ Some entry) }
 {
     let mut outcome = planned?;
     outcome.moves.added = Some(entry);

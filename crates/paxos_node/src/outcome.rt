@@ -1,10 +1,10 @@
-ghost use Rattle.std.specs.Prelude.{◌≡◌};
+ghost use Rattle.std.specs.Prelude.{◌≡◌, option_copied};
 ghost use Rattle.paxos_node.specs.Outcome.{outcome_with};
 ghost use Rattle.paxos_node.specs.Plans.{unchanged};
 
 use crate::moves::Moves;
 use crate::packets::Packets;
-use paxos_packets::{Change, Entries, Votes};
+use paxos_packets::{Change, Entries, Entry, Votes};
 use paxos_turn::Effects;
 use std::alloc::Global;
 
@@ -81,5 +81,12 @@ impl<B> Outcome<B> {
         ensures { result ≡ self.now.moves.log }
     {
         self.moves.log
+    }
+
+    /// The entry that the event makes, if any: an act that is taken, or the loss of another node's boot.
+    pub fn added(&self) -> Option<&Entry<B>>
+        ensures { option_copied result ≡ self.now.moves.added }
+    {
+        self.moves.added.as_ref()
     }
 }

@@ -50,7 +50,8 @@ pub(crate) fn finish<B: Body>(draft: Draft<'_, B>, roll: &Roll) -> Result<Outcom
     requires up { draft.of.state.up ≡ true }
     requires roll { IsRollOf draft.of.state.applied roll.now }
     requires none { draft.of.added ≡ None }
-    ensures { Answered draft.entry.of.me draft.entry.of.members draft.entry.of.state false false draft.entry.turn result }
+    ensures answered { Answered draft.entry.of.me draft.entry.of.members draft.entry.of.state false false draft.entry.turn result }
+    ensures added { IfOk result (λ outcome. outcome.moves.added ≡ None) }
 {
     settle(draft, roll, 0)
 }

@@ -21,11 +21,14 @@ plan_own-requires-clause-planned g c =
 pub returns-clause-planned : goal.returns-clause-planned
 returns-clause-planned g c = λ own.
     owner_answers g.B.Body.same c.args.self.now.me c.args.self.now.members c.args.event.now c.args.self.now.state c.plan_own.result
-    (is_own c.args.self.now.me c.args.event.now c.args.self.now.state own) c.plan_own.ensures
+    (is_own c.args.self.now.me c.args.event.now c.args.self.now.state own) c.plan_own.ensures.answered
 
 pub returns-clause-fits : goal.returns-clause-fits
 returns-clause-fits g c =
     let x : NodeState g.row.B.Denot = c.args.self.now.state in
     planned_fits c.args.self.now.me c.args.self.now.members x (is_round_refused c.args.event.now x) (is_full_refused g.B.Body.same c.args.event.now x)
     (settle c.args.self.now.me (on_event g.B.Body.same c.args.self.now.members c.args.event.now (begun x))).disagrees
-    (on_event g.B.Body.same c.args.self.now.members c.args.event.now (begun x)) c.plan_own.result c.plan_own.ensures
+    (on_event g.B.Body.same c.args.self.now.members c.args.event.now (begun x)) c.plan_own.result c.plan_own.ensures.answered
+
+pub returns-clause-made : goal.returns-clause-made
+returns-clause-made g c = λ own. c.plan_own.ensures.made

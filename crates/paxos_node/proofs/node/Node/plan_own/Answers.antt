@@ -1,27 +1,56 @@
+use Rattle.std.proofs.Common.{ap}
 use Rattle.paxos_node.proofs.Answering.{of_take, of_tick, of_start, of_suspect, of_packet}
+use Rattle.paxos_node.proofs.Making.{makes_nothing, makes_act, makes_lost}
+use Rattle.paxos_node.specs.Events.{made_by}
+use Rattle.paxos_node.specs.declared.event.Event.{Event}
 use Rattle.paxos_node.proofs.node.Node.plan_own.Goals as goal
 
-pub returns-in-Take : goal.returns-in-Take
-returns-in-Take g c =
+pub returns-in-Take-clause-answered : goal.returns-in-Take-clause-answered
+returns-in-Take-clause-answered g c =
     of_take g.B.Body.same c.args.self.now.me c.args.self.now.members c.args.self.now.state c.plan_take.result c.args.event.now c.in-Take.node
-    c.in-Take.transport c.in-Take.body c.in-Take.is c.requires.own c.plan_take.ensures
+    c.in-Take.transport c.in-Take.body c.in-Take.is c.requires.own c.plan_take.ensures.answered
 
-pub returns-in-Tick : goal.returns-in-Tick
-returns-in-Tick g c =
+pub returns-in-Tick-clause-answered : goal.returns-in-Tick-clause-answered
+returns-in-Tick-clause-answered g c =
     of_tick g.B.Body.same c.args.self.now.me c.args.self.now.members c.args.self.now.state c.plan_tick.result c.args.event.now c.in-Tick.node
-    c.in-Tick.is c.requires.own c.plan_tick.ensures
+    c.in-Tick.is c.requires.own c.plan_tick.ensures.answered
 
-pub returns-in-Start : goal.returns-in-Start
-returns-in-Start g c =
+pub returns-in-Start-clause-answered : goal.returns-in-Start-clause-answered
+returns-in-Start-clause-answered g c =
     of_start g.B.Body.same c.args.self.now.me c.args.self.now.members c.args.self.now.state c.plan_start.result c.args.event.now c.in-Start.node
-    c.in-Start.is c.requires.own c.plan_start.ensures
+    c.in-Start.is c.requires.own c.plan_start.ensures.answered
 
-pub returns-in-Suspect : goal.returns-in-Suspect
-returns-in-Suspect g c =
+pub returns-in-Suspect-clause-answered : goal.returns-in-Suspect-clause-answered
+returns-in-Suspect-clause-answered g c =
     of_suspect g.B.Body.same c.args.self.now.me c.args.self.now.members c.args.self.now.state c.plan_suspect.result c.args.event.now c.in-Suspect.node
-    c.in-Suspect.other c.in-Suspect.is c.requires.own c.plan_suspect.ensures
+    c.in-Suspect.other c.in-Suspect.is c.requires.own c.plan_suspect.ensures.answered
 
-pub returns-in-Deliver : goal.returns-in-Deliver
-returns-in-Deliver g c =
+pub returns-in-Deliver-clause-answered : goal.returns-in-Deliver-clause-answered
+returns-in-Deliver-clause-answered g c =
     of_packet g.B.Body.same c.args.self.now.me c.args.self.now.members c.args.self.now.state c.plan_packet.result c.args.event.now c.in-Deliver.packet
-    c.in-Deliver.is c.requires.own c.plan_packet.ensures
+    c.in-Deliver.is c.requires.own c.plan_packet.ensures.answered
+
+pub returns-in-Take-clause-made : goal.returns-in-Take-clause-made
+returns-in-Take-clause-made g c =
+    makes_act g.B.Body.same c.args.self.now.me c.args.self.now.state c.plan_take.result c.args.event.now c.in-Take.node c.in-Take.transport
+    c.in-Take.body c.in-Take.is c.requires.own c.plan_take.ensures.made
+
+pub returns-in-Suspect-clause-made : goal.returns-in-Suspect-clause-made
+returns-in-Suspect-clause-made g c =
+    makes_lost g.B.Body.same c.args.self.now.me c.args.self.now.state c.plan_suspect.result c.args.event.now c.in-Suspect.node c.in-Suspect.other
+    c.in-Suspect.is c.requires.own c.plan_suspect.ensures.made
+
+pub returns-in-Tick-clause-made : goal.returns-in-Tick-clause-made
+returns-in-Tick-clause-made g c =
+    makes_nothing g.B.Body.same c.args.self.now.me c.args.self.now.state c.plan_tick.result c.args.event.now
+    (ap (λ (e : Event g.row.B.Denot). made_by g.B.Body.same e c.args.self.now.state) c.in-Tick.is) c.plan_tick.ensures.added
+
+pub returns-in-Start-clause-made : goal.returns-in-Start-clause-made
+returns-in-Start-clause-made g c =
+    makes_nothing g.B.Body.same c.args.self.now.me c.args.self.now.state c.plan_start.result c.args.event.now
+    (ap (λ (e : Event g.row.B.Denot). made_by g.B.Body.same e c.args.self.now.state) c.in-Start.is) c.plan_start.ensures.added
+
+pub returns-in-Deliver-clause-made : goal.returns-in-Deliver-clause-made
+returns-in-Deliver-clause-made g c =
+    makes_nothing g.B.Body.same c.args.self.now.me c.args.self.now.state c.plan_packet.result c.args.event.now
+    (ap (λ (e : Event g.row.B.Denot). made_by g.B.Body.same e c.args.self.now.state) c.in-Deliver.is) c.plan_packet.ensures.added

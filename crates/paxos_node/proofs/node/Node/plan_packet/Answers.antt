@@ -7,8 +7,8 @@ use Rattle.paxos_turn.specs.Replies.{on_packet, round_in}
 use Rattle.paxos_node.proofs.Answering.{answered_of}
 use Rattle.paxos_node.proofs.node.Node.plan_packet.Goals as goal
 
-pub returns : goal.returns
-returns g c =
+pub returns-clause-answered : goal.returns-clause-answered
+returns-clause-answered g c =
     let me : ℕ = c.args.self.now.me in
     let members : ℕ = c.args.self.now.members in
     let x : NodeState g.row.B.Denot = c.args.self.now.state in
@@ -20,4 +20,4 @@ returns g c =
     ∙ (λ i. on_packet g.B.Body.same (c.draft-draft.ensures.of i).members (c.draft-draft.ensures.of i).me c.args.packet.now.sender kind
     (seeing (round_in kind) (c.draft-draft.ensures.turn i))) in
     answered_of c.on_packet.new.self (record { of = known me members x None; turn = answered }) c.finish.result (λ i. record { of = of i; turn = turn i })
-    c.finish.ensures
+    c.finish.ensures.answered

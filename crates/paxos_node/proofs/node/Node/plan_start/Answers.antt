@@ -7,8 +7,8 @@ use Rattle.paxos_turn.specs.Starting.{begin, starts}
 use Rattle.paxos_node.proofs.Answering.{answered_of, start_answered}
 use Rattle.paxos_node.proofs.node.Node.plan_start.Goals as goal
 
-pub returns : goal.returns
-returns g c =
+pub returns-clause-answered : goal.returns-clause-answered
+returns-clause-answered g c =
     let me : ℕ = c.args.self.now.me in
     let members : ℕ = c.args.self.now.members in
     let x : NodeState g.row.B.Denot = c.args.self.now.state in
@@ -21,4 +21,4 @@ returns g c =
     (λ i. starts (sym c.draft-draft.ensures.of i).me (sym c.draft-draft.ensures.turn i).node) ∙ sym c.starts.ensures ∙ c.if-not-starts.false in
     start_answered g.B.Body.same me members x c.finish.result left
     (answered_of c.start.new.self (record { of = known me members x None; turn = begins (known me members x None) (begun x) }) c.finish.result
-    (λ i. record { of = of i; turn = turn i }) c.finish.ensures)
+    (λ i. record { of = of i; turn = turn i }) c.finish.ensures.answered)
