@@ -1,8 +1,16 @@
 pub mod Best
+pub mod Bounds
+pub mod Chosen
+pub mod Counting
+pub mod Filling
+pub mod Hits
+pub mod Keyed
 pub mod Order
 pub mod Pairs
+pub mod Parts
 pub mod Places
 pub mod Placing
 pub mod Ranks
 pub mod Serving
+pub mod Tables
 pub mod Wordings

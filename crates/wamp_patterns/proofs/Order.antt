@@ -1,12 +1,10 @@
 -- The order of the entries is total, and ties equal patterns alone.
-use Rattle.std.proofs.Common.{◌≡◌, ◌↔◌, ℕ, true, List, [], ◌∷◌, Result, Ok, Err, refl, ap, subst, arith}
+use Rattle.std.proofs.Common.{◌≡◌, ◌↔◌, ℕ, true, List, [], ◌∷◌, refl, ap, subst, arith}
 use Rattle.std.specs.declared.cmp.Ordering.{Ordering}
 use Rattle.std.specs.declared.cmp.Ordering.TheVariants.{Less, Equal, Greater}
 use Rattle.std.specs.Bool.{IsTrue}
-use Rattle.std.specs.Ordering.{is_eq, nat_cmp, ordering_index}
-use Rattle.std.specs.Result.{MatchResult}
-use Rattle.std.specs.List.{HoldsAt}
-use Rattle.std.specs.List.Sorted.{IsStrictlySortedBy, IsBinarySearchResult, IsNonDecreasingBy, IsPartitionPoint}
+use Rattle.std.specs.Ordering.{is_eq, nat_cmp}
+use Rattle.std.specs.List.Sorted.{IsStrictlySortedBy}
 use Rattle.std.specs.Cmp.{IsTotalOrder}
 use Rattle.std.specs.Cmp.Lexicographic.{slice_cmp}
 use Rattle.std.proofs.lemmas.Bool.Decides.{nat_tests}
@@ -24,13 +22,6 @@ pattern_total = then_total (on_total (λ (p : PatternValue). rank p.matching) na
 pub none_in_order : {V : Type 0} (es : List (PatternValue × V)) → es ≡ [] → AreInOrder es
 unfolding IsStrictlySortedBy
 none_in_order es e = rw e tt
-
--- where the answers rise, a search settles the place
-pub settled : {X : Type 0} (compare : X → Ordering) (xs : List X) (r : Result ℕ ℕ) → IsBinarySearchResult compare xs r
-    → IsNonDecreasingBy (λ x. ordering_index (compare x)) xs
-    → MatchResult r (HoldsAt (λ x. compare x ≡ Equal) xs) (IsPartitionPoint (λ x. compare x ≡ Less) (λ x. compare x ≡ Greater) xs)
-settled compare xs (Ok i) h up = h
-settled compare xs (Err i) h up = h up
 
 same_rank : (m n : Match) → nat_cmp (rank m) (rank n) ≡ Equal → m ≡ n
 same_rank Exact Exact h = refl

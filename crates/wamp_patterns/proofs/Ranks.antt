@@ -17,7 +17,7 @@ use Rattle.wamp_ids.specs.Pattern.{PatternValue}
 use Rattle.wamp_patterns.specs.Matching.{part_matches, text_matches, matches}
 use Rattle.wamp_patterns.specs.Ranking.{better, gaps, is_named_first, text_is_better}
 
-off : {P : Type 0} → true ≡ false → P
+pub off : {P : Type 0} → true ≡ false → P
 off e = cc
 
 gaps_total : IsTotalOrder (slice_cmp bool_cmp)
@@ -71,22 +71,22 @@ through a b c = through_by a.matching b.matching c.matching a.text b.text c.text
 
 -- ---- of two that match one URI, only equal ones are tied
 
-not_none : (n : ℕ) → eqb (suc n) 0 ≡ false
+pub not_none : (n : ℕ) → eqb (suc n) 0 ≡ false
 not_none n = grind (arith, nat_tests)
 
-no_parts : (p : List ℕ) → is_empty p ≡ true → p ≡ []
+pub no_parts : (p : List ℕ) → is_empty p ≡ true → p ≡ []
 no_parts [] h = refl
 no_parts (x ∷ p) h = off (sym h ∙ not_none (length p))
 
-and_left : (a b : Bool) → (a && b) ≡ true → a ≡ true
+pub and_left : (a b : Bool) → (a && b) ≡ true → a ≡ true
 and_left true b h = refl
 and_left false b h = off (sym h)
 
-and_right : (a b : Bool) → (a && b) ≡ true → b ≡ true
+pub and_right : (a b : Bool) → (a && b) ≡ true → b ≡ true
 and_right true b h = h
 and_right false b h = off (sym h)
 
-or_named : (a b : Bool) → a ≡ false → (a || b) ≡ true → b ≡ true
+pub or_named : (a b : Bool) → a ≡ false → (a || b) ≡ true → b ≡ true
 or_named true b e h = off e
 or_named false b e h = h
 
@@ -125,7 +125,7 @@ same_parts (p ∷ ps) (q ∷ qs) (u ∷ us) h k e =
     (then_second (bool_cmp (is_empty p) (is_empty q)) _ e) in
     λ i. first i ∷ rest i
 
-text_from_parts : (s t : List ℕ) → parts s ≡ parts t → s ≡ t
+pub text_from_parts : (s t : List ℕ) → parts s ≡ parts t → s ≡ t
 text_from_parts s t e = sym (join_with_byte-slice_split 46 s) ∙ ap (join_with_byte 46) e ∙ join_with_byte-slice_split 46 t
 
 neither_less : (o : Ordering) → is_lt o ≡ false → is_lt (ordering_reverse o) ≡ false → o ≡ Equal

@@ -24,7 +24,7 @@ module _ {X : Type 0} (pattern_of : X → PatternValue) where
       → is_some (serves pattern_of entries uri) ≡ list_any (λ x. matches (pattern_of x) uri) entries
   some_serves entries uri = sym (ap is_some (found_in_one_pass entries uri)) ∙ some_picked beats (λ x. matches (pattern_of x) uri) entries
 
-  matching_at : (uri : List ℕ) (xs : List X) (i : ℕ) (x : X) → AllByRecursion (λ y. matches (pattern_of y) uri ≡ true) xs
+  pub matching_at : (uri : List ℕ) (xs : List X) (i : ℕ) (x : X) → AllByRecursion (λ y. matches (pattern_of y) uri ≡ true) xs
       → slice_get xs i ≡ Some x → matches (pattern_of x) uri ≡ true
   matching_at uri [] i x all e = cc
   matching_at uri (y ∷ ys) zero x all e = go (Some x) (sym e)

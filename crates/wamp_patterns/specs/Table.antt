@@ -1,15 +1,14 @@
 -- A table by patterns: its entries in the order of their patterns, no two of one text and match.
-use Rattle.std.specs.Prelude.{◌≡◌, ℕ, Bool, List, length, Result, MatchResult}
+use Rattle.std.specs.Prelude.{ℕ, Bool, List, ◌++◌}
 use Rattle.std.specs.Map.{keys_of}
-use Rattle.std.specs.List.{HoldsAt}
-use Rattle.std.specs.List.Sorted.{IsPartitionPoint, IsSearchInRange, IsStrictlySortedBy}
+use Rattle.std.specs.List.Sorted.{IsStrictlySortedBy}
 use Rattle.std.specs.Cmp.Lexicographic.{slice_cmp}
 use Rattle.std.specs.declared.cmp.Ordering.{Ordering}
-use Rattle.std.specs.declared.cmp.Ordering.TheVariants.{Less, Equal, Greater}
 use Rattle.std.specs.Ordering.{nat_cmp, ordering_then, is_eq}
 use Rattle.wamp_ids.specs.declared.policy.Match.{Match}
 use Rattle.wamp_ids.specs.declared.policy.Match.TheVariants.{Exact, Prefix, Wildcard}
 use Rattle.wamp_ids.specs.Pattern.{PatternValue}
+use Rattle.wamp_patterns.specs.Texts.{with_keys}
 
 -- exact, then prefix, then wildcard
 abbrev pub rank : Match → ℕ
@@ -29,9 +28,10 @@ same_pattern pattern other = is_eq (pattern_cmp pattern other)
 abbrev pub AreInOrder : {V : Type 0} → List (PatternValue × V) → Type 0
 AreInOrder entries = IsStrictlySortedBy pattern_cmp (keys_of entries)
 
--- where a pattern stands among entries in order: at the one with its text and match, or else behind those that are before it
-abbrev pub StandsAt : {V : Type 0} → PatternValue → List (PatternValue × V) → Result ℕ ℕ → Type 0
-StandsAt pattern entries result =
-    IsSearchInRange result (length entries)
-    × MatchResult result (HoldsAt (λ entry. pattern_cmp entry.0 pattern ≡ Equal) entries)
-    (IsPartitionPoint (λ entry. pattern_cmp entry.0 pattern ≡ Less) (λ entry. pattern_cmp entry.0 pattern ≡ Greater) entries)
+-- the entries of one match
+abbrev pub with_match : {V : Type 0} → Match → List (List ℕ × V) → List (PatternValue × V)
+with_match matching texts = with_keys (λ text. record { text = text; matching = matching }) texts
+
+-- the entries of the exact patterns, then those of the prefixes, then those of the wildcards
+abbrev pub all_entries : {V : Type 0} → List (List ℕ × V) → List (List ℕ × V) → List (List ℕ × V) → List (PatternValue × V)
+all_entries exact prefix wildcard = with_match Exact exact ++ (with_match Prefix prefix ++ with_match Wildcard wildcard)

@@ -1,0 +1,223 @@
+ghost use Rattle.std.specs.Prelude.{◌≡◌, ◌≤◌, ◌+◌, ◌++◌, [], None, Some, IfOk, IfErr, OnOk, OnErr, option_copied, length, map};
+ghost use Rattle.std.specs.Map.{keys_of, lookup, remove_entry, values_of};
+ghost use Rattle.std.specs.BTreeMap.{insert_entry};
+ghost use Rattle.wamp_patterns.specs.Kinds.{Tells, all_found, count_of, filled, first_found, found_kind, lowered, with_text};
+ghost use Rattle.wamp_patterns.specs.Texts.{AreTextsInOrder, same_text, shown, text_cmp};
+
+use crate::kinds::{filled, kind_of};
+use crate::memory::Memory;
+use crate::texts::Texts;
+use std::alloc::Global;
+use std::collections::BTreeMap;
+use wamp_ids::Match;
+
+/// Values by the texts of the patterns of one match, and beside them how many patterns there are of each kind that stands.
+#[derive(Debug, Drop)]
+pub(crate) struct Index<V> {
+    pub(crate) texts: Texts<V>,
+    pub(crate) kinds: Texts<usize>,
+}
+
+impl<V> Index<V> {
+    /// No patterns. Takes no memory.
+    pub(crate) fn new(alloc: Global) -> Index<V>
+        ensures texts { result.texts ≡ [] }
+        ensures kinds { result.kinds ≡ [] }
+    {
+        Index {
+            texts: Texts::new(alloc),
+            kinds: Texts::new(alloc),
+        }
+    }
+
+    /// Puts the value for this text, and gives back the one that stood there. Only a new one takes memory. After `Memory` the texts are
+    /// as they were, and the value comes back.
+    pub(crate) fn put(
+        &mut self,
+        alloc: Global,
+        matching: Match,
+        text: &[u8],
+        value: V,
+    ) -> Result<Option<V>, (V, Memory)>
+        requires within { length text.now ≤ 1024 }
+        requires tells { Tells matching self.old.texts self.old.kinds }
+        ensures old { IfOk result (λ old. old ≡ lookup (same_text text.now) self.old.texts) }
+        ensures entries { OnOk result (self.new.texts ≡ insert_entry text_cmp self.old.texts text.now value) }
+        ensures value_returned { IfErr result (λ back. back.0 ≡ value) }
+        ensures unchanged { OnErr result (self.new.texts ≡ self.old.texts) }
+        ensures only_new { OnErr result (lookup (same_text text.now) self.old.texts ≡ None) }
+        ensures tells { Tells matching self.new.texts self.new.kinds }
+    {
+        match self.texts.replace(text, value) {
+            Ok(old) => Ok(Some(old)),
+            Err(value) => self.add(alloc, matching, text, value),
+        }
+    }
+
+    // Puts a text that does not stand.
+    fn add(
+        &mut self,
+        alloc: Global,
+        matching: Match,
+        text: &[u8],
+        value: V,
+    ) -> Result<Option<V>, (V, Memory)>
+        requires within { length text.now ≤ 1024 }
+        requires tells { Tells matching self.old.texts self.old.kinds }
+        requires missing { lookup (same_text text.now) self.old.texts ≡ None }
+        ensures old { IfOk result (λ old. old ≡ None) }
+        ensures entries { OnOk result (self.new.texts ≡ insert_entry text_cmp self.old.texts text.now value) }
+        ensures value_returned { IfErr result (λ back. back.0 ≡ value) }
+        ensures unchanged { OnErr result (self.new.texts ≡ self.old.texts) }
+        ensures tells { Tells matching self.new.texts self.new.kinds }
+    {
+        let kind = kind_of(matching, text);
+        let Ok(()) = raise(&mut self.kinds, alloc, kind.as_slice()) else {
+            return Err((value, Memory));
+        };
+        match self.texts.add(alloc, text, value) {
+            Ok(old) => return Ok(old),
+            Err(back) => {
+                lower(&mut self.kinds, kind.as_slice());
+                return Err(back);
+            }
+        }
+    }
+
+    /// Takes the value for this text out, if there is one. Takes no memory.
+    pub(crate) fn remove(&mut self, matching: Match, text: &[u8]) -> Option<V>
+        requires within { length text.now ≤ 1024 }
+        requires tells { Tells matching self.old.texts self.old.kinds }
+        ensures value { result ≡ lookup (same_text text.now) self.old.texts }
+        ensures entries { self.new.texts ≡ remove_entry (same_text text.now) self.old.texts }
+        ensures tells { Tells matching self.new.texts self.new.kinds }
+    {
+        let Some(value) = self.texts.remove(text) else {
+            return None;
+        };
+        let kind = kind_of(matching, text);
+        lower(&mut self.kinds, kind.as_slice());
+        Some(value)
+    }
+
+    /// The value of the first kind, in their order, of which a pattern matches the URI. Takes no memory, and for each kind that stands a
+    /// look-up.
+    pub(crate) fn first(&self, matching: Match, uri: &[u8]) -> Option<&V>
+        requires { length uri.now ≤ 1024 }
+        ensures found { option_copied result ≡ first_found matching self.now.texts uri.now (keys_of self.now.kinds) }
+        ensures ordered { AreTextsInOrder self.now.kinds }
+    {
+        for (kind, _count) in self.kinds.iter() {
+            if let Some(value) = self.of_kind(matching, kind.as_slice(), uri) {
+                return Some(value);
+            }
+        }
+        None
+    }
+
+    // The value of the one pattern of this kind that matches the URI.
+    fn of_kind(&self, matching: Match, kind: &[u8], uri: &[u8]) -> Option<&V>
+        requires { length uri.now ≤ 1024 }
+        ensures { option_copied result ≡ found_kind matching self.now.texts uri.now kind.now }
+    {
+        let Some(text) = filled(matching, kind, uri) else {
+            return None;
+        };
+        self.texts.get(text.as_slice())
+    }
+
+    /// The list with the values of all patterns that match the URI behind it, by text in byte order. Takes a look-up for each kind that
+    /// stands, and a number of steps for each value found that is logarithmic in the number of these.
+    #[tactic(auto, using(crate::proofs::Keyed::values_shown))]
+    pub(crate) fn with_all<'a>(
+        &'a self,
+        alloc: Global,
+        matching: Match,
+        uri: &[u8],
+        mut found: Vec<&'a V>,
+    ) -> Result<Vec<&'a V>, Memory>
+        requires { length uri.now ≤ 1024 }
+        ensures { IfOk result (λ all. map (λ value. value.now) all.items ≡ map (λ value. value.now) found.entry.items
+            ++ values_of (all_found matching self.now.texts uri.now [] (keys_of self.now.kinds))) }
+    {
+        let hits = self.hits(alloc, matching, uri)?;
+        for value in hits.values() {
+            found.push(*value)?;
+        }
+        Ok(found)
+    }
+
+    // The texts of the patterns that match the URI, with their values.
+    fn hits<'a>(
+        &'a self,
+        alloc: Global,
+        matching: Match,
+        uri: &[u8],
+    ) -> Result<BTreeMap<&'a [u8], &'a V>, Memory>
+        requires { length uri.now ≤ 1024 }
+        ensures { IfOk result (λ hits. shown hits.entries ≡ all_found matching self.now.texts uri.now [] (keys_of self.now.kinds)) }
+    {
+        let mut hits = BTreeMap::new(alloc);
+        for (kind, _count) in self.kinds.iter() {
+            self.add_hit(matching, kind.as_slice(), uri, &mut hits)?;
+        }
+        Ok(hits)
+    }
+
+    // Puts the one pattern of this kind that matches the URI, if there is one.
+    fn add_hit<'a>(
+        &'a self,
+        matching: Match,
+        kind: &[u8],
+        uri: &[u8],
+        hits: &mut BTreeMap<&'a [u8], &'a V>,
+    ) -> Result<(), Memory>
+        requires { length uri.now ≤ 1024 }
+        ensures { OnOk result (shown hits.new.entries ≡ with_text matching self.now.texts (filled matching kind.now uri.now) (shown hits.old.entries)) }
+    {
+        let Some(text) = filled(matching, kind, uri) else {
+            return Ok(());
+        };
+        let Some((text, value)) = self.texts.stored(text.as_slice()) else {
+            return Ok(());
+        };
+        hits.insert(text, value)?;
+        Ok(())
+    }
+}
+
+fn count_of(kinds: &Texts<usize>, kind: &[u8]) -> usize
+    ensures { result ≡ count_of kinds.now kind.now }
+{
+    match kinds.get(kind) {
+        Some(count) => *count,
+        None => 0,
+    }
+}
+
+// One more of this kind. No memory holds as many as cannot be counted.
+fn raise(kinds: &mut Texts<usize>, alloc: Global, kind: &[u8]) -> Result<(), Memory>
+    ensures entries { OnOk result (kinds.new ≡ insert_entry text_cmp kinds.old kind.now (count_of kinds.old kind.now + 1)) }
+    ensures unchanged { OnErr result (kinds.new ≡ kinds.old) }
+{
+    let Some(count) = count_of(kinds, kind).checked_add(1) else {
+        return Err(Memory);
+    };
+    match kinds.put(alloc, kind, count) {
+        Ok(_) => return Ok(()),
+        Err(_) => return Err(Memory),
+    }
+}
+
+// One less of this kind, which does not stand any more once there is none.
+fn lower(kinds: &mut Texts<usize>, kind: &[u8])
+    ensures lowered { kinds.new ≡ lowered kinds.old kind.now }
+    ensures was_ordered { AreTextsInOrder kinds.old }
+{
+    let count = count_of(kinds, kind);
+    if count > 1 {
+        let _ = kinds.replace(kind, count - 1);
+        return;
+    }
+    let _ = kinds.remove(kind);
+}
