@@ -3,6 +3,8 @@
 #![tactic(auto)]
 
 #[cfg(test)]
+mod drawn_patterns;
+#[cfg(test)]
 mod frames;
 #[cfg(test)]
 mod ids;

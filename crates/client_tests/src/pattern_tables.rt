@@ -192,6 +192,29 @@ fn gives_all_that_match_in_order(rt: HostRuntime) -> Result<(), Fail> {
 }
 
 #[test]
+fn the_wildcard_serves_once_all_prefixes_are_removed(rt: HostRuntime) -> Result<(), Fail> {
+    let rows = [
+        ("put", "a.b", Match::Exact, 1, 0),
+        ("put", "", Match::Prefix, 2, 0),
+        ("put", "a", Match::Prefix, 3, 0),
+        ("put", "a.", Match::Prefix, 4, 0),
+        ("put", ".", Match::Wildcard, 5, 0),
+        ("put", ".b", Match::Wildcard, 6, 0),
+        ("put", "a.", Match::Wildcard, 7, 0),
+        ("all", "a.b", Match::Exact, 0, 1_234_567),
+        ("best", "a.b", Match::Exact, 0, 1),
+        ("remove", "a.b", Match::Exact, 0, 1),
+        ("best", "a.b", Match::Exact, 0, 4),
+        ("remove", "a.", Match::Prefix, 0, 4),
+        ("remove", "a", Match::Prefix, 0, 3),
+        ("remove", "", Match::Prefix, 0, 2),
+        ("best", "a.b", Match::Exact, 0, 7),
+        ("all", "a.b", Match::Exact, 0, 567),
+    ];
+    check(&rt, rt.alloc(), rows.as_slice())
+}
+
+#[test]
 fn puts_one_value_for_a_text_and_match(rt: HostRuntime) -> Result<(), Fail> {
     let rows = [
         ("put", "a.b", Match::Exact, 4, 0),

@@ -1,0 +1,248 @@
+// A table of drawn patterns beside a scan of all of them by `matches` and `better`.
+use rand_chacha::ChaCha20Rng;
+use rand_core::SeedableRng;
+use rand_core::utils::NextWord;
+use std::alloc::Global;
+use std::process::Abort;
+use std::test::Fail;
+use wamp_ids::{Match, Pattern, Uri};
+use wamp_patterns::{Memory, PatternTable, better, matches};
+
+/// A pattern that was put, until another one takes its place.
+#[derive(Drop)]
+struct Drawn {
+    pattern: Pattern<'static>,
+    stands: bool,
+}
+
+// A text of up to seven of three letters, so that many begin alike.
+fn draw_text(alloc: Global, words: &mut ChaCha20Rng) -> Result<String, Fail> {
+    let mut text = String::new(alloc);
+    let length = words.next_word() % 8;
+    for _ in 0..length {
+        let letter = match words.next_word() % 3 {
+            0 => 'a',
+            1 => 'b',
+            _ => '.',
+        };
+        text.push(letter)?;
+    }
+    Ok(text)
+}
+
+fn draw_match(words: &mut ChaCha20Rng) -> Match {
+    match words.next_word() % 3 {
+        0 => Match::Exact,
+        1 => Match::Prefix,
+        _ => Match::Wildcard,
+    }
+}
+
+// Puts a drawn pattern with its number, if it is one; the number that stood there does not stand any more.
+fn put_drawn(
+    alloc: Global,
+    words: &mut ChaCha20Rng,
+    table: &mut PatternTable<usize>,
+    drawn: &mut Vec<Drawn>,
+) -> Result<(), Fail> {
+    let matching = draw_match(words);
+    let text = draw_text(alloc, words)?;
+    let Ok(pattern) = Pattern::read(alloc, text.as_str(), matching) else {
+        return Ok(());
+    };
+    put_one(table, drawn, pattern)
+}
+
+fn put_one(
+    table: &mut PatternTable<usize>,
+    drawn: &mut Vec<Drawn>,
+    pattern: Pattern<'static>,
+) -> Result<(), Fail> {
+    match table.put(&pattern, drawn.len()) {
+        Ok(Some(old)) => strike(drawn, old),
+        Ok(None) => {}
+        Err(_) => return Err(Fail::from(Memory)),
+    }
+    drawn.push(Drawn {
+        pattern,
+        stands: true,
+    })?;
+    Ok(())
+}
+
+fn strike(drawn: &mut Vec<Drawn>, number: usize) {
+    if let Some(one) = drawn.get_mut(number) {
+        one.stands = false;
+    }
+}
+
+// The number of the one that serves, and how many match, by a scan of all.
+fn scan(drawn: &[Drawn], uri: &Uri<'_>) -> (Option<usize>, usize) {
+    let mut best = None;
+    let mut count: usize = 0;
+    for (number, one) in drawn.iter().enumerate() {
+        if one.stands && matches(&one.pattern, uri) {
+            count = count.saturating_add(1);
+            if is_better_than(drawn, one, best) {
+                best = Some(number);
+            }
+        }
+    }
+    (best, count)
+}
+
+fn is_better_than(drawn: &[Drawn], one: &Drawn, best: Option<usize>) -> bool {
+    match best.and_then(|number| drawn.get(number)) {
+        Some(best) => better(&one.pattern, &best.pattern),
+        None => true,
+    }
+}
+
+fn rank(matching: Match) -> u8 {
+    match matching {
+        Match::Exact => 0,
+        Match::Prefix => 1,
+        Match::Wildcard => 2,
+    }
+}
+
+// Whether the first stands before the second: exact, then prefix, then wildcard, each by text.
+fn stands_before(one: &Pattern<'_>, other: &Pattern<'_>) -> bool {
+    let (rank, other_rank) = (rank(one.matching()), rank(other.matching()));
+    rank < other_rank || rank == other_rank && one.as_str() < other.as_str()
+}
+
+// Whether these are as many as the scan found, all match, and stand in order.
+fn are_all(drawn: &[Drawn], uri: &Uri<'_>, found: &[&usize], count: usize) -> bool {
+    let mut before: Option<&Drawn> = None;
+    for number in found {
+        let Some(one) = drawn.get(**number) else {
+            return false;
+        };
+        if !one.stands || !matches(&one.pattern, uri) || !is_behind(before, one) {
+            return false;
+        }
+        before = Some(one);
+    }
+    found.len() == count
+}
+
+fn is_behind(before: Option<&Drawn>, one: &Drawn) -> bool {
+    match before {
+        Some(before) => stands_before(&before.pattern, &one.pattern),
+        None => true,
+    }
+}
+
+// What the table answers for this URI, beside the scan; how many match.
+fn compare(
+    rt: &impl Abort,
+    table: &PatternTable<usize>,
+    drawn: &[Drawn],
+    uri: &Uri<'_>,
+) -> Result<usize, Fail> {
+    let (best, count) = scan(drawn, uri);
+    assert_eq!(rt; table.best(uri).copied(), best);
+    let found = table.all(uri)?;
+    assert!(rt; are_all(drawn, uri, found.as_slice(), count));
+    Ok(count)
+}
+
+// Draws until so many patterns were put.
+fn fill(
+    alloc: Global,
+    words: &mut ChaCha20Rng,
+    table: &mut PatternTable<usize>,
+    drawn: &mut Vec<Drawn>,
+    most: usize,
+) -> Result<(), Fail> {
+    for _ in 0..10_000u32 {
+        if drawn.len() < most {
+            put_drawn(alloc, words, table, drawn)?;
+        }
+    }
+    Ok(())
+}
+
+// How many URIs none, one and more of the patterns match.
+#[derive(Clone, Copy, Debug, PartialEq, Eq)]
+struct Seen {
+    none: usize,
+    one: usize,
+    many: usize,
+}
+
+impl Seen {
+    fn with(self, count: usize) -> Seen {
+        let Seen { none, one, many } = self;
+        match count {
+            0 => Seen {
+                none: none.saturating_add(1),
+                one,
+                many,
+            },
+            1 => Seen {
+                none,
+                one: one.saturating_add(1),
+                many,
+            },
+            _ => Seen {
+                none,
+                one,
+                many: many.saturating_add(1),
+            },
+        }
+    }
+}
+
+// What the drawn URIs show.
+fn ask(
+    rt: &impl Abort,
+    alloc: Global,
+    words: &mut ChaCha20Rng,
+    table: &PatternTable<usize>,
+    drawn: &[Drawn],
+) -> Result<Seen, Fail> {
+    let mut seen = Seen {
+        none: 0,
+        one: 0,
+        many: 0,
+    };
+    for _ in 0..200u32 {
+        let text = draw_text(alloc, words)?;
+        if let Ok(uri) = Uri::of(text.as_str()) {
+            let count = compare(rt, table, drawn, &uri)?;
+            seen = seen.with(count);
+        }
+    }
+    Ok(seen)
+}
+
+// Takes every second one out again.
+fn take_half(table: &mut PatternTable<usize>, drawn: &mut [Drawn]) {
+    let mut take = false;
+    for one in drawn.iter_mut() {
+        if take && one.stands {
+            one.stands = table.remove(&one.pattern).is_none();
+        }
+        take = !take;
+    }
+}
+
+#[test]
+fn answers_as_a_scan_does(rt: HostRuntime) -> Result<(), Fail> {
+    let alloc = rt.alloc();
+    let mut words = ChaCha20Rng::from_seed([7; 32]);
+    let mut table = PatternTable::new(alloc);
+    let mut drawn = Vec::new(alloc);
+    fill(alloc, &mut words, &mut table, &mut drawn, 5)?;
+    let few = ask(&rt, alloc, &mut words, &table, &drawn)?;
+    assert!(rt; few.none > 0 && few.one > 0);
+    fill(alloc, &mut words, &mut table, &mut drawn, 2_000)?;
+    assert_eq!(rt; drawn.len(), 2_000);
+    let full = ask(&rt, alloc, &mut words, &table, &drawn)?;
+    assert!(rt; full.many > 0);
+    take_half(&mut table, &mut drawn);
+    ask(&rt, alloc, &mut words, &table, &drawn)?;
+    Ok(())
+}
