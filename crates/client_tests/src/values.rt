@@ -2,6 +2,7 @@
 use json::Writer;
 use serde_json::Value;
 use std::alloc::Global;
+use std::process::Abort;
 use std::test::Fail;
 use wamp_ids::Text;
 use wamp_values::{
@@ -40,40 +41,59 @@ fn fault_of(value: Value) -> u8 {
     }
 }
 
+fn fault_in(alloc: Global, text: &str) -> Result<u8, Fail> {
+    Ok(fault_of(Value::from_str(alloc, text)?))
+}
+
+// A text, and the number of its fault, or 0.
+const NUMBERS: &[(&str, u8)] = &[
+    ("0", 0),
+    ("18446744073709551615", 0),
+    ("-9223372036854775808", 0),
+    ("[{\"a\":-1}]", 0),
+    ("\"1.5\"", 0),
+    ("1.5", 11),
+    ("1.0", 11),
+    ("-0", 11),
+    ("1e2", 11),
+    ("18446744073709551616", 11),
+    ("-9223372036854775809", 11),
+    ("[{\"a\":[0.5]}]", 11),
+];
+
 #[test]
 fn numbers_are_i64_or_u64(rt: HostRuntime) -> Result<(), Fail> {
-    for (text, number) in [
-        ("0", 0),
-        ("18446744073709551615", 0),
-        ("-9223372036854775808", 0),
-        ("[{\"a\":-1}]", 0),
-        ("\"1.5\"", 0),
-        ("1.5", 11),
-        ("1.0", 11),
-        ("-0", 11),
-        ("1e2", 11),
-        ("18446744073709551616", 11),
-        ("-9223372036854775809", 11),
-        ("[{\"a\":[0.5]}]", 11),
-    ] {
-        let given = fault_of(Value::from_str(rt.alloc(), text)?);
-        assert_eq!(rt; given, number, "{text}");
+    for (text, number) in NUMBERS {
+        assert!(rt; fault_in(rt.alloc(), text)? == *number, "{text}");
     }
     Ok(())
 }
 
+fn fault_nested(
+    alloc: Global,
+    open: &str,
+    inside: &str,
+    close: &str,
+    depth: usize,
+) -> Result<u8, Fail> {
+    Ok(fault_of(nested(alloc, open, inside, close, depth)?))
+}
+
+// What opens and closes a level, and what is inside, how deep, and the number of the fault, or 0.
+const DEPTHS: &[(&str, &str, &str, usize, u8)] = &[
+    ("[", "0", "]", 126, 0),
+    ("[", "0", "]", 127, 13),
+    ("[", "1.5", "]", 127, 11),
+    ("{\"a\":", "0", "}", 126, 0),
+    ("{\"a\":", "0", "}", 127, 13),
+    ("{\"a\":", "1.5", "}", 127, 11),
+];
+
 #[test]
 fn nests_at_most_126_deep(rt: HostRuntime) -> Result<(), Fail> {
-    for (open, inside, close, depth, number) in [
-        ("[", "0", "]", 126, 0),
-        ("[", "0", "]", 127, 13),
-        ("[", "1.5", "]", 127, 11),
-        ("{\"a\":", "0", "}", 126, 0),
-        ("{\"a\":", "0", "}", 127, 13),
-        ("{\"a\":", "1.5", "}", 127, 11),
-    ] {
-        let given = fault_of(nested(rt.alloc(), open, inside, close, depth)?);
-        assert_eq!(rt; given, number, "{open} {inside} {depth}");
+    for (open, inside, close, depth, number) in DEPTHS {
+        let given = fault_nested(rt.alloc(), open, inside, close, *depth)?;
+        assert!(rt; given == *number, "{open} {inside} {depth}");
     }
     Ok(())
 }
@@ -86,42 +106,52 @@ fn faults_have_numbers(rt: HostRuntime) {
     assert_eq!(rt; Memory.number(), 12);
 }
 
-#[test]
-fn writes_compact_text(rt: HostRuntime) -> Result<(), Fail> {
-    for (text, written) in [
-        (
-            "[ null , true , false , -5 , 18446744073709551615 ]",
-            "[null,true,false,-5,18446744073709551615]",
-        ),
-        (
-            "{\"b\":1,\"a\":{},\"b\":[[]],\"\":\"x\"}",
-            "{\"\":\"x\",\"a\":{},\"b\":[[]]}",
-        ),
-        (
-            "{\"\\uffff\":0,\"\\ud800\\udc00\":1,\"\\u00e9\":2}",
-            "{\"\u{e9}\":2,\"\u{ffff}\":0,\"\u{10000}\":1}",
-        ),
-        (
-            "\"\\u0022\\u005c\\u002f\\u0008\\u0009\\u000a\\u000c\\u000d\\u0001\\u001F\\u007f\\u00e9\"",
-            "\"\\\"\\\\/\\b\\t\\n\\f\\r\\u0001\\u001f\u{7f}\u{e9}\"",
-        ),
-        ("{\"a\\u0000\":0}", "{\"a\\u0000\":0}"),
-    ] {
-        let mut out = Vec::from_slice(rt.alloc(), b"a,")?;
-        payload(rt.alloc(), text)?.write_into(&mut out)?;
-        assert!(rt;
-            out.as_slice().strip_prefix(b"a,") == Some(written.as_bytes()),
-            "{text}"
-        );
-    }
-    Ok(())
-}
-
 // Whether the payload is written as this text.
 fn is_text_of(alloc: Global, payload: &Payload, text: &str) -> Result<bool, Fail> {
     let mut out = Vec::new(alloc);
     payload.write_into(&mut out)?;
     Ok(out.as_slice() == text.as_bytes())
+}
+
+// Appends the payload that this text is of.
+fn append(alloc: Global, text: &str, out: &mut Vec<u8>) -> Result<(), Fail> {
+    Ok(payload(alloc, text)?.write_into(out)?)
+}
+
+// Whether that payload is written so, behind what is there.
+fn is_appended(alloc: Global, text: &str, written: &str) -> Result<bool, Fail> {
+    let mut out = Vec::from_slice(alloc, b"a,")?;
+    append(alloc, text, &mut out)?;
+    Ok(out.as_slice().strip_prefix(b"a,") == Some(written.as_bytes()))
+}
+
+// A text, and what is written of it.
+const TEXTS: &[(&str, &str)] = &[
+    (
+        "[ null , true , false , -5 , 18446744073709551615 ]",
+        "[null,true,false,-5,18446744073709551615]",
+    ),
+    (
+        "{\"b\":1,\"a\":{},\"b\":[[]],\"\":\"x\"}",
+        "{\"\":\"x\",\"a\":{},\"b\":[[]]}",
+    ),
+    (
+        "{\"\\uffff\":0,\"\\ud800\\udc00\":1,\"\\u00e9\":2}",
+        "{\"\u{e9}\":2,\"\u{ffff}\":0,\"\u{10000}\":1}",
+    ),
+    (
+        "\"\\u0022\\u005c\\u002f\\u0008\\u0009\\u000a\\u000c\\u000d\\u0001\\u001F\\u007f\\u00e9\"",
+        "\"\\\"\\\\/\\b\\t\\n\\f\\r\\u0001\\u001f\u{7f}\u{e9}\"",
+    ),
+    ("{\"a\\u0000\":0}", "{\"a\\u0000\":0}"),
+];
+
+#[test]
+fn writes_compact_text(rt: HostRuntime) -> Result<(), Fail> {
+    for (text, written) in TEXTS {
+        assert!(rt; is_appended(rt.alloc(), text, written)?, "{text}");
+    }
+    Ok(())
 }
 
 // Whether the first is the same as the second, and the second as the first.
@@ -130,20 +160,33 @@ fn are_same(alloc: Global, one: &Payload, text: &str) -> Result<(bool, bool), Fa
     Ok((one.same(&other), other.same(one)))
 }
 
+fn copied(alloc: Global, text: &str) -> Result<Payload, Fail> {
+    Ok(payload(alloc, text)?.copy()?)
+}
+
+const COPIED: &str = "{\"a\":[1,\"x\",null],\"b\":true}";
+
+// Another text, and whether its payload is the same.
+const OTHERS: &[(&str, bool)] = &[
+    (COPIED, true),
+    ("{\"a\":[1,\"x\",null],\"c\":true}", false),
+    ("{\"a\":[1,\"x\"],\"b\":true}", false),
+    ("{\"a\":[1,\"x\",null]}", false),
+    ("null", false),
+];
+
+fn is_copy(rt: &impl Abort, alloc: Global, copy: &Payload) -> Result<(), Fail> {
+    for (text, same) in OTHERS {
+        assert!(rt; are_same(alloc, copy, text)? == (*same, *same), "{text}");
+    }
+    assert!(rt; is_text_of(alloc, copy, COPIED)?);
+    Ok(())
+}
+
 #[test]
 fn a_copy_is_equal(rt: HostRuntime) -> Result<(), Fail> {
-    let copy = payload(rt.alloc(), "{\"a\":[1,\"x\",null],\"b\":true}")?.copy()?;
-    for (text, same) in [
-        ("{\"a\":[1,\"x\",null],\"b\":true}", (true, true)),
-        ("{\"a\":[1,\"x\",null],\"c\":true}", (false, false)),
-        ("{\"a\":[1,\"x\"],\"b\":true}", (false, false)),
-        ("{\"a\":[1,\"x\",null]}", (false, false)),
-        ("null", (false, false)),
-    ] {
-        assert_eq!(rt; are_same(rt.alloc(), &copy, text)?, same, "{text}");
-    }
-    assert!(rt; is_text_of(rt.alloc(), &copy, "{\"a\":[1,\"x\",null],\"b\":true}")?);
-    Ok(())
+    let copy = copied(rt.alloc(), COPIED)?;
+    is_copy(&rt, rt.alloc(), &copy)
 }
 
 const OPTIONS: &str = "{\"match\":\"prefix\",\"acknowledge\":true}";
@@ -156,18 +199,22 @@ fn text_of(found: &Found<Text>) -> &str {
     }
 }
 
+fn is_found(alloc: Global, options: &Value, key: &str, want: &str) -> Result<bool, Fail> {
+    let found = text_option(alloc, options, key)?;
+    Ok(text_of(&found) == want)
+}
+
+fn texts_are_found(rt: &impl Abort, alloc: Global, options: &Value) -> Result<(), Fail> {
+    assert!(rt; is_found(alloc, options, "match", "prefix")?);
+    assert!(rt; is_found(alloc, options, "acknowledge", "other")?);
+    assert!(rt; is_found(alloc, options, "none", "absent")?);
+    Ok(())
+}
+
 #[test]
 fn finds_texts(rt: HostRuntime) -> Result<(), Fail> {
     let options = Value::from_str(rt.alloc(), OPTIONS)?;
-    for (key, want) in [
-        ("match", "prefix"),
-        ("acknowledge", "other"),
-        ("none", "absent"),
-    ] {
-        let found = text_option(rt.alloc(), &options, key)?;
-        assert!(rt; text_of(&found) == want, "{key}");
-    }
-    Ok(())
+    texts_are_found(&rt, rt.alloc(), &options)
 }
 
 fn text_found<'a>(options: &'a Value, key: &str) -> &'a str {
@@ -187,17 +234,24 @@ fn bool_found(options: &Value, key: &str) -> &'static str {
     }
 }
 
+// A key, and what is found there as a text, and as a truth value.
+const KEYS: &[(&str, &str, &str)] = &[
+    ("match", "prefix", "other"),
+    ("acknowledge", "other", "true"),
+    ("none", "absent", "absent"),
+];
+
+fn options_are_found(rt: &impl Abort, options: &Value) {
+    for (key, text, truth) in KEYS {
+        assert!(rt; text_found(options, key) == *text, "{key}");
+        assert!(rt; bool_found(options, key) == *truth, "{key}");
+    }
+}
+
 #[test]
 fn finds_options(rt: HostRuntime) -> Result<(), Fail> {
     let options = Value::from_str(rt.alloc(), OPTIONS)?;
-    for (key, text, truth) in [
-        ("match", "prefix", "other"),
-        ("acknowledge", "other", "true"),
-        ("none", "absent", "absent"),
-    ] {
-        assert!(rt; text_found(&options, key) == text, "{key}");
-        assert!(rt; bool_found(&options, key) == truth, "{key}");
-    }
+    options_are_found(&rt, &options);
     Ok(())
 }
 
@@ -256,12 +310,20 @@ fn no_arguments_end_a_message(rt: HostRuntime) -> Result<(), Fail> {
     Ok(())
 }
 
-#[test]
-fn a_list_ends_a_message(rt: HostRuntime) -> Result<(), Fail> {
-    let alone = Args::List(list(rt.alloc(), "[\"hi\"]")?);
-    assert!(rt; is_written(rt.alloc(), &alone, "[36,[\"hi\"]]")?);
+fn alone(alloc: Global) -> Result<Args, Fail> {
+    Ok(Args::List(list(alloc, "[\"hi\"]")?))
+}
+
+fn is_alone(rt: &impl Abort, alloc: Global, alone: &Args) -> Result<(), Fail> {
+    assert!(rt; is_written(alloc, alone, "[36,[\"hi\"]]")?);
     assert!(rt; !alone.same(&Args::Nothing));
     Ok(())
+}
+
+#[test]
+fn a_list_ends_a_message(rt: HostRuntime) -> Result<(), Fail> {
+    let alone = alone(rt.alloc())?;
+    is_alone(&rt, rt.alloc(), &alone)
 }
 
 fn list_and_dict(alloc: Global) -> Result<Args, Fail> {
@@ -270,11 +332,20 @@ fn list_and_dict(alloc: Global) -> Result<Args, Fail> {
     Ok(Args::Both(list, dict))
 }
 
+fn is_same_alone(alloc: Global, both: &Args) -> Result<bool, Fail> {
+    let alone = alone(alloc)?;
+    Ok(both.same(&alone))
+}
+
+fn are_both(rt: &impl Abort, alloc: Global, both: &Args) -> Result<(), Fail> {
+    assert!(rt; is_written(alloc, both, "[36,[\"hi\"],{\"a\":1}]")?);
+    assert!(rt; is_copied(both)?);
+    assert!(rt; !is_same_alone(alloc, both)?);
+    Ok(())
+}
+
 #[test]
 fn a_list_and_an_object_end_a_message(rt: HostRuntime) -> Result<(), Fail> {
     let both = list_and_dict(rt.alloc())?;
-    assert!(rt; is_written(rt.alloc(), &both, "[36,[\"hi\"],{\"a\":1}]")?);
-    assert!(rt; is_copied(&both)?);
-    assert!(rt; !both.same(&Args::List(list(rt.alloc(), "[\"hi\"]")?)));
-    Ok(())
+    are_both(&rt, rt.alloc(), &both)
 }
