@@ -1,0 +1,4 @@
+pub mod Rows
+pub mod Finding
+pub mod PlaceIndex
+pub mod Tally

@@ -1,0 +1,10 @@
+//! Lists in the order in which their members came, from which any member can be taken, and in which members are found by keys.
+#![tactic(auto)]
+
+mod place_index;
+mod rows;
+mod tally;
+
+pub use place_index::PlaceIndex;
+pub use rows::Rows;
+pub use tally::Tally;
