@@ -7,7 +7,7 @@ use Rattle.std.proofs.lemmas.List.Elements.{All-weaker, All-filter, filter_passe
 use Rattle.std.proofs.lemmas.List.Folds.{list_any_none}
 use Rattle.realm_sessions.proofs.Pairs.{All-both, All-found, All-not_found, AllPairs-weaker}
 use Rattle.realm_calls.specs.declared.calls.Open.{Open}
-use Rattle.realm_calls.specs.Calls.{Calls, is_call, is_invocation, has_invocation, answer_found, is_to, is_by, is_other}
+use Rattle.realm_calls.specs.Calls.{Calls, is_call, is_invocation, has_invocation, answer_found, is_to, is_by, is_other, calls_by}
 use Rattle.realm_calls.specs.Laws.{AreOtherInvocations, AreSoundCalls, AnsweredOnce, EndedIsGone, LeavingEndsAll, LeavingNamesAll}
 
 -- where all that pass a test are taken out, none passes it
@@ -24,7 +24,7 @@ gone test out list passes =
 
 -- ---- an invocation is answered once
 
-same_call : (call : Open) → is_call call.caller call.request call ≡ true
+pub same_call : (call : Open) → is_call call.caller call.request call ≡ true
 same_call call =
     and_from (call.caller == call.caller) (call.request == call.request) (eq-eqb call.caller call.caller refl)
     (eq-eqb call.request call.request refl)
@@ -60,7 +60,7 @@ ended_gone list call = gone (is_call call.caller call.request) (is_call call.cal
 -- ---- leaving
 
 -- two tests, one after the other, are one
-filter_both : (p q r : Open → Bool) → ((call : Open) → (q call && p call) ≡ r call) → (list : List Open)
+pub filter_both : (p q r : Open → Bool) → ((call : Open) → (q call && p call) ≡ r call) → (list : List Open)
     → filter p (filter q list) ≡ filter r list
 filter_both p q r same [] = refl
 filter_both p q r same (call ∷ list) =
@@ -80,6 +80,10 @@ left_both true false = refl
 left_both false true = refl
 left_both false false = refl
 
+twice : (by to : Bool) → (by && (by && not to)) ≡ (by && not to)
+twice true to = refl
+twice false to = refl
+
 named_both : (by to : Bool) → (not (to && not by) && (by && not to)) ≡ (by && not to)
 named_both true true = refl
 named_both true false = refl
@@ -95,3 +99,10 @@ pub leaving_names_all : LeavingNamesAll
 leaving_names_all list session =
     filter_both (is_by session) (λ call. not (is_to session call)) (is_by session)
     (λ call. named_both (call.caller == session) (call.callee == session)) list
+
+-- among a caller's calls, those to others
+pub named_of_caller : (list : List Open) (session : ℕ)
+    → calls_by (filter (λ (call : Open). call.caller == session) list) session ≡ calls_by list session
+named_of_caller list session =
+    filter_both (is_by session) (λ (call : Open). call.caller == session) (is_by session)
+    (λ call. twice (call.caller == session) (call.callee == session)) list

@@ -1,2 +1,4 @@
 pub mod SoundCalls
 pub mod EndedCalls
+pub mod Ending
+pub mod Indexes

@@ -24,7 +24,7 @@ kept_sound test list ok = record {
 }
 
 -- the open invocations of a callee are those of its open calls
-number_is : (list : List Open) (callee invocation : ℕ)
+pub number_is : (list : List Open) (callee invocation : ℕ)
     → has_invocation list callee invocation ≡ has_number (open_of list callee) invocation
 number_is [] callee invocation = refl
 number_is (call ∷ list) callee invocation =

@@ -1,10 +1,11 @@
-ghost use Rattle.std.specs.Prelude.{◌≡◌, ◌↔◌, [], true, false, OnOk, OnErr, IfOk, IsErrOf, IsOkUnless, find, filter, option_map};
+ghost use Rattle.std.specs.Prelude.{◌≡◌, ◌↔◌, ◌+◌, ◌<◌, ◌^◌, [], true, false, OnOk, OnErr, IfOk, IsErrOf, IsOkUnless, find, filter, option_map, map};
 ghost use Rattle.realm_sessions.specs.declared.fault.RealmFault.TheVariants as fault;
 ghost use Rattle.realm_sessions.specs.Links.{has_number};
-ghost use Rattle.realm_calls.specs.Calls.{with_list, is_call, is_invocation, has, call_of, count_of, is_full, open_call, with_call};
-ghost use Rattle.realm_calls.specs.Calls.{open_of, end, answer, cancel_one, cancel, is_to, is_by, calls_to, calls_by};
+ghost use Rattle.realm_calls.specs.Calls.{with_list, is_invocation, has, call_of, count_of, is_full, open_call, with_call};
+ghost use Rattle.realm_calls.specs.Calls.{open_of, end, answer, cancel_one, cancel, is_by, calls_to, calls_by};
 ghost use Rattle.realm_calls.specs.Calls.{without_callee, without_caller};
 
+use crate::open_calls::OpenCalls;
 use realm_sessions::RealmFault;
 use std::alloc::Global;
 use std::marker::Model;
@@ -32,27 +33,6 @@ pub struct Cancelled {
 }
 
 impl Open {
-    // Whether it is the caller's under this request.
-    fn is_call(&self, caller: Id, request: Id) -> bool
-        ensures { result ≡ is_call caller request self.now }
-    {
-        self.caller == caller && self.request == request
-    }
-
-    // Whether the callee knows it as this invocation.
-    fn is_invocation(&self, callee: Id, invocation: Id) -> bool
-        ensures { result ≡ is_invocation callee invocation self.now }
-    {
-        self.callee == callee && self.invocation == invocation
-    }
-
-    // Whether it is to this session by another.
-    fn is_to(&self, session: Id) -> bool
-        ensures { result ≡ is_to session self.now }
-    {
-        self.callee == session && !(self.caller == session)
-    }
-
     // Whether it is by this session to another.
     fn is_by(&self, session: Id) -> bool
         ensures { result ≡ is_by session self.now }
@@ -63,11 +43,12 @@ impl Open {
 
 /// The open calls of a realm in order of opening, of which each caller may have only so many.
 ///
-/// Cost: each call goes over the open calls once, or twice where it ends some.
+/// Cost: a number of steps that is logarithmic in the number of open calls. Calls that tell of a session's calls, and those by which it
+/// leaves, take so many for each of its calls; `to_vec` takes a step for each open call.
 #[derive(Drop)]
 pub struct Calls {
     limit: u32,
-    list: Vec<Open>,
+    held: OpenCalls,
 }
 
 impl Model for Calls {
@@ -75,7 +56,7 @@ impl Model for Calls {
 
     ghost Value = { Calls };
 
-    ghost view = { λ a. record { limit = a.limit; list = a.list.items } };
+    ghost view = { λ a. record { limit = a.limit; list = a.held } };
 }
 
 impl Calls {
@@ -85,7 +66,7 @@ impl Calls {
     {
         Calls {
             limit,
-            list: Vec::new(alloc),
+            held: OpenCalls::new(alloc),
         }
     }
 
@@ -105,47 +86,52 @@ impl Calls {
         ensures limit { IsErrOf result fault.Limit ↔ (is_full self.old caller ≡ true) }
         ensures fault { is_full self.old caller ≡ false → IsOkUnless result fault.Memory }
     {
-        if self.is_full(caller) {
+        if self.has_all(caller) {
             return Err(RealmFault::Limit);
         }
-        let Ok(()) = self.list.push(Open {
+        self.held.push(Open {
             caller,
             request,
             callee,
             invocation,
         })
-        else {
-            return Err(RealmFault::Memory);
-        };
-        Ok(())
     }
 
     /// Whether the caller has as many open calls as it may have: `open` answers `Limit` exactly then. Takes no memory.
     pub fn is_full(&self, caller: Id) -> bool
         ensures { result ≡ is_full self.now caller }
     {
-        !(count_of(&self.list, caller) < self.limit as usize)
+        self.has_all(caller)
     }
 
-    /// The open calls in order of opening. Takes no memory.
-    pub fn as_slice(&self) -> &[Open]
-        ensures { result.now ≡ self.now.list }
+    // The same, and otherwise one more may be counted.
+    fn has_all(&self, caller: Id) -> bool
+        ensures full { result ≡ is_full self.now caller }
+        ensures few { result ≡ false → count_of self.now.list caller + 1 < 2 ^ 64 }
     {
-        self.list.as_slice()
+        !(self.held.count(caller) < u64::from(self.limit))
+    }
+
+    /// The open calls in order of opening. The only fault is `Memory`.
+    pub fn to_vec(&self) -> Result<Vec<Open>, RealmFault>
+        ensures list { IfOk result (λ list. list.items ≡ self.now.list) }
+        ensures fault { IsOkUnless result fault.Memory }
+    {
+        self.held.to_vec()
     }
 
     /// Whether the caller's request is open. Takes no memory.
     pub fn has(&self, caller: Id, request: Id) -> bool
         ensures { result ≡ has self.now.list caller request }
     {
-        self.list.iter().any(|call| call.is_call(caller, request))
+        self.held.find_call(caller, request).is_some()
     }
 
     /// The caller's open call under this request. Takes no memory.
     pub fn call_of(&self, caller: Id, request: Id) -> Option<&Open>
         ensures { option_map (λ call. call.now) result ≡ call_of self.now.list caller request }
     {
-        find_call(&self.list, caller, request)
+        self.held.find_call(caller, request)
     }
 
     /// The invocations that the callee has not answered, in order of opening. The only fault is `Memory`.
@@ -153,7 +139,8 @@ impl Calls {
         ensures found { IfOk result (λ found. found.items ≡ open_of self.now.list callee) }
         ensures fault { IsOkUnless result fault.Memory }
     {
-        open_of(*self.list.allocator(), &self.list, callee)
+        let calls = self.held.of_callee(callee)?;
+        invocations_of(&calls)
     }
 
     /// The callee answers this invocation: the call, which ends. The only fault is `NotOpen`, where the callee has no such
@@ -162,11 +149,11 @@ impl Calls {
         ensures answer { result ≡ (answer self.old callee invocation).answer }
         ensures calls { self.new ≡ (answer self.old callee invocation).calls }
     {
-        let Some(call) = find_invocation(&self.list, callee, invocation) else {
+        let Some(call) = self.held.find_invocation(callee, invocation) else {
             return Err(RealmFault::NotOpen);
         };
         let call = *call;
-        end_call(&mut self.list, &call);
+        self.held.end(&call);
         Ok(call)
     }
 
@@ -184,12 +171,12 @@ impl Calls {
         ensures answer { result ≡ (cancel self.old caller request mode announces).answer }
         ensures calls { self.new ≡ (cancel self.old caller request mode announces).calls }
     {
-        let Some(call) = find_call(&self.list, caller, request) else {
+        let Some(call) = self.held.find_call(caller, request) else {
             return Err(RealmFault::NotOpen);
         };
         let cancelled = cancel_one(call, mode, announces);
         if cancelled.is_ended {
-            end_call(&mut self.list, &cancelled.call);
+            self.held.end(&cancelled.call);
         }
         Ok(cancelled)
     }
@@ -202,8 +189,8 @@ impl Calls {
         ensures err { OnErr result (self.new ≡ self.old) }
         ensures fault { IsOkUnless result fault.Memory }
     {
-        let ended = calls_to(*self.list.allocator(), &self.list, session)?;
-        end_calls_to(&mut self.list, session);
+        let ended = self.held.calls_to(session)?;
+        self.held.end_all_to(session, &ended);
         Ok(ended)
     }
 
@@ -215,39 +202,11 @@ impl Calls {
         ensures err { OnErr result (self.new ≡ self.old) }
         ensures fault { IsOkUnless result fault.Memory }
     {
-        let ended = calls_by(*self.list.allocator(), &self.list, session)?;
-        end_calls_by(&mut self.list, session);
-        Ok(ended)
+        let ended = self.held.of_caller(session)?;
+        let named = calls_by(&ended, session)?;
+        self.held.end_all_of(session, &ended);
+        Ok(named)
     }
-}
-
-// How many of the calls are the caller's.
-fn count_of(list: &[Open], caller: Id) -> usize
-    ensures { result ≡ count_of list.now caller }
-{
-    list.iter().filter(|call| call.caller == caller).count()
-}
-
-// The caller's call under this request.
-fn find_call(list: &[Open], caller: Id, request: Id) -> Option<&Open>
-    ensures { option_map (λ call. call.now) result ≡ call_of list.now caller request }
-{
-    list.iter().find(|call| call.is_call(caller, request))
-}
-
-// The call that the callee knows as this invocation.
-fn find_invocation(list: &[Open], callee: Id, invocation: Id) -> Option<&Open>
-    ensures { option_map (λ call. call.now) result ≡ find (is_invocation callee invocation) list.now }
-{
-    list.iter()
-        .find(|call| call.is_invocation(callee, invocation))
-}
-
-// The call ends.
-fn end_call(list: &mut Vec<Open>, ended: &Open)
-    ensures { list.new.items ≡ end list.old.items ended.now }
-{
-    list.retain(|call| !call.is_call(ended.caller, ended.request));
 }
 
 // What becomes of a call that is canceled.
@@ -273,56 +232,28 @@ fn cancel_one(call: &Open, mode: Mode, announces: bool) -> Cancelled
     }
 }
 
-// The invocations that the callee has not answered.
-fn open_of(alloc: Global, list: &[Open], callee: Id) -> Result<Vec<Id>, RealmFault>
-    ensures found { IfOk result (λ found. found.items ≡ open_of list.now callee) }
+// The invocations that these calls are known as.
+fn invocations_of(calls: &Vec<Open>) -> Result<Vec<Id>, RealmFault>
+    ensures found { IfOk result (λ found. found.items ≡ map (λ call. call.invocation) calls.now.items) }
     ensures fault { IsOkUnless result fault.Memory }
 {
-    let mut found = Vec::new(alloc);
-    for call in list {
-        if call.callee == callee {
-            found.push(call.invocation)?;
-        }
-    }
-    Ok(found)
-}
-
-// The calls to the session by others.
-fn calls_to(alloc: Global, list: &[Open], session: Id) -> Result<Vec<Open>, RealmFault>
-    ensures found { IfOk result (λ found. found.items ≡ calls_to list.now session) }
-    ensures fault { IsOkUnless result fault.Memory }
-{
-    let mut found = Vec::new(alloc);
-    for call in list {
-        if call.is_to(session) {
-            found.push(*call)?;
-        }
+    let mut found = Vec::new(*calls.allocator());
+    for call in calls {
+        found.push(call.invocation)?;
     }
     Ok(found)
 }
 
 // The calls by the session to others.
-fn calls_by(alloc: Global, list: &[Open], session: Id) -> Result<Vec<Open>, RealmFault>
-    ensures found { IfOk result (λ found. found.items ≡ calls_by list.now session) }
+fn calls_by(calls: &Vec<Open>, session: Id) -> Result<Vec<Open>, RealmFault>
+    ensures found { IfOk result (λ found. found.items ≡ calls_by calls.now.items session) }
     ensures fault { IsOkUnless result fault.Memory }
 {
-    let mut found = Vec::new(alloc);
-    for call in list {
+    let mut found = Vec::new(*calls.allocator());
+    for call in calls {
         if call.is_by(session) {
             found.push(*call)?;
         }
     }
     Ok(found)
-}
-
-fn end_calls_to(list: &mut Vec<Open>, session: Id)
-    ensures { list.new.items ≡ without_callee list.old.items session }
-{
-    list.retain(|call| !call.is_to(session));
-}
-
-fn end_calls_by(list: &mut Vec<Open>, session: Id)
-    ensures { list.new.items ≡ without_caller list.old.items session }
-{
-    list.retain(|call| !(call.caller == session));
 }

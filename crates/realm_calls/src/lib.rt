@@ -3,5 +3,6 @@
 
 mod calls;
 pub mod laws;
+mod open_calls;
 
 pub use calls::{Calls, Cancelled, Open};

@@ -129,7 +129,8 @@ fn step(calls: &mut Calls, word: &str, call: &Open) -> Result<u64, Fail> {
         return without_caller(calls, call.caller);
     }
     if word == "open calls" {
-        return Ok(numbers_of(calls.as_slice()));
+        let open = calls.to_vec()?;
+        return Ok(numbers_of(&open));
     }
     if word == "callee" {
         return Ok(match calls.call_of(call.caller, call.request) {

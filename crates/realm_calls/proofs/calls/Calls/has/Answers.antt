@@ -1,0 +1,11 @@
+use Rattle.std.proofs.Common.{is_some, sym, ap, ◌∙◌}
+use Rattle.keyed_lists.proofs.Finding.{any_is_find}
+use Rattle.realm_calls.specs.Calls.{is_call}
+use Rattle.realm_calls.proofs.Indexes.{is_some_mapped}
+use Rattle.realm_calls.proofs.calls.Calls.has.Goals as goal
+
+pub returns : goal.returns
+returns c =
+    rw (← c.self.view_is)
+    (c.is_some.ensures ∙ sym (is_some_mapped (λ call. call.now) c.find_call.result) ∙ ap is_some c.find_call.ensures
+    ∙ sym (any_is_find (is_call c.args.caller c.args.request) c.self.inside.held))

@@ -1,7 +1,0 @@
-use Rattle.std.proofs.Common.{◌≡◌, ◌++◌, drop}
-use Rattle.realm_calls.specs.Calls.{calls_to}
-use Rattle.realm_calls.proofs.calls.calls_to.Given as goal
-
--- what is found so far and what the calls that are left give is all of it
-abbrev pub invariant-loop-call : goal.invariant-loop-call
-invariant-loop-call l = l.found.items ++ calls_to (drop l.call-index l.list) l.session ≡ calls_to l.list l.session

@@ -1,0 +1,21 @@
+use Rattle.std.proofs.Common.{ℕ, sym, ◌∙◌}
+use Rattle.keyed_lists.specs.PlaceIndex.{place_of}
+use Rattle.keyed_lists.proofs.Told.{told_none, told_member}
+use Rattle.realm_calls.specs.Calls.{is_call}
+use Rattle.realm_calls.proofs.open_calls.OpenCalls.find_call.Goals as goal
+
+pub returns-in_default : goal.returns-in_default
+returns-in_default c =
+    let key : ℕ × ℕ = (c.args.caller, c.args.request) in
+    rw (← c.self.view_is)
+    (sym (told_none (is_call c.args.caller c.args.request) (place_of c.self.inside.requests key) c.self.inside.rows
+    (sym c.place_in.ensures ∙ c.in_default.is) (c.self.invariant.requests_index.found key)))
+
+pub returns : goal.returns
+returns c =
+    let key : ℕ × ℕ = (c.args.caller, c.args.request) in
+    let told = sym c.place_in.ensures ∙ c.in-Some.is in
+    rw (← c.self.view_is)
+    (c.get.ensures.member
+    ∙ sym (told_member (is_call c.args.caller c.args.request) (place_of c.self.inside.requests key) c.self.inside.rows c.in-Some.place
+    c.get.ensures.rising told (c.self.invariant.requests_index.found key) (c.self.invariant.requests_index.told key c.in-Some.place told)))
