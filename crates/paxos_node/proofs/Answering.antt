@@ -16,9 +16,7 @@ use Rattle.paxos_turn.specs.Turn.{begun, with_pending}
 use Rattle.paxos_turn.specs.Parts.{taken_with}
 use Rattle.paxos_turn.proofs.Standing.{no_front}
 use Rattle.paxos_node.specs.Adopting.{pending_behind, Fits, Settled}
-use Rattle.paxos_node.specs.Applying.{settle}
-use Rattle.paxos_turn.specs.Drafting.{Drafted, with_pending_entry, seeing}
-use Rattle.paxos_node.specs.Outcome.{with_added}
+use Rattle.paxos_turn.specs.Drafting.{with_pending_entry, seeing}
 use Rattle.paxos_node.specs.Events.{last_number, owner, possible, on_event, takes, new_item, with_item, on_take, has_room}
 use Rattle.paxos_turn.specs.Ticking.{on_tick}
 use Rattle.paxos_turn.specs.Starting.{starts, begin, on_start}
@@ -27,19 +25,6 @@ use Rattle.paxos_node.specs.Plans.{is_planned, plans, unchanged, Answers, Answer
 use Rattle.paxos_turn.specs.Proposals.{push}
 use Rattle.paxos_turn.specs.Replies.{on_packet, round_in}
 use Rattle.paxos_proposer.specs.Proposer.{new_ballot}
-
--- of what is planned so far
-
-pub planned_of : {B : Type 0} (d f : Drafted B) (r : Result (Outcome B) NodeFault) → d ≡ f
-    → Answers false false (settle d.of.me d.turn).disagrees (λ o. Settled d.of.me d.of.members d.of.state d.turn (with_added d.of.added o)) r
-    → Answers false false (settle f.of.me f.turn).disagrees (λ o. Settled f.of.me f.of.members f.of.state f.turn (with_added f.of.added o)) r
-planned_of {B} d f r p a =
-    subst (λ (u : Drafted B). Answers false false (settle u.of.me u.turn).disagrees
-    (λ (o : Outcome B). Settled u.of.me u.of.members u.of.state u.turn (with_added u.of.added o)) r) p a
-
-pub answered_of : {B : Type 0} (d f : Drafted B) (r : Result (Outcome B) NodeFault) → d ≡ f
-    → Answered d.of.me d.of.members d.of.state false false d.turn r → Answered f.of.me f.of.members f.of.state false false f.turn r
-answered_of {B} d f r p a = subst (λ (u : Drafted B). Answered u.of.me u.of.members u.of.state false false u.turn r) p a
 
 -- an act is taken under a number below the last
 

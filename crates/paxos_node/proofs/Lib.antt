@@ -7,3 +7,4 @@ pub mod Seeing
 pub mod Ending
 pub mod Answering
 pub mod Making
+pub mod Done

@@ -19,7 +19,6 @@ use crate::event::Event;
 use crate::fault::NodeFault;
 use crate::node::Node;
 use crate::outcome::Outcome;
-use crate::settling::{finish, settle};
 use paxos_packets::{Body, Entry, Packet};
 
 // The greatest number of an act, and how many entries may be pending.
@@ -162,10 +161,8 @@ impl<B: Body> Node<B> {
     {
         let mut draft = self.draft(Some(entry));
         let front = draft.front(self.front());
-        let Ok(()) = draft.push(front) else {
-            return Err(NodeFault::Memory);
-        };
-        settle(draft, self.roll(), front)
+        let done = draft.push(front);
+        self.settle(draft, done, front)
     }
 
     // What waits for an answer is sent again, what is pending is pushed, and the others are asked for what it lacks.
@@ -176,10 +173,8 @@ impl<B: Body> Node<B> {
         ensures added { IfOk result (λ outcome. outcome.moves.added ≡ None) }
     {
         let mut draft = self.draft(None);
-        let Ok(()) = draft.on_tick() else {
-            return Err(NodeFault::Memory);
-        };
-        finish(draft, self.roll())
+        let done = draft.on_tick();
+        self.finish(draft, done)
     }
 
     // A ballot above all that it saw.
@@ -191,12 +186,11 @@ impl<B: Body> Node<B> {
     {
         let mut draft = self.draft(None);
         if !draft.starts() {
+            drop(draft);
             return Err(NodeFault::Rounds);
         }
-        let Ok(()) = draft.start() else {
-            return Err(NodeFault::Memory);
-        };
-        finish(draft, self.roll())
+        let done = draft.start();
+        self.finish(draft, done)
     }
 
     // The Lost of the other's live boot becomes pending, unless it is.
@@ -209,7 +203,7 @@ impl<B: Body> Node<B> {
             ≡ suspected_by (new_lost B.same self.now.me other self.now.state) self.now.state) }
     {
         let Some(lost) = self.new_lost(other) else {
-            return finish(self.draft(None), self.roll());
+            return self.finish(self.draft(None), Ok(()));
         };
         if !self.has_room() {
             return Err(NodeFault::Full);
@@ -250,10 +244,8 @@ impl<B: Body> Node<B> {
         ensures added { IfOk result (λ outcome. outcome.moves.added ≡ None) }
     {
         let mut draft = self.draft(None);
-        let Ok(()) = draft.on_packet(packet.sender, &packet.kind) else {
-            return Err(NodeFault::Memory);
-        };
-        finish(draft, self.roll())
+        let done = draft.on_packet(packet.sender, &packet.kind);
+        self.finish(draft, done)
     }
 }
 

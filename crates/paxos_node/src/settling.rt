@@ -1,6 +1,9 @@
 //! What was learned is applied at an event's end.
 
-ghost use Rattle.std.specs.Prelude.{◌≡◌, ◌<◌, ◌≤◌, ◌+◌, ◌^◌, false, length, true, None, IfOk, take, if◌then◌else◌};
+ghost use Rattle.std.specs.Prelude.{◌≡◌, ◌<◌, ◌≤◌, ◌+◌, ◌^◌, suc, false, length, true, None, Err, IfOk, OnOk, OnErr, take, if◌then◌else◌};
+ghost use Rattle.paxos_learner.specs.Learner.{run_from};
+ghost use Rattle.paxos_node.specs.declared.fault.NodeFault.TheVariants.{Memory as NoMemory};
+ghost use Rattle.paxos_turn.specs.Drafting.{known};
 ghost use Rattle.paxos_turn.specs.Front.{FrontOf};
 ghost use Rattle.replica_machine.specs.Roll.{IsRollOf, standing};
 ghost use Rattle.paxos_node.specs.Adopting.{Settled, front_behind};
@@ -9,51 +12,94 @@ ghost use Rattle.paxos_node.specs.Applying.{settle, is_own_lost, ends_boot, coun
 ghost use Rattle.paxos_node.specs.Plans.{Answers, Answered};
 
 use crate::fault::NodeFault;
+use crate::node::Node;
 use crate::outcome::Outcome;
-use paxos_packets::{Body, Entries, Entry};
+use paxos_packets::{Body, Entries, Entry, Memory};
 use paxos_turn::Draft;
 use replica_machine::{Roll, Standing};
 
-// What the event makes of the node: what it would then have learned is applied. The first `front` that were pending stand before that.
-pub(crate) fn settle<B: Body>(
-    draft: Draft<'_, B>,
-    roll: &Roll,
-    front: usize,
-) -> Result<Outcome<B>, NodeFault>
-    requires up { draft.of.state.up ≡ true }
-    requires roll { IsRollOf draft.of.state.applied roll.now }
-    requires front { FrontOf front draft }
-    requires most { front ≤ length draft.of.state.pending }
-    ensures settled { Answers false false (settle draft.entry.of.me draft.entry.turn).disagrees
-        (λ outcome. Settled draft.entry.of.me draft.entry.of.members draft.entry.of.state draft.entry.turn
-        (with_added draft.entry.of.added outcome)) result }
-    ensures added { IfOk result (λ outcome. outcome.moves.added ≡ None) }
+impl<B: Body> Node<B> {
+    // What the event makes of the node, where its part of it is done: what it would then have learned is applied. The first `front` that were
+    // pending stand before that.
+    pub(crate) fn settle(
+        &self,
+        draft: Draft<'_, B>,
+        done: Result<(), Memory>,
+        front: usize,
+    ) -> Result<Outcome<B>, NodeFault>
+        requires up { self.now.state.up ≡ true }
+        requires of { draft.of ≡ known self.now.me self.now.members self.now.state draft.of.added }
+        requires front { OnOk done (FrontOf front draft) }
+        requires most { front ≤ length draft.of.state.pending }
+        ensures settled { OnOk done (Answers false false (settle self.now.me draft.entry.turn).disagrees
+            (λ outcome. Settled self.now.me self.now.members self.now.state draft.entry.turn (with_added draft.entry.of.added outcome)) result) }
+        ensures memory { OnErr done (result ≡ Err NoMemory) }
+        ensures added { IfOk result (λ outcome. outcome.moves.added ≡ None) }
+    {
+        let run = match run_of(&draft, done) {
+            Ok(run) => run,
+            Err(fault) => {
+                drop(draft);
+                return Err(fault);
+            }
+        };
+        Ok(ended(draft, run, self.roll(), front))
+    }
+
+    // The same, where no entry becomes pending.
+    #[tactic(auto, using(paxos_turn::proofs::Standing::no_front))]
+    pub(crate) fn finish(
+        &self,
+        draft: Draft<'_, B>,
+        done: Result<(), Memory>,
+    ) -> Result<Outcome<B>, NodeFault>
+        requires up { self.now.state.up ≡ true }
+        requires of { draft.of ≡ known self.now.me self.now.members self.now.state None }
+        ensures answered { OnOk done (Answered self.now.me self.now.members self.now.state false false draft.entry.turn result) }
+        ensures memory { OnErr done (result ≡ Err NoMemory) }
+        ensures added { IfOk result (λ outcome. outcome.moves.added ≡ None) }
+    {
+        self.settle(draft, done, 0)
+    }
+}
+
+// What is to be applied at the event's end, where its part of the node is done.
+fn run_of<B: Body>(draft: &Draft<'_, B>, done: Result<(), Memory>) -> Result<Entries<B>, NodeFault>
+    ensures run { OnOk done (Answers false false draft.now.turn.disagrees
+        (λ run. run ≡ run_from (suc (length draft.now.of.state.applied)) draft.now.turn.node.learner.learned) result) }
+    ensures memory { OnErr done (result ≡ Err NoMemory) }
 {
+    let Ok(()) = done else {
+        return Err(NodeFault::Memory);
+    };
     if draft.disagrees() {
         return Err(NodeFault::Disagree);
     }
     let Ok(run) = draft.run() else {
         return Err(NodeFault::Memory);
     };
+    Ok(run)
+}
+
+// What the event makes of the node, where this is what is to be applied.
+fn ended<B: Body>(draft: Draft<'_, B>, run: Entries<B>, roll: &Roll, front: usize) -> Outcome<B>
+    requires up { draft.of.state.up ≡ true }
+    requires roll { IsRollOf draft.of.state.applied roll.now }
+    requires agrees { draft.turn.disagrees ≡ false }
+    requires run { run ≡ run_from (suc (length draft.of.state.applied)) draft.turn.node.learner.learned }
+    requires front { FrontOf front draft }
+    requires most { front ≤ length draft.of.state.pending }
+    ensures settled { Settled draft.entry.of.me draft.entry.of.members draft.entry.of.state draft.entry.turn
+        (with_added draft.entry.of.added result) }
+    ensures added { result.moves.added ≡ None }
+{
     draft.begins();
     let standing = standing_in(&draft, roll);
     let (count, is_down) = until_lost(standing, draft.me(), draft.boot(), run.as_slice());
     let applied = first_of(run, count);
     let log = log_behind(draft.applied(), applied.as_slice(), is_down);
     let stand = front_behind(front, applied.as_slice());
-    Ok(Outcome::with(draft.into_effects(), applied, is_down, log, stand))
-}
-
-// The same, where no entry becomes pending.
-#[tactic(auto, using(paxos_turn::proofs::Standing::no_front))]
-pub(crate) fn finish<B: Body>(draft: Draft<'_, B>, roll: &Roll) -> Result<Outcome<B>, NodeFault>
-    requires up { draft.of.state.up ≡ true }
-    requires roll { IsRollOf draft.of.state.applied roll.now }
-    requires none { draft.of.added ≡ None }
-    ensures answered { Answered draft.entry.of.me draft.entry.of.members draft.entry.of.state false false draft.entry.turn result }
-    ensures added { IfOk result (λ outcome. outcome.moves.added ≡ None) }
-{
-    settle(draft, roll, 0)
+    Outcome::with(draft.into_effects(), applied, is_down, log, stand)
 }
 
 // How many of the first pending entries stand, once this is applied: none is looked for behind what is applied.

@@ -1,11 +1,23 @@
-use Rattle.std.proofs.Common.{◌≡◌, ℕ, suc, true, None, length, sym, ◌∙◌}
-use Rattle.paxos_proposer.specs.Proposer.{new_ballot}
+use Rattle.std.proofs.Common.{◌≡◌, ℕ, suc, true, length, sym, ◌∙◌}
+use Rattle.std.proofs.lemmas.Result.{on_ok_weaker}
+use Rattle.std.specs.Prelude.{OnOk}
 use Rattle.paxos_turn.specs.Node.{NodeState, Turn}
 use Rattle.paxos_turn.specs.Turn.{begun}
-use Rattle.paxos_turn.specs.Drafting.{Known, known}
+use Rattle.paxos_proposer.specs.Proposer.{new_ballot}
+use Rattle.paxos_turn.specs.Drafting.{Known}
 use Rattle.paxos_turn.specs.Starting.{begin, starts}
-use Rattle.paxos_node.proofs.Answering.{answered_of, start_answered}
+use Rattle.paxos_node.proofs.Answering.{start_answered}
+use Rattle.paxos_node.proofs.Done.{done_turn}
 use Rattle.paxos_node.proofs.node.Node.plan_start.Goals as goal
+
+pub start-done-requires-clause-votes : goal.start-done-requires-clause-votes
+start-done-requires-clause-votes g c = (λ i. (c.draft-draft.ensures.turn i).change.votes)
+
+pub start-done-requires-clause-starts : goal.start-done-requires-clause-starts
+start-done-requires-clause-starts g c = sym c.starts.ensures ∙ c.if-not-starts.false
+
+pub finish-requires-clause-of : goal.finish-requires-clause-of
+finish-requires-clause-of g c = c.start-done.ensures.of ∙ c.draft-draft.ensures.of
 
 pub returns-clause-answered : goal.returns-clause-answered
 returns-clause-answered g c =
@@ -14,11 +26,10 @@ returns-clause-answered g c =
     let x : NodeState g.row.B.Denot = c.args.self.now.state in
     let begins : Known g.row.B.Denot → Turn g.row.B.Denot → Turn g.row.B.Denot = λ (k : Known g.row.B.Denot) (t : Turn g.row.B.Denot). begin k.members k.me
     (new_ballot k.me t.node.rows.promised t.node.proposer) (suc (length t.node.applied)) t in
-    let of : c.start.new.self.of ≡ known me members x None = c.start.ensures.of ∙ c.draft-draft.ensures.of in
-    let turn : c.start.new.self.turn ≡ begins (known me members x None) (begun x) =
-    c.in-Ok.ensures.turn ∙ (λ i. begins (c.draft-draft.ensures.of i) (c.draft-draft.ensures.turn i)) in
+    let t : Turn g.row.B.Denot = begin members me (new_ballot me x.rows.promised x.proposer) (suc (length x.applied)) (begun x) in
+    let turn : OnOk c.start-done.result (c.start-done.new.self.turn ≡ t) =
+    on_ok_weaker c.start-done.result (λ p. p ∙ (λ i. begins (c.draft-draft.ensures.of i) (c.draft-draft.ensures.turn i))) c.start-done.ensures.turn in
     let left : starts me x ≡ true =
     (λ i. starts (sym c.draft-draft.ensures.of i).me (sym c.draft-draft.ensures.turn i).node) ∙ sym c.starts.ensures ∙ c.if-not-starts.false in
     start_answered g.B.Body.same me members x c.finish.result left
-    (answered_of c.start.new.self (record { of = known me members x None; turn = begins (known me members x None) (begun x) }) c.finish.result
-    (λ i. record { of = of i; turn = turn i }) c.finish.ensures.answered)
+    (done_turn me members x c.start-done.new.self.turn t c.start-done.result c.finish.result turn c.finish.ensures.answered c.finish.ensures.memory)

@@ -1,19 +1,29 @@
-use Rattle.std.proofs.Common.{◌≡◌, ℕ, None, ◌∙◌}
-use Rattle.paxos_turn.specs.Node.{NodeState}
+use Rattle.std.proofs.Common.{◌≡◌, ℕ, sym, ◌∙◌}
+use Rattle.std.proofs.lemmas.Result.{on_ok_weaker}
+use Rattle.std.specs.Prelude.{OnOk}
+use Rattle.paxos_turn.specs.Node.{NodeState, Turn}
 use Rattle.paxos_turn.specs.Turn.{begun}
-use Rattle.paxos_turn.specs.Drafting.{known}
 use Rattle.paxos_turn.specs.Ticking.{on_tick}
-use Rattle.paxos_node.proofs.Answering.{answered_of}
+use Rattle.paxos_node.proofs.Done.{done_turn}
 use Rattle.paxos_node.proofs.node.Node.plan_tick.Goals as goal
+
+pub on_tick-done-requires-clause-role : goal.on_tick-done-requires-clause-role
+on_tick-done-requires-clause-role g c = (λ i. (c.draft-draft.ensures.turn i).node.proposer.role) ∙ (λ i. (sym c.draft-draft.ensures.of i).state.proposer.role)
+
+pub on_tick-done-requires-clause-learner : goal.on_tick-done-requires-clause-learner
+on_tick-done-requires-clause-learner g c = (λ i. (c.draft-draft.ensures.turn i).node.learner) ∙ (λ i. (sym c.draft-draft.ensures.of i).state.learner)
+
+pub finish-requires-clause-of : goal.finish-requires-clause-of
+finish-requires-clause-of g c = c.on_tick-done.ensures.of ∙ c.draft-draft.ensures.of
 
 pub returns-clause-answered : goal.returns-clause-answered
 returns-clause-answered g c =
     let me : ℕ = c.args.self.now.me in
     let members : ℕ = c.args.self.now.members in
     let x : NodeState g.row.B.Denot = c.args.self.now.state in
-    let of : c.on_tick.new.self.of ≡ known me members x None = c.on_tick.ensures.of ∙ c.draft-draft.ensures.of in
-    let turn : c.on_tick.new.self.turn ≡ on_tick g.B.Body.same members me (begun x) =
-    c.in-Ok.ensures.turn
-    ∙ (λ i. on_tick g.B.Body.same (c.draft-draft.ensures.of i).members (c.draft-draft.ensures.of i).me (c.draft-draft.ensures.turn i)) in
-    answered_of c.on_tick.new.self (record { of = known me members x None; turn = on_tick g.B.Body.same members me (begun x) }) c.finish.result
-    (λ i. record { of = of i; turn = turn i }) c.finish.ensures.answered
+    let t : Turn g.row.B.Denot = on_tick g.B.Body.same members me (begun x) in
+    let turn : OnOk c.on_tick-done.result (c.on_tick-done.new.self.turn ≡ t) =
+    on_ok_weaker c.on_tick-done.result
+    (λ p. p ∙ (λ i. on_tick g.B.Body.same (c.draft-draft.ensures.of i).members (c.draft-draft.ensures.of i).me (c.draft-draft.ensures.turn i)))
+    c.on_tick-done.ensures.turn in
+    done_turn me members x c.on_tick-done.new.self.turn t c.on_tick-done.result c.finish.result turn c.finish.ensures.answered c.finish.ensures.memory

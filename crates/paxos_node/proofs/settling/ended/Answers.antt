@@ -1,4 +1,4 @@
-use Rattle.std.proofs.Common.{◌≡◌, ℕ, suc, false, cond, ◌+◌, List, take, length, ap, refl, sym, ◌∙◌, subst}
+use Rattle.std.proofs.Common.{◌≡◌, ℕ, suc, cond, ◌+◌, List, take, length, ap, sym, ◌∙◌, subst}
 use Rattle.paxos_packets.specs.declared.entry.Entry.{Entry}
 use Rattle.paxos_proposer.specs.Moves.{after_moves}
 use Rattle.paxos_learner.specs.Hearing.{hear_all}
@@ -13,20 +13,19 @@ use Rattle.paxos_node.specs.declared.outcome.Outcome.{Outcome}
 use Rattle.paxos_node.specs.Adopting.{front_behind, Settled}
 use Rattle.paxos_node.specs.Applying.{count_to_end, has_end}
 use Rattle.paxos_node.specs.Outcome.{outcome_with, with_added}
-use Rattle.paxos_node.proofs.Ending.{settled, settled_disagrees}
-use Rattle.paxos_node.proofs.settling.settle.Goals as goal
+use Rattle.paxos_node.proofs.Ending.{settled}
+use Rattle.paxos_node.proofs.settling.ended.Goals as goal
 
 pub returns-clause-settled : goal.returns-clause-settled
 returns-clause-settled g c =
     let k : Known g.row.B.Denot = c.args.draft.of in
     let t : Turn g.row.B.Denot = c.args.draft.turn in
     let e : Effects g.row.B.Denot = c.into_effects.result in
-    let run : List (Entry g.row.B.Denot) = c.in-Ok.run' in
+    let run : List (Entry g.row.B.Denot) = c.args.run in
     let o : Outcome g.row.B.Denot = outcome_with e c.first_of-applied.result c.until_lost-count.result.1 c.log_behind-log.result
     (front_behind c.args.front c.first_of-applied.result) in
-    let agrees : t.disagrees ≡ false = sym c.disagrees.ensures ∙ c.if-disagrees.false in
     let run_is : run ≡ run_from (suc (length k.state.applied)) (hear_all e.news.items (learner_of k.members k.state)).learner.learned =
-    c.in-Ok.ensures ∙ ap (λ (u : Turn g.row.B.Denot). run_from (suc (length k.state.applied)) u.node.learner.learned) c.into_effects.ensures.turn in
+    c.requires.run ∙ ap (λ (u : Turn g.row.B.Denot). run_from (suc (length k.state.applied)) u.node.learner.learned) c.into_effects.ensures.turn in
     let counted : c.until_lost-count.result.0 ≡ count_to_end k.me k.state.rows.boot (standing k.me k.state.applied) run =
     c.until_lost-count.ensures.count
     ∙ (λ i. count_to_end (c.me.ensures i) (c.boot.ensures i) (c.standing_in-standing.ensures i) (c.as_slice.ensures i)) in
@@ -46,14 +45,6 @@ returns-clause-settled g c =
     c.with.ensures ∙ ap (λ (n : ℕ). outcome_with e c.first_of-applied.result c.until_lost-count.result.1 c.log_behind-log.result n) stand in
     let plan : Settled k.me k.members k.state t (with_added k.added o) =
     subst (λ (u : Turn g.row.B.Denot). Settled k.me k.members k.state u (with_added k.added o)) (sym c.into_effects.ensures.turn)
-    (settled k t.disagrees e run c.first_of-applied.result c.until_lost-count.result.1 c.log_behind-log.result c.args.front agrees c.requires.up run_is applied down log
-    c.into_effects.ensures.moves c.begins.ensures c.into_effects.ensures.rises front c.requires.most) in (
-      refl,
-      refl,
-      plan.agrees,
-      subst (λ (p : Outcome g.row.B.Denot). Settled k.me k.members k.state t (with_added k.added p)) (sym planned) plan,
-    )
-
-pub returns-then-disagrees-clause-settled : goal.returns-then-disagrees-clause-settled
-returns-then-disagrees-clause-settled g c =
-    (refl, refl, settled_disagrees c.args.draft.of.me c.args.draft.turn ∙ sym c.disagrees.ensures ∙ c.if-disagrees.true)
+    (settled k t.disagrees e run c.first_of-applied.result c.until_lost-count.result.1 c.log_behind-log.result c.args.front c.requires.agrees c.requires.up run_is applied down log
+    c.into_effects.ensures.moves c.begins.ensures c.into_effects.ensures.rises front c.requires.most) in
+    subst (λ (p : Outcome g.row.B.Denot). Settled k.me k.members k.state t (with_added k.added p)) (sym planned) plan
