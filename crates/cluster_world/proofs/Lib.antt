@@ -25,3 +25,4 @@ pub mod AtOnce
 pub mod EventsAtOnce
 pub mod Waiting
 pub mod Stepping
+pub mod Scripting

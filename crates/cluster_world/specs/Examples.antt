@@ -1,10 +1,10 @@
 -- Runs by hand, for a body that is a number.
-use Rattle.std.specs.Prelude.{ℕ, zero, suc, ◌-◌, Bool, true, false, not, ◌&&◌, ◌||◌, ◌==◌, Option, Some, None, List, [], ◌∷◌, ◌++◌}
-use Rattle.std.specs.Prelude.{slice_get}
+use Rattle.std.specs.Prelude.{ℕ, zero, suc, Bool, ◌==◌, List, [], ◌∷◌, ◌++◌, fold}
 use Rattle.paxos_packets.specs.declared.packet.Packet.{Packet}
-use Rattle.paxos_node.specs.declared.event.Event.{Event}
-use Rattle.paxos_node.specs.declared.event.Event.TheVariants.{Take, Tick, Start, Suspect, Deliver, Crash, Restart}
-use Rattle.cluster_world.specs.World.{World, node_at, first_world, next, log_of, handed}
+use Rattle.paxos_node.specs.declared.event.Event.TheVariants.{Take, Tick, Start, Suspect, Crash, Restart}
+use Rattle.cluster_world.specs.World.{World, node_at, log_of, handed}
+use Rattle.cluster_world.specs.Scripts.{Line, Happens, Packet_no, Flush, run_script}
+use Rattle.paxos_packets.specs.Members.{no_nodes, set_with}
 use Rattle.paxos_packets.specs.Packet.{packet}
 use Rattle.paxos_packets.specs.declared.ballot.Ballot.{Ballot}
 use Rattle.paxos_packets.specs.declared.vote.Vote.{Vote}
@@ -14,99 +14,54 @@ use Rattle.paxos_packets.specs.declared.packet.Kind.TheVariants.{Prepare, Promis
 use Rattle.replica_machine.specs.Examples.{adding, transport}
 use Rattle.paxos_packets.specs.declared.transport.Transport.{Transport}
 
--- a line of a script: an event, the delivery of the packet with this number in the list ever sent, from 1, or the delivery of each
--- packet that no line delivered and whose both ends are listed, lowest number first, until none is left
-pub data Line : Type 0 where
-  Happens : (event : Event ℕ) → Line
-  Packet_no : (number : ℕ) → Line
-  Flush : (among : List ℕ) → Line
-
-pub record Stage : Type 0 where
-  pub world : World ℕ
-  pub delivered : List ℕ
-
-abbrev pub is_listed : ℕ → List ℕ → Bool
-is_listed n [] = false
-is_listed n (m ∷ ms) = (m == n) || is_listed n ms
-
 abbrev pub same_number : ℕ → ℕ → Bool
 same_number m n = m == n
 
-abbrev pub deliver : ℕ → ℕ → Packet ℕ → Stage → Stage
-deliver members number p s = record { world = next same_number members s.world (Deliver p); delivered = number ∷ s.delivered }
+abbrev pub nodes : List ℕ → List Bool
+nodes ns = fold set_with no_nodes ns
 
-abbrev pub deliver_if : Bool → ℕ → ℕ → Packet ℕ → Stage → Stage
-deliver_if true members number p s = deliver members number p s
-deliver_if false members number p s = s
-
-abbrev pub deliver_no : ℕ → ℕ → Option (Packet ℕ) → Stage → Stage
-deliver_no members number None s = s
-deliver_no members number (Some p) s = deliver members number p s
-
-abbrev pub is_due : List ℕ → ℕ → Packet ℕ → Stage → Bool
-is_due among number p s = not (is_listed number s.delivered) && (is_listed p.sender among && is_listed p.addressee among)
-
--- at most so many packets, from this number on
-abbrev pub flush_with : ℕ → List ℕ → ℕ → ℕ → Option (Packet ℕ) → Stage → (ℕ → Stage → Stage) → Stage
-flush_with members among more number None s go = s
-flush_with members among more number (Some p) s go = go (suc number) (deliver_if (is_due among number p s) members number p s)
-
-abbrev pub flush : ℕ → List ℕ → ℕ → ℕ → Stage → Stage
-flush members among zero number s = s
-flush members among (suc more) number s =
-    flush_with members among more number (slice_get s.world.sent (number - 1)) s (λ n z. flush members among more n z)
-
-abbrev pub happen : ℕ → Stage → Line → Stage
-happen members s (Happens e) = record { world = next same_number members s.world e; delivered = s.delivered }
-happen members s (Packet_no n) = deliver_no members n (slice_get s.world.sent (n - 1)) s
-happen members s (Flush among) = flush members among 400 1 s
-
-abbrev pub happen_all : ℕ → List Line → Stage → Stage
-happen_all members [] s = s
-happen_all members (l ∷ ls) s = happen_all members ls (happen members s l)
-
-abbrev pub run : ℕ → List Line → World ℕ
-run members lines = (happen_all members lines (record { world = first_world members; delivered = [] })).world
+abbrev pub run : ℕ → List (Line ℕ) → World ℕ
+run members lines = (run_script same_number members lines).world
 
 -- one session through three nodes: two acts of a transport of node 2
-abbrev pub one_session : List Line
+abbrev pub one_session : List (Line ℕ)
 one_session =
-    Happens (Start 1) ∷ Flush (1 ∷ 2 ∷ 3 ∷ []) ∷ Happens (Take 2 1 10) ∷ Happens (Take 2 1 11) ∷ Flush (1 ∷ 2 ∷ 3 ∷ []) ∷ []
+    Happens (Start 1) ∷ Flush (nodes (1 ∷ 2 ∷ 3 ∷ [])) ∷ Happens (Take 2 1 10) ∷ Happens (Take 2 1 11) ∷ Flush (nodes (1 ∷ 2 ∷ 3 ∷ [])) ∷ []
 
 -- the leader crashes once one other has voted, and another leads
-abbrev pub leader_crash : List Line
+abbrev pub leader_crash : List (Line ℕ)
 leader_crash =
     Happens (Start 1) ∷ Packet_no 1 ∷ Packet_no 3 ∷ Packet_no 5 ∷ Happens (Crash 1) ∷ Happens (Start 2) ∷ Packet_no 11 ∷ Packet_no 12 ∷
-    Flush (2 ∷ 3 ∷ []) ∷ []
+    Flush (nodes (2 ∷ 3 ∷ [])) ∷ []
 
 -- the second act of a node is reported without the first
-abbrev pub hung_before_boot : List Line
+abbrev pub hung_before_boot : List (Line ℕ)
 hung_before_boot =
     Happens (Start 1) ∷ Packet_no 1 ∷ Packet_no 3 ∷ Happens (Take 1 1 10) ∷ Happens (Take 1 1 11) ∷ Packet_no 5 ∷ Packet_no 13 ∷ Happens
     (Crash 1)
-    ∷ Happens (Start 2) ∷ Packet_no 21 ∷ Packet_no 22 ∷ Packet_no 9 ∷ Flush (2 ∷ 3 ∷ []) ∷ []
+    ∷ Happens (Start 2) ∷ Packet_no 21 ∷ Packet_no 22 ∷ Packet_no 9 ∷ Flush (nodes (2 ∷ 3 ∷ [])) ∷ []
 
 -- of four nodes two are no majority
-abbrev pub asked_in_vain : List Line
+abbrev pub asked_in_vain : List (Line ℕ)
 asked_in_vain = Happens (Start 1) ∷ Packet_no 1 ∷ Packet_no 4 ∷ Packet_no 2 ∷ Packet_no 5 ∷ Packet_no 6 ∷ Packet_no 12 ∷ []
 
-abbrev pub asked_again : List Line
+abbrev pub asked_again : List (Line ℕ)
 asked_again = asked_in_vain ++ Packet_no 7 ∷ Packet_no 15 ∷ []
 
 -- a node is lost with its acts, and comes back
-abbrev pub lost_node : List Line
+abbrev pub lost_node : List (Line ℕ)
 lost_node =
-    Happens (Start 1) ∷ Flush (1 ∷ 2 ∷ 3 ∷ []) ∷ Happens (Take 3 1 10) ∷ Happens (Take 3 1 11) ∷ Happens (Take 3 1 12) ∷ Flush
-    (1 ∷ 2 ∷ 3 ∷ [])
-    ∷ Happens (Suspect 1 3) ∷ Flush (1 ∷ 2 ∷ 3 ∷ []) ∷ Happens (Restart 3) ∷ Happens (Tick 3) ∷ Flush (1 ∷ 2 ∷ 3 ∷ [])
-    ∷ Happens (Take 2 1 20) ∷ Happens (Take 2 1 21) ∷ Happens (Take 2 1 22) ∷ Flush (1 ∷ 2 ∷ 3 ∷ []) ∷ []
+    Happens (Start 1) ∷ Flush (nodes (1 ∷ 2 ∷ 3 ∷ [])) ∷ Happens (Take 3 1 10) ∷ Happens (Take 3 1 11) ∷ Happens (Take 3 1 12) ∷ Flush
+    (nodes (1 ∷ 2 ∷ 3 ∷ []))
+    ∷ Happens (Suspect 1 3) ∷ Flush (nodes (1 ∷ 2 ∷ 3 ∷ [])) ∷ Happens (Restart 3) ∷ Happens (Tick 3) ∷ Flush (nodes (1 ∷ 2 ∷ 3 ∷ []))
+    ∷ Happens (Take 2 1 20) ∷ Happens (Take 2 1 21) ∷ Happens (Take 2 1 22) ∷ Flush (nodes (1 ∷ 2 ∷ 3 ∷ [])) ∷ []
 
 -- two nodes want to lead
-abbrev pub duel : List Line
+abbrev pub duel : List (Line ℕ)
 duel =
     Happens (Start 1) ∷ Happens (Start 2) ∷ Packet_no 1 ∷ Packet_no 5 ∷ Packet_no 3 ∷ Packet_no 6 ∷ Happens (Start 1) ∷ Packet_no 11 ∷
     Packet_no 13 ∷ Packet_no 7
-    ∷ Flush (1 ∷ 2 ∷ 3 ∷ []) ∷ []
+    ∷ Flush (nodes (1 ∷ 2 ∷ 3 ∷ [])) ∷ []
 
 -- what is to be found behind each, as written down beforehand
 

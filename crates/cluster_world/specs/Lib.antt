@@ -4,6 +4,7 @@ pub mod Chosen
 pub mod Laws
 pub mod Answers
 pub mod Origins
+pub mod Scripts
 pub mod Examples
 pub mod Steps
 pub mod AtOnce

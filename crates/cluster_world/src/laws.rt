@@ -9,6 +9,7 @@ ghost use Rattle.replica_machine.specs.Effects.{effects};
 ghost use Rattle.cluster_world.specs.Examples.{run, one_session, leader_crash, hung_before_boot, asked_in_vain};
 ghost use Rattle.cluster_world.specs.Examples.{asked_again, lost_node, duel, session_log, after_crash_log, hung_log};
 ghost use Rattle.cluster_world.specs.Examples.{lost_log, duel_log, crash_packets, logs, ups, sums_handed};
+ghost use Rattle.cluster_world.specs.Scripts.{ScriptsArePlayed};
 ghost use Rattle.cluster_world.specs.Steps.{SentIsAmong, NodesAreMembers, OneEventMore, EventGoes, EventStays};
 ghost use Rattle.cluster_world.specs.Laws.{LearnedIsChosen, ChosenIsOne, ToldIsChosen, LearnedIsOne, NeverDisagrees};
 ghost use Rattle.cluster_world.specs.Laws.{LogIsChosen, LogsArePrefixes, AppliedIsChosen, AppliedArePrefixes, LogAfterIsApplied, LogIsApplied};
@@ -77,6 +78,11 @@ pub fn at_most_once<B: Body>()
     ensures boots { BootsWereHad B B.same }
     ensures losses { LostsWereSuspected B B.same }
     ensures pending { LostsWerePending B B.same }
+{}
+
+/// A script, line by line, leads to the world of its events, where each flush is written out as its deliveries.
+pub fn scripts<B: Body>()
+    ensures { ScriptsArePlayed B B.same }
 {}
 
 /// Runs by hand, computed: for each the logs of all nodes, and who is up.

@@ -3,60 +3,61 @@ use Rattle.std.proofs.Common.{refl}
 use Rattle.paxos_packets.specs.Rows.{last_boot}
 use Rattle.paxos_proposer.specs.Proposer.{round_end, slot_end}
 use Rattle.paxos_node.specs.Events.{last_number, most_pending}
+use Rattle.cluster_world.specs.Scripts.{most_deliveries}
 use Rattle.cluster_world.proofs.laws.examples.Goals as goal
 
 pub returns-clause-session : goal.returns-clause-session
-unfolding round_end slot_end last_boot last_number most_pending
+unfolding most_deliveries round_end slot_end last_boot last_number most_pending
 returns-clause-session c = refl
 
 pub returns-clause-session_handed : goal.returns-clause-session_handed
-unfolding round_end slot_end last_boot last_number most_pending
+unfolding most_deliveries round_end slot_end last_boot last_number most_pending
 returns-clause-session_handed c = refl
 
 pub returns-clause-crash : goal.returns-clause-crash
-unfolding round_end slot_end last_boot last_number most_pending
+unfolding most_deliveries round_end slot_end last_boot last_number most_pending
 returns-clause-crash c = refl
 
 pub returns-clause-crash_up : goal.returns-clause-crash_up
-unfolding round_end slot_end last_boot last_number most_pending
+unfolding most_deliveries round_end slot_end last_boot last_number most_pending
 returns-clause-crash_up c = refl
 
 pub returns-clause-crash_packets : goal.returns-clause-crash_packets
-unfolding round_end slot_end last_boot last_number most_pending
+unfolding most_deliveries round_end slot_end last_boot last_number most_pending
 returns-clause-crash_packets c = refl
 
 pub returns-clause-hung : goal.returns-clause-hung
-unfolding round_end slot_end last_boot last_number most_pending
+unfolding most_deliveries round_end slot_end last_boot last_number most_pending
 returns-clause-hung c = refl
 
 pub returns-clause-hung_effects : goal.returns-clause-hung_effects
-unfolding round_end slot_end last_boot last_number most_pending
+unfolding most_deliveries round_end slot_end last_boot last_number most_pending
 returns-clause-hung_effects c = refl
 
 pub returns-clause-in_vain : goal.returns-clause-in_vain
-unfolding round_end slot_end last_boot last_number most_pending
+unfolding most_deliveries round_end slot_end last_boot last_number most_pending
 returns-clause-in_vain c = refl
 
 pub returns-clause-again : goal.returns-clause-again
-unfolding round_end slot_end last_boot last_number most_pending
+unfolding most_deliveries round_end slot_end last_boot last_number most_pending
 returns-clause-again c = refl
 
 pub returns-clause-lost : goal.returns-clause-lost
-unfolding round_end slot_end last_boot last_number most_pending
+unfolding most_deliveries round_end slot_end last_boot last_number most_pending
 returns-clause-lost c = refl
 
 pub returns-clause-lost_up : goal.returns-clause-lost_up
-unfolding round_end slot_end last_boot last_number most_pending
+unfolding most_deliveries round_end slot_end last_boot last_number most_pending
 returns-clause-lost_up c = refl
 
 pub returns-clause-lost_handed : goal.returns-clause-lost_handed
-unfolding round_end slot_end last_boot last_number most_pending
+unfolding most_deliveries round_end slot_end last_boot last_number most_pending
 returns-clause-lost_handed c = refl
 
 pub returns-clause-back_handed : goal.returns-clause-back_handed
-unfolding round_end slot_end last_boot last_number most_pending
+unfolding most_deliveries round_end slot_end last_boot last_number most_pending
 returns-clause-back_handed c = refl
 
 pub returns-clause-duel : goal.returns-clause-duel
-unfolding round_end slot_end last_boot last_number most_pending
+unfolding most_deliveries round_end slot_end last_boot last_number most_pending
 returns-clause-duel c = refl
