@@ -1,0 +1,7 @@
+mod Sayings
+mod Carrying
+mod Viewing
+mod Beginning
+mod Leaving
+mod Returning
+mod Resuming

@@ -1,0 +1,111 @@
+-- What the calls of an actor promise, told of each view that it stands for (docs/CONSENSUS.md, "A node with its store").
+use Rattle.std.specs.Prelude.{◌≡◌, ◌⊎◌, ℕ, ◌<◌, Bool, true, false, ◌==◌, Option, Some, None, Result, Ok, Err, IfOk, IfErr, is_err, List, []}
+use Rattle.std.specs.Prelude.{◌++◌, filter, not, ◌&&◌}
+use Rattle.std.specs.Prelude.{if◌then◌else◌}
+use Rattle.std.specs.declared.vec.Vec.{Vec}
+use Rattle.std.specs.declared.alloc.Global.{Global}
+use Rattle.paxos_packets.specs.Members.{is_member}
+use Rattle.paxos_packets.specs.declared.packet.Packet.{Packet}
+use Rattle.paxos_packets.specs.declared.rows.Rows.{Rows}
+use Rattle.acceptor_keeper.specs.declared.fault.KeeperFault.{KeeperFault}
+use Rattle.acceptor_keeper.specs.declared.fault.KeeperFault.TheVariants as store
+use Rattle.replica_machine.specs.Log.{Follows}
+use Rattle.replica_machine.specs.Replay.{Machine}
+use Rattle.packet_outboxes.specs.Outboxes.{IsPeer}
+use Rattle.paxos_node.specs.declared.event.Event.{Event}
+use Rattle.paxos_node.specs.declared.event.Event.TheVariants.{Take, Deliver}
+use Rattle.paxos_node.specs.Events.{outcome_of, is_round_refused, is_full_refused}
+use Rattle.paxos_turn.specs.Node.{NodeState}
+use Rattle.node_actor.specs.declared.fault.ActorFault.{ActorFault}
+use Rattle.node_actor.specs.declared.fault.ActorFault.TheVariants.{Failed, Rounds, Full, Keeper, Disagree, LostHere, Memory}
+use Rattle.node_actor.specs.Actor.{Acting}
+use Rattle.node_actor.specs.Handing.{handed_by}
+use Rattle.node_actor.specs.Views.{View, seen, received_from, StandsFor, moved_by, sent_by, received_by, Queues}
+
+-- the event that a call makes at a node, if any: no act of the transport 0 is taken, and no packet treated that is for another node, or
+-- from no other member
+
+abbrev pub take_event : {B : Type 0} → ℕ → ℕ → B → Option (Event B)
+take_event me number body = if number == 0 then None else Some (Take me number body)
+
+abbrev pub is_for : {B : Type 0} → ℕ → ℕ → Packet B → Bool
+is_for me members p = (p.addressee == me) && (is_member members p.sender && not (p.sender == me))
+
+abbrev pub turn_event : {B : Type 0} → ℕ → ℕ → Option (Packet B) → Option (Event B)
+turn_event me members None = None
+turn_event me members (Some p) = if is_for me members p then Some (Deliver p) else None
+
+-- where the event is refused
+
+abbrev pub has_no_round : {B : Type 0} → Option (Event B) → NodeState B → Bool
+has_no_round None x = false
+has_no_round (Some e) x = is_round_refused e x
+
+abbrev pub has_no_room : {B : Type 0} → (B → B → Bool) → Option (Event B) → NodeState B → Bool
+has_no_room same None x = false
+has_no_room same (Some e) x = is_full_refused same e x
+
+abbrev pub disagrees : {B : Type 0} → (B → B → Bool) → ℕ → Option (Event B) → NodeState B → Bool
+disagrees same members None x = false
+disagrees same members (Some e) x = (outcome_of same members e x).disagrees
+
+-- a call that makes no event: nothing changes and nothing is said, and a fault is answered exactly where one has ended the actor before
+pub record Rests {B Y M K : Type 0} (old new : Acting B M K) (result : Result (Vec Y Global) (ActorFault Y)) : Type 0 where
+  pub still : new ≡ old
+  pub silent : IfOk result (λ says. says.items ≡ [])
+  pub failed : IfErr result (λ fault. fault ≡ Failed)
+  pub spoiled : old.spoiled ≡ is_err result
+
+module _ {B S Y M K : Type 0} (same : B → B → Bool) (from : S → Machine B S Y) (content : M → S) (holds : K → Rows B → Type 0)
+    (finds : K → Rows B → Type 0) (failures : K → ℕ) where
+  -- the view goes on by the event, its node's rows are held, its packets wait, and the sayings are what the event hands out
+  pub record Goes (e : Option (Event B)) (old new : Acting B M K) (v : View B) (said : List Y) : Type 0 where
+    pub next : View B
+    pub stands : StandsFor new next
+    pub moved : seen next ≡ moved_by same old.node.members e (seen v)
+    pub received : (k : ℕ) → received_from k next ≡ received_from k v ++ filter (λ p. p.sender == k) (received_by e)
+    pub queues : (k : ℕ) → IsPeer old.node.me old.node.members k → Queues k (sent_by same old.node.members e (seen v).node) old new v next
+    pub held : holds new.keeper (seen next).node.rows
+    pub says : (first : S) → Follows from content first old.log → said ≡ handed_by same old.node.members (from first) e (seen v).node
+    pub follows : (first : S) → Follows from content first old.log → Follows from content first new.log
+
+  -- the view and what is held went on together, or neither did
+  pub record Stops (e : Option (Event B)) (old new : Acting B M K) (v : View B) : Type 0 where
+    pub next : View B
+    pub stands : StandsFor new next
+    pub moved : (seen next ≡ seen v) ⊎ (seen next ≡ moved_by same old.node.members e (seen v))
+    pub held : holds new.keeper (seen next).node.rows
+
+  -- the view's node is as before, nothing of the event waits, and the store finds the rows of before or those behind the event; the store
+  -- says that it failed only where it did
+  pub record Fails (e : Option (Event B)) (old new : Acting B M K) (v : View B) (fault : KeeperFault) : Type 0 where
+    pub next : View B
+    pub stands : StandsFor new next
+    pub moved : seen next ≡ seen v
+    pub queues : (k : ℕ) → IsPeer old.node.me old.node.members k → Queues k [] old new v next
+    pub found : (x : Rows B) → finds new.keeper x → (x ≡ (seen v).node.rows) ⊎ (x ≡ (moved_by same old.node.members e (seen v)).node.rows)
+    pub cause : fault ≡ store.Store → failures old.keeper < failures new.keeper
+
+  -- what is refused, in this order, and the rest agrees
+  abbrev pub IsTaken : Option (Event B) → Acting B M K → View B → Type 0
+  IsTaken e old v = (has_no_round e (seen v).node ≡ false) × (has_no_room same e (seen v).node ≡ false)
+
+  abbrev pub IsAgreed : Option (Event B) → Acting B M K → View B → Type 0
+  IsAgreed e old v = IsTaken e old v × (disagrees same old.node.members e (seen v).node ≡ false)
+
+  -- what a call answers that makes this event, and what it makes of the actor
+  abbrev pub Acts : Option (Event B) → Acting B M K → Acting B M K → View B → Result (Vec Y Global) (ActorFault Y) → Type 0
+  Acts e old new v (Ok says) =
+      (old.spoiled ≡ false) × (new.spoiled ≡ false) × IsAgreed e old v
+      × ((moved_by same old.node.members e (seen v)).node.up ≡ true) × Goes e old new v says.items
+  Acts e old new v (Err Failed) = (old.spoiled ≡ true) × (new ≡ old)
+  Acts e old new v (Err Rounds) = (old.spoiled ≡ false) × (has_no_round e (seen v).node ≡ true) × (new ≡ old)
+  Acts e old new v (Err Full) = (old.spoiled ≡ false) × (has_no_room same e (seen v).node ≡ true) × (new ≡ old)
+  Acts e old new v (Err Disagree) =
+      (old.spoiled ≡ false) × (new.spoiled ≡ true) × IsTaken e old v × (disagrees same old.node.members e (seen v).node ≡ true)
+      × Stops None old new v
+  Acts e old new v (Err (Keeper fault)) = (old.spoiled ≡ false) × (new.spoiled ≡ true) × IsAgreed e old v × Fails e old new v fault
+  Acts e old new v (Err (LostHere says)) =
+      (old.spoiled ≡ false) × (new.spoiled ≡ true) × IsAgreed e old v
+      × ((moved_by same old.node.members e (seen v)).node.up ≡ false) × Goes e old new v says.items
+  Acts e old new v (Err Memory) = (old.spoiled ≡ false) × (new.spoiled ≡ true) × IsTaken e old v × Stops e old new v

@@ -1,0 +1,9 @@
+pub mod Actor
+pub mod Handing
+pub mod Views
+pub mod Fault
+pub mod Steps
+pub mod Calls
+pub mod Posts
+pub mod Outgoing
+pub mod Restarts

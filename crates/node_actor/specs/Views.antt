@@ -1,0 +1,62 @@
+-- Views of an actor: what is known of its node, and of the packets that it exchanged.
+use Rattle.std.specs.Prelude.{◌≡◌, ℕ, Bool, ◌==◌, Option, Some, None, List, [], ◌∷◌, ◌++◌, All, Contains, filter}
+use Rattle.circular_buffer.specs.Buffer.{keep_last}
+use Rattle.paxos_packets.specs.declared.packet.Packet.{Packet}
+use Rattle.packet_outboxes.specs.Outboxes.{most_waiting, waiting, to, IsPeer}
+use Rattle.paxos_node.specs.declared.event.Event.{Event}
+use Rattle.paxos_node.specs.declared.event.Event.TheVariants.{Take, Tick, Start, Suspect, Deliver, Crash, Restart}
+use Rattle.paxos_node.specs.Events.{outcome_of}
+use Rattle.paxos_turn.specs.Node.{NodeState}
+use Rattle.paxos_node.specs.View.{Viewed, moved}
+use Rattle.node_actor.specs.Actor.{Acting}
+
+-- a view: its node, and the packets that it posted and received, oldest first
+pub record View (B : Type 0) : Type 0 where
+  pub of : Viewed B
+  pub posted : List (Packet B)
+  pub received : List (Packet B)
+
+abbrev pub seen : {B : Type 0} → View B → Viewed B
+seen v = v.of
+
+abbrev pub posted_to : {B : Type 0} → ℕ → View B → List (Packet B)
+posted_to k v = to k v.posted
+
+abbrev pub received_from : {B : Type 0} → ℕ → View B → List (Packet B)
+received_from k v = filter (λ p. p.sender == k) v.received
+
+-- the actor is the view's: its node is the view's node, and what waits is among what that sent
+pub record StandsFor {B M K : Type 0} (a : Acting B M K) (v : View B) : Type 0 where
+  pub node : a.node.state ≡ (seen v).node
+  pub waits : (k : ℕ) → IsPeer a.node.me a.node.members k → All (Contains (seen v).sent) (waiting k a.waiting)
+
+-- the view goes on by an event, or by none
+abbrev pub moved_by : {B : Type 0} → (B → B → Bool) → ℕ → Option (Event B) → Viewed B → Viewed B
+moved_by same members None s = s
+moved_by same members (Some e) s = moved (outcome_of same members e s.node).node (outcome_of same members e s.node).packets s
+
+-- the packets that an event sends, and the packet that it receives
+abbrev pub sent_by : {B : Type 0} → (B → B → Bool) → ℕ → Option (Event B) → NodeState B → List (Packet B)
+sent_by same members None x = []
+sent_by same members (Some e) x = (outcome_of same members e x).packets
+
+abbrev pub packet_in : {B : Type 0} → Event B → List (Packet B)
+packet_in (Take n t body) = []
+packet_in (Tick n) = []
+packet_in (Start n) = []
+packet_in (Suspect n other) = []
+packet_in (Deliver p) = p ∷ []
+packet_in (Crash n) = []
+packet_in (Restart n) = []
+
+abbrev pub received_by : {B : Type 0} → Option (Event B) → List (Packet B)
+received_by None = []
+received_by (Some e) = packet_in e
+
+-- of what waited for a peer the first ones were posted meanwhile, and these packets wait behind the rest, in the last places
+pub record Queues {B M K : Type 0} (k : ℕ) (packets : List (Packet B)) (old new : Acting B M K) (v w : View B) : Type 0 where
+  pub meanwhile : List (Packet B)
+  pub rest : List (Packet B)
+  pub posted : posted_to k w ≡ posted_to k v ++ meanwhile
+  pub waited : waiting k old.waiting ≡ meanwhile ++ rest
+  pub waits : waiting k new.waiting ≡ keep_last most_waiting (rest ++ to k packets)
