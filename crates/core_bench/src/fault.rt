@@ -21,6 +21,8 @@ pub enum BenchFault {
     Text,
     #[error("an event was not planned or not adopted: {0}")]
     Node(#[from] NodeFault),
+    #[error("an actor did not begin, or did not take an event")]
+    Actor,
     #[error("no node has this number")]
     Nobody,
     #[error("entries stay pending, or an act was not applied at each node")]

@@ -1,7 +1,8 @@
-//! Measures of the consensus core, each over a run of this program: `core_bench log N W`, `core_bench codec N`
-//! and `core_bench nodes N W number|act`.
+//! Measures of the consensus core, each over a run of this program: `core_bench log N W`, `core_bench codec N`,
+//! `core_bench nodes N W number|act` and `core_bench actors N W`.
 #![tactic(auto)]
 
+mod actors;
 mod bodies;
 mod codec;
 mod fault;
@@ -17,11 +18,14 @@ const USAGE: &str = "\
 usage: core_bench log N W
        core_bench codec N
        core_bench nodes N W number|act
+       core_bench actors N W
        core_bench all N W
   log N W  learns N entries in windows of W slots, the last slot of each first, and applies them
   codec N  puts and takes a PUBLISH with 200 octets of text N times a turn, beside writing it and reading its text
   nodes N W number|act
            takes N acts with such bodies, W at a time, at two of three nodes by turns, and passes their packets by hand
+  actors N W
+           does the same with numbers at three actors over stores in memory
   all N W  does each, one after the other
   Counts are printed, and on standard error the nanoseconds of an entry, a call, an event or an act";
 
@@ -61,13 +65,15 @@ fn run_all(rt: &HostRuntime, number: u64, window: u64) -> Result<(), BenchFault>
     log::run(rt, number, window)?;
     codec::run(rt, number)?;
     nodes::run_numbers(rt, number, window)?;
-    nodes::run_acts(rt, number, window)
+    nodes::run_acts(rt, number, window)?;
+    actors::run(rt, number, window)
 }
 
 // The measure of two numbers that is so named.
 fn by_two(rt: &HostRuntime, kind: &str, number: u64, window: u64) -> ExitCode {
     match kind {
         "log" => ended(rt, log::run(rt, number, window)),
+        "actors" => ended(rt, actors::run(rt, number, window)),
         "all" => ended(rt, run_all(rt, number, window)),
         _ => misuse(rt),
     }

@@ -7,8 +7,8 @@ use std::alloc::{AllocError, Global};
 use std::collections::VecDeque;
 use std::time::Instant;
 
-// How many nodes there are; the first one leads.
-const NODES: u8 = 3;
+/// How many nodes there are; the first one leads.
+pub const NODES: u8 = 3;
 
 // How often a node ticks at most until nothing of its own is pending: at most 1,024 entries are, and a tick forwards 64.
 const MOST_TICKS: u64 = 64;
@@ -20,11 +20,11 @@ struct Member<B> {
     acts: u64,
 }
 
-// How many events there were, and how many packets reached their addressees.
+/// How many events there were, and how many packets reached their addressees.
 #[derive(Clone, Copy)]
-struct Counts {
-    events: u64,
-    packets: u64,
+pub struct Counts {
+    pub events: u64,
+    pub packets: u64,
 }
 
 // The nodes, and the packets that are under way.
@@ -200,7 +200,8 @@ fn take_all<B: Body>(cluster: &mut Cluster<B>, node: u8, bodies: Vec<B>) -> Resu
     settle(cluster, node)
 }
 
-fn made<B: Drop, S: Source<B>>(
+/// So many bodies.
+pub fn made<B: Drop, S: Source<B>>(
     alloc: Global,
     source: &S,
     count: u64,
@@ -255,8 +256,8 @@ fn has_all<B>(members: &[Member<B>], acts: u64) -> bool {
     true
 }
 
-// Tells on standard error how many events there were in a second, and what an event and an act took.
-fn tell(rt: &HostRuntime, counts: Counts, acts: u64, nanos: u128) {
+/// Tells on standard error how many events there were in a second, and what an event and an act took.
+pub fn tell(rt: &HostRuntime, counts: Counts, acts: u64, nanos: u128) {
     let events = u128::from(counts.events);
     let _ = eprintln!(rt;
         "{} events a second, {} ns an event, {} ns an act",
