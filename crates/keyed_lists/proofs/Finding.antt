@@ -1,5 +1,6 @@
 -- What is found by a look-up is what a walk over the list finds; and look-ups that find go on finding where a member comes or goes.
-use Rattle.std.proofs.Common.{◌≡◌, ℕ, ◌==◌, Bool, true, false, not, ◌||◌, cond, List, [], ◌∷◌, ◌++◌, map, filter, find, Option, None, Some, nat_cmp}
+use Rattle.std.proofs.Common.{◌≡◌, ℕ, ◌==◌, Bool, true, false, not, ◌||◌, cond, List, [], ◌∷◌, ◌++◌, map, filter, find, Option}
+use Rattle.std.proofs.Common.{None, Some, nat_cmp}
 use Rattle.std.proofs.Common.{refl, sym, ap, ◌∙◌, ◌⊎◌, ⊎_elim, is_some, subst}
 use Rattle.std.specs.List.{All, list_any}
 use Rattle.std.specs.Cmp.{unsigned_tied, nat_cmp_is}

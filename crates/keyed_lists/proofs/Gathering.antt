@@ -1,5 +1,6 @@
 -- Members gathered at places, place by place.
-use Rattle.std.proofs.Common.{◌≡◌, ℕ, ◌<◌, ◌==◌, Bool, true, false, ◌||◌, cond, List, [], ◌∷◌, Option, None, Some, nat_cmp, nat_eq, refl, sym, ap, subst, ◌∙◌, arith}
+use Rattle.std.proofs.Common.{◌≡◌, ℕ, ◌<◌, ◌==◌, Bool, true, false, ◌||◌, cond, List, [], ◌∷◌, Option, None, Some, nat_cmp}
+use Rattle.std.proofs.Common.{nat_eq, refl, sym, ap, subst, ◌∙◌, arith}
 use Rattle.std.specs.List.{list_any, filter}
 use Rattle.std.specs.Cmp.{ranked}
 use Rattle.std.specs.List.{All, AllByRecursion}

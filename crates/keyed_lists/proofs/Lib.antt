@@ -6,3 +6,5 @@ pub mod Keys
 pub mod Gathering
 pub mod Told
 pub mod Telling
+pub mod Changing
+pub mod Walking

@@ -25,13 +25,13 @@ front_step : {T : Type 0} (row : ℕ × T) (rows more : List (ℕ × T)) (place 
 front_step row rows more place member true is rest = is
 front_step row rows more place member false is rest = rest is
 
-at_front : {T : Type 0} (rows more : List (ℕ × T)) (place : ℕ) (member : T) → member_at place rows ≡ Some member
+pub at_front : {T : Type 0} (rows more : List (ℕ × T)) (place : ℕ) (member : T) → member_at place rows ≡ Some member
     → member_at place (rows ++ more) ≡ Some member
 at_front [] more place member is = absurd (none_some is)
 at_front (row ∷ rows) more place member is =
     front_step row rows more place member (is_at (nat_cmp place) row.0) is (at_front rows more place member)
 
-at_last : {T : Type 0} (rows : List (ℕ × T)) (place : ℕ) (member : T) → IsAbove place rows
+pub at_last : {T : Type 0} (rows : List (ℕ × T)) (place : ℕ) (member : T) → IsAbove place rows
     → member_at place (rows ++ (place, member) ∷ []) ≡ Some member
 at_last [] place member above = cond-true (is_at (nat_cmp place) place) (Some member) None (same_at place place refl)
 at_last {T} (row ∷ rows) place member above =
@@ -52,7 +52,7 @@ other_step {T} row rows place other false c at here apart rest =
     ap (λ (o : Option T). cond (is_at (nat_cmp other) row.0) (Some row.1) o) rest
     ∙ ap (λ (b : Bool). cond b (Some row.1) (member_at other rows)) here
 
-at_other : {T : Type 0} (rows : List (ℕ × T)) (place other : ℕ) → (place ≡ other → ⊥)
+pub at_other : {T : Type 0} (rows : List (ℕ × T)) (place other : ℕ) → (place ≡ other → ⊥)
     → member_at other (without place rows) ≡ member_at other rows
 at_other [] place other apart = refl
 at_other (row ∷ rows) place other apart =
@@ -61,7 +61,7 @@ at_other (row ∷ rows) place other apart =
 
 -- ---- who stands at a place
 
-passing_is : {T : Type 0} (test : T → Bool) (o : Option T) → is_passing test o ≡ true
+pub passing_is : {T : Type 0} (test : T → Bool) (o : Option T) → is_passing test o ≡ true
     → (member : T) × (o ≡ Some member) × (test member ≡ true)
 passing_is test None h = absurd (false≢true h)
 passing_is test (Some member) h = (member, refl, h)

@@ -1,11 +1,13 @@
-ghost use Rattle.std.specs.Prelude.{◌≡◌, ◌<◌, ◌^◌, [], ◌∷◌, ◌++◌, length, SomeIff, IfSome, IfOk, OnOk, OnErr, IsSome, option_copied};
+ghost use Rattle.std.specs.Prelude.{◌≡◌, ℕ, ◌<◌, ◌^◌, [], ◌∷◌, ◌++◌, length, SomeIff, IfSome, IfOk, OnOk, OnErr, IsSome, option_copied};
 ghost use Rattle.keyed_lists.specs.Rows.{IsAbove, next_place, member_at, members, members_at, without, with_member};
 ghost use Rattle.keyed_lists.specs.Finding.{AreRising};
 ghost use Rattle.std.specs.BTreeMap.{IsOrdered};
 ghost use Rattle.std.specs.Ordering.{nat_cmp};
+ghost use Rattle.std.specs.Map.Iter.{ShowsInOrder, deref_pair};
 
 use std::alloc::{AllocError, Global};
 use std::collections::BTreeMap;
+use std::collections::btree_map::Iter;
 use std::marker::Model;
 
 /// Members in the order in which they came, each at a place: a number, which rises from each member to the next.
@@ -66,6 +68,14 @@ impl<T> Rows<T> {
         ensures rising { AreRising self.now }
     {
         self.rows.get(&place)
+    }
+
+    /// The members with their places, in order. Takes no memory.
+    pub fn iter(&self) -> Iter<'_, u64, T>
+        ensures rows { result ≡ self.now }
+        ensures runs { ShowsInOrder (deref_pair {K = ℕ} {X = T}) }
+    {
+        self.rows.iter()
     }
 }
 
