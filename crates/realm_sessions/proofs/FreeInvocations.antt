@@ -1,10 +1,12 @@
 -- A free id of an invocation is found unless all are taken: so many ids in a row differ, and each one that is taken is one of the list.
 use Rattle.std.proofs.Common.{◌≡◌, ℕ, zero, suc, ◌+◌, ◌-◌, ◌<◌, ◌≤◌, ◌==◌, Bool, true, false, nat_lt, nat_le, List, [], ◌∷◌}
-use Rattle.std.proofs.Common.{length, Option, None, Some, refl, sym, ap, ◌∙◌, ⊎_elim, inl, inr, arith}
-use Rattle.std.proofs.lemmas.Bool.{cond-true, cases_lt, leb-true, ltb-true, ltb-false, eqb-true, and_parts}
+use Rattle.std.proofs.Common.{length, Option, None, Some, IfSome, option_map, refl, sym, ap, ◌∙◌, ⊎_elim, inl, inr, arith}
+use Rattle.std.proofs.lemmas.Bool.{cond-true, cond-false, cases_lt, leb-true, ltb-true, ltb-false, eqb-true, and_parts}
 use Rattle.wamp_ids.specs.Id.{last_id, is_id, id_after}
-use Rattle.realm_sessions.specs.Links.{free_from, has_number, invocation_after}
-use Rattle.realm_sessions.specs.Laws.{FreeInvocationIsFree, NoneWhereAllAreTaken}
+use Rattle.realm_sessions.specs.Links.{free_from, has_number, invocation_after, invocation_of, free_invocation, session_with}
+use Rattle.realm_sessions.specs.declared.links.Session.{Session}
+use Rattle.realm_sessions.specs.Sessions.{Sessions, invoked_with}
+use Rattle.realm_sessions.specs.Laws.{FreeInvocationIsFree, NoneWhereAllAreTaken, NextIsFree, DueIsNext}
 use Rattle.realm_sessions.proofs.FreeIds.{hits, hits_none, hits_all, hits_one, hits_or, AreDifferent, ahead, differ, all_used, after_is_id}
 use Rattle.realm_sessions.proofs.FreeIds.{found_is_id, found_free, IsAhead, is_ahead}
 
@@ -88,3 +90,34 @@ none_all_taken taken last =
       λ none. all_taken taken from (leb-true 1 from parts.0) (leb-true from last_id parts.1) none,
       λ all. none_found (suc (length taken)) (has_number taken) from (start_is_id last) all,
     )
+
+free_step : (sessions : Sessions) (id : ℕ) (taken : List ℕ) (last found : Option ℕ) → free_invocation taken last ≡ found
+    → IfSome (invoked_with sessions id found).answer (λ invocation. has_number taken invocation ≡ false)
+free_step sessions id taken last None is = tt
+free_step sessions id taken last (Some invocation) is = (free_invocation_free taken last invocation is).1
+
+next_step : (sessions : Sessions) (id : ℕ) (taken : List ℕ) (session : Option Session)
+    → IfSome (invoked_with sessions id (invocation_of taken session)).answer (λ invocation. has_number taken invocation ≡ false)
+next_step sessions id taken None = tt
+next_step sessions id taken (Some session) =
+    free_step sessions id taken session.last_invocation (free_invocation taken session.last_invocation) refl
+
+pub next_is_free : NextIsFree
+next_is_free sessions id taken = next_step sessions id taken (session_with sessions.list id)
+
+due_step : (session : Option Session) (taken : List ℕ) (due : ℕ)
+    → option_map (λ (session : Session). invocation_after session.last_invocation) session ≡ Some due → has_number taken due ≡ false
+    → invocation_of taken session ≡ invocation_of [] session
+due_step None taken due is free = refl
+due_step (Some session) taken due is free =
+    let first = invocation_after session.last_invocation in
+    let same : first ≡ due = same_some is in
+    cond-false (has_number taken first) (free_from (length taken) (has_number taken) (id_after first)) (Some first)
+    (ap (has_number taken) same ∙ free)
+  where
+    same_some : {a b : ℕ} → Some a ≡ Some b → a ≡ b
+    same_some h = cc
+
+pub due_is_next : DueIsNext
+due_is_next sessions id due taken is free =
+    ap (invoked_with sessions id) (due_step (session_with sessions.list id) taken due is free)

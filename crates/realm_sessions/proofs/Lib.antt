@@ -4,3 +4,4 @@ pub mod FreeIds
 pub mod FreeInvocations
 pub mod Invoking
 pub mod Faults
+pub mod Indexing

@@ -1,5 +1,5 @@
 -- The faults of a realm's parts, and their URIs (WAMP specification, "Predefined URIs"; the limit's is this profile's).
-use Rattle.std.specs.Prelude.{◌≡◌, ℕ, List, Option, None, Some, Result, Ok, Err, codes}
+use Rattle.std.specs.Prelude.{◌≡◌, ℕ, List, Option, None, Some, Result, Err, codes}
 use Rattle.std.specs.Result.{IsOk}
 use Rattle.realm_sessions.specs.declared.fault.RealmFault.{RealmFault}
 use Rattle.realm_sessions.specs.declared.fault.RealmFault.TheVariants.{InvalidUri, InvalidArgument, Limit, AlreadyExists}

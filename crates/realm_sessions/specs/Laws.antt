@@ -1,12 +1,12 @@
 -- Laws of sessions: what each change keeps, and that a new session has an id.
 use Rattle.std.specs.Prelude.{◌≡◌, ◌≢◌, ℕ, ◌<◌, ◌≤◌, ◌^◌, ◌↔◌, Bool, true, false, List, [], AllPairs, Option, None, Some}
-use Rattle.std.specs.Prelude.{Err}
+use Rattle.std.specs.Prelude.{Err, IfSome}
 use Rattle.paxos_packets.specs.declared.transport.Transport.{Transport}
 use Rattle.wamp_ids.specs.Id.{last_id, is_id}
 use Rattle.realm_sessions.specs.declared.fault.RealmFault.TheVariants.{Limit}
 use Rattle.realm_sessions.specs.declared.links.Link.{Link}
 use Rattle.realm_sessions.specs.Links.{has_id, is_taken, session_count, new_session_id, connect, set_session, without_transport}
-use Rattle.realm_sessions.specs.Links.{by_transport, transport_of, announces, has_number, free_invocation, set_invocation}
+use Rattle.realm_sessions.specs.Links.{by_transport, transport_of, announces, has_number, free_invocation, set_invocation, due_invocation}
 use Rattle.realm_sessions.specs.Sessions.{Sessions, open_session, opened, next_invocation}
 
 -- not the sessions of one id
@@ -66,10 +66,20 @@ abbrev pub FreeInvocationIsFree : Type 0
 FreeInvocationIsFree = (taken : List ℕ) (last : Option ℕ) (id : ℕ) → free_invocation taken last ≡ Some id
     → (is_id id ≡ true) × (has_number taken id ≡ false)
 
+-- nor is the one that is handed out
+abbrev pub NextIsFree : Type 0
+NextIsFree = (sessions : Sessions) (id : ℕ) (taken : List ℕ)
+    → IfSome (next_invocation sessions id taken).answer (λ invocation. has_number taken invocation ≡ false)
+
 -- and there is none exactly where all 2^53 are taken
 abbrev pub NoneWhereAllAreTaken : Type 0
 NoneWhereAllAreTaken = (taken : List ℕ) (last : Option ℕ)
     → (free_invocation taken last ≡ None) ↔ ((id : ℕ) → is_id id ≡ true → has_number taken id ≡ true)
+
+-- what is taken besides makes no difference where the id behind the last one is not
+abbrev pub DueIsNext : Type 0
+DueIsNext = (sessions : Sessions) (id due : ℕ) (taken : List ℕ) → due_invocation sessions.list id ≡ Some due
+    → has_number taken due ≡ false → next_invocation sessions id taken ≡ next_invocation sessions id []
 
 -- that a session is invoked changes neither where the sessions are nor what they announced
 abbrev pub InvokeKeepsPlaces : Type 0

@@ -108,6 +108,10 @@ invocation_after (Some last) = id_after last
 abbrev pub free_invocation : List ℕ → Option ℕ → Option ℕ
 free_invocation taken last = free_from (suc (length taken)) (has_number taken) (invocation_after last)
 
+-- the id behind the session's last invocation, which is its next one's unless it is taken
+abbrev pub due_invocation : List Link → ℕ → Option ℕ
+due_invocation links id = option_map (λ (session : Session). invocation_after session.last_invocation) (session_with links id)
+
 -- a session's next invocation
 abbrev pub invocation_of : List ℕ → Option Session → Option ℕ
 invocation_of taken None = None

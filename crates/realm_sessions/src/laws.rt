@@ -1,7 +1,7 @@
 //! Laws of sessions, each the contract of a function that does nothing.
 ghost use Rattle.realm_sessions.specs.Laws.{NoneAreSound, ConnectKeepsSound, OpenKeepsSound, CloseKeepsSound, RemoveKeepsSound};
 ghost use Rattle.realm_sessions.specs.Laws.{InvokeKeepsSound, FreeIdIsFound, OpensWhereRoom, LimitWhereFull};
-ghost use Rattle.realm_sessions.specs.Laws.{FreeInvocationIsFree, NoneWhereAllAreTaken, InvokeKeepsPlaces};
+ghost use Rattle.realm_sessions.specs.Laws.{FreeInvocationIsFree, NextIsFree, NoneWhereAllAreTaken, DueIsNext, InvokeKeepsPlaces};
 
 /// Each transport is connected once, and no two sessions have one id: so it is at first, and each change keeps it. Takes no
 /// memory.
@@ -22,10 +22,12 @@ pub fn session_ids_are_found()
     ensures limit { LimitWhereFull }
 {}
 
-/// The id of an invocation is free, and is found unless all 2^53 are taken; handing it out changes neither where sessions are
-/// nor what they announced. Takes no memory.
+/// The id of an invocation is free, and is found unless all 2^53 are taken; where the one behind the last is free, the others that are
+/// taken make no difference. Handing it out changes neither where sessions are nor what they announced. Takes no memory.
 pub fn invocation_ids_are_found()
     ensures free { FreeInvocationIsFree }
+    ensures next { NextIsFree }
     ensures none { NoneWhereAllAreTaken }
+    ensures due { DueIsNext }
     ensures places { InvokeKeepsPlaces }
 {}

@@ -1,10 +1,12 @@
 //! The connected transports of a realm and their sessions (WAMP specification, "Sessions"), and the faults of a realm's parts.
 #![tactic(auto)]
 
+mod connected;
 mod fault;
 pub mod laws;
 mod links;
 mod members;
+mod session_index;
 mod sessions;
 
 pub use fault::RealmFault;

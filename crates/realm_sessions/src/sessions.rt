@@ -1,14 +1,13 @@
-ghost use Rattle.std.specs.Prelude.{◌≡◌, [], Some, None, false, IfSome, OnOk, OnErr, IfOk, IsOkUnless};
+ghost use Rattle.std.specs.Prelude.{◌≡◌, ◌+◌, ◌<◌, ◌^◌, nat_lt, not, [], Some, None, false, IfSome, OnOk, OnErr, IfOk, IsOkUnless};
 ghost use Rattle.realm_sessions.specs.declared.fault.RealmFault.TheVariants as fault;
 ghost use Rattle.realm_sessions.specs.Links.{by_transport, transport_of, announces, of_origin};
-ghost use Rattle.realm_sessions.specs.Links.{connect, set_session, without_transport, has_number};
+ghost use Rattle.realm_sessions.specs.Links.{connect, set_session, without_transport, has_number, is_connected, is_taken};
+ghost use Rattle.realm_sessions.specs.Links.{session_count, new_session_id, session_with, due_invocation};
 ghost use Rattle.realm_sessions.specs.Sessions.{with_list, open_session, next_invocation};
 
+use crate::connected::Connected;
 use crate::fault::RealmFault;
-use crate::links::{
-    Link, Session, free_invocation, is_connected, link_of, link_with, new_id, remove_link,
-    session_count, session_with, set_invocations, set_sessions,
-};
+use crate::links::{Link, Session, free_invocation, invocation_after};
 use paxos_packets::Transport;
 use std::alloc::Global;
 use std::marker::Model;
@@ -16,12 +15,13 @@ use wamp_ids::Id;
 
 /// The connected transports of a realm in the order in which they came, and their sessions, of which only so many may be open.
 ///
-/// Cost: each call goes over the transports once, `open` a few times more, and once more for each id that it finds taken.
-/// `next_invocation` goes over them twice.
+/// Cost: a number of steps that is logarithmic in the number of transports, `open` so many more for each id that it finds taken.
+/// `of_origin` and `to_vec` take a step for each transport. Where memory wanted for a session's id in `open`, each call that asks for a
+/// session by its id goes over the transports from then on.
 #[derive(Drop)]
 pub struct Sessions {
     limit: u32,
-    list: Vec<Link>,
+    held: Connected,
 }
 
 impl Model for Sessions {
@@ -29,7 +29,7 @@ impl Model for Sessions {
 
     ghost Value = { Sessions };
 
-    ghost view = { λ a. record { limit = a.limit; list = a.list.items } };
+    ghost view = { λ a. record { limit = a.limit; list = a.held } };
 }
 
 impl Sessions {
@@ -39,7 +39,7 @@ impl Sessions {
     {
         Sessions {
             limit,
-            list: Vec::new(alloc),
+            held: Connected::new(alloc),
         }
     }
 
@@ -50,13 +50,10 @@ impl Sessions {
         ensures err { OnErr result (self.new ≡ self.old) }
         ensures fault { IsOkUnless result fault.Memory }
     {
-        if !is_connected(&self.list, transport) {
-            self.list.push(Link {
-                transport,
-                session: None,
-            })?;
+        if self.is_connected(transport) {
+            return Ok(());
         }
-        Ok(())
+        self.held.push(transport)
     }
 
     /// Opens a session at a connected transport that has none. Its id is the draw, or the next one upwards that no session
@@ -72,10 +69,10 @@ impl Sessions {
         ensures answer { result ≡ (open_session self.old transport draw canceling).answer }
         ensures sessions { self.new ≡ (open_session self.old transport draw canceling).sessions }
     {
-        if !(session_count(&self.list) < self.limit as usize) {
+        if self.has_all() {
             return Err(RealmFault::Limit);
         }
-        let Some(id) = new_id(&self.list, draw) else {
+        let Some(id) = new_id(&self.held, draw) else {
             return Err(RealmFault::Limit);
         };
         let session = Session {
@@ -83,22 +80,37 @@ impl Sessions {
             canceling,
             last_invocation: None,
         };
-        set_sessions(&mut self.list, transport, Some(session));
+        self.held.open(transport, session);
         Ok(id)
+    }
+
+    // Whether as many sessions are open as may be; otherwise one more may be counted.
+    fn has_all(&self) -> bool
+        ensures all { result ≡ not (nat_lt (session_count self.now.list) self.now.limit) }
+        ensures few { result ≡ false → session_count self.now.list + 1 < 2 ^ 64 }
+    {
+        !(self.held.session_count() < u64::from(self.limit))
+    }
+
+    // Whether the transport is connected.
+    fn is_connected(&self, transport: Transport) -> bool
+        ensures { result ≡ is_connected self.now.list transport }
+    {
+        self.held.link_of(transport).is_some()
     }
 
     /// The transport's session ends, if it has one; the transport stays. Takes no memory.
     pub fn close(&mut self, transport: Transport)
         ensures { self.new ≡ with_list self.old (set_session self.old.list transport None) }
     {
-        set_sessions(&mut self.list, transport, None);
+        self.held.close(transport);
     }
 
     /// The transport is connected no more. Takes no memory.
     pub fn remove(&mut self, transport: Transport)
         ensures { self.new ≡ with_list self.old (without_transport self.old.list transport) }
     {
-        remove_link(&mut self.list, transport);
+        self.held.remove(transport);
     }
 
     /// The id of the session's next invocation, which is its last one now: the first one behind its last that is not `taken`;
@@ -110,24 +122,34 @@ impl Sessions {
         ensures sessions { self.new ≡ (next_invocation self.old id taken.now).sessions }
         ensures free { IfSome result (λ invocation. has_number taken.now invocation ≡ false) }
     {
-        let session = session_with(&self.list, id)?;
+        let session = session_with(&self.held, id)?;
         let invocation = free_invocation(taken, session.last_invocation)?;
-        set_invocations(&mut self.list, id, invocation);
+        self.held.invoke(id, invocation);
         Some(invocation)
     }
 
-    /// The connected transports and their sessions, in the order in which they came. Takes no memory.
-    pub fn as_slice(&self) -> &[Link]
-        ensures { result.now ≡ self.now.list }
+    /// The id behind the session's last invocation: its next one's, unless it is taken (`laws`). `None` without that session. Takes no
+    /// memory.
+    pub fn due_invocation(&self, id: Id) -> Option<Id>
+        ensures { result ≡ due_invocation self.now.list id }
     {
-        self.list.as_slice()
+        let session = session_with(&self.held, id)?;
+        Some(invocation_after(session.last_invocation))
+    }
+
+    /// The connected transports and their sessions, in the order in which they came. The only fault is `Memory`.
+    pub fn to_vec(&self) -> Result<Vec<Link>, RealmFault>
+        ensures list { IfOk result (λ list. list.items ≡ self.now.list) }
+        ensures fault { IsOkUnless result fault.Memory }
+    {
+        self.held.to_vec()
     }
 
     /// The id of the transport's session, `Some(None)` where it is connected without one. Takes no memory.
     pub fn by_transport(&self, transport: Transport) -> Option<Option<Id>>
         ensures { result ≡ by_transport self.now.list transport }
     {
-        let link = link_of(&self.list, transport)?;
+        let link = self.held.link_of(transport)?;
         Some(link.session.map(|session| session.id))
     }
 
@@ -135,7 +157,7 @@ impl Sessions {
     pub fn by_id(&self, id: Id) -> Option<Transport>
         ensures { result ≡ transport_of self.now.list id }
     {
-        let link = link_with(&self.list, id)?;
+        let link = self.held.link_with(id)?;
         Some(link.transport)
     }
 
@@ -143,7 +165,7 @@ impl Sessions {
     pub fn announces(&self, id: Id) -> bool
         ensures { result ≡ announces self.now.list id }
     {
-        match link_with(&self.list, id) {
+        match self.held.link_with(id) {
             Some(link) => match link.session {
                 Some(session) => session.canceling,
                 None => false,
@@ -157,12 +179,38 @@ impl Sessions {
         ensures found { IfOk result (λ found. found.items ≡ of_origin self.now.list node) }
         ensures fault { IsOkUnless result fault.Memory }
     {
-        let mut found = Vec::new(*self.list.allocator());
-        for link in &self.list {
-            if link.transport.node == node {
-                found.push(link.transport)?;
-            }
+        self.held.of_origin(node)
+    }
+}
+
+// Whether a session has this id.
+fn is_taken(held: &Connected, id: Id) -> bool
+    ensures { result ≡ is_taken held.now id }
+{
+    held.link_with(id).is_some()
+}
+
+// The id for a new session: the draw, or the next one upwards that no session has. Asks once more for each id that is taken.
+fn new_id(held: &Connected, draw: Id) -> Option<Id>
+    ensures first { result ≡ new_session_id held.now draw }
+    ensures free { IfSome result (λ id. is_taken held.now id ≡ false) }
+{
+    let mut id = draw;
+    for _turn in 0..held.len() {
+        if !is_taken(held, id) {
+            return Some(id);
         }
-        Ok(found)
+        id = id.next();
+    }
+    if is_taken(held, id) { None } else { Some(id) }
+}
+
+// The session of this id.
+fn session_with(held: &Connected, id: Id) -> Option<Session>
+    ensures { result ≡ session_with held.now id }
+{
+    match held.link_with(id) {
+        Some(link) => link.session,
+        None => None,
     }
 }

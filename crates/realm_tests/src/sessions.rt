@@ -131,6 +131,14 @@ fn next_of(sessions: &mut Sessions, session: u64, taken: &[Id]) -> u64 {
     }
 }
 
+// The id behind the session's last invocation, 0 where there is no session.
+fn due_of(sessions: &Sessions, session: u64) -> Result<u64, Fail> {
+    Ok(match sessions.due_invocation(id(session)?) {
+        Some(invocation) => invocation.get(),
+        None => 0,
+    })
+}
+
 // A session, two ids that are taken, and its next invocation.
 const INVOCATIONS: &[(u64, [u64; 2], u64)] = &[
     (5, [9_007_199_254_740_992, 4], 1),
@@ -166,9 +174,11 @@ fn is_next(
 
 fn hands_out(rt: &impl Abort, sessions: &mut Sessions) -> Result<(), Fail> {
     assert!(rt; open_both(sessions)? == (5, 6));
+    assert!(rt; due_of(sessions, 5)? == 1);
     for (session, taken, next) in INVOCATIONS {
         assert!(rt; is_next(sessions, *session, *taken, *next)?, "{session}");
     }
+    assert!(rt; due_of(sessions, 5)? == 6 && due_of(sessions, 7)? == 0);
     assert!(rt; place_of(sessions, 5) == 11);
     Ok(())
 }
@@ -191,12 +201,24 @@ fn are_of(sessions: &Sessions, node: u8, wanted: &[Transport]) -> Result<bool, F
     Ok(found.as_slice() == wanted)
 }
 
+// Whether all transports are there in the order in which they came.
+fn are_in_order(sessions: &Sessions) -> Result<bool, Fail> {
+    let links = sessions.to_vec()?;
+    let mut numbers: u64 = 0;
+    for link in &links {
+        numbers = numbers
+            .wrapping_mul(10)
+            .wrapping_add(link.transport.number as u64);
+    }
+    Ok(numbers == 4_123)
+}
+
 fn gives_all(rt: &impl Abort, sessions: &mut Sessions) -> Result<(), Fail> {
     connect_all(sessions)?;
     assert!(rt; are_of(sessions, 1, &[transport(1, 4), transport(1, 2)])?);
     assert!(rt; are_of(sessions, 2, &[transport(2, 1), transport(2, 3)])?);
     assert!(rt; are_of(sessions, 3, &[])?);
-    assert_eq!(rt; sessions.as_slice().len(), 4);
+    assert!(rt; are_in_order(sessions)?);
     Ok(())
 }
 
