@@ -132,7 +132,3 @@ callees_are_under invocations rows session finds k d within here =
 -- what an index tells is there
 pub nothing_untold : {T : Type 0} (test : T → Bool) (there : Option T) → is_passing test there ≡ true → there ≡ None → ⊥
 nothing_untold test there passes none = false≢true (sym (ap (is_passing test) none) ∙ passes)
-
-pub is_some_mapped : {T U : Type 0} (f : T → U) (o : Option T) → is_some (option_map f o) ≡ is_some o
-is_some_mapped f None = refl
-is_some_mapped f (Some x) = refl

@@ -1,4 +1,5 @@
-ghost use Rattle.std.specs.Prelude.{◌≡◌, ◌↔◌, ◌+◌, ◌<◌, ◌^◌, [], true, false, OnOk, OnErr, IfOk, IsErrOf, IsOkUnless, find, filter, option_map, map};
+ghost use Rattle.std.specs.Prelude.{◌≡◌, ◌↔◌, ◌+◌, ◌<◌, ◌^◌, [], true, false, OnOk, OnErr, IfOk, IsErrOf, IsOkUnless, find};
+ghost use Rattle.std.specs.Prelude.{filter, option_map, map};
 ghost use Rattle.realm_sessions.specs.declared.fault.RealmFault.TheVariants as fault;
 ghost use Rattle.realm_sessions.specs.Links.{has_number};
 ghost use Rattle.realm_calls.specs.Calls.{with_list, is_invocation, has, call_of, count_of, is_full, open_call, with_call};
@@ -132,6 +133,13 @@ impl Calls {
         ensures { option_map (λ call. call.now) result ≡ call_of self.now.list caller request }
     {
         self.held.find_call(caller, request)
+    }
+
+    /// Whether the callee has this invocation open. Takes no memory.
+    pub fn is_invoked(&self, callee: Id, invocation: Id) -> bool
+        ensures { result ≡ has_number (open_of self.now.list callee) invocation }
+    {
+        self.held.find_invocation(callee, invocation).is_some()
     }
 
     /// The invocations that the callee has not answered, in order of opening. The only fault is `Memory`.

@@ -1,10 +1,12 @@
 // The open calls in order of opening, and how one is found.
-ghost use Rattle.std.specs.Prelude.{◌≡◌, ◌+◌, ◌-◌, ◌<◌, ◌^◌, ◌==◌, ℕ, false, not, None, Some, if◌then◌else◌, [], ◌∷◌, ◌++◌, filter, find, option_map, IfOk, OnOk, OnErr, IsOkUnless};
+ghost use Rattle.std.specs.Prelude.{◌≡◌, ◌+◌, ◌-◌, ◌<◌, ◌^◌, ◌==◌, ℕ, false, not, None, Some, if◌then◌else◌, [], ◌∷◌, ◌++◌};
+ghost use Rattle.std.specs.Prelude.{filter, find, option_map, IfOk, OnOk, OnErr, IsOkUnless};
 ghost use Rattle.realm_sessions.specs.declared.fault.RealmFault.TheVariants as fault;
 ghost use Rattle.keyed_lists.specs.Rows.{IsAbove, members};
 ghost use Rattle.keyed_lists.specs.PlaceIndex.{is_key, place_of, places_under};
 ghost use Rattle.keyed_lists.specs.Tally.{count_in};
-ghost use Rattle.realm_calls.specs.Calls.{is_call, is_invocation, has, has_invocation, call_of, count_of, end, calls_to, without_callee, without_caller};
+ghost use Rattle.realm_calls.specs.Calls.{is_call, is_invocation, has, has_invocation, call_of, count_of, end, calls_to};
+ghost use Rattle.realm_calls.specs.Calls.{without_callee, without_caller};
 ghost use Rattle.realm_calls.specs.Indexed.{AreApart, of_caller, of_callee, end_all};
 
 use crate::calls::Open;

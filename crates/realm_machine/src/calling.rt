@@ -17,6 +17,7 @@ use paxos_packets::Transport;
 use realm_calls::Cancelled;
 use realm_registrations::Chosen;
 use realm_sessions::Sessions;
+use realm_sessions::laws::invocation_ids_are_found;
 use wamp_elements::RequestKind;
 use wamp_ids::{Id, Match, Text, Uri};
 use wamp_kinds::{Call, Cancel, Error, Invocation, Message, Reply, Yield};
@@ -103,24 +104,41 @@ impl Content {
         ensures { Does result self.new (invoke self.old requester call.now chosen.now
             (next_invocation self.old.sessions chosen.now.callee (open_of self.old.calls.list chosen.now.callee))) }
     {
-        let taken = self.calls.open_of(chosen.callee)?;
-        self.invoke_next(requester, call, chosen, &taken)
+        let passed = self.passed_over(chosen.callee)?;
+        self.invoke_next(requester, call, chosen, &passed)
     }
 
-    // The same where these invocations of the callee are open.
+    // The open invocations that the callee's next id has to pass over: none where the id behind its last one is not open.
+    fn passed_over(&self, callee: Id) -> Result<Vec<Id>, Memory>
+        ensures { IfOk result (λ passed. next_invocation self.now.sessions callee passed.items
+            ≡ next_invocation self.now.sessions callee (open_of self.now.calls.list callee)) }
+    {
+        invocation_ids_are_found();
+        let Some(due) = self.sessions.due_invocation(callee) else {
+            return Ok(self.calls.open_of(callee)?);
+        };
+        if self.calls.is_invoked(callee, due) {
+            return Ok(self.calls.open_of(callee)?);
+        }
+        Ok(Vec::new(self.alloc))
+    }
+
+    // The same where its next id has to pass over these.
     fn invoke_next(
         &mut self,
         requester: Requester,
         call: &Call,
         chosen: &Chosen,
-        taken: &[Id],
+        passed: &[Id],
     ) -> Result<Vec<Say>, Memory>
         requires new { has self.old.calls.list requester.session call.now.request ≡ false }
-        requires taken { taken.now ≡ open_of self.old.calls.list chosen.now.callee }
+        requires next { next_invocation self.old.sessions chosen.now.callee passed.now
+            ≡ next_invocation self.old.sessions chosen.now.callee (open_of self.old.calls.list chosen.now.callee) }
         ensures { Does result self.new (invoke self.old requester call.now chosen.now
-            (next_invocation self.old.sessions chosen.now.callee taken.now)) }
+            (next_invocation self.old.sessions chosen.now.callee (open_of self.old.calls.list chosen.now.callee))) }
     {
-        let id = self.sessions.next_invocation(chosen.callee, taken);
+        invocation_ids_are_found();
+        let id = self.sessions.next_invocation(chosen.callee, passed);
         self.invoke_under(requester, call, chosen, &id)
     }
 

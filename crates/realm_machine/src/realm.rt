@@ -48,10 +48,10 @@ impl Realm {
     ///
     /// An error comes only for want of memory. The realm is failed then, and answers the same to each later act.
     ///
-    /// Cost: an act goes over the connected transports to find its own, one that opens or ends a session a few times more. A
-    /// SUBSCRIBE and a session's end go over the subscriptions and their members, a REGISTER, an UNREGISTER and a session's end
-    /// over the registrations and their callees, a PUBLISH over the subscriptions and, for each receiver, over the transports. A
-    /// CALL goes over the registrations and the open calls, a CANCEL, a YIELD and a session's end over the open calls.
+    /// Cost: a number of steps that is logarithmic in the connected transports and the open calls: to find a transport, a session or a
+    /// call, for each receiver of an event, and for each call that ends with a session. A SUBSCRIBE and a session's end go over the
+    /// subscriptions and their members, a PUBLISH over the subscriptions, a REGISTER, an UNREGISTER, a CALL and a session's end over the
+    /// registrations and their callees.
     pub fn act(&mut self, transport: Transport, act: &Act) -> Result<Vec<Say>, Failed>
         ensures act { Acts self.old.config self.old.content transport act.now result self.new.content }
         ensures config { self.new.config ≡ self.old.config }

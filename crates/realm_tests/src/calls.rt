@@ -100,20 +100,27 @@ fn without_caller(calls: &mut Calls, caller: Id) -> Result<u64, Fail> {
     Ok(numbers_of(&ended))
 }
 
+// What is asked, if the word asks whether something is so.
+fn told(calls: &Calls, word: &str, call: &Open) -> Option<bool> {
+    if word == "has" {
+        return Some(calls.has(call.caller, call.request));
+    }
+    if word == "full" {
+        return Some(calls.is_full(call.caller));
+    }
+    if word == "invoked" {
+        return Some(calls.is_invoked(call.callee, call.invocation));
+    }
+    None
+}
+
 // What one step answers.
 fn step(calls: &mut Calls, word: &str, call: &Open) -> Result<u64, Fail> {
     if word == "open" {
         return opened(calls, call);
     }
-    if word == "has" {
-        return Ok(if calls.has(call.caller, call.request) {
-            1
-        } else {
-            0
-        });
-    }
-    if word == "full" {
-        return Ok(if calls.is_full(call.caller) { 1 } else { 0 });
+    if let Some(holds) = told(calls, word, call) {
+        return Ok(if holds { 1 } else { 0 });
     }
     if word == "invocations" {
         return invocations(calls, call.callee);
@@ -196,6 +203,8 @@ const OPENS_AND_ANSWERS_CALLS: &[Row] = &[
     ("invocations", 1, 1, 9, 1, 13),
     ("invocations", 1, 1, 1, 1, 12),
     ("invocations", 1, 1, 3, 1, 0),
+    ("invoked", 1, 1, 9, 3, 1),
+    ("invoked", 1, 1, 9, 2, 0),
     ("open calls", 1, 1, 1, 1, 15_16_25_26),
     ("answer", 1, 1, 9, 2, 108),
     ("answer", 1, 1, 9, 3, 25),

@@ -1,0 +1,13 @@
+use Rattle.std.proofs.Common.{is_some, sym, ap, ◌∙◌}
+use Rattle.keyed_lists.proofs.Finding.{any_is_find}
+use Rattle.keyed_lists.proofs.Told.{is_some_mapped}
+use Rattle.realm_calls.specs.Calls.{is_invocation}
+use Rattle.realm_calls.proofs.SoundCalls.{number_is}
+use Rattle.realm_calls.proofs.calls.Calls.is_invoked.Goals as goal
+
+pub returns : goal.returns
+returns c =
+    rw (← c.self.view_is)
+    (c.is_some.ensures ∙ sym (is_some_mapped (λ call. call.now) c.find_invocation.result) ∙ ap is_some c.find_invocation.ensures
+    ∙ sym (any_is_find (is_invocation c.args.callee c.args.invocation) c.self.inside.held)
+    ∙ number_is c.self.inside.held c.args.callee c.args.invocation)
