@@ -1,6 +1,8 @@
-//! Tests of the acceptor's store over SQLite, by its public calls.
+//! Tests of the acceptor's store over SQLite, and of an actor over it, by their public calls.
 #![tactic(auto)]
 
+#[cfg(test)]
+mod actors;
 #[cfg(test)]
 mod acts;
 #[cfg(test)]

@@ -8,7 +8,7 @@ use std::alloc::Global;
 use std::process::Abort;
 use std::test::Fail;
 
-type Sql<S> = SqlKeeper<Number, Octet, S>;
+pub type Sql<S> = SqlKeeper<Number, Octet, S>;
 
 // What a keeper answered: its fault's number or 0, the boot number, the round promised, and the rounds of the votes in slots 1 to 3,
 // each 0 where there is none.
@@ -72,7 +72,7 @@ fn change(alloc: Global, round: u64, body: u32, slots: &[u64]) -> Result<Change<
     })
 }
 
-fn open_again<S: Alter + Drop>(alloc: Global, conn: Connection<S>) -> Result<Sql<S>, Fail> {
+pub fn open_again<S: Alter + Drop>(alloc: Global, conn: Connection<S>) -> Result<Sql<S>, Fail> {
     if !conn.is_autocommit() {
         return Err(Fail::from("a transaction"));
     }
@@ -82,7 +82,7 @@ fn open_again<S: Alter + Drop>(alloc: Global, conn: Connection<S>) -> Result<Sql
     }
 }
 
-fn new_keeper(alloc: Global) -> Result<Sql<MemStore>, Fail> {
+pub fn new_keeper(alloc: Global) -> Result<Sql<MemStore>, Fail> {
     open_again(alloc, Connection::open_in_memory(alloc)?)
 }
 
@@ -162,7 +162,7 @@ fn stored(alloc: Global) -> Result<Connection<MemStore>, Fail> {
     Ok(keeper.close())
 }
 
-fn run(conn: &mut Connection<MemStore>, sql: &str) -> Result<(), Fail> {
+pub fn run(conn: &mut Connection<MemStore>, sql: &str) -> Result<(), Fail> {
     Ok(conn.execute_batch(sql)?)
 }
 

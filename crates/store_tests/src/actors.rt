@@ -1,0 +1,151 @@
+// An actor whose store is in SQLite, in memory.
+use crate::sql::{Sql, new_keeper, open_again, run};
+use core_tests::{Count, Number};
+use node_actor::{Actor, ActorFault, Keeper, Machine, Members, Packet, Post};
+use paxos_packets::{Ballot, Kind};
+use sqlite::MemStore;
+use std::alloc::Global;
+use std::test::Fail;
+
+type Storing = Actor<Count, Sql<MemStore>>;
+
+// What `open` and `restart` answer.
+type Begun<M, K> = Result<
+    Actor<M, K>,
+    (
+        ActorFault<<M as Machine>::Say>,
+        Post<<M as Machine>::Body>,
+        K,
+    ),
+>;
+
+// The actor that began; what is left where none did is let go.
+fn begun<M: Machine, K: Keeper<M::Body> + Drop>(begun: Begun<M, K>) -> Result<Actor<M, K>, Fail> {
+    match begun {
+        Ok(actor) => Ok(actor),
+        Err(left) => {
+            drop(left);
+            Err(Fail::from("no actor"))
+        },
+    }
+}
+
+// The number of the fault, 0 where an actor began.
+fn number_of<M: Machine, K: Keeper<M::Body> + Drop>(begun: Begun<M, K>) -> u8 {
+    let number = match &begun {
+        Ok(_) => 0,
+        Err(left) => left.0.number(),
+    };
+    drop(begun);
+    number
+}
+
+// An actor of node 2, one of three, over an empty store.
+fn open(alloc: Global) -> Result<Storing, Fail> {
+    let members = Members::new(3).ok_or("three members")?;
+    let keeper = new_keeper(alloc)?;
+    begun(Actor::open(alloc, 2, members, Count::new(alloc), keeper))
+}
+
+// The store opened again, once the text was run in it.
+fn reopened(alloc: Global, keeper: Sql<MemStore>, sql: &str) -> Result<Sql<MemStore>, Fail> {
+    let mut conn = keeper.close();
+    run(&mut conn, sql)?;
+    open_again(alloc, conn)
+}
+
+// What is left of the actor.
+fn crashed(
+    alloc: Global,
+    actor: Storing,
+    sql: &str,
+) -> Result<(Post<Number>, Sql<MemStore>), Fail> {
+    let (post, keeper) = actor.crash();
+    match reopened(alloc, keeper, sql) {
+        Ok(keeper) => Ok((post, keeper)),
+        Err(fail) => {
+            drop(post);
+            Err(fail)
+        },
+    }
+}
+
+// The actor that goes on from this one.
+fn restarted(alloc: Global, actor: Storing) -> Result<Storing, Fail> {
+    let (post, keeper) = crashed(alloc, actor, "UPDATE meta SET boot = boot")?;
+    begun(Actor::restart(alloc, post, Count::new(alloc), keeper))
+}
+
+fn prepare(round: u64) -> Packet<Number> {
+    Packet {
+        sender: 1,
+        addressee: 2,
+        kind: Kind::Prepare {
+            ballot: Ballot { round, node: 1 },
+            first: 1,
+        },
+    }
+}
+
+// The letter of a packet's kind, and the round that its sender promised.
+fn letter(packet: &Packet<Number>) -> (char, u64) {
+    match &packet.kind {
+        Kind::Promise { ballot, .. } => ('q', ballot.round),
+        Kind::Nack { promised, .. } => ('n', promised.round),
+        _ => ('-', 0),
+    }
+}
+
+fn told(packet: Option<Packet<Number>>) -> (char, u64) {
+    let letter = match &packet {
+        Some(packet) => letter(packet),
+        None => ('-', 0),
+    };
+    drop(packet);
+    letter
+}
+
+// What the actor answers to a Prepare of this round.
+fn answer(actor: &mut Storing, round: u64) -> (char, u64) {
+    drop(actor.turn(Some(prepare(round))));
+    told(actor.outgoing())
+}
+
+// What an actor answers to two Prepares, the second one behind a restart.
+fn answers(alloc: Global) -> Result<((char, u64), (char, u64)), Fail> {
+    let mut actor = open(alloc)?;
+    let first = answer(&mut actor, 5);
+    let mut again = restarted(alloc, actor)?;
+    let second = answer(&mut again, 3);
+    drop(again);
+    Ok((first, second))
+}
+
+#[test]
+fn a_promise_outlives_its_actor(rt: HostRuntime) -> Result<(), Fail> {
+    assert!(rt; answers(rt.alloc())? == (('q', 5), ('n', 5)));
+    Ok(())
+}
+
+const LAST: &str = "UPDATE meta SET boot = 281474976710655";
+
+// The fault of a first start over a store that has the last boot number.
+fn first_fault(alloc: Global) -> Result<u8, Fail> {
+    let members = Members::new(3).ok_or("three members")?;
+    let keeper = reopened(alloc, new_keeper(alloc)?, LAST)?;
+    Ok(number_of(Actor::open(alloc, 2, members, Count::new(alloc), keeper)))
+}
+
+// The fault of a restart over such a store.
+fn second_fault(alloc: Global) -> Result<u8, Fail> {
+    let actor = open(alloc)?;
+    let (post, keeper) = crashed(alloc, actor, LAST)?;
+    Ok(number_of(Actor::restart(alloc, post, Count::new(alloc), keeper)))
+}
+
+#[test]
+fn no_boot_follows_the_last(rt: HostRuntime) -> Result<(), Fail> {
+    assert!(rt; first_fault(rt.alloc())? == 66);
+    assert!(rt; second_fault(rt.alloc())? == 66);
+    Ok(())
+}
