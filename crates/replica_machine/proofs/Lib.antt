@@ -4,3 +4,4 @@ pub mod Numbering
 pub mod Wanted
 pub mod Replaying
 pub mod Applying
+pub mod Appending

@@ -1,11 +1,11 @@
 -- What the module `laws` states of the definitions beside it, for every log.
 use Rattle.std.specs.Prelude.{◌≡◌, ℕ, ◌<◌, true, false, nat_lt, List, [], ◌∷◌, ◌++◌, length, fold, Contains, if◌then◌else◌}
-use Rattle.std.specs.List.{list_all, range_with_len}
+use Rattle.std.specs.List.{list_all, flat_map, range_with_len}
 use Rattle.paxos_packets.specs.declared.entry.Entry.{Entry}
 use Rattle.paxos_packets.specs.declared.entry.Entry.TheVariants.{Boot, Lost, Item}
 use Rattle.replica_machine.specs.Effects.{boots_of, live_boot, is_the, is_effective, effective, items_taken, item_numbers}
 use Rattle.replica_machine.specs.Roll.{standing, takes_effect, is_wanted, live_in, taken_in, effective_behind}
-use Rattle.replica_machine.specs.Replay.{Machine, state, sayings, inputs_behind, sayings_behind}
+use Rattle.replica_machine.specs.Replay.{Machine, state, sayings, inputs_behind, sayings_behind, sayings_by_slot}
 
 -- an entry joins those that took effect before it if it takes effect, by the places of the log
 abbrev pub EffectsGoByPlaces : Type 0 → Type 0
@@ -39,6 +39,11 @@ StateGoesOn B S Y = (m : Machine B S Y) (log es : List (Entry B)) → state m (l
 
 abbrev pub SayingsGoOn : Type 0 → Type 0 → Type 0 → Type 0
 SayingsGoOn B S Y = (m : Machine B S Y) (log es : List (Entry B)) → sayings m (log ++ es) ≡ sayings m log ++ sayings_behind m log es
+
+-- what it says along a log is what it says at each entry, one after the other
+abbrev pub SayingsGoBySlot : Type 0 → Type 0 → Type 0 → Type 0
+SayingsGoBySlot B S Y =
+    (m : Machine B S Y) (log es : List (Entry B)) → flat_map (λ ys. ys) (sayings_by_slot m log es) ≡ sayings_behind m log es
 
 -- what takes effect is no longer wanted behind it
 abbrev pub EffectEndsWant : Type 0 → Type 0

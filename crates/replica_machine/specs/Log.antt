@@ -39,6 +39,10 @@ next_by next counts s input = if counts then option_map_or (λ i. next s i) inpu
 abbrev pub says_by : {S I Y : Type 0} → (S → I → List Y) → Bool → S → Option I → List Y
 says_by says counts s input = if counts then option_map_or (λ i. says s i) input [] else []
 
+-- these entries are the first of those
+abbrev pub Begins : {B : Type 0} → List (Entry B) → List (Entry B) → Type 0
+Begins {B} log longer = (rest : List (Entry B)) × (log ++ rest ≡ longer)
+
 module _ {B M : Type 0} where
   -- the entry that is learned in the slot: an applied one, or one ahead of these
   abbrev pub learned_in : ℕ → LogState B M → Option (Entry B)

@@ -50,3 +50,8 @@ inputs_behind log es = filter_map input_of (effective_behind log es)
 
 abbrev pub sayings_behind : {B S Y : Type 0} → Machine B S Y → List (Entry B) → List (Entry B) → List Y
 sayings_behind m log es = sayings_from m (state m log) (inputs_behind log es)
+
+-- what it says at each of them, entry by entry
+abbrev pub sayings_by_slot : {B S Y : Type 0} → Machine B S Y → List (Entry B) → List (Entry B) → List (List Y)
+sayings_by_slot m log [] = []
+sayings_by_slot m log (e ∷ es) = sayings_behind m log (e ∷ []) ∷ sayings_by_slot m (log ++ e ∷ []) es

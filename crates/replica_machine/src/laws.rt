@@ -5,7 +5,7 @@ ghost use Rattle.replica_machine.specs.Examples.{items_out_of_order, item_withou
 ghost use Rattle.replica_machine.specs.Replay.{state, said};
 ghost use Rattle.replica_machine.specs.Laws.{EffectsGoByPlaces, EffectsAreOne, LiveBootsAreOne, ItemsTakenAreOne};
 ghost use Rattle.replica_machine.specs.Laws.{EffectsGoOn, ItemsAreNumbered, EffectEndsWant, ItemsStayWanted};
-ghost use Rattle.replica_machine.specs.Laws.{BootsStayWanted, LostsStayWanted, StateGoesOn, SayingsGoOn};
+ghost use Rattle.replica_machine.specs.Laws.{BootsStayWanted, LostsStayWanted, StateGoesOn, SayingsGoOn, SayingsGoBySlot};
 
 /// The places of a log, and the standings that a roll keeps as it goes along, say the same: which entries take effect, which
 /// boot of a node is live, and how many of its Items took effect. Takes no memory.
@@ -35,6 +35,7 @@ pub fn pending<B>()
 pub fn replay<B, S, Y>()
     ensures state { StateGoesOn B S Y }
     ensures sayings { SayingsGoOn B S Y }
+    ensures by_slot { SayingsGoBySlot B S Y }
 {}
 
 /// Small logs, by hand. Takes no memory.

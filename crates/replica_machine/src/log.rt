@@ -1,9 +1,10 @@
 ghost use Rattle.std.specs.Prelude.{◌≡◌, ◌↔◌, ◌<◌, ◌++◌, [], ◌∷◌, Option, Some, None, true, false, IsErr, IsOk};
-ghost use Rattle.std.specs.Prelude.{IsOkUnless, IsErrOf, IfOk, OnOk, OnErr, IfSome, IfNone, if◌then◌else◌};
+ghost use Rattle.std.specs.Prelude.{IsOkUnless, IsErrOf, IfOk, IfErr, OnOk, OnErr, IfSome, IfNone, if◌then◌else◌};
+ghost use Rattle.std.specs.Prelude.{Err, ◌≢◌, ◌+◌, ◌≤◌, length, map, vec_len, vec_capacity};
 ghost use Rattle.std.specs.Option.{option_copied};
 ghost use Rattle.replica_machine.specs.Log.{learn_fault_number, LogState, learned_in, next_slot, Disagrees, Learns, Applies};
-ghost use Rattle.replica_machine.specs.Log.{Follows, machine_from, is_slot, next_by, says_by};
-ghost use Rattle.replica_machine.specs.Replay.{input_of};
+ghost use Rattle.replica_machine.specs.Log.{Follows, Begins, machine_from, is_slot, next_by, says_by};
+ghost use Rattle.replica_machine.specs.Replay.{input_of, state, sayings_by_slot};
 ghost use Rattle.replica_machine.specs.Roll.{IsRollOf, takes_effect};
 
 use crate::input::Input;
@@ -179,6 +180,49 @@ impl<M: Machine> AppliedLog<M> {
         Ok(Some(step))
     }
 
+    /// Applies the entries in the next slots, where nothing is learned there, and tells what the machine said at each.
+    ///
+    /// With `Memory` the machine was told nothing, and the log is as it was. After `Failed` the log has failed, as behind `advance`; some
+    /// of the entries may be applied then. Takes constant time an entry beside the machine's own, whatever the log's length.
+    pub fn append(&mut self, entries: Vec<Entry<M::Body>>) -> Result<Vec<Vec<M::Say>>, LearnFault>
+        requires { self.old.ahead ≡ [] }
+        ensures applied { OnOk result (self.new.applied ≡ self.old.applied ++ entries.items) }
+        ensures count { IfOk result (λ said. vec_len said ≡ length entries.items) }
+        ensures ahead { self.new.ahead ≡ [] }
+        ensures alive { OnOk result (self.new.failed ≡ false) }
+        ensures failed { self.old.failed ≡ true → result ≡ Err LearnFault.Failed }
+        ensures memory { IsErrOf result LearnFault.Memory → self.new ≡ self.old }
+        ensures refused { IsErrOf result LearnFault.Failed → self.new.failed ≡ true }
+        ensures no_other { IfErr result (λ fault. fault ≢ LearnFault.Disagree) }
+        ensures err { OnErr result (Begins self.old.applied self.new.applied) }
+        ensures follows { (first : M.Content) → Follows (machine_from M.next M.says M.to) M.content first self.old
+            → OnOk result (Follows (machine_from M.next M.says M.to) M.content first self.new) }
+        ensures says { (first : M.Content) → Follows (machine_from M.next M.says M.to) M.content first self.old
+            → IfOk result (λ said. map (λ says. says.items) said.items
+            ≡ sayings_by_slot (machine_from M.next M.says M.to first) self.old.applied entries.items) }
+    {
+        if self.failed {
+            return Err(LearnFault::Failed);
+        }
+        let Ok(mut said) = Vec::with_capacity(*self.applied.allocator(), entries.len()) else {
+            return Err(LearnFault::Memory);
+        };
+        if self.applied.reserve(entries.len()).is_err() {
+            return Err(LearnFault::Memory);
+        }
+        let Ok(()) = apply_all(
+            &mut self.applied,
+            &mut self.roll,
+            &mut self.machine,
+            entries,
+            &mut said,
+        ) else {
+            self.failed = true;
+            return Err(LearnFault::Failed);
+        };
+        Ok(said)
+    }
+
     /// The entries that are applied, in the order of their slots from slot 1 on. Takes no memory.
     pub fn applied(&self) -> &[Entry<M::Body>]
         ensures { result.now ≡ self.now.applied }
@@ -214,11 +258,64 @@ fn apply<M: Machine>(
         ≡ says_by M.says (takes_effect applied.old.items entry) (M.content machine.old) (input_of entry)) }
 {
     applied.reserve(1)?;
+    let (took, says) = apply_in_room(applied, roll, machine, entry)?;
+    Ok(Step { slot, took, says })
+}
+
+// The same, where there is room for the entry: whether it took effect, and what was said.
+fn apply_in_room<M: Machine>(
+    applied: &mut Vec<Entry<M::Body>>,
+    roll: &mut Roll,
+    machine: &mut M,
+    entry: Entry<M::Body>,
+) -> Result<(bool, Vec<M::Say>), Failed>
+    requires roll { IsRollOf applied.old.items roll.old }
+    requires room { vec_len applied.old < vec_capacity applied.old }
+    ensures ok { OnOk result (applied.new.items ≡ applied.old.items ++ entry ∷ []) }
+    ensures err { OnErr result (applied.new.items ≡ applied.old.items) }
+    ensures length { OnOk result (vec_len applied.new ≡ vec_len applied.old + 1) }
+    ensures capacity { vec_capacity applied.new ≡ vec_capacity applied.old }
+    ensures roll { OnOk result (IsRollOf applied.new.items roll.new) }
+    ensures took { IfOk result (λ did. did.0 ≡ takes_effect applied.old.items entry) }
+    ensures content { OnOk result (M.content machine.new
+        ≡ next_by M.next (takes_effect applied.old.items entry) (M.content machine.old) (input_of entry)) }
+    ensures says { IfOk result (λ did. did.1.items
+        ≡ says_by M.says (takes_effect applied.old.items entry) (M.content machine.old) (input_of entry)) }
+{
     let took = roll.take(&entry);
     let (entry, said) = follow(machine, *applied.allocator(), took, entry);
     let says = said?;
     applied.push_reserved(entry);
-    Ok(Step { slot, took, says })
+    Ok((took, says))
+}
+
+// Applies the entries behind those that are applied, where there is room for them, and puts what was said at each behind what was said
+// before. After an error some of them may be applied.
+fn apply_all<M: Machine>(
+    applied: &mut Vec<Entry<M::Body>>,
+    roll: &mut Roll,
+    machine: &mut M,
+    entries: Vec<Entry<M::Body>>,
+    said: &mut Vec<Vec<M::Say>>,
+) -> Result<(), Failed>
+    requires roll { IsRollOf applied.old.items roll.old }
+    requires room { vec_len applied.old + vec_len entries ≤ vec_capacity applied.old }
+    requires said_room { vec_len said.old + vec_len entries ≤ vec_capacity said.old }
+    ensures applied { OnOk result (applied.new.items ≡ applied.old.items ++ entries.items) }
+    ensures count { OnOk result (vec_len said.new ≡ vec_len said.old + length entries.items) }
+    ensures roll { OnOk result (IsRollOf applied.new.items roll.new) }
+    ensures err { OnErr result (Begins applied.old.items applied.new.items) }
+    ensures content { (first : M.Content) → M.content machine.old ≡ state (machine_from M.next M.says M.to first) applied.old.items
+        → OnOk result (M.content machine.new ≡ state (machine_from M.next M.says M.to first) applied.new.items) }
+    ensures said { (first : M.Content) → M.content machine.old ≡ state (machine_from M.next M.says M.to first) applied.old.items
+        → OnOk result (map (λ says. says.items) said.new.items ≡ map (λ says. says.items) said.old.items
+        ++ sayings_by_slot (machine_from M.next M.says M.to first) applied.old.items entries.items) }
+{
+    for entry in entries {
+        let (_took, says) = apply_in_room(applied, roll, machine, entry)?;
+        said.push_reserved(says);
+    }
+    Ok(())
 }
 
 // The machine's part in a slot: it is lent the entry where that takes effect. Gives the entry back, with what the machine said.
