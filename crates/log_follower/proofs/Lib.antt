@@ -1,0 +1,4 @@
+pub mod Handing
+pub mod Slots
+pub mod Logs
+pub mod Keeping

@@ -1,0 +1,18 @@
+//! One node's machine as it follows its node's log, through crashes and restarts, and what the transports of that node are handed
+//! (Lamport, Paxos Made Simple, 2001, section 3: the state machine of one server).
+#![tactic(auto)]
+
+mod follower;
+mod handed;
+mod kept;
+pub mod laws;
+mod passing;
+mod telling;
+mod tellings;
+
+pub use follower::Follower;
+pub use handed::Told;
+pub use kept::Place;
+pub use paxos_packets::{Memory, Transport};
+pub use replica_machine::{Entry, Machine};
+pub use tellings::Tellings;
