@@ -1,1 +1,2 @@
 pub mod Octet
+pub mod Foretold

@@ -1,10 +1,13 @@
-//! The bodies and machines that tests of the consensus core are run with, and tests of the machines that follow a log and of entries
-//! as octets.
+//! The bodies and machines that tests of the consensus core are run with, and tests of the machines that follow a log, of a node's
+//! machine through crashes and restarts, and of entries as octets.
 #![tactic(auto)]
 
 #[cfg(test)]
 mod codec;
 mod count;
+#[cfg(test)]
+mod follower;
+mod foretells;
 #[cfg(test)]
 mod log;
 #[cfg(test)]
@@ -14,6 +17,7 @@ mod octet;
 mod refuses;
 
 pub use count::Count;
+pub use foretells::Foretells;
 pub use number::Number;
 pub use octet::Octet;
 pub use refuses::Refuses;
