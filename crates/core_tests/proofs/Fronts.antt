@@ -1,8 +1,8 @@
 -- Pieces of one list, passed behind a front of it.
-use Rattle.std.proofs.Common.{◌≡◌, sym, ap, ◌∙◌, ℕ, ◌+◌, ◌-◌, ◌<◌, ◌≤◌, arith, List, [], ◌∷◌, ◌++◌, length, take, drop, inl, inr, subst}
+use Rattle.std.proofs.Common.{◌≡◌, sym, ap, ◌∙◌, ℕ, ◌+◌, ◌-◌, ◌≤◌, arith, List, [], ◌++◌, length, take, drop, inl, inr, subst}
 use Rattle.std.specs.Prelude.{Result, Ok, Err, OnOk, OnErr}
 use Rattle.std.proofs.lemmas.Bool.{cases_lt}
-use Rattle.std.proofs.lemmas.List.{append_assoc, append-nil, length-append, length-drop, length-take, drop_all, take-append-drop, drop-append-le, take-append-le}
+use Rattle.std.proofs.lemmas.List.{append_assoc, append-nil, length-drop, length-take, drop_all, take-append-drop, drop-append-le, take-append-le}
 use Rattle.std.proofs.Math.Seq.{take-append-add, drop-append_seam}
 use Rattle.std.proofs.Math.Nat.{min-le_left}
 use Rattle.paxos_packets.specs.declared.entry.Entry.{Entry}

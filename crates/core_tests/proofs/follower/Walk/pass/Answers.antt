@@ -1,4 +1,4 @@
-use Rattle.std.proofs.Common.{◌≡◌, sym, ap, subst, ◌+◌, ◌-◌, ◌<◌, ◌≤◌, ◌++◌, arith, length, take, drop}
+use Rattle.std.proofs.Common.{sym, ap, subst, ◌-◌, ◌≤◌, ◌++◌, arith, length, take, drop}
 use Rattle.paxos_packets.specs.declared.entry.Entry.{Entry}
 use Rattle.std.proofs.Common.{List}
 use Rattle.replica_machine.specs.Log.{Begins}
