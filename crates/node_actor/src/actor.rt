@@ -60,7 +60,9 @@ impl<M: Machine, K: Keeper<M::Body>> Actor<M, K> {
             transport: number,
             body,
         };
-        self.parts.event(&event)
+        let done = self.parts.event(&event);
+        drop(event);
+        done
     }
 
     /// The packet reaches the node; without one, with one for another node, or with one from no other member nothing happens.
@@ -88,7 +90,9 @@ impl<M: Machine, K: Keeper<M::Body>> Actor<M, K> {
         let event = Event::Tick {
             node: self.parts.me(),
         };
-        self.parts.event(&event)
+        let done = self.parts.event(&event);
+        drop(event);
+        done
     }
 
     /// The node begins a ballot.
@@ -100,7 +104,9 @@ impl<M: Machine, K: Keeper<M::Body>> Actor<M, K> {
         let event = Event::Start {
             node: self.parts.me(),
         };
-        self.parts.event(&event)
+        let done = self.parts.event(&event);
+        drop(event);
+        done
     }
 
     /// The node takes another to be lost.
@@ -113,7 +119,9 @@ impl<M: Machine, K: Keeper<M::Body>> Actor<M, K> {
             node: self.parts.me(),
             other: node,
         };
-        self.parts.event(&event)
+        let done = self.parts.event(&event);
+        drop(event);
+        done
     }
 
     /// The oldest packet that waits to go out, if any does; none once the actor is spoiled. Takes no memory.

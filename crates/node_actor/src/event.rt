@@ -75,9 +75,13 @@ impl<M: Machine, K: Keeper<M::Body>> Parts<M, K> {
         ensures rests { turn_event self.old.node.me self.old.node.members (Some packet) ≡ None → Rests self.old self.new result }
     {
         if !self.is_for(&packet) {
+            drop(packet);
             return self.pass();
         }
-        self.event(&Event::Deliver { packet })
+        let event = Event::Deliver { packet };
+        let done = self.event(&event);
+        drop(event);
+        done
     }
 
     // Whether the packet is for this node, and from another member.

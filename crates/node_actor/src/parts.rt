@@ -249,7 +249,18 @@ impl<M: Machine, K: Keeper<M::Body> + Drop> Parts<M, K> {
     pub(crate) fn leave(self) -> AppliedLog<M>
         ensures { result ≡ self.log }
     {
-        let Parts { log, .. } = self;
+        let Parts {
+            node,
+            keeper,
+            outboxes,
+            log,
+            failed,
+            ..
+        } = self;
+        drop(node);
+        drop(keeper);
+        drop(outboxes);
+        drop(failed);
         log
     }
 }

@@ -13,6 +13,6 @@ pub returns-clause-acts : goal.returns-clause-acts
 returns-clause-acts g c =
     let nonzero : c.args.number ≡ 0 → ⊥ = search rules in
     acts_seen _ _ _ _ _ _ (λ me members. take_event me c.args.number c.args.body) (Some (Take c.me.result c.args.number c.args.body)) c.self.inside.parts
-    c.args.self.now c.event.new.self c.event.result
+    c.args.self.now c.event-done.new.self c.event-done.result
     (take_some c.self.inside.parts.node.me c.me.result c.args.number c.args.body nonzero (c.me.ensures ∙ c.self.invariant.me)) c.self.view_is
-    c.event.ensures.acts
+    c.event-done.ensures.acts

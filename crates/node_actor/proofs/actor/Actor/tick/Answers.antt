@@ -3,10 +3,10 @@ use Rattle.paxos_node.specs.declared.event.Event.TheVariants.{Tick}
 use Rattle.node_actor.proofs.Viewing.{plans_own, acts_seen}
 use Rattle.node_actor.proofs.actor.Actor.tick.Goals as goal
 
-pub event-requires-clause-own : goal.event-requires-clause-own
-event-requires-clause-own g c = λ fresh. plans_own _ _ _ c.self.inside.parts (Tick c.me.result) c.self.invariant fresh c.me.ensures refl (λ up. up)
+pub event-done-requires-clause-own : goal.event-done-requires-clause-own
+event-done-requires-clause-own g c = λ fresh. plans_own _ _ _ c.self.inside.parts (Tick c.me.result) c.self.invariant fresh c.me.ensures refl (λ up. up)
 
 pub returns : goal.returns
 returns g c =
     acts_seen _ _ _ _ _ _ (λ me members. Some (Tick me)) (Some (Tick c.me.result)) _ _ _ _ (ap (λ n. Some (Tick n)) (sym (c.me.ensures ∙ c.self.invariant.me)))
-    c.self.view_is c.event.ensures.acts
+    c.self.view_is c.event-done.ensures.acts
