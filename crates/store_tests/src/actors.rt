@@ -76,6 +76,27 @@ fn restarted(alloc: Global, actor: Storing) -> Result<Storing, Fail> {
     begun(Actor::restart(alloc, post, Count::new(alloc), keeper))
 }
 
+// The round that the node promised.
+fn promised(post: &Post<Number>) -> u64 {
+    let Some(rows) = post.rows() else {
+        return 0;
+    };
+    let Some(ballot) = rows.promised else {
+        return 0;
+    };
+    ballot.round
+}
+
+const LAST: &str = "UPDATE meta SET boot = 281474976710655";
+
+// The round that the actor promised, and the fault of a restart where its store has the last boot number.
+fn ended(alloc: Global, actor: Storing) -> Result<(u64, u8), Fail> {
+    let (post, keeper) = crashed(alloc, actor, LAST)?;
+    let round = promised(&post);
+    let fault = number_of(Actor::restart(alloc, post, Count::new(alloc), keeper));
+    Ok((round, fault))
+}
+
 fn prepare(round: u64) -> Packet<Number> {
     Packet {
         sender: 1,
@@ -87,65 +108,15 @@ fn prepare(round: u64) -> Packet<Number> {
     }
 }
 
-// The letter of a packet's kind, and the round that its sender promised.
-fn letter(packet: &Packet<Number>) -> (char, u64) {
-    match &packet.kind {
-        Kind::Promise { ballot, .. } => ('q', ballot.round),
-        Kind::Nack { promised, .. } => ('n', promised.round),
-        _ => ('-', 0),
-    }
-}
-
-fn told(packet: Option<Packet<Number>>) -> (char, u64) {
-    let letter = match &packet {
-        Some(packet) => letter(packet),
-        None => ('-', 0),
-    };
-    drop(packet);
-    letter
-}
-
-// What the actor answers to a Prepare of this round.
-fn answer(actor: &mut Storing, round: u64) -> (char, u64) {
-    drop(actor.turn(Some(prepare(round))));
-    told(actor.outgoing())
-}
-
-// What an actor answers to two Prepares, the second one behind a restart.
-fn answers(alloc: Global) -> Result<((char, u64), (char, u64)), Fail> {
+fn runs(alloc: Global) -> Result<(u64, u8), Fail> {
     let mut actor = open(alloc)?;
-    let first = answer(&mut actor, 5);
-    let mut again = restarted(alloc, actor)?;
-    let second = answer(&mut again, 3);
-    drop(again);
-    Ok((first, second))
+    drop(actor.turn(Some(prepare(5))));
+    let again = restarted(alloc, actor)?;
+    ended(alloc, again)
 }
 
 #[test]
 fn a_promise_outlives_its_actor(rt: HostRuntime) -> Result<(), Fail> {
-    assert!(rt; answers(rt.alloc())? == (('q', 5), ('n', 5)));
-    Ok(())
-}
-
-const LAST: &str = "UPDATE meta SET boot = 281474976710655";
-
-// The fault of a first start over a store that has the last boot number.
-fn first_fault(alloc: Global) -> Result<u8, Fail> {
-    let members = Members::new(3).ok_or("three members")?;
-    let keeper = reopened(alloc, new_keeper(alloc)?, LAST)?;
-    Ok(number_of(Actor::open(alloc, 2, members, Count::new(alloc), keeper)))
-}
-
-// The fault of a restart over such a store.
-fn second_fault(alloc: Global) -> Result<u8, Fail> {
-    let actor = open(alloc)?;
-    let (post, keeper) = crashed(alloc, actor, LAST)?;
-    Ok(number_of(Actor::restart(alloc, post, Count::new(alloc), keeper)))
-}
-
-#[test]
-fn no_boot_follows_the_last(rt: HostRuntime) -> Result<(), Fail> {
-    assert!(rt; first_fault(rt.alloc())? == 66);
-    assert!(rt; second_fault(rt.alloc())? == 66);
+    assert!(rt; runs(rt.alloc())? == (5, 66));
     Ok(())
 }
