@@ -1,0 +1,10 @@
+pub mod Places
+pub mod Covering
+pub mod Parcels
+pub mod Going
+pub mod Posting
+pub mod Fetching
+pub mod Moving
+pub mod Naming
+pub mod Dealing
+pub mod Collecting

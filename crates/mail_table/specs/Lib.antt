@@ -1,0 +1,6 @@
+pub mod Views
+pub mod Covered
+pub mod Boxes
+pub mod Offices
+pub mod Seats
+pub mod Gathered

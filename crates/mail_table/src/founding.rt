@@ -1,0 +1,79 @@
+//! How a table is founded.
+ghost use Rattle.std.specs.Prelude.{◌≡◌, ◌≤◌, ◌+◌, ◌*◌, ◌<◌, [], All, IfOk, OnOk, slice_get, Some, vec_len, vec_capacity};
+ghost use Rattle.mail_table.specs.Boxes.{rising};
+ghost use Rattle.mail_table.specs.Offices.{name_of};
+ghost use Rattle.mail_table.specs.Seats.{IsSized, Owns, new_seats};
+
+use crate::fault::Memory;
+use crate::mail::Mail;
+use crate::office::{Mark, Office};
+use crate::plays::{Boxes, Deal, Token};
+use crate::seat::NodeSeat;
+use atomic_table::Table;
+use paxos_packets::{Body, Members};
+use std::alloc::Global;
+
+/// Founds a table for these members, and gives it with the seats of its nodes, by ascending node. The office gives it the next number; where
+/// there is no memory, or no number left, nothing is founded.
+pub fn found<B: Body>(
+    alloc: Global,
+    office: &mut Office,
+    members: Members,
+) -> Result<(Mail<B>, Vec<NodeSeat<B>>), Memory>
+    ensures mail { IfOk result (λ r. r.0 ≡ record { office = office.old.book; table = office.old.founded; members = members }) }
+    ensures seats { IfOk result (λ r. r.1.items ≡ new_seats r.0 members) }
+    ensures owned { IfOk result (λ r. All (Owns r.0) r.1.items) }
+    ensures office { office.new.book ≡ office.old.book }
+    ensures one_more { OnOk result (office.new.founded ≡ office.old.founded + 1) }
+    ensures no_less { office.old.founded ≤ office.new.founded }
+{
+    let nodes = members.count();
+    let mut seats = Vec::with_capacity(alloc, nodes as usize)?;
+    let (table, founder) = boxes(alloc, nodes)?;
+    let Some(mark) = office.enter(&founder) else {
+        return Err(Memory);
+    };
+    hand_out(&table, founder, nodes, &mark, &mut seats);
+    Ok((Mail { table, nodes, mark }, seats))
+}
+
+// Empty boxes for so many nodes, and the seat that knows of all nodes.
+fn boxes<B: Body>(alloc: Global, nodes: u8) -> Result<(Boxes<B>, Token<B>), Memory>
+    requires least { 3 ≤ nodes }
+    requires most { nodes ≤ 7 }
+    ensures sized { IfOk result (λ t. IsSized nodes t.0.shared.key t.0.shared.table_id) }
+    ensures seat { IfOk result (λ t. t.1.table_id ≡ t.0.shared.table_id) }
+    ensures knows { IfOk result (λ t. t.1.me ≡ (rising 0 nodes, [])) }
+{
+    let count = nodes as usize;
+    let words = [0; 56];
+    let made = Table::vacant(
+        alloc,
+        &words[..count * count + count],
+        count * count,
+        &(nodes as u64),
+    )?;
+    Ok(made)
+}
+
+// Hands out a seat for each node.
+fn hand_out<B: Body>(
+    table: &Boxes<B>,
+    mut founder: Token<B>,
+    nodes: u8,
+    mark: &Mark,
+    seats: &mut Vec<NodeSeat<B>>,
+)
+    requires sized { IsSized nodes table.now.shared.key table.now.shared.table_id }
+    requires founder { founder.table_id ≡ table.now.shared.table_id }
+    requires knows { founder.me ≡ (rising 0 nodes, []) }
+    requires marked { slice_get mark.now.seen.log mark.now.number ≡ Some (name_of founder.table_id) }
+    requires empty { seats.old.items ≡ [] }
+    requires room { nodes ≤ vec_capacity seats.old }
+    ensures { seats.new.items ≡ new_seats (record { office = mark.now.seen.book; table = mark.now.number; members = nodes }) nodes }
+{
+    for below in 0..nodes {
+        let seat = table.shared.split_seat::<Deal>(&mut founder);
+        seats.push_reserved(NodeSeat::of(seat, below + 1, nodes, mark.again()));
+    }
+}

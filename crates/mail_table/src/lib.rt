@@ -1,0 +1,21 @@
+//! The table through which the nodes of a cluster pass packets, each node on a thread of its own: a box without a lock for each ordered pair of
+//! nodes, and what all threads know together (docs/CONSENSUS.md, "Threads").
+#![tactic(auto)]
+
+mod fault;
+mod founding;
+mod gathering;
+mod mail;
+mod name;
+mod office;
+mod part;
+mod plays;
+mod seat;
+mod steps;
+
+pub use fault::{Memory, Worn};
+pub use founding::found;
+pub use mail::Mail;
+pub use office::Office;
+pub use part::{Doing, Parcel, Part, Try, View};
+pub use seat::NodeSeat;

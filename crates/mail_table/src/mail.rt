@@ -1,0 +1,134 @@
+//! The table, and what a node does at it.
+ghost use Rattle.std.specs.Bool.{OnTrue};
+ghost use Rattle.std.specs.Prelude.{◌≡◌, ◌==◌, ◌<◌, ◌^◌, ℕ, nat_lt, OnOk, OnErr, IfSome, MatchResult, MatchOption, is_ok};
+ghost use Rattle.cluster_world.specs.Has.{Has};
+ghost use Rattle.paxos_packets.specs.Members.{IsMember};
+ghost use Rattle.paxos_node.specs.Adopting.{adopted};
+ghost use Rattle.mail_table.specs.Boxes.{Follows};
+ghost use Rattle.mail_table.specs.Covered.{MayRenew};
+ghost use Rattle.mail_table.specs.Seats.{Owns, knows};
+ghost use Rattle.mail_table.specs.Views.{box_of, posting, receiving, lost, moving, renewing};
+
+use crate::fault::Worn;
+use crate::office::{Mark, same_table};
+use crate::plays::Boxes;
+use crate::seat::NodeSeat;
+use crate::steps::{advance_as, box_at, fetch_from, post_in, renew_as, word_at};
+use paxos_node::Outcome;
+use paxos_packets::{Body, Packet, Rows};
+use std::marker::{Brand, Model};
+
+// The most events that a node's word counts.
+const MOST_EVENTS: u64 = 1 << 62;
+
+/// A table through which the nodes of a cluster pass packets, each node on a thread of its own: for each ordered pair of nodes a box that
+/// holds one packet, and for each node a word that counts its events. It is shared by reference; nothing is locked, and no call waits.
+#[derive(Drop)]
+pub struct Mail<B: Body> {
+    pub(crate) table: Boxes<B>,
+    pub(crate) nodes: u8,
+    pub(crate) mark: Mark,
+}
+
+impl<B: Body> Model for Mail<B> {
+    ghost use Rattle.std.specs.Prelude.{◌≡◌, slice_get, Some};
+    ghost use Rattle.mail_table.specs.Offices.{name_of};
+    ghost use Rattle.mail_table.specs.Seats.{Mailed, IsSized};
+
+    ghost Value = { Mailed };
+
+    ghost view = { λ m. record { office = m.mark.seen.book; table = m.mark.number; members = m.nodes } };
+
+    ghost invariant = { λ m. IsSized m.nodes m.table.shared.key m.table.shared.table_id
+        × (slice_get m.mark.seen.log m.mark.number ≡ Some (name_of m.table.shared.table_id)) };
+}
+
+impl<B: Body> Mail<B> {
+    /// Whether the seat is one of this table. The seats of two offices cannot be compared.
+    pub fn owns(&self, seat: &NodeSeat<B>) -> bool
+        requires office { seat.now.office ≡ self.now.office }
+        ensures exactly { result ≡ (seat.now.table == self.now.table) }
+        ensures owned { OnTrue result (Owns self.now seat.now) }
+    {
+        if seat.mark.number != self.mark.number {
+            return false;
+        }
+        same_table(&self.mark, &self.table, &seat.mark, &seat.seat);
+        true
+    }
+
+    /// Puts the packet into the box to another node, in one try: the packet is one that the seat's node sent to it. Gives it back where the
+    /// box isn't empty. Two atomic steps and one move of the packet.
+    pub fn post(&self, seat: &mut NodeSeat<B>, to: u8, packet: Packet<B>) -> Result<(), Packet<B>>
+        requires owned { Owns self.now seat.old }
+        requires member { IsMember self.now.members to }
+        requires sent { Has seat.old.part.seen.sent packet }
+        requires addressed { packet.addressee ≡ to }
+        ensures posted { MatchResult result
+            (λ _. seat.new ≡ knows (posting (box_of self.now.members seat.old.part.me to) packet seat.old.part) seat.old)
+            (λ p. (p ≡ packet) × (seat.new ≡ knows (lost (box_of self.now.members seat.old.part.me to) seat.old.part) seat.old)) }
+        ensures still_owned { Owns self.now seat.new }
+    {
+        same_table(&self.mark, &self.table, &seat.mark, &seat.seat);
+        let at = box_at(self.nodes, seat.node, to);
+        post_in(&self.table, &mut seat.seat, at, packet)
+    }
+
+    /// Takes the packet out of the box from another node, in one try; `None` where the box isn't full. Two atomic steps and one move of the
+    /// packet.
+    pub fn fetch(&self, seat: &mut NodeSeat<B>, from: u8) -> Option<Packet<B>>
+        requires owned { Owns self.now seat.old }
+        requires member { IsMember self.now.members from }
+        ensures fetched { MatchOption result (seat.new ≡ knows (lost (box_of self.now.members from seat.old.part.me) seat.old.part) seat.old)
+            (λ p. seat.new ≡ knows (receiving (box_of self.now.members from seat.old.part.me) p seat.old.part) seat.old) }
+        ensures addressed { IfSome result (λ p. p.addressee ≡ seat.old.part.me) }
+        ensures still_owned { Owns self.now seat.new }
+    {
+        same_table(&self.mark, &self.table, &seat.mark, &seat.seat);
+        let at = box_at(self.nodes, from, seat.node);
+        fetch_from(&self.table, &mut seat.seat, at)
+    }
+
+    /// The node takes the step whose outcome this is: that of a possible event of the node that the seat knows, where a delivered packet is
+    /// one that the seat received. `Worn` after 2^62 events, which changes nothing.
+    pub fn advance(&self, seat: &mut NodeSeat<B>, outcome: &Outcome<B>) -> Result<(), Worn>
+        requires owned { Owns self.now seat.old }
+        requires follows { Follows B.same self.now.members seat.old.part outcome.now }
+        ensures exactly { is_ok result ≡ nat_lt seat.old.part.events (2 ^ 62) }
+        ensures moved { OnOk result (seat.new ≡ knows
+            (moving (adopted seat.old.part.me self.now.members outcome.now seat.old.part.seen.node) outcome.now.packets seat.old.part) seat.old) }
+        ensures worn { OnErr result (seat.new ≡ seat.old) }
+        ensures still_owned { Owns self.now seat.new }
+    {
+        if seat.events >= MOST_EVENTS {
+            return Err(Worn);
+        }
+        same_table(&self.mark, &self.table, &seat.mark, &seat.seat);
+        let at = word_at(self.nodes, seat.node);
+        advance_as::<B, Brand>(&self.table, &mut seat.seat, at, outcome);
+        seat.events += 1;
+        seat.log = outcome.log();
+        Ok(())
+    }
+
+    /// The node is opened with these rows, or, where it was opened, crashes and restarts up to their boot: they are its own in a later boot.
+    /// `Worn` after 2^62 events, which changes nothing.
+    pub fn renew(&self, seat: &mut NodeSeat<B>, rows: &Rows<B>) -> Result<(), Worn>
+        requires owned { Owns self.now seat.old }
+        requires may { MayRenew seat.old.part.seen.opened seat.old.part.seen.node rows.now }
+        ensures exactly { is_ok result ≡ nat_lt seat.old.part.events (2 ^ 62) }
+        ensures renewed { OnOk result (seat.new ≡ knows (renewing rows.now seat.old.part) seat.old) }
+        ensures worn { OnErr result (seat.new ≡ seat.old) }
+        ensures still_owned { Owns self.now seat.new }
+    {
+        if seat.events >= MOST_EVENTS {
+            return Err(Worn);
+        }
+        same_table(&self.mark, &self.table, &seat.mark, &seat.seat);
+        let at = word_at(self.nodes, seat.node);
+        renew_as::<B, Brand>(&self.table, &mut seat.seat, at, rows);
+        seat.events += 1;
+        seat.log = 0;
+        Ok(())
+    }
+}

@@ -1,0 +1,122 @@
+//! The rule of the table, and what each step on it tells.
+ghost use Rattle.mail_table.specs.Boxes.{Kept, rising, behind_first, first_alone, Claims, Delivers, Fetches, Clears, Advances, Renews};
+
+use crate::part::View;
+use atomic_table::{Join, Play, Seat, Split, Table, TableRule};
+use paxos_packets::{Body, Packet};
+use std::alloc::Global;
+use std::marker::{Brand, PhantomData};
+
+/// The rule of the table: each box is in one of four states, its packets come out in the order in which they went in, each once, and some world
+/// that events lead to has just the nodes that all seats know.
+pub struct InOrder;
+
+impl<B: Body> TableRule<Option<Packet<B>>, View<B>, u64> for InOrder {
+    ghost holds = { λ n s. Kept B.same n s };
+
+    ghost first = { λ n. rising 0 n };
+}
+
+// A table of boxes, and a seat at one.
+pub(crate) type Boxes<B> = Table<Option<Packet<B>>, View<B>, u64, InOrder, Global>;
+
+pub(crate) type Token<B> = Seat<Option<Packet<B>>, View<B>>;
+
+// A box is claimed by its sender, or the try is lost.
+pub(crate) struct Claim;
+
+impl<B> Play<Option<Packet<B>>, View<B>> for Claim {
+    ghost then = { Claims };
+}
+
+// The packet goes into the claimed box.
+pub(crate) struct Deliver;
+
+impl<B> Play<Option<Packet<B>>, View<B>> for Deliver {
+    ghost then = { Delivers };
+}
+
+// A packet is taken out of a full box by its addressee, or the try is lost.
+pub(crate) struct Fetch;
+
+impl<B> Play<Option<Packet<B>>, View<B>> for Fetch {
+    ghost then = { Fetches };
+}
+
+// The box is empty again.
+pub(crate) struct Clear;
+
+impl<B> Play<Option<Packet<B>>, View<B>> for Clear {
+    ghost then = { Clears };
+}
+
+// What an event makes of a node. Each call of `advance_as` picks it.
+pub(crate) trait Telling<B> {
+    ghost use Rattle.std.specs.Prelude.{List};
+    ghost use Rattle.paxos_packets.specs.declared.packet.Packet.{Packet};
+    ghost use Rattle.paxos_turn.specs.Node.{NodeState};
+
+    ghost node: { NodeState B };
+
+    ghost packets: { List (Packet B) };
+}
+
+impl<B> Telling<B> for Brand {
+    ghost use Rattle.std.specs.Prelude.{[]};
+    ghost use Rattle.cluster_world.specs.World.{absent};
+
+    ghost node = { absent };
+
+    ghost packets = { [] };
+}
+
+// A node takes a step of the core.
+pub(crate) struct Advance<J> {
+    of: PhantomData<J>,
+}
+
+impl<B, J: Telling<B>> Play<Option<Packet<B>>, View<B>> for Advance<J> {
+    ghost then = { Advances J.node J.packets };
+}
+
+// The rows that a node begins with. Each call of `renew_as` picks them.
+pub(crate) trait Beginning<B> {
+    ghost use Rattle.paxos_packets.specs.declared.rows.Rows.{Rows};
+
+    ghost rows: { Rows B };
+}
+
+impl<B> Beginning<B> for Brand {
+    ghost use Rattle.paxos_node.specs.Applying.{first_rows};
+
+    ghost rows = { first_rows };
+}
+
+// A node is opened, or begins anew.
+pub(crate) struct Renew<J> {
+    of: PhantomData<J>,
+}
+
+impl<B, J: Beginning<B>> Play<Option<Packet<B>>, View<B>> for Renew<J> {
+    ghost then = { Renews J.rows };
+}
+
+// The founder hands out the first part of its view.
+pub(crate) struct Deal;
+
+impl<B> Split<View<B>> for Deal {
+    ghost left = { behind_first };
+
+    ghost right = { first_alone };
+}
+
+// The gatherer takes in another's view.
+pub(crate) struct Collect;
+
+impl<B> Join<View<B>> for Collect {
+    ghost use Rattle.std.specs.Prelude.{[], ◌++◌};
+
+    ghost both = { λ v w. v ++ w };
+
+    ghost spent = { [] };
+}

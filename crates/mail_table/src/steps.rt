@@ -1,0 +1,128 @@
+//! The steps of post, fetch, advance and renew, over a table and a seat at it. None waits.
+ghost use Rattle.std.specs.Prelude.{◌≡◌, ◌<◌, ◌≤◌, ◌^◌, [], MatchResult, MatchOption};
+ghost use Rattle.paxos_packets.specs.Members.{IsMember};
+ghost use Rattle.mail_table.specs.Boxes.{sits, word_of, MayPost, MayFetch, Follows};
+ghost use Rattle.mail_table.specs.Covered.{MayRenew};
+ghost use Rattle.mail_table.specs.Seats.{IsSized};
+ghost use Rattle.mail_table.specs.Views.{only, box_of, posting, receiving, lost, moving, renewing};
+ghost use Rattle.paxos_node.specs.Adopting.{adopted};
+
+use crate::plays::{
+    Advance, Beginning, Boxes, Claim, Clear, Deliver, Fetch, Renew, Telling, Token,
+};
+use paxos_node::Outcome;
+use paxos_packets::{Body, Packet, Rows};
+use std::marker::Brand;
+
+// The number of the box from one node to another.
+pub(crate) fn box_at(nodes: u8, from: u8, to: u8) -> usize
+    requires most { nodes ≤ 7 }
+    requires from { IsMember nodes from }
+    requires to { IsMember nodes to }
+    ensures value { result ≡ box_of nodes from to }
+{
+    (from as usize - 1) * nodes as usize + (to as usize - 1)
+}
+
+// The number of a node's word.
+pub(crate) fn word_at(nodes: u8, node: u8) -> usize
+    requires most { nodes ≤ 7 }
+    requires node { IsMember nodes node }
+    ensures value { result ≡ word_of nodes node }
+{
+    nodes as usize * nodes as usize + (node as usize - 1)
+}
+
+// Puts the packet into the box, in one try; gives it back where the box isn't empty.
+pub(crate) fn post_in<B: Body>(
+    table: &Boxes<B>,
+    seat: &mut Token<B>,
+    at: usize,
+    packet: Packet<B>,
+) -> Result<(), Packet<B>>
+    requires table { seat.old.table_id ≡ table.now.shared.table_id }
+    requires sized { IsSized table.now.shared.key table.now.shared.key table.now.shared.table_id }
+    requires alone { seat.old.me ≡ sits (only seat.old.me.0) [] }
+    requires may { MayPost table.now.shared.key (only seat.old.me.0) at packet }
+    ensures posted { MatchResult result (λ _. seat.new.me ≡ sits (posting at packet (only seat.old.me.0)) [])
+        (λ p. (p ≡ packet) × (seat.new.me ≡ sits (lost at (only seat.old.me.0)) [])) }
+    ensures same { seat.new.table_id ≡ seat.old.table_id }
+{
+    let found = table.shared.compare_exchange::<Claim>(seat, at, 0, 1);
+    if found != 0 {
+        return Err(packet);
+    }
+    let None = table.shared.exchange(seat, at, Some(packet)) else {
+        unreachable!()
+    };
+    table.shared.store::<Deliver>(seat, at, 2);
+    Ok(())
+}
+
+// Takes the packet out of the box, in one try.
+pub(crate) fn fetch_from<B: Body>(
+    table: &Boxes<B>,
+    seat: &mut Token<B>,
+    at: usize,
+) -> Option<Packet<B>>
+    requires table { seat.old.table_id ≡ table.now.shared.table_id }
+    requires sized { IsSized table.now.shared.key table.now.shared.key table.now.shared.table_id }
+    requires alone { seat.old.me ≡ sits (only seat.old.me.0) [] }
+    requires may { MayFetch table.now.shared.key (only seat.old.me.0) at }
+    ensures fetched { MatchOption result (seat.new.me ≡ sits (lost at (only seat.old.me.0)) [])
+        (λ p. (p.addressee ≡ (only seat.old.me.0).me) × (seat.new.me ≡ sits (receiving at p (only seat.old.me.0)) [])) }
+    ensures same { seat.new.table_id ≡ seat.old.table_id }
+{
+    let found = table.shared.compare_exchange::<Fetch>(seat, at, 2, 3);
+    if found != 2 {
+        return None;
+    }
+    let packet = table.shared.exchange(seat, at, None);
+    table.shared.store::<Clear>(seat, at, 0);
+    packet
+}
+
+// The node takes the step whose outcome this is.
+pub(crate) fn advance_as<B: Body, J: Telling<B>>(
+    table: &Boxes<B>,
+    seat: &mut Token<B>,
+    at: usize,
+    outcome: &Outcome<B>,
+)
+    requires table { seat.old.table_id ≡ table.now.shared.table_id }
+    requires sized { IsSized table.now.shared.key table.now.shared.key table.now.shared.table_id }
+    requires alone { seat.old.me ≡ sits (only seat.old.me.0) [] }
+    requires member { IsMember table.now.shared.key (only seat.old.me.0).me }
+    requires word { at ≡ word_of table.now.shared.key (only seat.old.me.0).me }
+    requires room { (only seat.old.me.0).events < 2 ^ 62 }
+    requires follows { Follows B.same table.now.shared.key (only seat.old.me.0) outcome.now }
+    requires node { J.node ≡ adopted (only seat.old.me.0).me table.now.shared.key outcome.now (only seat.old.me.0).seen.node }
+    requires packets { J.packets ≡ outcome.now.packets }
+    ensures moved { seat.new.me ≡ sits (moving J.node J.packets (only seat.old.me.0)) [] }
+    ensures same { seat.new.table_id ≡ seat.old.table_id }
+{
+    let _ = outcome;
+    table.shared.fetch_add::<Advance<J>>(seat, at, 1);
+}
+
+// The node is opened with these rows, or begins anew with them.
+pub(crate) fn renew_as<B: Body, J: Beginning<B>>(
+    table: &Boxes<B>,
+    seat: &mut Token<B>,
+    at: usize,
+    rows: &Rows<B>,
+)
+    requires table { seat.old.table_id ≡ table.now.shared.table_id }
+    requires sized { IsSized table.now.shared.key table.now.shared.key table.now.shared.table_id }
+    requires alone { seat.old.me ≡ sits (only seat.old.me.0) [] }
+    requires member { IsMember table.now.shared.key (only seat.old.me.0).me }
+    requires word { at ≡ word_of table.now.shared.key (only seat.old.me.0).me }
+    requires room { (only seat.old.me.0).events < 2 ^ 62 }
+    requires may { MayRenew (only seat.old.me.0).seen.opened (only seat.old.me.0).seen.node rows.now }
+    requires rows { J.rows ≡ rows.now }
+    ensures renewed { seat.new.me ≡ sits (renewing J.rows (only seat.old.me.0)) [] }
+    ensures same { seat.new.table_id ≡ seat.old.table_id }
+{
+    let _ = rows;
+    table.shared.fetch_add::<Renew<J>>(seat, at, 1);
+}
