@@ -1,0 +1,64 @@
+ghost use Rattle.std.specs.Prelude.{◌≡◌, ◌≤◌, All};
+ghost use Rattle.mail_table.specs.Seats.{Owns};
+
+use core_tests::Number;
+use mail_table::{Mail, Memory, NodeSeat, Office, Worn, found};
+use paxos_packets::Members;
+use std::process::Abort;
+use std::test::Fail;
+
+// The last seat is node 3's, is the table's, and finds nothing in its boxes.
+fn finds_nothing(rt: &impl Abort, mail: &Mail<Number>, seats: &mut Vec<NodeSeat<Number>>)
+    requires owned { All (Owns mail.now) seats.old.items }
+    requires members { 3 ≤ mail.now.members }
+{
+    let Some(mut seat) = seats.pop() else {
+        panic!(rt; "no seat")
+    };
+    assert_eq!(rt; seat.node(), 3);
+    assert!(rt; mail.owns(&seat));
+    assert!(rt; mail.fetch(&mut seat, 1).is_none());
+    assert!(rt; mail.fetch(&mut seat, 2).is_none());
+}
+
+#[test]
+fn an_empty_box_gives_nothing(rt: HostRuntime) -> Result<(), Fail> {
+    let members = Members::new(3).ok_or("3 members")?;
+    let mut office = Office::new();
+    let (mail, mut seats) = found(rt.alloc(), &mut office, members)?;
+    assert_eq!(rt; seats.len(), 3);
+    finds_nothing(&rt, &mail, &mut seats);
+    Ok(())
+}
+
+#[test]
+fn all_seats_are_gathered(rt: HostRuntime) -> Result<(), Fail> {
+    let members = Members::new(3).ok_or("3 members")?;
+    let mut office = Office::new();
+    let (mail, seats) = found::<Number>(rt.alloc(), &mut office, members)?;
+    let Ok(lengths) = mail.gather(seats) else {
+        panic!(rt; "not gathered")
+    };
+    assert!(rt; lengths == [0; 7]);
+    Ok(())
+}
+
+#[test]
+fn a_missing_seat_hands_all_back(rt: HostRuntime) -> Result<(), Fail> {
+    let members = Members::new(3).ok_or("3 members")?;
+    let mut office = Office::new();
+    let (mail, mut seats) = found::<Number>(rt.alloc(), &mut office, members)?;
+    drop(seats.pop());
+    let Err((_mail, seats)) = mail.gather(seats) else {
+        panic!(rt; "gathered")
+    };
+    assert_eq!(rt; seats.len(), 2);
+    Ok(())
+}
+
+#[test]
+fn faults_of_a_table_have_numbers(rt: HostRuntime) -> Result<(), Fail> {
+    assert_eq!(rt; Memory.number(), 67);
+    assert_eq!(rt; Worn.number(), 68);
+    Ok(())
+}
