@@ -102,7 +102,6 @@ impl<B: Body> Node<B> {
     }
 
     // Whether one entry more may be pending.
-    #[tactic(auto, unfolding(crate::specs::Events::most_pending))]
     fn has_room(&self) -> bool
         ensures { result ≡ has_room self.now.state }
     {
