@@ -1,4 +1,5 @@
-pub mod Changes
-pub mod Tests
-pub mod SoundRegistrations
 pub mod Calling
+pub mod Changes
+pub mod Cursor
+pub mod Grouped
+pub mod SoundRegistrations

@@ -2,9 +2,11 @@
 //! "Pattern-based Registrations", "Shared Registration").
 #![tactic(auto)]
 
+mod callees;
 pub mod laws;
 mod registration;
 mod registry;
 
+pub use callees::Callees;
 pub use registration::{Chosen, Registration};
 pub use registry::Registrations;

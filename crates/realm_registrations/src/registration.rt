@@ -1,8 +1,9 @@
 ghost use Rattle.std.specs.Prelude.{◌≡◌};
-ghost use Rattle.realm_registrations.specs.Registration.{is_at, has_id, has_callee, has_callees, may_join, is_shared, called};
-ghost use Rattle.realm_registrations.specs.Registration.{chosen, without_callee, turned, takes_turns, same_invoke};
+ghost use Rattle.realm_registrations.specs.Registration.{has_callee, may_join, is_shared, called, chosen, takes_turns, same_invoke};
 
-use realm_sessions::Members;
+use crate::callees::Callees;
+use realm_sessions::RealmFault;
+use session_groups::{Group, Turning};
 use wamp_ids::{Id, Invoke, Match, Pattern};
 
 /// A registration: which procedures it serves, and the sessions that are called for them.
@@ -12,7 +13,7 @@ pub struct Registration {
     pub pattern: Pattern<'static>,
     pub invoke: Invoke,
     /// In the order of joining; under `RoundRobin` the one that is called next comes first.
-    pub callees: Members,
+    pub callees: Callees,
 }
 
 /// Who is called for a procedure.
@@ -27,29 +28,10 @@ pub struct Chosen {
 }
 
 impl Registration {
-    // Whether it is of this text and match.
-    pub fn is_at(&self, pattern: &Pattern<'_>) -> bool
-        ensures { result ≡ is_at pattern.now self.now }
-    {
-        self.pattern.same(pattern)
-    }
-
-    pub fn has_id(&self, id: Id) -> bool
-        ensures { result ≡ has_id id self.now }
-    {
-        self.id == id
-    }
-
     pub fn has_callee(&self, session: Id) -> bool
         ensures { result ≡ has_callee session self.now }
     {
         self.callees.has(session)
-    }
-
-    pub fn has_callees(&self) -> bool
-        ensures { result ≡ has_callees self.now }
-    {
-        self.callees.has_some()
     }
 
     // Whether the session may join it under this policy.
@@ -59,33 +41,81 @@ impl Registration {
         is_shared(self.invoke) && is_same(self.invoke, invoke) && !self.has_callee(session)
     }
 
-    // The session is no callee any more.
-    pub fn leave(&mut self, session: Id)
-        ensures { self.new ≡ without_callee session self.old }
-    {
-        self.callees.leave(session);
-    }
-
     // The callee that is called next.
     pub fn chosen(&self) -> Option<Chosen>
         ensures { result ≡ chosen self.now }
     {
-        let callee = called(self.invoke, self.callees.as_slice())?;
+        let callee = called(self.invoke, &self.callees)?;
         Some(Chosen {
             registration: self.id,
             callee,
             matching: self.pattern.matching(),
         })
     }
+}
 
-    // The callees take turns, if the policy says so.
-    pub fn turn(&mut self)
-        ensures { self.new ≡ turned self.old }
-    {
+impl Group for Registration {
+    ghost use Rattle.std.specs.Prelude.{refl};
+    ghost use Rattle.realm_registrations.specs.Registration.{with_callee, without_callee};
+
+    ghost id_of = { λ registration. registration.id };
+
+    ghost pattern_of = { λ registration. registration.pattern };
+
+    ghost sessions_of = { λ registration. registration.callees };
+
+    ghost with = { with_callee };
+
+    ghost without = { without_callee };
+
+    fn pattern(&self) -> &Pattern<'static> {
+        &self.pattern
+    }
+
+    fn has_some(&self) -> bool {
+        self.callees.has_some()
+    }
+
+    fn join(&mut self, session: Id) -> Result<(), RealmFault> {
+        self.callees.join(session)
+    }
+
+    fn leave(&mut self, session: Id) {
+        self.callees.leave(session);
+    }
+
+    ghost with_id = { λ session registration. refl };
+
+    ghost with_pattern = { λ session registration. refl };
+
+    ghost with_sessions = { λ session registration. refl };
+
+    ghost without_id = { λ session registration. refl };
+
+    ghost without_pattern = { λ session registration. refl };
+
+    ghost without_sessions = { λ session registration. refl };
+}
+
+impl Turning for Registration {
+    ghost use Rattle.realm_registrations.specs.Registration.{turned};
+    ghost use Rattle.realm_registrations.specs.Turning.{turned_id, turned_pattern, turned_member, turned_held};
+
+    ghost turned = { turned };
+
+    fn turn(&mut self) {
         if takes_turns(self.invoke) {
             self.callees.turn();
         }
     }
+
+    ghost turned_id = { turned_id };
+
+    ghost turned_pattern = { turned_pattern };
+
+    ghost turned_member = { turned_member };
+
+    ghost turned_held = { turned_held };
 }
 
 fn is_same(invoke: Invoke, other: Invoke) -> bool
@@ -112,11 +142,11 @@ fn takes_turns(invoke: Invoke) -> bool
     }
 }
 
-fn called(invoke: Invoke, callees: &[Id]) -> Option<Id>
+fn called(invoke: Invoke, callees: &Callees) -> Option<Id>
     ensures { result ≡ called invoke callees.now }
 {
     match invoke {
-        Invoke::Single | Invoke::First | Invoke::RoundRobin => callees.first().copied(),
-        Invoke::Last => callees.last().copied(),
+        Invoke::Single | Invoke::First | Invoke::RoundRobin => callees.first(),
+        Invoke::Last => callees.last(),
     }
 }

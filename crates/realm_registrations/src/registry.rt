@@ -1,43 +1,35 @@
-ghost use Rattle.std.specs.Prelude.{◌≡◌, ◌+◌, ◌<◌, ◌∷◌, [], OnOk, OnErr, IfOk, IsOkUnless, map, option_map, option_copied, find};
-ghost use Rattle.std.specs.Prelude.{None, Some, length, filter};
-ghost use Rattle.wamp_ids.specs.Id.{last_id};
-ghost use Rattle.wamp_patterns.specs.Ranking.{serves, best_so_far};
+ghost use Rattle.std.specs.Prelude.{◌≡◌, true, false, OnOk, OnErr, IsOkUnless, None};
 ghost use Rattle.realm_sessions.specs.declared.fault.RealmFault.TheVariants as fault;
 ghost use Rattle.realm_sessions.specs.Fault.{Answers};
-ghost use Rattle.realm_registrations.specs.Registration.{is_at, has_id, has_callee, has_callees, with_callee, without_callee, turned};
-ghost use Rattle.realm_registrations.specs.Registry.{no_registrations, registration_at, count_of, is_full, change_first};
-ghost use Rattle.realm_registrations.specs.Registry.{register, found_callee};
-ghost use Rattle.realm_registrations.specs.Registry.{register_at, unregister, leave, choose, turn};
+ghost use Rattle.realm_registrations.specs.Registry.{no_registrations, is_full, register, register_at, registration_at, found_callee, is_callee, unregister};
+ghost use Rattle.realm_registrations.specs.Registry.{with_callee_at, without_callee_of, leave, choose, turn};
 
+use crate::callees::Callees;
 use crate::registration::{Chosen, Registration};
-use realm_sessions::{Members, RealmFault};
+use realm_sessions::RealmFault;
+use session_groups::Groups;
 use std::alloc::Global;
 use std::marker::Model;
 use wamp_ids::{Id, Invoke, LAST_ID, Pattern, Uri};
-use wamp_patterns::{better, matches};
 
 /// The registrations of a realm, of which a session may have only so many.
 ///
-/// Cost: each call goes over the registrations a few times at the most; `register` and `leave` also over all their callees,
-/// `unregister` and `turn` over those of one.
+/// Cost: each call takes a number of steps that is logarithmic in the number of registrations and of sessions; `choose` what a table
+/// of patterns takes to find who serves. `register` and `unregister` also go over the callees of the one registration, `leave` over
+/// those of the registrations that the session has.
 #[derive(Drop)]
 pub struct Registrations {
     limit: u32,
-    list: Vec<Registration>,
-    // The greatest id that was handed out, 0 before the first.
-    last: u64,
+    alloc: Global,
+    groups: Groups<Registration>,
 }
 
 impl Model for Registrations {
-    ghost use Rattle.std.specs.Prelude.{◌≤◌};
-    ghost use Rattle.wamp_ids.specs.Id.{last_id};
     ghost use Rattle.realm_registrations.specs.Registry.{Registry};
 
     ghost Value = { Registry };
 
-    ghost view = { λ a. record { limit = a.limit; list = a.list.items; last = a.last } };
-
-    ghost invariant = { λ a. a.last ≤ last_id };
+    ghost view = { λ a. record { limit = a.limit; list = a.groups.list; last = a.groups.last } };
 }
 
 impl Registrations {
@@ -47,8 +39,8 @@ impl Registrations {
     {
         Registrations {
             limit,
-            list: Vec::new(alloc),
-            last: 0,
+            alloc,
+            groups: Groups::new(alloc),
         }
     }
 
@@ -69,7 +61,7 @@ impl Registrations {
         if pattern.is_reserved() {
             return Err(RealmFault::InvalidUri);
         }
-        let Some(registration) = registration_at(&self.list, pattern) else {
+        let Some(registration) = self.groups.at(pattern) else {
             return self.add_registration(session, pattern, invoke);
         };
         if !registration.may_join(session, invoke) {
@@ -79,7 +71,7 @@ impl Registrations {
         if self.is_full(session) {
             return Err(RealmFault::Limit);
         }
-        add_callee(&mut self.list, session, pattern)?;
+        self.add_callee(session, pattern)?;
         Ok(id)
     }
 
@@ -90,6 +82,7 @@ impl Registrations {
         pattern: &Pattern<'_>,
         invoke: Invoke,
     ) -> Result<Id, RealmFault>
+        requires { registration_at self.old pattern.now ≡ None }
         ensures answer { Answers result (register_at self.old session pattern.now invoke None).answer }
         ensures registry { OnOk result (self.new ≡ (register_at self.old session pattern.now invoke None).registry) }
         ensures unchanged { OnErr result (self.new ≡ self.old) }
@@ -97,29 +90,41 @@ impl Registrations {
         if self.is_full(session) {
             return Err(RealmFault::Limit);
         }
-        let alloc = *self.list.allocator();
-        let Ok(pattern) = pattern.copy(alloc) else {
+        let Ok(pattern) = pattern.copy(self.alloc) else {
             return Err(RealmFault::Memory);
         };
-        let callees = Members::of(alloc, session)?;
-        let Some(id) = Id::new(self.last + 1) else {
+        let callees = Callees::of(self.alloc, session)?;
+        let Some(id) = Id::new(self.groups.last() + 1) else {
             unreachable!();
         };
-        self.list.push(Registration {
-            id,
-            pattern,
-            invoke,
-            callees,
-        })?;
-        self.last += 1;
+        self.groups.push(
+            session,
+            Registration {
+                id,
+                pattern,
+                invoke,
+                callees,
+            },
+        )?;
         Ok(id)
+    }
+
+    // The session is the last callee of the registration of this text and match, of which it is none.
+    fn add_callee(&mut self, session: Id, pattern: &Pattern<'_>) -> Result<(), RealmFault>
+        requires { found_callee session (registration_at self.old pattern.now) ≡ false }
+        ensures ok { OnOk result (self.new ≡ with_callee_at self.old session pattern.now) }
+        ensures err { OnErr result (self.new ≡ self.old) }
+        ensures fault { IsOkUnless result fault.Memory }
+    {
+        self.groups.join(session, pattern)?;
+        Ok(())
     }
 
     // Whether the session may have no more: it has as many as it may have, or the ids are spent.
     fn is_full(&self, session: Id) -> bool
         ensures { result ≡ is_full self.now session }
     {
-        !(count_of(&self.list, session) < self.limit as usize) || !(self.last < LAST_ID)
+        !(self.groups.count(session) < self.limit as usize) || !(self.groups.last() < LAST_ID)
     }
 
     /// The session is no callee of the registration of this id any more; one without callees is no more. The only fault is
@@ -128,20 +133,28 @@ impl Registrations {
         ensures answer { result ≡ (unregister self.old session registration).answer }
         ensures registry { self.new ≡ (unregister self.old session registration).registry }
     {
-        if !is_callee(&self.list, session, registration) {
+        if !self.groups.has(session, registration) {
             return Err(RealmFault::NoSuchRegistration);
         }
-        remove_callee(&mut self.list, session, registration);
-        remove_empty(&mut self.list);
+        self.remove_callee(session, registration);
         Ok(())
+    }
+
+    // The session is no callee of the registration of this id, of which it is one, any more.
+    fn remove_callee(&mut self, session: Id, id: Id)
+        requires { is_callee self.old session id ≡ true }
+        ensures { self.new ≡ without_callee_of self.old session id }
+    {
+        self.groups.are_held();
+        self.groups.leave(session, id);
     }
 
     /// The session is no callee any more; what has no callees is no more. Takes no memory.
     pub fn leave(&mut self, session: Id)
         ensures { self.new ≡ leave self.old session }
     {
-        leave_each(&mut self.list, session);
-        remove_empty(&mut self.list);
+        self.groups.are_held();
+        self.groups.leave_all(session);
     }
 
     /// Who is called for this procedure: the registration whose pattern serves it, and under `Last` its last callee, else its
@@ -149,7 +162,7 @@ impl Registrations {
     pub fn choose(&self, uri: &Uri<'_>) -> Option<Chosen>
         ensures { result ≡ choose self.now uri.now }
     {
-        match serving(&self.list, uri) {
+        match self.groups.best(uri) {
             Some(registration) => registration.chosen(),
             None => None,
         }
@@ -159,124 +172,6 @@ impl Registrations {
     pub fn turn(&mut self, registration: Id)
         ensures { self.new ≡ turn self.old registration }
     {
-        turn_one(&mut self.list, registration);
-    }
-}
-
-// The registration of this text and match.
-fn registration_at<'a>(list: &'a [Registration], pattern: &Pattern<'_>) -> Option<&'a Registration>
-    ensures { option_map (λ found. found.now) result ≡ find (is_at pattern.now) list.now }
-{
-    list.iter().find(|registration| registration.is_at(pattern))
-}
-
-// How many registrations the session has.
-fn count_of(list: &[Registration], session: Id) -> usize
-    ensures { result ≡ length (filter (has_callee session) list.now) }
-{
-    list.iter()
-        .filter(|registration| registration.has_callee(session))
-        .count()
-}
-
-// The session is the last callee of the registration of this text and match.
-fn add_callee(
-    list: &mut [Registration],
-    session: Id,
-    pattern: &Pattern<'_>,
-) -> Result<(), RealmFault>
-    ensures ok { OnOk result (list.new ≡ change_first (is_at pattern.now) (with_callee session) list.old) }
-    ensures err { OnErr result (list.new ≡ list.old) }
-    ensures fault { IsOkUnless result fault.Memory }
-{
-    for place in 0..list.len() {
-        if list[place].is_at(pattern) {
-            list[place].callees.join(session)?;
-            return Ok(());
-        }
-    }
-    Ok(())
-}
-
-// The registration of this id.
-fn registration_of(list: &[Registration], id: Id) -> Option<&Registration>
-    ensures { option_map (λ found. found.now) result ≡ find (has_id id) list.now }
-{
-    list.iter().find(|registration| registration.has_id(id))
-}
-
-// Whether the session is a callee of the registration of this id.
-fn is_callee(list: &[Registration], session: Id, id: Id) -> bool
-    ensures { result ≡ found_callee session (find (has_id id) list.now) }
-{
-    match registration_of(list, id) {
-        Some(registration) => registration.has_callee(session),
-        None => false,
-    }
-}
-
-// The session is no callee of the registration of this id any more.
-fn remove_callee(list: &mut [Registration], session: Id, id: Id)
-    ensures { list.new ≡ change_first (has_id id) (without_callee session) list.old }
-{
-    for place in 0..list.len() {
-        if list[place].has_id(id) {
-            list[place].leave(session);
-            return;
-        }
-    }
-}
-
-// The session is no callee any more.
-fn leave_each(list: &mut [Registration], session: Id)
-    ensures { list.new ≡ map (without_callee session) list.old }
-{
-    for place in 0..list.len() {
-        list[place].leave(session);
-    }
-}
-
-// What has no callees is no more.
-fn remove_empty(list: &mut Vec<Registration>)
-    ensures { list.new.items ≡ filter has_callees list.old.items }
-{
-    list.retain(|registration| registration.has_callees());
-}
-
-// The registration that serves the URI: of those that match it the one that no other beats.
-fn serving<'a>(list: &'a [Registration], uri: &Uri<'_>) -> Option<&'a Registration>
-    ensures { option_copied result ≡ serves (λ registration. registration.pattern) list.now uri.now }
-{
-    let mut best = None;
-    for registration in list {
-        if matches(&registration.pattern, uri) {
-            best = Some(better_one(best, registration));
-        }
-    }
-    best
-}
-
-// The better of the best registration so far and one more.
-fn better_one<'a>(
-    best: Option<&'a Registration>,
-    registration: &'a Registration,
-) -> &'a Registration
-    ensures { Some result.now ≡ best_so_far (λ registration. registration.pattern) (option_copied best.entry) registration.now }
-{
-    match best {
-        Some(best) if !better(&registration.pattern, &best.pattern) => best,
-        _ => registration,
-    }
-}
-
-// The callees of the registration of this id take turns, if its policy says so.
-fn turn_one(list: &mut [Registration], id: Id)
-    ensures { list.new ≡ change_first (has_id id) turned list.old }
-{
-    for place in 0..list.len() {
-        if list[place].has_id(id) {
-            list[place].turn();
-            return;
-        }
+        self.groups.turn(registration);
     }
 }

@@ -62,10 +62,22 @@ fn chosen(registrations: &Registrations, uri: &str, wants_callee: bool) -> u64 {
     }
 }
 
+// The callee that is called, if there is one, and then its registration takes turns.
+fn called(registrations: &mut Registrations, text: &str) -> u64 {
+    let callee = chosen(registrations, text, true);
+    if let Some(id) = Id::new(chosen(registrations, text, false)) {
+        registrations.turn(id);
+    }
+    callee
+}
+
 // What one step answers.
 fn step(registrations: &mut Registrations, word: &str, session: u64, id: u64, text: &str) -> u64 {
     if word == "callee" {
         return chosen(registrations, text, true);
+    }
+    if word == "call" {
+        return called(registrations, text);
     }
     if word == "serving" {
         return chosen(registrations, text, false);
@@ -160,6 +172,36 @@ const CALLEES_TAKE_TURNS: &[Row<'static>] = &[
 #[test]
 fn callees_take_turns(rt: HostRuntime) {
     check(&rt, rt.alloc(), 8, CALLEES_TAKE_TURNS);
+}
+
+const A_NEWCOMER_COMES_LAST: &[Row<'static>] = &[
+    ("roundrobin", 1, 0, "p", 1),
+    ("roundrobin", 2, 0, "p", 1),
+    ("roundrobin", 3, 0, "p", 1),
+    ("call", 0, 0, "p", 1),
+    ("call", 0, 0, "p", 2),
+    ("roundrobin", 4, 0, "p", 1),
+    ("call", 0, 0, "p", 3),
+    ("call", 0, 0, "p", 1),
+    ("call", 0, 0, "p", 2),
+    ("call", 0, 0, "p", 4),
+    ("call", 0, 0, "p", 3),
+    ("unregister", 2, 1, "", 0),
+    ("call", 0, 0, "p", 1),
+    ("call", 0, 0, "p", 4),
+    ("call", 0, 0, "p", 3),
+    ("leave", 1, 0, "", 0),
+    ("call", 0, 0, "p", 4),
+    ("leave", 4, 0, "", 0),
+    ("call", 0, 0, "p", 3),
+    ("leave", 3, 0, "", 0),
+    ("call", 0, 0, "p", 0),
+    ("roundrobin", 5, 0, "p", 2),
+];
+
+#[test]
+fn a_newcomer_comes_last(rt: HostRuntime) {
+    check(&rt, rt.alloc(), 8, A_NEWCOMER_COMES_LAST);
 }
 
 const REGISTRATIONS_ARE_REFUSED: &[Row<'static>] = &[

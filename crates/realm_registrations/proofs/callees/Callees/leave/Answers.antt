@@ -1,0 +1,15 @@
+use Rattle.std.proofs.Common.{◌≤◌, length, take, sym, ap, subst, ◌∙◌}
+use Rattle.realm_sessions.specs.Members.{others}
+use Rattle.realm_registrations.specs.Callees.{seen}
+use Rattle.realm_registrations.proofs.Cursor.{fewer_others, seen_left}
+use Rattle.realm_registrations.proofs.callees.Callees.leave.Goals as goal
+
+pub invariant_of-self : goal.invariant_of-self
+invariant_of-self c =
+    rw (c.keep_others.ensures, c.count_others-self-inside.ensures, c.deref.ensures.value)
+    (fewer_others c.self.inside.cursor c.args.session c.self.inside.list.items)
+
+pub returns : goal.returns
+returns c =
+    rw (c.keep_others.ensures, c.count_others-self-inside.ensures, c.deref.ensures.value, ← c.self.view_is)
+    (seen_left c.self.inside.cursor c.args.session c.self.inside.list.items)

@@ -1,0 +1,10 @@
+pub mod Changes
+pub mod Gathering
+pub mod Joining
+pub mod Keeping
+pub mod Leaving
+pub mod Patterns
+pub mod Rows
+pub mod Serving
+pub mod Sets
+pub mod Standing

@@ -1,0 +1,11 @@
+//! Groups of sessions, each under a pattern and with an id: the callees of registrations, the members of subscriptions.
+#![tactic(auto)]
+
+mod group;
+mod groups;
+mod id_sets;
+mod kept;
+mod matching;
+
+pub use group::{Group, Turning};
+pub use groups::Groups;
