@@ -92,7 +92,7 @@ seen_long i xs =
 pub fewer_others : (i s : ℕ) (xs : List ℕ) → length (others s (take i xs)) ≤ length (others s xs)
 fewer_others i s xs =
     let whole : others s xs ≡ others s (take i xs) ++ others s (drop i xs) =
-        ap (others s) (sym (take-append-drop i xs)) ∙ filter-append (λ m. not (m == s)) (take i xs) (drop i xs) in
+    ap (others s) (sym (take-append-drop i xs)) ∙ filter-append (λ m. not (m == s)) (take i xs) (drop i xs) in
     let long : length (others s xs) ≡ length (others s (take i xs)) + length (others s (drop i xs)) =
-        ap (λ (ys : List ℕ). length ys) whole ∙ length-append (others s (take i xs)) (others s (drop i xs)) in
+    ap (λ (ys : List ℕ). length ys) whole ∙ length-append (others s (take i xs)) (others s (drop i xs)) in
     omega (arith, long)

@@ -75,7 +75,7 @@ each_step : (session : ℕ) (x : Registration) (more rest : List Registration) (
 each_step session x more rest true on held same = put_held (without_callee session x) more rest (has_callees (without_callee session x)) same
 each_step session x more rest false off held same =
     let stays : without_callee session x ≡ x =
-        ap (λ (callees : List ℕ). record x { callees = callees }) (others_all session x.callees off) in
+    ap (λ (callees : List ℕ). record x { callees = callees }) (others_all session x.callees off) in
     ap (λ (ys : List Registration). x ∷ ys) same
     ∙ sym (ap (λ (r : Registration). cond (has_callees r) (r ∷ rest) rest) stays
     ∙ cond-true (has_callees x) (x ∷ rest) rest held)
