@@ -1,8 +1,10 @@
-//! Tests of a script's lines and of the packets that its flushes deliver, over the public surfaces of `script_lines` and
-//! `waiting_packets`. A crate with tests is proved twice, so they stand here.
+//! Tests of a script's lines, of the packets that its flushes deliver and of the text of a world, over the public surfaces of
+//! `script_lines`, `waiting_packets` and `script_text`. A crate with tests is proved twice, so they stand here.
 #![tactic(auto)]
 
 #[cfg(test)]
 mod lines;
+#[cfg(test)]
+mod text;
 #[cfg(test)]
 mod waiting;

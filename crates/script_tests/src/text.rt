@@ -1,0 +1,62 @@
+use script_text::{Entry, Memory, Out, Transport, put_log, put_node, put_said};
+use std::alloc::Global;
+use std::test::Fail;
+
+// A log in which an Item comes before the one that its node took before it, and a boot is lost twice.
+const LOG: &[Entry<u8>] = &[
+    Entry::Noop,
+    Entry::Boot { node: 1, boot: 1 },
+    Entry::Item {
+        node: 1,
+        boot: 1,
+        seq: 2,
+        transport: 4294967295,
+        body: 0,
+    },
+    Entry::Item {
+        node: 1,
+        boot: 1,
+        seq: 1,
+        transport: 7,
+        body: 0,
+    },
+    Entry::Lost { node: 1, boot: 1 },
+    Entry::Lost { node: 1, boot: 1 },
+];
+
+const LOG_TEXT: &[u8] =
+    b"1 noop\n2 boot 1 1 took\n3 item 1 1 2 4294967295 skipped\n4 item 1 1 1 7 took\n5 lost 1 1 took\n6 lost 1 1 skipped\n";
+
+// A node that is up with this log, one that is down, and what a transport was told last.
+fn put_all(out: &mut Vec<u8>) -> Result<(), Memory> {
+    put_node(out, 1, true)?;
+    put_log(out, LOG)?;
+    put_node(out, 7, false)?;
+    let transport = Transport {
+        node: 2,
+        boot: 281474976710655,
+        number: 1,
+    };
+    put_said(out, transport, &Out::Close)
+}
+
+fn text(alloc: Global) -> Result<Vec<u8>, Memory> {
+    let mut out = Vec::new(alloc);
+    put_all(&mut out)?;
+    Ok(out)
+}
+
+fn expected(alloc: Global) -> Result<Vec<u8>, Memory> {
+    let mut out = Vec::from_slice(alloc, b"node 1 up\n")?;
+    out.extend_from_slice(LOG_TEXT)?;
+    out.extend_from_slice(b"node 7 down\nto 2 281474976710655 1 close\n")?;
+    Ok(out)
+}
+
+#[test]
+fn logs_and_sayings_are_told(rt: HostRuntime) -> Result<(), Fail> {
+    let told = text(rt.alloc())?;
+    let wanted = expected(rt.alloc())?;
+    assert_eq!(rt; told.as_slice(), wanted.as_slice());
+    Ok(())
+}
