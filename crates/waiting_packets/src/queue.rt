@@ -1,5 +1,6 @@
 // The places of the packets between two members, for each ordered pair of them.
-ghost use Rattle.std.specs.Prelude.{◌≡◌, ℕ, ◌<◌, ◌≤◌, ◌/◌, ◌%◌, ◌&&◌, ◌==◌, List, ◌++◌, ◌∷◌, [], not, false, length, slice_index_or, IfOk, OnOk, OnErr};
+ghost use Rattle.std.specs.Prelude.{◌≡◌, ℕ, ◌<◌, ◌≤◌, ◌/◌, ◌%◌, ◌&&◌, ◌==◌, not, false, IfOk, OnOk, OnErr};
+ghost use Rattle.std.specs.Prelude.{List, [], ◌∷◌, ◌++◌, length, slice_index_or};
 ghost use Rattle.std.specs.List.{find};
 ghost use Rattle.paxos_packets.specs.Members.{is_member};
 ghost use Rattle.waiting_packets.specs.Waiting.{is_due, is_listed, first_from};
