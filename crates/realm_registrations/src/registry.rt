@@ -1,7 +1,8 @@
 ghost use Rattle.std.specs.Prelude.{◌≡◌, true, false, OnOk, OnErr, IsOkUnless, None};
 ghost use Rattle.realm_sessions.specs.declared.fault.RealmFault.TheVariants as fault;
 ghost use Rattle.realm_sessions.specs.Fault.{Answers};
-ghost use Rattle.realm_registrations.specs.Registry.{no_registrations, is_full, register, register_at, registration_at, found_callee, is_callee, unregister};
+ghost use Rattle.realm_registrations.specs.Registry.{no_registrations, is_full, register, register_at};
+ghost use Rattle.realm_registrations.specs.Registry.{registration_at, found_callee, is_callee, unregister};
 ghost use Rattle.realm_registrations.specs.Registry.{with_callee_at, without_callee_of, leave, choose, turn};
 
 use crate::callees::Callees;

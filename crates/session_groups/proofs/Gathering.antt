@@ -1,5 +1,6 @@
 -- Groups that are gathered by their ids, which come in any order, are those whose patterns match, by ascending id.
-use Rattle.std.proofs.Common.{◌≡◌, ℕ, zero, suc, ◌+◌, ◌<◌, length, get_or, drop, arith, Bool, true, false, cond, ◌||◌, List, [], ◌∷◌, map, filter, Option, None, Some, nat_cmp, nat_eq}
+use Rattle.std.proofs.Common.{◌≡◌, ℕ, zero, suc, ◌+◌, ◌<◌, length, get_or, drop, arith, Bool, true}
+use Rattle.std.proofs.Common.{false, cond, ◌||◌, List, [], ◌∷◌, map, filter, Option, None, Some, nat_cmp, nat_eq}
 use Rattle.std.proofs.Common.{refl, sym, ap, ◌∙◌, subst}
 use denote.Ref.{Bor}
 use Rattle.std.specs.declared.cmp.Ordering.{Ordering}

@@ -1,5 +1,6 @@
 -- Of each session it goes on being told in which groups it is.
-use Rattle.std.proofs.Common.{◌≡◌, ℕ, ◌==◌, Bool, true, false, not, ◌&&◌, ◌||◌, cond, List, [], ◌∷◌, ◌++◌, suc, arith, lt-ltb, map, filter, length, Option, None, Some, nat_cmp, option_map, nat_lt}
+use Rattle.std.proofs.Common.{◌≡◌, ℕ, ◌==◌, Bool, true, false, not, ◌&&◌, ◌||◌, cond, List, [], ◌∷◌}
+use Rattle.std.proofs.Common.{◌++◌, suc, arith, lt-ltb, map, filter, length, Option, None, Some, nat_cmp, option_map, nat_lt}
 use Rattle.std.proofs.Common.{refl, sym, ap, ◌∙◌, subst}
 use Rattle.std.specs.declared.cmp.Ordering.TheVariants.{Less}
 use Rattle.std.specs.Ordering.{is_eq}
@@ -15,7 +16,8 @@ use Rattle.keyed_lists.proofs.Finding.{at_is, at_same, same_at, rising_head, ris
 use Rattle.keyed_lists.proofs.Gathering.{same_rows}
 use Rattle.session_groups.specs.Groups.{after_left, alter_at, found_session, has_session, if_held, is_held, left_at}
 use Rattle.session_groups.specs.IdSets.{has_id_in, ids_of, is_id}
-use Rattle.session_groups.proofs.Rows.{all_stand, at, look_altered, look_left, look_pushed, none_above, none_behind, none_some, off_at, same_some, two_ways}
+use Rattle.session_groups.proofs.Rows.{all_stand, at, look_altered, look_left, look_pushed}
+use Rattle.session_groups.proofs.Rows.{none_above, none_behind, none_some, off_at, same_some, two_ways}
 
 -- ---- among the sessions of one group
 

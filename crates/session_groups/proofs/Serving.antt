@@ -1,5 +1,6 @@
 -- Who serves among the groups is who serves among their patterns.
-use Rattle.std.proofs.Common.{◌≡◌, ℕ, Bool, true, false, not, List, filter, find, Option, None, Some, is_some, option_map, refl, sym, ap, ◌∙◌, subst}
+use Rattle.std.proofs.Common.{◌≡◌, ℕ, Bool, true, false, not, List, filter, find}
+use Rattle.std.proofs.Common.{Option, None, Some, is_some, option_map, refl, sym, ap, ◌∙◌, subst}
 use Rattle.std.specs.List.{list_any}
 use Rattle.std.specs.Map.{values_of}
 use Rattle.std.proofs.lemmas.Bool.{cond-true, false≢true, false_from_ne_true, both_ways}
@@ -13,7 +14,8 @@ use Rattle.keyed_lists.specs.Finding.{is_passing}
 use Rattle.session_groups.specs.Groups.{id_at, is_at}
 use Rattle.session_groups.proofs.Rows.{none_some, same_some}
 use Rattle.session_groups.proofs.Patterns.{the_same}
-use Rattle.session_groups.proofs.Standing.{Has, any_none, found_has, has_among, has_any, has_kept, has_kept_at, has_member, has_place_of, kept_has, member_has}
+use Rattle.session_groups.proofs.Standing.{Has, any_none, found_has, has_among, has_any}
+use Rattle.session_groups.proofs.Standing.{has_kept, has_kept_at, has_member, has_place_of, kept_has, member_has}
 use Rattle.session_groups.proofs.Keeping.{Kept}
 
 some_or_none : {X : Type 0} {P : Type 0} (o : Option X) → (o ≡ None → P) → ((x : X) → o ≡ Some x → P) → P

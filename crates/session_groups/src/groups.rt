@@ -1,8 +1,10 @@
-ghost use Rattle.std.specs.Prelude.{◌≡◌, ◌≤◌, ◌<◌, ◌+◌, ◌∷◌, [], ◌++◌, ℕ, List, true, false, None, Some, not, ◌&&◌, length, filter, find, map, option_map, option_copied, IfOk, OnOk, OnErr, IsOkUnless};
+ghost use Rattle.std.specs.Prelude.{◌≡◌, ◌≤◌, ◌<◌, ◌+◌, ◌∷◌, [], ◌++◌, ℕ, List, true, false, None};
+ghost use Rattle.std.specs.Prelude.{Some, not, ◌&&◌, length, filter, find, map, option_map, option_copied, IfOk, OnOk, OnErr, IsOkUnless};
 ghost use Rattle.wamp_ids.specs.Id.{last_id};
 ghost use Rattle.wamp_patterns.specs.Ranking.{matching, serves};
 ghost use Rattle.realm_sessions.specs.declared.fault.RealmFault.TheVariants as fault;
-ghost use Rattle.session_groups.specs.Groups.{nothing, with_list, with_group, has_id, is_at, has_session, found_session, is_held, departed, change_first, each};
+ghost use Rattle.session_groups.specs.Groups.{nothing, with_list, with_group, has_id, is_at};
+ghost use Rattle.session_groups.specs.Groups.{has_session, found_session, is_held, departed, change_first, each};
 ghost use Rattle.std.specs.List.{All, list_any};
 
 use crate::group::{Group, Turning};

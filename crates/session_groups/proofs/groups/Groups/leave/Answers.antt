@@ -17,7 +17,8 @@ returns-then-not-has g c =
     rw (← c.self.view_is)
     (ap (λ (list : List g.row.G.Denot). record { list = list; last = c.self.inside.last })
     (sym (stays_single g.G.Group.sessions_of g.G.Group.without c.args.session (has_id g.G.Group.id_of c.args.id) c.args.id
-    c.self.inside.rows.entries (single_id g.G.Group.id_of g.G.Group.pattern_of g.G.Group.sessions_of c.self.inside.rows.entries c.self.inside.patterns c.self.inside.last c.self.invariant.kept c.args.id)
+    c.self.inside.rows.entries (single_id g.G.Group.id_of g.G.Group.pattern_of g.G.Group.sessions_of
+    c.self.inside.rows.entries c.self.inside.patterns c.self.inside.last c.self.invariant.kept c.args.id)
     (λ x is. sym (ap (found_session g.G.Group.sessions_of c.args.session) is) ∙ told))))
 
 pub invariant_of-self : goal.invariant_of-self
@@ -44,5 +45,6 @@ returns g c =
     (ap members c.leave_in.ensures.rows
     ∙ ap (λ n. members (left_at g.G.Group.sessions_of n (g.G.Group.without c.args.session) c.self.inside.rows.entries)) c.get-number.ensures.value
     ∙ sym (left_single g.G.Group.sessions_of g.G.Group.without c.args.session (has_id g.G.Group.id_of c.args.id) c.args.id
-    c.self.inside.rows.entries (single_id g.G.Group.id_of g.G.Group.pattern_of g.G.Group.sessions_of c.self.inside.rows.entries c.self.inside.patterns c.self.inside.last c.self.invariant.kept c.args.id)
+    c.self.inside.rows.entries (single_id g.G.Group.id_of g.G.Group.pattern_of g.G.Group.sessions_of
+    c.self.inside.rows.entries c.self.inside.patterns c.self.inside.last c.self.invariant.kept c.args.id)
     (λ x is. sym (ap (found_session g.G.Group.sessions_of c.args.session) is) ∙ told))))

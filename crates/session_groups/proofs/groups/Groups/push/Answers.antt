@@ -6,11 +6,14 @@ use Rattle.session_groups.proofs.Joining.{Told_more, told_back, told_pushed}
 use Rattle.session_groups.proofs.groups.Groups.push.Goals as goal
 
 pub put_in-requires-clause-new : goal.put_in-requires-clause-new
-put_in-requires-clause-new g c = unkept g.G.Group.id_of g.G.Group.pattern_of g.G.Group.sessions_of c.self.inside.rows.entries c.self.inside.patterns c.self.inside.last c.self.invariant.kept (g.G.Group.pattern_of c.args.group) (rw (← c.self.view_is) at c.requires.new)
+put_in-requires-clause-new g c = unkept g.G.Group.id_of g.G.Group.pattern_of g.G.Group.sessions_of
+    c.self.inside.rows.entries c.self.inside.patterns
+    c.self.inside.last c.self.invariant.kept (g.G.Group.pattern_of c.args.group) (rw (← c.self.view_is) at c.requires.new)
 
 pub invariant_of-self-in_default : goal.invariant_of-self-in_default
 invariant_of-self-in_default g c = record {
-  kept = c.in_default.ensures.kept c.self.inside.last c.self.invariant.kept;
+  kept = c.in_default.ensures.kept
+      c.self.inside.last c.self.invariant.kept;
   joined = rw c.in_default.ensures.err
       (told_back g.G.Group.sessions_of c.self.inside.sets c.add.new.self c.remove.new.self c.self.inside.rows.entries c.args.session
       (c.self.inside.last + 1)
