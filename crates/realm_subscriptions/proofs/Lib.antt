@@ -1,2 +1,3 @@
-mod Places
+pub mod Grouped
+pub mod Joined
 pub mod Sound

@@ -19,7 +19,12 @@ use Rattle.realm_subscriptions.specs.Subscribing.{Subscribed, join, add, unless_
 use Rattle.realm_subscriptions.specs.Leaving.{left}
 use Rattle.realm_subscriptions.specs.Laws.{IsSoundSubscription, AreSoundSubscriptions, NoneAreSound, SubscribeKeepsSound}
 use Rattle.realm_subscriptions.specs.Laws.{UnsubscribeKeepsSound, LeaveKeepsSound}
-use Rattle.realm_subscriptions.proofs.Places.{some_is, none_is}
+
+some_is : {X : Type 0} {x y : X} → Some x ≡ Some y → x ≡ y
+some_is h = cc
+
+none_is : {X : Type 0} {x : X} → None ≡ Some x → ⊥
+none_is h = cc
 
 abbrev Rise : Subscription → Subscription → Type 0
 Rise a b = a.id < b.id

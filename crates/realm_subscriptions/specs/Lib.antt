@@ -1,3 +1,4 @@
+pub mod Members
 pub mod Subscription
 pub mod Subscriptions
 pub mod Subscribing

@@ -1,15 +1,16 @@
 // Who gets an event.
-ghost use Rattle.std.specs.Prelude.{◌≡◌, ◌++◌, OnOk, IfOk, IsOkUnless};
+ghost use Rattle.std.specs.Prelude.{◌≡◌, ◌++◌, ℕ, List, Option, map, filter, OnOk, IfOk, IsOkUnless};
 ghost use Rattle.std.specs.List.{flat_map};
 ghost use Rattle.wamp_patterns.specs.Ranking.{matching};
+ghost use Rattle.realm_subscriptions.specs.declared.receiving.Receiver.{Receiver};
 ghost use Rattle.realm_sessions.specs.declared.fault.RealmFault.TheVariants as fault;
-ghost use Rattle.realm_subscriptions.specs.Receiving.{is_for, receivers_of};
+ghost use Rattle.realm_subscriptions.specs.Receiving.{is_for, receiver};
 
 use crate::subscription::Subscription;
 use realm_sessions::RealmFault;
+use session_groups::{Group, Groups};
 use std::alloc::Global;
 use wamp_ids::{Id, Match, Uri};
-use wamp_patterns::matches;
 
 /// One that gets an event: a member of a subscription, and how that matched the event's URI.
 #[derive(Clone, Copy, Debug, PartialEq, Eq)]
@@ -19,36 +20,82 @@ pub struct Receiver {
     pub member: Id,
 }
 
-// The receivers among these subscriptions.
-pub(crate) fn receivers_among(
+// What has receivers of events.
+pub(crate) trait Receiving: Group {
+    ghost receivers: { Option ℕ → Self → List Receiver };
+
+    // Its receivers come behind those found. The only fault is `Memory`.
+    fn add_receivers(
+        &self,
+        alloc: Global,
+        found: &mut Vec<Receiver>,
+        except: &Option<Id>,
+    ) -> Result<(), RealmFault>
+        ensures ok { OnOk result (found.new.items ≡ found.old.items ++ receivers except.now self.now) }
+        ensures fault { IsOkUnless result fault.Memory };
+}
+
+impl Receiving for Subscription {
+    ghost use Rattle.realm_subscriptions.specs.Receiving.{receivers_of};
+
+    ghost receivers = { receivers_of };
+
+    fn add_receivers(
+        &self,
+        alloc: Global,
+        found: &mut Vec<Receiver>,
+        except: &Option<Id>,
+    ) -> Result<(), RealmFault> {
+        let members = self.members.to_vec(alloc)?;
+        add_members(found, self, &members, except)
+    }
+}
+
+// The receivers among the groups whose patterns match the URI.
+pub(crate) fn receivers_in<G: Receiving>(
     alloc: Global,
-    list: &[Subscription],
+    groups: &Groups<G>,
     uri: &Uri<'_>,
     except: &Option<Id>,
 ) -> Result<Vec<Receiver>, RealmFault>
     ensures found { IfOk result (λ found. found.items
-        ≡ flat_map (receivers_of except.now) (matching (λ subscription. subscription.pattern) list.now uri.now)) }
+        ≡ flat_map (G.receivers except.now) (matching G.pattern_of groups.now.list uri.now)) }
+    ensures fault { IsOkUnless result fault.Memory }
+{
+    let Ok(list) = groups.all(uri) else {
+        return Err(RealmFault::Memory);
+    };
+    receivers_among(alloc, &list, except)
+}
+
+// The receivers of these groups, one after the other.
+fn receivers_among<G: Receiving>(
+    alloc: Global,
+    list: &[&G],
+    except: &Option<Id>,
+) -> Result<Vec<Receiver>, RealmFault>
+    ensures found { IfOk result (λ found. found.items ≡ flat_map (G.receivers except.now) (map (λ group. group.now) list.now)) }
     ensures fault { IsOkUnless result fault.Memory }
 {
     let mut found = Vec::new(alloc);
-    for subscription in list {
-        if matches(&subscription.pattern, uri) {
-            add_receivers_of(&mut found, subscription, except)?;
-        }
+    for group in list {
+        group.add_receivers(alloc, &mut found, except)?;
     }
     Ok(found)
 }
 
-// The receivers of one subscription.
-fn add_receivers_of(
+// Those of these members who get the event.
+fn add_members(
     found: &mut Vec<Receiver>,
     subscription: &Subscription,
+    members: &[Id],
     except: &Option<Id>,
 ) -> Result<(), RealmFault>
-    ensures ok { OnOk result (found.new.items ≡ found.old.items ++ receivers_of except.now subscription.now) }
+    ensures ok { OnOk result (found.new.items
+        ≡ found.old.items ++ map (receiver subscription.now) (filter (is_for except.now) members.now)) }
     ensures fault { IsOkUnless result fault.Memory }
 {
-    for member in subscription.members.as_slice() {
+    for member in members {
         if is_for(except, *member) {
             found.push(Receiver {
                 subscription: subscription.id,

@@ -1,8 +1,9 @@
-ghost use Rattle.std.specs.Prelude.{◌≡◌, OnOk, OnErr, IsOkUnless};
-ghost use Rattle.realm_sessions.specs.declared.fault.RealmFault.TheVariants as fault;
-ghost use Rattle.realm_subscriptions.specs.Subscription.{is_on, is_member, is_held, is_kept, with_member, without_member};
+ghost use Rattle.std.specs.Prelude.{◌≡◌};
+ghost use Rattle.realm_subscriptions.specs.Subscription.{is_member};
 
-use realm_sessions::{Members, RealmFault};
+use crate::members::Members;
+use realm_sessions::RealmFault;
+use session_groups::Group;
 use wamp_ids::{Id, Pattern};
 
 /// A subscription, with the sessions that are its members in the order of joining.
@@ -14,42 +15,53 @@ pub struct Subscription {
 }
 
 impl Subscription {
-    // Whether it is the pattern's.
-    pub(crate) fn is_on(&self, pattern: &Pattern<'_>) -> bool
-        ensures { result ≡ is_on pattern.now self.now }
-    {
-        self.pattern.same(pattern)
-    }
-
-    // Whether the session is a member. Goes over the members.
+    // Whether the session is a member.
     pub(crate) fn has(&self, session: Id) -> bool
         ensures { result ≡ is_member session self.now }
     {
         self.members.has(session)
     }
+}
 
-    // Whether it has this id, and the session is a member.
-    pub(crate) fn is_held(&self, session: Id, id: Id) -> bool
-        ensures { result ≡ is_held session id self.now }
-    {
-        self.id == id && self.has(session)
+impl Group for Subscription {
+    ghost use Rattle.std.specs.Prelude.{refl};
+    ghost use Rattle.realm_subscriptions.specs.Subscription.{with_member, without_member};
+
+    ghost id_of = { λ subscription. subscription.id };
+
+    ghost pattern_of = { λ subscription. subscription.pattern };
+
+    ghost sessions_of = { λ subscription. subscription.members };
+
+    ghost with = { with_member };
+
+    ghost without = { without_member };
+
+    fn pattern(&self) -> &Pattern<'static> {
+        &self.pattern
     }
 
-    // The session comes as the last member.
-    pub(crate) fn join(&mut self, session: Id) -> Result<(), RealmFault>
-        ensures ok { OnOk result (self.new ≡ with_member session self.old) }
-        ensures err { OnErr result (self.new ≡ self.old) }
-        ensures fault { IsOkUnless result fault.Memory }
-    {
+    fn has_some(&self) -> bool {
+        self.members.has_some()
+    }
+
+    fn join(&mut self, session: Id) -> Result<(), RealmFault> {
         self.members.join(session)
     }
 
-    // The session leaves. Whether there are members then.
-    pub(crate) fn leave(&mut self, session: Id) -> bool
-        ensures left { self.new ≡ without_member session self.old }
-        ensures kept { result ≡ is_kept (without_member session self.old) }
-    {
+    fn leave(&mut self, session: Id) {
         self.members.leave(session);
-        self.members.has_some()
     }
+
+    ghost with_id = { λ session subscription. refl };
+
+    ghost with_pattern = { λ session subscription. refl };
+
+    ghost with_sessions = { λ session subscription. refl };
+
+    ghost without_id = { λ session subscription. refl };
+
+    ghost without_pattern = { λ session subscription. refl };
+
+    ghost without_sessions = { λ session subscription. refl };
 }

@@ -1,4 +1,4 @@
-ghost use Rattle.std.specs.Prelude.{◌≡◌, Ok, Err, true, OnOk, OnErr, IsOk, IfOk, IsOkUnless, MatchBool};
+ghost use Rattle.std.specs.Prelude.{◌≡◌, Ok, Err, length, true, OnOk, OnErr, IsOk, IfOk, IsOkUnless, MatchBool};
 ghost use Rattle.realm_sessions.specs.declared.fault.RealmFault.TheVariants as fault;
 ghost use Rattle.realm_sessions.specs.Fault.{Answers};
 ghost use Rattle.realm_subscriptions.specs.Subscriptions.{no_subscriptions};
@@ -6,35 +6,30 @@ ghost use Rattle.realm_subscriptions.specs.Subscribing.{subscribe, is_subscribed
 ghost use Rattle.realm_subscriptions.specs.Leaving.{is_in, unsubscribe, leave};
 ghost use Rattle.realm_subscriptions.specs.Receiving.{receivers};
 
-use crate::leaving::{leave_all, leave_at, place_in};
-use crate::receiving::{Receiver, receivers_among};
+use crate::receiving::{Receiver, receivers_in};
 use crate::subscription::Subscription;
 use realm_sessions::RealmFault;
+use session_groups::Groups;
 use std::alloc::Global;
 use std::marker::Model;
 use wamp_ids::{Id, Pattern, Uri};
 
 /// The subscriptions of a realm by ascending id, of which a session may have only so many.
 ///
-/// Cost: each call goes over the subscriptions at most once, and what is said beside it.
+/// Cost: each call takes a number of steps that is logarithmic in the number of subscriptions and of sessions, and what is said beside it.
 #[derive(Drop)]
 pub struct Subscriptions {
     pub(crate) limit: u32,
-    pub(crate) list: Vec<Subscription>,
-    // The greatest id that was handed out, 0 before the first.
-    pub(crate) last: u64,
+    pub(crate) alloc: Global,
+    pub(crate) groups: Groups<Subscription>,
 }
 
 impl Model for Subscriptions {
-    ghost use Rattle.std.specs.Prelude.{◌≤◌};
-    ghost use Rattle.wamp_ids.specs.Id.{last_id};
     ghost use Rattle.realm_subscriptions.specs.Subscriptions.{Subscriptions};
 
     ghost Value = { Subscriptions };
 
-    ghost view = { λ a. record { limit = a.limit; list = a.list.items; last = a.last } };
-
-    ghost invariant = { λ a. a.last ≤ last_id };
+    ghost view = { λ a. record { limit = a.limit; list = a.groups.list; last = a.groups.last } };
 }
 
 impl Subscriptions {
@@ -44,8 +39,8 @@ impl Subscriptions {
     {
         Subscriptions {
             limit,
-            list: Vec::new(alloc),
-            last: 0,
+            alloc,
+            groups: Groups::new(alloc),
         }
     }
 
@@ -53,7 +48,7 @@ impl Subscriptions {
     /// the next id. A session that is a member already is answered the same id, and nothing changes. The faults are `Limit`, for a
     /// session with as many subscriptions as it may have and where the ids are spent, and then `Memory`; nothing has changed then.
     ///
-    /// Cost: for a session that is no member once more over all, and their members. The pattern is copied for a new subscription alone.
+    /// Cost: the pattern is copied for a new subscription alone.
     pub fn subscribe(&mut self, session: Id, pattern: &Pattern<'_>) -> Result<Id, RealmFault>
         ensures answer { Answers result (subscribe self.old session pattern.now).answer }
         ensures ok { OnOk result (self.new ≡ (subscribe self.old session pattern.now).subscriptions) }
@@ -70,33 +65,34 @@ impl Subscriptions {
         ensures subscriptions { self.new ≡ unsubscribe self.old session id }
         ensures err { OnErr result (self.new ≡ self.old) }
     {
-        let Some(place) = place_in(&self.list, session, id) else {
+        if !self.is_in(session, id) {
             return Err(RealmFault::NoSuchSubscription);
-        };
-        leave_at(&mut self.list, place, session, id);
+        }
+        self.leave_one(session, id);
         Ok(())
     }
 
-    /// The session leaves all its subscriptions; those without members are no more. Takes no memory. Goes over all members.
+    /// The session leaves all its subscriptions; those without members are no more. Takes no memory. Goes over those subscriptions.
     pub fn leave(&mut self, session: Id)
         ensures { self.new ≡ leave self.old session }
     {
-        leave_all(&mut self.list, session);
+        self.leave_all(session);
     }
 
     /// Who gets an event under this URI: the members, in the order of joining, of each subscription whose pattern matches it, by ascending
-    /// id over all three matches, without the session `except`. The only fault is `Memory`.
+    /// id over all three matches, without the session `except`. The only fault is `Memory`. Takes what a table of patterns takes to find
+    /// those that match, and memory and steps for them and their members.
     pub fn receivers(&self, uri: &Uri<'_>, except: Option<Id>) -> Result<Vec<Receiver>, RealmFault>
         ensures found { IfOk result (λ found. found.items ≡ receivers self.now uri.now except) }
         ensures fault { IsOkUnless result fault.Memory }
     {
-        receivers_among(*self.list.allocator(), &self.list, uri, &except)
+        receivers_in(self.alloc, &self.groups, uri, &except)
     }
 
-    /// The subscriptions, by ascending id. Takes no memory.
-    pub fn as_slice(&self) -> &[Subscription]
-        ensures { result.now ≡ self.now.list }
+    /// How many subscriptions there are. Takes no memory.
+    pub fn len(&self) -> usize
+        ensures { result ≡ length self.now.list }
     {
-        self.list.as_slice()
+        self.groups.len()
     }
 }

@@ -82,7 +82,7 @@ fn step(subscriptions: &mut Subscriptions, word: &str, session: u64, text: &str,
         if let Some(session) = Id::new(session) {
             subscriptions.leave(session);
         }
-        return subscriptions.as_slice().len() as u64;
+        return subscriptions.len() as u64;
     }
     told(subscriptions, text, id)
 }

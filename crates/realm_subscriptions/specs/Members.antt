@@ -1,0 +1,11 @@
+-- Members in the order of joining, kept at places that a session tells.
+use Rattle.std.specs.Prelude.{ℕ, ◌==◌, Bool, List, Option}
+use Rattle.std.specs.Ordering.{nat_cmp}
+use Rattle.keyed_lists.specs.PlaceIndex.{place_at}
+
+abbrev pub is_session : ℕ → ℕ → Bool
+is_session session member = member == session
+
+-- the place of a session
+abbrev pub place_of : List (ℕ × ℕ) → ℕ → Option ℕ
+place_of places session = place_at nat_cmp places session
