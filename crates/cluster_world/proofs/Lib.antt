@@ -26,3 +26,9 @@ pub mod EventsAtOnce
 pub mod Waiting
 pub mod Stepping
 pub mod Scripting
+pub mod Attending
+pub mod Attends
+pub mod Worlds
+pub mod Founding
+pub mod Reading
+pub mod Headline

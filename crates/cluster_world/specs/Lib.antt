@@ -8,3 +8,7 @@ pub mod Scripts
 pub mod Examples
 pub mod Steps
 pub mod AtOnce
+pub mod StandsAt
+pub mod Members
+pub mod Founding
+pub mod Headline

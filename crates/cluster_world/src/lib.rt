@@ -2,6 +2,12 @@
 //! Made Simple, 2001, section 2; docs/CONSENSUS.md).
 #![tactic(auto)]
 
+mod fault;
 pub mod laws;
+mod member;
+mod run;
+mod world;
 
+pub use fault::Memory;
 pub use paxos_packets::Body;
+pub use world::World;

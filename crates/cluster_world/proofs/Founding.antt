@@ -1,0 +1,107 @@
+-- The first world, as its members are put in.
+use Rattle.std.proofs.Common.{◌≡◌, ◌⊎◌, inl, inr, ⊎_elim, ℕ, zero, suc, ◌+◌, ◌<◌, ◌≤◌, Bool, true, false, refl, sym, ap, ◌∙◌, subst, arith}
+use Rattle.std.proofs.Common.{List, [], ◌∷◌, ◌++◌, length, map, Option, Some, None}
+use Rattle.std.specs.Prelude.{slice_get, Result, Ok, Err, OnOk}
+use Rattle.std.proofs.lemmas.List.{map-append, length-append}
+use Rattle.paxos_packets.specs.declared.entry.Entry.{Entry}
+use Rattle.paxos_packets.specs.declared.entry.Entry.TheVariants.{Boot}
+use Rattle.paxos_packets.specs.declared.transport.Transport.{Transport}
+use Rattle.paxos_node.specs.Applying.{started, first_rows}
+use Rattle.paxos_turn.specs.Node.{NodeState}
+use Rattle.replica_machine.specs.Replay.{Machine}
+use Rattle.log_follower.specs.Following.{Followed}
+use Rattle.log_follower.specs.Handed.{said_in}
+use Rattle.cluster_world.specs.Members.{MemberState, nodes_of, machines_of, AreMembers, held_of}
+use Rattle.cluster_world.specs.StandsAt.{told_by, machine_at, Attends, StandsIn, HaveContent}
+use Rattle.cluster_world.specs.World.{World, node_at, founded, first_boots, first_world}
+use Rattle.cluster_world.specs.Founding.{HasBegun, AreFounded, AllAttend, AreAlike, NoneGivenUp}
+use Rattle.cluster_world.proofs.Worlds.{get_map, get_unmap, node_of_get, some_same}
+
+-- an element of a list with one more at its end
+pub get_last : {A : Type 0} (xs : List A) (x : A) (i : ℕ) (y : A) → slice_get (xs ++ x ∷ []) i ≡ Some y
+    → (slice_get xs i ≡ Some y) ⊎ ((i ≡ length xs) × (y ≡ x))
+get_last [] x zero y h = inr (refl, sym (some_same h))
+get_last [] x (suc i) y h = absurd (cc)
+get_last (a ∷ xs) x zero y h = inl h
+get_last (a ∷ xs) x (suc i) y h =
+    ⊎_elim (λ g. inl g) (λ (g : (i ≡ length xs) × (y ≡ x)). inr (ap suc g.0, g.1)) (get_last xs x i y h)
+
+pub get_seam : {A : Type 0} (xs : List A) (x : A) (ys : List A) → slice_get (xs ++ x ∷ ys) (length xs) ≡ Some x
+get_seam [] x ys = refl
+get_seam (a ∷ xs) x ys = get_seam xs x ys
+
+module _ {B M Y : Type 0} (members : ℕ) where
+  pub founded_more : (list : List (MemberState B M Y)) (made : List (Entry B)) (me : ℕ) (s : MemberState B M Y) → AreFounded members list made
+      → me ≡ suc (length list) → s.node ≡ started me first_rows → HasBegun members (length list) s
+      → AreFounded members (list ++ s ∷ []) (made ++ Boot me 1 ∷ [])
+  founded_more list made me s f is n b =
+      record {
+        nodes =
+            map-append (λ (z : MemberState B M Y). z.node) list (s ∷ [])
+            ∙ ((λ j. f.nodes j ++ (n ∙ ap (λ k. started k first_rows) is) j ∷ []) ∙ ap (λ k. founded k) (sym longer));
+        made_is = (λ j. f.made_is j ++ Boot (is j) 1 ∷ []) ∙ ap (λ k. first_boots k) (sym longer);
+        each = λ i x g. ⊎_elim (λ h. f.each i x h)
+            (λ (h : (i ≡ length list) × (x ≡ s)). subst (λ (z : ℕ × MemberState B M Y). HasBegun members z.0 z.1) (λ j. (sym h.0 j, sym h.1 j)) b)
+            (get_last list s i x g);
+      }
+    where
+      longer : length (list ++ s ∷ []) ≡ suc (length list)
+      longer = let l = length-append list (s ∷ []) in omega (arith, l)
+
+pub attend_more : {B M S Y : Type 0} (content : M → S) (m : Machine B S Y) (list : List (MemberState B M Y)) (s : MemberState B M Y)
+    → AllAttend content m list → Attends content m s.node s.machine → AllAttend content m (list ++ s ∷ [])
+attend_more {B} {M} {S} {Y} content m list s all a i x g =
+    ⊎_elim (λ h. all i x h)
+    (λ (h : (i ≡ length list) × (x ≡ s)). subst (λ (z : MemberState B M Y). Attends content m z.node z.machine) (sym h.1) a)
+    (get_last list s i x g)
+
+pub are_members : {B M Y : Type 0} (members : ℕ) (list : List (MemberState B M Y)) (made : List (Entry B)) → AreFounded members list made
+    → length list ≡ members → AreMembers members list
+are_members members list made f n =
+    record { count = n; each = λ i s g. let b = f.each i s g in (b.me, b.members_are, b.node) }
+
+pub stands_first : {B M S Y : Type 0} (content : M → S) (m : Machine B S Y) (members : ℕ) (list : List (MemberState B M Y)) (made : List (Entry B))
+    → AreFounded members list made → length list ≡ members → AllAttend content m list
+    → StandsIn content m (held_of members list [] made) (first_world members)
+stands_first {B} {M} {S} {Y} content m members list made f n all =
+    record {
+      nodes = f.nodes ∙ ap (λ k. founded k) n;
+      sent = refl;
+      made = f.made_is ∙ ap (λ k. first_boots k) n;
+      handed = λ t. told_at t.node t;
+      attends =
+          λ i g h.
+          let s = get_unmap (λ (z : MemberState B M Y). z.machine) list i g h in
+          subst (λ (z : NodeState B × Followed B M Y). Attends content m z.0 z.1)
+          (λ j. (sym (node_of_get (nodes_of list) i s.0.node (get_map (λ (z : MemberState B M Y). z.node) list i s.0 s.1)) j, s.2 j))
+          (all i s.0 s.1);
+      had =
+          λ i g h.
+          let s = get_unmap (λ (z : MemberState B M Y). z.machine) list i g h in
+          inl (ap (λ (z : Followed B M Y). z.log) (sym s.2) ∙ (f.each i s.0 s.1).log);
+    }
+  where
+    told_some : (o : Option (Followed B M Y)) (i : ℕ) (t : Transport) → slice_get (machines_of list) i ≡ o → told_by o t ≡ []
+    told_some None i t h = refl
+    told_some (Some g) i t h =
+        let s = get_unmap (λ (z : MemberState B M Y). z.machine) list i g h in
+        ap (λ (l : List _). said_in t l) (ap (λ (z : Followed B M Y). z.told) (sym s.2) ∙ (f.each i s.0 s.1).told)
+
+    told_at : (k : ℕ) (t : Transport) → told_by (machine_at (machines_of list) k) t ≡ []
+    told_at zero t = refl
+    told_at (suc i) t = told_some (slice_get (machines_of list) i) i t refl
+
+pub none_given_up : {B M Y : Type 0} (members : ℕ) (list : List (MemberState B M Y)) (made : List (Entry B)) → AreFounded members list made
+    → NoneGivenUp (machines_of list)
+none_given_up members list made f i g h =
+    let s = get_unmap (λ (z : MemberState _ _ _). z.machine) list i g h in
+    ap (λ (z : Followed _ _ _). z.given_up) (sym s.2) ∙ (f.each i s.0 s.1).alive
+
+-- the content that all machines have
+pub content_of_all : {M S : Type 0} (content : M → S) (machines : List M) (n : ℕ) → length machines ≡ n → 3 ≤ n → AreAlike content machines
+    → (first : S) × HaveContent content first machines
+content_of_all content [] n e l a = absurd (none e l)
+  where
+    none : {k : ℕ} → 0 ≡ k → 3 ≤ k → ⊥
+    none e l = omega arith
+content_of_all content (x ∷ xs) n e l a = (content x, λ i b h. a i 0 b x h refl)

@@ -1,0 +1,82 @@
+-- What readers of a world in code tell.
+use Rattle.std.proofs.Common.{◌≡◌, ℕ, zero, suc, ◌+◌, ◌<◌, ◌≤◌, Bool, true, take, append_assoc, refl, sym, ap, ◌∙◌, subst, arith, List, [], ◌∷◌, ◌++◌, length, Option, Some, None}
+use Rattle.std.specs.Prelude.{slice_get, slice_index_or, Result, Ok, Err, OnOk, OnErr}
+use Rattle.std.proofs.lemmas.List.{get_or_past, length-map, append-nil, take_all}
+use Rattle.std.proofs.lemmas.Option.{slice_get_past, slice_get_read}
+use Rattle.paxos_packets.specs.declared.entry.Entry.{Entry}
+use Rattle.paxos_packets.specs.declared.transport.Transport.{Transport}
+use Rattle.paxos_turn.specs.Node.{NodeState}
+use Rattle.replica_machine.specs.Replay.{Machine}
+use Rattle.log_follower.specs.Following.{Followed}
+use Rattle.log_follower.specs.Handed.{said_in}
+use Rattle.cluster_world.specs.Laws.{IsPrefixOf}
+use Rattle.cluster_world.specs.Members.{MemberState, nodes_of, machines_of, node_or_absent, machine_or_none}
+use Rattle.cluster_world.specs.StandsAt.{Held, told_by, machine_at, StandsIn}
+use Rattle.cluster_world.specs.World.{World, absent, node_at, handed}
+use Rattle.cluster_world.proofs.Worlds.{get_map, node_of_get}
+
+module _ {B M Y : Type 0} (list : List (MemberState B M Y)) where
+  pub node_there : (n i : ℕ) (s : MemberState B M Y) → n ≡ suc i → slice_get list i ≡ Some s → node_at (nodes_of list) n ≡ s.node
+  node_there n i s is at =
+      ap (λ k. node_at (nodes_of list) k) is
+      ∙ node_of_get (nodes_of list) i s.node (get_map (λ (z : MemberState B M Y). z.node) list i s at)
+
+  pub machine_there : (n i : ℕ) (s : MemberState B M Y) → n ≡ suc i → slice_get list i ≡ Some s → machine_at (machines_of list) n ≡ Some s.machine
+  machine_there n i s is at =
+      ap (λ k. machine_at (machines_of list) k) is ∙ get_map (λ (z : MemberState B M Y). z.machine) list i s at
+
+  pub node_past : (n i : ℕ) → n ≡ suc i → length list ≤ i → node_at (nodes_of list) n ≡ absent
+  node_past n i is l =
+      ap (λ k. node_at (nodes_of list) k) is
+      ∙ get_or_past (nodes_of list) i absent (let g = length-map list (λ (z : MemberState B M Y). z.node) in omega (arith, g, l))
+
+  pub machine_past : (n i : ℕ) → n ≡ suc i → length list ≤ i → machine_at (machines_of list) n ≡ None
+  machine_past n i is l =
+      ap (λ k. machine_at (machines_of list) k) is
+      ∙ slice_get_past (machines_of list) i (let g = length-map list (λ (z : MemberState B M Y). z.machine) in omega (arith, g, l))
+
+module _ {B M S Y : Type 0} (content : M → S) (m : Machine B S Y) (w : Held B M Y) (v : World B) (h : StandsIn content m w v) where
+  some_eq : {A : Type 0} {x y : A} → Some x ≡ Some y → x ≡ y
+  some_eq e = cc
+
+  pub front_at : (n : ℕ) (f : Followed B M Y) → machine_at w.machines n ≡ Some f → IsPrefixOf (node_at w.nodes n).applied f.log
+  front_at zero f e = absurd (cc)
+  front_at (suc i) f e = (h.attends i f e).front
+
+  pub log_at : (n : ℕ) (x : NodeState B) → node_at w.nodes n ≡ x → x.applied ≡ (node_at v.nodes n).applied
+  log_at n x e = ap (λ (y : NodeState B). y.applied) (sym e ∙ ap (λ ns. node_at ns n) h.nodes)
+
+  pub up_at : (n : ℕ) (x : NodeState B) → node_at w.nodes n ≡ x → x.up ≡ (node_at v.nodes n).up
+  up_at n x e = ap (λ (y : NodeState B). y.up) (sym e ∙ ap (λ ns. node_at ns n) h.nodes)
+
+  pub told_at : (t : Transport) (o : Option (Followed B M Y)) → machine_at w.machines t.node ≡ o → told_by o t ≡ handed m t v
+  told_at t o e = ap (λ f. told_by f t) (sym e) ∙ h.handed t
+
+-- one event on, or not
+pub leads_on : {E R F : Type 0} (P : List E → Type 0) (r : Result R F) (es : List E) (e : E) → OnOk r (P (es ++ e ∷ [])) → OnErr r (P es)
+    → (x : List E) × P x
+leads_on P (Ok x) es e ok back = (es ++ e ∷ [], ok)
+leads_on P (Err x) es e ok back = (es, back)
+
+-- the events so far, and one more
+
+take_next : {A : Type 0} (xs : List A) (i : ℕ) (x : A) → slice_get xs i ≡ Some x → take i xs ++ x ∷ [] ≡ take (suc i) xs
+take_next [] i x h = absurd (cc)
+take_next (a ∷ xs) zero x h = ap (λ z. z ∷ []) (sym (same h))
+  where
+    same : {A : Type 0} {y z : A} → Some y ≡ Some z → y ≡ z
+    same e = cc
+take_next (a ∷ xs) (suc i) x h = ap (λ l. a ∷ l) (take_next xs i x h)
+
+pub runs_on : {A : Type 0} (es xs : List A) (i : ℕ) (x : A) → i < length xs → x ≡ slice_index_or xs i x
+    → (es ++ take i xs) ++ x ∷ [] ≡ es ++ take (i + 1) xs
+runs_on es xs i x l h =
+    let n : suc i ≡ i + 1 = omega arith in
+    append_assoc es (take i xs) (x ∷ [])
+    ∙ ap (λ k. es ++ k) (take_next xs i x (slice_get_read xs (length xs) i x refl l h) ∙ ap (λ j. take j xs) n)
+
+pub run_none : {A : Type 0} (es xs : List A) → es ≡ es ++ take 0 xs
+run_none es xs = sym (append-nil es)
+
+pub run_whole : {A : Type 0} (es xs : List A) (i : ℕ) → length xs ≤ i → es ++ take i xs ≡ es ++ xs
+run_whole es xs i l = ap (λ k. es ++ k) (take_all i xs l)

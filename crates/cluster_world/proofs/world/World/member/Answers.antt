@@ -1,0 +1,60 @@
+-- The member at the place.
+use Rattle.std.proofs.Common.{◌≡◌, ◌≤◌, ◌<◌, ◌-◌, suc, Some, None, refl, sym, ap, ◌∙◌, subst, arith, List, length}
+use Rattle.std.specs.Prelude.{slice_index_or}
+use Rattle.std.proofs.lemmas.Option.{slice_get_read}
+use Rattle.paxos_turn.specs.Node.{NodeState}
+use Rattle.replica_machine.specs.Log.{machine_from}
+use Rattle.cluster_world.specs.Laws.{IsPrefixOf}
+use Rattle.cluster_world.specs.Members.{MemberState, nodes_of, held_of}
+use Rattle.cluster_world.specs.StandsAt.{Held, machine_at}
+use Rattle.cluster_world.specs.World.{node_at, absent, played}
+use Rattle.cluster_world.proofs.Reading.{node_there, machine_there, node_past, machine_past, front_at}
+use Rattle.cluster_world.proofs.world.World.member.Goals as goal
+
+pub returns-in-Some-clause-node : goal.returns-in-Some-clause-node
+returns-in-Some-clause-node g c =
+    let number : c.args.node ≡ suc (c.args.node - 1) = omega (arith, c.if-node-eq0.false) in
+    subst (λ (w : Held _ _ _). node_at w.nodes c.args.node ≡ c.in-Some.member.now.node) c.self.view_is
+    (node_there c.self.inside.list.items c.args.node (c.args.node - 1) c.in-Some.member.now number
+    (slice_get_read c.self.inside.list.items (length c.self.inside.list.items) (c.args.node - 1) c.in-Some.member.now refl
+    (subst (λ (l : List (MemberState _ _ _)). (c.args.node - 1) < length l) c.deref.ensures.value c.in-Some.ensures.lookup.3.0)
+    (subst (λ (l : List (MemberState _ _ _)). c.in-Some.member.now ≡ slice_index_or l (c.args.node - 1) c.in-Some.member.now) c.deref.ensures.value
+    c.in-Some.ensures.lookup.1)))
+
+pub returns-in-Some-clause-machine : goal.returns-in-Some-clause-machine
+returns-in-Some-clause-machine g c =
+    let number : c.args.node ≡ suc (c.args.node - 1) = omega (arith, c.if-node-eq0.false) in
+    subst (λ (w : Held _ _ _). machine_at w.machines c.args.node ≡ Some c.in-Some.member.now.machine) c.self.view_is
+    (machine_there c.self.inside.list.items c.args.node (c.args.node - 1) c.in-Some.member.now number
+    (slice_get_read c.self.inside.list.items (length c.self.inside.list.items) (c.args.node - 1) c.in-Some.member.now refl
+    (subst (λ (l : List (MemberState _ _ _)). (c.args.node - 1) < length l) c.deref.ensures.value c.in-Some.ensures.lookup.3.0)
+    (subst (λ (l : List (MemberState _ _ _)). c.in-Some.member.now ≡ slice_index_or l (c.args.node - 1) c.in-Some.member.now) c.deref.ensures.value
+    c.in-Some.ensures.lookup.1)))
+
+pub returns-in-Some-clause-front : goal.returns-in-Some-clause-front
+returns-in-Some-clause-front g c =
+    let number : c.args.node ≡ suc (c.args.node - 1) = omega (arith, c.if-node-eq0.false) in
+    let at = slice_get_read c.self.inside.list.items (length c.self.inside.list.items) (c.args.node - 1) c.in-Some.member.now refl
+    (subst (λ (l : List (MemberState _ _ _)). (c.args.node - 1) < length l) c.deref.ensures.value c.in-Some.ensures.lookup.3.0)
+    (subst (λ (l : List (MemberState _ _ _)). c.in-Some.member.now ≡ slice_index_or l (c.args.node - 1) c.in-Some.member.now) c.deref.ensures.value
+    c.in-Some.ensures.lookup.1) in
+    subst (λ x. IsPrefixOf x c.in-Some.member.now.machine.log)
+    (ap (λ (x : NodeState _). x.applied) (node_there c.self.inside.list.items c.args.node (c.args.node - 1) c.in-Some.member.now number at))
+    (front_at g.M.Machine.content (machine_from g.M.Machine.next g.M.Machine.says g.M.Machine.to c.self.invariant.1.0)
+    (held_of c.self.inside.members c.self.inside.list.items c.self.inside.sent.packets c.self.inside.made.items)
+    (played g.M.Body.Body.same c.self.inside.members c.self.invariant.1.1) c.self.invariant.1.2 c.args.node c.in-Some.member.now.machine
+    (machine_there c.self.inside.list.items c.args.node (c.args.node - 1) c.in-Some.member.now number at))
+
+pub returns-in-None-clause-node : goal.returns-in-None-clause-node
+returns-in-None-clause-node g c =
+    let number : c.args.node ≡ suc (c.args.node - 1) = omega (arith, c.if-node-eq0.false) in
+    subst (λ (w : Held _ _ _). node_at w.nodes c.args.node ≡ absent) c.self.view_is
+    (node_past c.self.inside.list.items c.args.node (c.args.node - 1) number
+    (subst (λ (l : List (MemberState _ _ _)). length l ≤ (c.args.node - 1)) c.deref.ensures.value (omega (arith, c.in-None.ensures.lookup.3))))
+
+pub returns-in-None-clause-machine : goal.returns-in-None-clause-machine
+returns-in-None-clause-machine g c =
+    let number : c.args.node ≡ suc (c.args.node - 1) = omega (arith, c.if-node-eq0.false) in
+    subst (λ (w : Held _ _ _). machine_at w.machines c.args.node ≡ None) c.self.view_is
+    (machine_past c.self.inside.list.items c.args.node (c.args.node - 1) number
+    (subst (λ (l : List (MemberState _ _ _)). length l ≤ (c.args.node - 1)) c.deref.ensures.value (omega (arith, c.in-None.ensures.lookup.3))))

@@ -1,0 +1,64 @@
+-- What holds of a world in code, in words of what it shows (docs/CONSENSUS.md, "What holds over every list of events").
+use Rattle.std.specs.Prelude.{◌≡◌, ◌⊎◌, ℕ, suc, ◌≤◌, Bool, true, false, Some, List, [], length, slice_get}
+use Rattle.std.specs.List.{range_with_len}
+use Rattle.paxos_packets.specs.Members.{IsMember}
+use Rattle.paxos_packets.specs.declared.entry.Entry.{Entry}
+use Rattle.paxos_packets.specs.declared.entry.Entry.TheVariants.{Boot, Item}
+use Rattle.paxos_packets.specs.declared.transport.Transport.{Transport}
+use Rattle.paxos_learner.specs.declared.learned.LearnedEntry.{LearnedEntry}
+use Rattle.paxos_node.specs.declared.event.Event.{Event}
+use Rattle.paxos_node.specs.Events.{owner, possible, outcome_of}
+use Rattle.replica_machine.specs.Effects.{item_numbers}
+use Rattle.replica_machine.specs.Replay.{Machine, state, said}
+use Rattle.log_follower.specs.Following.{Followed}
+use Rattle.cluster_world.specs.Answers.{IsPresent}
+use Rattle.cluster_world.specs.Chosen.{Chosen}
+use Rattle.cluster_world.specs.Has.{Has}
+use Rattle.cluster_world.specs.Laws.{IsPrefixOf}
+use Rattle.cluster_world.specs.Origins.{acts_of}
+use Rattle.cluster_world.specs.StandsAt.{Held, handed_in}
+use Rattle.cluster_world.specs.World.{node_at, was_sent}
+
+module _ {B M Y : Type 0} where
+  -- the log of a node
+  abbrev pub log_in : Held B M Y → ℕ → List (Entry B)
+  log_in w node = (node_at w.nodes node).applied
+
+  -- an entry is chosen in the slot
+  abbrev pub IsChosenIn : Held B M Y → ℕ → Entry B → Type 0
+  IsChosenIn w slot e = Chosen w.members w.sent slot e
+
+  -- agreement: what a node has learned in a slot is chosen there, and of a slot no two entries are chosen
+  pub record Agree (w : Held B M Y) : Type 0 where
+    pub learned : (node : ℕ) (f : LearnedEntry B) → Has (node_at w.nodes node).learner.learned f → IsChosenIn w f.slot f.entry
+    pub one : (slot : ℕ) (d e : Entry B) → IsChosenIn w slot d → IsChosenIn w slot e → d ≡ e
+
+  -- log agreement: each entry of a log is chosen in its slot; and of two logs, one of before and one of now, one is a prefix of the other
+  pub record LogsAgree (old new : Held B M Y) : Type 0 where
+    pub chosen : (node i : ℕ) (e : Entry B) → slice_get (log_in new node) i ≡ Some e → IsChosenIn new (suc i) e
+    pub prefixes : (j k : ℕ) → IsPrefixOf (log_in old j) (log_in new k) ⊎ IsPrefixOf (log_in new k) (log_in old j)
+
+  -- answers: a transport of the present boot of a node that is up was handed what the machine says to it along the node's log
+  abbrev pub AnswersAreSaid : {S : Type 0} → Machine B S Y → Held B M Y → Type 0
+  AnswersAreSaid m w = (t : Transport) → IsPresent t (node_at w.nodes t.node) → handed_in w t ≡ said m t (log_in w t.node)
+
+  -- machines: one that is not given up has the content that the log leads to where it stands, of which its node's log is a front
+  pub record MachinesFollow {S : Type 0} (content : M → S) (m : Machine B S Y) (w : Held B M Y) : Type 0 where
+    pub contents : (i : ℕ) (f : Followed B M Y) → slice_get w.machines i ≡ Some f → f.given_up ≡ false → content f.machine ≡ state m f.log
+    pub fronts : (i : ℕ) (f : Followed B M Y) → slice_get w.machines i ≡ Some f → IsPrefixOf (log_in w (suc i)) f.log
+
+  -- at most once: the Items of a boot that take effect in a log are numbered 1, 2, 3 and so on; each Item in a log is the act, with transport and
+  -- body, that its node took under that number in that boot; and a Boot in a log is one that its node, a member, had
+  pub record TookEffectOnce (w : Held B M Y) : Type 0 where
+    pub numbered : (node n b : ℕ) → item_numbers n b (log_in w node) ≡ range_with_len 1 (length (item_numbers n b (log_in w node)))
+    pub taken :
+        (node n b q t : ℕ) (x : B) → Has (log_in w node) (Item n b q t x)
+        → (j : ℕ) × (q ≡ suc j) × (slice_get (acts_of n b w.made) j ≡ Some (record { transport = t; body = x }))
+    pub boots :
+        (node n b : ℕ) → Has (log_in w node) (Boot n b) → IsMember w.members n × (1 ≤ b) × (b ≤ (node_at w.nodes n).rows.boot)
+
+  -- no disagreement: no event that is possible tells a node another entry of a slot that it has learned
+  abbrev pub NoneDisagrees : (B → B → Bool) → Held B M Y → Type 0
+  NoneDisagrees same w =
+      (e : Event B) → was_sent same e w.sent ≡ true → possible e (node_at w.nodes (owner e)) ≡ true
+      → (outcome_of same w.members e (node_at w.nodes (owner e))).disagrees ≡ false

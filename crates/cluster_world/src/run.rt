@@ -1,0 +1,182 @@
+ghost use Rattle.std.specs.Prelude.{◌≡◌, ◌<◌, ◌≤◌, ◌++◌, ◌∷◌, [], List, true, false, take, length, OnOk, OnErr, IfErr};
+ghost use Rattle.paxos_node.specs.declared.event.Event as occurred;
+ghost use Rattle.paxos_node.specs.Events.{owner, possible, outcome_of};
+ghost use Rattle.replica_machine.specs.Log.{machine_from};
+ghost use Rattle.log_follower.specs.Following.{AgreesWith};
+ghost use Rattle.world_seats.specs.Seated.{IsAtRest};
+ghost use Rattle.cluster_world.specs.Answers.{log_after};
+ghost use Rattle.cluster_world.specs.Laws.{IsPrefixOf};
+ghost use Rattle.cluster_world.specs.Members.{AreMembers, nodes_of, machines_of, held_of, GivenUpStay};
+ghost use Rattle.cluster_world.specs.Headline.{Agree, LogsAgree, AnswersAreSaid, MachinesFollow, TookEffectOnce, NoneDisagrees};
+ghost use Rattle.cluster_world.specs.StandsAt.{StandsAt};
+ghost use Rattle.cluster_world.specs.World.{node_at, was_sent};
+
+use crate::fault::Memory;
+use crate::member::Member;
+use crate::world::World;
+use paxos_node::Event;
+use paxos_packets::{Body, Entry, Members};
+use replica_machine::Machine;
+use sent_packets::SentPackets;
+
+impl<M: Machine> World<M> {
+    /// Lets the events happen, in order. `Memory` comes with the index of the event for which there was none; the events before it were run, and
+    /// it was not. What is not possible changes nothing: an event of a node that is down or no member, a transport with number 0, a packet unlike
+    /// all that were sent, a restart of a node that is up; nor does what a node refuses.
+    ///
+    /// A machine that fails, or goes on and then lacks memory for what it says, is given up: later runs answer `Memory` at each event in which its
+    /// node applies an entry behind the log where the machine stands, and all else goes on.
+    ///
+    /// An event takes time in what it reads, commits, sends and applies, at most times a logarithm.
+    pub fn run(&mut self, events: &[Event<M::Body>]) -> Result<(), (usize, Memory)>
+        ensures members { self.new.members ≡ self.old.members }
+        ensures ok { (first : M.Content) (es : List (occurred.Event M.Body)) →
+            StandsAt M.Body.same M.content (machine_from M.next M.says M.to first) self.old es →
+            OnOk result (StandsAt M.Body.same M.content (machine_from M.next M.says M.to first) self.new (es ++ events.now)) }
+        ensures err { (first : M.Content) (es : List (occurred.Event M.Body)) →
+            StandsAt M.Body.same M.content (machine_from M.next M.says M.to first) self.old es →
+            IfErr result (λ f. (f.0 < length events.now)
+            × StandsAt M.Body.same M.content (machine_from M.next M.says M.to first) self.new (es ++ take f.0 events.now)) }
+        ensures given_up { GivenUpStay self.old.machines self.new.machines }
+        ensures agreement { Agree self.new }
+        ensures log_agreement { LogsAgree self.old self.new }
+        ensures answers { (first : M.Content) (es : List (occurred.Event M.Body)) →
+            StandsAt M.Body.same M.content (machine_from M.next M.says M.to first) self.old es →
+            AnswersAreSaid (machine_from M.next M.says M.to first) self.new }
+        ensures machines { (first : M.Content) (es : List (occurred.Event M.Body)) →
+            StandsAt M.Body.same M.content (machine_from M.next M.says M.to first) self.old es →
+            MachinesFollow M.content (machine_from M.next M.says M.to first) self.new }
+        ensures at_most_once { TookEffectOnce self.new }
+        ensures no_disagreement { NoneDisagrees M.Body.same self.new }
+    {
+        self.leads();
+        self.run_all(events)
+    }
+
+    // Some events lead to it.
+    fn leads(&self)
+        ensures many { 3 ≤ self.now.members }
+        ensures leads { (first : M.Content) × (es : List (occurred.Event M.Body))
+            × StandsAt M.Body.same M.content (machine_from M.next M.says M.to first) self.now es }
+    {
+        let _ = self.members.count();
+    }
+
+    // The same, but for the laws.
+    fn run_all(&mut self, events: &[Event<M::Body>]) -> Result<(), (usize, Memory)>
+        ensures members { self.new.members ≡ self.old.members }
+        ensures ok { (first : M.Content) (es : List (occurred.Event M.Body)) →
+            StandsAt M.Body.same M.content (machine_from M.next M.says M.to first) self.old es →
+            OnOk result (StandsAt M.Body.same M.content (machine_from M.next M.says M.to first) self.new (es ++ events.now)) }
+        ensures err { (first : M.Content) (es : List (occurred.Event M.Body)) →
+            StandsAt M.Body.same M.content (machine_from M.next M.says M.to first) self.old es →
+            IfErr result (λ f. (f.0 < length events.now)
+            × StandsAt M.Body.same M.content (machine_from M.next M.says M.to first) self.new (es ++ take f.0 events.now)) }
+        ensures given_up { GivenUpStay self.old.machines self.new.machines }
+    {
+        for index in 0..events.len() {
+            let Ok(()) = self.step(&events[index]) else {
+                return Err((index, Memory));
+            };
+        }
+        Ok(())
+    }
+
+    // One event happens, whole or not at all.
+    fn step(&mut self, event: &Event<M::Body>) -> Result<(), paxos_packets::Memory>
+        ensures members { self.new.members ≡ self.old.members }
+        ensures ok { (first : M.Content) (es : List (occurred.Event M.Body)) →
+            StandsAt M.Body.same M.content (machine_from M.next M.says M.to first) self.old es →
+            OnOk result (StandsAt M.Body.same M.content (machine_from M.next M.says M.to first) self.new (es ++ event.now ∷ [])) }
+        ensures err { (first : M.Content) (es : List (occurred.Event M.Body)) →
+            StandsAt M.Body.same M.content (machine_from M.next M.says M.to first) self.old es →
+            OnErr result (StandsAt M.Body.same M.content (machine_from M.next M.says M.to first) self.new es) }
+        ensures given_up { GivenUpStay self.old.machines self.new.machines }
+    {
+        let _ = self.members.count();
+        happen_in(
+            self.members,
+            &mut self.list,
+            &mut self.sent,
+            &mut self.made,
+            event,
+        )
+    }
+}
+
+// Whether the packet was sent that the event delivers, if it does.
+fn was_sent<B: Body>(event: &Event<B>, sent: &SentPackets<B>) -> bool
+    ensures { result ≡ was_sent B.same event.now sent.now.packets }
+{
+    match event {
+        Event::Take { .. } => true,
+        Event::Tick { .. } => true,
+        Event::Start { .. } => true,
+        Event::Suspect { .. } => true,
+        Event::Deliver { packet } => sent.was_sent(packet),
+        Event::Crash { .. } => true,
+        Event::Restart { .. } => true,
+    }
+}
+
+// Whose event it is.
+fn owner<B>(event: &Event<B>) -> u8
+    ensures { result ≡ owner event.now }
+{
+    match event {
+        Event::Take { node, .. } => *node,
+        Event::Tick { node } => *node,
+        Event::Start { node } => *node,
+        Event::Suspect { node, .. } => *node,
+        Event::Deliver { packet } => packet.addressee,
+        Event::Crash { node } => *node,
+        Event::Restart { node } => *node,
+    }
+}
+
+// The event happens where it is possible: whole or not at all.
+fn happen_in<M: Machine>(
+    members: Members,
+    list: &mut Vec<Member<M>>,
+    sent: &mut SentPackets<M::Body>,
+    made: &mut Vec<Entry<M::Body>>,
+    event: &Event<M::Body>,
+) -> Result<(), paxos_packets::Memory>
+    requires many { 3 ≤ members }
+    requires seated { AreMembers members list.old.items }
+    requires leads { (first : M.Content) × (es : List (occurred.Event M.Body)) × StandsAt M.Body.same M.content (machine_from M.next M.says M.to first)
+        (held_of members list.old.items sent.old.packets made.old.items) es }
+    ensures seated { AreMembers members list.new.items }
+    ensures ok { (first : M.Content) (es : List (occurred.Event M.Body)) → StandsAt M.Body.same M.content (machine_from M.next M.says M.to first)
+        (held_of members list.old.items sent.old.packets made.old.items) es →
+        OnOk result (StandsAt M.Body.same M.content (machine_from M.next M.says M.to first)
+        (held_of members list.new.items sent.new.packets made.new.items) (es ++ event.now ∷ [])) }
+    ensures err { (first : M.Content) (es : List (occurred.Event M.Body)) → StandsAt M.Body.same M.content (machine_from M.next M.says M.to first)
+        (held_of members list.old.items sent.old.packets made.old.items) es →
+        OnErr result (StandsAt M.Body.same M.content (machine_from M.next M.says M.to first)
+        (held_of members list.new.items sent.new.packets made.new.items) es) }
+    ensures given_up { GivenUpStay (machines_of list.old.items) (machines_of list.new.items) }
+{
+    if !was_sent(event, sent) {
+        return Ok(());
+    }
+    if !is_possible(list, event) {
+        return Ok(());
+    }
+    let place = (owner(event) - 1) as usize;
+    list[place].happen(sent, made, event)
+}
+
+// Whether the event is possible at its node; at what is no member none is.
+fn is_possible<M: Machine>(list: &[Member<M>], event: &Event<M::Body>) -> bool
+    ensures { result ≡ possible event.now (node_at (nodes_of list.now) (owner event.now)) }
+{
+    let node = owner(event);
+    if node == 0 {
+        return false;
+    }
+    match list.get((node - 1) as usize) {
+        Some(member) => member.may(event),
+        None => false,
+    }
+}

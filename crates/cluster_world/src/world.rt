@@ -1,0 +1,198 @@
+ghost use Rattle.std.specs.Prelude.{◌≡◌, ◌-◌, ◌<◌, ◌≤◌, ◌+◌, ◌++◌, ◌∷◌, [], List, Some, None, false, IfOk, OnOk, OnErr, All, length, map, slice_get, nat_le, option_copied, IfSome, if◌then◌else◌, vec_len, vec_capacity};
+ghost use Rattle.paxos_node.specs.declared.event.Event as occurred;
+ghost use Rattle.replica_machine.specs.Log.{machine_from};
+ghost use Rattle.cluster_world.specs.Founding.{AreFounded, AreAlike, AllAttend, NoneGivenUp};
+ghost use Rattle.cluster_world.specs.StandsAt.{StandsAt, HaveContent, machine_at};
+ghost use Rattle.cluster_world.specs.Members.{node_or_absent, machine_or_none};
+ghost use Rattle.cluster_world.specs.Laws.{IsPrefixOf};
+ghost use Rattle.cluster_world.specs.World.{node_at, played, log_of, handed};
+
+use crate::fault::Memory;
+use crate::member::Member;
+use paxos_packets::{Entry, Members, Packet, Transport};
+use replica_machine::Machine;
+use sent_packets::SentPackets;
+use std::alloc::Global;
+use std::marker::Model;
+
+/// A whole cluster under any schedule: all nodes with their machines, and every packet that they ever sent.
+#[derive(Drop)]
+pub struct World<M: Machine> {
+    pub(crate) members: Members,
+    pub(crate) list: Vec<Member<M>>,
+    pub(crate) sent: SentPackets<M::Body>,
+    pub(crate) made: Vec<Entry<M::Body>>,
+}
+
+impl<M: Machine> Model for World<M> {
+    ghost use Rattle.std.specs.Prelude.{List};
+    ghost use Rattle.paxos_node.specs.declared.event.Event as occurred;
+    ghost use Rattle.replica_machine.specs.Log.{machine_from};
+    ghost use Rattle.cluster_world.specs.Members.{AreMembers, held_of};
+    ghost use Rattle.cluster_world.specs.StandsAt.{Held, StandsAt};
+
+    ghost Value = { Held M.Body M M.Say };
+
+    ghost view = { λ w. held_of w.members w.list.items w.sent.packets w.made.items };
+
+    // Some events lead to it.
+    ghost invariant = { λ w. AreMembers w.members w.list.items
+        × ((first : M.Content) × (es : List (occurred.Event M.Body)) × StandsAt M.Body.same M.content (machine_from M.next M.says M.to first)
+        (held_of w.members w.list.items w.sent.packets w.made.items) es) };
+}
+
+impl<M: Machine> World<M> {
+    /// The first world of these members: all nodes are up in their first boot, and nothing was sent. Node 1 gets the first machine, and so on; no
+    /// machine has failed, and all have one content.
+    pub fn new(alloc: Global, members: Members, machines: Vec<M>) -> Result<World<M>, Memory>
+        requires count { vec_len machines ≡ members }
+        requires alive { All (λ m. M.has_failed m ≡ false) machines.items }
+        requires alike { AreAlike M.content machines.items }
+        ensures members { IfOk result (λ w. w.members ≡ members) }
+        ensures alive { IfOk result (λ w. NoneGivenUp w.machines) }
+        ensures stands { (first : M.Content) → HaveContent M.content first machines.items →
+            IfOk result (λ w. StandsAt M.Body.same M.content (machine_from M.next M.says M.to first) w []) }
+    {
+        let _ = members.count();
+        let mut list = Vec::new(alloc);
+        let mut made = Vec::new(alloc);
+        found_all(alloc, members, machines, &mut list, &mut made)?;
+        Ok(World {
+            members,
+            list,
+            sent: SentPackets::new(alloc),
+            made,
+        })
+    }
+
+    /// The log of the node, slot 1 first; empty where it is down or no member. Takes no memory.
+    pub fn log(&self, node: u8) -> &[Entry<M::Body>]
+        ensures { (first : M.Content) (es : List (occurred.Event M.Body)) →
+            StandsAt M.Body.same M.content (machine_from M.next M.says M.to first) self.now es →
+            result.now ≡ log_of (played M.Body.same self.now.members es) node }
+    {
+        match self.member(node) {
+            Some(member) => member.log(),
+            None => &[],
+        }
+    }
+
+    /// What the transport was handed, oldest first; empty where it was told nothing. Takes no memory.
+    pub fn said(&self, transport: Transport) -> &[M::Say]
+        ensures { (first : M.Content) (es : List (occurred.Event M.Body)) →
+            StandsAt M.Body.same M.content (machine_from M.next M.says M.to first) self.now es →
+            result.now ≡ handed (machine_from M.next M.says M.to first) transport (played M.Body.same self.now.members es) }
+    {
+        match self.member(transport.node) {
+            Some(member) => member.said(transport),
+            None => &[],
+        }
+    }
+
+    /// Whether the node is up; what is no member is down. Takes no memory.
+    pub fn is_up(&self, node: u8) -> bool
+        ensures { (first : M.Content) (es : List (occurred.Event M.Body)) →
+            StandsAt M.Body.same M.content (machine_from M.next M.says M.to first) self.now es →
+            result ≡ (node_at (played M.Body.same self.now.members es).nodes node).up }
+    {
+        match self.member(node) {
+            Some(member) => member.is_up(),
+            None => false,
+        }
+    }
+
+    /// How many packets were ever sent. Takes no memory.
+    pub fn sent(&self) -> usize
+        ensures { (first : M.Content) (es : List (occurred.Event M.Body)) →
+            StandsAt M.Body.same M.content (machine_from M.next M.says M.to first) self.now es →
+            result ≡ length (played M.Body.same self.now.members es).sent }
+    {
+        self.sent.as_slice().len()
+    }
+
+    /// The packet with this number, from 1 on, in the order in which they were sent. Takes no memory.
+    pub fn packet(&self, number: usize) -> Option<&Packet<M::Body>>
+        ensures { (first : M.Content) (es : List (occurred.Event M.Body)) →
+            StandsAt M.Body.same M.content (machine_from M.next M.says M.to first) self.now es →
+            option_copied result ≡ (if nat_le 1 number then slice_get (played M.Body.same self.now.members es).sent (number - 1) else None) }
+    {
+        if number == 0 {
+            return None;
+        }
+        self.sent.as_slice().get(number - 1)
+    }
+
+    // The member with this number.
+    fn member(&self, node: u8) -> Option<&Member<M>>
+        ensures node { node_at self.now.nodes node ≡ node_or_absent (option_copied result) }
+        ensures machine { machine_at self.now.machines node ≡ machine_or_none (option_copied result) }
+        ensures front { IfSome (option_copied result) (λ s. IsPrefixOf s.node.applied s.machine.log) }
+    {
+        if node == 0 {
+            return None;
+        }
+        match self.list.get((node - 1) as usize) {
+            Some(member) => Some(member),
+            None => None,
+        }
+    }
+}
+
+// The members with their machines, each of which starts for the first time.
+fn found_all<M: Machine>(
+    alloc: Global,
+    members: Members,
+    machines: Vec<M>,
+    list: &mut Vec<Member<M>>,
+    made: &mut Vec<Entry<M::Body>>,
+) -> Result<(), Memory>
+    requires count { vec_len machines ≡ members }
+    requires none { list.old.items ≡ [] }
+    requires nothing { made.old.items ≡ [] }
+    ensures count { OnOk result (length list.new.items ≡ members) }
+    ensures founded { OnOk result (AreFounded members list.new.items made.new.items) }
+    ensures attends { (first : M.Content) → HaveContent M.content first machines.items →
+        OnOk result (AllAttend M.content (machine_from M.next M.says M.to first) list.new.items) }
+{
+    let Ok(()) = list.reserve(machines.len()) else {
+        return Err(Memory);
+    };
+    let Ok(()) = made.reserve(machines.len()) else {
+        return Err(Memory);
+    };
+    let _ = members.count();
+    for machine in machines {
+        found(alloc, members, machine, list, made)?;
+    }
+    Ok(())
+}
+
+// One member more, which starts for the first time.
+fn found<M: Machine>(
+    alloc: Global,
+    members: Members,
+    machine: M,
+    list: &mut Vec<Member<M>>,
+    made: &mut Vec<Entry<M::Body>>,
+) -> Result<(), Memory>
+    requires few { vec_len list.old < 7 }
+    requires list_room { vec_len list.old < vec_capacity list.old }
+    requires made_room { vec_len made.old < vec_capacity made.old }
+    requires founded { AreFounded members list.old.items made.old.items }
+    ensures count { OnOk result (length list.new.items ≡ length list.old.items + 1) }
+    ensures made_count { OnOk result (vec_len made.new ≡ vec_len made.old + 1) }
+    ensures list_room { OnOk result (vec_capacity list.new ≡ vec_capacity list.old) }
+    ensures made_room { OnOk result (vec_capacity made.new ≡ vec_capacity made.old) }
+    ensures founded { OnOk result (AreFounded members list.new.items made.new.items) }
+    ensures attends { (first : M.Content) → M.content machine ≡ first →
+        AllAttend M.content (machine_from M.next M.says M.to first) list.old.items →
+        OnOk result (AllAttend M.content (machine_from M.next M.says M.to first) list.new.items) }
+{
+    let me = list.len() as u8 + 1;
+    let Ok(member) = Member::first(alloc, me, members, machine) else {
+        return Err(Memory);
+    };
+    list.push_reserved(member);
+    made.push_reserved(Entry::Boot { node: me, boot: 1 });
+    Ok(())
+}
