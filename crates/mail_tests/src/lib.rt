@@ -2,4 +2,6 @@
 #![tactic(auto)]
 
 #[cfg(test)]
+mod posting;
+#[cfg(test)]
 mod tables;
