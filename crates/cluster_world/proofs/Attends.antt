@@ -1,8 +1,8 @@
 -- A machine attends its node through an event.
-use Rattle.std.proofs.Common.{◌≡◌, ◌⊎◌, inl, inr, ⊎_elim, ◌≤◌, ◌<◌, ℕ, zero, suc, ◌+◌, ◌-◌, Bool, true, false, not, ◌&&◌, eqb, refl, sym, ap, ◌∙◌, subst, arith}
+use Rattle.std.proofs.Common.{◌≡◌, ◌⊎◌, inl, inr, ⊎_elim, ◌≤◌, ℕ, suc, ◌+◌, ◌-◌, Bool, true, false, not, ◌&&◌, eqb, refl, sym, ap, ◌∙◌, subst, arith}
 use Rattle.std.proofs.Common.{List, [], ◌∷◌, ◌++◌, append_assoc, take, drop, length}
-use Rattle.std.specs.Prelude.{nat_lt, if◌then◌else◌, Result, Ok, Err, OnOk, OnErr}
-use Rattle.std.proofs.lemmas.Bool.{cond_both, cond-true, cond-false, and_from, and_parts, eq-eqb}
+use Rattle.std.specs.Prelude.{nat_lt, Result, Ok, Err, OnOk, OnErr}
+use Rattle.std.proofs.lemmas.Bool.{cond-true, cond-false, and_from, and_parts, eq-eqb}
 use Rattle.std.proofs.lemmas.List.{append-nil, append_cancel_left, length-append}
 use Rattle.std.proofs.Math.Seq.{take-append_seam, drop-append_seam}
 use Rattle.std.proofs.Math.ListN.{drop_of_length-le}
@@ -12,7 +12,6 @@ use Rattle.paxos_packets.specs.declared.entry.Entry.TheVariants.{Boot}
 use Rattle.paxos_node.specs.declared.event.Event.TheVariants.{Crash, Restart}
 use Rattle.cluster_world.proofs.Attending.{gone_nowhere, nothing_to}
 use Rattle.paxos_packets.specs.declared.entry.Entry.{Entry}
-use Rattle.paxos_packets.specs.declared.transport.Transport.{Transport}
 use Rattle.paxos_node.specs.declared.event.Event.{Event}
 use Rattle.paxos_node.specs.Applying.{down, started}
 use Rattle.paxos_node.specs.Events.{owner, possible, outcome_of}
@@ -25,10 +24,9 @@ use Rattle.log_follower.specs.Handed.{said_in}
 use Rattle.log_follower.proofs.Keeping.{later_boots}
 use Rattle.cluster_world.specs.Answers.{log_after}
 use Rattle.cluster_world.specs.Laws.{IsPrefixOf}
-use Rattle.cluster_world.specs.Members.{MemberState, gone_on, FollowsOn, StaysBehind, Moves, Unmoved, Happens, Rests}
+use Rattle.cluster_world.specs.Members.{MemberState, gone_on, FollowsOn, StaysBehind, Moves, Happens, Rests}
 use Rattle.cluster_world.specs.StandsAt.{Attends, handing_boot, handing_from}
 use Rattle.cluster_world.proofs.Handing.{Ran, Began, event_cases}
-use Rattle.cluster_world.proofs.Settling.{From}
 
 off : false ≡ true → ⊥
 off e = cc

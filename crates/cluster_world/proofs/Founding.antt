@@ -1,7 +1,7 @@
 -- The first world, as its members are put in.
-use Rattle.std.proofs.Common.{◌≡◌, ◌⊎◌, inl, inr, ⊎_elim, ℕ, zero, suc, ◌+◌, ◌<◌, ◌≤◌, Bool, true, false, refl, sym, ap, ◌∙◌, subst, arith}
-use Rattle.std.proofs.Common.{List, [], ◌∷◌, ◌++◌, length, map, Option, Some, None}
-use Rattle.std.specs.Prelude.{slice_get, Result, Ok, Err, OnOk}
+use Rattle.std.proofs.Common.{◌≡◌, ◌⊎◌, inl, inr, ⊎_elim, ℕ, zero, suc, ◌≤◌, refl, sym, ap, ◌∙◌, subst, arith}
+use Rattle.std.proofs.Common.{List, [], ◌∷◌, ◌++◌, length, Option, Some, None}
+use Rattle.std.specs.Prelude.{slice_get}
 use Rattle.std.proofs.lemmas.List.{map-append, length-append}
 use Rattle.paxos_packets.specs.declared.entry.Entry.{Entry}
 use Rattle.paxos_packets.specs.declared.entry.Entry.TheVariants.{Boot}
@@ -13,7 +13,7 @@ use Rattle.log_follower.specs.Following.{Followed}
 use Rattle.log_follower.specs.Handed.{said_in}
 use Rattle.cluster_world.specs.Members.{MemberState, nodes_of, machines_of, AreMembers, held_of}
 use Rattle.cluster_world.specs.StandsAt.{told_by, machine_at, Attends, StandsIn, HaveContent}
-use Rattle.cluster_world.specs.World.{World, node_at, founded, first_boots, first_world}
+use Rattle.cluster_world.specs.World.{founded, first_boots, first_world}
 use Rattle.cluster_world.specs.Founding.{HasBegun, AreFounded, AllAttend, AreAlike, NoneGivenUp}
 use Rattle.cluster_world.proofs.Worlds.{get_map, get_unmap, node_of_get, some_same}
 

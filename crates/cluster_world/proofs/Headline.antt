@@ -1,21 +1,17 @@
 -- The laws at a world in code.
-use Rattle.std.proofs.Common.{◌≡◌, ◌⊎◌, ℕ, suc, ◌≤◌, ◌<◌, take, length, Bool, true, false, refl, sym, ap, ◌∙◌, subst, List, [], ◌∷◌, ◌++◌, Some}
+use Rattle.std.proofs.Common.{◌≡◌, ◌⊎◌, ℕ, suc, ◌≤◌, ◌<◌, take, length, Bool, sym, ap, ◌∙◌, subst, List, ◌++◌, Some}
 use Rattle.std.specs.Prelude.{slice_get, Result, Ok, Err, OnOk, IfErr}
 use Rattle.paxos_packets.specs.Body.{IsEquality}
 use Rattle.paxos_packets.specs.declared.entry.Entry.{Entry}
-use Rattle.paxos_packets.specs.declared.entry.Entry.TheVariants.{Boot, Item}
 use Rattle.paxos_packets.specs.declared.packet.Packet.{Packet}
-use Rattle.paxos_packets.specs.declared.transport.Transport.{Transport}
 use Rattle.paxos_node.specs.declared.event.Event.{Event}
-use Rattle.paxos_node.specs.Events.{owner, possible, outcome_of}
 use Rattle.paxos_turn.specs.Node.{NodeState}
 use Rattle.replica_machine.specs.Replay.{Machine, said}
 use Rattle.replica_machine.proofs.Numbering.{are_numbered}
-use Rattle.log_follower.specs.Following.{Followed}
 use Rattle.cluster_world.specs.Answers.{IsPresent}
 use Rattle.cluster_world.specs.Laws.{IsPrefixOf}
-use Rattle.cluster_world.specs.World.{World, node_at, was_sent, played, handed}
-use Rattle.cluster_world.specs.StandsAt.{Held, handed_in, StandsIn, StandsAt}
+use Rattle.cluster_world.specs.World.{World, node_at, played}
+use Rattle.cluster_world.specs.StandsAt.{Held, StandsIn, StandsAt}
 use Rattle.cluster_world.specs.Headline.{log_in, Agree, LogsAgree, AnswersAreSaid, MachinesFollow, TookEffectOnce, NoneDisagrees}
 use Rattle.cluster_world.proofs.Agreeing.{learned_is_chosen, chosen_is_one, log_is_chosen, logs_are_prefixes, never_disagrees}
 use Rattle.cluster_world.proofs.Booting.{boots_were_had}

@@ -1,16 +1,14 @@
 -- What readers of a world in code tell.
-use Rattle.std.proofs.Common.{◌≡◌, ℕ, zero, suc, ◌+◌, ◌<◌, ◌≤◌, Bool, true, take, append_assoc, refl, sym, ap, ◌∙◌, subst, arith, List, [], ◌∷◌, ◌++◌, length, Option, Some, None}
+use Rattle.std.proofs.Common.{◌≡◌, ℕ, zero, suc, ◌+◌, ◌<◌, ◌≤◌, take, append_assoc, refl, sym, ap, ◌∙◌, arith, List, [], ◌∷◌, ◌++◌, length, Option, Some, None}
 use Rattle.std.specs.Prelude.{slice_get, slice_index_or, Result, Ok, Err, OnOk, OnErr}
 use Rattle.std.proofs.lemmas.List.{get_or_past, length-map, append-nil, take_all}
 use Rattle.std.proofs.lemmas.Option.{slice_get_past, slice_get_read}
-use Rattle.paxos_packets.specs.declared.entry.Entry.{Entry}
 use Rattle.paxos_packets.specs.declared.transport.Transport.{Transport}
 use Rattle.paxos_turn.specs.Node.{NodeState}
 use Rattle.replica_machine.specs.Replay.{Machine}
 use Rattle.log_follower.specs.Following.{Followed}
-use Rattle.log_follower.specs.Handed.{said_in}
 use Rattle.cluster_world.specs.Laws.{IsPrefixOf}
-use Rattle.cluster_world.specs.Members.{MemberState, nodes_of, machines_of, node_or_absent, machine_or_none}
+use Rattle.cluster_world.specs.Members.{MemberState, nodes_of, machines_of}
 use Rattle.cluster_world.specs.StandsAt.{Held, told_by, machine_at, StandsIn}
 use Rattle.cluster_world.specs.World.{World, absent, node_at, handed}
 use Rattle.cluster_world.proofs.Worlds.{get_map, node_of_get}

@@ -1,12 +1,12 @@
 -- A script's world is the one that its events lead to.
 use Rattle.std.proofs.Common.{◌≡◌, ℕ, zero, suc, ◌-◌, Bool, List, [], ◌∷◌, ◌++◌, Option, Some, None, refl, sym, ap, ◌∙◌}
-use Rattle.std.specs.Prelude.{fold, slice_get}
+use Rattle.std.specs.Prelude.{slice_get}
 use Rattle.std.proofs.lemmas.List.Sums.{fold-append}
 use Rattle.paxos_packets.specs.declared.packet.Packet.{Packet}
 use Rattle.paxos_node.specs.declared.event.Event.{Event}
 use Rattle.paxos_node.specs.declared.event.Event.TheVariants.{Deliver}
 use Rattle.cluster_world.specs.World.{first_world, next, played}
-use Rattle.cluster_world.specs.Scripts.{Line, Happens, Packet_no, Flush, Stage, first_stage, happen, deliver, deliver_no, first_due}
+use Rattle.cluster_world.specs.Scripts.{Line, Happens, Packet_no, Flush, Stage, first_stage, deliver, deliver_no, first_due}
 use Rattle.cluster_world.specs.Scripts.{deliver_first, flush, most_deliveries, take_line, stage_behind, run_script}
 
 module _ {B : Type 0} (same : B → B → Bool) (members : ℕ) where

@@ -1,7 +1,7 @@
 -- A world in code, one event on.
-use Rattle.std.proofs.Common.{◌≡◌, ◌⊎◌, inl, inr, ⊎_elim, ℕ, zero, suc, ◌-◌, ◌<◌, ◌≤◌, Bool, true, false, ◌&&◌, eqb, refl, sym, ap, ◌∙◌, subst, arith}
-use Rattle.std.proofs.Common.{List, [], ◌∷◌, ◌++◌, length, map, Option, Some, None}
-use Rattle.std.specs.Prelude.{slice_get, slice_set, slice_index_or, filter, Result, Ok, Err, OnOk, OnErr, if◌then◌else◌}
+use Rattle.std.proofs.Common.{◌≡◌, inl, inr, ⊎_elim, ℕ, zero, suc, ◌-◌, ◌<◌, ◌≤◌, Bool, true, false, ◌&&◌, eqb, refl, sym, ap, ◌∙◌, subst, arith}
+use Rattle.std.proofs.Common.{List, [], ◌∷◌, ◌++◌, length, map, Some}
+use Rattle.std.specs.Prelude.{slice_get, slice_set, slice_index_or, filter, Result, Ok, Err, OnOk, OnErr}
 use Rattle.std.specs.List.{flat_map}
 use Rattle.std.proofs.lemmas.Bool.{cond_both, cond-true, cond-false, cases_eq, and_parts, eqb-true, ne_eqb}
 use Rattle.std.proofs.lemmas.List.{append-nil, map-set}
@@ -16,7 +16,6 @@ use Rattle.paxos_node.specs.Events.{owner, possible, outcome_of, made_by}
 use Rattle.paxos_turn.specs.Node.{NodeState, Turn}
 use Rattle.replica_machine.specs.Replay.{Machine, sayings_behind}
 use Rattle.log_follower.specs.Following.{Followed, AgreesWith, handed_to}
-use Rattle.log_follower.specs.Handed.{said_in}
 use Rattle.world_seats.specs.Seated.{IsAtRest}
 use Rattle.cluster_world.specs.Has.{Has, here}
 use Rattle.cluster_world.specs.Answers.{log_after}
@@ -24,7 +23,7 @@ use Rattle.cluster_world.specs.Laws.{IsPrefixOf, applied_behind}
 use Rattle.cluster_world.specs.Steps.{may}
 use Rattle.cluster_world.specs.World.{Applied, World, absent, node_at, put_node, first_world, was_sent, done, next, played, handed, handed_at}
 use Rattle.cluster_world.specs.Members.{MemberState, nodes_of, machines_of, AreMembers, held_of, gone_on, Moves, Unmoved, Happens, Rests, GivenUpStay}
-use Rattle.cluster_world.specs.StandsAt.{Held, told_by, machine_at, handed_in, Attends, WasHad, StandsIn, StandsAt}
+use Rattle.cluster_world.specs.StandsAt.{told_by, machine_at, Attends, WasHad, StandsIn, StandsAt}
 use Rattle.cluster_world.proofs.Lists.{has_left, has_right}
 use Rattle.cluster_world.proofs.EveryWorld.{within, play_on}
 use Rattle.cluster_world.proofs.Agreeing.{never_disagrees}

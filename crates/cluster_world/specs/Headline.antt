@@ -1,5 +1,5 @@
 -- What holds of a world in code, in words of what it shows (docs/CONSENSUS.md, "What holds over every list of events").
-use Rattle.std.specs.Prelude.{◌≡◌, ◌⊎◌, ℕ, suc, ◌≤◌, Bool, true, false, Some, List, [], length, slice_get}
+use Rattle.std.specs.Prelude.{◌≡◌, ◌⊎◌, ℕ, suc, ◌≤◌, Bool, true, false, Some, List, length, slice_get}
 use Rattle.std.specs.List.{range_with_len}
 use Rattle.paxos_packets.specs.Members.{IsMember}
 use Rattle.paxos_packets.specs.declared.entry.Entry.{Entry}

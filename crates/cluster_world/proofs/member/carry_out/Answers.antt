@@ -1,5 +1,5 @@
 -- The node as it was before room was made.
-use Rattle.std.proofs.Common.{◌≡◌, ◌≤◌, ◌<◌, ◌^◌, ℕ, ◌+◌, sym, ap, ◌∙◌, subst, arith, length}
+use Rattle.std.proofs.Common.{◌≤◌, ◌<◌, ◌^◌, ℕ, ◌+◌, sym, ap, ◌∙◌, subst, length}
 use Rattle.paxos_turn.specs.Node.{NodeState}
 use Rattle.paxos_node.specs.Adopting.{Fits}
 use Rattle.replica_machine.specs.Log.{machine_from}

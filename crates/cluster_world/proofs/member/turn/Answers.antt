@@ -1,17 +1,12 @@
 -- What is planned is what the event does; what is refused does nothing.
-use Rattle.std.proofs.Common.{◌≡◌, ◌≤◌, ℕ, ◌+◌, ◌-◌, ◌++◌, refl, sym, ap, ◌∙◌, subst, arith, List, drop, length}
+use Rattle.std.proofs.Common.{◌∙◌, subst}
 use Rattle.std.proofs.lemmas.Result.{on_ok_weaker}
 use Rattle.std.specs.Prelude.{IfSome}
 use Rattle.paxos_node.specs.Adopting.{Planned}
-use Rattle.paxos_packets.specs.declared.entry.Entry.{Entry}
-use Rattle.paxos_turn.specs.Node.{NodeState, Turn}
-use Rattle.paxos_turn.specs.Turn.{begun}
-use Rattle.paxos_node.specs.Events.{outcome_of}
 use Rattle.replica_machine.specs.Log.{machine_from}
 use Rattle.world_seats.specs.Seated.{node_of}
-use Rattle.world_seats.proofs.Seating.{plans_up}
 use Rattle.cluster_world.specs.Members.{FollowsOn}
-use Rattle.cluster_world.proofs.Attending.{stays_here, gone_nowhere, follows_none, node_planned, agrees_planned}
+use Rattle.cluster_world.proofs.Attending.{stays_here, node_planned, agrees_planned}
 use Rattle.cluster_world.proofs.member.turn.Goals as goal
 
 pub returns-in_err-outcome-clause-err : goal.returns-in_err-outcome-clause-err

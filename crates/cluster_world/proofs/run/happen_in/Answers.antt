@@ -1,9 +1,8 @@
 -- The event happens at its member.
-use Rattle.std.proofs.Common.{◌≡◌, ◌-◌, suc, Bool, true, false, ◌&&◌, refl, sym, ap, ◌∙◌, arith, length}
-use Rattle.std.proofs.lemmas.Option.{slice_get_read}
+use Rattle.std.proofs.Common.{◌-◌, sym, ap, ◌∙◌}
 use Rattle.paxos_node.specs.Events.{owner, possible}
 use Rattle.replica_machine.specs.Log.{machine_from}
-use Rattle.cluster_world.specs.Members.{MemberState, nodes_of, machines_of}
+use Rattle.cluster_world.specs.Members.{nodes_of, machines_of}
 use Rattle.cluster_world.specs.World.{node_at, was_sent}
 use Rattle.cluster_world.proofs.Worlds.{stands_still, given_up_same, off_first, off_second, placed, rests_here, agrees_here, front_here, logs_here}
 use Rattle.cluster_world.proofs.Worlds.{members_kept, stands_on, stands_back, given_up_on}

@@ -1,5 +1,5 @@
 -- By the machine that was taken out.
-use Rattle.std.proofs.Common.{◌≡◌, ◌≤◌, suc, ◌+◌, ◌++◌, [], ◌∷◌, Some, sym, ap, ◌∙◌, subst, arith, List, length, append_assoc}
+use Rattle.std.proofs.Common.{◌≡◌, ◌++◌, [], ◌∷◌, sym, ap, ◌∙◌, arith, length, append_assoc}
 use Rattle.std.specs.Prelude.{slice_get}
 use Rattle.std.proofs.lemmas.List.{length-append}
 use Rattle.cluster_world.proofs.Founding.{get_seam}

@@ -1,5 +1,5 @@
 -- So many members are put in as machines were taken out.
-use Rattle.std.proofs.Common.{◌≡◌, ◌≤◌, ◌+◌, ◌++◌, length, vec_len, vec_capacity, List}
+use Rattle.std.proofs.Common.{◌≡◌, ◌≤◌, ◌++◌, length, vec_len, vec_capacity}
 use Rattle.replica_machine.specs.Log.{machine_from}
 use Rattle.cluster_world.specs.Founding.{AreFounded, AllAttend}
 use Rattle.cluster_world.specs.StandsAt.{HaveContent}

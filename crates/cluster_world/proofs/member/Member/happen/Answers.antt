@@ -1,5 +1,4 @@
 -- A crash and a restart apply nothing.
-use Rattle.std.proofs.Common.{◌≡◌, true, subst}
 use Rattle.replica_machine.specs.Log.{machine_from}
 use Rattle.cluster_world.proofs.Attends.{crash_moves, crash_happens, restart_moves, restart_happens, restart_rests}
 use Rattle.cluster_world.proofs.member.Member.happen.Goals as goal

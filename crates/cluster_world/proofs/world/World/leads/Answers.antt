@@ -1,6 +1,5 @@
 -- Some events lead to it.
-use Rattle.std.proofs.Common.{◌≡◌, subst, List}
-use Rattle.paxos_node.specs.declared.event.Event.{Event}
+use Rattle.std.proofs.Common.{subst}
 use Rattle.replica_machine.specs.Log.{machine_from}
 use Rattle.cluster_world.specs.StandsAt.{Held, StandsAt}
 use Rattle.cluster_world.proofs.world.World.leads.Goals as goal

@@ -1,11 +1,11 @@
 -- The member at the place.
-use Rattle.std.proofs.Common.{◌≡◌, ◌≤◌, ◌<◌, ◌-◌, suc, Some, None, refl, sym, ap, ◌∙◌, subst, arith, List, length}
+use Rattle.std.proofs.Common.{◌≡◌, ◌≤◌, ◌<◌, ◌-◌, suc, Some, None, refl, ap, subst, arith, List, length}
 use Rattle.std.specs.Prelude.{slice_index_or}
 use Rattle.std.proofs.lemmas.Option.{slice_get_read}
 use Rattle.paxos_turn.specs.Node.{NodeState}
 use Rattle.replica_machine.specs.Log.{machine_from}
 use Rattle.cluster_world.specs.Laws.{IsPrefixOf}
-use Rattle.cluster_world.specs.Members.{MemberState, nodes_of, held_of}
+use Rattle.cluster_world.specs.Members.{MemberState, held_of}
 use Rattle.cluster_world.specs.StandsAt.{Held, machine_at}
 use Rattle.cluster_world.specs.World.{node_at, absent, played}
 use Rattle.cluster_world.proofs.Reading.{node_there, machine_there, node_past, machine_past, front_at}

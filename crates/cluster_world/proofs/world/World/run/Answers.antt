@@ -1,5 +1,5 @@
 -- The laws at the world that the run leaves.
-use Rattle.std.proofs.Common.{◌≡◌, ◌≤◌, ◌++◌, sym, subst}
+use Rattle.std.proofs.Common.{◌≤◌, ◌++◌, sym, subst}
 use Rattle.replica_machine.specs.Log.{machine_from}
 use Rattle.cluster_world.proofs.Headline.{reached, agree, logs_agree, answers, machines, took_effect_once, none_disagrees}
 use Rattle.cluster_world.proofs.world.World.run.Goals as goal

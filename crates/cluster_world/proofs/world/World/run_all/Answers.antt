@@ -1,5 +1,5 @@
 -- One event after the other.
-use Rattle.std.proofs.Common.{◌≡◌, ◌≤◌, ◌<◌, ◌+◌, ◌++◌, [], ◌∷◌, refl, sym, ◌∙◌, subst, arith, List, take, length}
+use Rattle.std.proofs.Common.{◌++◌, ◌∙◌, subst, arith, List, take}
 use Rattle.paxos_node.specs.declared.event.Event.{Event}
 use Rattle.replica_machine.specs.Log.{machine_from}
 use Rattle.cluster_world.specs.StandsAt.{StandsAt}

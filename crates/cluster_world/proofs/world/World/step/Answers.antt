@@ -1,7 +1,6 @@
 -- One event more stands, or the one that did not happen does not.
-use Rattle.std.proofs.Common.{◌≡◌, Some, sym, subst, List}
+use Rattle.std.proofs.Common.{◌≡◌, Some, sym, subst}
 use Rattle.std.specs.Prelude.{slice_get}
-use Rattle.paxos_node.specs.declared.event.Event.{Event}
 use Rattle.replica_machine.specs.Log.{machine_from}
 use Rattle.cluster_world.specs.Members.{held_of}
 use Rattle.cluster_world.specs.StandsAt.{Held, StandsAt}
