@@ -48,10 +48,9 @@ impl Realm {
     ///
     /// An error comes only for want of memory. The realm is failed then, and answers the same to each later act.
     ///
-    /// Cost: a number of steps that is logarithmic in the connected transports and the open calls: to find a transport, a session or a
-    /// call, for each receiver of an event, and for each call that ends with a session. A SUBSCRIBE and a session's end go over the
-    /// subscriptions and their members, a PUBLISH over the subscriptions, a REGISTER, an UNREGISTER, a CALL and a session's end over the
-    /// registrations and their callees.
+    /// Cost: a number of steps that is logarithmic in what stands: to find a transport, a session, a call, a registration or a subscription,
+    /// for each receiver of an event, for each call that ends with a session and for each group that it leaves. A PUBLISH and a CALL ask
+    /// once for each length of prefixes and each shape of wildcards that stands. Who joins or leaves a registration goes over its callees.
     pub fn act(&mut self, transport: Transport, act: &Act) -> Result<Vec<Say>, Failed>
         ensures act { Acts self.old.config self.old.content transport act.now result self.new.content }
         ensures config { self.new.config ≡ self.old.config }
