@@ -10,6 +10,7 @@ use Rattle.paxos_packets.specs.declared.packet.Packet.{Packet}
 use Rattle.packet_outboxes.specs.declared.outboxes.Stamped.{Stamped}
 use Rattle.packet_outboxes.specs.declared.outboxes.First.{First}
 use Rattle.packet_outboxes.specs.Outboxes.{Waiting, most_waiting, limit, box_of, waiting, IsPeer, to, empty_boxes, behind, filed, HasLimits, WaitBehind, AreKept, without_first, first_stamp, older, IsOldestBelow, Leaves}
+use Rattle.packet_outboxes.specs.Outboxes.{TakenFor}
 
 -- what stands last of the last, and of more behind them
 pub keep_last_again : {A : Type 0} (n : ℕ) (xs ys : List A) → keep_last n (keep_last n xs ++ ys) ≡ keep_last n (xs ++ ys)
@@ -325,3 +326,24 @@ module _ {B : Type 0} where
   pub older_step : (n : ℕ) (boxes : List (Buffer (Stamped B))) (best : Option First) → IsOldestBelow n boxes best
       → IsOldestBelow (suc n) boxes (older best n (first_stamp (box_of n boxes)))
   older_step n boxes best h = older_by n boxes best (first_stamp (box_of n boxes)) refl h
+
+  -- the first packet of one outbox leaves
+
+  pub leaves_for : (me members next k : ℕ) (boxes : List (Buffer (Stamped B))) (s : Stamped B) → AreKept me members boxes → k < length boxes
+      → slice_get (box_of k boxes).items 0 ≡ Some s
+      → TakenFor k s.packet (record { me = me; members = members; boxes = boxes; next = next })
+      (record { me = me; members = members; boxes = without_first k boxes; next = next })
+  leaves_for me members next k boxes s kept h first =
+      let at = at_place me members k boxes s kept h first in
+      let gone : (box_of k (without_first k boxes)).items ≡ drop 1 (box_of k boxes).items = ap (λ b. b.items) (leaves_here k boxes h) in
+      let whole : map told (box_of k boxes).items ≡ s.packet ∷ map told (box_of k (without_first k boxes)).items =
+      ap (map told) (head_is (box_of k boxes).items s first) ∙ ap (λ xs. s.packet ∷ map told xs) (sym gone) in
+      let size : length (map told (box_of k boxes).items) ≡ suc (length (map told (box_of k (without_first k boxes)).items)) = ap length whole in
+      let most = limited me members boxes kept k at.0 in
+      record {
+        peer = at.0;
+        addressed = at.1;
+        first = whole;
+        others = λ j other. ap (λ b. map told b.items) (leaves_else k j boxes other);
+        room = omega (arith, size, most);
+      }

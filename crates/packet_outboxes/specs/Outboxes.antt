@@ -85,6 +85,24 @@ IsOldestBelow n boxes (Some f) =
     (f.place < n) × (first_stamp (box_of f.place boxes) ≡ Some f.stamp)
     × ((k t : ℕ) → k < n → first_stamp (box_of k boxes) ≡ Some t → f.stamp ≤ t)
 
+-- one packet more waits before the others of its outbox, among all outboxes
+abbrev pub filed_first : {B : Type 0} → Stamped B → List (Buffer (Stamped B)) → List (Buffer (Stamped B))
+filed_first s boxes =
+    slice_set boxes s.packet.addressee (buffer (s ∷ (box_of s.packet.addressee boxes).items) (box_of s.packet.addressee boxes).capacity)
+
+-- the packet, the oldest of those for a node, waits no longer; so fewer wait for it than may
+pub record TakenFor {B : Type 0} (k : ℕ) (p : Packet B) (old new : Waiting B) : Type 0 where
+  pub peer : IsPeer old.me old.members k
+  pub addressed : p.addressee ≡ k
+  pub first : waiting k old ≡ p ∷ waiting k new
+  pub others : (j : ℕ) → (j ≡ k → ⊥) → waiting j new ≡ waiting j old
+  pub room : length (waiting k new) < most_waiting
+
+-- the packet waits before the others for its addressee
+pub record WaitsFirst {B : Type 0} (p : Packet B) (old new : Waiting B) : Type 0 where
+  pub first : waiting p.addressee new ≡ p ∷ waiting p.addressee old
+  pub others : (j : ℕ) → (j ≡ p.addressee → ⊥) → waiting j new ≡ waiting j old
+
 -- the packet, the oldest of those that are first in their outboxes, waits no longer
 pub record Leaves {B : Type 0} (p : Packet B) (old new : Waiting B) : Type 0 where
   pub peer : IsPeer old.me old.members p.addressee

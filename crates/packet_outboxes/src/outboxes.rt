@@ -1,6 +1,6 @@
 ghost use Rattle.std.specs.Prelude.{◌≡◌, ◌<◌, ℕ, suc, [], ◌∷◌, length, slice_get, IfOk, IfSome, IfNone, MatchOption, Some};
 ghost use Rattle.packet_outboxes.specs.Outboxes.{empty_boxes, limit, box_of, waiting, filed, without_first, HasLimits, WaitBehind, Leaves};
-ghost use Rattle.packet_outboxes.specs.Outboxes.{first_stamp, older, IsOldestBelow};
+ghost use Rattle.packet_outboxes.specs.Outboxes.{first_stamp, older, IsOldestBelow, IsPeer, TakenFor, WaitsFirst, filed_first, most_waiting};
 
 use circular_buffer::HeapCircularBuffer;
 use paxos_packets::{Members, Memory, Packet};
@@ -122,6 +122,34 @@ impl<B: Drop> Outboxes<B> {
         }
     }
 
+    /// Takes the oldest packet that waits for this node, if any does. Takes no memory.
+    pub fn take_for(&mut self, peer: u8) -> Option<Packet<B>>
+        ensures me { self.new.me ≡ self.old.me }
+        ensures members { self.new.members ≡ self.old.members }
+        ensures none { IfNone result ((self.new ≡ self.old) × (waiting peer self.old ≡ [])) }
+        ensures some { IfSome result (λ p. TakenFor peer p self.old self.new) }
+    {
+        let place = usize::from(peer);
+        if place >= self.boxes.len() {
+            return None;
+        }
+        let Some(stamped) = take_first(&mut self.boxes, place) else {
+            return None;
+        };
+        Some(packet_of(stamped))
+    }
+
+    /// The packet waits before the others for its addressee, as one that was taken and could not go. There is room for it. Takes no memory.
+    pub fn put_back(&mut self, packet: Packet<B>)
+        requires peer { IsPeer self.old.me self.old.members packet.addressee }
+        requires room { length (waiting packet.addressee self.old) < most_waiting }
+        ensures me { self.new.me ≡ self.old.me }
+        ensures members { self.new.members ≡ self.old.members }
+        ensures first { WaitsFirst packet self.old self.new }
+    {
+        put_first(&mut self.boxes, Stamped { stamp: 0, packet });
+    }
+
     // Which outbox has the first packet that was put before the first ones of the others.
     fn oldest(&self) -> Option<First>
         ensures { IsOldestBelow (length self.now.boxes) self.now.boxes result }
@@ -169,6 +197,16 @@ fn put_in<B: Drop>(boxes: &mut Vec<HeapCircularBuffer<Stamped<B>>>, stamped: Sta
     if place < boxes.len() {
         boxes[place].push_back(stamped);
     }
+}
+
+// The packet waits in the outbox of its addressee, before the others; there is room.
+fn put_first<B: Drop>(boxes: &mut Vec<HeapCircularBuffer<Stamped<B>>>, stamped: Stamped<B>)
+    requires place { stamped.packet.addressee < length boxes.old.items }
+    requires room { length (box_of stamped.packet.addressee boxes.old.items).items < (box_of stamped.packet.addressee boxes.old.items).capacity }
+    ensures { boxes.new.items ≡ filed_first stamped boxes.old.items }
+{
+    let place = usize::from(stamped.packet.addressee);
+    boxes[place].push_front(stamped);
 }
 
 // The packet alone.

@@ -66,6 +66,49 @@ fn goes_first(
     Ok(())
 }
 
+// Whom a packet is taken for, whether it goes or comes back, and which it is; 0 where none waits.
+const FOR_ONE: &[(u8, bool, u64)] = &[
+    (1, false, 2),
+    (1, true, 2),
+    (1, true, 4),
+    (1, true, 0),
+    (3, false, 1),
+    (3, false, 1),
+    (3, true, 1),
+    (3, true, 3),
+    (2, true, 0),
+    (0, true, 0),
+    (9, true, 0),
+];
+
+// The oldest packet for a node, which goes, or comes back.
+fn next_for(outboxes: &mut Outboxes<u32>, peer: u8, goes: bool) -> u64 {
+    let Some(packet) = outboxes.take_for(peer) else {
+        return 0;
+    };
+    let first = first_in(&packet);
+    if goes {
+        drop(packet);
+    } else {
+        outboxes.put_back(packet);
+    }
+    first
+}
+
+#[test]
+fn a_packet_that_could_not_go_comes_first_again(rt: HostRuntime) -> Result<(), Fail> {
+    let mut outboxes = outboxes(rt.alloc())?;
+    put(
+        rt.alloc(),
+        &mut outboxes,
+        &[(3, 1), (1, 2), (9, 5), (3, 3), (1, 4)],
+    )?;
+    for (peer, goes, first) in FOR_ONE {
+        assert_eq!(rt; next_for(&mut outboxes, *peer, *goes), *first);
+    }
+    Ok(())
+}
+
 #[test]
 fn the_oldest_packet_goes_first(rt: HostRuntime) -> Result<(), Fail> {
     let mut outboxes = outboxes(rt.alloc())?;
