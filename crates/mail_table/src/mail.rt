@@ -18,9 +18,6 @@ use paxos_node::Outcome;
 use paxos_packets::{Body, Packet, Rows};
 use std::marker::{Brand, Model};
 
-// The most events that a node's word counts.
-const MOST_EVENTS: u64 = 1 << 62;
-
 /// A table through which the nodes of a cluster pass packets, each node on a thread of its own: for each ordered pair of nodes a box that
 /// holds one packet, and for each node a word that counts its events. It is shared by reference; nothing is locked, and no call waits.
 #[derive(Drop)]
@@ -100,7 +97,7 @@ impl<B: Body> Mail<B> {
         ensures worn { OnErr result (seat.new ≡ seat.old) }
         ensures still_owned { Owns self.now seat.new }
     {
-        if seat.events >= MOST_EVENTS {
+        if !seat.may_advance() {
             return Err(Worn);
         }
         same_table(&self.mark, &self.table, &seat.mark, &seat.seat);
@@ -121,7 +118,7 @@ impl<B: Body> Mail<B> {
         ensures worn { OnErr result (seat.new ≡ seat.old) }
         ensures still_owned { Owns self.now seat.new }
     {
-        if seat.events >= MOST_EVENTS {
+        if !seat.may_advance() {
             return Err(Worn);
         }
         same_table(&self.mark, &self.table, &seat.mark, &seat.seat);

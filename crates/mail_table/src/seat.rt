@@ -4,12 +4,15 @@ ghost use Rattle.paxos_packets.specs.Members.{IsMember};
 ghost use Rattle.mail_table.specs.Boxes.{sits};
 ghost use Rattle.mail_table.specs.Offices.{name_of};
 ghost use Rattle.mail_table.specs.Views.{log_in, place, unopened};
-ghost use Rattle.std.specs.Prelude.{◌*◌};
+ghost use Rattle.std.specs.Prelude.{◌*◌, ◌^◌, nat_lt};
 
 use crate::office::Mark;
 use crate::plays::Token;
 use paxos_packets::Body;
 use std::marker::Model;
+
+// The most events that a node's word counts.
+const MOST_EVENTS: u64 = 1 << 62;
 
 /// The seat of one node at a table: a thread that has it may take the node's steps. It may go to another thread.
 #[derive(Drop)]
@@ -43,6 +46,13 @@ impl<B: Body> NodeSeat<B> {
         ensures { result ≡ self.now.part.me }
     {
         self.node
+    }
+
+    /// Whether its node's word counts one event more: it counted fewer than 2^62. So `advance` and `renew` are not `Worn`.
+    pub fn may_advance(&self) -> bool
+        ensures { result ≡ nat_lt self.now.part.events (2 ^ 62) }
+    {
+        self.events < MOST_EVENTS
     }
 
     // The number of its table in the office.
