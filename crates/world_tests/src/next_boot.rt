@@ -1,0 +1,77 @@
+// One session through three nodes, whose machines tell each sum also to the transport of that number in its node's next boot.
+use crate::packets::{FIRST, FIVE, Held, SECOND, SIX};
+use crate::schedule::{SESSION, Turn};
+use crate::worlds::{deliver, has_log, run_rows, turn, was_told, world_of};
+use cluster_world::World;
+use core_tests::Foretells;
+use std::alloc::Global;
+use std::process::Abort;
+use std::test::Fail;
+
+// Three nodes with such machines.
+fn foretelling(alloc: Global) -> Result<World<Foretells>, Fail> {
+    world_of(
+        alloc,
+        Foretells::new(alloc),
+        Foretells::new(alloc),
+        Foretells::new(alloc),
+    )
+}
+
+// What the transport of node 2 was told in boot 1, and the one with its number in boot 2.
+fn told(rt: &impl Abort, world: &World<Foretells>, first: &[u64], second: &[u64]) {
+    assert!(rt; was_told(world, 2, 1, 1, first));
+    assert!(rt; was_told(world, 2, 2, 1, second));
+}
+
+fn session(rt: &impl Abort, alloc: Global, world: &mut World<Foretells>) -> Result<(), Fail> {
+    assert_eq!(rt; run_rows(world, alloc, SESSION)?, None);
+    told(rt, world, &[5, 11], &[]);
+    Ok(())
+}
+
+// Delivers each packet behind the first so many, those that come meanwhile too.
+fn flush(
+    rt: &impl Abort,
+    alloc: Global,
+    world: &mut World<Foretells>,
+    from: usize,
+) -> Result<(), Fail> {
+    for number in from..99 {
+        if number >= world.sent() {
+            break;
+        }
+        assert!(rt; deliver(world, alloc, number + 1)?);
+    }
+    Ok(())
+}
+
+// The log of each node then: node 2 forwards its next Boot to the leader of its promise.
+const LOG_AFTER: &[Held] = &[FIRST, SECOND, FIVE, SIX, ("boot", 2, 2, 0, 0, 0)];
+
+const BACK: &[Turn] = &[("crash", 2, 0, 0), ("restart", 2, 0, 0)];
+
+fn comes_back(rt: &impl Abort, alloc: Global, world: &mut World<Foretells>) -> Result<(), Fail> {
+    session(rt, alloc, world)?;
+    for row in BACK {
+        assert!(rt; turn(world, alloc, row)?);
+    }
+    assert!(rt; world.is_up(2));
+    assert!(rt; has_log(world, 2, &[]));
+    told(rt, world, &[5, 11], &[]);
+    assert!(rt; turn(world, alloc, &("tick", 2, 0, 0))?);
+    flush(rt, alloc, world, 38)?;
+    for node in [1, 2, 3] {
+        assert!(rt; has_log(world, node, LOG_AFTER), "{node}");
+    }
+    told(rt, world, &[5, 11], &[5, 11]);
+    Ok(())
+}
+
+#[test]
+fn what_was_said_early_is_told_in_the_next_boot(rt: HostRuntime) -> Result<(), Fail> {
+    let mut world = foretelling(rt.alloc())?;
+    let done = comes_back(&rt, rt.alloc(), &mut world);
+    drop(world);
+    done
+}

@@ -1,0 +1,264 @@
+// One session through three nodes, whose machines add up: at once, one by one, with altered packets between, and each packet twice.
+use crate::packets::{FIRST, FIVE, LOG, Mail, PACKETS, SECOND, SIX, packet_of};
+use crate::schedule::{SESSION, Turn};
+use crate::worlds::{
+    deliver, happens, has_log, has_sent, run_rows, shown, turn, was_told, world_of,
+};
+use cluster_world::{Memory, World};
+use core_tests::{Count, Number};
+use paxos_node::Event;
+use paxos_packets::Transport;
+use replica_machine::Machine;
+use std::alloc::Global;
+use std::process::Abort;
+use std::test::Fail;
+
+// Three nodes whose machines add up.
+pub fn counts(alloc: Global) -> Result<World<Count>, Fail> {
+    world_of(
+        alloc,
+        Count::new(alloc),
+        Count::new(alloc),
+        Count::new(alloc),
+    )
+}
+
+// Transports that are told nothing: by node, boot and number.
+const UNTOLD: &[(u8, u64, u32)] = &[
+    (2, 1, 2),
+    (2, 2, 1),
+    (1, 1, 1),
+    (3, 1, 1),
+    (2, 0, 1),
+    (2, 1, 0),
+    (0, 1, 1),
+    (4, 1, 1),
+];
+
+// What each world shows behind the session: all nodes are up with its log, and no other is.
+fn has_logs<M: Machine<Body = Number>>(rt: &impl Abort, world: &World<M>) {
+    for node in [1, 2, 3] {
+        assert!(rt; world.is_up(node), "{node}");
+        assert!(rt; has_log(world, node, LOG), "{node}");
+    }
+    for node in [0, 4, 255] {
+        assert!(rt; !world.is_up(node), "{node}");
+        assert!(rt; has_log(world, node, &[]), "{node}");
+    }
+}
+
+// The transport of node 2 was told 5 and then 11, and no other was told anything.
+fn has_told<M: Machine<Say = (Transport, u64)>>(rt: &impl Abort, world: &World<M>) {
+    assert!(rt; was_told(world, 2, 1, 1, &[5, 11]));
+    for (node, boot, number) in UNTOLD {
+        assert!(rt; was_told(world, *node, *boot, *number, &[]), "{node}");
+    }
+}
+
+// The world is the one behind the session.
+pub fn is_behind(rt: &impl Abort, alloc: Global, world: &World<Count>) -> Result<(), Fail> {
+    assert!(rt; has_sent(world, alloc, PACKETS)?);
+    assert!(rt; world.packet(0).is_none());
+    assert!(rt; world.packet(39).is_none());
+    has_logs(rt, world);
+    has_told(rt, world);
+    Ok(())
+}
+
+#[test]
+fn a_session_at_once(rt: HostRuntime) -> Result<(), Fail> {
+    let mut world = counts(rt.alloc())?;
+    let done = at_once(&rt, rt.alloc(), &mut world);
+    drop(world);
+    done
+}
+
+fn at_once(rt: &impl Abort, alloc: Global, world: &mut World<Count>) -> Result<(), Fail> {
+    assert_eq!(rt; run_rows(world, alloc, SESSION)?, None);
+    is_behind(rt, alloc, world)
+}
+
+// The events of rows happen, one by one.
+pub fn goes(
+    rt: &impl Abort,
+    alloc: Global,
+    world: &mut World<Count>,
+    turns: &[Turn],
+) -> Result<(), Fail> {
+    for row in turns {
+        assert!(rt; turn(world, alloc, row)?, "{} {}", row.0, row.1);
+    }
+    Ok(())
+}
+
+fn one_by_one(rt: &impl Abort, alloc: Global, world: &mut World<Count>) -> Result<(), Fail> {
+    goes(rt, alloc, world, SESSION)?;
+    is_behind(rt, alloc, world)
+}
+
+#[test]
+fn a_session_one_by_one(rt: HostRuntime) -> Result<(), Fail> {
+    let mut world = counts(rt.alloc())?;
+    let done = one_by_one(&rt, rt.alloc(), &mut world);
+    drop(world);
+    done
+}
+
+// Packets that are like one of the session, but for one number, with the number of that one.
+const ALTERED: &[(u8, Mail)] = &[
+    (1, ("prepare", 2, 2, (1, 1), 1, &[])),
+    (1, ("prepare", 1, 1, (1, 1), 1, &[])),
+    (1, ("prepare", 1, 4, (1, 1), 1, &[])),
+    (1, ("prepare", 1, 0, (1, 1), 1, &[])),
+    (1, ("prepare", 1, 2, (2, 1), 1, &[])),
+    (1, ("prepare", 1, 2, (1, 2), 1, &[])),
+    (1, ("prepare", 1, 2, (1, 1), 2, &[])),
+    (3, ("promise", 1, 1, (1, 1), 0, &[])),
+    (3, ("promise", 2, 2, (1, 1), 0, &[])),
+    (3, ("promise", 2, 1, (2, 1), 0, &[])),
+    (3, ("promise", 2, 1, (1, 2), 0, &[])),
+    (5, ("accept", 2, 2, (1, 1), 1, &[FIRST])),
+    (5, ("accept", 1, 1, (1, 1), 1, &[FIRST])),
+    (5, ("accept", 1, 2, (2, 1), 1, &[FIRST])),
+    (5, ("accept", 1, 2, (1, 2), 1, &[FIRST])),
+    (5, ("accept", 1, 2, (1, 1), 2, &[FIRST])),
+    (5, ("accept", 1, 2, (1, 1), 1, &[("boot", 2, 1, 0, 0, 0)])),
+    (5, ("accept", 1, 2, (1, 1), 1, &[("boot", 1, 2, 0, 0, 0)])),
+    (7, ("accepted", 2, 2, (1, 1), 1, &[FIRST])),
+    (7, ("accepted", 1, 1, (1, 1), 1, &[FIRST])),
+    (7, ("accepted", 1, 2, (2, 1), 1, &[FIRST])),
+    (7, ("accepted", 1, 2, (1, 2), 1, &[FIRST])),
+    (7, ("accepted", 1, 2, (1, 1), 2, &[FIRST])),
+    (7, ("accepted", 1, 2, (1, 1), 1, &[("boot", 2, 1, 0, 0, 0)])),
+    (13, ("forward", 3, 1, (0, 0), 0, &[SECOND, FIVE])),
+    (13, ("forward", 2, 3, (0, 0), 0, &[SECOND, FIVE])),
+    (
+        13,
+        ("forward", 2, 1, (0, 0), 0, &[("boot", 3, 1, 0, 0, 0), FIVE]),
+    ),
+    (
+        13,
+        (
+            "forward",
+            2,
+            1,
+            (0, 0),
+            0,
+            &[SECOND, ("item", 2, 1, 1, 1, 6)],
+        ),
+    ),
+    (
+        14,
+        (
+            "forward",
+            2,
+            1,
+            (0, 0),
+            0,
+            &[SECOND, ("item", 2, 1, 1, 1, 6), SIX],
+        ),
+    ),
+    (
+        14,
+        (
+            "forward",
+            2,
+            1,
+            (0, 0),
+            0,
+            &[SECOND, FIVE, ("item", 2, 1, 2, 1, 7)],
+        ),
+    ),
+    (20, ("accept", 1, 3, (1, 1), 3, &[("item", 1, 1, 1, 1, 5)])),
+    (20, ("accept", 1, 3, (1, 1), 3, &[("item", 2, 2, 1, 1, 5)])),
+    (20, ("accept", 1, 3, (1, 1), 3, &[("item", 2, 1, 2, 1, 5)])),
+    (20, ("accept", 1, 3, (1, 1), 3, &[("item", 2, 1, 1, 2, 5)])),
+    (20, ("accept", 1, 3, (1, 1), 3, &[("item", 2, 1, 1, 1, 6)])),
+    (
+        38,
+        ("accepted", 3, 2, (1, 1), 4, &[("item", 2, 1, 2, 1, 7)]),
+    ),
+];
+
+// Packets that nobody sent change nothing, and are no hindrance to the one that they are like.
+fn alters(
+    rt: &impl Abort,
+    alloc: Global,
+    world: &mut World<Count>,
+    number: u8,
+) -> Result<(), Fail> {
+    let before = shown(world);
+    for (like, mail) in ALTERED {
+        if *like == number {
+            let packet = packet_of(alloc, mail)?;
+            assert!(rt; happens(world, Event::Deliver { packet }));
+            assert!(rt; shown(world) == before, "{number}");
+        }
+    }
+    Ok(())
+}
+
+fn with_altered(rt: &impl Abort, alloc: Global, world: &mut World<Count>) -> Result<(), Fail> {
+    for row in SESSION {
+        if row.0 == "deliver" {
+            alters(rt, alloc, world, row.1)?;
+        }
+        assert!(rt; turn(world, alloc, row)?, "{} {}", row.0, row.1);
+    }
+    is_behind(rt, alloc, world)
+}
+
+#[test]
+fn what_nobody_sent_changes_nothing(rt: HostRuntime) -> Result<(), Fail> {
+    let mut world = counts(rt.alloc())?;
+    let done = with_altered(&rt, rt.alloc(), &mut world);
+    drop(world);
+    done
+}
+
+// Delivers each packet behind the first so many twice, those that come meanwhile too. How many were sent then.
+fn flush_twice(
+    rt: &impl Abort,
+    alloc: Global,
+    world: &mut World<Count>,
+    from: usize,
+) -> Result<usize, Fail> {
+    for number in from..99 {
+        if number >= world.sent() {
+            break;
+        }
+        assert!(rt; deliver(world, alloc, number + 1)?);
+        assert!(rt; deliver(world, alloc, number + 1)?);
+    }
+    Ok(world.sent())
+}
+
+const BEGINS: &[Turn] = &[("start", 1, 0, 0)];
+
+const TAKES: &[Turn] = &[("take", 2, 1, 5), ("take", 2, 1, 6)];
+
+// A second Prepare is answered by a Nack, and a second Accept by the same votes again; nothing else is sent twice.
+fn twice(rt: &impl Abort, alloc: Global, world: &mut World<Count>) -> Result<(), Fail> {
+    goes(rt, alloc, world, BEGINS)?;
+    let begun = flush_twice(rt, alloc, world, 0)?;
+    assert_eq!(rt; begun, 2 + 4 + 4 + 8);
+    goes(rt, alloc, world, TAKES)?;
+    let done = flush_twice(rt, alloc, world, begun)?;
+    assert_eq!(rt; done, begun + 2 + 3 * 12);
+    has_logs(rt, world);
+    has_told(rt, world);
+    Ok(())
+}
+
+#[test]
+fn what_is_delivered_twice_takes_effect_once(rt: HostRuntime) -> Result<(), Fail> {
+    let mut world = counts(rt.alloc())?;
+    let done = twice(&rt, rt.alloc(), &mut world);
+    drop(world);
+    done
+}
+
+#[test]
+fn want_of_memory_has_a_number(rt: HostRuntime) {
+    assert_eq!(rt; Memory.number(), 60);
+}

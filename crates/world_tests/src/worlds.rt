@@ -1,0 +1,145 @@
+// Worlds of three nodes: how they go on, and what they show.
+ghost use Rattle.std.specs.Prelude.{◌≡◌, false};
+
+use crate::packets::{Held, Mail, is_log, is_mail};
+use crate::schedule::{Turn, event_of, events_of};
+use cluster_world::World;
+use core_tests::Number;
+use paxos_node::Event;
+use paxos_packets::{Body, Members, Packet, Transport};
+use replica_machine::Machine;
+use std::alloc::Global;
+use std::test::Fail;
+
+// The first world of three nodes with these machines.
+pub fn world_of<M: Machine>(alloc: Global, one: M, two: M, three: M) -> Result<World<M>, Fail>
+    requires one { M.has_failed one ≡ false }
+    requires two { M.has_failed two ≡ false }
+    requires three { M.has_failed three ≡ false }
+    requires alike { M.content one ≡ M.content two }
+    requires all_alike { M.content one ≡ M.content three }
+{
+    let members = Members::new(3).ok_or("3 members")?;
+    let mut machines = Vec::new(alloc);
+    machines.push(one)?;
+    machines.push(two)?;
+    machines.push(three)?;
+    Ok(World::new(alloc, members, machines)?)
+}
+
+// Lets the events happen: the index for which there was no memory, where there was not.
+fn run<M: Machine<Body = Number>>(world: &mut World<M>, events: &[Event<Number>]) -> Option<usize> {
+    match world.run(events) {
+        Ok(()) => None,
+        Err((index, _)) => Some(index),
+    }
+}
+
+// Lets the events of rows happen, at once: the index for which there was no memory, where there was not.
+pub fn run_rows<M: Machine<Body = Number>>(
+    world: &mut World<M>,
+    alloc: Global,
+    turns: &[Turn],
+) -> Result<Option<usize>, Fail> {
+    let events = events_of(alloc, turns)?;
+    let done = run(world, &events);
+    drop(events);
+    Ok(done)
+}
+
+// Lets one event happen. Whether there was memory for it.
+pub fn happens<M: Machine<Body = Number>>(world: &mut World<M>, event: Event<Number>) -> bool {
+    let events = [event];
+    let done = run(world, &events);
+    drop(events);
+    done.is_none()
+}
+
+// Lets the event of a row happen. Whether there was memory for it.
+pub fn turn<M: Machine<Body = Number>>(
+    world: &mut World<M>,
+    alloc: Global,
+    turn: &Turn,
+) -> Result<bool, Fail> {
+    let event = event_of(alloc, turn)?;
+    Ok(happens(world, event))
+}
+
+// A copy of the packet that was sent under this number, from 1 on.
+fn sent<M: Machine<Body = Number>>(
+    world: &World<M>,
+    alloc: Global,
+    number: usize,
+) -> Result<Packet<Number>, Fail> {
+    let packet = world.packet(number).ok_or("a packet")?;
+    Ok(packet.copy(alloc)?)
+}
+
+// Delivers the packet that was sent under this number. Whether there was memory for it.
+pub fn deliver<M: Machine<Body = Number>>(
+    world: &mut World<M>,
+    alloc: Global,
+    number: usize,
+) -> Result<bool, Fail> {
+    let packet = sent(world, alloc, number)?;
+    Ok(happens(world, Event::Deliver { packet }))
+}
+
+// Whether the log of a node holds the entries of these rows.
+pub fn has_log<M: Machine<Body = Number>>(world: &World<M>, node: u8, rows: &[Held]) -> bool {
+    is_log(world.log(node), rows)
+}
+
+// Whether the packets of these rows were sent, in this order, and no others.
+pub fn has_sent<M: Machine<Body = Number>>(
+    world: &World<M>,
+    alloc: Global,
+    rows: &[Mail],
+) -> Result<bool, Fail> {
+    if world.sent() != rows.len() {
+        return Ok(false);
+    }
+    for place in 0..rows.len() {
+        let packet = world.packet(place + 1).ok_or("a packet")?;
+        if !is_mail(alloc, packet, &rows[place])? {
+            return Ok(false);
+        }
+    }
+    Ok(true)
+}
+
+// Whether the transport of a node was told these sums, in order.
+pub fn was_told<M: Machine<Say = (Transport, u64)>>(
+    world: &World<M>,
+    node: u8,
+    boot: u64,
+    number: u32,
+    sums: &[u64],
+) -> bool {
+    let transport = Transport { node, boot, number };
+    let said = world.said(transport);
+    if said.len() != sums.len() {
+        return false;
+    }
+    for place in 0..sums.len() {
+        if said[place] != (transport, sums[place]) {
+            return false;
+        }
+    }
+    true
+}
+
+// How many packets were sent, how long the logs of the nodes are, which of them are up, and how many sums the transport of node 2 was told.
+pub fn shown<M: Machine>(world: &World<M>) -> (usize, [usize; 3], [bool; 3], usize) {
+    let transport = Transport {
+        node: 2,
+        boot: 1,
+        number: 1,
+    };
+    (
+        world.sent(),
+        [world.log(1).len(), world.log(2).len(), world.log(3).len()],
+        [world.is_up(1), world.is_up(2), world.is_up(3)],
+        world.said(transport).len(),
+    )
+}
