@@ -3,7 +3,7 @@ ghost use Rattle.paxos_packets.specs.declared.transport.Transport.{Transport};
 ghost use Rattle.replica_machine.specs.Log.{machine_from};
 ghost use Rattle.replica_machine.specs.Replay.{sayings_by_slot};
 ghost use Rattle.log_follower.specs.Following.{AgreesWith, Follows, Keeps, handed_to, said_to, said_in_boot, kept_at, kept_from};
-ghost use Rattle.log_follower.specs.Handed.{said_in, room_in, tellings};
+ghost use Rattle.log_follower.specs.Handed.{said_in, room_in, tellings, TellAll};
 
 use crate::handed::Handed;
 use crate::kept::Kept;
@@ -104,7 +104,8 @@ impl<M: Machine> Follower<M> {
 
     /// The transports that were handed something, by boot and number, each with what it was handed, oldest first. Takes no memory.
     pub fn handed(&self) -> Tellings<'_, M::Say>
-        ensures { result ≡ tellings self.now.told }
+        ensures are { result ≡ tellings self.now.told }
+        ensures all { TellAll self.now.told result }
     {
         self.handed.tellings()
     }

@@ -1,7 +1,7 @@
 ghost use Rattle.std.specs.Prelude.{◌≡◌, ◌+◌, ◌<◌, ◌≤◌, zero, [], ◌∷◌, ◌++◌, IsSome, OnOk, if◌then◌else◌};
 ghost use Rattle.paxos_packets.specs.Transport.{same_transport};
 ghost use Rattle.std.specs.Map.{lookup};
-ghost use Rattle.log_follower.specs.Handed.{said_in, room_in, tellings, HasRoom};
+ghost use Rattle.log_follower.specs.Handed.{said_in, room_in, tellings, TellAll, HasRoom};
 
 use crate::tellings::Tellings;
 use paxos_packets::{Memory, Transport};
@@ -107,7 +107,8 @@ impl<Y> Handed<Y> {
 
     // The transports that were handed something.
     pub fn tellings(&self) -> Tellings<'_, Y>
-        ensures { result ≡ tellings self.now }
+        ensures are { result ≡ tellings self.now }
+        ensures all { TellAll self.now result }
     {
         Tellings::of(&self.told)
     }

@@ -1,5 +1,5 @@
 ghost use Rattle.std.specs.Prelude.{◌≡◌, ◌≢◌, MatchOption, [], ◌∷◌};
-ghost use Rattle.log_follower.specs.Handed.{tellings};
+ghost use Rattle.log_follower.specs.Handed.{tellings, TellAll};
 
 use crate::handed::Told;
 use paxos_packets::Transport;
@@ -26,7 +26,8 @@ impl<'a, Y> Model for Tellings<'a, Y> {
 impl<'a, Y> Tellings<'a, Y> {
     // All of these.
     pub(crate) fn of(told: &'a BTreeMap<Transport, Told<Y>>) -> Tellings<'a, Y>
-        ensures { result ≡ tellings told.now.entries }
+        ensures are { result ≡ tellings told.now.entries }
+        ensures all { TellAll told.now.entries result }
     {
         Tellings { left: told.iter() }
     }
