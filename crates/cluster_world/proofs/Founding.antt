@@ -15,7 +15,8 @@ use Rattle.cluster_world.specs.Members.{MemberState, nodes_of, machines_of, AreM
 use Rattle.cluster_world.specs.StandsAt.{told_by, machine_at, Attends, StandsIn, HaveContent}
 use Rattle.cluster_world.specs.World.{founded, first_boots, first_world}
 use Rattle.cluster_world.specs.Founding.{HasBegun, AreFounded, AllAttend, AreAlike, NoneGivenUp}
-use Rattle.cluster_world.proofs.Worlds.{get_map, get_unmap, node_of_get, some_same}
+use Rattle.cluster_world.proofs.Replacing.{get_map, get_unmap, some_same}
+use Rattle.cluster_world.proofs.Worlds.{node_of_get}
 
 -- an element of a list with one more at its end
 pub get_last : {A : Type 0} (xs : List A) (x : A) (i : ℕ) (y : A) → slice_get (xs ++ x ∷ []) i ≡ Some y
@@ -69,6 +70,10 @@ stands_first {B} {M} {S} {Y} content m members list made f n all =
       sent = refl;
       made = f.made_is ∙ ap (λ k. first_boots k) n;
       handed = λ t. told_at t.node t;
+      own =
+          λ i g h t d.
+          let s = get_unmap (λ (z : MemberState B M Y). z.machine) list i g h in
+          ap (λ (l : List _). said_in t l) (ap (λ (z : Followed B M Y). z.told) (sym s.2) ∙ (f.each i s.0 s.1).told);
       attends =
           λ i g h.
           let s = get_unmap (λ (z : MemberState B M Y). z.machine) list i g h in

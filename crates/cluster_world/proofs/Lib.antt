@@ -28,7 +28,9 @@ pub mod Stepping
 pub mod Scripting
 pub mod Attending
 pub mod Attends
+pub mod Replacing
 pub mod Worlds
 pub mod Founding
 pub mod Reading
 pub mod Headline
+pub mod Telling

@@ -11,7 +11,8 @@ use Rattle.cluster_world.specs.Laws.{IsPrefixOf}
 use Rattle.cluster_world.specs.Members.{MemberState, nodes_of, machines_of}
 use Rattle.cluster_world.specs.StandsAt.{Held, told_by, machine_at, StandsIn}
 use Rattle.cluster_world.specs.World.{World, absent, node_at, handed}
-use Rattle.cluster_world.proofs.Worlds.{get_map, node_of_get}
+use Rattle.cluster_world.proofs.Replacing.{get_map}
+use Rattle.cluster_world.proofs.Worlds.{node_of_get}
 
 module _ {B M Y : Type 0} (list : List (MemberState B M Y)) where
   pub node_there : (n i : ℕ) (s : MemberState B M Y) → n ≡ suc i → slice_get list i ≡ Some s → node_at (nodes_of list) n ≡ s.node

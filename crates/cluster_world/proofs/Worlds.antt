@@ -1,6 +1,6 @@
 -- A world in code, one event on.
 use Rattle.std.proofs.Common.{◌≡◌, inl, inr, ⊎_elim, ℕ, zero, suc, ◌-◌, ◌<◌, ◌≤◌, Bool, true, false, ◌&&◌, eqb, refl, sym, ap, ◌∙◌, subst, arith}
-use Rattle.std.proofs.Common.{List, [], ◌∷◌, ◌++◌, length, map, Some}
+use Rattle.std.proofs.Common.{List, [], ◌∷◌, ◌++◌, length, Some}
 use Rattle.std.specs.Prelude.{slice_get, slice_set, slice_index_or, filter, Result, Ok, Err, OnOk, OnErr}
 use Rattle.std.specs.List.{flat_map}
 use Rattle.std.proofs.lemmas.Bool.{cond_both, cond-true, cond-false, cases_eq, and_parts, eqb-true, ne_eqb}
@@ -23,49 +23,16 @@ use Rattle.cluster_world.specs.Laws.{IsPrefixOf, applied_behind}
 use Rattle.cluster_world.specs.Steps.{may}
 use Rattle.cluster_world.specs.World.{Applied, World, absent, node_at, put_node, first_world, was_sent, done, next, played, handed, handed_at}
 use Rattle.cluster_world.specs.Members.{MemberState, nodes_of, machines_of, AreMembers, held_of, gone_on, Moves, Unmoved, Happens, Rests, GivenUpStay}
-use Rattle.cluster_world.specs.StandsAt.{told_by, machine_at, Attends, WasHad, StandsIn, StandsAt}
+use Rattle.cluster_world.specs.StandsAt.{told_by, machine_at, HandsToOwn, Attends, WasHad, StandsIn, StandsAt}
 use Rattle.cluster_world.proofs.Lists.{has_left, has_right}
 use Rattle.cluster_world.proofs.EveryWorld.{within, play_on}
 use Rattle.cluster_world.proofs.Agreeing.{never_disagrees}
 use Rattle.cluster_world.proofs.Applied.{applied_are_prefixes, log_after_is_applied}
 use Rattle.cluster_world.proofs.EventsAtOnce.{all_rest}
 use Rattle.cluster_world.proofs.Attends.{gone}
+use Rattle.cluster_world.proofs.Replacing.{get_set_same, get_set_other, set_here, some_same, get_map, replaced}
 
--- one element of a list is replaced
-
-pub get_set_same : {A : Type 0} (xs : List A) (i : ℕ) (x y : A) → slice_get xs i ≡ Some x → slice_get (slice_set xs i y) i ≡ Some y
-get_set_same [] i x y h = absurd (cc)
-get_set_same (a ∷ xs) zero x y h = refl
-get_set_same (a ∷ xs) (suc i) x y h = get_set_same xs i x y h
-
-pub get_set_other : {A : Type 0} (xs : List A) (i j : ℕ) (y : A) → (j ≡ i → ⊥) → slice_get (slice_set xs i y) j ≡ slice_get xs j
-get_set_other [] i j y d = refl
-get_set_other (a ∷ xs) zero zero y d = absurd (d refl)
-get_set_other (a ∷ xs) zero (suc j) y d = refl
-get_set_other (a ∷ xs) (suc i) zero y d = refl
-get_set_other (a ∷ xs) (suc i) (suc j) y d = get_set_other xs i j y (λ e. d (ap suc e))
-
-pub set_here : {A : Type 0} (xs : List A) (i : ℕ) (x : A) → slice_get xs i ≡ Some x → slice_set xs i x ≡ xs
-set_here [] i x h = refl
-set_here (a ∷ xs) zero x h = ap (λ z. z ∷ xs) (sym (some_eq h))
-  where
-    some_eq : {A : Type 0} {y z : A} → Some y ≡ Some z → y ≡ z
-    some_eq e = cc
-set_here (a ∷ xs) (suc i) x h = ap (λ zs. a ∷ zs) (set_here xs i x h)
-
-pub some_same : {A : Type 0} {x y : A} → Some x ≡ Some y → x ≡ y
-some_same e = cc
-
-pub get_map : {A C : Type 0} (f : A → C) (xs : List A) (i : ℕ) (x : A) → slice_get xs i ≡ Some x → slice_get (map f xs) i ≡ Some (f x)
-get_map f [] i x h = absurd (cc)
-get_map f (a ∷ xs) zero x h = ap (λ z. Some (f z)) (some_same h)
-get_map f (a ∷ xs) (suc i) x h = get_map f xs i x h
-
-pub get_unmap : {A C : Type 0} (f : A → C) (xs : List A) (i : ℕ) (y : C) → slice_get (map f xs) i ≡ Some y
-    → (x : A) × (slice_get xs i ≡ Some x) × (f x ≡ y)
-get_unmap f [] i y h = absurd (cc)
-get_unmap f (a ∷ xs) zero y h = (a, refl, some_same h)
-get_unmap f (a ∷ xs) (suc i) y h = get_unmap f xs i y h
+-- the member at a place, and the tests of an event
 
 pub node_of_get : {B : Type 0} (nodes : List (NodeState B)) (i : ℕ) (x : NodeState B) → slice_get nodes i ≡ Some x → node_at nodes (suc i) ≡ x
 node_of_get [] i x h = absurd (cc)
@@ -91,6 +58,9 @@ module _ {B S Y : Type 0} (m : Machine B S Y) where
   handed_elsewhere t a d =
       cond_both (eqb a.node t.node && eqb a.boot t.boot) (filter (λ y. same_transport (m.to y) t) (sayings_behind m a.log a.entries)) []
       (λ l. l ≡ []) (λ e. absurd (d (eqb-true a.node t.node (and_parts (eqb a.node t.node) (eqb a.boot t.boot) e).0))) (λ e. refl)
+
+  handed_to_none : (t : Transport) (node boot : ℕ) (log entries : List (Entry B)) → (node ≡ t.node → ⊥) → handed_to m t node boot log entries ≡ []
+  handed_to_none t node boot log entries d = handed_elsewhere t (record { node = node; boot = boot; log = log; entries = entries }) d
 
 had_more : {B : Type 0} (v w : World B) (node : ℕ) (log : List (Entry B)) (a : Applied B) → w.applied ≡ v.applied ++ a ∷ [] → WasHad v node log
     → WasHad w node log
@@ -121,6 +91,10 @@ module _ {B M S Y : Type 0} (same : B → B → Bool) (content : M → S) (m : M
         sent = moves.packets ∙ (λ j. h.sent j ++ (outcome_of same (sm j) e (node_is j)).packets);
         made = moves.made_is ∙ (λ j. h.made j ++ made_by same e (node_is j));
         handed = handed_are;
+        own =
+            λ j f g.
+            replaced (λ k x. HandsToOwn (suc k) x) (machines_of list) i s.machine new.machine machine_got h.own own_new j f
+            (ap (λ l. slice_get l j) (sym machines_set) ∙ g);
         attends = attends_are;
         had = had_are;
       }
@@ -175,6 +149,13 @@ module _ {B M S Y : Type 0} (same : B → B → Bool) (content : M → S) (m : M
       elsewhere : (k : ℕ) → (k ≡ suc i → ⊥) → machine_at (machines_of (slice_set list i new)) k ≡ machine_at (machines_of list) k
       elsewhere zero n = refl
       elsewhere (suc k) n = machine_other k (λ q. n (ap suc q))
+
+      own_new : HandsToOwn (suc i) new.machine
+      own_new t n =
+          d.handed t
+          ∙ (λ j. h.own i s.machine machine_got t n j
+          ++ handed_to_none m t s.machine.node s.node.rows.boot s.node.applied (outcome_of same s.members e s.node).applied
+          (λ q. n (sym (sym mn ∙ q))) j)
 
       others : (t : Transport) → (t.node ≡ suc i → ⊥)
           → told_by (machine_at (machines_of (slice_set list i new)) t.node) t ≡ handed m t (done same v e (x_of v) (o_of v))
@@ -247,6 +228,10 @@ module _ {B M S Y : Type 0} (content : M → S) (m : Machine B S Y) (members : �
         sent = u.packets ∙ h.sent;
         made = u.made_is ∙ h.made;
         handed = λ t. told_same t ∙ h.handed t;
+        own =
+            λ j f g.
+            replaced (λ k x. HandsToOwn (suc k) x) (machines_of list) i s.machine new.machine machine_got h.own
+            (λ t n. d.handed t ∙ h.own i s.machine machine_got t n) j f (ap (λ l. slice_get l j) (sym machines_set) ∙ g);
         attends = attends_are;
         had = had_are;
       }

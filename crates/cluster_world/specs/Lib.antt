@@ -12,3 +12,4 @@ pub mod StandsAt
 pub mod Members
 pub mod Founding
 pub mod Headline
+pub mod Told

@@ -51,6 +51,10 @@ pub record Attends {B M S Y : Type 0} (content : M → S) (m : Machine B S Y) (x
 abbrev pub WasHad : {B : Type 0} → World B → ℕ → List (Entry B) → Type 0
 WasHad {B} w node log = (log ≡ []) ⊎ ((a : Applied B) × Has w.applied a × (a.node ≡ node) × (applied_behind a ≡ log))
 
+-- it handed something to transports of its own node alone
+abbrev pub HandsToOwn : {B M Y : Type 0} → ℕ → Followed B M Y → Type 0
+HandsToOwn node f = (t : Transport) → (t.node ≡ node → ⊥) → said_in t f.told ≡ []
+
 -- it is this world: nodes, packets, what was made, and what the machine `m` hands to each transport; and each node's machine attends the node,
 -- and stands at a log that its node had
 pub record StandsIn {B M S Y : Type 0} (content : M → S) (m : Machine B S Y) (w : Held B M Y) (v : World B) : Type 0 where
@@ -58,6 +62,7 @@ pub record StandsIn {B M S Y : Type 0} (content : M → S) (m : Machine B S Y) (
   pub sent : w.sent ≡ v.sent
   pub made : w.made ≡ v.made
   pub handed : (t : Transport) → handed_in w t ≡ handed m t v
+  pub own : (i : ℕ) (f : Followed B M Y) → slice_get w.machines i ≡ Some f → HandsToOwn (suc i) f
   pub attends : (i : ℕ) (f : Followed B M Y) → slice_get w.machines i ≡ Some f → Attends content m (node_at w.nodes (suc i)) f
   pub had : (i : ℕ) (f : Followed B M Y) → slice_get w.machines i ≡ Some f → WasHad v (suc i) f.log
 

@@ -11,6 +11,7 @@ ghost use Rattle.cluster_world.specs.Examples.{asked_again, lost_node, duel, ses
 ghost use Rattle.cluster_world.specs.Examples.{lost_log, duel_log, crash_packets, logs, ups, sums_handed};
 ghost use Rattle.cluster_world.specs.Scripts.{ScriptsArePlayed};
 ghost use Rattle.cluster_world.specs.Steps.{SentIsAmong, NodesAreMembers, OneEventMore, EventGoes, EventStays};
+ghost use Rattle.cluster_world.specs.Told.{HandedIsOne};
 ghost use Rattle.cluster_world.specs.Laws.{LearnedIsChosen, ChosenIsOne, ToldIsChosen, LearnedIsOne, NeverDisagrees};
 ghost use Rattle.cluster_world.specs.Laws.{LogIsChosen, LogsArePrefixes, AppliedIsChosen, AppliedArePrefixes, LogAfterIsApplied, LogIsApplied};
 
@@ -60,6 +61,11 @@ pub fn no_disagreement<B: Body>()
 pub fn answers<B: Body, S, Y>()
     ensures said { HandedIsSaid B B.same S Y }
     ensures stays { HandedStays B B.same S Y }
+{}
+
+/// What transports were handed in a world is one list, by node, boot and number.
+pub fn handed_once<B: Body, S, Y>()
+    ensures { HandedIsOne B S Y }
 {}
 
 /// Applying at an event's end is applying at once: in every world an event makes of its node what it would make of one that applies each entry

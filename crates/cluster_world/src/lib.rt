@@ -3,11 +3,13 @@
 #![tactic(auto)]
 
 mod fault;
+mod handings;
 pub mod laws;
 mod member;
 mod run;
 mod world;
 
 pub use fault::Memory;
+pub use handings::Handings;
 pub use paxos_packets::Body;
 pub use world::World;

@@ -12,14 +12,14 @@ ghost use Rattle.paxos_node.specs.Plans.{is_planned, plans};
 ghost use Rattle.paxos_turn.specs.Drafting.{listed};
 ghost use Rattle.replica_machine.specs.Log.{machine_from};
 ghost use Rattle.log_follower.specs.Following.{handed_to, Follows, Keeps, AgreesWith};
-ghost use Rattle.log_follower.specs.Handed.{said_in};
+ghost use Rattle.log_follower.specs.Handed.{said_in, tellings, TellAll};
 ghost use Rattle.world_seats.specs.Seated.{node_of, HasRoomIn, IsAtRest};
 ghost use Rattle.cluster_world.specs.Members.{gone_on, FollowsOn, StaysBehind, FollowedSo, Moves, Unmoved, Happens, Rests};
 ghost use Rattle.cluster_world.specs.StandsAt.{Attends};
 ghost use Rattle.cluster_world.specs.Answers.{log_after};
 ghost use Rattle.cluster_world.specs.Laws.{IsPrefixOf};
 
-use log_follower::Follower;
+use log_follower::{Follower, Tellings};
 use paxos_node::{Event, Outcome};
 use paxos_packets::{Body, Entry, Members, Memory, Transport};
 use replica_machine::Machine;
@@ -92,6 +92,14 @@ impl<M: Machine> Member<M> {
         ensures { result.now ≡ said_in transport self.now.machine.told }
     {
         self.follower.said(transport)
+    }
+
+    /// The transports of its node that were handed something. Takes no memory.
+    pub fn handed(&self) -> Tellings<'_, M::Say>
+        ensures are { result ≡ tellings self.now.machine.told }
+        ensures all { TellAll self.now.machine.told result }
+    {
+        self.follower.handed()
     }
 
     /// Whether the event is possible at its node. Takes no memory.

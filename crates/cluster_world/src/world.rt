@@ -5,9 +5,11 @@ ghost use Rattle.cluster_world.specs.Founding.{AreFounded, AreAlike, AllAttend, 
 ghost use Rattle.cluster_world.specs.StandsAt.{StandsAt, HaveContent, machine_at};
 ghost use Rattle.cluster_world.specs.Members.{node_or_absent, machine_or_none};
 ghost use Rattle.cluster_world.specs.Laws.{IsPrefixOf};
+ghost use Rattle.cluster_world.specs.Told.{WereHanded};
 ghost use Rattle.cluster_world.specs.World.{node_at, played, log_of, handed};
 
 use crate::fault::Memory;
+use crate::handings::{Handings, all_tell};
 use crate::member::Member;
 use paxos_packets::{Entry, Members, Packet, Transport};
 use replica_machine::Machine;
@@ -87,6 +89,17 @@ impl<M: Machine> World<M> {
             Some(member) => member.said(transport),
             None => &[],
         }
+    }
+
+    /// The transports that were told something, by node, boot and number, each with what it was handed, oldest first. Takes no memory.
+    pub fn handed(&self) -> Handings<'_, M>
+        ensures { (first : M.Content) (es : List (occurred.Event M.Body)) →
+            StandsAt M.Body.same M.content (machine_from M.next M.says M.to first) self.now es →
+            WereHanded (machine_from M.next M.says M.to first) (played M.Body.same self.now.members es) result }
+    {
+        let _ = self.members.count();
+        all_tell(&self.list);
+        Handings::of(&self.list)
     }
 
     /// Whether the node is up; what is no member is down. Takes no memory.

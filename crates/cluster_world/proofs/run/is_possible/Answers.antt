@@ -4,7 +4,8 @@ use Rattle.std.proofs.lemmas.Option.{slice_get_read}
 use Rattle.paxos_node.specs.Events.{owner, possible}
 use Rattle.cluster_world.specs.Members.{MemberState, nodes_of}
 use Rattle.cluster_world.specs.World.{node_at}
-use Rattle.cluster_world.proofs.Worlds.{node_of_get, get_map}
+use Rattle.cluster_world.proofs.Replacing.{get_map}
+use Rattle.cluster_world.proofs.Worlds.{node_of_get}
 use Rattle.cluster_world.proofs.run.is_possible.Goals as goal
 
 pub returns-in-Some : goal.returns-in-Some
