@@ -3,20 +3,23 @@ use Rattle.std.proofs.Common.{◌≡◌, ◌⊎◌, ℕ, suc, ◌≤◌, ◌<◌
 use Rattle.std.specs.Prelude.{slice_get, Result, Ok, Err, OnOk, IfErr}
 use Rattle.paxos_packets.specs.Body.{IsEquality}
 use Rattle.paxos_packets.specs.declared.entry.Entry.{Entry}
+use Rattle.paxos_packets.specs.declared.entry.Entry.TheVariants.{Lost}
 use Rattle.paxos_packets.specs.declared.packet.Packet.{Packet}
 use Rattle.paxos_node.specs.declared.event.Event.{Event}
 use Rattle.paxos_turn.specs.Node.{NodeState}
 use Rattle.replica_machine.specs.Replay.{Machine, said}
 use Rattle.replica_machine.proofs.Numbering.{are_numbered}
 use Rattle.cluster_world.specs.Answers.{IsPresent}
+use Rattle.cluster_world.specs.Has.{Has}
 use Rattle.cluster_world.specs.Laws.{IsPrefixOf}
 use Rattle.cluster_world.specs.World.{World, node_at, played}
 use Rattle.cluster_world.specs.StandsAt.{Held, StandsIn, StandsAt}
-use Rattle.cluster_world.specs.Headline.{log_in, Agree, LogsAgree, AnswersAreSaid, MachinesFollow, TookEffectOnce, NoneDisagrees}
+use Rattle.cluster_world.specs.Headline.{log_in, Agree, LogsAgree, AnswersAreSaid, MachinesFollow, TookEffectOnce, LossesWereCalledFor, NoneDisagrees}
 use Rattle.cluster_world.proofs.Agreeing.{learned_is_chosen, chosen_is_one, log_is_chosen, logs_are_prefixes, never_disagrees}
-use Rattle.cluster_world.proofs.Booting.{boots_were_had}
+use Rattle.cluster_world.proofs.Booting.{boots_were_had, losts_were_suspected}
 use Rattle.cluster_world.proofs.Handing.{handed_is_said}
 use Rattle.cluster_world.proofs.Taking.{items_were_taken}
+use Rattle.cluster_world.proofs.Waiting.{losts_were_pending}
 
 -- a world in code that shows the nodes, the packets and what was made of a world
 
@@ -59,6 +62,16 @@ module _ {B M S Y : Type 0} (same : B → B → Bool) (equal : IsEquality same) 
           taken = λ node n b q t x l. items_were_taken same equal w.members es node n b q t x l;
           boots = λ node n b l. boots_were_had same equal w.members es node n b l;
         })
+
+    lost_there : (node n b : ℕ) → Has (log_in w node) (Lost n b) → Has (node_at v.nodes node).applied (Lost n b)
+    lost_there node n b l = subst (λ ns. Has (node_at ns node).applied (Lost n b)) h.nodes l
+
+    pub losses : LossesWereCalledFor same w es
+    losses =
+        record {
+          suspected = λ node n b l. losts_were_suspected same equal w.members es node n b (lost_there node n b l);
+          pending = λ node n b l. losts_were_pending same equal w.members many es node n b (lost_there node n b l);
+        }
 
     pub none_disagrees : NoneDisagrees same w
     none_disagrees = over (λ z. NoneDisagrees same z) w v h (λ e s p. never_disagrees same equal w.members many es e s p)

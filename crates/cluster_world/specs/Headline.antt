@@ -3,7 +3,7 @@ use Rattle.std.specs.Prelude.{◌≡◌, ◌⊎◌, ℕ, suc, ◌≤◌, Bool, t
 use Rattle.std.specs.List.{range_with_len}
 use Rattle.paxos_packets.specs.Members.{IsMember}
 use Rattle.paxos_packets.specs.declared.entry.Entry.{Entry}
-use Rattle.paxos_packets.specs.declared.entry.Entry.TheVariants.{Boot, Item}
+use Rattle.paxos_packets.specs.declared.entry.Entry.TheVariants.{Boot, Lost, Item}
 use Rattle.paxos_packets.specs.declared.transport.Transport.{Transport}
 use Rattle.paxos_learner.specs.declared.learned.LearnedEntry.{LearnedEntry}
 use Rattle.paxos_node.specs.declared.event.Event.{Event}
@@ -15,7 +15,7 @@ use Rattle.cluster_world.specs.Answers.{IsPresent}
 use Rattle.cluster_world.specs.Chosen.{Chosen}
 use Rattle.cluster_world.specs.Has.{Has}
 use Rattle.cluster_world.specs.Laws.{IsPrefixOf}
-use Rattle.cluster_world.specs.Origins.{acts_of}
+use Rattle.cluster_world.specs.Origins.{acts_of, Suspected, WasPending}
 use Rattle.cluster_world.specs.StandsAt.{Held, handed_in}
 use Rattle.cluster_world.specs.World.{node_at, was_sent}
 
@@ -56,6 +56,12 @@ module _ {B M Y : Type 0} where
         → (j : ℕ) × (q ≡ suc j) × (slice_get (acts_of n b w.made) j ≡ Some (record { transport = t; body = x }))
     pub boots :
         (node n b : ℕ) → Has (log_in w node) (Boot n b) → IsMember w.members n × (1 ≤ b) × (b ≤ (node_at w.nodes n).rows.boot)
+
+  -- and a Lost in a log, whose events these are, comes from a suspicion by some node in whose log that boot was live then, and was pending at some
+  -- node, another than the lost one
+  pub record LossesWereCalledFor (same : B → B → Bool) (w : Held B M Y) (events : List (Event B)) : Type 0 where
+    pub suspected : (node n b : ℕ) → Has (log_in w node) (Lost n b) → Suspected same w.members events n b
+    pub pending : (node n b : ℕ) → Has (log_in w node) (Lost n b) → WasPending same w.members events n b
 
   -- no disagreement: no event that is possible tells a node another entry of a slot that it has learned
   abbrev pub NoneDisagrees : (B → B → Bool) → Held B M Y → Type 0

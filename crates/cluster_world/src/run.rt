@@ -7,7 +7,7 @@ ghost use Rattle.world_seats.specs.Seated.{IsAtRest};
 ghost use Rattle.cluster_world.specs.Answers.{log_after};
 ghost use Rattle.cluster_world.specs.Laws.{IsPrefixOf};
 ghost use Rattle.cluster_world.specs.Members.{AreMembers, nodes_of, machines_of, held_of, GivenUpStay};
-ghost use Rattle.cluster_world.specs.Headline.{Agree, LogsAgree, AnswersAreSaid, MachinesFollow, TookEffectOnce, NoneDisagrees};
+ghost use Rattle.cluster_world.specs.Headline.{Agree, LogsAgree, AnswersAreSaid, MachinesFollow, TookEffectOnce, LossesWereCalledFor, NoneDisagrees};
 ghost use Rattle.cluster_world.specs.StandsAt.{StandsAt};
 ghost use Rattle.cluster_world.specs.World.{node_at, was_sent};
 
@@ -47,6 +47,8 @@ impl<M: Machine> World<M> {
             StandsAt M.Body.same M.content (machine_from M.next M.says M.to first) self.old es →
             MachinesFollow M.content (machine_from M.next M.says M.to first) self.new }
         ensures at_most_once { TookEffectOnce self.new }
+        ensures losses { (first : M.Content) (es : List (occurred.Event M.Body)) →
+            StandsAt M.Body.same M.content (machine_from M.next M.says M.to first) self.new es → LossesWereCalledFor M.Body.same self.new es }
         ensures no_disagreement { NoneDisagrees M.Body.same self.new }
     {
         self.leads();
