@@ -1,0 +1,45 @@
+-- A realm that all nodes of a cluster follow (docs/PROTOCOL.md, "The realm"; docs/CONSENSUS.md, "What holds over every list of events").
+use Rattle.std.specs.Prelude.{◌≡◌, ℕ, suc, false, Some, slice_get}
+use Rattle.paxos_packets.specs.declared.transport.Transport.{Transport}
+use Rattle.log_follower.specs.Following.{Followed}
+use Rattle.replica_machine.specs.Replay.{state, said}
+use Rattle.realm_registrations.specs.Laws.{AreSoundRegistrations}
+use Rattle.realm_acts.specs.declared.act.Act.{Act}
+use Rattle.realm_machine.specs.declared.act.Say.{Say}
+use Rattle.realm_machine.specs.Config.{Config}
+use Rattle.realm_machine.specs.Machine.{realm_of, live_of}
+use Rattle.realm_machine.specs.Realm.{State}
+use Rattle.realm_laws.specs.Laws.{IsSound, IsTrace, AreSoundOpenCalls}
+use Rattle.realm_laws.specs.Logs.{at_prefix, log_trace}
+use Rattle.cluster_world.specs.Answers.{IsPresent}
+use Rattle.cluster_world.specs.Headline.{log_in}
+use Rattle.cluster_world.specs.Laws.{IsPrefixOf}
+use Rattle.cluster_world.specs.StandsAt.{Held, handed_in}
+use Rattle.cluster_world.specs.World.{node_at}
+
+-- a world in code whose machines are realms
+abbrev pub Realms : Type 0
+Realms = Held Act State Say
+
+-- at each prefix of each node's log: a text and match have one registration at most, each has a callee, and one under `single` exactly one;
+-- all else that every realm keeps; and what its open calls keep
+pub record AreSoundAlongLogs (w : Realms) : Type 0 where
+  pub registrations : (config : Config) (node n : ℕ) → AreSoundRegistrations (at_prefix config (log_in w node) n).registry
+  pub realm : (config : Config) (node n : ℕ) → IsSound config (at_prefix config (log_in w node) n)
+  pub calls : (config : Config) (node n : ℕ) → AreSoundOpenCalls (at_prefix config (log_in w node) n)
+
+-- final replies answer calls along each node's log
+abbrev pub RepliesAnswerCallsAlongLogs : Realms → Type 0
+RepliesAnswerCallsAlongLogs w =
+    (config : Config) (node : ℕ) (t : Transport) (request : ℕ) → IsTrace (log_trace config t request (log_in w node))
+
+-- each realm that is not given up is the written one behind the log where it stands, of which its node's log is a front
+abbrev pub RealmsFollow : Config → Realms → Type 0
+RealmsFollow config w =
+    (i : ℕ) (f : Followed Act State Say) → slice_get w.machines i ≡ Some f → f.given_up ≡ false
+    → (live_of f.machine ≡ record { config = config; content = state (realm_of config) f.log }) × IsPrefixOf (log_in w (suc i)) f.log
+
+-- a transport of the present boot of a node that is up was handed what the written realm says to it along the node's log
+abbrev pub AnswersAreOfRealms : Config → Realms → Type 0
+AnswersAreOfRealms config w =
+    (t : Transport) → IsPresent t (node_at w.nodes t.node) → handed_in w t ≡ said (realm_of config) t (log_in w t.node)
