@@ -31,10 +31,12 @@ pub trait Keeper<B: Body> {
     /// The committed rows. Changes nothing, whatever it answers.
     ///
     /// `Failed` on a failed keeper, and where no more failures can be counted; `Store` where what lies below failed; `Version` and
-    /// `Damaged` where what is stored are no rows of this version; `Memory` where there is none for the rows.
+    /// `Damaged` where what is stored are no rows of this version, so `Damaged` never where rows are held and what lies below returned what
+    /// was written; `Memory` where there is none for the rows.
     fn load(&mut self) -> Result<Rows<B>, KeeperFault>
         ensures held { IfOk result (holds self.new) }
         ensures right { is_faithful self.new → (r : Rows B) → holds self.old r → IfOk result (λ x. x ≡ r) }
+        ensures sound { is_faithful self.new → (r : Rows B) → holds self.old r → IsErrOf result KeeperFault.Damaged → ⊥ }
         ensures same { (r : Rows B) → holds self.old r → holds self.new r }
         ensures found { FindsNoMore finds self.old self.new }
         ensures stays { is_failed self.new ≡ is_failed self.old }
@@ -61,10 +63,12 @@ pub trait Keeper<B: Body> {
     /// Begins a boot: raises the boot number by one, commits that, and gives the rows with it. After a fault the keeper is failed, and
     /// what is found is what was held before, or that with the new boot number.
     ///
-    /// `Boots` where the boot number is 2^48 - 1; beside that the faults of `load` and of `commit`.
+    /// `Boots` where the boot number is 2^48 - 1; beside that the faults of `load`, `Damaged` where `load` may answer it, and of `commit`.
     fn boot(&mut self) -> Result<Rows<B>, KeeperFault>
         ensures held { IfOk result (holds self.new) }
         ensures right { is_faithful self.new → (r : Rows B) → holds self.old r → IfOk result (λ x. x ≡ raised r) }
+        ensures faithful { is_faithful self.new → is_faithful self.old }
+        ensures sound { is_faithful self.new → (r : Rows B) → holds self.old r → IsErrOf result KeeperFault.Damaged → ⊥ }
         ensures within { IfOk result (λ x. x.boot ≤ last_boot) }
         ensures last { is_faithful self.new → (r : Rows B) → holds self.old r → IsErrOf result KeeperFault.Boots → last_boot ≤ r.boot }
         ensures found { (r : Rows B) → holds self.old r → FindsOr finds self.old self.new (raised r) }

@@ -84,6 +84,9 @@ module _ {B : Type 0} (reading : List ℕ → Reading B) where
   held_told db rows Memory has t = tt
   held_told db rows Failed has t = tt
 
+  pub held_whole : (db : Database) (rows : Rows B) (e : KeeperFault) → Reads reading db rows → Tells reading db e → e ≡ Damaged → ⊥
+  held_whole db rows e has t is = subst (Refuses ⊥) is (held_told db rows e has t)
+
 module _ {B : Type 0} (spelling : B → Option (List ℕ)) (before : Numbers) (change : Change B) where
   pub placed : (next : Numbers) → numbers_after before change ≡ Some next → are_spelled spelling change.votes ≡ true → has_place spelling before change ≡ true
   placed next e h = rw (e, h) refl

@@ -56,11 +56,6 @@ module _ {B : Type 0} (reading : List ℕ → Reading B) where
       go (Err fault) = refl
       go (Ok numbers) = ap (λ o. or_damaged (option_map (rows_with numbers) o)) (votes_same numbers.promised (trees 1) votes v)
 
-  -- tables of another shape
-  pub tells_tables : (db : Database) (e : KeeperFault) → (e ≡ Memory) ⊎ ((e ≡ Damaged) × (db.schema ≢ store_schema)) → Tells reading db e
-  tells_tables db e (inl m) = subst (Tells reading db) (sym m) tt
-  tells_tables db e (inr d) = subst (Tells reading db) (sym d.0) (λ is. absurd (d.1 is))
-
   -- the connection
   pub tells_conn : (db : Database) (e : KeeperFault) → (e ≡ Memory) ⊎ (e ≡ Store) → Tells reading db e
   tells_conn db e (inl m) = subst (Tells reading db) (sym m) tt

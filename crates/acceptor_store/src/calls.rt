@@ -94,8 +94,11 @@ fn read<B: Body, C: Coder<B>, S: Alter>(
     ensures told { IfOk result (λ rows. known.new ≡ Some (numbers_in_rows rows)) }
     ensures gives { HasCleanDisk (state S.Store conn.new) → IfOk result (Gives C.reading (state S.Store conn.old).now) }
     ensures tells { HasCleanDisk (state S.Store conn.new) → IfErr result (Tells C.reading (state S.Store conn.old).now) }
+    ensures sound { HasCleanDisk (state S.Store conn.new) → (rows : Rows B) → Holds S.Store C.reading (keeper_of conn.old known.old) rows
+        → IsErrOf result KeeperFault.Damaged → ⊥ }
     ensures fault { IfErr result LiesBelow }
 {
+    settle(conn);
     let rows = read_store::<B, C, S>(alloc, conn)?;
     *known = Some(numbers_in(&rows));
     Ok(rows)
@@ -184,6 +187,7 @@ fn put_numbers<B: Body, C: Coder<B>, S: Alter>(
         → (trees : Trees) → (state S.Store conn.new).may_leave trees
         → (state S.Store conn.old).may_leave trees ⊎ Stores C.reading trees (written numbers.now [] rows) }
     ensures clean { doubt (state S.Store conn.old).is_clean ≤ doubt (state S.Store conn.new).is_clean }
+    ensures whole { IfErr result (Refuses ⊥) }
     ensures fault { IfErr result LiesBelow }
 {
     let none: Votes<B> = Votes::new(alloc);
@@ -238,6 +242,9 @@ fn raise<B: Body, C: Coder<B>, S: Alter>(
     ensures held { IfOk result (Holds S.Store C.reading (keeper_of conn.new known.new)) }
     ensures right { HasCleanDisk (state S.Store conn.new) → (rows : Rows B) → Holds S.Store C.reading (keeper_of conn.old known.old) rows
         → IfOk result (λ booted. booted ≡ raised rows) }
+    ensures sound { HasCleanDisk (state S.Store conn.new) → (rows : Rows B) → Holds S.Store C.reading (keeper_of conn.old known.old) rows
+        → IsErrOf result KeeperFault.Damaged → ⊥ }
+    ensures clean { doubt (state S.Store conn.old).is_clean ≤ doubt (state S.Store conn.new).is_clean }
     ensures within { IfOk result (λ rows. rows.boot ≤ last_boot) }
     ensures last { HasCleanDisk (state S.Store conn.new) → (rows : Rows B) → Holds S.Store C.reading (keeper_of conn.old known.old) rows
         → IsErrOf result KeeperFault.Boots → last_boot ≤ rows.boot }
@@ -288,6 +295,8 @@ pub(crate) fn load_from<B: Body, C: Coder<B>, S: Alter>(
     ensures found { FindsNoMore (Finds S.Store C.reading) (keeper_of conn.old known.old) (keeper_of conn.new known.new) }
     ensures gives { HasCleanDisk (state S.Store conn.new) → IfOk result (Gives C.reading (state S.Store conn.old).now) }
     ensures tells { HasCleanDisk (state S.Store conn.new) → IfErr result (Tells C.reading (state S.Store conn.old).now) }
+    ensures sound { HasCleanDisk (state S.Store conn.new) → (rows : Rows B) → Holds S.Store C.reading (keeper_of conn.old known.old) rows
+        → IsErrOf result KeeperFault.Damaged → ⊥ }
     ensures spent { IsErrOf result KeeperFault.Failed → failures.old ≡ 2 ^ 64 - 1 }
     ensures store { IsErrOf result KeeperFault.Store → failures.old < failures.new }
     ensures counts { failures.old ≤ failures.new }
@@ -347,6 +356,9 @@ pub(crate) fn boot_from<B: Body, C: Coder<B>, S: Alter>(
     ensures held { IfOk result (Holds S.Store C.reading (keeper_of conn.new known.new)) }
     ensures right { HasCleanDisk (state S.Store conn.new) → (rows : Rows B) → Holds S.Store C.reading (keeper_of conn.old known.old) rows
         → IfOk result (λ booted. booted ≡ raised rows) }
+    ensures sound { HasCleanDisk (state S.Store conn.new) → (rows : Rows B) → Holds S.Store C.reading (keeper_of conn.old known.old) rows
+        → IsErrOf result KeeperFault.Damaged → ⊥ }
+    ensures clean { doubt (state S.Store conn.old).is_clean ≤ doubt (state S.Store conn.new).is_clean }
     ensures within { IfOk result (λ rows. rows.boot ≤ last_boot) }
     ensures last { HasCleanDisk (state S.Store conn.new) → (rows : Rows B) → Holds S.Store C.reading (keeper_of conn.old known.old) rows
         → IsErrOf result KeeperFault.Boots → last_boot ≤ rows.boot }

@@ -130,7 +130,7 @@ impl<B: Body, C: Coder<B>, S: Alter> Keeper<B> for SqlKeeper<B, C, S> {
 
     ghost failures = { λ k. k.failures };
 
-    /// One pass over each table; a row is let go as it is read.
+    /// One pass over each table; a row is let go as it is read. Where the connection is shut, no damage is told, but `Store`.
     ///
     /// `Version` exactly where the version is not 1; `Damaged` exactly where the tables are not the store's, `meta` has not one row, of
     /// k 1, a number is out of range, an entry is not read, two votes have one slot, or a vote is above the promise.
@@ -139,6 +139,7 @@ impl<B: Body, C: Coder<B>, S: Alter> Keeper<B> for SqlKeeper<B, C, S> {
         ensures tells { HasCleanDisk (state S.Store self.new.conn) → IfErr result (Tells C.reading (state S.Store self.old.conn).now) }
         ensures held { IfOk result (Holds S.Store C.reading self.new) }
         ensures right { HasCleanDisk (state S.Store self.new.conn) → (r : Rows B) → Holds S.Store C.reading self.old r → IfOk result (λ x. x ≡ r) }
+        ensures sound { HasCleanDisk (state S.Store self.new.conn) → (r : Rows B) → Holds S.Store C.reading self.old r → IsErrOf result KeeperFault.Damaged → ⊥ }
         ensures same { (r : Rows B) → Holds S.Store C.reading self.old r → Holds S.Store C.reading self.new r }
         ensures found { FindsNoMore (Finds S.Store C.reading) self.old self.new }
         ensures stays { self.new.is_failed ≡ self.old.is_failed }

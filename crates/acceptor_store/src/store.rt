@@ -215,15 +215,16 @@ pub(crate) fn found_store<S: Alter>(conn: &mut Connection<S>) -> Result<(), Keep
     Ok(())
 }
 
-// Whether the tables are the store's.
-fn check<S: Alter>(alloc: Global, conn: &Connection<S>) -> Result<(), KeeperFault>
-    ensures tables { OnOk result (conn.now.schema ≡ store_schema) }
-    ensures fault { IfErr result (λ e. (e ≡ KeeperFault.Memory) ⊎ ((e ≡ KeeperFault.Damaged) × (conn.now.schema ≢ store_schema))) }
+// What tables are told as that are not the store's: damage, where the connection is open, since what a shut one shows says nothing.
+fn damage<S: Alter>(conn: &mut Connection<S>) -> KeeperFault
+    ensures mode { conn.old.in_transaction ≡ false → conn.new.in_transaction ≡ false }
+    ensures open { HasCleanDisk (state S.Store conn.new) → result ≡ KeeperFault.Damaged → IsTrue (state S.Store conn.old).is_open }
+    ensures fault { (result ≡ KeeperFault.Damaged) ⊎ ((result ≡ KeeperFault.Memory) ⊎ (result ≡ KeeperFault.Store)) }
+    ensures survives { Survives (state S.Store conn.old) (state S.Store conn.new) (λ _. ⊥) }
 {
-    match has_store_tables(alloc, conn.schema()) {
-        Ok(true) => Ok(()),
-        Ok(false) => Err(KeeperFault::Damaged),
-        Err(_) => Err(KeeperFault::Memory),
+    match conn.prepare("SELECT 1") {
+        Ok(_) => KeeperFault::Damaged,
+        Err(error) => fault_of(error),
     }
 }
 
@@ -239,11 +240,36 @@ pub(crate) fn read_store<B: Body, C: Coder<B>, S: Alter>(
         → IfOk result (λ read. read ≡ rows) }
     ensures gives { HasCleanDisk (state S.Store conn.new) → IfOk result (Gives C.reading (state S.Store conn.old).now) }
     ensures tells { HasCleanDisk (state S.Store conn.new) → IfErr result (Tells C.reading (state S.Store conn.old).now) }
+    ensures open { HasCleanDisk (state S.Store conn.new) → IsErrOf result KeeperFault.Damaged → IsTrue (state S.Store conn.old).is_open }
     ensures survives { Survives (state S.Store conn.old) (state S.Store conn.new) (λ _. ⊥) }
     ensures below { IfErr result LiesBelow }
     ensures numbers { IfOk result (λ rows. are_numbers (numbers_in_rows rows) ≡ true) }
 {
-    check(alloc, conn)?;
+    match has_store_tables(alloc, conn.schema()) {
+        Ok(true) => read_in_tables::<B, C, S>(alloc, conn),
+        Ok(false) => Err(damage(conn)),
+        Err(_) => Err(KeeperFault::Memory),
+    }
+}
+
+// The same, where the tables are the store's.
+fn read_in_tables<B: Body, C: Coder<B>, S: Alter>(
+    alloc: Global,
+    conn: &mut Connection<S>,
+) -> Result<Rows<B>, KeeperFault>
+    requires alone { conn.old.in_transaction ≡ false }
+    requires tables { conn.old.schema ≡ store_schema }
+    ensures alone { conn.new.in_transaction ≡ false }
+    ensures stores { HasCleanDisk (state S.Store conn.new) → IfOk result (Leaves C.reading (state S.Store conn.new)) }
+    ensures right { HasCleanDisk (state S.Store conn.new) → (rows : Rows B) → Leaves C.reading (state S.Store conn.old) rows
+        → IfOk result (λ read. read ≡ rows) }
+    ensures gives { HasCleanDisk (state S.Store conn.new) → IfOk result (Gives C.reading (state S.Store conn.old).now) }
+    ensures tells { HasCleanDisk (state S.Store conn.new) → IfErr result (Tells C.reading (state S.Store conn.old).now) }
+    ensures open { HasCleanDisk (state S.Store conn.new) → IsErrOf result KeeperFault.Damaged → IsTrue (state S.Store conn.old).is_open }
+    ensures survives { Survives (state S.Store conn.old) (state S.Store conn.new) (λ _. ⊥) }
+    ensures below { IfErr result LiesBelow }
+    ensures numbers { IfOk result (λ rows. are_numbers (numbers_in_rows rows) ≡ true) }
+{
     let (metas, votes) = read_tables(conn)?;
     settle(conn);
     read_rows::<B, C>(alloc, metas.as_slice(), votes)

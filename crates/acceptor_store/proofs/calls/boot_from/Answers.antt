@@ -1,7 +1,8 @@
-use Rattle.std.proofs.Common.{◌≡◌, ⊎_elim, subst, Err, Result}
+use Rattle.std.proofs.Common.{◌≡◌, ⊎_elim, subst, ap, Err, Result}
 use Rattle.paxos_packets.specs.declared.rows.Rows.{Rows}
 use Rattle.acceptor_keeper.specs.declared.fault.KeeperFault.{KeeperFault}
 use Rattle.acceptor_keeper.specs.declared.fault.KeeperFault.TheVariants.{Failed, Boots}
+use Rattle.acceptor_store.proofs.Refusing.{told_damaged}
 use Rattle.acceptor_store.proofs.calls.boot_from.Goals as goal
 
 pub returns-in-Err-clause-last : goal.returns-in-Err-clause-last
@@ -11,3 +12,7 @@ returns-in-Err-clause-last g c clean rows holds spent =
     (λ e. let both : ◌≡◌ {A = Result (Rows g.row.B.Denot) KeeperFault} (Err Failed) (Err Boots)
     = subst (λ (f : KeeperFault). ◌≡◌ {A = Result (Rows g.row.B.Denot) KeeperFault} (Err f) (Err Boots)) e spent in absurd cc)
     c.told.ensures.fault
+
+pub returns-in-Err-clause-sound : goal.returns-in-Err-clause-sound
+returns-in-Err-clause-sound g c clean rows holds damaged =
+    c.in-Err.ensures.sound clean rows holds (ap Err (told_damaged c.in-Err.fault c.told.result c.told.ensures.fault damaged))

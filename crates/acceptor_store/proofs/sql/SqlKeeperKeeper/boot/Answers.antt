@@ -14,3 +14,7 @@ pub returns-clause-found : goal.returns-clause-found
 returns-clause-found g c rows holds x found =
     ⊎_elim (λ was. inl (subst (λ k. Finds g.S.Store g.C.Coder.reading k x) c.self.view_is was)) (λ next. inr next)
     (c.boot_from-booted.ensures.found rows (subst (λ k. Holds g.S.Store g.C.Coder.reading k rows) (sym c.self.view_is) holds) x found)
+
+pub returns-clause-sound : goal.returns-clause-sound
+returns-clause-sound g c clean rows holds damaged =
+    c.boot_from-booted.ensures.sound clean rows (subst (λ k. Holds g.S.Store g.C.Coder.reading k rows) (sym c.self.view_is) holds) damaged

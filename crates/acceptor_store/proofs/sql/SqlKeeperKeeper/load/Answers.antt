@@ -22,3 +22,7 @@ returns-clause-gives g c clean =
 pub returns-clause-tells : goal.returns-clause-tells
 returns-clause-tells g c clean =
     subst (λ k. IfErr c.load_from.result (Tells g.C.Coder.reading (state g.S.Store k.conn).now)) c.self.view_is (c.load_from.ensures.tells clean)
+
+pub returns-clause-sound : goal.returns-clause-sound
+returns-clause-sound g c clean rows holds damaged =
+    c.load_from.ensures.sound clean rows (subst (λ k. Holds g.S.Store g.C.Coder.reading k rows) (sym c.self.view_is) holds) damaged
