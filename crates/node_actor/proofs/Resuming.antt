@@ -1,5 +1,5 @@
 -- An actor goes on from what is left of one.
-use Rattle.std.proofs.Common.{◌≡◌, ◌⊎◌, inl, inr, ◌<◌, ◌≤◌, ◌+◌, ◌-◌, ℕ, zero, suc, Bool, true, leb, Option, Some, None, Result, Ok, Err, List, [], ◌∷◌}
+use Rattle.std.proofs.Common.{◌≡◌, ◌⊎◌, inl, inr, ◌<◌, ◌≤◌, ◌+◌, ◌-◌, ℕ, zero, suc, Bool, true, false, leb, Option, Some, None, Result, Ok, Err, List, [], ◌∷◌}
 use Rattle.std.proofs.Common.{sym, ap, subst, ◌∙◌, refl, arith}
 use Rattle.std.specs.Prelude.{All, Contains, ◌==◌, IfOk, IfErr}
 use Rattle.std.proofs.lemmas.Bool.{false≢true, and_parts, leb-true, or_cases}
@@ -18,10 +18,13 @@ use Rattle.paxos_turn.specs.Node.{NodeState}
 use Rattle.paxos_node.specs.Plans.{is_planned}
 use Rattle.paxos_node.specs.declared.outcome.Outcome.{Outcome}
 use Rattle.node_actor.specs.Actor.{Acting, IsPlan}
-use Rattle.node_actor.specs.Posts.{Posted, LeftOf, Begins, Starts}
+use Rattle.node_actor.specs.Posts.{Posted, LeftOf, Begins, Starts, NoDamage}
 use Rattle.node_actor.specs.declared.open.Begun.{Begun}
 use Rattle.node_actor.specs.declared.fault.ActorFault.{ActorFault}
-use Rattle.node_actor.specs.Restarts.{same_promise, is_ahead, is_meant, is_left, raises, comes_back, moved_by_all, as_left, as_meant, Resumes, Loads, Refuses, unbooted}
+use Rattle.node_actor.specs.declared.fault.ActorFault.TheVariants.{Keeper, Memory}
+use Rattle.acceptor_keeper.specs.declared.fault.KeeperFault.{KeeperFault}
+use Rattle.acceptor_keeper.specs.declared.fault.KeeperFault.TheVariants as store
+use Rattle.node_actor.specs.Restarts.{same_promise, is_ahead, is_meant, is_left, raises, comes_back, moved_by_all, as_left, as_meant, Resumes, Loads, HasOthers, Refuses, unread, others, unjudged, unbooted}
 use Rattle.node_actor.specs.Views.{View, seen, StandsFor, moved_by}
 use Rattle.node_actor.proofs.Carrying.{next_rows}
 use Rattle.node_actor.proofs.Returning.{comes_to, comes_possible}
@@ -176,6 +179,32 @@ module _ {B Y K : Type 0} (same : B → B → Bool) (holds finds : K → Rows B 
 
   pub refused_behind : (failed : Option (Outcome B)) (k r : Rows B) (res : Result (Begun B) (ActorFault Y))
       → Loads same holds finds is_faithful failures old mid r → is_left same failed k r ≡ true → IfErr res (λ f. Starts holds finds failures mid new f)
-      → IfErr res (λ f. Refuses same holds finds is_faithful failures failed k old new f)
-  refused_behind failed k r (Ok b) l is h = tt
-  refused_behind failed k r (Err f) l is h = unbooted f mid r l is h
+      → IfErr res (λ f. NoDamage holds is_faithful mid new f) → IfErr res (λ f. Refuses same holds finds is_faithful failures failed k old new f)
+  refused_behind failed k r (Ok b) l is h whole = tt
+  refused_behind failed k r (Err f) l is h whole = unbooted f mid r l is h whole
+
+-- where what lies below returned what was written, 62 comes of other rows alone
+
+module _ {B Y K : Type 0} (same : B → B → Bool) (holds finds : K → Rows B → Type 0) (is_faithful : K → Type 0) (failures : K → ℕ) (old new : K) where
+  kept_is : {f g : KeeperFault} → ◌≡◌ {A = ActorFault Y} (Keeper f) (Keeper g) → f ≡ g
+  kept_is e = cc
+
+  others_of : (failed : Option (Outcome B)) (k r : Rows B) (f : ActorFault Y) → holds old r → is_faithful new
+      → Refuses same holds finds is_faithful failures failed k old new f → f ≡ Keeper store.Damaged → is_left same failed k r ≡ false
+  others_of failed k r (Keeper x) held true_to (unread f stays counted sound) is =
+      absurd (sound true_to r held (kept_is is))
+  others_of failed k r (Keeper store.Damaged) held true_to (others x l off) is = subst (λ y. is_left same failed k y ≡ false) (l.right true_to r held) off
+  others_of failed k r Memory held true_to (unjudged x l) is = absurd cc
+  others_of failed k r f held true_to (unbooted g mid x l on starts whole) is =
+      absurd (whole.sound true_to x l.held is)
+
+  pub exact_of : (p : Posted B) (k : Rows B) → p.rows ≡ Some k → (res : Result (Begun B) (ActorFault Y))
+      → IfErr res (λ f. Refuses same holds finds is_faithful failures p.failed k old new f)
+      → (r : Rows B) → holds old r → IfErr res (λ f. is_faithful new → f ≡ Keeper store.Damaged → HasOthers same p r)
+  exact_of p k e (Ok b) h r held = tt
+  exact_of p k e (Err f) h r held = λ true_to is. (k, e, others_of p.failed k r f held true_to h is)
+
+  pub exact_first : (p : Posted B) (res : Result (Begun B) (ActorFault Y)) → IfErr res (λ f. NoDamage holds is_faithful old new f)
+      → (r : Rows B) → holds old r → IfErr res (λ f. is_faithful new → f ≡ Keeper store.Damaged → HasOthers same p r)
+  exact_first p (Ok b) h r held = tt
+  exact_first p (Err f) h r held = λ true_to is. absurd (h.sound true_to r held is)

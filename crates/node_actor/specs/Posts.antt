@@ -80,6 +80,11 @@ module _ {B K : Type 0} (holds : K → Rows B → Type 0) where
     pub may : MayKeepFrom (failures old) (failures new) fault
     pub found : (r : Rows B) → holds old r → FindsOr finds old new (raised r)
 
+  -- damage is not told where what lies below returned what was written, as it did before, too
+  pub record NoDamage {Y : Type 0} (is_faithful : K → Type 0) (old new : K) (fault : ActorFault Y) : Type 0 where
+    pub faithful : is_faithful new → is_faithful old
+    pub sound : is_faithful new → (r : Rows B) → holds old r → fault ≡ Keeper store.Damaged → ⊥
+
   -- the same, and this post is left
   pub record Shuts {Y : Type 0} (finds : K → Rows B → Type 0) (failures : K → ℕ) (post : Posted B) (old : K) (fault : ActorFault Y)
       (left : Posted B) (new : K) : Type 0 where

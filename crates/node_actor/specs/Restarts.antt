@@ -20,7 +20,7 @@ use Rattle.paxos_turn.specs.Node.{NodeState}
 use Rattle.paxos_node.specs.Plans.{plans}
 use Rattle.paxos_node.specs.View.{Viewed}
 use Rattle.node_actor.specs.Actor.{Acting}
-use Rattle.node_actor.specs.Posts.{Posted, Starts}
+use Rattle.node_actor.specs.Posts.{Posted, Starts, NoDamage}
 use Rattle.node_actor.specs.declared.fault.ActorFault.{ActorFault}
 use Rattle.node_actor.specs.declared.fault.ActorFault.TheVariants.{Keeper, Memory}
 use Rattle.node_actor.specs.Views.{View, seen, posted_to, received_from, StandsFor, moved_by}
@@ -44,6 +44,10 @@ is_meant same (Some o) k r = is_ahead same (accepting.adopted k o.change) r
 -- rows that a post may find in its store again
 abbrev pub is_left : {B : Type 0} → (B → B → Bool) → Option (Outcome B) → Rows B → Rows B → Bool
 is_left same failed k r = is_ahead same k r || is_meant same failed k r
+
+-- the node was opened, and its store has rows that it may not find again
+abbrev pub HasOthers : {B : Type 0} → (B → B → Bool) → Posted B → Rows B → Type 0
+HasOthers {B} same p r = (k : Rows B) × (p.rows ≡ Some k) × (is_left same p.failed k r ≡ false)
 
 -- the rows so many boots on
 abbrev pub raises : {B : Type 0} → ℕ → Rows B → Rows B
@@ -102,9 +106,11 @@ module _ {B K : Type 0} (same : B → B → Bool) (holds finds : K → Rows B �
 
   -- the load failed; the rows are others; there was no memory to compare them; or they are those, and the boot did not begin
   pub data Refuses {Y : Type 0} (failed : Option (Outcome B)) (k : Rows B) (old new : K) : ActorFault Y → Type 0 where
-    unread : (f : KeeperFault) → Stays old new → (f ≡ store.Store → failures old < failures new) → Refuses failed k old new (Keeper f)
+    unread : (f : KeeperFault) → Stays old new → (f ≡ store.Store → failures old < failures new)
+        → (is_faithful new → (r : Rows B) → holds old r → f ≡ store.Damaged → ⊥)
+        → Refuses failed k old new (Keeper f)
     others : (r : Rows B) → Loads old new r → is_left same failed k r ≡ false → Refuses failed k old new (Keeper store.Damaged)
     unjudged : (r : Rows B) → Loads old new r → Refuses failed k old new Memory
     unbooted : (f : ActorFault Y) (mid : K) (r : Rows B) → Loads old mid r → is_left same failed k r ≡ true
-        → Starts holds finds failures mid new f
+        → Starts holds finds failures mid new f → NoDamage holds is_faithful mid new f
         → Refuses failed k old new f

@@ -3,7 +3,7 @@ ghost use Rattle.paxos_acceptor.specs.Acceptor.{adopted};
 ghost use Rattle.paxos_packets.specs.declared.rows.Rows.{Rows};
 ghost use Rattle.replica_machine.specs.Log.{machine_from};
 ghost use Rattle.node_actor.specs.Posts.{LeftOf, Begins, Starts, Opens, Shuts};
-ghost use Rattle.node_actor.specs.Restarts.{same_promise, is_ahead, is_left, Refuses, Resumes};
+ghost use Rattle.node_actor.specs.Restarts.{same_promise, is_ahead, is_left, HasOthers, Refuses, Resumes};
 ghost use Rattle.node_actor.specs.Views.{View};
 
 use crate::actor::Actor;
@@ -20,8 +20,8 @@ use std::alloc::Global;
 impl<M: Machine, K: Keeper<M::Body>> Actor<M, K> {
     /// Goes on from what is left of an actor, with its store opened again and the machine in its first content: opens the node where it was
     /// never opened, else begins its next boot. `KeeperFault::Damaged` where the store has other rows than the node had, and than the
-    /// outcome whose commit failed was to leave; no boot is begun then. With a fault the post and the store are handed back, and serve
-    /// again.
+    /// outcome whose commit failed was to leave, and nowhere else where the store returns what was written; no boot is begun then. With a
+    /// fault the post and the store are handed back, and serve again.
     pub fn restart(
         alloc: Global,
         post: Post<M::Body>,
@@ -35,6 +35,8 @@ impl<M: Machine, K: Keeper<M::Body>> Actor<M, K> {
             IfOk result (λ actor. K.is_faithful actor.keeper → Resumes M.Body.same post view r actor) }
         ensures refuses { (k : Rows M.Body) → post.rows ≡ Some k → IfErr result (λ left.
             Refuses M.Body.same K.holds K.finds K.is_faithful K.failures post.failed k keeper left.2 left.0) }
+        ensures exact { (r : Rows M.Body) → K.holds keeper r → IfErr result (λ left.
+            K.is_faithful left.2 → left.0 ≡ ActorFault.Keeper KeeperFault.Damaged → HasOthers M.Body.same post r) }
         ensures shuts { IfErr result (λ left. Shuts K.holds K.finds K.failures post keeper left.0 left.1 left.2) }
     {
         let mut keeper = keeper;
@@ -57,6 +59,8 @@ fn resume<B: Body, K: Keeper<B>, Y: Drop>(
         IfOk result (λ _. K.is_faithful keeper.new → is_left B.same post.now.failed k r ≡ true) }
     ensures refuses { (k : Rows B) → post.now.rows ≡ Some k → IfErr result (λ fault.
         Refuses B.same K.holds K.finds K.is_faithful K.failures post.now.failed k keeper.old keeper.new fault) }
+    ensures exact { (r : Rows B) → K.holds keeper.old r → IfErr result (λ fault.
+        K.is_faithful keeper.new → fault ≡ ActorFault.Keeper KeeperFault.Damaged → HasOthers B.same post.now r) }
     ensures err { IfErr result (λ fault. Starts K.holds K.finds K.failures keeper.old keeper.new fault) }
 {
     match post.rows() {

@@ -10,6 +10,7 @@ returns-in-Err-clause-refuses g c =
     let failed : c.in-Err.fault ≡ store.Store → g.K.Keeper.failures c.args.keeper.now < g.K.Keeper.failures c.load.new.self =
     λ e. c.load.ensures.store (c.in-Err.is ∙ ap Err e) in
     unread c.in-Err.fault (record { same_rows = c.load.ensures.same; found = c.load.ensures.found; counted = c.load.ensures.counts }) failed
+    (λ true_to r held e. c.load.ensures.sound true_to r held (c.in-Err.is ∙ ap Err e))
 
 pub returns-in-Err-is_left-clause-refuses : goal.returns-in-Err-is_left-clause-refuses
 returns-in-Err-is_left-clause-refuses g c =
@@ -47,7 +48,7 @@ returns-clause-refuses g c =
     } in
     let fits : is_left g.B.Body.same c.args.post.now.failed c.args.kept.now c.in-Ok.rows ≡ true = search rules in
     refused_behind g.B.Body.same g.K.Keeper.holds g.K.Keeper.finds g.K.Keeper.is_faithful g.K.Keeper.failures c.args.keeper.now c.load.new.self
-    c.begin.new.keeper c.args.post.now.failed c.args.kept.now c.in-Ok.rows c.begin.result loads fits c.begin.ensures.err
+    c.begin.new.keeper c.args.post.now.failed c.args.kept.now c.in-Ok.rows c.begin.result loads fits c.begin.ensures.err c.begin.ensures.sound
 
 pub returns-clause-fits : goal.returns-clause-fits
 returns-clause-fits g c = λ r held.
