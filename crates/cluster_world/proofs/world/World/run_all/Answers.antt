@@ -14,7 +14,8 @@ loop-index-preserved g c =
       omega (arith, c.loop-index-test.true),
       λ first es h.
           subst
-          (λ (l : List (Event _)). StandsAt g.M.Body.Body.same g.M.Machine.content (machine_from g.M.Machine.next g.M.Machine.says g.M.Machine.to first) c.step.new.self l)
+          (λ (l : List (Event _)). StandsAt g.M.Body.Body.same g.M.Machine.content
+          (machine_from g.M.Machine.next g.M.Machine.says g.M.Machine.to first) c.step.new.self l)
           (runs_on es c.args.events.now c.loop-index.index c.index-events-index.result c.loop-index-test.true c.index-events-index.is)
           (c.in-Ok.ensures.ok first (es ++ take c.loop-index.index c.args.events.now) (i.2 first es h)),
       given_up_then c.args.self.now.machines c.loop-index.self.machines c.step.new.self.machines i.3 c.in-Ok.ensures.given_up,
@@ -33,6 +34,7 @@ returns-in_default-clause-given_up g c =
 pub returns-clause-ok : goal.returns-clause-ok
 returns-clause-ok g c = λ first es h.
     subst
-    (λ (l : List (Event _)). StandsAt g.M.Body.Body.same g.M.Machine.content (machine_from g.M.Machine.next g.M.Machine.says g.M.Machine.to first) c.loop-index.self l)
+    (λ (l : List (Event _)). StandsAt g.M.Body.Body.same g.M.Machine.content
+    (machine_from g.M.Machine.next g.M.Machine.says g.M.Machine.to first) c.loop-index.self l)
     (run_whole es c.args.events.now c.loop-index.index (omega (arith, c.loop-index-test.false)))
     (c.loop-index.invariant.2 first es h)

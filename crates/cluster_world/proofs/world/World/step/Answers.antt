@@ -19,13 +19,15 @@ invariant_of-self g c =
 pub returns-clause-ok : goal.returns-clause-ok
 returns-clause-ok g c = λ first es h.
     c.happen_in.ensures.ok first es
-    (subst (λ (w : Held _ _ _). StandsAt g.M.Body.Body.same g.M.Machine.content (machine_from g.M.Machine.next g.M.Machine.says g.M.Machine.to first) w es)
+    (subst (λ (w : Held _ _ _). StandsAt g.M.Body.Body.same g.M.Machine.content
+    (machine_from g.M.Machine.next g.M.Machine.says g.M.Machine.to first) w es)
     (sym c.self.view_is) h)
 
 pub returns-clause-err : goal.returns-clause-err
 returns-clause-err g c = λ first es h.
     c.happen_in.ensures.err first es
-    (subst (λ (w : Held _ _ _). StandsAt g.M.Body.Body.same g.M.Machine.content (machine_from g.M.Machine.next g.M.Machine.says g.M.Machine.to first) w es)
+    (subst (λ (w : Held _ _ _). StandsAt g.M.Body.Body.same g.M.Machine.content
+    (machine_from g.M.Machine.next g.M.Machine.says g.M.Machine.to first) w es)
     (sym c.self.view_is) h)
 
 pub returns-clause-given_up : goal.returns-clause-given_up
