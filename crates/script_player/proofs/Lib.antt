@@ -1,0 +1,5 @@
+pub mod Waits
+pub mod Dues
+pub mod Steps
+pub mod Turns
+pub mod Handing

@@ -1,0 +1,45 @@
+-- The world that the lines of a script lead to (docs/CONSENSUS.md, "Scripts").
+use Rattle.std.specs.Prelude.{◌≡◌, ℕ, zero, suc, List, [], ◌∷◌}
+use Rattle.std.specs.List.{flat_map}
+use Rattle.paxos_packets.specs.declared.transport.Transport.{Transport}
+use Rattle.paxos_node.specs.declared.event.Event.{Event}
+use Rattle.paxos_node.specs.declared.event.Event.TheVariants.{Take, Tick, Start, Suspect, Crash, Restart}
+use Rattle.realm_acts.specs.declared.act.Act.{Act}
+use Rattle.realm_acts.specs.Act.{same_act}
+use Rattle.realm_machine.specs.declared.act.Say.{Say}
+use Rattle.realm_machine.specs.Config.{Config}
+use Rattle.realm_machine.specs.Realm.{State}
+use Rattle.realm_machine.specs.Machine.{live_of, realm_of}
+use Rattle.realm_machine.specs.Laws.{live_realm}
+use Rattle.script_lines.specs.declared.line.Line.{Line}
+use Rattle.script_lines.specs.declared.line.Line.TheVariants as line
+use Rattle.cluster_world.specs.Scripts as scripts
+use Rattle.cluster_world.specs.StandsAt.{Held, StandsAt}
+use Rattle.cluster_world.specs.World.{World, handed}
+
+-- what a line is in a script of the world; there is no packet 0, and no line that a text spells tells of it
+abbrev pub in_script : Line → List (scripts.Line Act)
+in_script (line.Take n t act) = scripts.Happens (Take n t act) ∷ []
+in_script (line.Tick n) = scripts.Happens (Tick n) ∷ []
+in_script (line.Start n) = scripts.Happens (Start n) ∷ []
+in_script (line.Suspect n k) = scripts.Happens (Suspect n k) ∷ []
+in_script (line.Deliver zero) = []
+in_script (line.Deliver (suc k)) = scripts.Packet_no (suc k) ∷ []
+in_script (line.Crash n) = scripts.Happens (Crash n) ∷ []
+in_script (line.Restart n) = scripts.Happens (Restart n) ∷ []
+in_script (line.Flush among) = scripts.Flush among ∷ []
+
+abbrev pub script_of : List Line → List (scripts.Line Act)
+script_of lines = flat_map in_script lines
+
+-- the events of the lines, each flush written out
+abbrev pub events_of : ℕ → List Line → List (Event Act)
+events_of members lines = (scripts.run_script same_act members (script_of lines)).events
+
+-- it is the world that these lines lead to, whose machines are realms of this configuration
+abbrev pub IsPlayed : Config → ℕ → List Line → Held Act State Say → Type 0
+IsPlayed config members lines w = StandsAt same_act live_of (live_realm config) w (events_of members lines)
+
+-- transports are handed what the realm says
+abbrev pub HandsOutAsRealm : Type 0
+HandsOutAsRealm = (config : Config) (t : Transport) (w : World Act) → handed (live_realm config) t w ≡ handed (realm_of config) t w
