@@ -1,6 +1,6 @@
 -- What a kind and a URI leave: the one text of this kind that may match, and when it does.
 use Rattle.std.proofs.Common.{◌≡◌, ℕ, zero, suc, ◌+◌, ◌-◌, ◌*◌, ◌/◌, ◌%◌, ◌<◌, ◌≤◌, Bool, true, false, cond, ◌&&◌, ◌||◌, Option, Some, None}
-use Rattle.std.proofs.Common.{Ordering, List, [], ◌∷◌, length, map, take, eqb, ltb, leb, refl, ap, sym, subst, ◌∙◌, arith}
+use Rattle.std.proofs.Common.{Ordering, List, [], ◌∷◌, ◌++◌, length, map, take, eqb, ltb, leb, refl, ap, sym, subst, ◌∙◌, arith}
 use Rattle.std.specs.declared.cmp.Ordering.TheVariants.{Less, Equal, Greater}
 use Rattle.std.specs.List.{count_by, list_any, onto_first}
 use Rattle.std.specs.Ordering.{is_lt, nat_cmp, bool_cmp, ordering_then}
@@ -13,7 +13,7 @@ use Rattle.wamp_ids.specs.declared.policy.Match.TheVariants.{Exact, Prefix, Wild
 use Rattle.wamp_ids.specs.Uri.{parts, is_empty}
 use Rattle.wamp_patterns.specs.Matching.{part_matches, text_matches}
 use Rattle.wamp_patterns.specs.Ranking.{text_is_better}
-use Rattle.wamp_patterns.specs.Kinds.{behind, filled, front, gap, gaps_from, is_named, kind, masked, two_octets}
+use Rattle.wamp_patterns.specs.Kinds.{behind, ended, ending, filled, front, gap, gaps_from, is_named, kind, masked, two_octets}
 use Rattle.wamp_patterns.specs.Texts.{text_cmp}
 use Rattle.wamp_patterns.proofs.Ranks.{no_parts, or_named, and_left, and_right, not_none, off, text_from_parts}
 
@@ -152,7 +152,7 @@ gaps_order [] (q ∷ qs) = refl
 gaps_order (p ∷ ps) [] = refl
 gaps_order (p ∷ ps) (q ∷ qs) = λ i. ordering_then (bits (is_empty p) (is_empty q) i) (gaps_order ps qs i)
 
--- ---- lengths of prefixes
+-- ---- lengths and last octets of prefixes
 
 back : (n : ℕ) → n ≤ 65535 → 65535 - ((65535 - n) / 256 * 256 + (65535 - n) % 256) ≡ n
 back n l = omega arith
@@ -182,8 +182,8 @@ same_true a b e = grind (arith, nat_tests)
 true_same : (a b : ℕ) → eqb a b ≡ true → a ≡ b
 true_same a b h = grind (arith, nat_tests)
 
-abbrev cut : (n : ℕ) (u : List ℕ) → Option (List ℕ)
-cut n u = cond (leb n (length u)) (Some (take n u)) None
+abbrev cut : (n end : ℕ) (u : List ℕ) → Option (List ℕ)
+cut n end u = cond (leb n (length u)) (ended end (take n u)) None
 
 some_text : {A : Type 0} {x y : A} → Some x ≡ Some y → x ≡ y
 some_text h = cc
@@ -193,34 +193,54 @@ begins t u h =
     let e : t ≡ take (length t) u = (bytes_eq-Decides t (take (length t) u)).0 h in
     (e, subst (λ n. n ≤ length u) (sym (ap length e)) (front_within (length t) u))
 
+ended_as : (t s : List ℕ) → t ≡ s → ended (ending t) s ≡ Some t
+ended_as t s e =
+    ap (λ b. cond b (Some s) None) (same_true (ending s) (ending t) (ap ending (sym e))) ∙ ap Some (sym e)
+
 prefix_filled : (t u : List ℕ) → length u ≤ 1024 → text_matches Prefix t u ≡ true → filled Prefix (kind Prefix t) u ≡ Some t
 prefix_filled t u l h =
     let b = begins t u h in
     let within : length t ≤ length u = b.1 in
-    ap (λ n. cut n u) (back (length t) (omega arith))
-    ∙ ap (λ c. cond c (Some (take (length t) u)) None) (le_true (length t) (length u) within)
-    ∙ ap Some (sym b.0)
+    ap (λ n. cut n (ending t) u) (back (length t) (omega arith))
+    ∙ ap (λ c. cond c (ended (ending t) (take (length t) u)) None) (le_true (length t) (length u) within)
+    ∙ ended_as t (take (length t) u) b.0
 
-cut_gives : (n : ℕ) (u t : List ℕ) → cond (leb n (length u)) (Some (take n u)) None ≡ Some t → (take n u ≡ t) × (length t ≡ n)
-cut_gives n u t h = go (leb n (length u)) refl h
+ended_gives : (end : ℕ) (s t : List ℕ) → ended end s ≡ Some t → (s ≡ t) × (ending t ≡ end)
+ended_gives end s t h = go (eqb (ending s) end) refl h
   where
-    go : (b : Bool) → leb n (length u) ≡ b → cond b (Some (take n u)) None ≡ Some t → (take n u ≡ t) × (length t ≡ n)
-    go true e f = (some_text f, sym (ap length (some_text f)) ∙ front_length n u (true_le n (length u) e))
+    go : (b : Bool) → eqb (ending s) end ≡ b → cond b (Some s) None ≡ Some t → (s ≡ t) × (ending t ≡ end)
+    go true e f = (some_text f, ap ending (sym (some_text f)) ∙ true_same (ending s) end e)
+    go false e f = off (cc f)
+
+cut_gives : (n end : ℕ) (u t : List ℕ) → cut n end u ≡ Some t → (take n u ≡ t) × (length t ≡ n) × (ending t ≡ end)
+cut_gives n end u t h = go (leb n (length u)) refl h
+  where
+    go : (b : Bool) → leb n (length u) ≡ b → cond b (ended end (take n u)) None ≡ Some t
+        → (take n u ≡ t) × (length t ≡ n) × (ending t ≡ end)
+    go true e f =
+        let g = ended_gives end (take n u) t f in
+        (g.0, sym (ap length g.0) ∙ front_length n u (true_le n (length u) e), g.1)
     go false e f = off (cc f)
 
 prefix_matches : (k t u : List ℕ) → front k u ≡ Some t → text_matches Prefix t u ≡ true
 prefix_matches [] t u h = cc h
 prefix_matches (a ∷ []) t u h = cc h
-prefix_matches (high ∷ low ∷ []) t u h =
-    let g = cut_gives (65535 - (high * 256 + low)) u t h in
+prefix_matches (a ∷ b ∷ []) t u h = cc h
+prefix_matches (high ∷ low ∷ end ∷ []) t u h =
+    let g = cut_gives (65535 - (high * 256 + low)) end u t h in
     (bytes_eq-Decides t (take (length t) u)).1 (sym g.0 ∙ ap (λ n. take n u) (sym g.1))
-prefix_matches (a ∷ b ∷ c ∷ k) t u h = cc h
+prefix_matches (a ∷ b ∷ c ∷ d ∷ k) t u h = cc h
 
 prefix_kind : (w t u : List ℕ) → front (kind Prefix w) u ≡ Some t → kind Prefix t ≡ kind Prefix w
 prefix_kind w t u h = go (65535 - length w) (omega arith) h
   where
-    go : (d : ℕ) → d ≤ 65535 → front (two_octets d) u ≡ Some t → two_octets (65535 - length t) ≡ two_octets d
-    go d l f = ap two_octets (forth (length t) d l (cut_gives (65535 - (d / 256 * 256 + d % 256)) u t f).1)
+    go : (d : ℕ) → d ≤ 65535 → front (two_octets d ++ ending w ∷ []) u ≡ Some t
+        → two_octets (65535 - length t) ++ ending t ∷ [] ≡ two_octets d ++ ending w ∷ []
+    go d l f =
+        let g = cut_gives (65535 - (d / 256 * 256 + d % 256)) (ending w) u t f in
+        let same : 65535 - length t ≡ d = forth (length t) d l g.1 in
+        let end : ending t ≡ ending w = g.2 in
+        λ i. two_octets (same i) ++ end i ∷ []
 
 not_less_first : (o p : Ordering) → is_lt (ordering_then o p) ≡ false → is_lt o ≡ false
 not_less_first Less p h = h
@@ -236,8 +256,8 @@ not_below a b h = grind (arith, nat_tests)
 level : (a b : ℕ) → a ≡ b → nat_cmp a b ≡ Equal
 level a b e = grind (arith, nat_tests)
 
-octets_order : (a b : ℕ) → is_lt (text_cmp (two_octets a) (two_octets b)) ≡ false → b ≤ a
-octets_order a b h =
+octets_order : (a b x y : ℕ) → is_lt (text_cmp (two_octets a ++ x ∷ []) (two_octets b ++ y ∷ [])) ≡ false → b ≤ a
+octets_order a b x y h =
     let high : b / 256 ≤ a / 256 = not_below (a / 256) (b / 256) (not_less_first (nat_cmp (a / 256) (b / 256)) _ h) in
     by_high (leb (a / 256) (b / 256)) refl high
   where
@@ -258,7 +278,7 @@ octets_order a b h =
 prefix_order : (q t : List ℕ) → length q ≤ 65535 → length t ≤ 65535 → is_lt (text_cmp (kind Prefix q) (kind Prefix t)) ≡ false
     → ltb (length t) (length q) ≡ false
 prefix_order q t l m h =
-    let down : 65535 - length t ≤ 65535 - length q = octets_order (65535 - length q) (65535 - length t) h in
+    let down : 65535 - length t ≤ 65535 - length q = octets_order (65535 - length q) (65535 - length t) (ending q) (ending t) h in
     not_longer (length t) (length q) (omega arith)
   where
     not_longer : (x y : ℕ) → y ≤ x → ltb x y ≡ false

@@ -5,6 +5,7 @@ pub mod Counting
 pub mod Filling
 pub mod Hits
 pub mod Keyed
+pub mod OneKind
 pub mod Order
 pub mod Pairs
 pub mod Parts

@@ -1,7 +1,7 @@
 -- Kinds of patterns of one match. A URI and a kind leave one text that a pattern of this kind may have to match the URI: so a search
 -- asks once for each kind that stands. Kinds stand in the order in which their patterns serve.
-use Rattle.std.specs.Prelude.{◌≡◌, ℕ, ◌+◌, ◌-◌, ◌*◌, ◌/◌, ◌%◌, ◌==◌, nat_le, nat_lt, Bool, true, List, [], ◌∷◌, length, map, take}
-use Rattle.std.specs.Prelude.{Option, Some, None, if◌then◌else◌}
+use Rattle.std.specs.Prelude.{◌≡◌, ℕ, ◌+◌, ◌-◌, ◌*◌, ◌/◌, ◌%◌, ◌==◌, nat_le, nat_lt, Bool, true, List, [], ◌∷◌, ◌++◌, length, map, take}
+use Rattle.std.specs.Prelude.{Option, Some, None, slice_get, if◌then◌else◌}
 use Rattle.std.specs.List.{count_by}
 use Rattle.std.specs.Option.{unwrap_or}
 use Rattle.std.specs.Map.{lookup, remove_entry}
@@ -17,16 +17,25 @@ gap part = if is_empty part then 1 else 0
 abbrev pub two_octets : ℕ → List ℕ
 two_octets n = n / 256 ∷ n % 256 ∷ []
 
--- exact patterns are of one kind, prefixes of one length are, and wildcards of as many components of which the same are empty
+-- the last octet, 0 where there is none
+abbrev pub ending : List ℕ → ℕ
+ending text = unwrap_or (slice_get text (length text - 1)) 0
+
+-- exact patterns are of one kind, prefixes of one length and one last octet are, and wildcards of as many components of which the same
+-- are empty
 abbrev pub kind : Match → List ℕ → List ℕ
 kind Exact text = []
-kind Prefix text = two_octets (65535 - length text)
+kind Prefix text = two_octets (65535 - length text) ++ ending text ∷ []
 kind Wildcard text = map gap (parts text)
 
--- as many first octets of the URI as the prefixes of this kind have
+-- a text that ends so
+abbrev pub ended : ℕ → List ℕ → Option (List ℕ)
+ended end text = if ending text == end then Some text else None
+
+-- as many first octets of the URI as the prefixes of this kind have, where they end as these do
 abbrev pub front : List ℕ → List ℕ → Option (List ℕ)
-front (high ∷ low ∷ []) uri =
-    if nat_le (65535 - (high * 256 + low)) (length uri) then Some (take (65535 - (high * 256 + low)) uri) else None
+front (high ∷ low ∷ end ∷ []) uri =
+    if nat_le (65535 - (high * 256 + low)) (length uri) then ended end (take (65535 - (high * 256 + low)) uri) else None
 front _ uri = None
 
 abbrev pub is_named : List ℕ → Bool

@@ -4,7 +4,7 @@ ghost use Rattle.std.specs.BTreeMap.{insert_entry};
 ghost use Rattle.wamp_patterns.specs.Kinds.{Tells, all_found, count_of, filled, first_found, found_kind, lowered, with_text};
 ghost use Rattle.wamp_patterns.specs.Texts.{AreTextsInOrder, same_text, shown, text_cmp};
 
-use crate::kinds::{filled, kind_of};
+use crate::kinds::{front, kind_of, masked_if_fit};
 use crate::memory::Memory;
 use crate::texts::Texts;
 use std::alloc::Global;
@@ -120,7 +120,29 @@ impl<V> Index<V> {
         requires { length uri.now ≤ 1024 }
         ensures { option_copied result ≡ found_kind matching self.now.texts uri.now kind.now }
     {
-        let Some(text) = filled(matching, kind, uri) else {
+        match matching {
+            Match::Exact => self.texts.get(uri),
+            Match::Prefix => self.of_ending(kind, uri),
+            Match::Wildcard => self.of_shape(kind, uri),
+        }
+    }
+
+    // The same for prefixes.
+    fn of_ending(&self, kind: &[u8], uri: &[u8]) -> Option<&V>
+        ensures { option_copied result ≡ found_kind Match.Prefix self.now.texts uri.now kind.now }
+    {
+        let Some(text) = front(kind, uri) else {
+            return None;
+        };
+        self.texts.get(text)
+    }
+
+    // The same for wildcards.
+    fn of_shape(&self, kind: &[u8], uri: &[u8]) -> Option<&V>
+        requires { length uri.now ≤ 1024 }
+        ensures { option_copied result ≡ found_kind Match.Wildcard self.now.texts uri.now kind.now }
+    {
+        let Some(text) = masked_if_fit(kind, uri) else {
             return None;
         };
         self.texts.get(text.as_slice())
@@ -140,10 +162,33 @@ impl<V> Index<V> {
         ensures { IfOk result (λ all. map (λ value. value.now) all.items ≡ map (λ value. value.now) found.entry.items
             ++ values_of (all_found matching self.now.texts uri.now [] (keys_of self.now.kinds))) }
     {
+        if self.kinds.len() < 2 {
+            return self.with_first(matching, uri, found);
+        }
         let hits = self.hits(alloc, matching, uri)?;
         for value in hits.values() {
             found.push(*value)?;
         }
+        Ok(found)
+    }
+
+    // The same where one kind stands at the most.
+    #[tactic(auto, using(crate::proofs::OneKind::none_more, crate::proofs::OneKind::one_more))]
+    fn with_first<'a>(
+        &'a self,
+        matching: Match,
+        uri: &[u8],
+        mut found: Vec<&'a V>,
+    ) -> Result<Vec<&'a V>, Memory>
+        requires short { length uri.now ≤ 1024 }
+        requires few { length self.now.kinds ≤ 1 }
+        ensures { IfOk result (λ all. map (λ value. value.now) all.items ≡ map (λ value. value.now) found.entry.items
+            ++ values_of (all_found matching self.now.texts uri.now [] (keys_of self.now.kinds))) }
+    {
+        let Some(value) = self.first(matching, uri) else {
+            return Ok(found);
+        };
+        found.push(value)?;
         Ok(found)
     }
 
@@ -175,10 +220,32 @@ impl<V> Index<V> {
         requires { length uri.now ≤ 1024 }
         ensures { OnOk result (shown hits.new.entries ≡ with_text matching self.now.texts (filled matching kind.now uri.now) (shown hits.old.entries)) }
     {
-        let Some(text) = filled(matching, kind, uri) else {
-            return Ok(());
-        };
-        let Some((text, value)) = self.texts.stored(text.as_slice()) else {
+        match matching {
+            Match::Exact => self.add_text(uri, hits),
+            Match::Prefix => {
+                let Some(text) = front(kind, uri) else {
+                    return Ok(());
+                };
+                self.add_text(text, hits)
+            }
+            Match::Wildcard => {
+                let Some(text) = masked_if_fit(kind, uri) else {
+                    return Ok(());
+                };
+                self.add_text(text.as_slice(), hits)
+            }
+        }
+    }
+
+    // Puts the pattern of this text, if there is one.
+    fn add_text<'a>(
+        &'a self,
+        text: &[u8],
+        hits: &mut BTreeMap<&'a [u8], &'a V>,
+    ) -> Result<(), Memory>
+        ensures { OnOk result (shown hits.new.entries ≡ with_text Match.Exact self.now.texts (Some text.now) (shown hits.old.entries)) }
+    {
+        let Some((text, value)) = self.texts.stored(text) else {
             return Ok(());
         };
         hits.insert(text, value)?;

@@ -1,32 +1,40 @@
 ghost use Rattle.std.specs.Prelude.{◌≡◌, ◌≤◌, ◌-◌, length, option_map};
-ghost use Rattle.wamp_patterns.specs.Kinds.{behind, filled, front, gaps_from, is_named, kind, masked, two_octets};
+ghost use Rattle.wamp_patterns.specs.Kinds.{behind, ended, ending, filled, front, gaps_from, is_named, kind, masked};
 
 use arrayvec::ArrayVec;
 use wamp_ids::Match;
 
-/// The kind of a pattern with this match and text: for exact patterns one, for prefixes their length, for wildcards how many components
-/// they have and which are empty. Kinds of one match stand in the order in which their patterns serve. Takes no memory.
+/// The kind of a pattern with this match and text: for exact patterns one, for prefixes their length and last octet, for wildcards how
+/// many components they have and which are empty. Kinds of one match stand in the order in which their patterns serve. Takes no memory.
 pub(crate) fn kind_of(matching: Match, text: &[u8]) -> ArrayVec<u8, 1025>
     requires { length text.now ≤ 1024 }
     ensures { result.items ≡ kind matching text.now }
 {
     match matching {
         Match::Exact => ArrayVec::new(),
-        Match::Prefix => by_length(text.len()),
+        Match::Prefix => by_length(text),
         Match::Wildcard => gaps(text),
     }
 }
 
 // The longest first.
-fn by_length(length: usize) -> ArrayVec<u8, 1025>
-    requires { length ≤ 1024 }
-    ensures { result.items ≡ two_octets (65535 - length) }
+fn by_length(text: &[u8]) -> ArrayVec<u8, 1025>
+    requires { length text.now ≤ 1024 }
+    ensures { result.items ≡ kind Match.Prefix text.now }
 {
-    let [high, low] = (65535 - length as u16).to_be_bytes();
+    let [high, low] = (65535 - text.len() as u16).to_be_bytes();
     let mut kind = ArrayVec::new();
     kind.push(high);
     kind.push(low);
+    kind.push(ending(text));
     kind
+}
+
+// The last octet, 0 where there is none.
+fn ending(text: &[u8]) -> u8
+    ensures { result ≡ ending text.now }
+{
+    text.last().copied().unwrap_or(0)
 }
 
 // For each component 1 if it is empty, or else 0.
@@ -48,44 +56,32 @@ fn gaps(text: &[u8]) -> ArrayVec<u8, 1025>
     gaps
 }
 
-/// The one text that a pattern of this match and kind may have to match the URI. Takes no memory, and steps linear in the URI.
-pub(crate) fn filled(matching: Match, kind: &[u8], uri: &[u8]) -> Option<ArrayVec<u8, 1024>>
-    requires { length uri.now ≤ 1024 }
-    ensures { option_map (λ text. text.items) result ≡ filled matching kind.now uri.now }
+/// The one text that a prefix of this kind may have to match the URI. Takes no memory.
+pub(crate) fn front<'a>(kind: &[u8], uri: &'a [u8]) -> Option<&'a [u8]>
+    ensures { option_map (λ text. text.now) result ≡ front kind.now uri.now }
 {
-    match matching {
-        Match::Exact => Some(copied(uri)),
-        Match::Prefix => front(kind, uri),
-        Match::Wildcard => masked_if_fit(kind, uri),
-    }
-}
-
-fn copied(text: &[u8]) -> ArrayVec<u8, 1024>
-    requires { length text.now ≤ 1024 }
-    ensures { result.items ≡ text.now }
-{
-    let mut copy = ArrayVec::new();
-    for octet in text {
-        copy.push(*octet);
-    }
-    copy
-}
-
-fn front(kind: &[u8], uri: &[u8]) -> Option<ArrayVec<u8, 1024>>
-    requires { length uri.now ≤ 1024 }
-    ensures { option_map (λ text. text.items) result ≡ front kind.now uri.now }
-{
-    let [high, low] = kind else {
+    let [high, low, end] = kind else {
         return None;
     };
     let length = 65535 - u16::from_be_bytes([*high, *low]) as usize;
     if length <= uri.len() {
-        return Some(copied(&uri[..length]));
+        return ended(*end, &uri[..length]);
     }
     None
 }
 
-fn masked_if_fit(kind: &[u8], uri: &[u8]) -> Option<ArrayVec<u8, 1024>>
+// The text, if it ends so.
+fn ended(end: u8, text: &[u8]) -> Option<&[u8]>
+    ensures { option_map (λ text. text.now) result ≡ ended end text.now }
+{
+    if ending(text) == end {
+        return Some(text);
+    }
+    None
+}
+
+/// The one text that a wildcard of this kind may have to match the URI. Takes no memory, and steps linear in the URI.
+pub(crate) fn masked_if_fit(kind: &[u8], uri: &[u8]) -> Option<ArrayVec<u8, 1024>>
     requires { length uri.now ≤ 1024 }
     ensures { option_map (λ text. text.items) result ≡ filled Match.Wildcard kind.now uri.now }
 {

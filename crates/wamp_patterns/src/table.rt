@@ -103,9 +103,9 @@ impl<V> PatternTable<V> {
     }
 
     /// The value whose pattern serves the URI: of the patterns that match it the one that no other beats (`better`). Takes no memory. A
-    /// look-up for the exact pattern, then one for each length of prefixes that stands, the longest first, then one for each shape of
-    /// wildcards that stands (how many components, and which of them are empty), until one is found; each takes a number of steps that
-    /// is logarithmic in the number of entries. Entries that do not match are not met.
+    /// look-up for the exact pattern, then one for each length of prefixes that stands with the octet which the URI has at their end, the
+    /// longest first, then one for each shape of wildcards that stands (how many components, and which of them are empty), until one is
+    /// found; each takes a number of steps that is logarithmic in the number of entries. Entries that do not match are not met.
     pub fn best(&self, uri: &Uri<'_>) -> Option<&V>
         ensures { option_copied result ≡ option_map (λ entry. entry.1) (serves (λ entry. entry.0) self.now uri.now) }
     {
