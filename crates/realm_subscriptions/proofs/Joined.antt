@@ -1,6 +1,6 @@
 -- Members go on being found by their sessions as one joins and one leaves.
-use Rattle.std.proofs.Common.{◌≡◌, ℕ, ◌==◌, ◌+◌, ◌<◌, Bool, true, false, not, ◌||◌, cond, List}
-use Rattle.std.proofs.Common.{[], ◌∷◌, ◌++◌, filter, find, Option, None, Some, nat_cmp, nat_eq, is_some, if◌then◌else◌}
+use Rattle.std.proofs.Common.{◌≡◌, ℕ, Bool, true, false, ◌||◌, cond, List}
+use Rattle.std.proofs.Common.{[], ◌∷◌, ◌++◌, Option, None, Some, nat_cmp, nat_eq, is_some, if◌then◌else◌}
 use Rattle.std.proofs.Common.{refl, sym, ap, ◌∙◌, subst}
 use Rattle.std.specs.List.{list_any}
 use Rattle.std.specs.BTreeMap.{is_at}

@@ -1,6 +1,7 @@
 //! The subscriptions of a realm (WAMP specification, "Publish and Subscribe", "Pattern-based Subscriptions").
 #![tactic(auto)]
 
+mod later;
 pub mod laws;
 mod leaving;
 mod members;

@@ -1,54 +1,42 @@
-ghost use Rattle.std.specs.Prelude.{◌≡◌, false, [], ◌∷◌, OnOk, OnErr, IfOk, IsOkUnless};
+ghost use Rattle.std.specs.Prelude.{◌≡◌, false, [], ◌∷◌, OnOk, OnErr, IfOk, IfSome, IsOkUnless};
 ghost use Rattle.realm_sessions.specs.declared.fault.RealmFault.TheVariants as fault;
 ghost use Rattle.realm_sessions.specs.Members.{has_member, has_members, joined, others};
+ghost use Rattle.realm_subscriptions.specs.Members.{one};
 
-use keyed_lists::{PlaceIndex, Rows};
+use crate::later::Later;
 use realm_sessions::RealmFault;
 use std::alloc::Global;
 use std::marker::Model;
 use wamp_ids::Id;
 
-/// The members of a subscription in the order of joining, each once.
+/// The members of a subscription in the order of joining, each once. One who joined first, as long as he stays, takes no memory of
+/// his own.
 ///
 /// Cost: each call takes a number of steps that is logarithmic in the number of members, `to_vec` one for each.
 #[derive(Drop)]
 pub struct Members {
-    rows: Rows<Id>,
-    places: PlaceIndex<u64>,
+    first: Option<Id>,
+    later: Later,
 }
 
 impl Model for Members {
-    ghost use Rattle.std.specs.Prelude.{List, ℕ};
-    ghost use Rattle.keyed_lists.specs.Rows.{members};
-    ghost use Rattle.keyed_lists.specs.Finding.{IsIndex};
-    ghost use Rattle.realm_subscriptions.specs.Members.{is_session, place_of};
+    ghost use Rattle.std.specs.Prelude.{List, ℕ, ◌++◌};
+    ghost use Rattle.realm_subscriptions.specs.Members.{one};
 
     ghost Value = { List ℕ };
 
-    ghost view = { λ a. members a.rows };
-
-    ghost invariant = { λ a. IsIndex is_session (place_of a.places) a.rows };
+    ghost view = { λ a. one a.first ++ a.later };
 }
 
 impl Members {
-    /// None. Takes no memory.
-    pub fn new(alloc: Global) -> Members
-        ensures { result ≡ [] }
+    /// The session alone. Takes no memory.
+    pub fn of(alloc: Global, session: Id) -> Members
+        ensures { result ≡ session ∷ [] }
     {
         Members {
-            rows: Rows::new(alloc),
-            places: PlaceIndex::new(alloc),
+            first: Some(session),
+            later: Later::new(alloc),
         }
-    }
-
-    /// The session alone. The only fault is `Memory`.
-    pub fn of(alloc: Global, session: Id) -> Result<Members, RealmFault>
-        ensures members { IfOk result (λ members. members ≡ session ∷ []) }
-        ensures fault { IsOkUnless result fault.Memory }
-    {
-        let mut members = Members::new(alloc);
-        members.join(session)?;
-        Ok(members)
     }
 
     /// Their ids, in the order of joining. The only fault is `Memory`.
@@ -56,21 +44,38 @@ impl Members {
         ensures list { IfOk result (λ list. list.items ≡ self.now) }
         ensures fault { IsOkUnless result fault.Memory }
     {
-        Ok(self.rows.to_vec(alloc)?)
+        let Some(first) = self.first else {
+            return self.later.to_vec(alloc);
+        };
+        let mut list = Vec::new(alloc);
+        list.push(first)?;
+        let later = self.later.to_vec(alloc)?;
+        list.extend_from_slice(&later)?;
+        Ok(list)
+    }
+
+    /// The one member where there is one alone, who joined first; `None` may be told then, too. Takes no memory.
+    pub fn only(&self) -> Option<Id>
+        ensures { IfSome result (λ session. self.now ≡ session ∷ []) }
+    {
+        if self.later.has_some() {
+            return None;
+        }
+        self.first
     }
 
     /// Whether the session is one of them. Takes no memory.
     pub fn has(&self, session: Id) -> bool
         ensures { result ≡ has_member session self.now }
     {
-        self.places.get(session.get()).is_some()
+        is_one(&self.first, session) || self.later.has(session)
     }
 
     /// Whether there is one. Takes no memory.
     pub fn has_some(&self) -> bool
         ensures { result ≡ has_members self.now }
     {
-        self.rows.len() > 0
+        self.first.is_some() || self.later.has_some()
     }
 
     /// The session, which is none of them, is the last of them now. The only fault is `Memory`; nothing has changed then.
@@ -80,27 +85,34 @@ impl Members {
         ensures err { OnErr result (self.new ≡ self.old) }
         ensures fault { IsOkUnless result fault.Memory }
     {
-        let Some(place) = self.rows.next_place() else {
-            return Err(RealmFault::Memory);
-        };
-        let number = session.get();
-        self.places.put(number, place)?;
-        let Ok(()) = self.rows.push(place, session) else {
-            self.places.remove(number);
-            return Err(RealmFault::Memory);
-        };
-        Ok(())
+        self.later.join(session)
     }
 
     /// The session is none of them any more. Takes no memory.
     pub fn leave(&mut self, session: Id)
         ensures { self.new ≡ others session self.old }
     {
-        let number = session.get();
-        let Some(place) = self.places.get(number) else {
-            return;
-        };
-        let _ = self.rows.remove(place);
-        self.places.remove(number);
+        self.first = without(&self.first, session);
+        self.later.leave(session);
+    }
+}
+
+// Whether there is one, who is the session.
+fn is_one(first: &Option<Id>, session: Id) -> bool
+    ensures { result ≡ has_member session (one first.now) }
+{
+    match first {
+        Some(member) => *member == session,
+        None => false,
+    }
+}
+
+// The one, if he is not the session.
+fn without(first: &Option<Id>, session: Id) -> Option<Id>
+    ensures { one result ≡ others session (one first.now) }
+{
+    match first {
+        Some(member) if !(*member == session) => Some(*member),
+        _ => None,
     }
 }

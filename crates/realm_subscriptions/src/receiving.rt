@@ -1,5 +1,5 @@
 // Who gets an event.
-ghost use Rattle.std.specs.Prelude.{◌≡◌, ◌++◌, ℕ, List, Option, map, filter, OnOk, IfOk, IsOkUnless};
+ghost use Rattle.std.specs.Prelude.{◌≡◌, ◌++◌, [], ◌∷◌, ℕ, List, Option, map, filter, OnOk, IfOk, IsOkUnless};
 ghost use Rattle.std.specs.List.{flat_map};
 ghost use Rattle.wamp_patterns.specs.Ranking.{matching};
 ghost use Rattle.realm_subscriptions.specs.declared.receiving.Receiver.{Receiver};
@@ -46,6 +46,9 @@ impl Receiving for Subscription {
         found: &mut Vec<Receiver>,
         except: &Option<Id>,
     ) -> Result<(), RealmFault> {
+        if let Some(member) = self.members.only() {
+            return add_member(found, self, member, except);
+        }
         let members = self.members.to_vec(alloc)?;
         add_members(found, self, &members, except)
     }
@@ -96,13 +99,28 @@ fn add_members(
     ensures fault { IsOkUnless result fault.Memory }
 {
     for member in members {
-        if is_for(except, *member) {
-            found.push(Receiver {
-                subscription: subscription.id,
-                matching: subscription.pattern.matching(),
-                member: *member,
-            })?;
-        }
+        add_member(found, subscription, *member, except)?;
+    }
+    Ok(())
+}
+
+// This member, if the event is for him.
+fn add_member(
+    found: &mut Vec<Receiver>,
+    subscription: &Subscription,
+    member: Id,
+    except: &Option<Id>,
+) -> Result<(), RealmFault>
+    ensures ok { OnOk result (found.new.items
+        ≡ found.old.items ++ map (receiver subscription.now) (filter (is_for except.now) (member ∷ []))) }
+    ensures fault { IsOkUnless result fault.Memory }
+{
+    if is_for(except, member) {
+        found.push(Receiver {
+            subscription: subscription.id,
+            matching: subscription.pattern.matching(),
+            member,
+        })?;
     }
     Ok(())
 }

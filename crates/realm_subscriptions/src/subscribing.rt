@@ -74,7 +74,7 @@ impl Subscriptions {
         let Ok(pattern) = pattern.copy(self.alloc) else {
             return Err(RealmFault::Memory);
         };
-        let members = Members::of(self.alloc, session)?;
+        let members = Members::of(self.alloc, session);
         let Some(id) = Id::new(self.groups.last() + 1) else {
             unreachable!();
         };

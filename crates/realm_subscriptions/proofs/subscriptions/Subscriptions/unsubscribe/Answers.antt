@@ -1,5 +1,4 @@
-use Rattle.std.proofs.Common.{List, ap, sym}
-use Rattle.realm_subscriptions.specs.declared.subscription.Subscription.{Subscription}
+use Rattle.std.proofs.Common.{ap, sym}
 use Rattle.realm_subscriptions.specs.Subscription.{is_held}
 use Rattle.realm_subscriptions.specs.Subscriptions.{with_list}
 use Rattle.realm_subscriptions.specs.Leaving.{left}

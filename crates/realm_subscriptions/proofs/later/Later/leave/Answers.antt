@@ -1,7 +1,7 @@
 use Rattle.std.proofs.Common.{◌≡◌, ℕ, None, nat_eq, subst, sym, ap, ◌∙◌, if◌then◌else◌}
 use Rattle.realm_subscriptions.specs.Members.{place_of}
 use Rattle.realm_subscriptions.proofs.Joined.{left_index, left_list, left_none}
-use Rattle.realm_subscriptions.proofs.members.Members.leave.Goals as goal
+use Rattle.realm_subscriptions.proofs.later.Later.leave.Goals as goal
 
 pub returns-in_default : goal.returns-in_default
 returns-in_default c = rw (← c.self.view_is)

@@ -1,7 +1,7 @@
 use Rattle.std.proofs.Common.{is_some, ap, ◌∙◌}
 use Rattle.realm_subscriptions.specs.Members.{place_of}
 use Rattle.realm_subscriptions.proofs.Joined.{member_is}
-use Rattle.realm_subscriptions.proofs.members.Members.has.Goals as goal
+use Rattle.realm_subscriptions.proofs.later.Later.has.Goals as goal
 
 pub returns : goal.returns
 returns c = rw (← c.self.view_is)

@@ -1,7 +1,7 @@
 use Rattle.std.proofs.Common.{◌≡◌, ℕ, Some, None, nat_eq, subst, if◌then◌else◌}
 use Rattle.realm_subscriptions.specs.Members.{place_of}
 use Rattle.realm_subscriptions.proofs.Joined.{joined_back, joined_index}
-use Rattle.realm_subscriptions.proofs.members.Members.join.Goals as goal
+use Rattle.realm_subscriptions.proofs.later.Later.join.Goals as goal
 
 pub invariant_of-self-in-Ok : goal.invariant_of-self-in-Ok
 invariant_of-self-in-Ok c = rw c.in-Ok.ensures.ok
