@@ -1,5 +1,5 @@
 -- A registration whose callees take turns is the same registration, with the same callees.
-use Rattle.std.proofs.Common.{◌≡◌, ℕ, ◌==◌, Bool, true, false, ◌||◌, List, [], ◌∷◌, ◌++◌, length, refl, sym, ap, ◌∙◌, arith, lt-ltb}
+use Rattle.std.proofs.Common.{◌≡◌, ℕ, ◌==◌, Bool, true, false, ◌||◌, List, [], ◌∷◌, length, refl, sym, ◌∙◌, arith, lt-ltb}
 use Rattle.std.proofs.lemmas.Bool.{cond_both}
 use Rattle.realm_sessions.specs.Members.{has_member, has_members, rotated}
 use Rattle.session_groups.proofs.Joining.{joined_held, joined_member}

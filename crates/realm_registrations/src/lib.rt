@@ -6,6 +6,7 @@ mod callees;
 pub mod laws;
 mod registration;
 mod registry;
+mod turns;
 
 pub use callees::Callees;
 pub use registration::{Chosen, Registration};

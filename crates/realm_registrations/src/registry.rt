@@ -94,7 +94,7 @@ impl Registrations {
         let Ok(pattern) = pattern.copy(self.alloc) else {
             return Err(RealmFault::Memory);
         };
-        let callees = Callees::of(self.alloc, session)?;
+        let callees = Callees::of(self.alloc, session);
         let Some(id) = Id::new(self.groups.last() + 1) else {
             unreachable!();
         };

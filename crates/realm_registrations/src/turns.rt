@@ -8,17 +8,17 @@ use std::alloc::Global;
 use std::marker::Model;
 use wamp_ids::Id;
 
-/// The sessions that are called under a registration, in the order of their turns: a list that stays, and a cursor to the one that is
-/// called next. Before the cursor stands who was called last.
-///
-/// Cost: `turn` and who is called take one step, `has`, `join` and `leave` go over the callees of this registration.
+// Sessions in the order of their turns: a list that stays, and a cursor to the one that is called next. Before the cursor stands who
+// was called last.
+//
+// Cost: `turn` and who is called take one step, `has`, `join` and `leave` go over the callees of this registration.
 #[derive(Drop)]
-pub struct Callees {
+pub(crate) struct Turns {
     list: Vec<Id>,
     cursor: usize,
 }
 
-impl Model for Callees {
+impl Model for Turns {
     ghost use Rattle.std.specs.Prelude.{List, ℕ, ◌≤◌, length};
     ghost use Rattle.realm_registrations.specs.Callees.{seen};
 
@@ -29,46 +29,57 @@ impl Model for Callees {
     ghost invariant = { λ a. a.cursor ≤ length a.list.items };
 }
 
-impl Callees {
-    /// The session alone. The only fault is `Memory`.
-    pub fn of(alloc: Global, session: Id) -> Result<Callees, RealmFault>
-        ensures callees { IfOk result (λ callees. callees ≡ session ∷ []) }
-        ensures fault { IsOkUnless result fault.Memory }
+impl Turns {
+    // None. Takes no memory.
+    pub fn new(alloc: Global) -> Turns
+        ensures { result ≡ [] }
     {
-        let mut list = Vec::new(alloc);
-        list.push(session)?;
-        Ok(Callees { list, cursor: 0 })
+        Turns {
+            list: Vec::new(alloc),
+            cursor: 0,
+        }
     }
 
-    /// The first in turn. Takes no memory.
+    // The session, and then the other, in memory of their own. The only fault is `Memory`.
+    pub fn of_two(&self, session: Id, other: Id) -> Result<Turns, RealmFault>
+        ensures turns { IfOk result (λ turns. turns ≡ session ∷ other ∷ []) }
+        ensures fault { IsOkUnless result fault.Memory }
+    {
+        let mut list = Vec::new(*self.list.allocator());
+        list.push(session)?;
+        list.push(other)?;
+        Ok(Turns { list, cursor: 0 })
+    }
+
+    // The first in turn. Takes no memory.
     pub fn first(&self) -> Option<Id>
         ensures { result ≡ slice_get self.now 0 }
     {
         first_from(&self.list, self.cursor)
     }
 
-    /// The last in turn. Takes no memory.
+    // The last in turn. Takes no memory.
     pub fn last(&self) -> Option<Id>
         ensures { result ≡ slice_get self.now (length self.now - 1) }
     {
         last_before(&self.list, self.cursor)
     }
 
-    /// Whether the session is one of them. Takes no memory.
+    // Whether the session is one of them. Takes no memory.
     pub fn has(&self, session: Id) -> bool
         ensures { result ≡ has_member session self.now }
     {
         has_in(&self.list, session)
     }
 
-    /// Whether there is one. Takes no memory.
+    // Whether there is one. Takes no memory.
     pub fn has_some(&self) -> bool
         ensures { result ≡ has_members self.now }
     {
         !self.list.is_empty()
     }
 
-    /// The session is the last in turn now: it stands just before the cursor. The only fault is `Memory`; nothing has changed then.
+    // The session is the last in turn now: it stands just before the cursor. The only fault is `Memory`; nothing has changed then.
     pub fn join(&mut self, session: Id) -> Result<(), RealmFault>
         ensures ok { OnOk result (self.new ≡ joined session self.old) }
         ensures err { OnErr result (self.new ≡ self.old) }
@@ -79,7 +90,7 @@ impl Callees {
         Ok(())
     }
 
-    /// The session is none of them any more. Takes no memory.
+    // The session is none of them any more. Takes no memory.
     pub fn leave(&mut self, session: Id)
         ensures { self.new ≡ others session self.old }
     {
@@ -87,7 +98,7 @@ impl Callees {
         keep_others(&mut self.list, session);
     }
 
-    /// The first in turn is the last now. Takes no memory.
+    // The first in turn is the last now. Takes no memory.
     pub fn turn(&mut self)
         ensures { self.new ≡ rotated self.old }
     {

@@ -1,7 +1,7 @@
 use Rattle.std.proofs.Common.{ℕ, ◌==◌, sym, ap, ◌∙◌}
 use Rattle.realm_sessions.specs.Members.{has_member}
 use Rattle.realm_registrations.proofs.Cursor.{seen_any}
-use Rattle.realm_registrations.proofs.callees.Callees.has.Goals as goal
+use Rattle.realm_registrations.proofs.turns.Turns.has.Goals as goal
 
 pub returns : goal.returns
 returns c = rw (← c.self.view_is)

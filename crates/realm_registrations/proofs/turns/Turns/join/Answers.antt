@@ -1,7 +1,7 @@
 use Rattle.std.proofs.Common.{◌+◌, ap, ◌∙◌}
 use Rattle.realm_registrations.specs.Callees.{seen}
 use Rattle.realm_registrations.proofs.Cursor.{seen_joined}
-use Rattle.realm_registrations.proofs.callees.Callees.join.Goals as goal
+use Rattle.realm_registrations.proofs.turns.Turns.join.Goals as goal
 
 pub returns-clause-ok : goal.returns-clause-ok
 returns-clause-ok c = rw (← c.self.view_is)

@@ -1,8 +1,5 @@
-use Rattle.std.proofs.Common.{◌≤◌, length, take, sym, ap, subst, ◌∙◌}
-use Rattle.realm_sessions.specs.Members.{others}
-use Rattle.realm_registrations.specs.Callees.{seen}
 use Rattle.realm_registrations.proofs.Cursor.{fewer_others, seen_left}
-use Rattle.realm_registrations.proofs.callees.Callees.leave.Goals as goal
+use Rattle.realm_registrations.proofs.turns.Turns.leave.Goals as goal
 
 pub invariant_of-self : goal.invariant_of-self
 invariant_of-self c =
