@@ -5,12 +5,10 @@ mod connected;
 mod fault;
 pub mod laws;
 mod links;
-mod members;
 mod session_index;
 mod sessions;
 
 pub use fault::RealmFault;
 pub use links::{Link, Session};
-pub use members::Members;
 pub use paxos_packets::Transport;
 pub use sessions::Sessions;
