@@ -1,5 +1,6 @@
 -- What a queue tells, and how queues stay those of their pairs.
-use Rattle.std.proofs.Common.{Bor, ◌≡◌, ◌⊎◌, inl, inr, ℕ, zero, suc, ◌+◌, ◌<◌, ◌≤◌, Bool, true, false, cond, not, ◌&&◌, ltb, List, [], ◌∷◌, ◌++◌, length, set, get_or, Option, Some, None, refl, sym, ap, subst, ◌∙◌, arith}
+use Rattle.std.proofs.Common.{Bor, ◌≡◌, ◌⊎◌, inl, inr, ℕ, zero, suc, ◌+◌, ◌<◌, ◌≤◌, Bool, true, false, cond, not, ◌&&◌, ltb, List, [], ◌∷◌}
+use Rattle.std.proofs.Common.{◌++◌, length, set, get_or, Option, Some, None, refl, sym, ap, subst, ◌∙◌, arith}
 use Rattle.std.specs.Prelude.{slice_get, is_some, IfSome}
 use Rattle.std.specs.Option.{option_copied}
 use Rattle.std.proofs.lemmas.Option.{slice_get_past}
@@ -53,7 +54,9 @@ module _ (members pair : ℕ) where
   places_more n [] p =
       let z : n ≡ n + 0 = omega arith in
       let e : ◌≡◌ {A = List ℕ} (n ∷ []) ((n + 0) ∷ []) = ap (λ (m : ℕ). m ∷ []) z in ap (λ xs. cond (is_between members pair p) xs []) e
-  places_more n (q ∷ ps) p = go (is_between members pair q) (places_more (suc n) ps p ∙ ap (λ (m : ℕ). places_from members pair (suc n) ps ++ cond (is_between members pair p) (m ∷ []) []) (let z : suc n + length ps ≡ n + suc (length ps) = omega arith in z))
+  places_more n (q ∷ ps) p = go (is_between members pair q) (places_more (suc n) ps p
+      ∙ ap (λ (m : ℕ). places_from members pair (suc n) ps ++ cond (is_between members pair p) (m ∷ []) [])
+      (let z : suc n + length ps ≡ n + suc (length ps) = omega arith in z))
     where
       go : (b : Bool) → places_from members pair (suc n) (ps ++ p ∷ []) ≡ places_from members pair (suc n) ps ++ cond (is_between members pair p) ((n + suc (length ps)) ∷ []) []
           → cond b (n ∷ places_from members pair (suc n) (ps ++ p ∷ [])) (places_from members pair (suc n) (ps ++ p ∷ []))
@@ -166,7 +169,9 @@ pub between_none : (members : ℕ) (p : Sent) → (is_member members p.sender &&
 between_none members p off pair = ap (λ b. b && (pair_of p == pair)) off
 
 pub between_other : (members pair : ℕ) (p : Sent) → (pair_of p ≡ pair → ⊥) → is_between members pair p ≡ false
-between_other members pair p ne = ap (λ b. (is_member members p.sender && is_member members p.addressee) && b) (ne_eqb (pair_of p) pair ne) ∙ off (is_member members p.sender && is_member members p.addressee)
+between_other members pair p ne =
+    ap (λ b. (is_member members p.sender && is_member members p.addressee) && b) (ne_eqb (pair_of p) pair ne)
+    ∙ off (is_member members p.sender && is_member members p.addressee)
   where
     off : (b : Bool) → (b && false) ≡ false
     off true = refl

@@ -12,8 +12,10 @@ returns-clause-ok c = λ sent place are.
     let pair = c.from.result * 8 + c.from-2.result in
     let is : pair_of c.args.packet ≡ c.from.result * 8 + c.from-2.result = omega (arith, c.from.ensures, c.from-2.ensures) in
     let within : c.from.result * 8 + c.from-2.result < 64 = search rules in
-    let old = subst (IsQueueOf c.args.members (c.from.result * 8 + c.from-2.result) sent) (sym c.index_mut.ensures.value) (are.each (c.from.result * 8 + c.from-2.result) c.index_mut.result.now within) in
+    let old = subst (IsQueueOf c.args.members (c.from.result * 8 + c.from-2.result) sent) (sym c.index_mut.ensures.value)
+    (are.each (c.from.result * 8 + c.from-2.result) c.index_mut.result.now within) in
     let pushed = c.in_ok-push.ensures.items ∙ ap (λ n. c.index_mut.result.now.places.items ++ n ∷ []) place in
     set_queue c.args.members sent (sent ++ c.args.packet ∷ []) c.args.queues.now.items (c.from.result * 8 + c.from-2.result) _ within are
     (λ other x ne. grown_other c.args.members other sent c.args.packet x (between_other c.args.members other c.args.packet (λ e. ne (sym e ∙ is))))
-    (grown_own c.args.members (c.from.result * 8 + c.from-2.result) sent c.args.packet c.index_mut.result.now (between_own c.args.members _ c.args.packet (sym c.if-not-are_members.ensures) is) old _ pushed refl)
+    (grown_own c.args.members (c.from.result * 8 + c.from-2.result) sent c.args.packet c.index_mut.result.now
+    (between_own c.args.members _ c.args.packet (sym c.if-not-are_members.ensures) is) old _ pushed refl)
