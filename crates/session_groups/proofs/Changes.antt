@@ -1,16 +1,15 @@
 -- A group that a call has changed, as the map's calls tell it.
-use Rattle.std.proofs.Common.{◌≡◌, ℕ, ◌+◌, Bool, true, false, cond, List, Option}
+use Rattle.std.proofs.Common.{◌≡◌, ℕ, ◌+◌, true, false, cond, List, Option}
 use Rattle.std.proofs.Common.{None, Some, Result, Ok, Err, OnOk, OnErr, nat_cmp, option_map}
 use Rattle.std.proofs.Common.{refl, sym, ap, ◌∙◌, subst}
 use Rattle.std.specs.BTreeMap.{is_at as is_key_at}
-use Rattle.std.specs.Map.{set_value}
 use Rattle.std.proofs.lemmas.Bool.{cond-true, cond-false, false≢true}
 use Rattle.wamp_ids.specs.Pattern.{PatternValue}
 use Rattle.wamp_patterns.specs.Table.{AreInOrder, same_pattern}
 use Rattle.keyed_lists.specs.Rows.{IsAbove, member_at, with_member, without}
 use Rattle.keyed_lists.specs.Finding.{AreRising}
 use Rattle.keyed_lists.proofs.Finding.{same_at}
-use Rattle.session_groups.specs.Groups.{after_left, alter_at, id_at, if_held, is_held, left_at, stays}
+use Rattle.session_groups.specs.Groups.{after_left, alter_at, id_at, is_held, left_at, stays}
 use Rattle.session_groups.proofs.Sets.{back_same}
 use Rattle.session_groups.proofs.Rows.{above_altered, above_without, at, goes_left, look_altered, look_left}
 use Rattle.session_groups.proofs.Rows.{none_altered, none_left, none_some, none_without, same_some, set_altered, stays_left}

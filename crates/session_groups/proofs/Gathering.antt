@@ -11,24 +11,23 @@ use Rattle.std.specs.List.{All, list_any}
 use Rattle.std.specs.List.Sorted.{IsStrictlySortedBy}
 use Rattle.std.specs.BTreeMap.{insert_entry}
 use Rattle.std.specs.Map.{keys_of, values_of}
-use Rattle.std.proofs.lemmas.Bool.{cond-true, cond-false, false≢true, eqb-true, eq-eqb}
+use Rattle.std.proofs.lemmas.Bool.{cond-true, cond-false, eqb-true}
 use Rattle.std.proofs.lemmas.List.Elements.{All-head, All-tail}
 use Rattle.std.proofs.lemmas.List.Kept.{IsStrictlySortedBy-filter}
 use Rattle.std.proofs.lemmas.Map.Entries.{lookup-filter-keys}
 use Rattle.wamp_ids.specs.Pattern.{PatternValue}
 use Rattle.wamp_patterns.specs.Matching.{matches}
 use Rattle.wamp_patterns.specs.Ranking.{matching}
-use Rattle.wamp_patterns.specs.Table.{same_pattern}
 use Rattle.wamp_patterns.proofs.Placing.{sorted_put}
-use Rattle.keyed_lists.specs.Rows.{has_place, member_at, members, members_at}
+use Rattle.keyed_lists.specs.Rows.{member_at, members}
 use Rattle.keyed_lists.specs.Finding.{AreRising}
 use Rattle.keyed_lists.proofs.Finding.{at_is, at_same, same_at}
 use Rattle.keyed_lists.proofs.Gathering.{same_rows}
-use Rattle.session_groups.specs.Groups.{AreKept, gathered, shown, with_found}
-use Rattle.session_groups.proofs.Rows.{all_stand, at, none_some, off_at, same_some, two_ways}
+use Rattle.session_groups.specs.Groups.{gathered, shown, with_found}
+use Rattle.session_groups.proofs.Rows.{all_stand, at, same_some, two_ways}
 use Rattle.session_groups.proofs.Sets.{none_rising}
 use Rattle.session_groups.proofs.Keeping.{Kept}
-use Rattle.session_groups.proofs.Standing.{Has, has_among, has_kept, has_kept_at, has_value, kept_has, value_has}
+use Rattle.session_groups.proofs.Standing.{has_among, has_kept, has_value, kept_has, value_has}
 use Rattle.session_groups.proofs.Serving.{of_table}
 
 module _ {G : Type 0} where

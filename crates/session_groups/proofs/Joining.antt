@@ -1,10 +1,10 @@
 -- Of each session it goes on being told in which groups it is.
 use Rattle.std.proofs.Common.{◌≡◌, ℕ, ◌==◌, Bool, true, false, not, ◌&&◌, ◌||◌, cond, List, [], ◌∷◌}
-use Rattle.std.proofs.Common.{◌++◌, suc, arith, lt-ltb, map, filter, length, Option, None, Some, nat_cmp, option_map, nat_lt}
+use Rattle.std.proofs.Common.{◌++◌, suc, arith, lt-ltb, map, filter, length, Option, None, Some, nat_cmp, option_map}
 use Rattle.std.proofs.Common.{refl, sym, ap, ◌∙◌, subst}
 use Rattle.std.specs.declared.cmp.Ordering.TheVariants.{Less}
 use Rattle.std.specs.Ordering.{is_eq}
-use Rattle.std.specs.List.{All, AllByRecursion, list_any}
+use Rattle.std.specs.List.{All, AllByRecursion}
 use Rattle.std.specs.List.Sorted.{IsStrictlySortedBy}
 use Rattle.std.specs.Map.{keys_of}
 use Rattle.std.proofs.lemmas.Bool.{cond-true, cond-false, cond_both, both_ways, false≢true, eqb-true, eq-eqb, false_from_ne_true}
@@ -12,12 +12,12 @@ use Rattle.std.proofs.lemmas.Map.Keys.{sorted_head, sorted_tail}
 use Rattle.realm_sessions.specs.Members.{has_member, has_members, joined, others}
 use Rattle.keyed_lists.specs.Rows.{IsAbove, member_at, members}
 use Rattle.keyed_lists.specs.Finding.{AreRising}
-use Rattle.keyed_lists.proofs.Finding.{at_is, at_same, same_at, rising_head, rising_tail}
+use Rattle.keyed_lists.proofs.Finding.{at_same, same_at, rising_tail}
 use Rattle.keyed_lists.proofs.Gathering.{same_rows}
 use Rattle.session_groups.specs.Groups.{after_left, alter_at, found_session, has_session, if_held, is_held, left_at}
 use Rattle.session_groups.specs.IdSets.{has_id_in, ids_of, is_id}
 use Rattle.session_groups.proofs.Rows.{all_stand, at, look_altered, look_left, look_pushed}
-use Rattle.session_groups.proofs.Rows.{none_above, none_behind, none_some, off_at, same_some, two_ways}
+use Rattle.session_groups.proofs.Rows.{none_above, none_behind, two_ways}
 
 -- ---- among the sessions of one group
 

@@ -1,20 +1,19 @@
 -- Groups go on being kept as one comes, changes or goes.
-use Rattle.std.proofs.Common.{◌≡◌, ℕ, ◌+◌, ◌==◌, ◌<◌, ◌≤◌, Bool, true, false, cond}
-use Rattle.std.proofs.Common.{List, [], ◌∷◌, ◌++◌, find, filter, Option, None, Some, nat_cmp, option_map}
+use Rattle.std.proofs.Common.{◌≡◌, ℕ, ◌+◌, ◌==◌, ◌<◌, Bool, true, false, cond}
+use Rattle.std.proofs.Common.{List, [], ◌∷◌, ◌++◌, find, Option, None, Some, nat_cmp, option_map}
 use Rattle.std.proofs.Common.{refl, sym, ap, ◌∙◌, subst, arith}
 use Rattle.std.specs.List.{All}
-use Rattle.std.specs.Map.{keys_of}
 use Rattle.std.specs.List.Sorted.{IsStrictlySortedBy}
-use Rattle.std.proofs.lemmas.Bool.{cond-true, cond-false, cond_both, both_ways, false≢true, eqb-true, eq-eqb}
+use Rattle.std.proofs.lemmas.Bool.{cond-true, cond_both, both_ways, false≢true, eqb-true, eq-eqb}
 use Rattle.std.proofs.lemmas.List.Elements.{All-map, All-weaker, All-push}
 use Rattle.wamp_ids.specs.Pattern.{PatternValue}
 use Rattle.wamp_patterns.specs.Table.{AreInOrder, same_pattern}
 use Rattle.keyed_lists.specs.Rows.{IsAbove, member_at, members}
 use Rattle.keyed_lists.specs.Finding.{AreRising, is_passing}
-use Rattle.keyed_lists.proofs.Finding.{at_is, at_same, same_at, find_none}
-use Rattle.session_groups.specs.Groups.{AreKept, after_left, alter_at, has_id, id_at, if_held, is_at, is_held, left_at}
+use Rattle.keyed_lists.proofs.Finding.{at_same, same_at, find_none}
+use Rattle.session_groups.specs.Groups.{AreKept, alter_at, has_id, id_at, is_at, is_held}
 use Rattle.session_groups.proofs.Rows.{Singles, all_stand, at, above_altered, find_single, keys_altered, look_altered}
-use Rattle.session_groups.proofs.Rows.{look_left, look_pushed, none_above, none_some, off_at, same_some, two_ways}
+use Rattle.session_groups.proofs.Rows.{look_pushed, none_above, none_some, same_some, two_ways}
 use Rattle.session_groups.proofs.Patterns.{same_itself, the_same, turned_round}
 
 passes : {G : Type 0} (test : G → Bool) (o : Option G) → is_passing test o ≡ true → (x : G) × (o ≡ Some x) × (test x ≡ true)

@@ -1,6 +1,6 @@
 -- A session leaves one group, or all of its groups.
-use Rattle.std.proofs.Common.{◌≡◌, ℕ, ◌==◌, Bool, true, false, ◌&&◌, ◌||◌, cond, List}
-use Rattle.std.proofs.Common.{[], ◌∷◌, Option, None, Some, nat_cmp, refl, sym, ap, ◌∙◌}
+use Rattle.std.proofs.Common.{◌≡◌, ℕ, Bool, true, false, ◌&&◌, ◌||◌, cond, List}
+use Rattle.std.proofs.Common.{[], ◌∷◌, Option, None, Some, refl, sym, ap, ◌∙◌}
 use Rattle.std.specs.List.{All, list_any}
 use Rattle.std.proofs.lemmas.Bool.{cond-true, cond-false}
 use Rattle.std.proofs.lemmas.List.Elements.{All-head, All-tail}
@@ -9,7 +9,7 @@ use Rattle.keyed_lists.specs.Finding.{AreRising}
 use Rattle.keyed_lists.proofs.Finding.{at_same, rising_tail}
 use Rattle.session_groups.specs.Groups.{change_first, departed, each, found_session, has_session}
 use Rattle.session_groups.specs.Groups.{if_held, is_held, left_at, put_first, row_if_held}
-use Rattle.session_groups.proofs.Rows.{Singles, at, none_behind, same_some}
+use Rattle.session_groups.proofs.Rows.{Singles, at, none_behind}
 
 module _ {G : Type 0} (sessions_of : G → List ℕ) (left : ℕ → G → G) (session : ℕ) where
   abbrev pub gone : G → Option G

@@ -1,17 +1,17 @@
 -- What is looked up in rows after one of them has changed, and what a walk over the groups then finds.
-use Rattle.std.proofs.Common.{◌≡◌, ℕ, ◌+◌, ◌==◌, ◌<◌, Bool, true, false, cond, List}
-use Rattle.std.proofs.Common.{[], ◌∷◌, ◌++◌, map, filter, find, Option, None, Some, nat_cmp, option_map}
-use Rattle.std.proofs.Common.{refl, sym, ap, ◌∙◌, subst, arith}
+use Rattle.std.proofs.Common.{◌≡◌, ℕ, ◌<◌, Bool, true, false, cond, List}
+use Rattle.std.proofs.Common.{[], ◌∷◌, ◌++◌, find, Option, None, Some, nat_cmp, option_map}
+use Rattle.std.proofs.Common.{refl, sym, ap, ◌∙◌, arith}
 use Rattle.std.specs.List.{All}
 use Rattle.std.specs.BTreeMap.{is_at as is_key_at}
-use Rattle.std.specs.Map.{keys_of, lookup, set_value, remove_entry}
+use Rattle.std.specs.Map.{keys_of}
 use Rattle.std.proofs.lemmas.Bool.{cond-true, cond-false, cond_both, both_ways, false_from_ne_true, false≢true}
 use Rattle.std.proofs.lemmas.List.Elements.{All-head, All-tail, All-nil, All-cons}
 use Rattle.keyed_lists.specs.Rows.{IsAbove, member_at, members, with_member, without}
 use Rattle.keyed_lists.specs.Finding.{AreRising}
 use Rattle.keyed_lists.proofs.Finding.{at_same, same_at, rising_head, rising_tail}
 use Rattle.keyed_lists.proofs.Members.{at_holds}
-use Rattle.session_groups.specs.Groups.{after_left, alter_at, change_first, each, if_held, is_held, left_at, put_first, row_if_held}
+use Rattle.session_groups.specs.Groups.{after_left, alter_at, change_first, is_held, left_at, put_first, row_if_held}
 
 abbrev pub at : ℕ → ℕ → Bool
 at q id = is_key_at (nat_cmp q) id

@@ -1,13 +1,11 @@
 -- Who serves among the groups is who serves among their patterns.
-use Rattle.std.proofs.Common.{◌≡◌, ℕ, Bool, true, false, not, List, filter, find}
-use Rattle.std.proofs.Common.{Option, None, Some, is_some, option_map, refl, sym, ap, ◌∙◌, subst}
+use Rattle.std.proofs.Common.{◌≡◌, ℕ, Bool, true, false, not, List}
+use Rattle.std.proofs.Common.{Option, None, Some, is_some, option_map, refl, sym, ap, ◌∙◌}
 use Rattle.std.specs.List.{list_any}
-use Rattle.std.specs.Map.{values_of}
-use Rattle.std.proofs.lemmas.Bool.{cond-true, false≢true, false_from_ne_true, both_ways}
+use Rattle.std.proofs.lemmas.Bool.{false≢true, false_from_ne_true, both_ways}
 use Rattle.wamp_ids.specs.Pattern.{PatternValue}
 use Rattle.wamp_patterns.specs.Matching.{matches}
 use Rattle.wamp_patterns.specs.Ranking.{better, is_unbeaten, matching, serves}
-use Rattle.wamp_patterns.specs.Table.{same_pattern}
 use Rattle.wamp_patterns.proofs.Serving.{one_unbeaten, some_serves}
 use Rattle.keyed_lists.specs.Rows.{member_at, members}
 use Rattle.keyed_lists.specs.Finding.{is_passing}

@@ -1,6 +1,6 @@
 -- Sets of ids: one that is written as it was, and two that have the same ids.
 use Rattle.std.proofs.Common.{◌≡◌, ℕ, nat_cmp, Bool, true, false, cond, List, [], ◌∷◌}
-use Rattle.std.proofs.Common.{Option, None, Some, Result, Ok, Err, OnErr, ap, sym, ◌∙◌}
+use Rattle.std.proofs.Common.{None, Some, Result, Ok, Err, OnErr, ap, sym, ◌∙◌}
 use Rattle.std.specs.List.Sorted.{IsStrictlySortedBy}
 use Rattle.std.specs.Map.{lookup, set_value}
 

@@ -1,11 +1,10 @@
 -- Who stands in a list.
 use Rattle.std.proofs.Common.{◌≡◌, ℕ, suc, Bool, true, false, cond, ◌||◌, List}
-use Rattle.std.proofs.Common.{[], ◌∷◌, map, filter, find, Option, None, Some, nat_cmp, nat_eq}
-use Rattle.std.proofs.Common.{refl, sym, ap, ◌∙◌, ◌⊎◌, inl, inr, ⊎_elim, subst}
+use Rattle.std.proofs.Common.{[], ◌∷◌, filter, find, Option, Some, nat_eq}
+use Rattle.std.proofs.Common.{refl, sym, ap, ◌∙◌, ◌⊎◌, inl, inr}
 use Rattle.std.specs.List.{list_any, slice_get}
 use Rattle.std.specs.Map.{keys_of, values_of}
-use Rattle.std.specs.List.Sorted.{IsStrictlySortedBy}
-use Rattle.std.proofs.lemmas.Bool.{cond-true, cond-false, cond_both, false≢true, eqb-true, eq-eqb}
+use Rattle.std.proofs.lemmas.Bool.{cond-true, cond-false, false≢true, eqb-true, eq-eqb}
 use Rattle.std.proofs.lemmas.Cmp.{eq_by_cmp_equiv}
 use Rattle.std.proofs.lemmas.Map.Entries.{lookup_from_place}
 use Rattle.std.proofs.lemmas.Map.Keys.{IsDistinct-from_sorted}
@@ -14,7 +13,7 @@ use Rattle.wamp_patterns.specs.Table.{AreInOrder, pattern_cmp, same_pattern}
 use Rattle.wamp_patterns.proofs.Order.{pattern_total}
 use Rattle.keyed_lists.specs.Rows.{member_at, members}
 use Rattle.keyed_lists.specs.Finding.{AreRising}
-use Rattle.keyed_lists.proofs.Finding.{at_same, same_at, rising_tail}
+use Rattle.keyed_lists.proofs.Finding.{same_at, rising_tail}
 use Rattle.session_groups.specs.Groups.{id_at}
 use Rattle.session_groups.proofs.Rows.{at, none_behind, none_some, off_at, same_some}
 use Rattle.session_groups.proofs.Patterns.{the_same}

@@ -1,6 +1,6 @@
 -- Groups of sessions by ascending id, each under a pattern. What a group is, is told by functions: its id, its pattern, its sessions.
 use Rattle.std.specs.Prelude.{◌≡◌, ℕ, ◌==◌, ◌+◌, ◌≤◌, Bool, false, true, List}
-use Rattle.std.specs.Prelude.{[], ◌∷◌, ◌++◌, map, filter, find, Option, None, Some, if◌then◌else◌}
+use Rattle.std.specs.Prelude.{[], ◌∷◌, ◌++◌, map, Option, None, Some, if◌then◌else◌}
 use denote.Ref.{Bor}
 use Rattle.std.specs.Ordering.{nat_cmp}
 use Rattle.std.specs.BTreeMap.{insert_entry, is_at as is_key_at}

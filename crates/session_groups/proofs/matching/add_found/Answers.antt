@@ -1,4 +1,4 @@
-use Rattle.std.proofs.Common.{sym, ap, ◌∙◌}
+use Rattle.std.proofs.Common.{ap, ◌∙◌}
 use Rattle.session_groups.specs.Groups.{shown, with_found}
 use Rattle.session_groups.proofs.Gathering.{put_shown}
 use Rattle.session_groups.proofs.matching.add_found.Goals as goal

@@ -1,4 +1,4 @@
-use Rattle.std.proofs.Common.{◌∙◌, arith}
+use Rattle.std.proofs.Common.{◌∙◌}
 use Rattle.session_groups.specs.Groups.{shown}
 use Rattle.session_groups.proofs.Gathering.{gathered_next}
 use Rattle.session_groups.proofs.matching.gathered.Goals as goal

@@ -1,4 +1,4 @@
-use Rattle.std.proofs.Common.{ℕ, nat_cmp, length, ap, subst, ◌∙◌}
+use Rattle.std.proofs.Common.{nat_cmp, length, ap, subst, ◌∙◌}
 use Rattle.std.specs.List.Sorted.{IsStrictlySortedBy}
 use Rattle.session_groups.specs.IdSets.{ids_of}
 use Rattle.session_groups.proofs.Joining.{count_is}

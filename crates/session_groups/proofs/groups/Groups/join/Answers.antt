@@ -1,5 +1,5 @@
-use Rattle.std.proofs.Common.{ℕ, List, Some, true, false, ap, sym, subst, ◌∙◌}
-use Rattle.keyed_lists.specs.Rows.{member_at, members}
+use Rattle.std.proofs.Common.{List, Some, true, false, ap, sym, subst, ◌∙◌}
+use Rattle.keyed_lists.specs.Rows.{members}
 use Rattle.session_groups.specs.Groups.{found_session, is_at}
 use Rattle.session_groups.proofs.Rows.{change_none, change_single}
 use Rattle.session_groups.proofs.Keeping.{found_pattern, kept_altered, no_pattern, single_pattern, stands}

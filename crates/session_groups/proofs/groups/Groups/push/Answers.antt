@@ -1,4 +1,4 @@
-use Rattle.std.proofs.Common.{ℕ, Some, ◌+◌, true, false, arith, ap, refl, sym, subst, ◌∙◌}
+use Rattle.std.proofs.Common.{◌+◌, true, false, arith, ap, refl, subst}
 use Rattle.session_groups.specs.Groups.{found_session}
 use Rattle.session_groups.proofs.Rows.{none_above}
 use Rattle.session_groups.proofs.Keeping.{unkept}

@@ -1,4 +1,4 @@
-use Rattle.std.proofs.Common.{sym, nat_cmp, ◌∙◌}
+use Rattle.std.proofs.Common.{sym, nat_cmp}
 use Rattle.std.specs.BTreeMap.{is_at}
 use Rattle.session_groups.proofs.Sets.{back_same}
 use Rattle.session_groups.proofs.id_sets.IdSets.add.Goals as goal
