@@ -55,6 +55,13 @@ impl<B: Body> NodeSeat<B> {
         self.events < MOST_EVENTS
     }
 
+    /// How many events its node's word has counted.
+    pub fn events(&self) -> u64
+        ensures { result ≡ self.now.part.events }
+    {
+        self.events
+    }
+
     // The number of its table in the office.
     pub(crate) fn table(&self) -> u64
         ensures { result ≡ self.now.table }
