@@ -1,0 +1,4 @@
+pub mod Parts
+pub mod Handing
+pub mod Fault
+pub mod Steps

@@ -1,0 +1,12 @@
+//! What an actor is made of, and what is done to each part: the node plans and adopts, its store commits, its packets wait, and the machine
+//! follows its log (docs/CONSENSUS.md, "A node with its store").
+#![tactic(auto)]
+
+mod fault;
+mod following;
+mod parts;
+mod storing;
+mod taking;
+
+pub use fault::ActorFault;
+pub use parts::Parts;

@@ -1,0 +1,284 @@
+//! The parts of an actor, and what is done to each.
+ghost use Rattle.std.specs.Prelude.{◌≡◌, ◌<◌, ◌++◌, [], length, nat_lt, true, false, Some, Ok, OnOk, OnErr, IfOk, IfErr, IfNone, IfSome, is_err};
+ghost use Rattle.std.specs.Prelude.{IsOkUnless, if◌then◌else◌};
+ghost use Rattle.paxos_packets.specs.declared.rows.Rows.{Rows};
+ghost use Rattle.paxos_acceptor.specs.Acceptor as accepting;
+ghost use Rattle.paxos_node.specs.declared.fault.NodeFault.TheVariants as node_fault;
+ghost use Rattle.paxos_node.specs.Adopting.{Planned, Fits};
+ghost use Rattle.paxos_node.specs.Events.{outcome_of, is_round_refused, is_full_refused};
+ghost use Rattle.paxos_node.specs.Held.{HasRoom};
+ghost use Rattle.paxos_node.specs.Plans.{plans, unchanged, Answers};
+ghost use Rattle.packet_outboxes.specs.Outboxes.{HasLimits, IsPeer, TakenFor, WaitsFirst, most_waiting, waiting};
+ghost use Rattle.replica_machine.specs.Log.{machine_from, Follows};
+ghost use Rattle.actor_parts.specs.Parts.{Parted, IsPrefixOf, first_parts};
+ghost use Rattle.actor_parts.specs.Steps.{IsAtEnd, Applied, Falls, OnlyNode, OnlyKeeper, OnlyLog, OnlyWaiting, Adopts};
+
+use crate::following::apply_all;
+use crate::storing::commit;
+use acceptor_keeper::{Keeper, KeeperFault};
+use packet_outboxes::Outboxes;
+use paxos_node::{Event, Node, NodeFault, Outcome};
+use paxos_packets::{Entries, Entry, Members, Packet, Rows};
+use replica_machine::{AppliedLog, Failed, Machine};
+use std::alloc::Global;
+use std::marker::Model;
+
+/// What an actor is made of: a node, its store, the packets that wait to go out, the machine behind its log. What holds of an actor need not
+/// hold between the steps of an event, so it is asked for by the calls.
+#[derive(Drop)]
+pub struct Parts<M: Machine, K> {
+    alloc: Global,
+    node: Node<M::Body>,
+    keeper: K,
+    outboxes: Outboxes<M::Body>,
+    log: AppliedLog<M>,
+    // The outcome whose commit failed.
+    failed: Option<Outcome<M::Body>>,
+    spoiled: bool,
+}
+
+impl<M: Machine, K> Model for Parts<M, K> {
+    ghost use Rattle.actor_parts.specs.Parts.{Parted};
+
+    ghost Value = { Parted M.Body M K };
+
+    ghost view = { λ p.
+        record { node = p.node; keeper = p.keeper; waiting = p.outboxes; log = p.log; failed = p.failed; spoiled = p.spoiled } };
+}
+
+impl<M: Machine, K: Keeper<M::Body>> Parts<M, K> {
+    /// The parts of an actor that has just begun.
+    pub fn of(
+        alloc: Global,
+        node: Node<M::Body>,
+        outboxes: Outboxes<M::Body>,
+        keeper: K,
+        machine: M,
+    ) -> Parts<M, K>
+        ensures is { result ≡ first_parts node keeper outboxes machine }
+        ensures follows { Follows (machine_from M.next M.says M.to) M.content (M.content machine) result.log }
+    {
+        Parts {
+            alloc,
+            node,
+            keeper,
+            outboxes,
+            log: AppliedLog::new(alloc, machine),
+            failed: None,
+            spoiled: false,
+        }
+    }
+
+    /// Whether a fault has ended the actor.
+    pub fn is_spoiled(&self) -> bool
+        ensures { result ≡ self.now.spoiled }
+    {
+        self.spoiled
+    }
+
+    /// Its node's number.
+    pub fn me(&self) -> u8
+        ensures { result ≡ self.now.waiting.me }
+    {
+        self.outboxes.me()
+    }
+
+    /// The members.
+    pub fn members(&self) -> Members
+        ensures { result ≡ self.now.waiting.members }
+    {
+        self.outboxes.members()
+    }
+
+    /// The present boot of its node.
+    pub fn boot(&self) -> u64
+        ensures { result ≡ self.now.node.state.rows.boot }
+    {
+        self.node.boot()
+    }
+
+    /// Whether its node is up.
+    pub fn is_up(&self) -> bool
+        ensures { result ≡ self.now.node.state.up }
+    {
+        self.node.is_up()
+    }
+
+    /// How many entries its node has applied.
+    pub fn applied(&self) -> u64
+        ensures { result ≡ length self.now.node.state.applied }
+    {
+        self.node.applied()
+    }
+
+    /// Whether entries of its node wait for a slot.
+    pub fn has_pending(&self) -> bool
+        ensures { result ≡ nat_lt 0 (length self.now.node.state.pending) }
+    {
+        self.node.has_pending()
+    }
+
+    /// No more packets wait for a member than may.
+    pub fn limits(&self)
+        ensures { HasLimits self.now.waiting }
+    {
+        self.outboxes.limits();
+    }
+
+    /// No sayings.
+    pub fn silence(&self) -> Vec<M::Say>
+        ensures { result.items ≡ [] }
+    {
+        Vec::new(self.alloc)
+    }
+
+    /// It answers nothing else any more.
+    pub fn spoil(&mut self)
+        ensures { self.new ≡ record self.old { spoiled = true } }
+    {
+        self.spoiled = true;
+    }
+
+    /// It answers nothing else any more, since the commit of this outcome failed.
+    pub fn spoil_at(&mut self, outcome: Outcome<M::Body>)
+        ensures { self.new ≡ record self.old { failed = Some outcome; spoiled = true } }
+    {
+        self.failed = Some(outcome);
+        self.spoiled = true;
+    }
+
+    /// What the event makes of the node.
+    pub fn plan(&self, event: &Event<M::Body>) -> Result<Outcome<M::Body>, NodeFault>
+        requires { plans self.now.node.me event.now self.now.node.state ≡ true }
+        ensures planned { Answers (is_round_refused event.now self.now.node.state) (is_full_refused M.Body.same event.now self.now.node.state)
+            (outcome_of M.Body.same self.now.node.members event.now self.now.node.state).disagrees
+            (λ outcome. Planned M.Body.same self.now.node.members event.now self.now.node.state outcome) result }
+        ensures fits { IfOk result (λ outcome. Fits self.now.node.me self.now.node.members outcome self.now.node.state) }
+    {
+        self.node.plan(event)
+    }
+
+    /// Takes all memory that adopting the outcome needs.
+    pub fn make_room(&mut self, outcome: &Outcome<M::Body>) -> Result<(), NodeFault>
+        ensures ok { OnOk result (HasRoom outcome.now self.new.node) }
+        ensures state { self.new.node.state ≡ self.old.node.state }
+        ensures me { self.new.node.me ≡ self.old.node.me }
+        ensures members { self.new.node.members ≡ self.old.node.members }
+        ensures rest { OnlyNode self.old self.new }
+    {
+        self.node.make_room(outcome)
+    }
+
+    /// Commits what the outcome changes.
+    pub fn commit(&mut self, outcome: &Outcome<M::Body>) -> Result<(), KeeperFault>
+        ensures ok { OnOk result ((r : Rows M.Body) → K.holds self.old.keeper r
+            → K.holds self.new.keeper (accepting.adopted r outcome.now.change)) }
+        ensures falls { (r : Rows M.Body) → K.holds self.old.keeper r →
+            IfErr result (λ fault. Falls K.finds K.failures outcome.now.change r self.old.keeper self.new.keeper fault) }
+        ensures whole { K.is_failed self.old.keeper ≡ false → K.is_failed self.new.keeper ≡ is_err result }
+        ensures rest { OnlyKeeper self.old self.new }
+    {
+        commit(&mut self.keeper, &outcome.change)
+    }
+
+    // The node adopts the outcome, whose packets wait then; answers the entries that it applied.
+    pub(crate) fn adopt(&mut self, outcome: Outcome<M::Body>) -> Entries<M::Body>
+        requires room { HasRoom outcome self.old.node }
+        requires fits { Fits self.old.node.me self.old.node.members outcome self.old.node.state }
+        ensures adopts { Adopts outcome self.old self.new }
+        ensures applied { result ≡ outcome.applied }
+    {
+        let (packets, applied) = self.node.adopt_in_room(outcome);
+        self.outboxes.put_all(packets.into_vec());
+        applied
+    }
+
+    // The machine follows these entries; what it says at them to the node's transports of this boot.
+    pub(crate) fn apply(
+        &mut self,
+        boot: u64,
+        entries: Entries<M::Body>,
+    ) -> Result<Vec<M::Say>, Failed>
+        requires alive { self.old.log.failed ≡ false }
+        requires end { IsAtEnd self.old.log }
+        ensures ok { IfOk result (λ says. Applied (machine_from M.next M.says M.to) M.content self.old.waiting.me boot entries
+            self.old.log self.new.log says.items) }
+        ensures end { OnOk result (IsAtEnd self.new.log) }
+        ensures err { OnErr result (IsPrefixOf self.new.log.applied (self.old.log.applied ++ entries)) }
+        ensures rest { OnlyLog self.old self.new }
+    {
+        apply_all(
+            self.alloc,
+            &mut self.log,
+            self.outboxes.me(),
+            boot,
+            entries.into_vec(),
+        )
+    }
+
+    /// Takes the oldest packet that waits for this node, if any does.
+    pub fn take_for(&mut self, peer: u8) -> Option<Packet<M::Body>>
+        ensures none { IfNone result ((self.new ≡ self.old) × (waiting peer self.old.waiting ≡ [])) }
+        ensures some { IfSome result (λ p. TakenFor peer p self.old.waiting self.new.waiting) }
+        ensures rest { OnlyWaiting self.old self.new }
+    {
+        self.outboxes.take_for(peer)
+    }
+
+    /// Puts a packet before those that wait for its addressee.
+    pub fn put_back(&mut self, packet: Packet<M::Body>)
+        requires peer { IsPeer self.old.waiting.me self.old.waiting.members packet.addressee }
+        requires room { length (waiting packet.addressee self.old.waiting) < most_waiting }
+        ensures first { WaitsFirst packet self.old.waiting self.new.waiting }
+        ensures rest { OnlyWaiting self.old self.new }
+    {
+        self.outboxes.put_back(packet);
+    }
+
+    /// The log; none of it once the node is down.
+    pub fn log(&self) -> &[Entry<M::Body>]
+        ensures { result.now ≡ (if self.now.node.state.up then self.now.log.applied else []) }
+    {
+        if self.node.is_up() {
+            self.log.applied()
+        } else {
+            &self.log.applied()[..0]
+        }
+    }
+
+    /// What is left of the node: its rows, the outcome whose commit failed, and the store.
+    pub fn leave_rows(self) -> (Rows<M::Body>, Option<Outcome<M::Body>>, K)
+        ensures rows { result.0 ≡ self.node.state.rows }
+        ensures failed { result.1 ≡ self.failed }
+        ensures keeper { result.2 ≡ self.keeper }
+    {
+        let Parts {
+            node,
+            keeper,
+            failed,
+            ..
+        } = self;
+        (node.into_rows(), failed, keeper)
+    }
+}
+
+impl<M: Machine, K: Keeper<M::Body> + Drop> Parts<M, K> {
+    /// The log, and the machine that has followed it.
+    pub fn leave(self) -> AppliedLog<M>
+        ensures { result ≡ self.log }
+    {
+        let Parts {
+            node,
+            keeper,
+            outboxes,
+            log,
+            failed,
+            ..
+        } = self;
+        drop(node);
+        drop(keeper);
+        drop(outboxes);
+        drop(failed);
+        log
+    }
+}

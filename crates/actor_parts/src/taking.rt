@@ -1,0 +1,43 @@
+// What becomes of an outcome that is committed.
+ghost use Rattle.std.specs.Prelude.{◌≡◌, false};
+ghost use Rattle.paxos_node.specs.Adopting.{Fits};
+ghost use Rattle.paxos_node.specs.Held.{HasRoom};
+ghost use Rattle.replica_machine.specs.Log.{machine_from};
+ghost use Rattle.actor_parts.specs.Steps.{StaysWho, IsAtEnd, AnswersUp, TakesIn};
+
+use crate::fault::ActorFault;
+use crate::parts::Parts;
+use acceptor_keeper::Keeper;
+use paxos_node::Outcome;
+use replica_machine::Machine;
+
+impl<M: Machine, K: Keeper<M::Body>> Parts<M, K> {
+    /// The outcome, which is committed, is adopted, its packets wait, and the machine follows what it applied.
+    pub fn take_over(&mut self, outcome: Outcome<M::Body>) -> Result<Vec<M::Say>, ActorFault<M::Say>>
+        requires room { HasRoom outcome self.old.node }
+        requires fits { Fits self.old.node.me self.old.node.members outcome self.old.node.state }
+        requires alive { self.old.log.failed ≡ false }
+        requires end { IsAtEnd self.old.log }
+        ensures who { StaysWho self.old self.new }
+        ensures follows { TakesIn (machine_from M.next M.says M.to) M.content outcome self.old self.new result }
+    {
+        let boot = self.boot();
+        let applied = self.adopt(outcome);
+        let Ok(says) = self.apply(boot, applied) else {
+            self.spoil();
+            return Err(ActorFault::Memory);
+        };
+        self.answer(says)
+    }
+
+    // What is said, or that the node is lost.
+    fn answer(&mut self, says: Vec<M::Say>) -> Result<Vec<M::Say>, ActorFault<M::Say>>
+        ensures { AnswersUp says.items self.old self.new result }
+    {
+        if self.is_up() {
+            return Ok(says);
+        }
+        self.spoil();
+        Err(ActorFault::LostHere(says))
+    }
+}
