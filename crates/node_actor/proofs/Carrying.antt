@@ -1,11 +1,8 @@
--- What is made of a planned outcome, step after step.
-use Rattle.std.proofs.Common.{◌≡◌, inl, inr, ℕ, ◌<◌, Bool, not, true, false, cond, Option, Some, None, Result, Ok, Err, List, [], ◌++◌, sym, ap, subst, ◌∙◌, refl}
-use Rattle.std.specs.Prelude.{OnErr}
+-- What is made of a planned outcome, step after step, with the step at the table.
+use Rattle.std.proofs.Common.{◌≡◌, inl, inr, ℕ, ◌<◌, Bool, true, false, Some, Result, Ok, Err, List, ◌++◌, sym, ap, subst, ◌∙◌, refl}
 use Rattle.std.proofs.lemmas.Bool.{false≢true}
-use Rattle.std.proofs.lemmas.List.{append_assoc, append-nil}
 use Rattle.std.specs.declared.vec.Vec.{Vec}
 use Rattle.std.specs.declared.alloc.Global.{Global}
-use Rattle.paxos_packets.specs.declared.entry.Entry.{Entry}
 use Rattle.paxos_packets.specs.declared.rows.Rows.{Rows}
 use Rattle.paxos_packets.specs.Members.{IsMember}
 use Rattle.paxos_acceptor.specs.Acceptor as accepting
@@ -14,252 +11,66 @@ use Rattle.replica_machine.specs.Log.{LogState}
 use Rattle.replica_machine.specs.Replay.{Machine}
 use Rattle.packet_outboxes.specs.Outboxes.{Waiting, WaitBehind}
 use Rattle.paxos_node.specs.declared.outcome.Outcome.{Outcome}
-use Rattle.paxos_turn.specs.Node.{NodeState}
-use Rattle.paxos_node.specs.Adopting.{adopted, stays_up}
-use Rattle.paxos_node.specs.Applying.{down}
-use Rattle.node_actor.specs.declared.fault.ActorFault.{ActorFault}
-use Rattle.node_actor.specs.declared.fault.ActorFault.TheVariants.{Failed, Rounds, Full, Keeper, Disagree, LostHere, Memory}
-use Rattle.node_actor.specs.Actor.{Acting, IsPrefixOf, IsPlan, IsServing, IsSound}
-use Rattle.node_actor.specs.Handing.{handed_out}
-use Rattle.node_actor.specs.Steps.{Falls, IsAtEnd, Applied, OnlyNode, OnlyKeeper, OnlyLog, next_node, Adopts, StaysWho, AnswersUp, Takes, TakesNot, TakesIn}
-use Rattle.node_actor.specs.Steps.{TakesOver, CarriesOut}
-
--- a node that adopts an outcome has the rows with its change, is up unless the outcome says otherwise, and has applied its entries
-
-pub next_rows : {B : Type 0} (me members : ℕ) (o : Outcome B) (x : NodeState B) → (adopted me members o x).rows ≡ accepting.adopted x.rows o.change
-next_rows {B} me members o x = by_down o.is_down
-  where
-    by_down : (b : Bool) → (cond {A = NodeState B} b (down (accepting.adopted x.rows o.change)) (stays_up me members o x)).rows ≡ accepting.adopted x.rows o.change
-    by_down true = refl
-    by_down false = refl
-
-pub up_is : {B : Type 0} (me members : ℕ) (o : Outcome B) (x : NodeState B) → x.up ≡ true → (b : Bool) → o.is_down ≡ b
-    → (adopted me members o x).up ≡ not b
-up_is me members o x up true e = rw e refl
-up_is me members o x up false e = rw e up
-
-pub not_down : {B : Type 0} (me members : ℕ) (o : Outcome B) (x : NodeState B) → x.up ≡ true → (adopted me members o x).up ≡ true → o.is_down ≡ false
-not_down me members o x up h = by_down o.is_down refl
-  where
-    by_down : (b : Bool) → o.is_down ≡ b → b ≡ false
-    by_down false e = refl
-    by_down true e = absurd (false≢true (sym (up_is me members o x up true e) ∙ h))
-
-pub is_down : {B : Type 0} (me members : ℕ) (o : Outcome B) (x : NodeState B) → x.up ≡ true → (adopted me members o x).up ≡ false → o.is_down ≡ true
-is_down me members o x up h = by_down o.is_down refl
-  where
-    by_down : (b : Bool) → o.is_down ≡ b → b ≡ true
-    by_down true e = refl
-    by_down false e = absurd (false≢true (sym h ∙ up_is me members o x up false e))
-
-pub next_applied : {B : Type 0} (me members : ℕ) (o : Outcome B) (x : NodeState B) → o.is_down ≡ false
-    → (adopted me members o x).applied ≡ x.applied ++ o.applied
-next_applied me members o x e = rw e refl
-
--- beginnings of a log
-
-pub prefix_whole : {A : Type 0} (xs ys : List A) → xs ≡ ys → IsPrefixOf xs ys
-prefix_whole xs ys e = ([], append-nil xs ∙ e)
-
-pub prefix_to : {A : Type 0} (xs ys zs : List A) → IsPrefixOf xs ys → ys ≡ zs → IsPrefixOf xs zs
-prefix_to xs ys zs p e = (p.0, p.1 ∙ e)
-
-pub prefix_behind : {A : Type 0} (log xs ys rest all : List A) → log ≡ xs ++ ys → ys ++ rest ≡ all → IsPrefixOf log (xs ++ all)
-prefix_behind log xs ys rest all e f = (rest, ap (λ l. l ++ rest) e ∙ append_assoc xs ys rest ∙ ap (λ l. xs ++ l) f)
-
-pub on_err_still : {A E : Type 0} (r : Result A E) (P : Type 0) → P → OnErr r P
-on_err_still (Ok x) P h = tt
-on_err_still (Err e) P h = h
-
-pub some_same : {A : Type 0} (x y : A) → ◌≡◌ {A = Option A} (Some x) (Some y) → x ≡ y
-some_same x y e = cc
-
-module _ {B M K : Type 0} where
-  pub next_same : (o : Outcome B) (old new : Acting B M K) → new.node.me ≡ old.node.me → new.node.members ≡ old.node.members
-      → new.node.state ≡ old.node.state → next_node o new ≡ next_node o old
-  next_same o old new me members state = λ i. adopted (me i) (members i) o (state i)
-
-  pub sound_spoiled : (same : B → B → Bool) (holds : K → Rows B → Type 0) (is_failed : K → Bool) (old new : Acting B M K)
-      → IsSound same holds is_failed old → StaysWho old new → new.spoiled ≡ true
-      → ((o : Outcome B) → new.failed ≡ Some o → IsPlan same new.node.me new.node.members new.node.state o)
-      → (new.node.state.up ≡ true → IsPrefixOf new.log.applied new.node.state.applied) → IsSound same holds is_failed new
-  sound_spoiled same holds is_failed old new sound who spoiled failed front =
-      record {
-        me = who.waits_me ∙ sound.me ∙ sym who.me;
-        members = who.waits_members ∙ sound.members ∙ sym who.members;
-        member = subst (λ n. IsMember n new.node.me) (sym who.members) (subst (IsMember old.node.members) (sym who.me) sound.member);
-        serves = λ e. absurd (false≢true (sym e ∙ spoiled));
-        failed = failed;
-        front = front;
-      }
-
-  pub none_failed : (same : B → B → Bool) (a : Acting B M K) → a.failed ≡ None → (o : Outcome B) → a.failed ≡ Some o
-      → IsPlan same a.node.me a.node.members a.node.state o
-  none_failed same a none o some = absurd (let off : ◌≡◌ {A = Option (Outcome B)} None (Some o) = sym none ∙ some in cc)
-
-  -- the actor is ready to adopt an outcome: there is room for it, and it is committed
-  pub record Ready (holds : K → Rows B → Type 0) (is_failed : K → Bool) (o : Outcome B) (old new : Acting B M K) : Type 0 where
-    pub state : new.node.state ≡ old.node.state
-    pub who : StaysWho old new
-    pub waiting : new.waiting ≡ old.waiting
-    pub log : new.log ≡ old.log
-    pub failed : new.failed ≡ old.failed
-    pub spoiled : new.spoiled ≡ old.spoiled
-    pub held : holds new.keeper (accepting.adopted old.node.state.rows o.change)
-    pub whole : is_failed new.keeper ≡ false
-
-  -- room was made
-  pub record Roomed (old new : Acting B M K) : Type 0 where
-    pub state : new.node.state ≡ old.node.state
-    pub me : new.node.me ≡ old.node.me
-    pub members : new.node.members ≡ old.node.members
-    pub rest : OnlyNode old new
-
-  pub roomed_who : (old new : Acting B M K) → Roomed old new → StaysWho old new
-  roomed_who old new r =
-      record { me = r.me; members = r.members; waits_me = ap (λ w. w.me) r.rest.waiting; waits_members = ap (λ w. w.members) r.rest.waiting }
-
-  pub kept_who : (old mid new : Acting B M K) → Roomed old mid → OnlyKeeper mid new → StaysWho old new
-  kept_who old mid new r k =
-      record {
-        me = ap (λ n. n.me) k.node ∙ r.me;
-        members = ap (λ n. n.members) k.node ∙ r.members;
-        waits_me = ap (λ w. w.me) k.waiting ∙ ap (λ w. w.me) r.rest.waiting;
-        waits_members = ap (λ w. w.members) k.waiting ∙ ap (λ w. w.members) r.rest.waiting;
-      }
-
-  pub who_on : (old mid new : Acting B M K) → StaysWho old mid → StaysWho mid new → StaysWho old new
-  who_on old mid new a b =
-      record { me = b.me ∙ a.me; members = b.members ∙ a.members; waits_me = b.waits_me ∙ a.waits_me; waits_members = b.waits_members ∙ a.waits_members }
-
-  pub ready : (holds : K → Rows B → Type 0) (is_failed : K → Bool) (o : Outcome B) (old mid new : Acting B M K) → Roomed old mid → OnlyKeeper mid new
-      → holds old.keeper old.node.state.rows → is_failed old.keeper ≡ false
-      → ((r : Rows B) → holds mid.keeper r → holds new.keeper (accepting.adopted r o.change)) → (is_failed mid.keeper ≡ false → is_failed new.keeper ≡ false)
-      → Ready holds is_failed o old new
-  ready holds is_failed o old mid new r k held whole ok stays =
-      record {
-        state = ap (λ n. n.state) k.node ∙ r.state;
-        who = kept_who old mid new r k;
-        waiting = k.waiting ∙ r.rest.waiting;
-        log = k.log ∙ r.rest.log;
-        failed = k.failed ∙ r.rest.failed;
-        spoiled = k.spoiled ∙ r.rest.spoiled;
-        held = ok old.node.state.rows (subst (λ s. holds s old.node.state.rows) (sym r.rest.keeper) held);
-        whole = stays (ap is_failed r.rest.keeper ∙ whole);
-      }
-
-module _ {B S Y M K : Type 0} (from : S → Machine B S Y) (content : M → S) where
-  takes_of : (o : Outcome B) (old mid new : Acting B M K) (boot : ℕ) (entries : List (Entry B)) (says : List Y) → Adopts o old mid
-      → Applied from content mid.waiting.me boot entries mid.log new.log says → entries ≡ o.applied → boot ≡ old.node.state.rows.boot
-      → OnlyLog mid new → IsAtEnd new.log → Takes from content o old new says
-  takes_of o old mid new boot entries says a p entries_are boot_is l at_end =
-      record {
-        node = ap (λ n. n.state) l.node ∙ a.node;
-        waits = subst (WaitBehind o.packets old.waiting) (sym l.waiting) a.waits;
-        keeper = l.keeper ∙ a.keeper;
-        failed = l.failed ∙ a.failed;
-        applied = subst (λ b. Applied from content old.waiting.me b o.applied old.log new.log says) boot_is
-            (subst (λ es. Applied from content old.waiting.me boot es old.log new.log says) entries_are
-            (subst (λ n. Applied from content n boot entries old.log new.log says) a.waits_me
-            (subst (λ (log : LogState B M). Applied from content mid.waiting.me boot entries log new.log says) a.log p)));
-        end = at_end;
-      }
-
-  pub taken : (o : Outcome B) (old mid new last : Acting B M K) (boot : ℕ) (entries : List (Entry B)) (says : List Y) → Adopts o old mid
-      → Applied from content mid.waiting.me boot entries mid.log new.log says → entries ≡ o.applied → boot ≡ old.node.state.rows.boot
-      → OnlyLog mid new → IsAtEnd new.log → (result : Result (Vec Y Global) (ActorFault Y)) → AnswersUp says new last result
-      → TakesIn from content o old last result
-  taken o old mid new last boot entries says a p entries_are boot_is l at_end (Ok found) h =
-      let t : Takes from content o old new says = takes_of o old mid new boot entries says a p entries_are boot_is l at_end in (
-        ap (λ (x : Acting B M K). x.node.state.up) h.1 ∙ h.0,
-        ap (λ (x : Acting B M K). x.spoiled) h.1 ∙ l.spoiled ∙ a.spoiled,
-        subst (Takes from content o old last) (sym h.2) (subst (λ (x : Acting B M K). Takes from content o old x says) (sym h.1) t),
-      )
-  taken o old mid new last boot entries says a p entries_are boot_is l at_end (Err (LostHere found)) h =
-      let t : Takes from content o old new says = takes_of o old mid new boot entries says a p entries_are boot_is l at_end in
-      let u : Takes from content o old (record new { spoiled = true }) says =
-      record { node = t.node; waits = t.waits; keeper = t.keeper; failed = t.failed; applied = t.applied; end = t.end } in (
-        ap (λ (x : Acting B M K). x.node.state.up) h.1 ∙ h.0,
-        ap (λ (x : Acting B M K). x.spoiled) h.1,
-        subst (Takes from content o old last) (sym h.2) (subst (λ (x : Acting B M K). Takes from content o old x says) (sym h.1) u),
-      )
-  taken o old mid new last boot entries says a p entries_are boot_is l at_end (Err (Keeper fault)) h = h
-  taken o old mid new last boot entries says a p entries_are boot_is l at_end (Err Memory) h = absurd h
-  taken o old mid new last boot entries says a p entries_are boot_is l at_end (Err Failed) h = h
-  taken o old mid new last boot entries says a p entries_are boot_is l at_end (Err Rounds) h = h
-  taken o old mid new last boot entries says a p entries_are boot_is l at_end (Err Full) h = h
-  taken o old mid new last boot entries says a p entries_are boot_is l at_end (Err Disagree) h = h
-
-  pub not_followed : (o : Outcome B) (old mid new : Acting B M K) (entries : List (Entry B)) → Adopts o old mid → OnlyLog mid new → entries ≡ o.applied
-      → IsPrefixOf new.log.applied (mid.log.applied ++ entries) → TakesNot from content o old (record new { spoiled = true })
-  not_followed o old mid new entries a l entries_are front =
-      record {
-        node = ap (λ n. n.state) l.node ∙ a.node;
-        front = prefix_to new.log.applied (mid.log.applied ++ entries) (old.log.applied ++ o.applied) front
-            (λ i. (a.log i).applied ++ entries_are i);
-        waits = subst (WaitBehind o.packets old.waiting) (sym l.waiting) a.waits;
-        keeper = l.keeper ∙ a.keeper;
-        failed = l.failed ∙ a.failed;
-      }
-
-module _ {B Y M K : Type 0} where
-  pub taken_who : (o : Outcome B) (old mid new last : Acting B M K) (says : List Y) → Adopts o old mid → OnlyLog mid new
-      → (result : Result (Vec Y Global) (ActorFault Y)) → AnswersUp says new last result → StaysWho old last
-  taken_who o old mid new last says a l result h = who_of (last_is result h)
-    where
-      last_is : (result : Result (Vec Y Global) (ActorFault Y)) → AnswersUp says new last result
-          → (last.node ≡ new.node) × (last.waiting ≡ new.waiting)
-      last_is (Ok found) h = (ap (λ (x : Acting B M K). x.node) h.1, ap (λ (x : Acting B M K). x.waiting) h.1)
-      last_is (Err (LostHere found)) h = (ap (λ (x : Acting B M K). x.node) h.1, ap (λ (x : Acting B M K). x.waiting) h.1)
-      last_is (Err (Keeper fault)) h = absurd h
-      last_is (Err Memory) h = absurd h
-      last_is (Err Failed) h = absurd h
-      last_is (Err Rounds) h = absurd h
-      last_is (Err Full) h = absurd h
-      last_is (Err Disagree) h = absurd h
-
-      who_of : (last.node ≡ new.node) × (last.waiting ≡ new.waiting) → StaysWho old last
-      who_of e =
-          record {
-            me = ap (λ n. n.me) e.0 ∙ ap (λ n. n.me) l.node ∙ a.me;
-            members = ap (λ n. n.members) e.0 ∙ ap (λ n. n.members) l.node ∙ a.members;
-            waits_me = ap (λ w. w.me) e.1 ∙ ap (λ w. w.me) l.waiting ∙ a.waits_me;
-            waits_members = ap (λ w. w.members) e.1 ∙ ap (λ w. w.members) l.waiting ∙ a.waits_members;
-          }
+use Rattle.mail_table.specs.Seats.{Seated}
+use Rattle.actor_parts.specs.declared.fault.ActorFault.{ActorFault}
+use Rattle.actor_parts.specs.declared.fault.ActorFault.TheVariants.{Failed, Rounds, Full, Keeper, Disagree, LostHere, Worn, Memory}
+use Rattle.actor_parts.specs.Parts.{Parted, IsServing, IsSound}
+use Rattle.actor_parts.specs.Handing.{handed_out}
+use Rattle.actor_parts.specs.Steps.{Falls, Applied, OnlyKeeper, next_node, StaysWho, Takes, TakesIn}
+use Rattle.actor_parts.proofs.Carrying.{next_rows, not_down, is_down, next_applied, prefix_whole}
+use Rattle.actor_parts.proofs.Carrying.{prefix_to, next_same, sound_spoiled, none_failed, Ready}
+use Rattle.actor_parts.proofs.Carrying.{Roomed, who_on}
+use Rattle.node_actor.specs.Actor.{acting}
+use Rattle.actor_posts.specs.Posts.{advanced}
+use Rattle.node_actor.specs.Steps.{may_advance, TakesOver, CarriesOut}
 
 module _ {B S Y M K : Type 0} (from : S → Machine B S Y) (content : M → S) (holds : K → Rows B → Type 0) (finds : K → Rows B → Type 0)
     (failures : K → ℕ) (is_failed : K → Bool) (same : B → B → Bool) where
-  over_of : (o : Outcome B) (old mid new : Acting B M K) (says : List Y) → IsSound same holds is_failed old → IsServing holds is_failed old
-      → Ready holds is_failed o old mid → Takes from content o mid new says → TakesOver from content holds finds failures o old new says
-  over_of o old mid new says sound serving r t =
+  over_of : (o : Outcome B) (old mid new : Parted B M K) (s t : Seated B) (says : List Y) → t ≡ advanced o s
+      → IsSound same holds is_failed old → IsServing holds is_failed old
+      → Ready holds is_failed o old mid → Takes from content o mid new says
+      → TakesOver from content holds finds failures o (acting old s) (acting new t) says
+  over_of o old mid new s t says is sound serving r takes =
       let same_node : next_node o mid ≡ next_node o old = next_same o old mid r.who.me r.who.members r.state in
-      let rows : (next_node o old).rows ≡ accepting.adopted old.node.state.rows o.change = next_rows old.node.me old.node.members o old.node.state in
+      let rows : (next_node o old).rows ≡ accepting.adopted old.node.state.rows o.change = next_rows old.node.me old.node.members o
+      old.node.state in
       let p : Applied from content old.node.me old.node.state.rows.boot o.applied old.log new.log says =
       subst (λ (log : LogState B M). Applied from content old.node.me old.node.state.rows.boot o.applied log new.log says) r.log
       (subst (λ b. Applied from content old.node.me b o.applied mid.log new.log says) (ap (λ x. x.rows.boot) r.state)
-      (subst (λ n. Applied from content n mid.node.state.rows.boot o.applied mid.log new.log says) (ap (λ w. w.me) r.waiting ∙ sound.me) t.applied)) in
+      (subst (λ n. Applied from content n mid.node.state.rows.boot o.applied mid.log new.log says) (ap (λ w. w.me) r.waiting
+      ∙ sound.me) takes.applied)) in
       record {
-        node = t.node ∙ same_node;
-        held = subst (λ k. holds k (next_node o old).rows) (sym t.keeper) (subst (holds mid.keeper) (sym rows) r.held);
-        waits = subst (λ (w : Waiting B). WaitBehind o.packets w new.waiting) r.waiting t.waits;
-        failed = t.failed ∙ r.failed ∙ serving.committed;
-        says = λ first h. p.says first h ∙ ap (λ log. handed_out (from first) old.node.me old.node.state.rows.boot log o.applied) serving.followed;
+        node = takes.node ∙ same_node;
+        held = subst (λ k. holds k (next_node o old).rows) (sym takes.keeper) (subst (holds mid.keeper) (sym rows) r.held);
+        waits = subst (λ (w : Waiting B). WaitBehind o.packets w new.waiting) r.waiting takes.waits;
+        failed = takes.failed ∙ r.failed ∙ serving.committed;
+        seat = is;
+        says = λ first h. p.says first h ∙ ap (λ log. handed_out (from first) old.node.me old.node.state.rows.boot log o.applied)
+            serving.followed;
         follows = p.follows;
       }
 
-  pub carried_on : (o : Outcome B) (old mid new : Acting B M K) → IsSound same holds is_failed old → IsServing holds is_failed old
+  pub carried_on : (o : Outcome B) (old mid new : Parted B M K) (s t : Seated B) → t ≡ advanced o s → may_advance s ≡ true
+      → IsSound same holds is_failed old → IsServing holds is_failed old
       → Ready holds is_failed o old mid → old.spoiled ≡ false → (result : Result (Vec Y Global) (ActorFault Y))
-      → TakesIn from content o mid new result → CarriesOut from content holds finds failures o old new result
-  carried_on o old mid new sound serving r goes (Ok says) h =
-      let t = over_of o old mid new says.items sound serving r h.2 in
-      (not_down old.node.me old.node.members o old.node.state serving.up (ap (λ x. x.up) (sym t.node) ∙ h.0), h.1 ∙ r.spoiled ∙ goes, t)
-  carried_on o old mid new sound serving r goes (Err (LostHere says)) h =
-      let t = over_of o old mid new says.items sound serving r h.2 in
-      (is_down old.node.me old.node.members o old.node.state serving.up (ap (λ x. x.up) (sym t.node) ∙ h.0), h.1, t)
-  carried_on o old mid new sound serving r goes (Err Memory) h =
-      let rows : (next_node o old).rows ≡ accepting.adopted old.node.state.rows o.change = next_rows old.node.me old.node.members o old.node.state in (
+      → TakesIn from content o mid new result → CarriesOut from content holds finds failures o (acting old s) (acting new t) result
+  carried_on o old mid new s t is may sound serving r goes (Ok says) h =
+      let over = over_of o old mid new s t says.items is sound serving r h.2 in (
+        may,
+        not_down old.node.me old.node.members o old.node.state serving.up (ap (λ x. x.up) (sym over.node) ∙ h.0),
+        h.1 ∙ r.spoiled
+            ∙ goes,
+        over,
+      )
+  carried_on o old mid new s t is may sound serving r goes (Err (LostHere says)) h =
+      let over = over_of o old mid new s t says.items is sound serving r h.2 in
+      (may, is_down old.node.me old.node.members o old.node.state serving.up (ap (λ x. x.up) (sym over.node) ∙ h.0), h.1, over)
+  carried_on o old mid new s t is may sound serving r goes (Err Memory) h =
+      let rows : (next_node o old).rows ≡ accepting.adopted old.node.state.rows o.change = next_rows old.node.me old.node.members o
+      old.node.state in (
         h.0,
         inr (record {
+          seat = is;
           node = h.1.node ∙ next_same o old mid r.who.me r.who.members r.state;
           held = subst (λ k. holds k (next_node o old).rows) (sym h.1.keeper) (subst (holds mid.keeper) (sym rows) r.held);
           waits = subst (λ (w : Waiting B). WaitBehind o.packets w new.waiting) r.waiting h.1.waits;
@@ -268,62 +79,67 @@ module _ {B S Y M K : Type 0} (from : S → Machine B S Y) (content : M → S) (
               (ap (λ (log : LogState B M). log.applied ++ o.applied) r.log);
         }),
       )
-  carried_on o old mid new sound serving r goes (Err (Keeper fault)) h = absurd h
-  carried_on o old mid new sound serving r goes (Err Failed) h = h
-  carried_on o old mid new sound serving r goes (Err Rounds) h = h
-  carried_on o old mid new sound serving r goes (Err Full) h = h
-  carried_on o old mid new sound serving r goes (Err Disagree) h = h
+  carried_on o old mid new s t is may sound serving r goes (Err (Keeper fault)) h = absurd h
+  carried_on o old mid new s t is may sound serving r goes (Err Worn) h = absurd h
+  carried_on o old mid new s t is may sound serving r goes (Err Failed) h = h
+  carried_on o old mid new s t is may sound serving r goes (Err Rounds) h = h
+  carried_on o old mid new s t is may sound serving r goes (Err Full) h = h
+  carried_on o old mid new s t is may sound serving r goes (Err Disagree) h = h
 
   -- and the actor is sound then
-  pub sound_on : (o : Outcome B) (old mid new : Acting B M K) → IsSound same holds is_failed old → IsServing holds is_failed old
+  pub sound_on : (o : Outcome B) (old mid new : Parted B M K) (s : Seated B) → IsSound same holds is_failed old
+      → IsServing holds is_failed old
       → Ready holds is_failed o old mid → StaysWho mid new → (result : Result (Vec Y Global) (ActorFault Y))
       → TakesIn from content o mid new result → IsSound same holds is_failed new
-  sound_on o old mid new sound serving r who (Ok says) h =
-      let t = over_of o old mid new says.items sound serving r h.2 in
+  sound_on o old mid new s sound serving r who (Ok says) h =
+      let over = over_of o old mid new s (advanced o s) says.items refl sound serving r h.2 in
       let all : StaysWho old new = who_on old mid new r.who who in
-      let down_not : o.is_down ≡ false = not_down old.node.me old.node.members o old.node.state serving.up (ap (λ x. x.up) (sym t.node) ∙ h.0) in
+      let down_not : o.is_down ≡ false = not_down old.node.me old.node.members o old.node.state serving.up
+      (ap (λ x. x.up) (sym over.node) ∙ h.0) in
       let followed : new.log.applied ≡ new.node.state.applied =
       h.2.applied.applied ∙ ap (λ (log : LogState B M). log.applied ++ o.applied) r.log ∙ ap (λ log. log ++ o.applied) serving.followed
-      ∙ sym (next_applied old.node.me old.node.members o old.node.state down_not) ∙ ap (λ x. x.applied) (sym t.node) in
+      ∙ sym (next_applied old.node.me old.node.members o old.node.state down_not) ∙ ap (λ x. x.applied) (sym over.node) in
       record {
         me = all.waits_me ∙ sound.me ∙ sym all.me;
         members = all.waits_members ∙ sound.members ∙ sym all.members;
         member = subst (λ n. IsMember n new.node.me) (sym all.members) (subst (IsMember old.node.members) (sym all.me) sound.member);
         serves = λ e. record {
           up = h.0;
-          held = subst (λ x. holds new.keeper x.rows) (sym t.node) t.held;
+          held = subst (λ x. holds new.keeper x.rows) (sym over.node) over.held;
           whole = ap is_failed h.2.keeper ∙ r.whole;
           followed = followed;
           alive = h.2.applied.alive;
-          committed = t.failed;
+          committed = over.failed;
           ahead = h.2.end;
         };
-        failed = none_failed same new t.failed;
+        failed = none_failed same new over.failed;
         front = λ up. prefix_whole new.log.applied new.node.state.applied followed;
       }
-  sound_on o old mid new sound serving r who (Err (LostHere says)) h =
+  sound_on o old mid new s sound serving r who (Err (LostHere says)) h =
       sound_spoiled same holds is_failed old new sound (who_on old mid new r.who who) h.1
       (none_failed same new (h.2.failed ∙ r.failed ∙ serving.committed)) (λ up. absurd (false≢true (sym h.0 ∙ up)))
-  sound_on o old mid new sound serving r who (Err Memory) h =
+  sound_on o old mid new s sound serving r who (Err Memory) h =
       let node : new.node.state ≡ next_node o old = h.1.node ∙ next_same o old mid r.who.me r.who.members r.state in
       sound_spoiled same holds is_failed old new sound (who_on old mid new r.who who) h.0
       (none_failed same new (h.1.failed ∙ r.failed ∙ serving.committed)) (λ up.
-      let down_not : o.is_down ≡ false = not_down old.node.me old.node.members o old.node.state serving.up (ap (λ x. x.up) (sym node) ∙ up) in
+      let down_not : o.is_down ≡ false = not_down old.node.me old.node.members o old.node.state serving.up (ap (λ x. x.up) (sym node)
+      ∙ up) in
       prefix_to new.log.applied (mid.log.applied ++ o.applied) new.node.state.applied h.1.front
       (ap (λ (log : LogState B M). log.applied ++ o.applied) r.log ∙ ap (λ log. log ++ o.applied) serving.followed
       ∙ sym (next_applied old.node.me old.node.members o old.node.state down_not) ∙ ap (λ x. x.applied) (sym node)))
-  sound_on o old mid new sound serving r who (Err (Keeper fault)) h = absurd h
-  sound_on o old mid new sound serving r who (Err Failed) h = absurd h
-  sound_on o old mid new sound serving r who (Err Rounds) h = absurd h
-  sound_on o old mid new sound serving r who (Err Full) h = absurd h
-  sound_on o old mid new sound serving r who (Err Disagree) h = absurd h
+  sound_on o old mid new s sound serving r who (Err (Keeper fault)) h = absurd h
+  sound_on o old mid new s sound serving r who (Err Worn) h = absurd h
+  sound_on o old mid new s sound serving r who (Err Failed) h = absurd h
+  sound_on o old mid new s sound serving r who (Err Rounds) h = absurd h
+  sound_on o old mid new s sound serving r who (Err Full) h = absurd h
+  sound_on o old mid new s sound serving r who (Err Disagree) h = absurd h
 
 module _ {B S Y M K : Type 0} (from : S → Machine B S Y) (content : M → S) (holds : K → Rows B → Type 0) (finds : K → Rows B → Type 0)
     (failures : K → ℕ) (is_failed : K → Bool) where
   -- there was no memory for room
-  pub stopped : (o : Outcome B) (old mid : Acting B M K) → IsServing holds is_failed old → Roomed old mid
-      → CarriesOut from content holds finds failures o old (record mid { spoiled = true }) (Err Memory)
-  stopped o old mid serving r = (
+  pub stopped : (o : Outcome B) (old mid : Parted B M K) (s : Seated B) → IsServing holds is_failed old → Roomed old mid
+      → CarriesOut from content holds finds failures o (acting old s) (acting (record mid { spoiled = true }) s) (Err Memory)
+  stopped o old mid s serving r = (
     refl,
     inl (record {
       node = r.state;
@@ -331,69 +147,42 @@ module _ {B S Y M K : Type 0} (from : S → Machine B S Y) (content : M → S) (
       waits = r.rest.waiting;
       failed = r.rest.failed ∙ serving.committed;
       log = r.rest.log;
+      seat = refl;
     }),
   )
 
+  -- the word counts no more
+  pub worn_out : (o : Outcome B) (old mid : Parted B M K) (s : Seated B) → may_advance s ≡ false → IsServing holds is_failed old
+      → Roomed old mid
+      → CarriesOut from content holds finds failures o (acting old s) (acting (record mid { spoiled = true }) s) (Err Worn)
+  worn_out o old mid s worn serving r = (
+    worn,
+    refl,
+    record {
+      node = r.state;
+      held = subst (λ k. holds k old.node.state.rows) (sym r.rest.keeper) serving.held;
+      waits = r.rest.waiting;
+      failed = r.rest.failed ∙ serving.committed;
+      log = r.rest.log;
+      seat = refl;
+    },
+  )
+
   -- the commit failed
-  pub fallen : (o : Outcome B) (old mid new : Acting B M K) (fault : KeeperFault) → IsServing holds is_failed old → Roomed old mid → OnlyKeeper mid new
+  pub fallen : (o : Outcome B) (old mid new : Parted B M K) (s : Seated B) (fault : KeeperFault) → may_advance s ≡ true
+      → IsServing holds is_failed old → Roomed old mid → OnlyKeeper mid new
       → ((r : Rows B) → holds mid.keeper r → Falls finds failures o.change r mid.keeper new.keeper fault)
-      → CarriesOut from content holds finds failures o old (record new { failed = Some o; spoiled = true }) (Err (Keeper fault))
-  fallen o old mid new fault serving r k falls =
+      → CarriesOut from content holds finds failures o (acting old s) (acting (record new { failed = Some o; spoiled = true }) s)
+      (Err (Keeper fault))
+  fallen o old mid new s fault may serving r k falls =
       let f = falls old.node.state.rows (subst (λ s. holds s old.node.state.rows) (sym r.rest.keeper) serving.held) in (
+        may,
         refl,
         record {
           node = ap (λ n. n.state) k.node ∙ r.state;
           waits = k.waiting ∙ r.rest.waiting;
           falls = record { found = f.found; cause = λ e. subst (λ s. failures s < failures new.keeper) r.rest.keeper (f.cause e) };
           failed = refl;
+          seat = refl;
         },
       )
-
-module _ {B M K : Type 0} (same : B → B → Bool) (holds : K → Rows B → Type 0) (is_failed : K → Bool) where
-  pub stopped_sound : (old mid : Acting B M K) → IsSound same holds is_failed old → old.spoiled ≡ false → Roomed old mid
-      → IsSound same holds is_failed (record mid { spoiled = true })
-  stopped_sound old mid sound fresh r =
-      let who = roomed_who old mid r in
-      sound_spoiled same holds is_failed old (record mid { spoiled = true }) sound
-      (record { me = who.me; members = who.members; waits_me = who.waits_me; waits_members = who.waits_members }) refl
-      (none_failed same (record mid { spoiled = true }) (r.rest.failed ∙ (sound.serves fresh).committed))
-      (λ up. prefix_whole mid.log.applied mid.node.state.applied
-      (ap (λ (log : LogState B M). log.applied) r.rest.log ∙ (sound.serves fresh).followed ∙ ap (λ x. x.applied) (sym r.state)))
-
-  plan_on : (o p : Outcome B) (old new : Acting B M K) → IsPlan same old.node.me old.node.members old.node.state o → StaysWho old new
-      → new.node.state ≡ old.node.state → o ≡ p → IsPlan same new.node.me new.node.members new.node.state p
-  plan_on o p old new plan who state is =
-      subst (IsPlan same new.node.me new.node.members new.node.state) is
-      (subst (λ x. IsPlan same new.node.me new.node.members x o) (sym state)
-      (subst (λ n. IsPlan same new.node.me n old.node.state o) (sym who.members)
-      (subst (λ n. IsPlan same n old.node.members old.node.state o) (sym who.me) plan)))
-
-  pub fallen_sound : (o : Outcome B) (old mid new : Acting B M K) → IsSound same holds is_failed old → old.spoiled ≡ false
-      → IsPlan same old.node.me old.node.members old.node.state o → Roomed old mid → OnlyKeeper mid new
-      → IsSound same holds is_failed (record new { failed = Some o; spoiled = true })
-  fallen_sound o old mid new sound fresh plan r k =
-      let who = kept_who old mid new r k in
-      sound_spoiled same holds is_failed old (record new { failed = Some o; spoiled = true }) sound
-      (record { me = who.me; members = who.members; waits_me = who.waits_me; waits_members = who.waits_members }) refl
-      (λ p e. plan_on o p old new plan who (ap (λ n. n.state) k.node ∙ r.state) (some_same o p e))
-      (λ up. prefix_whole new.log.applied new.node.state.applied
-      (ap (λ (log : LogState B M). log.applied) (k.log ∙ r.rest.log) ∙ (sound.serves fresh).followed
-      ∙ ap (λ x. x.applied) (sym (ap (λ n. n.state) k.node ∙ r.state))))
-
-  pub spoiled_sound : (old : Acting B M K) → IsSound same holds is_failed old → old.spoiled ≡ false → IsSound same holds is_failed (record old { spoiled = true })
-  spoiled_sound old sound fresh =
-      sound_spoiled same holds is_failed old (record old { spoiled = true }) sound (record { me = refl; members = refl; waits_me = refl; waits_members = refl })
-      refl (none_failed same (record old { spoiled = true }) (sound.serves fresh).committed)
-      (λ up. prefix_whole old.log.applied old.node.state.applied (sound.serves fresh).followed)
-
-module _ {B M K : Type 0} where
-  pub stopped_who : (old mid : Acting B M K) → Roomed old mid → StaysWho old (record mid { spoiled = true })
-  stopped_who old mid r =
-      let who = roomed_who old mid r in
-      record { me = who.me; members = who.members; waits_me = who.waits_me; waits_members = who.waits_members }
-
-  pub fallen_who : (o : Outcome B) (old mid new : Acting B M K) → Roomed old mid → OnlyKeeper mid new
-      → StaysWho old (record new { failed = Some o; spoiled = true })
-  fallen_who o old mid new r k =
-      let who = kept_who old mid new r k in
-      record { me = who.me; members = who.members; waits_me = who.waits_me; waits_members = who.waits_members }

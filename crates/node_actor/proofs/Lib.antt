@@ -1,7 +1,9 @@
-mod Sayings
 mod Carrying
+mod Seating
 mod Viewing
-mod Beginning
 mod Leaving
-mod Returning
-mod Resuming
+mod Tries
+mod Rounds
+mod OneTurn
+mod AllRound
+mod Opening

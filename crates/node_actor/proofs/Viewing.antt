@@ -1,10 +1,10 @@
--- What is made of an outcome, told of a view that the actor stands for.
-use Rattle.std.proofs.Common.{◌≡◌, ◌⊎◌, inl, inr, ℕ, ◌≤◌, ◌-◌, Bool, not, true, false, eqb, Option, Some, None, Result, Ok, Err, List, [], ◌++◌}
-use Rattle.std.proofs.Common.{length, drop, arith, get_or, sym, ap, subst, ◌∙◌, refl}
-use Rattle.std.specs.Prelude.{◌==◌, All, Contains}
-use Rattle.std.proofs.lemmas.Bool.{ne_eqb, and_parts, and_from, eqb-true, eq-eqb}
-use Rattle.std.proofs.lemmas.List.{append-nil, get_or_default}
-use Rattle.std.proofs.lemmas.List.Elements.{All-drop, All-append, All-weaker, All-filter, Contains-append_left, Contains-append_right, filter-append}
+-- What is made of an outcome, told of the view that the event began with.
+use Rattle.std.proofs.Common.{◌≡◌, ◌⊎◌, inl, inr, ℕ, ◌≤◌, ◌-◌, Bool, not, true}
+use Rattle.std.proofs.Common.{false, eqb, Option, Some, None, Result, Ok, Err, List, [], ◌++◌}
+use Rattle.std.proofs.Common.{length, drop, arith, sym, ap, subst, ◌∙◌, refl}
+use Rattle.std.specs.Prelude.{◌==◌, ◌^◌, nat_lt, filter}
+use Rattle.std.proofs.lemmas.Bool.{ne_eqb, and_parts, and_from, eqb-true, eq-eqb, false≢true}
+use Rattle.std.proofs.lemmas.List.{append-nil}
 use Rattle.std.specs.declared.vec.Vec.{Vec}
 use Rattle.std.specs.declared.alloc.Global.{Global}
 use Rattle.circular_buffer.specs.Buffer.{keep_last}
@@ -12,27 +12,33 @@ use Rattle.paxos_packets.specs.declared.packet.Packet.{Packet}
 use Rattle.paxos_packets.specs.declared.rows.Rows.{Rows}
 use Rattle.paxos_acceptor.specs.Acceptor as accepting
 use Rattle.replica_machine.specs.Replay.{Machine}
-use Rattle.packet_outboxes.specs.Outboxes.{most_waiting, waiting, to, IsPeer, WaitBehind, HasLimits}
+use Rattle.packet_outboxes.specs.Outboxes.{most_waiting, waiting, to, IsPeer, HasLimits}
 use Rattle.paxos_node.specs.declared.event.Event.{Event}
-use Rattle.paxos_node.specs.declared.event.Event.TheVariants.{Take, Deliver}
+use Rattle.paxos_node.specs.declared.event.Event.TheVariants.{Take, Tick, Start, Suspect, Deliver, Crash, Restart}
 use Rattle.paxos_node.specs.declared.outcome.Outcome.{Outcome}
 use Rattle.paxos_turn.specs.Node.{NodeState, Turn}
 use Rattle.paxos_node.specs.Adopting.{adopted, Fits, Planned}
 use Rattle.paxos_node.specs.Events.{owner, possible, outcome_of, is_round_refused, is_full_refused}
 use Rattle.paxos_node.specs.Plans.{plans, is_planned, Answers}
+use Rattle.paxos_node.specs.View.{moved}
 use Rattle.paxos_node.specs.declared.fault.NodeFault.{NodeFault}
 use Rattle.paxos_node.specs.declared.fault.NodeFault.TheVariants as node_fault
-use Rattle.node_actor.specs.declared.fault.ActorFault.{ActorFault}
-use Rattle.node_actor.specs.declared.fault.ActorFault.TheVariants.{Failed, Rounds, Full, Keeper, Disagree, LostHere, Memory}
-use Rattle.node_actor.specs.Actor.{Acting, IsPlan, IsServing, IsSound}
-use Rattle.node_actor.specs.Handing.{handed_out, handed_by}
-use Rattle.node_actor.specs.Views.{View, seen, posted_to, received_from, StandsFor, moved_by, packet_in, Queues}
-use Rattle.node_actor.specs.Steps.{OnlyKeeper, next_node, StaysWho, TakesOver, StopsBefore, StopsBehind, CarriesOut}
-use Rattle.node_actor.specs.Calls.{is_for, take_event, turn_event, Goes, Stops, IsTaken, IsAgreed, Acts}
-use Rattle.node_actor.proofs.Carrying.{Roomed, next_rows}
-
-all_in : {A : Type 0} (xs : List A) → All (Contains xs) xs
-all_in xs = λ k d h. (k, h, get_or_default xs k (get_or xs k d) d h)
+use Rattle.mail_table.specs.Boxes.{Follows, Received}
+use Rattle.mail_table.specs.Seats.{Seated}
+use Rattle.mail_table.specs.Views.{box_of, through}
+use Rattle.actor_parts.specs.declared.fault.ActorFault.{ActorFault}
+use Rattle.actor_parts.specs.declared.fault.ActorFault.TheVariants.{Failed, Rounds, Full, Keeper, Disagree, LostHere, Worn, Memory}
+use Rattle.actor_parts.specs.Parts.{Parted, IsPlan, IsServing, IsSound}
+use Rattle.actor_parts.specs.Handing.{handed_out, handed_by}
+use Rattle.actor_parts.specs.Steps.{OnlyKeeper, next_node}
+use Rattle.actor_parts.proofs.Carrying.{Roomed, next_rows}
+use Rattle.node_actor.specs.Actor.{Acting, acting, IsSeated}
+use Rattle.actor_posts.specs.Posts.{advanced}
+use Rattle.node_actor.specs.Steps.{may_advance, TakesOver, StopsBefore, StopsBehind, CarriesOut}
+use Rattle.node_actor.specs.Turns.{Reaches}
+use Rattle.node_actor.specs.Views.{View, seen, is_for, posted_to, received_from, StandsFor, moved_by, packet_in, received_by, Queues}
+use Rattle.node_actor.specs.Calls.{take_event, turn_event, is_own, is_worn, Goes, Stops, IsTaken, IsAgreed, Acts}
+use Rattle.node_actor.proofs.Seating.{peer_of, seated_stands}
 
 keep_short : {A : Type 0} (xs : List A) → length xs ≤ most_waiting → keep_last most_waiting xs ≡ xs
 keep_short xs h = let z : length xs - most_waiting ≡ 0 = omega (arith, h) in ap (λ k. drop k xs) z
@@ -48,8 +54,11 @@ not_true false h = refl
 pub owner_is : {B : Type 0} (me : ℕ) (e : Event B) (x : NodeState B) → plans me e x ≡ true → owner e ≡ me
 owner_is me e x h = eqb-true (owner e) me (and_parts (eqb (owner e) me) _ h).0
 
+pub possible_is : {B : Type 0} (me : ℕ) (e : Event B) (x : NodeState B) → plans me e x ≡ true → possible e x ≡ true
+possible_is me e x h = (and_parts (is_planned e) _ (and_parts (eqb (owner e) me) _ h).1).1
+
 -- an outcome that is planned fits the node, also once room was made and it was committed
-pub fits_on : {B M K : Type 0} (same : B → B → Bool) (o : Outcome B) (old mid new : Acting B M K)
+pub fits_on : {B M K : Type 0} (same : B → B → Bool) (o : Outcome B) (old mid new : Parted B M K)
     → IsPlan same old.node.me old.node.members old.node.state o → Roomed old mid → OnlyKeeper mid new
     → Fits new.node.me new.node.members o new.node.state
 fits_on {B} same o old mid new plan r k =
@@ -59,6 +68,23 @@ fits_on {B} same o old mid new plan r k =
     let state : old.node.state ≡ new.node.state = sym r.state ∙ ap (λ n. n.state) (sym k.node) in
     subst (Fits new.node.me new.node.members o) state
     (subst (λ n. Fits new.node.me n o old.node.state) members (subst (λ n. Fits n old.node.members o old.node.state) me plan.planned.fits))
+
+-- and the seat may take its step
+pub follows_plan : {B M K : Type 0} (same : B → B → Bool) (e : Event B) (o : Outcome B) (p : Parted B M K) (s : Seated B)
+    → plans p.node.me e p.node.state ≡ true → Planned same p.node.members e p.node.state o → IsSeated same (acting p s)
+    → Received s.members s.part e
+    → Follows same s.members s.part o
+follows_plan same e o p s mine planned seated received =
+    record {
+      event = e;
+      rows = seated.rows;
+      opened = seated.opened;
+      own = owner_is p.node.me e p.node.state mine ∙ sym seated.me;
+      may = ap (possible e) seated.node ∙ possible_is p.node.me e p.node.state mine;
+      is = subst (λ x. Planned same s.members e x o) (sym seated.node) (subst (λ n. Planned same n e p.node.state o) (sym seated.members)
+          planned);
+      received = received;
+    }
 
 -- an outcome that is planned is what the event makes of the node
 
@@ -81,159 +107,155 @@ module _ {B : Type 0} (same : B → B → Bool) (me members : ℕ) (e : Event B)
   pub agrees_is : Planned same members e x o → x ≡ y → turn.disagrees ≡ false
   agrees_is p q = ap (λ z. (outcome_of same members e z).disagrees) (sym q) ∙ p.agrees
 
+-- what a view that an event began with shares with its seat
+
+module _ {B : Type 0} (ended : Bool) (e : Option (Event B)) (v s : Seated B) (reach : Reaches ended e v s) where
+  pub posted_same : (k : ℕ) → posted_to k s ≡ posted_to k v
+  posted_same k =
+      let members : s.members ≡ v.members = ap (λ (x : Seated B). x.members) reach.table in
+      λ i. through (box_of (members i) (reach.me i) k) (reach.posted i)
+
 module _ {B M K : Type 0} where
-  peer_of : (old : Acting B M K) → old.waiting.me ≡ old.node.me → old.waiting.members ≡ old.node.members → (k : ℕ)
-      → IsPeer old.node.me old.node.members k → IsPeer old.waiting.me old.waiting.members k
-  peer_of old me members k peer =
-      subst (λ n. IsPeer n old.waiting.members k) (sym me) (subst (λ n. IsPeer old.node.me n k) (sym members) peer)
-
-  peer_before : (old new : Acting B M K) → StaysWho old new → (k : ℕ) → IsPeer new.node.me new.node.members k → IsPeer old.node.me old.node.members k
-  peer_before old new who k peer =
-      subst (λ n. IsPeer n old.node.members k) who.me (subst (λ n. IsPeer new.node.me n k) who.members peer)
-
-  -- what waits behind more packets was sent, or is among these
-  sent_still : (old new : Acting B M K) (packets more : List (Packet B)) (v : View B) → old.waiting.me ≡ old.node.me
-      → old.waiting.members ≡ old.node.members → StaysWho old new → StandsFor old v → WaitBehind packets old.waiting new.waiting → packets ≡ more
-      → (k : ℕ) → IsPeer new.node.me new.node.members k → All (Contains ((seen v).sent ++ more)) (waiting k new.waiting)
-  sent_still old new packets more v me members who stands waits is k peer =
-      let was = peer_before old new who k peer in
-      let sent : List (Packet B) = (seen v).sent in
-      let P : Packet B → Type 0 = Contains (sent ++ more) in
-      let front : All P (waiting k old.waiting) =
-      All-weaker (Contains sent) P (λ p. Contains-append_left sent more p) (waiting k old.waiting) (stands.waits k was) in
-      let among : All (Contains more) packets = subst (λ ps. All (Contains more) ps) (sym is) (all_in more) in
-      let new_ones : All P (to k packets) = All-filter (λ p. p.addressee == k) P packets
-      (All-weaker (Contains more) P (λ p. Contains-append_right sent more p) packets among) in
-      let both : All P (waiting k old.waiting ++ to k packets) = All-append P (waiting k old.waiting) (to k packets) front new_ones in
-      subst (All P) (sym (waits k (peer_of old me members k was)))
-      (All-drop P (length (waiting k old.waiting ++ to k packets) - most_waiting) (waiting k old.waiting ++ to k packets) both)
-
-  -- nothing is new
-  pub stands_still : (old new : Acting B M K) (v : View B) → StaysWho old new → new.node.state ≡ old.node.state → new.waiting ≡ old.waiting
-      → StandsFor old v → StandsFor new v
-  stands_still old new v who state waits stands =
-      record {
-        node = state ∙ stands.node;
-        waits = λ k peer. subst (λ w. All (Contains (seen v).sent) (waiting k w)) (sym waits) (stands.waits k (peer_before old new who k peer));
-      }
-
-  pub spoiled_who : (old : Acting B M K) → StaysWho old (record old { spoiled = true })
-  spoiled_who old = record { me = refl; members = refl; waits_me = refl; waits_members = refl }
-
-  pub queues_still : (old new : Acting B M K) (v : View B) → new.waiting ≡ old.waiting → (k : ℕ) → length (waiting k old.waiting) ≤ most_waiting
-      → Queues k [] old new v v
-  queues_still old new v waits k short =
+  pub queues_still : (old new : Parted B M K) (v t : Seated B) → new.waiting ≡ old.waiting → (k : ℕ) → posted_to k t ≡ posted_to k v
+      → length (waiting k old.waiting) ≤ most_waiting → Queues k [] (acting old v) (acting new t) v t
+  queues_still old new v t waits k posted short =
       record {
         meanwhile = [];
         rest = waiting k old.waiting;
-        posted = sym (append-nil (posted_to k v));
+        posted = posted ∙ sym (append-nil (posted_to k v));
         waited = refl;
-        waits = ap (waiting k) waits ∙ sym (keep_short (waiting k old.waiting) short) ∙ ap (keep_last most_waiting) (sym (append-nil (waiting k old.waiting)));
+        waits = ap (waiting k) waits ∙ sym (keep_short (waiting k old.waiting) short)
+            ∙ ap (keep_last most_waiting) (sym (append-nil (waiting k old.waiting)));
       }
 
 module _ {B S Y M K : Type 0} (same : B → B → Bool) (from : S → Machine B S Y) (content : M → S) (holds : K → Rows B → Type 0)
     (finds : K → Rows B → Type 0) (failures : K → ℕ) (is_failed : K → Bool) where
-  -- the view that goes on by an event
-  abbrev on_by : ℕ → Event B → View B → View B
-  on_by members e v = record { of = moved_by same members (Some e) (seen v); posted = v.posted; received = v.received ++ packet_in e }
+  module _ (e : Event B) (o : Outcome B) (old new : Parted B M K) (v s t : Seated B) (sound : IsSound same holds is_failed old)
+      (seated : IsSeated same (acting old s)) (behind : IsSeated same (acting new t)) (reach : Reaches old.spoiled (Some e) v s)
+      (mine : plans old.node.me e old.node.state ≡ true) (planned : Planned same old.node.members e old.node.state o) where
+    is_node : old.node.state ≡ (seen v).node
+    is_node = sym seated.node ∙ ap (λ x. x.node) reach.seen
 
-  module _ (e : Event B) (o : Outcome B) (old new : Acting B M K) (v : View B) (sound : IsSound same holds is_failed old)
-      (mine : plans old.node.me e old.node.state ≡ true) (planned : Planned same old.node.members e old.node.state o) (who : StaysWho old new)
-      (stands : StandsFor old v) where
     next_is : next_node o old ≡ (outcome_of same old.node.members e (seen v).node).node
-    next_is = node_is same old.node.me old.node.members e old.node.state (seen v).node o (owner_is old.node.me e old.node.state mine) planned stands.node
+    next_is = node_is same old.node.me old.node.members e old.node.state (seen v).node o (owner_is old.node.me e old.node.state mine)
+        planned is_node
 
-    stands_on : new.node.state ≡ next_node o old → WaitBehind o.packets old.waiting new.waiting → StandsFor new (on_by old.node.members e v)
-    stands_on node waits =
-        record {
-          node = node ∙ next_is;
-          waits = sent_still old new o.packets (outcome_of same old.node.members e (seen v).node).packets v sound.me sound.members who stands waits
-              (packets_are same old.node.me old.node.members e old.node.state (seen v).node o planned stands.node);
-        }
+    packets : o.packets ≡ (outcome_of same old.node.members e (seen v).node).packets
+    packets = packets_are same old.node.me old.node.members e old.node.state (seen v).node o planned is_node
 
-    goes_on : (says : List Y) → TakesOver from content holds finds failures o old new says
-        → Goes same from content holds finds failures (Some e) old new v says
-    goes_on says t =
+    moved_is : t ≡ advanced o s → seen t ≡ moved_by same old.node.members (Some e) (seen v)
+    moved_is is =
+        let node : adopted s.part.me s.members o s.part.seen.node ≡ (outcome_of same old.node.members e (seen v).node).node =
+        (λ i. adopted (seated.me i) (seated.members i) o (seated.node i)) ∙ next_is in
+        ap seen is ∙ (λ i. moved (node i) (packets i) (reach.seen i))
+
+    goes_on : (says : List Y) → TakesOver from content holds finds failures o (acting old s) (acting new t) says
+        → Goes same from content holds finds failures (Some e) (acting old v) (acting new t) v says
+    goes_on says h =
         record {
-          next = on_by old.node.members e v;
-          stands = stands_on t.node t.waits;
-          moved = refl;
-          received = λ k. filter-append (λ p. p.sender == k) v.received (packet_in e);
+          next = t;
+          stands = seated_stands same new t behind;
+          moved = moved_is h.seat;
+          received = λ k. ap (received_from k) h.seat ∙ reach.received k;
           queues = λ k peer. record {
             meanwhile = [];
             rest = waiting k old.waiting;
-            posted = sym (append-nil (posted_to k v));
+            posted = ap (posted_to k) h.seat ∙ posted_same old.spoiled (Some e) v s reach k ∙ sym (append-nil (posted_to k v));
             waited = refl;
-            waits = t.waits k (peer_of old sound.me sound.members k peer)
-                ∙ ap (λ ps. keep_last most_waiting (waiting k old.waiting ++ to k ps))
-                (packets_are same old.node.me old.node.members e old.node.state (seen v).node o planned stands.node);
+            waits = h.waits k (peer_of old sound.me sound.members k peer)
+                ∙ ap (λ ps. keep_last most_waiting (waiting k old.waiting ++ to k ps)) packets;
           };
-          held = subst (λ x. holds new.keeper x.rows) next_is t.held;
-          says = λ first h. t.says first h ∙ told first;
-          follows = t.follows;
+          held = subst (λ x. holds new.keeper x) (ap (λ x. x.rows) (next_is ∙ ap (λ x. x.node) (sym (moved_is h.seat)))) h.held;
+          says = λ first follows. h.says first follows ∙ told first;
+          follows = h.follows;
         }
       where
         told : (first : S) → handed_out (from first) old.node.me old.node.state.rows.boot old.node.state.applied o.applied
             ≡ handed_by same old.node.members (from first) (Some e) (seen v).node
         told first =
-            ap (λ n. handed_out (from first) n old.node.state.rows.boot old.node.state.applied o.applied) (sym (owner_is old.node.me e old.node.state mine))
-            ∙ ap (λ x. handed_out (from first) (owner e) x.rows.boot x.applied o.applied) stands.node
+            ap (λ n. handed_out (from first) n old.node.state.rows.boot old.node.state.applied o.applied)
+            (sym (owner_is old.node.me e old.node.state mine))
+            ∙ ap (λ x. handed_out (from first) (owner e) x.rows.boot x.applied o.applied) is_node
             ∙ ap (handed_out (from first) (owner e) (seen v).node.rows.boot (seen v).node.applied)
-            (applied_is same old.node.me old.node.members e old.node.state (seen v).node o planned stands.node)
+            (applied_is same old.node.me old.node.members e old.node.state (seen v).node o planned is_node)
 
     -- what is refused, and what is not
     module _ (no_round : is_round_refused e old.node.state ≡ false) (no_full : is_full_refused same e old.node.state ≡ false) where
-      is_taken : IsTaken same from content holds finds failures (Some e) old v
-      is_taken = (ap (is_round_refused e) (sym stands.node) ∙ no_round, ap (is_full_refused same e) (sym stands.node) ∙ no_full)
+      is_taken : IsTaken same from content holds finds failures (Some e) (acting old v) v
+      is_taken = (ap (is_round_refused e) (sym is_node) ∙ no_round, ap (is_full_refused same e) (sym is_node) ∙ no_full)
 
-      is_agreed : IsAgreed same from content holds finds failures (Some e) old v
-      is_agreed = (is_taken, agrees_is same old.node.me old.node.members e old.node.state (seen v).node o planned stands.node)
+      agrees : (outcome_of same old.node.members e (seen v).node).disagrees ≡ false
+      agrees = agrees_is same old.node.me old.node.members e old.node.state (seen v).node o planned is_node
+
+      worn_by : (b : Bool) → may_advance s ≡ b → is_worn (Some e) v ≡ not b
+      worn_by b may = ap (λ n. not (nat_lt n (2 ^ 62))) (sym reach.events) ∙ ap not may
+
+      is_agreed : may_advance s ≡ true → IsAgreed same from content holds finds failures (Some e) (acting old v) v
+      is_agreed may = (is_taken, agrees, worn_by true may)
 
       abbrev up_then : Bool
       up_then = (outcome_of same old.node.members e (seen v).node).node.up
 
-      stays_up : o.is_down ≡ false → up_then ≡ true
-      stays_up h = not_false up_then (sym (down_is same old.node.me old.node.members e old.node.state (seen v).node o planned stands.node) ∙ h)
+      downs : o.is_down ≡ not up_then
+      downs = down_is same old.node.me old.node.members e old.node.state (seen v).node o planned is_node
 
-      goes_down : o.is_down ≡ true → up_then ≡ false
-      goes_down h = not_true up_then (sym (down_is same old.node.me old.node.members e old.node.state (seen v).node o planned stands.node) ∙ h)
+      stops : StopsBefore from content holds finds failures (acting old s) (acting new t) ⊎ StopsBehind from content holds finds failures o
+          (acting old s) (acting new t)
+          → Stops same from content holds finds failures (Some e) (acting old v) (acting new t) v
+      stops (inl b) =
+          record {
+            next = t;
+            stands = seated_stands same new t behind;
+            moved = inl (ap seen b.seat ∙ reach.seen);
+            held = subst (λ x. holds new.keeper x.rows) (is_node ∙ ap (λ x. x.node) (sym (ap seen b.seat ∙ reach.seen))) b.held;
+          }
+      stops (inr b) =
+          record {
+            next = t;
+            stands = seated_stands same new t behind;
+            moved = inr (moved_is b.seat);
+            held = subst (λ x. holds new.keeper x) (ap (λ x. x.rows) (next_is ∙ ap (λ x. x.node) (sym (moved_is b.seat)))) b.held;
+          }
 
       pub acts_of : old.spoiled ≡ false → ((k : ℕ) → IsPeer old.node.me old.node.members k → length (waiting k old.waiting) ≤ most_waiting)
-          → (result : Result (Vec Y Global) (ActorFault Y)) → CarriesOut from content holds finds failures o old new result
-          → Acts same from content holds finds failures (Some e) old new v result
-      acts_of fresh short (Ok says) h = (fresh, h.1, is_agreed, stays_up h.0, goes_on says.items h.2)
-      acts_of fresh short (Err (LostHere says)) h = (fresh, h.1, is_agreed, goes_down h.0, goes_on says.items h.2)
+          → (result : Result (Vec Y Global) (ActorFault Y)) → CarriesOut from content holds finds failures o (acting old s) (acting new t)
+          result
+          → Acts same from content holds finds failures (Some e) (acting old v) (acting new t) v result
+      acts_of fresh short (Ok says) h = (fresh, h.2, is_agreed h.0, not_false up_then (sym downs ∙ h.1), goes_on says.items h.3)
+      acts_of fresh short (Err (LostHere says)) h = (fresh, h.2, is_agreed h.0, not_true up_then (sym downs ∙ h.1), goes_on says.items h.3)
       acts_of fresh short (Err (Keeper fault)) h = (
         fresh,
-        h.0,
-        is_agreed,
+        h.1,
+        is_agreed h.0,
         record {
-          next = v;
-          stands = stands_still old new v who h.1.node h.1.waits stands;
-          moved = refl;
-          queues = λ k peer. queues_still old new v h.1.waits k (short k peer);
-          found = λ x it. found_by x (h.1.falls.found x it);
-          cause = h.1.falls.cause;
+          next = t;
+          stands = seated_stands same new t behind;
+          moved = ap seen h.2.seat ∙ reach.seen;
+          queues = λ k peer. queues_still old new v t h.2.waits k (ap (posted_to k) h.2.seat
+              ∙ posted_same old.spoiled (Some e) v s reach k) (short k peer);
+          found = λ x it. found_by x (h.2.falls.found x it);
+          cause = h.2.falls.cause;
         },
       )
         where
           found_by : (x : Rows B) → (x ≡ old.node.state.rows) ⊎ (x ≡ accepting.adopted old.node.state.rows o.change)
-              → (x ≡ (seen v).node.rows) ⊎ (x ≡ (outcome_of same old.node.members e (seen v).node).node.rows)
-          found_by x (inl a) = inl (a ∙ ap (λ n. n.rows) stands.node)
-          found_by x (inr b) = inr (b ∙ sym (next_rows old.node.me old.node.members o old.node.state) ∙ ap (λ n. n.rows) next_is)
+              → (x ≡ (seen v).node.rows) ⊎ (x ≡ (moved_by same old.node.members (Some e) (seen v)).node.rows)
+          found_by x (inl is) = inl (is ∙ ap (λ y. y.rows) is_node)
+          found_by x (inr is) = inr (is ∙ sym (next_rows old.node.me old.node.members o old.node.state) ∙ ap (λ y. y.rows) next_is)
+      acts_of fresh short (Err Worn) h = (
+        fresh,
+        h.1,
+        is_taken,
+        agrees,
+        worn_by false h.0,
+        record {
+          next = t;
+          stands = seated_stands same new t behind;
+          moved = inl (ap seen h.2.seat ∙ reach.seen);
+          held = subst (λ x. holds new.keeper x.rows) (is_node ∙ ap (λ x. x.node) (sym (ap seen h.2.seat ∙ reach.seen))) h.2.held;
+        },
+      )
       acts_of fresh short (Err Memory) h = (fresh, h.0, is_taken, stops h.1)
-        where
-          stops : StopsBefore from content holds finds failures old new ⊎ StopsBehind from content holds finds failures o old new
-              → Stops same from content holds finds failures (Some e) old new v
-          stops (inl b) =
-              record { next = v; stands = stands_still old new v who b.node b.waits stands; moved = inl refl; held = subst (λ x. holds new.keeper x.rows) stands.node b.held }
-          stops (inr b) =
-              record {
-                next = on_by old.node.members e v;
-                stands = stands_on b.node b.waits;
-                moved = inr refl;
-                held = subst (λ x. holds new.keeper x.rows) next_is b.held;
-              }
       acts_of fresh short (Err Failed) h = absurd h
       acts_of fresh short (Err Rounds) h = absurd h
       acts_of fresh short (Err Full) h = absurd h
@@ -241,128 +263,219 @@ module _ {B S Y M K : Type 0} (same : B → B → Bool) (from : S → Machine B 
 
   -- refusals
 
-  pub disagree_acts : (e : Event B) (old : Acting B M K) (v : View B) → old.spoiled ≡ false → IsServing holds is_failed old → StandsFor old v
-      → (is_round_refused e old.node.state ≡ false) × (is_full_refused same e old.node.state ≡ false)
-      × ((outcome_of same old.node.members e old.node.state).disagrees ≡ true)
-      → Acts same from content holds finds failures (Some e) old (record old { spoiled = true }) v (Err Disagree)
-  disagree_acts e old v fresh serving stands h = (
-    fresh,
-    refl,
-    (ap (is_round_refused e) (sym stands.node) ∙ h.0, ap (is_full_refused same e) (sym stands.node) ∙ h.1),
-    ap (λ x. (outcome_of same old.node.members e x).disagrees) (sym stands.node) ∙ h.2,
-    record {
-      next = v;
-      stands = stands_still old (record old { spoiled = true }) v (spoiled_who old) refl refl stands;
-      moved = inl refl;
-      held = subst (λ x. holds old.keeper x.rows) stands.node serving.held;
-    },
-  )
+  module _ (e : Event B) (p : Parted B M K) (v s : Seated B) (seated : IsSeated same (acting p s)) (reach : Reaches p.spoiled (Some e) v s)
+    where
+      stays_node : p.node.state ≡ (seen v).node
+      stays_node = sym seated.node ∙ ap (λ x. x.node) reach.seen
 
-  pub memory_acts : (e : Event B) (old : Acting B M K) (v : View B) → old.spoiled ≡ false → IsServing holds is_failed old → StandsFor old v
-      → (is_round_refused e old.node.state ≡ false) × (is_full_refused same e old.node.state ≡ false)
-      → Acts same from content holds finds failures (Some e) old (record old { spoiled = true }) v (Err Memory)
-  memory_acts e old v fresh serving stands h = (
-    fresh,
-    refl,
-    (ap (is_round_refused e) (sym stands.node) ∙ h.0, ap (is_full_refused same e) (sym stands.node) ∙ h.1),
-    record {
-      next = v;
-      stands = stands_still old (record old { spoiled = true }) v (spoiled_who old) refl refl stands;
-      moved = inl refl;
-      held = subst (λ x. holds old.keeper x.rows) stands.node serving.held;
-    },
-  )
+      stops_here : IsServing holds is_failed p → (f : Option (Event B)) → IsSeated same (acting (record p { spoiled = true }) s)
+          → Stops same from content holds finds failures f (acting p v) (acting (record p { spoiled = true }) s) v
+      stops_here serving f behind =
+          record {
+            next = s;
+            stands = seated_stands same (record p { spoiled = true }) s behind;
+            moved = inl reach.seen;
+            held = subst (λ x. holds p.keeper x.rows) (sym seated.node) serving.held;
+          }
+
+      pub disagree_acts : p.spoiled ≡ false → IsServing holds is_failed p → IsSeated same (acting (record p { spoiled = true }) s)
+          → (is_round_refused e p.node.state ≡ false) × (is_full_refused same e p.node.state ≡ false)
+          × ((outcome_of same p.node.members e p.node.state).disagrees ≡ true)
+          → Acts same from content holds finds failures (Some e) (acting p v) (acting (record p { spoiled = true }) s) v (Err Disagree)
+      disagree_acts fresh serving behind h = (
+        fresh,
+        refl,
+        (ap (is_round_refused e) (sym stays_node) ∙ h.0, ap (is_full_refused same e) (sym stays_node) ∙ h.1),
+        ap (λ x. (outcome_of same p.node.members e x).disagrees) (sym stays_node) ∙ h.2,
+        stops_here serving None behind,
+      )
+
+      pub memory_acts : p.spoiled ≡ false → IsServing holds is_failed p → IsSeated same (acting (record p { spoiled = true }) s)
+          → (is_round_refused e p.node.state ≡ false) × (is_full_refused same e p.node.state ≡ false)
+          → Acts same from content holds finds failures (Some e) (acting p v) (acting (record p { spoiled = true }) s) v (Err Memory)
+      memory_acts fresh serving behind h = (
+        fresh,
+        refl,
+        (ap (is_round_refused e) (sym stays_node) ∙ h.0, ap (is_full_refused same e) (sym stays_node) ∙ h.1),
+        stops_here serving (Some e) behind,
+      )
+
+      round_alone : (x : Event B) → is_round_refused x p.node.state ≡ true → packet_in x ≡ []
+      round_alone (Take n t body) h = refl
+      round_alone (Tick n) h = refl
+      round_alone (Start n) h = refl
+      round_alone (Suspect n other) h = refl
+      round_alone (Deliver q) h = absurd (false≢true h)
+      round_alone (Crash n) h = refl
+      round_alone (Restart n) h = refl
+
+      full_alone : (x : Event B) → is_full_refused same x p.node.state ≡ true → packet_in x ≡ []
+      full_alone (Take n t body) h = refl
+      full_alone (Tick n) h = refl
+      full_alone (Start n) h = refl
+      full_alone (Suspect n other) h = refl
+      full_alone (Deliver q) h = absurd (false≢true h)
+      full_alone (Crash n) h = refl
+      full_alone (Restart n) h = refl
+
+      pub rounds_act : p.spoiled ≡ false → is_round_refused e p.node.state ≡ true
+          → Acts same from content holds finds failures (Some e) (acting p v) (acting p s) v (Err Rounds)
+      rounds_act fresh h = (fresh, ap (is_round_refused e) (sym stays_node) ∙ h, ap (acting p) (reach.alone e refl (round_alone e h)))
+
+      pub full_act : p.spoiled ≡ false → is_full_refused same e p.node.state ≡ true
+          → Acts same from content holds finds failures (Some e) (acting p v) (acting p s) v (Err Full)
+      full_act fresh h = (fresh, ap (is_full_refused same e) (sym stays_node) ∙ h, ap (acting p) (reach.alone e refl (full_alone e h)))
+
+  -- a fault has ended the actor before
+  pub failed_acts : (e : Option (Event B)) (p : Parted B M K) (v s : Seated B) → p.spoiled ≡ true → Reaches p.spoiled e v s
+      → Acts same from content holds finds failures e (acting p v) (acting p s) v (Err Failed)
+  failed_acts e p v s spoiled reach = (spoiled, ap (acting p) (reach.ended spoiled))
 
   -- no event
-
-  pub pass_acts : (old : Acting B M K) (v : View B) (says : Vec Y Global) → says.items ≡ [] → old.spoiled ≡ false → IsServing holds is_failed old
-      → ((k : ℕ) → IsPeer old.node.me old.node.members k → length (waiting k old.waiting) ≤ most_waiting) → StandsFor old v
-      → Acts same from content holds finds failures None old old v (Ok says)
-  pass_acts old v says silent fresh serving short stands = (
+  pub pass_acts : (p : Parted B M K) (v s : Seated B) (says : Vec Y Global) → says.items ≡ [] → p.spoiled ≡ false
+      → IsServing holds is_failed p
+      → ((k : ℕ) → IsPeer p.node.me p.node.members k → length (waiting k p.waiting) ≤ most_waiting) → IsSeated same (acting p s)
+      → Reaches p.spoiled None v s → Acts same from content holds finds failures None (acting p v) (acting p s) v (Ok says)
+  pass_acts p v s says silent fresh serving short seated reach = (
     fresh,
     fresh,
-    ((refl, refl), refl),
-    ap (λ x. x.up) (sym stands.node) ∙ serving.up,
+    ((refl, refl), refl, refl),
+    ap (λ x. x.node.up) (sym reach.seen) ∙ ap (λ x. x.up) seated.node ∙ serving.up,
     record {
-      next = v;
-      stands = stands;
-      moved = refl;
-      received = λ k. sym (append-nil (received_from k v));
-      queues = λ k peer. queues_still old old v refl k (short k peer);
-      held = subst (λ x. holds old.keeper x.rows) stands.node serving.held;
+      next = s;
+      stands = seated_stands same p s seated;
+      moved = reach.seen;
+      received = reach.received;
+      queues = λ k peer. queues_still p p v s refl k (posted_same p.spoiled None v s reach k) (short k peer);
+      held = subst (λ x. holds p.keeper x.rows) (sym seated.node) serving.held;
       says = λ first h. silent;
       follows = λ first h. h;
     },
   )
 
+-- events that a call may make
+
+pub owned_event : {B : Type 0} (me : ℕ) (e : Event B) → is_own me e ≡ true → (owner e ≡ me) × (is_planned e ≡ true) × (packet_in e ≡ [])
+owned_event me (Take n t body) h = (eqb-true n me (and_parts (eqb n me) _ h).0, refl, refl)
+owned_event me (Tick n) h = (eqb-true n me h, refl, refl)
+owned_event me (Start n) h = (eqb-true n me h, refl, refl)
+owned_event me (Suspect n other) h = (eqb-true n me h, refl, refl)
+owned_event me (Deliver p) h = absurd (false≢true h)
+owned_event me (Crash n) h = absurd (false≢true h)
+owned_event me (Restart n) h = absurd (false≢true h)
+
+possible_event : {B : Type 0} (me : ℕ) (e : Event B) (x : NodeState B) → is_own me e ≡ true → x.up ≡ true → possible e x ≡ true
+possible_event me (Take n t body) x h up = and_from x.up _ up (and_parts (eqb n me) _ h).1
+possible_event me (Tick n) x h up = up
+possible_event me (Start n) x h up = up
+possible_event me (Suspect n other) x h up = up
+possible_event me (Deliver p) x h up = absurd (false≢true h)
+possible_event me (Crash n) x h up = absurd (false≢true h)
+possible_event me (Restart n) x h up = absurd (false≢true h)
+
 module _ {B M K : Type 0} (same : B → B → Bool) (holds : K → Rows B → Type 0) (is_failed : K → Bool) where
   -- what waits is within the limit
-  pub shorts : (old : Acting B M K) → IsSound same holds is_failed old → HasLimits old.waiting → (k : ℕ) → IsPeer old.node.me old.node.members k
+  pub shorts : (old : Parted B M K) → IsSound same holds is_failed old → HasLimits old.waiting → (k : ℕ)
+      → IsPeer old.node.me old.node.members k
       → length (waiting k old.waiting) ≤ most_waiting
   shorts old sound limits k peer = limits k (peer_of old sound.me sound.members k peer)
 
   -- an event of its own is possible at an actor that goes on
-  pub plans_own : (a : Acting B M K) (e : Event B) → IsSound same holds is_failed a → a.spoiled ≡ false → owner e ≡ a.waiting.me
+  pub plans_own : (a : Parted B M K) (e : Event B) → IsSound same holds is_failed a → a.spoiled ≡ false → owner e ≡ a.waiting.me
       → is_planned e ≡ true → (a.node.state.up ≡ true → possible e a.node.state ≡ true) → plans a.node.me e a.node.state ≡ true
   plans_own a e sound fresh own planned may =
       let mine : eqb (owner e) a.node.me ≡ true = eq-eqb (owner e) a.node.me (own ∙ sound.me) in
       and_from _ _ mine (and_from _ _ planned (may (sound.serves fresh).up))
 
+  -- so is one that a call may make
+  pub plans_event : (a : Parted B M K) (e : Event B) → IsSound same holds is_failed a → a.spoiled ≡ false → is_own a.node.me e ≡ true
+      → plans a.node.me e a.node.state ≡ true
+  plans_event a e sound fresh own =
+      let o = owned_event a.node.me e own in
+      plans_own a e sound fresh (o.0 ∙ sym sound.me) o.1 (possible_event a.node.me e a.node.state own)
+
   -- a packet that is for the node, from another member, is its event, and no other is
-  for_node : (a : Acting B M K) (p : Packet B) (b : Bool) → IsSound same holds is_failed a → is_for a.waiting.me a.waiting.members p ≡ b
+  for_node : (a : Parted B M K) (p : Packet B) (b : Bool) → IsSound same holds is_failed a → is_for a.waiting.me a.waiting.members p ≡ b
       → is_for a.node.me a.node.members p ≡ b
   for_node a p b sound h =
       subst (λ n. is_for n a.node.members p ≡ b) sound.me (subst (λ n. is_for a.waiting.me n p ≡ b) sound.members h)
 
-  pub none_in : (a : Acting B M K) (p : Packet B) → IsSound same holds is_failed a → is_for a.waiting.me a.waiting.members p ≡ false
+  pub none_in : (a : Parted B M K) (p : Packet B) → IsSound same holds is_failed a → is_for a.waiting.me a.waiting.members p ≡ false
       → turn_event a.node.me a.node.members (Some p) ≡ None
   none_in a p sound h = rw (for_node a p false sound h) refl
 
-  pub event_in : (a : Acting B M K) (p : Packet B) → IsSound same holds is_failed a → is_for a.waiting.me a.waiting.members p ≡ true
+  pub event_in : (a : Parted B M K) (p : Packet B) → IsSound same holds is_failed a → is_for a.waiting.me a.waiting.members p ≡ true
       → turn_event a.node.me a.node.members (Some p) ≡ Some (Deliver p)
   event_in a p sound h = rw (for_node a p true sound h) refl
 
 module _ {B M K : Type 0} where
-  pub addressed : (a : Acting B M K) (p : Packet B) → is_for a.waiting.me a.waiting.members p ≡ true → p.addressee ≡ a.waiting.me
+  pub addressed : (a : Parted B M K) (p : Packet B) → is_for a.waiting.me a.waiting.members p ≡ true → p.addressee ≡ a.waiting.me
   addressed a p h = eqb-true p.addressee a.waiting.me (and_parts (eqb p.addressee a.waiting.me) _ h).0
+
+-- the seat is as the event found it
+pub reaches_self : {B : Type 0} (ended : Bool) (e : Option (Event B)) (s : Seated B) → received_by e ≡ [] → Reaches ended e s s
+reaches_self ended e s none =
+    record {
+      table = refl;
+      me = refl;
+      seen = refl;
+      events = refl;
+      posted = refl;
+      received = λ k. sym (append-nil (received_from k s)) ∙ ap (λ ps. received_from k s ++ filter (λ p. p.sender == k) ps) (sym none);
+      ended = λ h. refl;
+      alone = λ x is none. refl;
+    }
 
 module _ {B S Y M K : Type 0} (same : B → B → Bool) (from : S → Machine B S Y) (content : M → S) (holds : K → Rows B → Type 0)
     (finds : K → Rows B → Type 0) (failures : K → ℕ) where
-  pub rounds_act : (e : Event B) (old : Acting B M K) (v : View B) → old.spoiled ≡ false → StandsFor old v → is_round_refused e old.node.state ≡ true
-      → Acts same from content holds finds failures (Some e) old old v (Err Rounds)
-  rounds_act e old v fresh stands h = (fresh, ap (is_round_refused e) (sym stands.node) ∙ h, refl)
-
-  pub full_act : (e : Event B) (old : Acting B M K) (v : View B) → old.spoiled ≡ false → StandsFor old v → is_full_refused same e old.node.state ≡ true
-      → Acts same from content holds finds failures (Some e) old old v (Err Full)
-  full_act e old v fresh stands h = (fresh, ap (is_full_refused same e) (sym stands.node) ∙ h, refl)
+  -- an event that is told in two ways
+  pub acts_by : (e f : Option (Event B)) (p : Parted B M K) (s : Seated B) (new : Acting B M K)
+      (result : Result (Vec Y Global) (ActorFault Y))
+      → e ≡ f → ((v : View B) → Reaches p.spoiled f v s → Acts same from content holds finds failures f (acting p v) new v result)
+      → (v : View B) → Reaches p.spoiled e v s → Acts same from content holds finds failures e (acting p v) new v result
+  acts_by e f p s new result is h v reach =
+      subst (λ x. Acts same from content holds finds failures x (acting p v) new v result) (sym is)
+      (h v (subst (λ x. Reaches p.spoiled x v s) is reach))
 
   -- the event of a call, told of the value that the actor shows
-  pub acts_seen : (E : ℕ → ℕ → Option (Event B)) (e : Option (Event B)) (a now new : Acting B M K) (result : Result (Vec Y Global) (ActorFault Y))
-      → E a.node.me a.node.members ≡ e → a ≡ now
-      → ((v : View B) → StandsFor a v → Acts same from content holds finds failures e a new v result)
+  pub acts_seen : (E : ℕ → ℕ → Option (Event B)) (e : Option (Event B)) (p : Parted B M K) (s : Seated B) (now new : Acting B M K)
+      (result : Result (Vec Y Global) (ActorFault Y)) → E p.node.me p.node.members ≡ e → received_by e ≡ [] → acting p s ≡ now
+      → ((v : View B) → Reaches p.spoiled e v s → Acts same from content holds finds failures e (acting p v) new v result)
       → (v : View B) → StandsFor now v → Acts same from content holds finds failures (E now.node.me now.node.members) now new v result
-  acts_seen E e a now new result is same_actor h =
-      subst (λ (x : Acting B M K). (v : View B) → StandsFor x v → Acts same from content holds finds failures (E x.node.me x.node.members) x new v result)
-      same_actor (λ v stands. subst (λ f. Acts same from content holds finds failures f a new v result) (sym is) (h v stands))
+  acts_seen E e p s now new result is none same_actor h =
+      subst (λ (x : Acting B M K). (v : View B) → StandsFor x v → Acts same from content holds finds failures (E x.node.me x.node.members)
+      x new v result)
+      same_actor (λ v stands. subst (λ x. Acts same from content holds finds failures (E p.node.me p.node.members) (acting p s) new x
+      result) stands.seat
+      (subst (λ f. Acts same from content holds finds failures f (acting p s) new s result) (sym is)
+      (h s (reaches_self p.spoiled e s none))))
 
   -- the same where nothing happens
-  pub acts_passed : (E : ℕ → ℕ → Option (Event B)) (a now : Acting B M K) (result : Result (Vec Y Global) (ActorFault Y))
-      → E a.node.me a.node.members ≡ None → a ≡ now
-      → ((v : View B) → StandsFor a v → Acts same from content holds finds failures None a a v result)
+  pub acts_passed : (E : ℕ → ℕ → Option (Event B)) (p : Parted B M K) (s : Seated B) (now : Acting B M K)
+      (result : Result (Vec Y Global) (ActorFault Y))
+      → E p.node.me p.node.members ≡ None → acting p s ≡ now
+      → ((v : View B) → Reaches p.spoiled None v s → Acts same from content holds finds failures None (acting p v) (acting p s) v result)
       → (v : View B) → StandsFor now v → Acts same from content holds finds failures (E now.node.me now.node.members) now now v result
-  acts_passed E a now result is same_actor h =
-      subst (λ (x : Acting B M K). (v : View B) → StandsFor x v → Acts same from content holds finds failures (E x.node.me x.node.members) x x v result)
-      same_actor (λ v stands. subst (λ f. Acts same from content holds finds failures f a a v result) (sym is) (h v stands))
+  acts_passed E p s now result is same_actor h =
+      subst (λ (x : Acting B M K). (v : View B) → StandsFor x v → Acts same from content holds finds failures (E x.node.me x.node.members)
+      x x v result)
+      same_actor (λ v stands. subst (λ x. Acts same from content holds finds failures (E p.node.me p.node.members) (acting p s)
+      (acting p s) x result) stands.seat
+      (subst (λ f. Acts same from content holds finds failures f (acting p s) (acting p s) s result) (sym is)
+      (h s (reaches_self p.spoiled None s refl))))
 
-pub take_some : {B : Type 0} (me n number : ℕ) (body : B) → (number ≡ 0 → ⊥) → n ≡ me → take_event me number body ≡ Some (Take n number body)
+pub take_some : {B : Type 0} (me n number : ℕ) (body : B) → (number ≡ 0 → ⊥) → n ≡ me
+    → take_event me number body ≡ Some (Take n number body)
 take_some me n number body nonzero is = rw (ne_eqb number 0 nonzero) (ap (λ k. Some (Take k number body)) (sym is))
 
 -- what a plan's answer says of the refusals before it
 
-pub told_disagree : {A : Type 0} (rounds full other : Bool) (P : A → Type 0) (f : NodeFault) → f ≡ node_fault.Disagree → Answers rounds full other P (Err f)
+pub told_disagree : {A : Type 0} (rounds full other : Bool) (P : A → Type 0) (f : NodeFault) → f ≡ node_fault.Disagree
+    → Answers rounds full other P (Err f)
     → (rounds ≡ false) × (full ≡ false) × (other ≡ true)
 told_disagree rounds full other P f e h = subst (λ x. Answers rounds full other P (Err x)) e h
 
-pub told_memory : {A : Type 0} (rounds full other : Bool) (P : A → Type 0) (f : NodeFault) → f ≡ node_fault.Memory → Answers rounds full other P (Err f)
+pub told_memory : {A : Type 0} (rounds full other : Bool) (P : A → Type 0) (f : NodeFault) → f ≡ node_fault.Memory
+    → Answers rounds full other P (Err f)
     → (rounds ≡ false) × (full ≡ false)
 told_memory rounds full other P f e h = subst (λ x. Answers rounds full other P (Err x)) e h

@@ -1,65 +1,44 @@
--- A node with its store and its machine, as callers see it (docs/CONSENSUS.md, "A node with its store").
-use Rattle.std.specs.Prelude.{◌≡◌, ℕ, ◌<◌, Bool, true, false, Option, Some, None, List, [], ◌++◌, length}
-use Rattle.paxos_packets.specs.Members.{IsMember}
+-- A node with its store, its machine and its seat at the table, as callers see it (docs/CONSENSUS.md, "A node with its store").
+use Rattle.std.specs.Prelude.{◌≡◌, ℕ, Bool, Option, Some, All, Contains}
 use Rattle.paxos_packets.specs.declared.rows.Rows.{Rows}
-use Rattle.replica_machine.specs.Log.{LogState, learned_in}
-use Rattle.paxos_node.specs.declared.event.Event.{Event}
-use Rattle.paxos_node.specs.declared.outcome.Outcome.{Outcome}
-use Rattle.paxos_turn.specs.Node.{NodeState}
+use Rattle.replica_machine.specs.Log.{LogState}
+use Rattle.packet_outboxes.specs.Outboxes.{Waiting, waiting, IsPeer}
 use Rattle.paxos_node.specs.Held.{Held}
-use Rattle.paxos_node.specs.Plans.{plans}
-use Rattle.paxos_node.specs.Adopting.{Planned}
-use Rattle.packet_outboxes.specs.Outboxes.{Waiting}
+use Rattle.paxos_node.specs.declared.outcome.Outcome.{Outcome}
+use Rattle.paxos_node.specs.declared.view.Opened.TheVariants.{With}
+use Rattle.actor_parts.specs.Parts.{Parted}
+use Rattle.mail_table.specs.Boxes.{Follows}
+use Rattle.mail_table.specs.Seats.{Seated}
 
 pub record Acting (B M K : Type 0) : Type 0 where
   pub node : Held B
   pub keeper : K
-  -- the packets that wait to go out
+  -- the packets that wait to be posted
   pub waiting : Waiting B
   pub log : LogState B M
   -- the outcome whose commit failed
   pub failed : Option (Outcome B)
   -- whether a fault has ended it
   pub spoiled : Bool
+  -- its node's seat at the table
+  pub seat : Seated B
 
--- an actor that has just begun
-abbrev pub first_actor : {B M K : Type 0} → Held B → K → Waiting B → M → Acting B M K
-first_actor h keeper w machine =
-    record {
-      node = h;
-      keeper = keeper;
-      waiting = w;
-      log = record { applied = []; ahead = []; machine = machine; failed = false };
-      failed = None;
-      spoiled = false;
-    }
+-- an actor of these parts at this seat, and the parts of an actor
 
--- the list begins with these
-abbrev pub IsPrefixOf : {A : Type 0} → List A → List A → Type 0
-IsPrefixOf {A} xs ys = (rest : List A) × (xs ++ rest ≡ ys)
+abbrev pub acting : {B M K : Type 0} → Parted B M K → Seated B → Acting B M K
+acting p s =
+    record { node = p.node; keeper = p.keeper; waiting = p.waiting; log = p.log; failed = p.failed; spoiled = p.spoiled; seat = s }
 
--- the outcome is that of some event of this node
-pub record IsPlan {B : Type 0} (same : B → B → Bool) (me members : ℕ) (x : NodeState B) (o : Outcome B) : Type 0 where
-  pub event : Event B
-  pub plans : plans me event x ≡ true
-  pub planned : Planned same members event x o
+abbrev pub parts : {B M K : Type 0} → Acting B M K → Parted B M K
+parts a = record { node = a.node; keeper = a.keeper; waiting = a.waiting; log = a.log; failed = a.failed; spoiled = a.spoiled }
 
-module _ {B M K : Type 0} where
-  -- what holds of an actor that goes on: its keeper holds its rows, and its machine has followed its log
-  pub record IsServing (holds : K → Rows B → Type 0) (is_failed : K → Bool) (a : Acting B M K) : Type 0 where
-    pub up : a.node.state.up ≡ true
-    pub held : holds a.keeper a.node.state.rows
-    pub whole : is_failed a.keeper ≡ false
-    pub followed : a.log.applied ≡ a.node.state.applied
-    pub alive : a.log.failed ≡ false
-    pub committed : a.failed ≡ None
-    pub ahead : (slot : ℕ) → length a.log.applied < slot → learned_in slot a.log ≡ None
-
-  -- what holds of every actor
-  pub record IsSound (same : B → B → Bool) (holds : K → Rows B → Type 0) (is_failed : K → Bool) (a : Acting B M K) : Type 0 where
-    pub me : a.waiting.me ≡ a.node.me
-    pub members : a.waiting.members ≡ a.node.members
-    pub member : IsMember a.node.members a.node.me
-    pub serves : a.spoiled ≡ false → IsServing holds is_failed a
-    pub failed : (o : Outcome B) → a.failed ≡ Some o → IsPlan same a.node.me a.node.members a.node.state o
-    pub front : a.node.state.up ≡ true → IsPrefixOf a.log.applied a.node.state.applied
+-- what holds of every actor and its seat: the seat knows the actor's node, which was opened, and sent all that waits; and the outcome whose
+-- commit failed is one that the seat may yet take
+pub record IsSeated {B M K : Type 0} (same : B → B → Bool) (a : Acting B M K) : Type 0 where
+  pub me : a.seat.part.me ≡ a.node.me
+  pub members : a.seat.members ≡ a.node.members
+  pub node : a.seat.part.seen.node ≡ a.node.state
+  pub rows : Rows B
+  pub opened : a.seat.part.seen.opened ≡ With rows
+  pub waits : (k : ℕ) → IsPeer a.node.me a.node.members k → All (Contains a.seat.part.seen.sent) (waiting k a.waiting)
+  pub failed : (o : Outcome B) → a.failed ≡ Some o → Follows same a.seat.members a.seat.part o

@@ -1,10 +1,9 @@
 -- What the calls of an actor promise, told of each view that it stands for (docs/CONSENSUS.md, "A node with its store").
 use Rattle.std.specs.Prelude.{◌≡◌, ◌⊎◌, ℕ, ◌<◌, Bool, true, false, ◌==◌, Option, Some, None, Result, Ok, Err, IfOk, IfErr, is_err, List, []}
-use Rattle.std.specs.Prelude.{◌++◌, filter, not, ◌&&◌}
+use Rattle.std.specs.Prelude.{◌++◌, filter, not, ◌&&◌, nat_lt, ◌^◌}
 use Rattle.std.specs.Prelude.{if◌then◌else◌}
 use Rattle.std.specs.declared.vec.Vec.{Vec}
 use Rattle.std.specs.declared.alloc.Global.{Global}
-use Rattle.paxos_packets.specs.Members.{is_member}
 use Rattle.paxos_packets.specs.declared.packet.Packet.{Packet}
 use Rattle.paxos_packets.specs.declared.rows.Rows.{Rows}
 use Rattle.acceptor_keeper.specs.declared.fault.KeeperFault.{KeeperFault}
@@ -13,14 +12,14 @@ use Rattle.replica_machine.specs.Log.{Follows}
 use Rattle.replica_machine.specs.Replay.{Machine}
 use Rattle.packet_outboxes.specs.Outboxes.{IsPeer}
 use Rattle.paxos_node.specs.declared.event.Event.{Event}
-use Rattle.paxos_node.specs.declared.event.Event.TheVariants.{Take, Deliver}
+use Rattle.paxos_node.specs.declared.event.Event.TheVariants.{Take, Tick, Start, Suspect, Deliver, Crash, Restart}
 use Rattle.paxos_node.specs.Events.{outcome_of, is_round_refused, is_full_refused}
 use Rattle.paxos_turn.specs.Node.{NodeState}
-use Rattle.node_actor.specs.declared.fault.ActorFault.{ActorFault}
-use Rattle.node_actor.specs.declared.fault.ActorFault.TheVariants.{Failed, Rounds, Full, Keeper, Disagree, LostHere, Memory}
+use Rattle.actor_parts.specs.declared.fault.ActorFault.{ActorFault}
+use Rattle.actor_parts.specs.declared.fault.ActorFault.TheVariants.{Failed, Rounds, Full, Keeper, Disagree, LostHere, Worn, Memory}
 use Rattle.node_actor.specs.Actor.{Acting}
-use Rattle.node_actor.specs.Handing.{handed_by}
-use Rattle.node_actor.specs.Views.{View, seen, received_from, StandsFor, moved_by, sent_by, received_by, Queues}
+use Rattle.actor_parts.specs.Handing.{handed_by}
+use Rattle.node_actor.specs.Views.{View, seen, is_for, received_from, StandsFor, moved_by, sent_by, received_by, Queues}
 
 -- the event that a call makes at a node, if any: no act of the transport 0 is taken, and no packet treated that is for another node, or
 -- from no other member
@@ -28,12 +27,19 @@ use Rattle.node_actor.specs.Views.{View, seen, received_from, StandsFor, moved_b
 abbrev pub take_event : {B : Type 0} → ℕ → ℕ → B → Option (Event B)
 take_event me number body = if number == 0 then None else Some (Take me number body)
 
-abbrev pub is_for : {B : Type 0} → ℕ → ℕ → Packet B → Bool
-is_for me members p = (p.addressee == me) && (is_member members p.sender && not (p.sender == me))
-
 abbrev pub turn_event : {B : Type 0} → ℕ → ℕ → Option (Packet B) → Option (Event B)
 turn_event me members None = None
 turn_event me members (Some p) = if is_for me members p then Some (Deliver p) else None
+
+-- an event of this node that a call may make: no packet is delivered but by a turn, and no act of the transport 0 is taken
+abbrev pub is_own : {B : Type 0} → ℕ → Event B → Bool
+is_own me (Take n t body) = (n == me) && nat_lt 0 t
+is_own me (Tick n) = n == me
+is_own me (Start n) = n == me
+is_own me (Suspect n other) = n == me
+is_own me (Deliver p) = false
+is_own me (Crash n) = false
+is_own me (Restart n) = false
 
 -- where the event is refused
 
@@ -48,6 +54,11 @@ has_no_room same (Some e) x = is_full_refused same e x
 abbrev pub disagrees : {B : Type 0} → (B → B → Bool) → ℕ → Option (Event B) → NodeState B → Bool
 disagrees same members None x = false
 disagrees same members (Some e) x = (outcome_of same members e x).disagrees
+
+-- where the word of the view's node has counted all events that it can
+abbrev pub is_worn : {B : Type 0} → Option (Event B) → View B → Bool
+is_worn None v = false
+is_worn (Some e) v = not (nat_lt v.part.events (2 ^ 62))
 
 -- a call that makes no event: nothing changes and nothing is said, and a fault is answered exactly where one has ended the actor before
 pub record Rests {B Y M K : Type 0} (old new : Acting B M K) (result : Result (Vec Y Global) (ActorFault Y)) : Type 0 where
@@ -91,7 +102,7 @@ module _ {B S Y M K : Type 0} (same : B → B → Bool) (from : S → Machine B 
   IsTaken e old v = (has_no_round e (seen v).node ≡ false) × (has_no_room same e (seen v).node ≡ false)
 
   abbrev pub IsAgreed : Option (Event B) → Acting B M K → View B → Type 0
-  IsAgreed e old v = IsTaken e old v × (disagrees same old.node.members e (seen v).node ≡ false)
+  IsAgreed e old v = IsTaken e old v × (disagrees same old.node.members e (seen v).node ≡ false) × (is_worn e v ≡ false)
 
   -- what a call answers that makes this event, and what it makes of the actor
   abbrev pub Acts : Option (Event B) → Acting B M K → Acting B M K → View B → Result (Vec Y Global) (ActorFault Y) → Type 0
@@ -108,4 +119,7 @@ module _ {B S Y M K : Type 0} (same : B → B → Bool) (from : S → Machine B 
   Acts e old new v (Err (LostHere says)) =
       (old.spoiled ≡ false) × (new.spoiled ≡ true) × IsAgreed e old v
       × ((moved_by same old.node.members e (seen v)).node.up ≡ false) × Goes e old new v says.items
+  Acts e old new v (Err Worn) =
+      (old.spoiled ≡ false) × (new.spoiled ≡ true) × IsTaken e old v × (disagrees same old.node.members e (seen v).node ≡ false)
+      × (is_worn e v ≡ true) × Stops None old new v
   Acts e old new v (Err Memory) = (old.spoiled ≡ false) × (new.spoiled ≡ true) × IsTaken e old v × Stops e old new v

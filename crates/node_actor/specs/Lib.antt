@@ -1,9 +1,6 @@
 pub mod Actor
-pub mod Handing
-pub mod Views
-pub mod Fault
 pub mod Steps
+pub mod Views
 pub mod Calls
-pub mod Posts
-pub mod Outgoing
+pub mod Turns
 pub mod Restarts

@@ -1,155 +1,35 @@
--- What an actor makes of an outcome that its node has planned.
-use Rattle.std.specs.Prelude.{◌≡◌, ◌⊎◌, ℕ, ◌<◌, true, false, Some, None, Result, Ok, Err, List, [], ◌∷◌, ◌++◌, length}
+-- What an actor makes of an outcome that its node has planned: committed, taken at the table, adopted.
+use Rattle.std.specs.Prelude.{◌≡◌, ◌⊎◌, ℕ, nat_lt, ◌^◌, Bool, true, false, Some, None, Result, Ok, Err, List, ◌++◌}
 use Rattle.std.specs.declared.vec.Vec.{Vec}
 use Rattle.std.specs.declared.alloc.Global.{Global}
-use Rattle.paxos_packets.specs.declared.entry.Entry.{Entry}
-use Rattle.paxos_packets.specs.declared.rows.Change.{Change}
 use Rattle.paxos_packets.specs.declared.rows.Rows.{Rows}
-use Rattle.paxos_acceptor.specs.Acceptor as accepting
 use Rattle.acceptor_keeper.specs.declared.fault.KeeperFault.{KeeperFault}
-use Rattle.acceptor_keeper.specs.declared.fault.KeeperFault.TheVariants as store
-use Rattle.replica_machine.specs.Log.{LogState, Follows, learned_in}
-use Rattle.replica_machine.specs.Replay.{Machine, sayings_behind}
+use Rattle.replica_machine.specs.Log.{Follows}
+use Rattle.replica_machine.specs.Replay.{Machine}
 use Rattle.packet_outboxes.specs.Outboxes.{WaitBehind}
 use Rattle.paxos_node.specs.declared.outcome.Outcome.{Outcome}
-use Rattle.paxos_turn.specs.Node.{NodeState}
-use Rattle.paxos_node.specs.Adopting.{adopted}
-use Rattle.node_actor.specs.declared.fault.ActorFault.{ActorFault}
-use Rattle.node_actor.specs.declared.fault.ActorFault.TheVariants.{Failed, Rounds, Full, Keeper, Disagree, LostHere, Memory}
-use Rattle.node_actor.specs.Actor.{Acting, IsPrefixOf}
-use Rattle.node_actor.specs.Handing.{handed_out}
+use Rattle.actor_parts.specs.declared.fault.ActorFault.{ActorFault}
+use Rattle.actor_parts.specs.declared.fault.ActorFault.TheVariants.{Failed, Rounds, Full, Keeper, Disagree, LostHere, Worn, Memory}
+use Rattle.actor_parts.specs.Parts.{IsPrefixOf}
+use Rattle.actor_parts.specs.Handing.{handed_out}
+use Rattle.actor_parts.specs.Steps.{Falls, next_node}
+use Rattle.mail_table.specs.Seats.{Seated}
+use Rattle.node_actor.specs.Actor.{Acting, parts}
+use Rattle.actor_posts.specs.Posts.{advanced}
 
--- what a store holds and may find behind a change
-module _ {B K : Type 0} (finds : K → Rows B → Type 0) (failures : K → ℕ) where
-  -- a fault came with a failure where it says so, and the rows that are found are those of before or those with the change
-  pub record Falls (change : Change B) (rows : Rows B) (old new : K) (fault : KeeperFault) : Type 0 where
-    pub found : (x : Rows B) → finds new x → (x ≡ rows) ⊎ (x ≡ accepting.adopted rows change)
-    pub cause : fault ≡ store.Store → failures old < failures new
-
--- nothing is learned ahead of what is applied
-abbrev pub IsAtEnd : {B M : Type 0} → LogState B M → Type 0
-IsAtEnd log = (slot : ℕ) → length log.applied < slot → learned_in slot log ≡ None
-
--- what a machine says and becomes at entries behind its log
-module _ {B S Y M : Type 0} (from : S → Machine B S Y) (content : M → S) where
-  -- the entry is applied behind the log, and these are the sayings at it
-  pub record SaysAt (entry : Entry B) (old new : LogState B M) (said : List Y) : Type 0 where
-    pub applied : new.applied ≡ old.applied ++ entry ∷ []
-    pub alive : new.failed ≡ false
-    pub says : (first : S) → Follows from content first old → said ≡ sayings_behind (from first) old.applied (entry ∷ [])
-    pub follows : (first : S) → Follows from content first old → Follows from content first new
-
-  -- the entries are applied behind the log, and these are the sayings at them to the transports of a node in a boot
-  pub record Applied (node boot : ℕ) (entries : List (Entry B)) (old new : LogState B M) (said : List Y) : Type 0 where
-    pub applied : new.applied ≡ old.applied ++ entries
-    pub alive : new.failed ≡ false
-    pub says : (first : S) → Follows from content first old → said ≡ handed_out (from first) node boot old.applied entries
-    pub follows : (first : S) → Follows from content first old → Follows from content first new
-
--- one part of an actor changes, and the others stay
-module _ {B M K : Type 0} where
-  pub record OnlyNode (old new : Acting B M K) : Type 0 where
-    pub keeper : new.keeper ≡ old.keeper
-    pub waiting : new.waiting ≡ old.waiting
-    pub log : new.log ≡ old.log
-    pub failed : new.failed ≡ old.failed
-    pub spoiled : new.spoiled ≡ old.spoiled
-
-  pub record OnlyKeeper (old new : Acting B M K) : Type 0 where
-    pub node : new.node ≡ old.node
-    pub waiting : new.waiting ≡ old.waiting
-    pub log : new.log ≡ old.log
-    pub failed : new.failed ≡ old.failed
-    pub spoiled : new.spoiled ≡ old.spoiled
-
-  pub record OnlyLog (old new : Acting B M K) : Type 0 where
-    pub node : new.node ≡ old.node
-    pub keeper : new.keeper ≡ old.keeper
-    pub waiting : new.waiting ≡ old.waiting
-    pub failed : new.failed ≡ old.failed
-    pub spoiled : new.spoiled ≡ old.spoiled
-
-  pub record OnlyWaiting (old new : Acting B M K) : Type 0 where
-    pub node : new.node ≡ old.node
-    pub keeper : new.keeper ≡ old.keeper
-    pub log : new.log ≡ old.log
-    pub failed : new.failed ≡ old.failed
-    pub spoiled : new.spoiled ≡ old.spoiled
-    pub me : new.waiting.me ≡ old.waiting.me
-    pub members : new.waiting.members ≡ old.waiting.members
-
-  -- the node that adopts the outcome
-  abbrev pub next_node : Outcome B → Acting B M K → NodeState B
-  next_node o a = adopted a.node.me a.node.members o a.node.state
-
-  -- the outcome is adopted, and its packets wait
-  pub record Adopts (o : Outcome B) (old new : Acting B M K) : Type 0 where
-    pub node : new.node.state ≡ next_node o old
-    pub me : new.node.me ≡ old.node.me
-    pub members : new.node.members ≡ old.node.members
-    pub waits : WaitBehind o.packets old.waiting new.waiting
-    pub waits_me : new.waiting.me ≡ old.waiting.me
-    pub waits_members : new.waiting.members ≡ old.waiting.members
-    pub keeper : new.keeper ≡ old.keeper
-    pub log : new.log ≡ old.log
-    pub failed : new.failed ≡ old.failed
-    pub spoiled : new.spoiled ≡ old.spoiled
-
-  -- its node, its members and whom its outboxes are for stay
-  pub record StaysWho (old new : Acting B M K) : Type 0 where
-    pub me : new.node.me ≡ old.node.me
-    pub members : new.node.members ≡ old.node.members
-    pub waits_me : new.waiting.me ≡ old.waiting.me
-    pub waits_members : new.waiting.members ≡ old.waiting.members
-
--- what is said is answered while the node is up; else the actor is spoiled, and says so
-abbrev pub AnswersUp : {B M K Y : Type 0} → List Y → Acting B M K → Acting B M K → Result (Vec Y Global) (ActorFault Y) → Type 0
-AnswersUp says old new (Ok found) = (old.node.state.up ≡ true) × (new ≡ old) × (found.items ≡ says)
-AnswersUp says old new (Err (LostHere found)) = (old.node.state.up ≡ false) × (new ≡ record old { spoiled = true }) × (found.items ≡ says)
-AnswersUp says old new (Err (Keeper fault)) = ⊥
-AnswersUp says old new (Err Memory) = ⊥
-AnswersUp says old new (Err Failed) = ⊥
-AnswersUp says old new (Err Rounds) = ⊥
-AnswersUp says old new (Err Full) = ⊥
-AnswersUp says old new (Err Disagree) = ⊥
-
-module _ {B S Y M K : Type 0} (from : S → Machine B S Y) (content : M → S) where
-  -- the outcome is adopted, and the machine has followed what it applied
-  pub record Takes (o : Outcome B) (old new : Acting B M K) (says : List Y) : Type 0 where
-    pub node : new.node.state ≡ next_node o old
-    pub waits : WaitBehind o.packets old.waiting new.waiting
-    pub keeper : new.keeper ≡ old.keeper
-    pub failed : new.failed ≡ old.failed
-    pub applied : Applied from content old.waiting.me old.node.state.rows.boot o.applied old.log new.log says
-    pub end : IsAtEnd new.log
-
-  -- the same, but the machine has followed the first of these alone
-  pub record TakesNot (o : Outcome B) (old new : Acting B M K) : Type 0 where
-    pub node : new.node.state ≡ next_node o old
-    pub front : IsPrefixOf new.log.applied (old.log.applied ++ o.applied)
-    pub waits : WaitBehind o.packets old.waiting new.waiting
-    pub keeper : new.keeper ≡ old.keeper
-    pub failed : new.failed ≡ old.failed
-
-  -- all that may come of an outcome that is committed
-  abbrev pub TakesIn : Outcome B → Acting B M K → Acting B M K → Result (Vec Y Global) (ActorFault Y) → Type 0
-  TakesIn o old new (Ok says) = (new.node.state.up ≡ true) × (new.spoiled ≡ old.spoiled) × Takes o old new says.items
-  TakesIn o old new (Err (LostHere says)) = (new.node.state.up ≡ false) × (new.spoiled ≡ true) × Takes o old new says.items
-  TakesIn o old new (Err Memory) = (new.spoiled ≡ true) × TakesNot o old new
-  TakesIn o old new (Err (Keeper fault)) = ⊥
-  TakesIn o old new (Err Failed) = ⊥
-  TakesIn o old new (Err Rounds) = ⊥
-  TakesIn o old new (Err Full) = ⊥
-  TakesIn o old new (Err Disagree) = ⊥
+-- the word of the seat's node counts one event more
+abbrev pub may_advance : {B : Type 0} → Seated B → Bool
+may_advance s = nat_lt s.part.events (2 ^ 62)
 
 module _ {B S Y M K : Type 0} (from : S → Machine B S Y) (content : M → S) (holds : K → Rows B → Type 0) (finds : K → Rows B → Type 0)
     (failures : K → ℕ) where
   -- the outcome is committed and adopted, and what it applied is followed
   pub record TakesOver (o : Outcome B) (old new : Acting B M K) (said : List Y) : Type 0 where
-    pub node : new.node.state ≡ next_node o old
-    pub held : holds new.keeper (next_node o old).rows
+    pub node : new.node.state ≡ next_node o (parts old)
+    pub held : holds new.keeper (next_node o (parts old)).rows
     pub waits : WaitBehind o.packets old.waiting new.waiting
     pub failed : new.failed ≡ None
+    pub seat : new.seat ≡ advanced o old.seat
     pub says : (first : S) → Follows from content first old.log
         → said ≡ handed_out (from first) old.node.me old.node.state.rows.boot old.node.state.applied o.applied
     pub follows : (first : S) → Follows from content first old.log → Follows from content first new.log
@@ -161,12 +41,14 @@ module _ {B S Y M K : Type 0} (from : S → Machine B S Y) (content : M → S) (
     pub waits : new.waiting ≡ old.waiting
     pub failed : new.failed ≡ None
     pub log : new.log ≡ old.log
+    pub seat : new.seat ≡ old.seat
 
   pub record StopsBehind (o : Outcome B) (old new : Acting B M K) : Type 0 where
-    pub node : new.node.state ≡ next_node o old
-    pub held : holds new.keeper (next_node o old).rows
+    pub node : new.node.state ≡ next_node o (parts old)
+    pub held : holds new.keeper (next_node o (parts old)).rows
     pub waits : WaitBehind o.packets old.waiting new.waiting
     pub failed : new.failed ≡ None
+    pub seat : new.seat ≡ advanced o old.seat
     pub front : IsPrefixOf new.log.applied (old.log.applied ++ o.applied)
 
   -- the commit failed
@@ -175,12 +57,16 @@ module _ {B S Y M K : Type 0} (from : S → Machine B S Y) (content : M → S) (
     pub waits : new.waiting ≡ old.waiting
     pub falls : Falls finds failures o.change old.node.state.rows old.keeper new.keeper fault
     pub failed : new.failed ≡ Some o
+    pub seat : new.seat ≡ old.seat
 
   -- all that may come of an outcome
   abbrev pub CarriesOut : Outcome B → Acting B M K → Acting B M K → Result (Vec Y Global) (ActorFault Y) → Type 0
-  CarriesOut o old new (Ok says) = (o.is_down ≡ false) × (new.spoiled ≡ false) × TakesOver o old new says.items
-  CarriesOut o old new (Err (LostHere says)) = (o.is_down ≡ true) × (new.spoiled ≡ true) × TakesOver o old new says.items
-  CarriesOut o old new (Err (Keeper fault)) = (new.spoiled ≡ true) × FailsAt o old new fault
+  CarriesOut o old new (Ok says) = (may_advance old.seat ≡ true) × (o.is_down ≡ false) × (new.spoiled ≡ false)
+      × TakesOver o old new says.items
+  CarriesOut o old new (Err (LostHere says)) =
+      (may_advance old.seat ≡ true) × (o.is_down ≡ true) × (new.spoiled ≡ true) × TakesOver o old new says.items
+  CarriesOut o old new (Err (Keeper fault)) = (may_advance old.seat ≡ true) × (new.spoiled ≡ true) × FailsAt o old new fault
+  CarriesOut o old new (Err Worn) = (may_advance old.seat ≡ false) × (new.spoiled ≡ true) × StopsBefore old new
   CarriesOut o old new (Err Memory) = (new.spoiled ≡ true) × (StopsBefore old new ⊎ StopsBehind o old new)
   CarriesOut o old new (Err Failed) = ⊥
   CarriesOut o old new (Err Rounds) = ⊥

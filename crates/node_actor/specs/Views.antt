@@ -1,6 +1,7 @@
 -- Views of an actor: what is known of its node, and of the packets that it exchanged.
-use Rattle.std.specs.Prelude.{◌≡◌, ℕ, Bool, ◌==◌, Option, Some, None, List, [], ◌∷◌, ◌++◌, All, Contains, filter}
+use Rattle.std.specs.Prelude.{◌≡◌, ℕ, Bool, ◌==◌, ◌&&◌, not, Option, Some, None, List, [], ◌∷◌, ◌++◌, All, Contains, filter, map}
 use Rattle.circular_buffer.specs.Buffer.{keep_last}
+use Rattle.paxos_packets.specs.Members.{is_member}
 use Rattle.paxos_packets.specs.declared.packet.Packet.{Packet}
 use Rattle.packet_outboxes.specs.Outboxes.{most_waiting, waiting, to, IsPeer}
 use Rattle.paxos_node.specs.declared.event.Event.{Event}
@@ -8,25 +9,36 @@ use Rattle.paxos_node.specs.declared.event.Event.TheVariants.{Take, Tick, Start,
 use Rattle.paxos_node.specs.Events.{outcome_of}
 use Rattle.paxos_turn.specs.Node.{NodeState}
 use Rattle.paxos_node.specs.View.{Viewed, moved}
+use Rattle.mail_table.specs.Seats.{Seated}
+use Rattle.mail_table.specs.Views.{box_of, through}
+use Rattle.mail_table.specs.declared.part.Parcel.{Parcel}
 use Rattle.node_actor.specs.Actor.{Acting}
 
--- a view: its node, and the packets that it posted and received, oldest first
-pub record View (B : Type 0) : Type 0 where
-  pub of : Viewed B
-  pub posted : List (Packet B)
-  pub received : List (Packet B)
+-- the view of an actor is what its seat knows
+abbrev pub View : Type 0 → Type 0
+View B = Seated B
 
 abbrev pub seen : {B : Type 0} → View B → Viewed B
-seen v = v.of
+seen v = v.part.seen
+
+-- a packet for a node, from another member
+abbrev pub is_for : {B : Type 0} → ℕ → ℕ → Packet B → Bool
+is_for me members p = (p.addressee == me) && (is_member members p.sender && not (p.sender == me))
+
+abbrev pub packets_of : {B : Type 0} → List (Parcel B) → List (Packet B)
+packets_of qs = map (λ q. q.packet) qs
+
+-- the packets that it put into its box to a node, and those from a node that it took out of its boxes, oldest first
 
 abbrev pub posted_to : {B : Type 0} → ℕ → View B → List (Packet B)
-posted_to k v = to k v.posted
+posted_to k v = through (box_of v.members v.part.me k) v.part.posted
 
 abbrev pub received_from : {B : Type 0} → ℕ → View B → List (Packet B)
-received_from k v = filter (λ p. p.sender == k) v.received
+received_from k v = filter (λ p. p.sender == k) (filter (is_for v.part.me v.members) (packets_of v.part.received))
 
--- the actor is the view's: its node is the view's node, and what waits is among what that sent
+-- the actor is the view's: this is what its seat knows, its node is the view's node, and what waits is among what that sent
 pub record StandsFor {B M K : Type 0} (a : Acting B M K) (v : View B) : Type 0 where
+  pub seat : a.seat ≡ v
   pub node : a.node.state ≡ (seen v).node
   pub waits : (k : ℕ) → IsPeer a.node.me a.node.members k → All (Contains (seen v).sent) (waiting k a.waiting)
 

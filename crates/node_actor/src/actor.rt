@@ -1,137 +1,218 @@
-ghost use Rattle.std.specs.Prelude.{◌≡◌, ℕ, [], true, false, Some, None, Ok, Err, IfSome, IfNone};
-ghost use Rattle.paxos_node.specs.declared.event.Event.TheVariants.{Take, Tick, Start, Suspect, Deliver};
+ghost use Rattle.std.specs.Prelude.{◌≡◌, ℕ, [], length, nat_lt, true, false, Some, Err};
+ghost use Rattle.paxos_node.specs.declared.event.Event.TheVariants.{Take, Tick, Start, Suspect};
 ghost use Rattle.replica_machine.specs.Log.{machine_from, Follows};
-ghost use Rattle.packet_outboxes.specs.Outboxes.{waiting};
-ghost use Rattle.node_actor.specs.Actor.{IsPrefixOf, IsSound};
-ghost use Rattle.node_actor.specs.Calls.{Acts, Rests, take_event, turn_event};
-ghost use Rattle.node_actor.specs.Outgoing.{Posts};
-ghost use Rattle.node_actor.specs.Posts.{LeftOf};
+ghost use Rattle.actor_parts.specs.declared.fault.ActorFault.TheVariants.{Failed};
+ghost use Rattle.actor_parts.specs.Parts.{IsPrefixOf, IsSound};
+ghost use Rattle.actor_posts.specs.Posts.{LeftOf};
+ghost use Rattle.mail_table.specs.Seats.{Owns};
+ghost use Rattle.node_actor.specs.Actor.{acting, IsSeated};
+ghost use Rattle.node_actor.specs.Calls.{Acts, Rests, is_own, take_event};
+ghost use Rattle.node_actor.specs.Turns.{Turns};
 ghost use Rattle.node_actor.specs.Views.{View, seen, StandsFor};
 
-use crate::fault::ActorFault;
-use crate::parts::Parts;
-use crate::post::Post;
+use crate::event::{event as make_event, pass};
+use crate::turning::{Round, turn};
 use acceptor_keeper::Keeper;
+use actor_parts::{ActorFault, Parts};
+use actor_posts::Post;
+use mail_table::{Mail, NodeSeat};
 use paxos_node::Event;
-use paxos_packets::{Entry, Packet};
+use paxos_packets::{Entry, NodeSet};
 use replica_machine::{AppliedLog, Machine};
 use std::marker::Model;
 
-/// One node as it really runs: the node, its store, the machine behind its log, and the packets that wait to go out. Each event is committed
-/// before anything of it is seen.
+/// One node as it really runs: the node, its store, the machine behind its log, the packets that wait to be posted, and its seat at the
+/// table. Each event is committed before anything of it is seen.
 ///
-/// The calls that take an event answer what the machine says, at what the event applies, to the transports of this node in its present boot.
+/// The calls that take an event answer what the machine says, at what the event applies, to the transports of this node in its present
+/// boot. They ask for the table of the actor's seat. None of them waits.
 #[derive(Drop)]
 pub struct Actor<M: Machine, K: Keeper<M::Body>> {
     parts: Parts<M, K>,
+    seat: NodeSeat<M::Body>,
+    round: Round,
 }
 
 impl<M: Machine, K: Keeper<M::Body>> Model for Actor<M, K> {
-    ghost use Rattle.node_actor.specs.Actor.{Acting, IsSound};
+    ghost use Rattle.paxos_packets.specs.Members.{IsMember};
+    ghost use Rattle.actor_parts.specs.Parts.{IsSound};
+    ghost use Rattle.node_actor.specs.Actor.{Acting, acting, IsSeated};
 
     ghost Value = { Acting M.Body M K };
 
-    ghost view = { λ a. a.parts };
+    ghost view = { λ a. acting a.parts a.seat };
 
-    ghost invariant = { λ a. IsSound M.Body.same K.holds K.is_failed a.parts };
+    ghost invariant = { λ a. IsSound M.Body.same K.holds K.is_failed a.parts × IsSeated M.Body.same (acting a.parts a.seat)
+        × IsMember a.parts.node.members a.round.first };
 }
 
 impl<M: Machine, K: Keeper<M::Body>> Actor<M, K> {
-    // The actor of these parts.
-    pub(crate) fn of(parts: Parts<M, K>) -> Actor<M, K>
-        requires { IsSound M.Body.same K.holds K.is_failed parts }
-        ensures { result ≡ parts }
+    // The actor of these parts, at this seat.
+    pub(crate) fn of(parts: Parts<M, K>, seat: NodeSeat<M::Body>) -> Actor<M, K>
+        requires sound { IsSound M.Body.same K.holds K.is_failed parts }
+        requires seated { IsSeated M.Body.same (acting parts seat) }
+        ensures { result ≡ acting parts seat }
     {
-        Actor { parts }
+        Actor {
+            parts,
+            seat,
+            round: Round::new(),
+        }
+    }
+
+    /// An event of this node, which stays with the caller: a Take of a transport other than 0, Tick, Start, Suspect.
+    pub fn event(
+        &mut self,
+        mail: &Mail<M::Body>,
+        event: &Event<M::Body>,
+    ) -> Result<Vec<M::Say>, ActorFault<M::Say>>
+        requires owned { Owns mail.now self.old.seat }
+        requires own { is_own self.old.node.me event.now ≡ true }
+        ensures still_owned { Owns mail.now self.new.seat }
+        ensures me { self.new.node.me ≡ self.old.node.me }
+        ensures members { self.new.node.members ≡ self.old.node.members }
+        ensures acts { (view : View M.Body) → StandsFor self.old view →
+            Acts M.Body.same (machine_from M.next M.says M.to) M.content K.holds K.finds K.failures (Some event.now)
+            self.old self.new view result }
+    {
+        make_event(mail, &mut self.seat, &mut self.parts, event)
     }
 
     /// The node takes an act of its transport with this number; with number 0 nothing happens.
-    pub fn take(&mut self, number: u32, body: M::Body) -> Result<Vec<M::Say>, ActorFault<M::Say>>
+    pub fn take(
+        &mut self,
+        mail: &Mail<M::Body>,
+        number: u32,
+        body: M::Body,
+    ) -> Result<Vec<M::Say>, ActorFault<M::Say>>
+        requires owned { Owns mail.now self.old.seat }
+        ensures still_owned { Owns mail.now self.new.seat }
+        ensures me { self.new.node.me ≡ self.old.node.me }
+        ensures members { self.new.node.members ≡ self.old.node.members }
         ensures acts { (view : View M.Body) → StandsFor self.old view →
             Acts M.Body.same (machine_from M.next M.says M.to) M.content K.holds K.finds K.failures (take_event self.old.node.me number body)
             self.old self.new view result }
         ensures rests { number ≡ 0 → Rests self.old self.new result }
     {
         if number == 0 {
-            return self.parts.pass();
+            return pass(&self.seat, &self.parts);
         }
-        let event = Event::Take {
+        let own = Event::Take {
             node: self.parts.me(),
             transport: number,
             body,
         };
-        let done = self.parts.event(&event);
-        drop(event);
+        let done = make_event(mail, &mut self.seat, &mut self.parts, &own);
+        drop(own);
         done
     }
 
-    /// The packet reaches the node; without one, with one for another node, or with one from no other member nothing happens.
-    pub fn turn(
-        &mut self,
-        packet: Option<Packet<M::Body>>,
-    ) -> Result<Vec<M::Say>, ActorFault<M::Say>>
-        ensures acts { (view : View M.Body) → StandsFor self.old view →
-            Acts M.Body.same (machine_from M.next M.says M.to) M.content K.holds K.finds K.failures
-            (turn_event self.old.node.me self.old.node.members packet) self.old self.new view result }
-        ensures rests { turn_event self.old.node.me self.old.node.members packet ≡ None → Rests self.old self.new result }
+    /// For each peer for which packets are due, one try to post the oldest; then tries to fetch from one peer after another, until one wins.
+    /// The packet that came, if one did, reaches the node; without one, with one for another node, or with one from no other member nothing
+    /// more happens. Each turn begins to fetch one peer further on.
+    pub fn turn(&mut self, mail: &Mail<M::Body>) -> Result<Vec<M::Say>, ActorFault<M::Say>>
+        requires owned { Owns mail.now self.old.seat }
+        ensures still_owned { Owns mail.now self.new.seat }
+        ensures me { self.new.node.me ≡ self.old.node.me }
+        ensures members { self.new.node.members ≡ self.old.node.members }
+        ensures spoiled { self.old.spoiled ≡ true → (self.new ≡ self.old) × (result ≡ Err Failed) }
+        ensures turns { (view : View M.Body) → StandsFor self.old view → self.old.spoiled ≡ false →
+            Turns M.Body.same (machine_from M.next M.says M.to) M.content K.holds K.finds K.failures self.old self.new view result }
     {
-        match packet {
-            None => self.parts.pass(),
-            Some(packet) => self.parts.deliver(packet),
+        if self.parts.is_spoiled() {
+            return Err(ActorFault::Failed);
         }
+        turn(mail, &mut self.seat, &mut self.parts, &mut self.round)
     }
 
     /// Time has passed at the node.
-    pub fn tick(&mut self) -> Result<Vec<M::Say>, ActorFault<M::Say>>
-        ensures { (view : View M.Body) → StandsFor self.old view →
+    pub fn tick(&mut self, mail: &Mail<M::Body>) -> Result<Vec<M::Say>, ActorFault<M::Say>>
+        requires owned { Owns mail.now self.old.seat }
+        ensures still_owned { Owns mail.now self.new.seat }
+        ensures me { self.new.node.me ≡ self.old.node.me }
+        ensures members { self.new.node.members ≡ self.old.node.members }
+        ensures acts { (view : View M.Body) → StandsFor self.old view →
             Acts M.Body.same (machine_from M.next M.says M.to) M.content K.holds K.finds K.failures (Some (Tick self.old.node.me))
             self.old self.new view result }
     {
-        let event = Event::Tick {
+        let own = Event::Tick {
             node: self.parts.me(),
         };
-        let done = self.parts.event(&event);
-        drop(event);
+        let done = make_event(mail, &mut self.seat, &mut self.parts, &own);
+        drop(own);
         done
     }
 
     /// The node begins a ballot.
-    pub fn start(&mut self) -> Result<Vec<M::Say>, ActorFault<M::Say>>
-        ensures { (view : View M.Body) → StandsFor self.old view →
+    pub fn start(&mut self, mail: &Mail<M::Body>) -> Result<Vec<M::Say>, ActorFault<M::Say>>
+        requires owned { Owns mail.now self.old.seat }
+        ensures still_owned { Owns mail.now self.new.seat }
+        ensures me { self.new.node.me ≡ self.old.node.me }
+        ensures members { self.new.node.members ≡ self.old.node.members }
+        ensures acts { (view : View M.Body) → StandsFor self.old view →
             Acts M.Body.same (machine_from M.next M.says M.to) M.content K.holds K.finds K.failures (Some (Start self.old.node.me))
             self.old self.new view result }
     {
-        let event = Event::Start {
+        let own = Event::Start {
             node: self.parts.me(),
         };
-        let done = self.parts.event(&event);
-        drop(event);
+        let done = make_event(mail, &mut self.seat, &mut self.parts, &own);
+        drop(own);
         done
     }
 
     /// The node takes another to be lost.
-    pub fn suspect(&mut self, node: u8) -> Result<Vec<M::Say>, ActorFault<M::Say>>
-        ensures { (view : View M.Body) → StandsFor self.old view →
+    pub fn suspect(
+        &mut self,
+        mail: &Mail<M::Body>,
+        node: u8,
+    ) -> Result<Vec<M::Say>, ActorFault<M::Say>>
+        requires owned { Owns mail.now self.old.seat }
+        ensures still_owned { Owns mail.now self.new.seat }
+        ensures me { self.new.node.me ≡ self.old.node.me }
+        ensures members { self.new.node.members ≡ self.old.node.members }
+        ensures acts { (view : View M.Body) → StandsFor self.old view →
             Acts M.Body.same (machine_from M.next M.says M.to) M.content K.holds K.finds K.failures (Some (Suspect self.old.node.me node))
             self.old self.new view result }
     {
-        let event = Event::Suspect {
+        let own = Event::Suspect {
             node: self.parts.me(),
             other: node,
         };
-        let done = self.parts.event(&event);
-        drop(event);
+        let done = make_event(mail, &mut self.seat, &mut self.parts, &own);
+        drop(own);
         done
     }
 
-    /// The oldest packet that waits to go out, if any does; none once the actor is spoiled. Takes no memory.
-    pub fn outgoing(&mut self) -> Option<Packet<M::Body>>
-        ensures spoiled { self.old.spoiled ≡ true → result ≡ None }
-        ensures none { IfNone result (self.new ≡ self.old) }
-        ensures empty { self.old.spoiled ≡ false → IfNone result ((k : ℕ) → waiting k self.old.waiting ≡ []) }
-        ensures posts { (view : View M.Body) → StandsFor self.old view → IfSome result (λ packet. Posts packet self.old self.new view) }
+    /// The number of its node.
+    pub fn me(&self) -> u8
+        ensures { result ≡ self.now.node.me }
     {
-        self.parts.outgoing()
+        self.parts.me()
+    }
+
+    /// How many entries its node has applied.
+    pub fn applied(&self) -> u64
+        ensures { result ≡ length self.now.node.state.applied }
+    {
+        self.parts.applied()
+    }
+
+    /// Whether entries of its node wait for a slot.
+    pub fn has_pending(&self) -> bool
+        ensures { result ≡ nat_lt 0 (length self.now.node.state.pending) }
+    {
+        self.parts.has_pending()
+    }
+
+    /// Whose packet the last turn treated, if it treated one.
+    pub fn from(&self) -> Option<u8> {
+        self.round.from
+    }
+
+    /// To whom the last turn posted.
+    pub fn posted(&self) -> NodeSet {
+        self.round.posted
     }
 
     /// The node's log, slot 1 first; empty once the node is down. Of an actor that want of memory ended it may lack the last entries. Takes
@@ -150,21 +231,25 @@ impl<M: Machine, K: Keeper<M::Body>> Actor<M, K> {
         ensures me { result.0.me ≡ self.node.me }
         ensures members { result.0.members ≡ self.node.members }
         ensures failed { result.0.failed ≡ self.failed }
+        ensures seat { result.0.seat ≡ self.seat }
         ensures keeper { result.1 ≡ self.keeper }
     {
-        let Actor { parts } = self;
-        parts.crash()
+        let Actor { parts, seat, .. } = self;
+        let (me, members) = (parts.me(), parts.members());
+        let (rows, failed, keeper) = parts.leave_rows();
+        (Post::of(me, members, Some(rows), failed, seat), keeper)
     }
 }
 
 impl<M: Machine, K: Keeper<M::Body> + Drop> Actor<M, K> {
-    /// The log of the node, which the machine has followed, of an actor that is not spoiled. Takes no memory.
-    pub fn leave(self) -> AppliedLog<M>
-        ensures log { (view : View M.Body) → StandsFor self view → self.spoiled ≡ false → result.applied ≡ (seen view).node.applied }
+    /// The seat, and the log of the node, which the machine has followed, of an actor that is not spoiled. Takes no memory.
+    pub fn leave(self) -> (NodeSeat<M::Body>, AppliedLog<M>)
+        ensures seat { result.0 ≡ self.seat }
+        ensures log { (view : View M.Body) → StandsFor self view → self.spoiled ≡ false → result.1.applied ≡ (seen view).node.applied }
         ensures machine { (first : M.Content) → Follows (machine_from M.next M.says M.to) M.content first self.log
-            → Follows (machine_from M.next M.says M.to) M.content first result }
+            → Follows (machine_from M.next M.says M.to) M.content first result.1 }
     {
-        let Actor { parts } = self;
-        parts.leave()
+        let Actor { parts, seat, .. } = self;
+        (seat, parts.leave())
     }
 }

@@ -1,146 +1,178 @@
-// One event of an actor: refusals, plan, room, commit, adoption, outboxes, log.
+// One event of an actor: refusals, plan, room, worn, commit, the step at the table, adoption, outboxes, log.
 ghost use Rattle.std.specs.Prelude.{◌≡◌, true, false, Some, None, Ok, Err};
 ghost use Rattle.paxos_node.specs.Adopting.{Fits};
 ghost use Rattle.paxos_node.specs.Held.{HasRoom};
 ghost use Rattle.paxos_node.specs.Plans.{plans};
 ghost use Rattle.replica_machine.specs.Log.{machine_from};
-ghost use Rattle.node_actor.specs.Actor.{IsPlan, IsSound};
-ghost use Rattle.node_actor.specs.Calls.{Acts, Rests, is_for, turn_event};
-ghost use Rattle.node_actor.specs.Steps.{StaysWho, IsAtEnd, AnswersUp, TakesIn, CarriesOut};
-ghost use Rattle.node_actor.specs.Views.{View, StandsFor};
+ghost use Rattle.actor_parts.specs.Parts.{IsPlan, IsSound};
+ghost use Rattle.actor_parts.specs.Steps.{StaysWho, IsAtEnd, TakesIn};
+ghost use Rattle.mail_table.specs.Boxes.{Follows, Received};
+ghost use Rattle.mail_table.specs.Seats.{Owns};
+ghost use Rattle.node_actor.specs.Actor.{acting, IsSeated};
+ghost use Rattle.actor_posts.specs.Posts.{advanced};
+ghost use Rattle.node_actor.specs.Calls.{Acts, Rests, turn_event};
+ghost use Rattle.node_actor.specs.Steps.{CarriesOut, may_advance};
+ghost use Rattle.node_actor.specs.Turns.{Reaches, StaysAt};
+ghost use Rattle.node_actor.specs.Views.{View, is_for};
 
-use crate::fault::ActorFault;
-use crate::parts::Parts;
 use acceptor_keeper::Keeper;
+use actor_parts::{ActorFault, Parts};
+use mail_table::{Mail, NodeSeat};
 use paxos_node::{Event, NodeFault, Outcome};
-use paxos_packets::Packet;
+use paxos_packets::{Body, Packet};
 use replica_machine::Machine;
 
-impl<M: Machine, K: Keeper<M::Body>> Parts<M, K> {
-    // The event of this node is planned and carried out, unless it is refused.
-    pub(crate) fn event(
-        &mut self,
-        event: &Event<M::Body>,
-    ) -> Result<Vec<M::Say>, ActorFault<M::Say>>
-        requires sound { IsSound M.Body.same K.holds K.is_failed self.old }
-        requires own { self.old.spoiled ≡ false → plans self.old.node.me event.now self.old.node.state ≡ true }
-        ensures sound { IsSound M.Body.same K.holds K.is_failed self.new }
-        ensures acts { (view : View M.Body) → StandsFor self.old view →
-            Acts M.Body.same (machine_from M.next M.says M.to) M.content K.holds K.finds K.failures (Some event.now)
-            self.old self.new view result }
-    {
-        if self.is_spoiled() {
-            return Err(ActorFault::Failed);
-        }
-        self.limits();
-        match self.plan(event) {
-            Ok(outcome) => self.carry_out(outcome),
-            Err(NodeFault::Rounds) => Err(ActorFault::Rounds),
-            Err(NodeFault::Full) => Err(ActorFault::Full),
-            Err(NodeFault::Disagree) => {
-                self.spoil();
-                Err(ActorFault::Disagree)
-            },
-            Err(NodeFault::Memory) => {
-                self.spoil();
-                Err(ActorFault::Memory)
-            },
-        }
+// The event of this node is planned and carried out, unless it is refused.
+pub(crate) fn event<M: Machine, K: Keeper<M::Body>>(
+    mail: &Mail<M::Body>,
+    seat: &mut NodeSeat<M::Body>,
+    parts: &mut Parts<M, K>,
+    event: &Event<M::Body>,
+) -> Result<Vec<M::Say>, ActorFault<M::Say>>
+    requires owned { Owns mail.now seat.old }
+    requires sound { IsSound M.Body.same K.holds K.is_failed parts.old }
+    requires seated { IsSeated M.Body.same (acting parts.old seat.old) }
+    requires own { parts.old.spoiled ≡ false → plans parts.old.node.me event.now parts.old.node.state ≡ true }
+    requires received { Received seat.old.members seat.old.part event.now }
+    ensures owned { Owns mail.now seat.new }
+    ensures sound { IsSound M.Body.same K.holds K.is_failed parts.new }
+    ensures seated { IsSeated M.Body.same (acting parts.new seat.new) }
+    ensures stays { StaysAt seat.old seat.new }
+    ensures who { StaysWho parts.old parts.new }
+    ensures acts { (view : View M.Body) → Reaches parts.old.spoiled (Some event.now) view seat.old →
+        Acts M.Body.same (machine_from M.next M.says M.to) M.content K.holds K.finds K.failures (Some event.now)
+        (acting parts.old view) (acting parts.new seat.new) view result }
+{
+    if parts.is_spoiled() {
+        return Err(ActorFault::Failed);
     }
+    parts.limits();
+    match parts.plan(event) {
+        Ok(outcome) => carry_out(mail, seat, parts, outcome),
+        Err(NodeFault::Rounds) => Err(ActorFault::Rounds),
+        Err(NodeFault::Full) => Err(ActorFault::Full),
+        Err(NodeFault::Disagree) => {
+            parts.spoil();
+            Err(ActorFault::Disagree)
+        },
+        Err(NodeFault::Memory) => {
+            parts.spoil();
+            Err(ActorFault::Memory)
+        },
+    }
+}
 
-    // No event.
-    pub(crate) fn pass(&self) -> Result<Vec<M::Say>, ActorFault<M::Say>>
-        requires { IsSound M.Body.same K.holds K.is_failed self.now }
-        ensures acts { (view : View M.Body) → StandsFor self.now view →
-            Acts M.Body.same (machine_from M.next M.says M.to) M.content K.holds K.finds K.failures None self.now self.now view result }
-        ensures rests { Rests self.now self.now result }
-    {
-        if self.is_spoiled() {
-            return Err(ActorFault::Failed);
-        }
-        self.limits();
-        Ok(self.silence())
+// No event.
+pub(crate) fn pass<M: Machine, K: Keeper<M::Body>>(
+    seat: &NodeSeat<M::Body>,
+    parts: &Parts<M, K>,
+) -> Result<Vec<M::Say>, ActorFault<M::Say>>
+    requires sound { IsSound M.Body.same K.holds K.is_failed parts.now }
+    requires seated { IsSeated M.Body.same (acting parts.now seat.now) }
+    ensures acts { (view : View M.Body) → Reaches parts.now.spoiled None view seat.now →
+        Acts M.Body.same (machine_from M.next M.says M.to) M.content K.holds K.finds K.failures None
+        (acting parts.now view) (acting parts.now seat.now) view result }
+    ensures rests { Rests (acting parts.now seat.now) (acting parts.now seat.now) result }
+{
+    let _ = seat;
+    if parts.is_spoiled() {
+        return Err(ActorFault::Failed);
     }
+    parts.limits();
+    Ok(parts.silence())
+}
 
-    // The packet reaches the node, if it is for it and from another member.
-    pub(crate) fn deliver(
-        &mut self,
-        packet: Packet<M::Body>,
-    ) -> Result<Vec<M::Say>, ActorFault<M::Say>>
-        requires { IsSound M.Body.same K.holds K.is_failed self.old }
-        ensures sound { IsSound M.Body.same K.holds K.is_failed self.new }
-        ensures acts { (view : View M.Body) → StandsFor self.old view →
-            Acts M.Body.same (machine_from M.next M.says M.to) M.content K.holds K.finds K.failures
-            (turn_event self.old.node.me self.old.node.members (Some packet)) self.old self.new view result }
-        ensures rests { turn_event self.old.node.me self.old.node.members (Some packet) ≡ None → Rests self.old self.new result }
-    {
-        if !self.is_for(&packet) {
-            drop(packet);
-            return self.pass();
-        }
-        let event = Event::Deliver { packet };
-        let done = self.event(&event);
-        drop(event);
-        done
+// The packet reaches the node, if it is for it and from another member.
+pub(crate) fn deliver<M: Machine, K: Keeper<M::Body>>(
+    mail: &Mail<M::Body>,
+    seat: &mut NodeSeat<M::Body>,
+    parts: &mut Parts<M, K>,
+    packet: Packet<M::Body>,
+) -> Result<Vec<M::Say>, ActorFault<M::Say>>
+    requires owned { Owns mail.now seat.old }
+    requires sound { IsSound M.Body.same K.holds K.is_failed parts.old }
+    requires seated { IsSeated M.Body.same (acting parts.old seat.old) }
+    requires received { Received seat.old.members seat.old.part (Event.Deliver packet) }
+    ensures owned { Owns mail.now seat.new }
+    ensures sound { IsSound M.Body.same K.holds K.is_failed parts.new }
+    ensures seated { IsSeated M.Body.same (acting parts.new seat.new) }
+    ensures stays { StaysAt seat.old seat.new }
+    ensures who { StaysWho parts.old parts.new }
+    ensures acts { (view : View M.Body) →
+        Reaches parts.old.spoiled (turn_event parts.old.node.me parts.old.node.members (Some packet)) view seat.old →
+        Acts M.Body.same (machine_from M.next M.says M.to) M.content K.holds K.finds K.failures
+        (turn_event parts.old.node.me parts.old.node.members (Some packet))
+        (acting parts.old view) (acting parts.new seat.new) view result }
+{
+    if !is_for(parts, &packet) {
+        drop(packet);
+        return pass(seat, parts);
     }
+    let delivered = Event::Deliver { packet };
+    let done = event(mail, seat, parts, &delivered);
+    drop(delivered);
+    done
+}
 
-    // Whether the packet is for this node, and from another member.
-    fn is_for(&self, packet: &Packet<M::Body>) -> bool
-        ensures { result ≡ is_for self.now.waiting.me self.now.waiting.members packet.now }
-    {
-        packet.addressee == self.me()
-            && self.members().contains(packet.sender)
-            && !(packet.sender == self.me())
-    }
+// Whether the packet is for this node, and from another member.
+fn is_for<M: Machine, K: Keeper<M::Body>>(parts: &Parts<M, K>, packet: &Packet<M::Body>) -> bool
+    ensures { result ≡ is_for parts.now.waiting.me parts.now.waiting.members packet.now }
+{
+    packet.addressee == parts.me()
+        && parts.members().contains(packet.sender)
+        && !(packet.sender == parts.me())
+}
 
-    // The outcome is committed and adopted, its packets wait, and the machine follows what it applied.
-    fn carry_out(&mut self, outcome: Outcome<M::Body>) -> Result<Vec<M::Say>, ActorFault<M::Say>>
-        requires sound { IsSound M.Body.same K.holds K.is_failed self.old }
-        requires serving { self.old.spoiled ≡ false }
-        requires plan { IsPlan M.Body.same self.old.node.me self.old.node.members self.old.node.state outcome }
-        ensures sound { IsSound M.Body.same K.holds K.is_failed self.new }
-        ensures who { StaysWho self.old self.new }
-        ensures did { CarriesOut (machine_from M.next M.says M.to) M.content K.holds K.finds K.failures outcome self.old self.new result }
-    {
-        let Ok(()) = self.make_room(&outcome) else {
-            self.spoil();
-            return Err(ActorFault::Memory);
-        };
-        match self.commit(&outcome) {
-            Err(fault) => {
-                self.spoil_at(outcome);
-                Err(ActorFault::Keeper(fault))
-            },
-            Ok(()) => self.take_over(outcome),
-        }
+// The outcome is committed, taken at the table and adopted, its packets wait, and the machine follows what it applied.
+fn carry_out<M: Machine, K: Keeper<M::Body>>(
+    mail: &Mail<M::Body>,
+    seat: &mut NodeSeat<M::Body>,
+    parts: &mut Parts<M, K>,
+    outcome: Outcome<M::Body>,
+) -> Result<Vec<M::Say>, ActorFault<M::Say>>
+    requires owned { Owns mail.now seat.old }
+    requires sound { IsSound M.Body.same K.holds K.is_failed parts.old }
+    requires seated { IsSeated M.Body.same (acting parts.old seat.old) }
+    requires serving { parts.old.spoiled ≡ false }
+    requires plan { IsPlan M.Body.same parts.old.node.me parts.old.node.members parts.old.node.state outcome }
+    requires follows { Follows M.Body.same seat.old.members seat.old.part outcome }
+    ensures owned { Owns mail.now seat.new }
+    ensures sound { IsSound M.Body.same K.holds K.is_failed parts.new }
+    ensures seated { IsSeated M.Body.same (acting parts.new seat.new) }
+    ensures stays { StaysAt seat.old seat.new }
+    ensures who { StaysWho parts.old parts.new }
+    ensures did { CarriesOut (machine_from M.next M.says M.to) M.content K.holds K.finds K.failures outcome
+        (acting parts.old seat.old) (acting parts.new seat.new) result }
+{
+    let Ok(()) = parts.make_room(&outcome) else {
+        parts.spoil();
+        drop(outcome);
+        return Err(ActorFault::Memory);
+    };
+    if !seat.may_advance() {
+        parts.spoil();
+        drop(outcome);
+        return Err(ActorFault::Worn);
     }
+    match parts.commit(&outcome) {
+        Err(fault) => {
+            parts.spoil_at(outcome);
+            Err(ActorFault::Keeper(fault))
+        },
+        Ok(()) => {
+            step(mail, seat, &outcome);
+            parts.take_over(outcome)
+        },
+    }
+}
 
-    // The same, once it is committed.
-    fn take_over(&mut self, outcome: Outcome<M::Body>) -> Result<Vec<M::Say>, ActorFault<M::Say>>
-        requires room { HasRoom outcome self.old.node }
-        requires fits { Fits self.old.node.me self.old.node.members outcome self.old.node.state }
-        requires alive { self.old.log.failed ≡ false }
-        requires end { IsAtEnd self.old.log }
-        ensures who { StaysWho self.old self.new }
-        ensures follows { TakesIn (machine_from M.next M.says M.to) M.content outcome self.old self.new result }
-    {
-        let boot = self.boot();
-        let applied = self.adopt(outcome);
-        let Ok(says) = self.apply(boot, applied) else {
-            self.spoil();
-            return Err(ActorFault::Memory);
-        };
-        self.answer(says)
-    }
-
-    // What is said, or that the node is lost.
-    fn answer(&mut self, says: Vec<M::Say>) -> Result<Vec<M::Say>, ActorFault<M::Say>>
-        ensures { AnswersUp says.items self.old self.new result }
-    {
-        if self.is_up() {
-            return Ok(says);
-        }
-        self.spoil();
-        Err(ActorFault::LostHere(says))
-    }
+// The node takes the step of this outcome at the table; its word counts one event more.
+fn step<B: Body>(mail: &Mail<B>, seat: &mut NodeSeat<B>, outcome: &Outcome<B>)
+    requires owned { Owns mail.now seat.old }
+    requires follows { Follows B.same seat.old.members seat.old.part outcome.now }
+    requires may { may_advance seat.old ≡ true }
+    ensures owned { Owns mail.now seat.new }
+    ensures advanced { seat.new ≡ advanced outcome.now seat.old }
+{
+    let _ = mail.advance(seat, outcome);
 }

@@ -1,21 +1,20 @@
-//! One node as it really runs: the node, a store that commits its rows first, the machine behind its log, and the packets that wait to go out
-//! (docs/CONSENSUS.md, "A node with its store").
+//! One node as it really runs: the node, a store that commits its rows first, the machine behind its log, and its seat at the table through
+//! which packets go (docs/CONSENSUS.md, "A node with its store", "Threads").
 #![tactic(auto)]
 
 mod actor;
 mod event;
-mod fault;
-mod following;
-mod open;
-mod parts;
-mod post;
+mod fetching;
+pub mod laws;
+mod posting;
 mod restart;
-mod storing;
+mod turning;
 
 pub use acceptor_keeper::{Keeper, KeeperFault};
 pub use actor::Actor;
-pub use fault::ActorFault;
+pub use actor_parts::ActorFault;
+pub use actor_posts::Post;
+pub use mail_table::{Mail, NodeSeat};
 pub use paxos_node::{Event, Outcome};
 pub use paxos_packets::{Body, Entry, Members, Packet, Rows};
-pub use post::Post;
 pub use replica_machine::{AppliedLog, Machine};

@@ -1,0 +1,163 @@
+use Rattle.std.proofs.Common.{◌≡◌, true, sym, subst, ◌∙◌, rules}
+use Rattle.replica_machine.specs.Log.{LogState, machine_from}
+use Rattle.actor_parts.specs.Steps.{IsAtEnd}
+use Rattle.actor_parts.proofs.Carrying.{Roomed, Ready, stopped_sound, fallen_sound, ready}
+use Rattle.node_actor.specs.Steps.{may_advance}
+use Rattle.node_actor.proofs.Carrying.{stopped, fallen, carried_on, sound_on}
+use Rattle.node_actor.proofs.Seating.{seated_stopped, seated_fallen, seated_on}
+use Rattle.node_actor.proofs.event.carry_out.Goals as goal
+
+pub returns-in_default-clause-sound : goal.returns-in_default-clause-sound
+returns-in_default-clause-sound g c =
+    let room : Roomed c.args.parts.now c.make_room.new.self = record {
+      state = c.make_room.ensures.state;
+      me = c.make_room.ensures.me;
+      members = c.make_room.ensures.members;
+      rest = c.make_room.ensures.rest;
+    } in
+    rw c.spoil.ensures (stopped_sound _ _ _ c.args.parts.now c.make_room.new.self c.requires.sound c.requires.serving room)
+
+pub returns-in_default-clause-seated : goal.returns-in_default-clause-seated
+returns-in_default-clause-seated g c =
+    let room : Roomed c.args.parts.now c.make_room.new.self = record {
+      state = c.make_room.ensures.state;
+      me = c.make_room.ensures.me;
+      members = c.make_room.ensures.members;
+      rest = c.make_room.ensures.rest;
+    } in
+    rw c.spoil.ensures (seated_stopped g.M.Body.Body.same c.args.parts.now c.make_room.new.self c.args.seat.now
+    (c.requires.sound.serves c.requires.serving).committed room c.requires.seated)
+
+pub returns-in_default-clause-did : goal.returns-in_default-clause-did
+returns-in_default-clause-did g c =
+    let room : Roomed c.args.parts.now c.make_room.new.self = record {
+      state = c.make_room.ensures.state;
+      me = c.make_room.ensures.me;
+      members = c.make_room.ensures.members;
+      rest = c.make_room.ensures.rest;
+    } in
+    rw c.spoil.ensures (stopped _ _ _ _ _ _ c.args.outcome c.args.parts.now c.make_room.new.self c.args.seat.now
+    (c.requires.sound.serves c.requires.serving) room)
+
+pub returns-then-not-may_advance-clause-sound : goal.returns-then-not-may_advance-clause-sound
+returns-then-not-may_advance-clause-sound g c =
+    let room : Roomed c.args.parts.now c.make_room.new.self = record {
+      state = c.make_room.ensures.state;
+      me = c.make_room.ensures.me;
+      members = c.make_room.ensures.members;
+      rest = c.make_room.ensures.rest;
+    } in
+    rw c.spoil-then-not-may_advance.ensures (stopped_sound _ _ _ c.args.parts.now c.make_room.new.self c.requires.sound c.requires.serving
+    room)
+
+pub returns-then-not-may_advance-clause-seated : goal.returns-then-not-may_advance-clause-seated
+returns-then-not-may_advance-clause-seated g c =
+    let room : Roomed c.args.parts.now c.make_room.new.self = record {
+      state = c.make_room.ensures.state;
+      me = c.make_room.ensures.me;
+      members = c.make_room.ensures.members;
+      rest = c.make_room.ensures.rest;
+    } in
+    rw c.spoil-then-not-may_advance.ensures (seated_stopped g.M.Body.Body.same c.args.parts.now c.make_room.new.self c.args.seat.now
+    (c.requires.sound.serves c.requires.serving).committed room c.requires.seated)
+
+pub take_over-requires-clause-end : goal.take_over-requires-clause-end
+take_over-requires-clause-end g c =
+    subst (λ (log : LogState g.row.M-Body.Denot g.row.M.Denot). IsAtEnd log) (sym (c.commit.ensures.rest.log
+    ∙ c.make_room.ensures.rest.log))
+    (c.requires.sound.serves c.requires.serving).ahead
+
+pub returns-in-Err-clause-sound : goal.returns-in-Err-clause-sound
+returns-in-Err-clause-sound g c =
+    let room : Roomed c.args.parts.now c.make_room.new.self = record {
+      state = c.make_room.ensures.state;
+      me = c.make_room.ensures.me;
+      members = c.make_room.ensures.members;
+      rest = c.make_room.ensures.rest;
+    } in
+    rw c.spoil_at.ensures (fallen_sound _ _ _ c.args.outcome c.args.parts.now c.make_room.new.self c.commit.new.self c.requires.sound
+    c.requires.serving
+    c.requires.plan room c.commit.ensures.rest)
+
+pub returns-in-Err-clause-seated : goal.returns-in-Err-clause-seated
+returns-in-Err-clause-seated g c =
+    let room : Roomed c.args.parts.now c.make_room.new.self = record {
+      state = c.make_room.ensures.state;
+      me = c.make_room.ensures.me;
+      members = c.make_room.ensures.members;
+      rest = c.make_room.ensures.rest;
+    } in
+    rw c.spoil_at.ensures (seated_fallen g.M.Body.Body.same c.args.outcome c.args.parts.now c.make_room.new.self c.commit.new.self
+    c.args.seat.now
+    c.requires.follows room c.commit.ensures.rest c.requires.seated)
+
+pub returns-in-Err-clause-did : goal.returns-in-Err-clause-did
+returns-in-Err-clause-did g c =
+    let room : Roomed c.args.parts.now c.make_room.new.self = record {
+      state = c.make_room.ensures.state;
+      me = c.make_room.ensures.me;
+      members = c.make_room.ensures.members;
+      rest = c.make_room.ensures.rest;
+    } in
+    let may : may_advance c.args.seat.now ≡ true = search rules in
+    rw c.spoil_at.ensures (fallen _ _ _ _ _ _ c.args.outcome c.args.parts.now c.make_room.new.self c.commit.new.self c.args.seat.now
+    c.in-Err.fault may
+    (c.requires.sound.serves c.requires.serving) room c.commit.ensures.rest c.in-Err.ensures.falls)
+
+pub returns-in-Ok-commit-clause-sound : goal.returns-in-Ok-commit-clause-sound
+returns-in-Ok-commit-clause-sound g c =
+    let room : Roomed c.args.parts.now c.make_room.new.self = record {
+      state = c.make_room.ensures.state;
+      me = c.make_room.ensures.me;
+      members = c.make_room.ensures.members;
+      rest = c.make_room.ensures.rest;
+    } in
+    let serving = c.requires.sound.serves c.requires.serving in
+    let is_ready : Ready g.K.Keeper.holds g.K.Keeper.is_failed c.args.outcome c.args.parts.now c.commit.new.self =
+    ready g.K.Keeper.holds g.K.Keeper.is_failed c.args.outcome c.args.parts.now c.make_room.new.self c.commit.new.self room
+    c.commit.ensures.rest serving.held
+    serving.whole c.in-Ok-commit.ensures.ok c.in-Ok-commit.ensures.whole in
+    sound_on (machine_from g.M.Machine.next g.M.Machine.says g.M.Machine.to) g.M.Machine.content g.K.Keeper.holds g.K.Keeper.finds
+    g.K.Keeper.failures g.K.Keeper.is_failed
+    g.M.Body.Body.same c.args.outcome c.args.parts.now c.commit.new.self c.take_over.new.self c.args.seat.now c.requires.sound serving
+    is_ready
+    c.take_over.ensures.who c.take_over.result c.take_over.ensures.follows
+
+pub returns-in-Ok-commit-clause-seated : goal.returns-in-Ok-commit-clause-seated
+returns-in-Ok-commit-clause-seated g c =
+    let room : Roomed c.args.parts.now c.make_room.new.self = record {
+      state = c.make_room.ensures.state;
+      me = c.make_room.ensures.me;
+      members = c.make_room.ensures.members;
+      rest = c.make_room.ensures.rest;
+    } in
+    let serving = c.requires.sound.serves c.requires.serving in
+    let is_ready : Ready g.K.Keeper.holds g.K.Keeper.is_failed c.args.outcome c.args.parts.now c.commit.new.self =
+    ready g.K.Keeper.holds g.K.Keeper.is_failed c.args.outcome c.args.parts.now c.make_room.new.self c.commit.new.self room
+    c.commit.ensures.rest serving.held
+    serving.whole c.in-Ok-commit.ensures.ok c.in-Ok-commit.ensures.whole in
+    seated_on g.M.Body.Body.same (machine_from g.M.Machine.next g.M.Machine.says g.M.Machine.to) g.M.Machine.content g.K.Keeper.holds
+    g.K.Keeper.is_failed
+    c.args.outcome c.args.parts.now c.commit.new.self c.take_over.new.self c.args.seat.now c.step.new.seat c.step.ensures.advanced
+    c.requires.sound is_ready
+    serving.committed c.take_over.ensures.who c.take_over.result c.take_over.ensures.follows c.requires.seated
+
+pub returns-in-Ok-commit-clause-did : goal.returns-in-Ok-commit-clause-did
+returns-in-Ok-commit-clause-did g c =
+    let room : Roomed c.args.parts.now c.make_room.new.self = record {
+      state = c.make_room.ensures.state;
+      me = c.make_room.ensures.me;
+      members = c.make_room.ensures.members;
+      rest = c.make_room.ensures.rest;
+    } in
+    let serving = c.requires.sound.serves c.requires.serving in
+    let is_ready : Ready g.K.Keeper.holds g.K.Keeper.is_failed c.args.outcome c.args.parts.now c.commit.new.self =
+    ready g.K.Keeper.holds g.K.Keeper.is_failed c.args.outcome c.args.parts.now c.make_room.new.self c.commit.new.self room
+    c.commit.ensures.rest serving.held
+    serving.whole c.in-Ok-commit.ensures.ok c.in-Ok-commit.ensures.whole in
+    let may : may_advance c.args.seat.now ≡ true = search rules in
+    carried_on (machine_from g.M.Machine.next g.M.Machine.says g.M.Machine.to) g.M.Machine.content g.K.Keeper.holds g.K.Keeper.finds
+    g.K.Keeper.failures g.K.Keeper.is_failed
+    g.M.Body.Body.same c.args.outcome c.args.parts.now c.commit.new.self c.take_over.new.self c.args.seat.now c.step.new.seat
+    c.step.ensures.advanced may
+    c.requires.sound serving is_ready c.requires.serving c.take_over.result c.take_over.ensures.follows

@@ -1,0 +1,85 @@
+// What waits is posted, as far as boxes are empty.
+ghost use Rattle.std.specs.Prelude.{◌≡◌, ◌⊎◌, false, MatchResult};
+ghost use Rattle.cluster_world.specs.Has.{Has};
+ghost use Rattle.paxos_packets.specs.Members.{IsMember};
+ghost use Rattle.actor_parts.specs.Parts.{IsSound};
+ghost use Rattle.mail_table.specs.Seats.{Owns, knows};
+ghost use Rattle.mail_table.specs.Views.{box_of, posting, lost};
+ghost use Rattle.node_actor.specs.Actor.{acting, IsSeated};
+ghost use Rattle.node_actor.specs.Turns.{PostsAlone, PostsOne};
+
+use acceptor_keeper::Keeper;
+use actor_parts::Parts;
+use mail_table::{Mail, NodeSeat};
+use paxos_packets::{Body, NodeSet, Packet};
+use replica_machine::Machine;
+
+// For each peer for which packets are due, one try to post the oldest; the peers to which one was posted.
+pub(crate) fn post_all<M: Machine, K: Keeper<M::Body>>(
+    mail: &Mail<M::Body>,
+    seat: &mut NodeSeat<M::Body>,
+    parts: &mut Parts<M, K>,
+) -> NodeSet
+    requires owned { Owns mail.now seat.old }
+    requires sound { IsSound M.Body.same K.holds K.is_failed parts.old }
+    requires seated { IsSeated M.Body.same (acting parts.old seat.old) }
+    requires serving { parts.old.spoiled ≡ false }
+    ensures owned { Owns mail.now seat.new }
+    ensures sound { IsSound M.Body.same K.holds K.is_failed parts.new }
+    ensures seated { IsSeated M.Body.same (acting parts.new seat.new) }
+    ensures posts { PostsAlone (acting parts.old seat.old) (acting parts.new seat.new) seat.old seat.new }
+{
+    let mut posted = NodeSet::new();
+    for peer in 1..parts.members().count() + 1 {
+        if post_one(mail, seat, parts, peer) {
+            posted.insert(peer);
+        }
+    }
+    posted
+}
+
+// One try to post the oldest packet for this member, if one waits; whether it won.
+fn post_one<M: Machine, K: Keeper<M::Body>>(
+    mail: &Mail<M::Body>,
+    seat: &mut NodeSeat<M::Body>,
+    parts: &mut Parts<M, K>,
+    peer: u8,
+) -> bool
+    requires owned { Owns mail.now seat.old }
+    requires sound { IsSound M.Body.same K.holds K.is_failed parts.old }
+    requires seated { IsSeated M.Body.same (acting parts.old seat.old) }
+    requires serving { parts.old.spoiled ≡ false }
+    requires member { IsMember parts.old.node.members peer }
+    ensures owned { Owns mail.now seat.new }
+    ensures sound { IsSound M.Body.same K.holds K.is_failed parts.new }
+    ensures seated { IsSeated M.Body.same (acting parts.new seat.new) }
+    ensures posts { PostsOne peer (acting parts.old seat.old) (acting parts.new seat.new) seat.old seat.new }
+{
+    let Some(packet) = parts.take_for(peer) else {
+        return false;
+    };
+    let Err(packet) = post(mail, seat, peer, packet) else {
+        return true;
+    };
+    parts.put_back(packet);
+    false
+}
+
+// One try to post the packet to this member.
+fn post<B: Body>(
+    mail: &Mail<B>,
+    seat: &mut NodeSeat<B>,
+    to: u8,
+    packet: Packet<B>,
+) -> Result<(), Packet<B>>
+    requires owned { Owns mail.now seat.old }
+    requires member { IsMember seat.old.members to }
+    requires sent { Has seat.old.part.seen.sent packet }
+    requires addressed { packet.addressee ≡ to }
+    ensures owned { Owns mail.now seat.new }
+    ensures posted { MatchResult result
+        (λ _. seat.new ≡ knows (posting (box_of seat.old.members seat.old.part.me to) packet seat.old.part) seat.old)
+        (λ p. (p ≡ packet) × (seat.new ≡ knows (lost (box_of seat.old.members seat.old.part.me to) seat.old.part) seat.old)) }
+{
+    mail.post(seat, to, packet)
+}
