@@ -1,0 +1,5 @@
+mod Intake
+mod Pages
+mod Texts
+mod Nodes
+mod Ending

@@ -1,0 +1,4 @@
+pub mod Reading
+pub mod Printing
+pub mod Text
+pub mod Run

@@ -1,0 +1,60 @@
+// The whole script is read before its first line runs.
+ghost use Rattle.std.specs.Prelude.{◌≡◌, ◌<◌, length};
+ghost use Rattle.script_program.specs.Reading.{ReadsAll, ReadsInto, ReadsOnce};
+
+use crate::fault::ScriptFault;
+use std::alloc::Global;
+use std::io::Read;
+
+// How many octets one read takes at the most.
+const CHUNK: usize = 1 << 16;
+
+// How many reads there are at the most.
+const MOST_READS: u64 = 1 << 32;
+
+// All that the reader gives.
+pub(crate) fn read_all<R: Read>(alloc: Global, reader: &mut R) -> Result<Vec<u8>, ScriptFault>
+    ensures { ReadsAll result (R.remaining reader.old) (R.remaining reader.new) }
+{
+    let mut room = vec![in alloc; 0u8; CHUNK]?;
+    let mut text = Vec::new(alloc);
+    read_into(reader, room.as_mut_slice(), &mut text)?;
+    Ok(text)
+}
+
+// Puts all that the reader gives into the text, by reads into the chunk.
+fn read_into<R: Read>(
+    reader: &mut R,
+    chunk: &mut [u8],
+    text: &mut Vec<u8>,
+) -> Result<(), ScriptFault>
+    requires room { 0 < length chunk.old }
+    ensures { ReadsInto result (R.remaining reader.old) (R.remaining reader.new) text.old.items text.new.items }
+{
+    for _read in 0..MOST_READS {
+        if !read_once(reader, chunk, text)? {
+            return Ok(());
+        }
+    }
+    Err(ScriptFault::Reads)
+}
+
+// Puts what one read gives into the text. Answers whether there may be more.
+fn read_once<R: Read>(
+    reader: &mut R,
+    chunk: &mut [u8],
+    text: &mut Vec<u8>,
+) -> Result<bool, ScriptFault>
+    requires room { 0 < length chunk.old }
+    ensures room { length chunk.new ≡ length chunk.old }
+    ensures reads { ReadsOnce result (R.remaining reader.old) (R.remaining reader.new) text.old.items text.new.items }
+{
+    match reader.read(chunk) {
+        Ok(0) => Ok(false),
+        Ok(count) => {
+            text.extend_from_slice(&chunk[..count])?;
+            Ok(true)
+        }
+        Err(_) => Err(ScriptFault::Read),
+    }
+}
