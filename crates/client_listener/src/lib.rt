@@ -2,6 +2,7 @@
 //! what it is sent out of another.
 #![tactic(auto)]
 
+mod draining;
 mod fault;
 mod handshake;
 mod intake;
@@ -12,6 +13,7 @@ mod reading;
 mod turns;
 mod writing;
 
+pub use draining::drain;
 pub use fault::ListenFault;
 pub use handshake::{answer_handshake, greet, read_handshake};
 pub use items::{FromClient, ToClient};

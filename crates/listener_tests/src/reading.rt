@@ -1,4 +1,6 @@
 // Rows on what is put into a ring for a client's octets.
+ghost use Rattle.rtrb.specs.Ring.{SameConsumer};
+
 use crate::streams::{AtOnce, COUNT, Wire, frames};
 use client_listener::{FromClient, ListenFault, read_transport};
 use rtrb::{Consumer, RingBuffer};
@@ -9,14 +11,14 @@ use std::test::Fail;
 use wamp_messages::{Read as ReadResult, write};
 
 // The client's frames of the stored run, and a PING.
-const ASKED: &[u8] = b"\0\0\0\x28[1,\"realm1\",{\"roles\":{\"subscriber\":{}}}]\
+pub const ASKED: &[u8] = b"\0\0\0\x28[1,\"realm1\",{\"roles\":{\"subscriber\":{}}}]\
 \0\0\0\x0F[32,1,{},\"a.b\"]\
 \0\0\0\x3B[16,2,{\"acknowledge\":true,\"exclude_me\":false},\"a.b\",[\"hi\"]]\
 \0\0\0\x1F[6,{},\"wamp.close.close_realm\"]\
 \x01\0\0\0";
 
 // A letter for each kind of item; a message that breaks the protocol has its own.
-fn letter(item: &FromClient) -> char {
+pub fn letter(item: &FromClient) -> char {
     match item {
         FromClient::Connect => 'C',
         FromClient::Read(ReadResult::Good(_)) => 'R',
@@ -27,7 +29,9 @@ fn letter(item: &FromClient) -> char {
 }
 
 // The letter of the next item of the ring, which is taken out.
-pub fn next_letter(consumer: &mut Consumer<FromClient>) -> Option<char> {
+pub fn next_letter(consumer: &mut Consumer<FromClient>) -> Option<char>
+    ensures { SameConsumer consumer.old consumer.new }
+{
     let Ok(item) = consumer.pop() else {
         return None;
     };
