@@ -5,6 +5,8 @@
 #[cfg(test)]
 mod drawn_patterns;
 #[cfg(test)]
+mod draws;
+#[cfg(test)]
 mod frames;
 #[cfg(test)]
 mod ids;
