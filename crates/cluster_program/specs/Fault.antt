@@ -3,6 +3,8 @@ use Rattle.std.specs.Prelude.{ℕ}
 use Rattle.client_listener.specs.declared.fault.ListenFault.{ListenFault}
 use Rattle.client_listener.specs.declared.fault.ListenFault.TheVariants as listen
 use Rattle.client_listener.specs.Fault.{number_of}
+use Rattle.script_program.specs.declared.fault.ScriptFault.{ScriptFault}
+use Rattle.script_program.specs.declared.fault.ScriptFault.TheVariants as script
 use Rattle.cluster_program.specs.declared.fault.RunFault.{RunFault}
 use Rattle.cluster_program.specs.declared.fault.RunFault.TheVariants.{Line, Store, Memory, Transport}
 
@@ -22,3 +24,11 @@ run_fault_of listen.Read = Transport (number_of listen.Read)
 run_fault_of listen.Write = Transport (number_of listen.Write)
 run_fault_of listen.Turns = Transport (number_of listen.Turns)
 run_fault_of listen.Wide = Transport (number_of listen.Wide)
+
+-- the fault of a run whose script was not run to its end
+abbrev pub script_fault_of : ScriptFault → RunFault
+script_fault_of (script.Line number) = Line number
+script_fault_of script.Memory = Memory
+script_fault_of script.Read = run_fault_of listen.Read
+script_fault_of script.Write = run_fault_of listen.Write
+script_fault_of script.Reads = run_fault_of listen.Turns

@@ -1,6 +1,6 @@
 pub mod Fault
-pub mod Order
 pub mod Replies
+pub mod Script
 pub mod Service
 pub mod Stream
 pub mod Turns

@@ -3,6 +3,7 @@ ghost use Rattle.cluster_program.specs.Fault.{status_of};
 
 use client_listener::ListenFault;
 use realm_machine::Failed;
+use script_program::ScriptFault;
 use std::alloc::{AllocError, AllocFailed};
 use std::error::Error;
 use std::fmt;
@@ -102,6 +103,22 @@ impl From<ListenFault> for RunFault {
             | ListenFault::Write
             | ListenFault::Turns
             | ListenFault::Wide => RunFault::Transport(fault.number()),
+        }
+    }
+}
+
+impl From<ScriptFault> for RunFault {
+    ghost use Rattle.cluster_program.specs.Fault.{script_fault_of};
+
+    ghost from_gives = { λ fault made. made ≡ script_fault_of fault };
+
+    fn from(fault: ScriptFault) -> RunFault {
+        match fault {
+            ScriptFault::Line(number) => RunFault::Line(number),
+            ScriptFault::Memory => RunFault::Memory,
+            ScriptFault::Read => RunFault::from(ListenFault::Read),
+            ScriptFault::Write => RunFault::from(ListenFault::Write),
+            ScriptFault::Reads => RunFault::from(ListenFault::Turns),
         }
     }
 }

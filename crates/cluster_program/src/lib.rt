@@ -2,13 +2,14 @@
 #![tactic(auto)]
 
 mod fault;
-mod order;
 mod progress;
 mod replies;
+mod script;
 mod service;
 mod stream;
 mod turns;
 
 pub use fault::RunFault;
-pub use order::{Order, UsageFault, help_of, order_of, unreadable_words};
+pub use program_order::{Members, Order, UsageFault, help_of, order_of, unreadable_words};
+pub use script::script_run;
 pub use stream::stream_run;

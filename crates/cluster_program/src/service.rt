@@ -15,8 +15,8 @@ use wamp_ids::Id;
 use wamp_messages::{Parser, Read, read_by};
 use wamp_rawsocket::{FrameKind, FrameRef, Splitter};
 
-// How much the realm holds at the most.
-const LIMITS: Limits = Limits {
+// How much a realm holds at the most.
+pub(crate) const LIMITS: Limits = Limits {
     sessions: 4096,
     registrations: 1024,
     subscriptions: 1024,

@@ -3,7 +3,11 @@
 #![tactic(auto)]
 
 #[cfg(test)]
+mod ends;
+#[cfg(test)]
 mod order;
+#[cfg(test)]
+mod script;
 #[cfg(test)]
 mod stream;
 #[cfg(test)]

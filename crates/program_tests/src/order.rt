@@ -11,39 +11,78 @@ fn words_of(alloc: Global, line: &str) -> Result<Vec<String>, AllocError> {
     Ok(words)
 }
 
-// The realm of the order, or the status of the fault.
+// The order in words, or the status of the fault.
 fn read(alloc: Global, line: &str) -> Result<String, Fail> {
     match order_of(alloc, &words_of(alloc, line)?) {
-        Ok(Order::Stream { realm }) => Ok(realm),
+        Ok(order) => told(alloc, &order),
         Err(fault) => Ok(format!(in alloc; "{}", fault.status())?),
+    }
+}
+
+fn told(alloc: Global, order: &Order) -> Result<String, Fail> {
+    match order {
+        Order::Stream { realm } => Ok(format!(in alloc; "stream {realm}")?),
+        Order::Script { members, realm } => {
+            Ok(format!(in alloc; "script {} {realm}", members.count())?)
+        }
     }
 }
 
 // What is wrong with the command line.
 fn cause(alloc: Global, line: &str) -> Result<String, Fail> {
     match order_of(alloc, &words_of(alloc, line)?) {
-        Ok(Order::Stream { realm }) => Ok(realm),
+        Ok(order) => told(alloc, &order),
         Err(fault) => Ok(format!(in alloc; "{fault}")?),
     }
 }
 
+// Command lines, and what they ask for or the status of their fault.
+const LINES: &[(&str, &str)] = &[
+    ("stream", "stream realm1"),
+    ("stream --realm a.b", "stream a.b"),
+    ("stream --realm=a.b", "stream a.b"),
+    ("", "2"),
+    ("serve", "2"),
+    ("stream --realm", "2"),
+    ("stream --realm -x", "2"),
+    ("stream --realm=-x", "2"),
+    ("stream --realm=", "2"),
+    ("stream --realm a --realm b", "2"),
+    ("stream --nodes 3", "2"),
+    ("stream more", "2"),
+    ("script --nodes 3", "script 3 realm1"),
+    ("script --nodes 7", "script 7 realm1"),
+    ("script --nodes=03", "script 3 realm1"),
+    ("script --nodes 5 --realm a", "script 5 a"),
+    ("script --realm a --nodes 5", "script 5 a"),
+    ("script", "2"),
+    ("script --realm a", "2"),
+    ("script --nodes", "2"),
+    ("script --nodes 2", "2"),
+    ("script --nodes 8", "2"),
+    ("script --nodes 259", "2"),
+    ("script --nodes 18446744073709551619", "2"),
+    ("script --nodes +3", "2"),
+    ("script --nodes -3", "2"),
+    ("script --nodes=-3", "2"),
+    ("script --nodes three", "2"),
+    ("script --nodes=", "2"),
+    ("script --nodes 3 --nodes 3", "2"),
+    ("script --nodes 3 --realm a --realm a", "2"),
+    ("script --nodes 3 --realm -a", "2"),
+    ("script --nodes 3 --port 9000", "2"),
+    ("script --nodes 3 4", "2"),
+    ("--nodes 3 script", "2"),
+    ("script stream --nodes 3", "2"),
+    ("help", "2"),
+    ("--help", "2"),
+    ("--version", "2"),
+];
+
 #[test]
 fn reads_command_lines(rt: HostRuntime) -> Result<(), Fail> {
-    for (line, answer) in [
-        ("stream", "realm1"),
-        ("stream --realm a.b", "a.b"),
-        ("", "2"),
-        ("serve", "2"),
-        ("script --nodes 3", "2"),
-        ("stream --realm", "2"),
-        ("stream --realm -x", "2"),
-        ("stream --realm a --realm b", "2"),
-        ("stream more", "2"),
-        ("help", "2"),
-        ("--help", "2"),
-        ("--version", "2"),
-    ] {
-        assert_eq!(rt; read(rt.alloc(), line)?.as_str(), answer, "{line}");
+    for (line, answer) in LINES {
+        assert_eq!(rt; read(rt.alloc(), line)?.as_str(), *answer, "{line}");
     }
     Ok(())
 }
@@ -60,6 +99,7 @@ fn says_what_may_have_been_meant(rt: HostRuntime) -> Result<(), Fail> {
             "serve",
             "error: unrecognized subcommand 'serve'\n\nUsage: wampd stream [--realm NAME]\n",
         ),
+        ("script --nodes 8", "error: a cluster has 3 to 7 nodes"),
     ] {
         assert!(rt; cause(rt.alloc(), line)?.contains(hint), "{line}");
     }
@@ -73,6 +113,10 @@ fn tells_what_is_asked_for(rt: HostRuntime) -> Result<(), Fail> {
         ("--version", "wampd 0.1.0\n"),
         ("--help", "Usage: wampd <COMMAND>\n"),
         ("stream --help", "Usage: wampd stream [OPTIONS]\n"),
+        (
+            "script --help",
+            "Usage: wampd script [OPTIONS] --nodes <N>\n",
+        ),
     ] {
         let words = words_of(rt.alloc(), line)?;
         let Ok(Some(told)) = help_of(rt.alloc(), &words) else {

@@ -1,7 +1,6 @@
+use crate::ends::{Paper, reader_of};
 use cluster_program::{RunFault, stream_run};
 use std::alloc::AllocError;
-use std::io;
-use std::io::{Read, Write};
 
 // The client's octets of the stored run.
 const ASKED: &[u8] = b"\x7F\xF1\0\0\
@@ -36,80 +35,6 @@ const CALLED: &[u8] = b"\
 \0\0\0\x0B[68,2,1,{}]\
 \0\0\0\x1C[69,2,{\"mode\":\"killnowait\"}]\
 \0\0\0\x21[8,48,3,{},\"wamp.error.canceled\"]";
-
-// A reader that gives at most so many octets at a time, and fails once.
-#[derive(Drop)]
-struct Pieces<'a> {
-    octets: &'a [u8],
-    most: usize,
-    reads_before_failure: Option<u32>,
-}
-
-impl Read for Pieces<'_> {
-    fn read(&mut self, buf: &mut [u8]) -> io::Result<usize> {
-        match self.reads_before_failure {
-            Some(0) => {
-                self.reads_before_failure = None;
-                return Err(io::ErrorKind::Other.into());
-            }
-            Some(reads) => self.reads_before_failure = Some(reads - 1),
-            None => {}
-        }
-        let most = self.most.min(buf.len());
-        self.octets.read(&mut buf[..most])
-    }
-}
-
-// A writer that keeps what it is given, and fails once, in a write or in a flush.
-#[derive(Drop)]
-struct Paper {
-    octets: Vec<u8>,
-    longest: usize,
-    calls_before_failure: Option<u32>,
-}
-
-impl Paper {
-    fn fails(&mut self) -> bool {
-        match self.calls_before_failure {
-            Some(0) => {
-                self.calls_before_failure = None;
-                true
-            }
-            Some(calls) => {
-                self.calls_before_failure = Some(calls - 1);
-                false
-            }
-            None => false,
-        }
-    }
-}
-
-impl Write for Paper {
-    fn write(&mut self, buf: &[u8]) -> io::Result<usize> {
-        if self.fails() {
-            return Err(io::ErrorKind::Other.into());
-        }
-        self.longest = self.longest.max(buf.len());
-        self.octets.extend_from_slice(buf)?;
-        Ok(buf.len())
-    }
-
-    fn flush(&mut self) -> io::Result<()> {
-        if self.fails() {
-            return Err(io::ErrorKind::Other.into());
-        }
-        Ok(())
-    }
-}
-
-// A reader of these octets, by so many at a time.
-fn reader_of(octets: &[u8], most: usize) -> Pieces<'_> {
-    Pieces {
-        octets,
-        most,
-        reads_before_failure: None,
-    }
-}
 
 // What a run over these octets writes, and how it ends.
 fn answers(rt: &impl AllocGlobal, octets: &[u8], most: usize) -> (Vec<u8>, Result<(), RunFault>) {

@@ -1,8 +1,9 @@
-//! A WAMP router: `wampd stream` serves one client on standard input and output.
+//! A WAMP router: `wampd stream` serves one client on standard input and output, `wampd script` plays a cluster's schedule.
 #![tactic(auto)]
 
 use cluster_program::{
-    Order, RunFault, UsageFault, help_of, order_of, stream_run, unreadable_words,
+    Members, Order, RunFault, UsageFault, help_of, order_of, script_run, stream_run,
+    unreadable_words,
 };
 use std::env;
 use std::io::{ErrorKind, Write};
@@ -32,6 +33,20 @@ fn words_of(rt: &HostRuntime) -> Result<Vec<String>, UsageFault> {
 // Serves one client, and says on standard error why its transport failed.
 fn stream(rt: &HostRuntime, realm: &str) -> ExitCode {
     match stream_run(rt.alloc(), &mut rt.stdin(), &mut rt.stdout(), realm) {
+        Ok(()) => ExitCode::SUCCESS,
+        Err(fault) => failure(rt, fault),
+    }
+}
+
+// Plays a script, and says on standard error why it was not played to its end.
+fn script(rt: &HostRuntime, members: Members, realm: &str) -> ExitCode {
+    match script_run(
+        rt.alloc(),
+        &mut rt.stdin(),
+        &mut rt.stdout(),
+        members,
+        realm,
+    ) {
         Ok(()) => ExitCode::SUCCESS,
         Err(fault) => failure(rt, fault),
     }
@@ -71,6 +86,7 @@ fn main(rt: HostRuntime) -> ExitCode {
     }
     match order_of(rt.alloc(), &words) {
         Ok(Order::Stream { realm }) => stream(&rt, realm.as_str()),
+        Ok(Order::Script { members, realm }) => script(&rt, members, realm.as_str()),
         Err(fault) => misuse(&rt, fault),
     }
 }

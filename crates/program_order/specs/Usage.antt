@@ -1,7 +1,7 @@
 -- The statuses of a command line that is wrong (docs/PROTOCOL.md, "A stream").
 use Rattle.std.specs.Prelude.{ℕ}
-use Rattle.cluster_program.specs.declared.order.UsageFault.{UsageFault}
-use Rattle.cluster_program.specs.declared.order.UsageFault.TheVariants.{Usage, Memory}
+use Rattle.program_order.specs.declared.usage.UsageFault.{UsageFault}
+use Rattle.program_order.specs.declared.usage.UsageFault.TheVariants.{Usage, Memory}
 
 -- the status with which the program ends
 abbrev pub usage_status_of : UsageFault → ℕ

@@ -1,0 +1,159 @@
+ghost use Rattle.std.specs.Prelude.{◌≡◌, true, IfOk, MatchResult, Some, codes, is_some, map, option_map};
+ghost use Rattle.std.specs.String.{string_bytes};
+ghost use Rattle.clap.specs.Words.{first_of, found_of, kind_of, rows_of, subcommand_of, subcommand_rows_of, takes};
+ghost use Rattle.clap.specs.declared.error.kind.ErrorKind.TheVariants.{OutOfMemory};
+ghost use Rattle.program_order.specs.declared.usage.UsageFault.TheVariants.{Memory};
+ghost use Rattle.program_order.specs.Order.{Answers, AnswersWords, AnswersAsked, IsAllowed, asked_of, asked_in_rows, realm_in, name_in};
+ghost use Rattle.program_order.specs.Order.{nodes_in, is_name, stream_by, script_by};
+ghost use Rattle.program_order.specs.Program.{program};
+
+use crate::command::command;
+use crate::number::number_in;
+use crate::usage::{UsageFault, fault_of, usage};
+use clap::error::ErrorKind;
+use clap::{ArgMatches, Command};
+use paxos_packets::Members;
+use std::alloc::{AllocError, Global};
+
+// The realm that is served where the command line names none.
+const DEFAULT_REALM: &str = "realm1";
+
+/// What a command line asks the program to do.
+#[derive(Debug, Drop)]
+pub enum Order {
+    /// Serve one client on standard input and output, in the realm of this name.
+    Stream { realm: String },
+    /// Play the script on standard input in a cluster of these members, in the realm of this name.
+    Script { members: Members, realm: String },
+}
+
+/// The order that these words give, without the program's own name.
+///
+/// A realm's name is a text that is not empty and does not begin with `-`; a number of nodes is 3 to 7. A request for help
+/// or for the version is no order: `help_of` answers it.
+pub fn order_of<'a>(alloc: Global, words: &'a [String]) -> Result<Order, UsageFault>
+    ensures answers { AnswersWords (map (λ s. string_bytes s) words.entry.now) result }
+    ensures allowed { IfOk result (λ order. IsAllowed (asked_of order)) }
+    ensures asked { AnswersAsked (map (λ s. string_bytes s) words.entry.now) result }
+{
+    order_in(alloc, words)
+}
+
+/// What to print where the words ask for help or for the version, as `--help`, `stream --help` and `--version` do; `None`
+/// where they do not.
+pub fn help_of<'a>(alloc: Global, words: &'a [String]) -> Result<Option<String>, UsageFault> {
+    let Err(error) = parse(alloc, words)? else {
+        return Ok(None);
+    };
+    match error.kind() {
+        ErrorKind::DisplayHelp | ErrorKind::DisplayVersion => Ok(Some(error.to_string(alloc)?)),
+        _ => Ok(None),
+    }
+}
+
+// What the command line's parser makes of the words.
+fn parse<'a>(
+    alloc: Global,
+    words: &'a [String],
+) -> Result<Result<ArgMatches<'a>, clap::Error>, AllocError>
+    ensures { IfOk result (λ parsed. MatchResult parsed
+        (λ m. subcommand_rows_of m ≡ subcommand_of program (map (λ s. string_bytes s) words.entry.now))
+        (λ e. takes program (map (λ s. string_bytes s) words.entry.now) ≡ true → kind_of e ≡ OutOfMemory)) }
+{
+    let command: Command<'a> = command(alloc)?;
+    Ok(command.try_get_matches_from(words))
+}
+
+// The order that these words give.
+fn order_in<'a>(alloc: Global, words: &'a [String]) -> Result<Order, UsageFault>
+    ensures answers { AnswersWords (map (λ s. string_bytes s) words.entry.now) result }
+    ensures allowed { IfOk result (λ order. IsAllowed (asked_of order)) }
+{
+    let matches = match parse(alloc, words)? {
+        Ok(matches) => matches,
+        Err(error) => return Err(fault_of(alloc, &error)),
+    };
+    match matches.subcommand() {
+        Some((name, options)) => order_by(alloc, name, options),
+        None => Err(usage(alloc, "error: no subcommand that is served")),
+    }
+}
+
+// The order of this subcommand with these options.
+fn order_by<'a>(alloc: Global, name: &str, options: &ArgMatches<'a>) -> Result<Order, UsageFault>
+    ensures answers { Answers (asked_in_rows name.now (rows_of (found_of options.now))) result }
+    ensures allowed { IfOk result (λ order. IsAllowed (asked_of order)) }
+{
+    match name {
+        "stream" => stream_by(alloc, options),
+        "script" => script_by(alloc, options),
+        _ => Err(usage(alloc, "error: no subcommand that is served")),
+    }
+}
+
+fn stream_by<'a>(alloc: Global, options: &ArgMatches<'a>) -> Result<Order, UsageFault>
+    ensures answers { Answers (stream_by (λ id. first_of id (rows_of (found_of options.now)))) result }
+    ensures allowed { IfOk result (λ order. IsAllowed (asked_of order)) }
+{
+    let realm = realm_by(alloc, options)?;
+    Ok(Order::Stream { realm })
+}
+
+fn script_by<'a>(alloc: Global, options: &ArgMatches<'a>) -> Result<Order, UsageFault>
+    ensures answers { Answers (script_by (λ id. first_of id (rows_of (found_of options.now)))) result }
+    ensures allowed { IfOk result (λ order. IsAllowed (asked_of order)) }
+{
+    let Some(members) = nodes_in(option_of(options, "nodes")) else {
+        return Err(usage(alloc, "error: a cluster has 3 to 7 nodes"));
+    };
+    let realm = realm_by(alloc, options)?;
+    Ok(Order::Script { members, realm })
+}
+
+// The name of the realm that is given, or else the default.
+fn realm_by<'a>(alloc: Global, options: &ArgMatches<'a>) -> Result<String, UsageFault>
+    ensures { MatchResult result
+        (λ realm. realm_in (first_of (codes "realm") (rows_of (found_of options.now))) ≡ Some (string_bytes realm))
+        (λ fault. is_some (realm_in (first_of (codes "realm") (rows_of (found_of options.now)))) ≡ true → fault ≡ Memory) }
+{
+    let realm = named(option_of(options, "realm"));
+    if !is_name(realm) {
+        let cause = "error: the name of a realm is not empty and does not begin with '-'";
+        return Err(usage(alloc, cause));
+    }
+    Ok(String::from_str(alloc, realm)?)
+}
+
+// The text that is given for this option, if one is.
+fn option_of<'a>(options: &ArgMatches<'a>, name: &str) -> Option<&'a str>
+    ensures { option_map (λ text. text.now) result ≡ first_of name.now (rows_of (found_of options.now)) }
+{
+    options.get_str(name)
+}
+
+// The name, or that of the default realm.
+fn named(text: Option<&str>) -> &str
+    ensures { realm_in (option_map (λ text. text.now) text.entry) ≡ name_in result.now }
+{
+    match text {
+        Some(name) => name,
+        None => DEFAULT_REALM,
+    }
+}
+
+fn is_name(text: &str) -> bool
+    ensures { result ≡ is_name text.now }
+{
+    match text.as_bytes().first() {
+        Some(first) => *first != b'-',
+        None => false,
+    }
+}
+
+// The members of a cluster of so many nodes, if that is a number of nodes.
+fn nodes_in(text: Option<&str>) -> Option<Members>
+    ensures { result ≡ nodes_in (option_map (λ s. s.now) text.entry) }
+{
+    let count = number_in(text?, u64::from(u8::MAX))?;
+    Members::new(count as u8)
+}

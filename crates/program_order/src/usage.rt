@@ -1,0 +1,87 @@
+ghost use Rattle.std.specs.Prelude.{◌≡◌};
+ghost use Rattle.clap.specs.Words.{kind_of};
+ghost use Rattle.clap.specs.declared.error.kind.ErrorKind.TheVariants.{OutOfMemory};
+ghost use Rattle.program_order.specs.Usage.{usage_status_of};
+ghost use Rattle.program_order.specs.declared.usage.UsageFault.TheVariants.{Memory};
+
+use clap::error::ErrorKind;
+use std::alloc::{AllocError, Global};
+use thiserror::Error;
+
+// How the program is used, for a command line that is wrong.
+const USAGE: &str = "\
+Usage: wampd stream [--realm NAME]
+       wampd script --nodes N [--realm NAME]
+
+  stream        serves one client: its RawSocket octets on standard input, the router's on standard output
+  script        plays a cluster's schedule, one event a line on standard input, and writes what became of it
+  --nodes N     how many nodes the cluster has, 3 to 7
+  --realm NAME  the realm that is served; realm1 if none is named
+
+For more information, try 'wampd --help'.";
+
+/// Why a command line is no order.
+#[derive(Debug, Drop, Error)]
+pub enum UsageFault {
+    /// The words are no order; the text says what is wrong with them, and how the program is used.
+    #[error("{0}")]
+    Usage(String),
+    #[error("memory")]
+    Memory,
+}
+
+impl UsageFault {
+    /// The status with which the program ends: 2, or 5 for want of memory.
+    pub fn status(&self) -> u8
+        ensures { result ≡ usage_status_of self.now }
+    {
+        match self {
+            UsageFault::Usage(_) => 2,
+            UsageFault::Memory => 5,
+        }
+    }
+}
+
+impl From<AllocError> for UsageFault {
+    ghost from_gives = { λ _ fault. fault ≡ Memory };
+
+    fn from(_error: AllocError) -> UsageFault {
+        UsageFault::Memory
+    }
+}
+
+/// The fault of a command line of which a word is no text, since it is not UTF-8.
+pub fn unreadable_words(alloc: Global) -> UsageFault {
+    usage(alloc, "error: a word of the command line is not UTF-8")
+}
+
+// The fault that the command line's parser found.
+pub(crate) fn fault_of(alloc: Global, error: &clap::Error) -> UsageFault
+    ensures { kind_of error.now ≡ OutOfMemory → result ≡ Memory }
+{
+    if error.kind() == ErrorKind::OutOfMemory {
+        return UsageFault::Memory;
+    }
+    match error.to_string(alloc) {
+        Ok(text) => usage(alloc, cause_in(text.as_str())),
+        Err(_) => UsageFault::Memory,
+    }
+}
+
+// The front of what the parser says: the cause, and what may have been meant. Its usage is told by `USAGE`.
+fn cause_in(text: &str) -> &str {
+    for end in ["\n\nUsage:", "\n\nFor more information"] {
+        if let Some((cause, _usage)) = text.split_once(end) {
+            return cause;
+        }
+    }
+    text
+}
+
+// The fault of this cause.
+pub(crate) fn usage(alloc: Global, cause: &str) -> UsageFault {
+    match format!(in alloc; "{cause}\n\n{USAGE}") {
+        Ok(text) => UsageFault::Usage(text),
+        Err(_) => UsageFault::Memory,
+    }
+}

@@ -1,0 +1,78 @@
+// A reader and a writer that tests see into.
+
+use std::io;
+use std::io::{Read, Write};
+
+// A reader that gives at most so many octets at a time, and fails once.
+#[derive(Drop)]
+pub(crate) struct Pieces<'a> {
+    pub(crate) octets: &'a [u8],
+    most: usize,
+    pub(crate) reads_before_failure: Option<u32>,
+}
+
+impl Read for Pieces<'_> {
+    fn read(&mut self, buf: &mut [u8]) -> io::Result<usize> {
+        match self.reads_before_failure {
+            Some(0) => {
+                self.reads_before_failure = None;
+                return Err(io::ErrorKind::Other.into());
+            }
+            Some(reads) => self.reads_before_failure = Some(reads - 1),
+            None => {}
+        }
+        let most = self.most.min(buf.len());
+        self.octets.read(&mut buf[..most])
+    }
+}
+
+// A writer that keeps what it is given, and fails once, in a write or in a flush.
+#[derive(Drop)]
+pub(crate) struct Paper {
+    pub(crate) octets: Vec<u8>,
+    pub(crate) longest: usize,
+    pub(crate) calls_before_failure: Option<u32>,
+}
+
+impl Paper {
+    fn fails(&mut self) -> bool {
+        match self.calls_before_failure {
+            Some(0) => {
+                self.calls_before_failure = None;
+                true
+            }
+            Some(calls) => {
+                self.calls_before_failure = Some(calls - 1);
+                false
+            }
+            None => false,
+        }
+    }
+}
+
+impl Write for Paper {
+    fn write(&mut self, buf: &[u8]) -> io::Result<usize> {
+        if self.fails() {
+            return Err(io::ErrorKind::Other.into());
+        }
+        self.longest = self.longest.max(buf.len());
+        self.octets.extend_from_slice(buf)?;
+        Ok(buf.len())
+    }
+
+    fn flush(&mut self) -> io::Result<()> {
+        if self.fails() {
+            return Err(io::ErrorKind::Other.into());
+        }
+        Ok(())
+    }
+}
+
+// A reader of these octets, by so many at a time.
+pub(crate) fn reader_of(octets: &[u8], most: usize) -> Pieces<'_> {
+    Pieces {
+        octets,
+        most,
+        reads_before_failure: None,
+    }
+}
