@@ -84,7 +84,7 @@ module _ (alike : HandsOutAsRealm) (config : Config) (members m : ℕ) (ls : Lis
       the_text,
       is_text,
       prints_then old mid waited between (nodes_text members (world_of members ls)) (told_text told)
-      (subst (PrintsNodes (Ok tt)) same p) result
+          (subst (PrintsNodes (Ok tt)) same p) result
           new waits q,
     )
 

@@ -57,11 +57,15 @@ module _ (count : ℕ) (input mid : Option (List ℕ)) (old text : List ℕ) (r 
 
   pub reads_stop : (f : ScriptFault) → ReadsOnce (Err f) mid left text new → StopsBy f input left
   reads_stop (fault.Line number) q = q
-  reads_stop fault.Memory q =
-      (r.read ++ q.0, read_fewer 0 (count + 0) input left (r.read ++ q.0) (omega arith)
-      (read_more count 0 input mid left r.read q.0 r.were_read q.1))
-  reads_stop fault.Read q =
-      (r.read ++ [], read_fewer 0 (count + 0) input left (r.read ++ []) (omega arith)
-      (read_more count 0 input mid left r.read [] r.were_read q))
+  reads_stop fault.Memory q = (
+    r.read ++ q.0,
+    read_fewer 0 (count + 0) input left (r.read ++ q.0) (omega arith)
+        (read_more count 0 input mid left r.read q.0 r.were_read q.1),
+  )
+  reads_stop fault.Read q = (
+    r.read ++ [],
+    read_fewer 0 (count + 0) input left (r.read ++ []) (omega arith)
+        (read_more count 0 input mid left r.read [] r.were_read q),
+  )
   reads_stop fault.Write q = q
   reads_stop fault.Reads q = absurd q

@@ -68,7 +68,7 @@ breaks_more old new waited text rest whole e p = record {
   rest = p.rest ++ rest;
   is_written = p.is_written;
   is_all = ap (λ x. waited ++ x) (sym e) ∙ sym (append_assoc waited text rest) ∙ ap (λ x. x ++ rest) p.is_all
-    ∙ append_assoc p.written p.rest rest;
+      ∙ append_assoc p.written p.rest rest;
 }
 
 -- what ends the printing of a part ends that of the whole
