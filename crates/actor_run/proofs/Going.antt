@@ -1,0 +1,90 @@
+-- How a run goes on by an event, or by none.
+use Rattle.std.proofs.Common.{◌≡◌, ℕ, Bool, true, false, List, [], ◌∷◌, ◌++◌, ap, sym, subst, ◌∙◌, refl, Option, Some, None}
+use Rattle.std.specs.Option.{option_to_list}
+use Rattle.std.proofs.lemmas.List.{append-nil, append_assoc}
+use Rattle.std.proofs.lemmas.Grind.{flat_map-append}
+use Rattle.paxos_packets.specs.declared.rows.Rows.{Rows}
+use Rattle.paxos_node.specs.declared.event.Event.{Event}
+use Rattle.paxos_node.specs.View.{Viewed}
+use Rattle.paxos_turn.specs.Node.{NodeState}
+use Rattle.std.specs.Prelude.{Result}
+use Rattle.std.specs.declared.vec.Vec.{Vec}
+use Rattle.std.specs.declared.alloc.Global.{Global}
+use Rattle.actor_parts.specs.declared.fault.ActorFault.{ActorFault}
+use Rattle.replica_machine.specs.Log.{Follows}
+use Rattle.replica_machine.specs.Replay.{Machine}
+use Rattle.actor_parts.specs.Handing.{handed_by}
+use Rattle.node_actor.specs.Actor.{Acting}
+use Rattle.node_actor.specs.Calls.{Goes, turn_event}
+use Rattle.node_actor.specs.Turns.{Turns, packet_got}
+use Rattle.node_actor.specs.Views.{View, seen, moved_by, StandsFor}
+use Rattle.actor_run.specs.Events.{asked_by, asked_in, act_in, acts_in, behind, gained_in, said_in}
+use Rattle.actor_run.specs.Runs.{Outset, HeldBack, Went}
+use Rattle.actor_run.proofs.Lists.{gained_at, behind_more, gained_more, said_more}
+
+module _ {B S Y M K : Type 0} (same : B → B → Bool) (from : S → Machine B S Y) (content : M → S) (holds : K → Rows B → Type 0)
+    (finds : K → Rows B → Type 0) (failures : K → ℕ) (o : Outset B Y M K) where
+  abbrev n_of : ℕ
+  n_of = o.actor.node.members
+
+  abbrev s_of : Viewed B
+  s_of = seen o.view
+
+  -- the event, or none, is one of those that were made, and its act is no longer late
+  pub goes_on : (late rest : List (ℕ × B)) (mid now : Acting B M K) (w : View B) (made given : List (Event B)) (said says : List Y)
+      (e : Option (Event B)) (t : Went same from content late o mid w made given said)
+      (g : Goes same from content holds finds failures e mid now w says) → now.node.me ≡ mid.node.me → now.node.members ≡ mid.node.members
+      → acts_in (gained_at e (seen w).node) ++ rest ≡ late
+      → Went same from content rest o now g.next (made ++ option_to_list e) given (said ++ says)
+  goes_on late rest mid now w made given said says e t g me members gain =
+      let at : NodeState B = (behind same n_of made s_of).node in
+      let here : acts_in (gained_at e at) ++ rest ≡ late = subst (λ (z : Viewed B). acts_in (gained_at e z.node) ++ rest ≡ late) t.moved gain in
+      let all : acts_in (gained_in same n_of (made ++ option_to_list e) s_of) ≡ acts_in (gained_in same n_of made s_of) ++ acts_in (gained_at e at) =
+      ap acts_in (gained_more same n_of made e s_of) ∙ flat_map-append act_in (gained_in same n_of made s_of) (gained_at e at) in
+      record {
+        stands = g.stands;
+        me = me ∙ t.me;
+        members = members ∙ t.members;
+        moved = g.moved ∙ (ap (λ k. moved_by same k e (seen w)) t.members ∙ (ap (moved_by same n_of e) t.moved ∙ sym (behind_more same n_of made e s_of)));
+        acts = ap (λ a. a ++ rest) all ∙ (append_assoc (acts_in (gained_in same n_of made s_of)) (acts_in (gained_at e at)) rest
+            ∙ (ap (λ l. acts_in (gained_in same n_of made s_of) ++ l) here ∙ t.acts));
+        says = λ first f. says_on first (t.says first f) (g.says first (t.follows first f));
+        follows = λ first f. g.follows first (t.follows first f);
+      }
+    where
+      says_on : (first : S) → said ≡ said_in same n_of (from first) made s_of → says ≡ handed_by same mid.node.members (from first) e (seen w).node
+          → said ++ says ≡ said_in same n_of (from first) (made ++ option_to_list e) s_of
+      says_on first before now_is =
+          let mine : says ≡ handed_by same n_of (from first) e (behind same n_of made s_of).node =
+          now_is ∙ (ap (λ k. handed_by same k (from first) e (seen w).node) t.members ∙ ap (λ z. handed_by same n_of (from first) e z.node) t.moved) in
+          ap (λ z. z ++ says) before ∙ (ap (λ z. said_in same n_of (from first) made s_of ++ z) mine ∙ sym (said_more same n_of (from first) made e s_of))
+
+  -- what was due was posted: the view shows the same node
+  pub posts_on : (late : List (ℕ × B)) (old now : Acting B M K) (w : View B) (made given : List (Event B)) (said : List Y)
+      (r : Result (Vec Y Global) (ActorFault Y)) (t : Turns same from content holds finds failures old now w r)
+      → Went same from content late o old w made given said → Went same from content late o t.mid t.between made given said
+  posts_on late old now w made given said r t went =
+      let only = t.posts.beside.only in
+      record {
+        stands = t.stands;
+        me = ap (λ h. h.me) only.node ∙ went.me;
+        members = ap (λ h. h.members) only.node ∙ went.members;
+        moved = t.posts.beside.seen ∙ went.moved;
+        acts = went.acts;
+        says = went.says;
+        follows = λ first f. subst (λ l. Follows from content first l) (sym only.log) (went.follows first f);
+      }
+
+  -- an event that was held back is so still where no act was taken since
+  pub held_on : (h : Event B) (made : List (Event B)) (e : Option (Event B)) → ((x : NodeState B) → gained_at e x ≡ [])
+      → HeldBack same n_of h made s_of → HeldBack same n_of h (made ++ option_to_list e) s_of
+  held_on h made e none back =
+      let at : Viewed B = behind same n_of back.front s_of in
+      record {
+        front = back.front;
+        since = back.since ++ option_to_list e;
+        all = ap (λ z. z ++ option_to_list e) back.all ∙ append_assoc back.front back.since (option_to_list e);
+        full = back.full;
+        no_act = gained_more same n_of back.since e at ∙ (ap (λ z. z ++ gained_at e (behind same n_of back.since at).node) back.no_act
+            ∙ none (behind same n_of back.since at).node);
+      }

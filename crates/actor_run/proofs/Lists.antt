@@ -1,0 +1,111 @@
+-- Lists of events with one more behind, or none.
+use Rattle.std.proofs.Common.{◌≡◌, ℕ, Bool, true, false, List, [], ◌∷◌, ◌++◌, ap, sym, ◌∙◌, refl, Option, Some, None}
+use Rattle.std.specs.Prelude.{◌==◌, ◌&&◌, not, if◌then◌else◌}
+use Rattle.std.specs.Option.{option_to_list}
+use Rattle.std.proofs.lemmas.List.{append-nil, append_assoc}
+use Rattle.paxos_packets.specs.declared.entry.Entry.{Entry}
+use Rattle.paxos_packets.specs.declared.packet.Packet.{Packet}
+use Rattle.paxos_node.specs.declared.event.Event.{Event}
+use Rattle.paxos_node.specs.declared.event.Event.TheVariants.{Take, Tick, Start, Suspect, Deliver, Crash, Restart}
+use Rattle.paxos_node.specs.Events.{takes, is_round_refused, is_full_refused}
+use Rattle.paxos_node.specs.View.{Viewed}
+use Rattle.paxos_turn.specs.Node.{NodeState}
+use Rattle.replica_machine.specs.Replay.{Machine}
+use Rattle.actor_parts.specs.Handing.{handed_by}
+use Rattle.node_actor.specs.Calls.{is_own, turn_event, has_no_round, has_no_room}
+use Rattle.node_actor.specs.Views.{moved_by, is_for}
+use Rattle.actor_run.specs.Events.{asked_by, asked_in, acts_in, gained_by, behind, gained_in, said_in}
+
+abbrev pub gained_at : {B : Type 0} → Option (Event B) → NodeState B → List (Entry B)
+gained_at None x = []
+gained_at (Some e) x = gained_by e x
+
+module _ {B : Type 0} (same : B → B → Bool) (members : ℕ) where
+  pub behind_more : (made : List (Event B)) (e : Option (Event B)) (s : Viewed B)
+      → behind same members (made ++ option_to_list e) s ≡ moved_by same members e (behind same members made s)
+  behind_more [] None s = refl
+  behind_more [] (Some e) s = refl
+  behind_more (x ∷ xs) e s = behind_more xs e (moved_by same members (Some x) s)
+
+  pub gained_more : (made : List (Event B)) (e : Option (Event B)) (s : Viewed B)
+      → gained_in same members (made ++ option_to_list e) s ≡ gained_in same members made s ++ gained_at e (behind same members made s).node
+  gained_more [] None s = refl
+  gained_more [] (Some e) s = append-nil (gained_by e s.node)
+  gained_more (x ∷ xs) e s =
+      let t : Viewed B = moved_by same members (Some x) s in
+      ap (λ g. gained_by x s.node ++ g) (gained_more xs e t)
+      ∙ sym (append_assoc (gained_by x s.node) (gained_in same members xs t) (gained_at e (behind same members xs t).node))
+
+  module _ {S Y : Type 0} (m : Machine B S Y) where
+    pub said_more : (made : List (Event B)) (e : Option (Event B)) (s : Viewed B)
+        → said_in same members m (made ++ option_to_list e) s ≡ said_in same members m made s ++ handed_by same members m e (behind same members made s).node
+    said_more [] None s = refl
+    said_more [] (Some e) s = append-nil (handed_by same members m (Some e) s.node)
+    said_more (x ∷ xs) e s =
+        let t : Viewed B = moved_by same members (Some x) s in
+        ap (λ g. handed_by same members m (Some x) s.node ++ g) (said_more xs e t)
+        ∙ sym (append_assoc (handed_by same members m (Some x) s.node) (said_in same members m xs t)
+        (handed_by same members m e (behind same members xs t).node))
+
+  -- what one event asks and gains
+
+  pub not_asked : (me : ℕ) (e : Event B) → is_own me e ≡ false → asked_by me e ≡ []
+  not_asked me (Take n t body) h = rw h refl
+  not_asked me (Tick n) h = refl
+  not_asked me (Start n) h = refl
+  not_asked me (Suspect n other) h = refl
+  not_asked me (Deliver p) h = refl
+  not_asked me (Crash n) h = refl
+  not_asked me (Restart n) h = refl
+
+  pub none_asked : (me : ℕ) (e : Event B) (x : NodeState B) → is_round_refused e x ≡ true → asked_by me e ≡ []
+  none_asked me (Take n t body) x h = absurd (let off : ◌≡◌ {A = Bool} false true = h in cc)
+  none_asked me (Tick n) x h = refl
+  none_asked me (Start n) x h = refl
+  none_asked me (Suspect n other) x h = refl
+  none_asked me (Deliver p) x h = refl
+  none_asked me (Crash n) x h = refl
+  none_asked me (Restart n) x h = refl
+
+  takes_it : (b : Bool) → not b ≡ false → b ≡ true
+  takes_it true h = refl
+  takes_it false h = absurd (let off : ◌≡◌ {A = Bool} true false = h in cc)
+
+  pub gains : (me : ℕ) (e : Event B) (x : NodeState B) → is_own me e ≡ true → is_full_refused same e x ≡ false
+      → acts_in (gained_by e x) ≡ asked_by me e
+  gains me (Take n t body) x own full = let room : takes x ≡ true = takes_it (takes x) full in rw (own, room) refl
+  gains me (Tick n) x own full = refl
+  gains me (Start n) x own full = refl
+  gains me (Suspect n other) x own full = refl
+  gains me (Deliver p) x own full = refl
+  gains me (Crash n) x own full = refl
+  gains me (Restart n) x own full = refl
+
+  -- a turn's event gains nothing, and is not refused
+
+  abbrev turn_by : Bool → Packet B → Option (Event B)
+  turn_by b p = if b then Some (Deliver p) else None
+
+  gains_by : (b : Bool) (p : Packet B) (x : NodeState B) → gained_at (turn_by b p) x ≡ []
+  gains_by true p x = refl
+  gains_by false p x = refl
+
+  pub turn_gains : (me : ℕ) (p : Option (Packet B)) (x : NodeState B) → gained_at (turn_event me members p) x ≡ []
+  turn_gains me None x = refl
+  turn_gains me (Some p) x = gains_by (is_for me members p) p x
+
+  rounds_by : (b : Bool) (p : Packet B) (x : NodeState B) → has_no_round (turn_by b p) x ≡ false
+  rounds_by true p x = refl
+  rounds_by false p x = refl
+
+  pub turn_rounds : (me : ℕ) (p : Option (Packet B)) (x : NodeState B) → has_no_round (turn_event me members p) x ≡ false
+  turn_rounds me None x = refl
+  turn_rounds me (Some p) x = rounds_by (is_for me members p) p x
+
+  rooms_by : (b : Bool) (p : Packet B) (x : NodeState B) → has_no_room same (turn_by b p) x ≡ false
+  rooms_by true p x = refl
+  rooms_by false p x = refl
+
+  pub turn_rooms : (me : ℕ) (p : Option (Packet B)) (x : NodeState B) → has_no_room same (turn_event me members p) x ≡ false
+  turn_rooms me None x = refl
+  turn_rooms me (Some p) x = rooms_by (is_for me members p) p x

@@ -1,0 +1,64 @@
+-- Lists of events at one node: what they ask of it, and what they make of a view of it.
+use Rattle.std.specs.Prelude.{ℕ, ◌==◌, ◌&&◌, nat_lt, Bool, Option, Some, None, List, [], ◌∷◌, ◌++◌, if◌then◌else◌}
+use Rattle.std.specs.List.{flat_map}
+use Rattle.paxos_packets.specs.declared.entry.Entry.{Entry}
+use Rattle.paxos_packets.specs.declared.entry.Entry.TheVariants.{Noop, Boot, Lost, Item}
+use Rattle.paxos_node.specs.declared.event.Event.{Event}
+use Rattle.paxos_node.specs.declared.event.Event.TheVariants.{Take, Tick, Start, Suspect, Deliver, Crash, Restart}
+use Rattle.paxos_node.specs.Events.{taken_by}
+use Rattle.paxos_node.specs.View.{Viewed}
+use Rattle.paxos_turn.specs.Node.{NodeState}
+use Rattle.replica_machine.specs.Replay.{Machine}
+use Rattle.actor_parts.specs.Handing.{handed_by}
+use Rattle.node_actor.specs.Views.{moved_by}
+
+-- the acts that events ask of a node, each by its transport and its body: a Take of the node's own, of a transport from 1 on
+
+abbrev pub asked_by : {B : Type 0} → ℕ → Event B → List (ℕ × B)
+asked_by me (Take n t body) = if (n == me) && nat_lt 0 t then (t, body) ∷ [] else []
+asked_by me (Tick n) = []
+asked_by me (Start n) = []
+asked_by me (Suspect n other) = []
+asked_by me (Deliver p) = []
+asked_by me (Crash n) = []
+asked_by me (Restart n) = []
+
+abbrev pub asked_in : {B : Type 0} → ℕ → List (Event B) → List (ℕ × B)
+asked_in me events = flat_map (asked_by me) events
+
+-- the acts among entries, each by its transport and its body
+
+abbrev pub act_in : {B : Type 0} → Entry B → List (ℕ × B)
+act_in Noop = []
+act_in (Boot n b) = []
+act_in (Lost n b) = []
+act_in (Item n b q t body) = (t, body) ∷ []
+
+abbrev pub acts_in : {B : Type 0} → List (Entry B) → List (ℕ × B)
+acts_in entries = flat_map act_in entries
+
+-- the act that an event adds to those that its node has taken
+abbrev pub gained_by : {B : Type 0} → Event B → NodeState B → List (Entry B)
+gained_by (Take n t body) x = taken_by n t body x
+gained_by (Tick n) x = []
+gained_by (Start n) x = []
+gained_by (Suspect n other) x = []
+gained_by (Deliver p) x = []
+gained_by (Crash n) x = []
+gained_by (Restart n) x = []
+
+module _ {B : Type 0} (same : B → B → Bool) (members : ℕ) where
+  -- the view behind the events
+  abbrev pub behind : List (Event B) → Viewed B → Viewed B
+  behind [] s = s
+  behind (e ∷ es) s = behind es (moved_by same members (Some e) s)
+
+  -- the acts that the view's node takes in them
+  abbrev pub gained_in : List (Event B) → Viewed B → List (Entry B)
+  gained_in [] s = []
+  gained_in (e ∷ es) s = gained_by e s.node ++ gained_in es (moved_by same members (Some e) s)
+
+  -- what the core hands out in them to the node's transports
+  abbrev pub said_in : {S Y : Type 0} → Machine B S Y → List (Event B) → Viewed B → List Y
+  said_in m [] s = []
+  said_in m (e ∷ es) s = handed_by same members m (Some e) s.node ++ said_in m es (moved_by same members (Some e) s)

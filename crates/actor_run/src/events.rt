@@ -1,0 +1,151 @@
+// What comes before a turn: the events that a feed gives.
+ghost use Rattle.std.specs.Prelude.{◌≡◌, Option, List, [], MatchOption};
+ghost use Rattle.paxos_node.specs.declared.event.Event.{Event};
+ghost use Rattle.replica_machine.specs.Log.{machine_from};
+ghost use Rattle.mail_table.specs.Seats.{Owns};
+ghost use Rattle.node_actor.specs.Calls.{is_own};
+ghost use Rattle.actor_run.specs.Answers.{says_of, IsQuiet, Gets, Answered};
+ghost use Rattle.actor_run.specs.Events.{asked_by};
+ghost use Rattle.actor_run.specs.Runs.{Outset, Underway, Waits, Makes};
+
+use crate::feed::{Feed, Seen};
+use mail_table::Mail;
+use node_actor::{Actor, ActorFault, Event, Keeper, Machine};
+
+// How many events are made before a turn at most.
+const MOST_EVENTS: u8 = 64;
+
+// What the feed is told.
+fn seen_by<M: Machine, K: Keeper<M::Body>>(actor: &Actor<M, K>) -> Seen {
+    Seen {
+        from: actor.from(),
+        applied: actor.applied(),
+        pending: actor.has_pending(),
+        posted: actor.posted(),
+    }
+}
+
+// Whether the event is one of this node that a feed may give. An act of the transport 0 is none.
+fn is_own<B>(node: u8, event: &Event<B>) -> bool
+    ensures { result ≡ is_own node event.now }
+{
+    match event {
+        Event::Take {
+            node: of,
+            transport,
+            ..
+        } => *of == node && *transport > 0,
+        Event::Tick { node: of } => *of == node,
+        Event::Start { node: of } => *of == node,
+        Event::Suspect { node: of, .. } => *of == node,
+        Event::Deliver { .. } => false,
+        Event::Crash { .. } => false,
+        Event::Restart { .. } => false,
+    }
+}
+
+// The event that was held back, or the next one that the feed gives.
+fn next_event<M: Machine, K: Keeper<M::Body>, F: Feed<M::Body, M::Say>>(
+    actor: &Actor<M, K>,
+    feed: &mut F,
+    held: Option<Event<M::Body>>,
+) -> Option<Event<M::Body>>
+    ensures { (o : Outset M.Body M.Say M K) → Waits M.Body.same (machine_from M.next M.says M.to) M.content F.saw held o actor.now feed.old →
+        MatchOption result (Waits M.Body.same (machine_from M.next M.says M.to) M.content F.saw Option.None o actor.now feed.new)
+        (λ e. Underway M.Body.same (machine_from M.next M.says M.to) M.content F.saw (asked_by actor.now.node.me e) o actor.now feed.new) }
+{
+    match held {
+        Some(event) => Some(event),
+        None => feed.next(seen_by(actor)),
+    }
+}
+
+// The sayings in a fault are handed out; gives it without them.
+pub(crate) fn told<B, Y: Drop, F: Feed<B, Y>>(feed: &mut F, fault: ActorFault<Y>) -> ActorFault<Y>
+    ensures quiet { IsQuiet fault result }
+    ensures told { Gets F.saw (says_of fault) feed.old feed.new }
+{
+    match fault {
+        ActorFault::LostHere(says) => {
+            let none = Vec::new(*says.allocator());
+            feed.hand(says);
+            ActorFault::LostHere(none)
+        },
+        fault => fault,
+    }
+}
+
+// What a fault at an event makes of it.
+fn refused<B: Drop, Y: Drop, F: Feed<B, Y>>(
+    feed: &mut F,
+    event: Event<B>,
+    fault: ActorFault<Y>,
+) -> Result<Option<Event<B>>, ActorFault<Y>>
+    ensures { Answered F.saw fault event feed.old feed.new result }
+{
+    match fault {
+        ActorFault::Rounds => {
+            drop(event);
+            Ok(None)
+        },
+        ActorFault::Full => Ok(Some(event)),
+        fault => {
+            drop(event);
+            Err(told(feed, fault))
+        },
+    }
+}
+
+// The actor makes an event that the feed gave; gives it back where it is held back.
+fn make<M: Machine, K: Keeper<M::Body>, F: Feed<M::Body, M::Say>>(
+    mail: &Mail<M::Body>,
+    actor: &mut Actor<M, K>,
+    feed: &mut F,
+    event: Event<M::Body>,
+) -> Result<Option<Event<M::Body>>, ActorFault<M::Say>>
+    requires owned { Owns mail.now actor.old.seat }
+    ensures still_owned { Owns mail.now actor.new.seat }
+    ensures me { actor.new.node.me ≡ actor.old.node.me }
+    ensures makes { (o : Outset M.Body M.Say M K) →
+        Underway M.Body.same (machine_from M.next M.says M.to) M.content F.saw (asked_by actor.old.node.me event) o actor.old feed.old →
+        Makes M.Body.same (machine_from M.next M.says M.to) M.content F.saw K.holds K.finds K.failures o actor.new feed.new result }
+{
+    if !is_own(actor.me(), &event) {
+        drop(event);
+        return Ok(None);
+    }
+    match actor.event(mail, &event) {
+        Ok(says) => {
+            drop(event);
+            feed.hand(says);
+            Ok(None)
+        },
+        Err(fault) => refused(feed, event, fault),
+    }
+}
+
+// At most 64 events, the one that was held back first; gives one that is held back then.
+pub(crate) fn make_events<M: Machine, K: Keeper<M::Body>, F: Feed<M::Body, M::Say>>(
+    mail: &Mail<M::Body>,
+    actor: &mut Actor<M, K>,
+    feed: &mut F,
+    held: Option<Event<M::Body>>,
+) -> Result<Option<Event<M::Body>>, ActorFault<M::Say>>
+    requires owned { Owns mail.now actor.old.seat }
+    ensures still_owned { Owns mail.now actor.new.seat }
+    ensures makes { (o : Outset M.Body M.Say M K) →
+        Waits M.Body.same (machine_from M.next M.says M.to) M.content F.saw held o actor.old feed.old →
+        Makes M.Body.same (machine_from M.next M.says M.to) M.content F.saw K.holds K.finds K.failures o actor.new feed.new result }
+{
+    let mut held = held;
+    for _ in 0..MOST_EVENTS {
+        let Some(event) = next_event(actor, feed, held) else {
+            return Ok(None);
+        };
+        held = make(mail, actor, feed, event)?;
+        if held.is_some() {
+            return Ok(held);
+        }
+    }
+    Ok(held)
+}

@@ -1,0 +1,88 @@
+ghost use Rattle.std.specs.Prelude.{◌≡◌, Option, List, [], ◌++◌};
+ghost use Rattle.paxos_node.specs.declared.event.Event.{Event};
+ghost use Rattle.replica_machine.specs.Log.{machine_from};
+ghost use Rattle.mail_table.specs.Seats.{Owns};
+ghost use Rattle.node_actor.specs.Views.{View, StandsFor};
+ghost use Rattle.actor_run.specs.Runs.{Outset, Waits, Makes, Runs};
+
+use crate::events::{make_events, told};
+use crate::feed::Feed;
+use crate::gate::Gate;
+use mail_table::Mail;
+use node_actor::{Actor, ActorFault, Event, Keeper, Machine};
+
+// A turn of the actor; all that it says is handed to the feed. An event that is held back waits on.
+fn turned<M: Machine, K: Keeper<M::Body>, F: Feed<M::Body, M::Say>>(
+    mail: &Mail<M::Body>,
+    actor: &mut Actor<M, K>,
+    feed: &mut F,
+    held: Option<Event<M::Body>>,
+) -> Result<Option<Event<M::Body>>, ActorFault<M::Say>>
+    requires owned { Owns mail.now actor.old.seat }
+    ensures still_owned { Owns mail.now actor.new.seat }
+    ensures turned { (o : Outset M.Body M.Say M K) →
+        Waits M.Body.same (machine_from M.next M.says M.to) M.content F.saw held o actor.old feed.old →
+        Makes M.Body.same (machine_from M.next M.says M.to) M.content F.saw K.holds K.finds K.failures o actor.new feed.new result }
+{
+    match actor.turn(mail) {
+        Ok(says) => {
+            feed.hand(says);
+            Ok(held)
+        },
+        Err(fault) => {
+            drop(held);
+            Err(told(feed, fault))
+        },
+    }
+}
+
+// Events of the feed, then a turn.
+fn round<M: Machine, K: Keeper<M::Body>, F: Feed<M::Body, M::Say>>(
+    mail: &Mail<M::Body>,
+    actor: &mut Actor<M, K>,
+    feed: &mut F,
+    held: Option<Event<M::Body>>,
+) -> Result<Option<Event<M::Body>>, ActorFault<M::Say>>
+    requires owned { Owns mail.now actor.old.seat }
+    ensures still_owned { Owns mail.now actor.new.seat }
+    ensures makes { (o : Outset M.Body M.Say M K) →
+        Waits M.Body.same (machine_from M.next M.says M.to) M.content F.saw held o actor.old feed.old →
+        Makes M.Body.same (machine_from M.next M.says M.to) M.content F.saw K.holds K.finds K.failures o actor.new feed.new result }
+{
+    match make_events(mail, actor, feed, held) {
+        Ok(held) => turned(mail, actor, feed, held),
+        Err(fault) => Err(fault),
+    }
+}
+
+/// Turns the actor for as long as the gate lets pass, at most 2^64 - 1 times. Before each turn it makes at most 64 events that the feed gives;
+/// those that are no Take of a transport from 1 on, Tick, Start or Suspect of its node are passed over. All sayings are handed to the feed.
+///
+/// An event that answers `Rounds` is dropped; one that answers `Full` is made again before the next turn, before any other. Any other fault
+/// ends the run and is its answer, without its sayings. Waits nowhere but in the gate.
+pub fn run_node<M: Machine, K: Keeper<M::Body>, G: Gate, F: Feed<M::Body, M::Say>>(
+    mail: &Mail<M::Body>,
+    actor: &mut Actor<M, K>,
+    gate: &G,
+    feed: &mut F,
+) -> Result<(), ActorFault<M::Say>>
+    requires owned { Owns mail.now actor.old.seat }
+    ensures still_owned { Owns mail.now actor.new.seat }
+    ensures runs { (view : View M.Body) (gave : List (Event M.Body)) (got : List M.Say) → StandsFor actor.old view → F.saw feed.old gave got →
+        Runs M.Body.same (machine_from M.next M.says M.to) M.content F.saw K.holds K.finds K.failures
+        (record { actor = actor.old; view = view; gave = gave; got = got }) actor.new feed.new result }
+{
+    let mut held = None;
+    for turn in 0..u64::MAX {
+        if !gate.pass(actor.me(), turn) {
+            drop(held);
+            return Ok(());
+        }
+        held = match round(mail, actor, feed, held) {
+            Ok(held) => held,
+            Err(fault) => return Err(fault),
+        };
+    }
+    drop(held);
+    Ok(())
+}
