@@ -1,5 +1,6 @@
 -- A boot begins, or does not.
-use Rattle.std.proofs.Common.{◌≡◌, ◌⊎◌, inl, inr, ⊎_elim, ◌<◌, ◌≤◌, ◌-◌, ◌^◌, ◌∙◌, ℕ, suc, Bool, true, false, cond, Option, Some, None, Result, Ok, Err, refl, sym, ap, subst, arith}
+use Rattle.std.proofs.Common.{◌≡◌, ◌⊎◌, inl, inr, ⊎_elim, ◌<◌, ◌≤◌, ◌-◌, ◌^◌, ◌∙◌, ℕ, suc, Bool, true, false, cond, Option, Some, None}
+use Rattle.std.proofs.Common.{Result, Ok, Err, refl, sym, ap, subst, arith}
 use Rattle.std.specs.Prelude.{IfOk, IfErr, nat_lt}
 use Rattle.std.proofs.lemmas.Bool.{and_from, and_parts, false≢true, leb-true, lt-ltb, ltb-true, ltb-false}
 use Rattle.paxos_packets.specs.Ballot.{ballot_same, ballot_sound}
@@ -38,7 +39,8 @@ promise_is (Some b) None h = absurd (false≢true h)
 module _ {B : Type 0} (same : B → B → Bool) (ok : IsEquality same) where
   later_raised : (r : Rows B) → is_later same r (raised r) ≡ true
   later_raised r =
-      and_from _ _ (lt-ltb r.boot (suc r.boot) (omega arith)) (and_from _ _ (promise_same r.promised) ((votes_equality same ok).reflexive r.votes))
+      and_from _ _ (lt-ltb r.boot (suc r.boot) (omega arith)) (and_from _ _ (promise_same r.promised)
+      ((votes_equality same ok).reflexive r.votes))
 
   later_is : (k r x : Rows B) → is_ahead same k r ≡ true → is_later same r x ≡ true → IsLater k x
   later_is k r x ahead later =
@@ -49,7 +51,8 @@ module _ {B : Type 0} (same : B → B → Bool) (ok : IsEquality same) where
       let low : k.boot ≤ r.boot = leb-true k.boot r.boot a.0 in
       let high : r.boot < x.boot = ltb-true r.boot x.boot c.0 in
       let promises : x.promised ≡ k.promised = sym (promise_is k.promised r.promised b.0 ∙ promise_is r.promised x.promised d.0) in
-      let votes : x.votes ≡ k.votes = sym ((votes_equality same ok).sound k.votes r.votes b.1 ∙ (votes_equality same ok).sound r.votes x.votes d.1) in
+      let votes : x.votes ≡ k.votes = sym ((votes_equality same ok).sound k.votes r.votes b.1
+      ∙ (votes_equality same ok).sound r.votes x.votes d.1) in
       record { rows = λ i. record { boot = x.boot; promised = promises i; votes = votes i }; later = omega (arith, low, high) }
 
 module _ {B : Type 0} (same : B → B → Bool) (k r : Rows B) where
@@ -61,7 +64,8 @@ module _ {B : Type 0} (same : B → B → Bool) (k r : Rows B) where
       go false true h = absurd cc
       go false false h = absurd cc
 
-  fit_meant : (f : Option (Outcome B)) → fit_of same f k r ≡ Meant → (o : Outcome B) × (f ≡ Some o) × (is_ahead same (accepting.adopted k o.change) r ≡ true)
+  fit_meant : (f : Option (Outcome B)) → fit_of same f k r ≡ Meant
+      → (o : Outcome B) × (f ≡ Some o) × (is_ahead same (accepting.adopted k o.change) r ≡ true)
   fit_meant f h = from f refl (go (is_ahead same k r) (is_meant same f k r) h)
     where
       go : (a b : Bool) → cond {A = Fit} a Left (cond {A = Fit} b Meant Others) ≡ Meant → b ≡ true
@@ -69,7 +73,8 @@ module _ {B : Type 0} (same : B → B → Bool) (k r : Rows B) where
       go false true h = refl
       go false false h = absurd cc
 
-      from : (g : Option (Outcome B)) → f ≡ g → is_meant same g k r ≡ true → (o : Outcome B) × (f ≡ Some o) × (is_ahead same (accepting.adopted k o.change) r ≡ true)
+      from : (g : Option (Outcome B)) → f ≡ g → is_meant same g k r ≡ true
+          → (o : Outcome B) × (f ≡ Some o) × (is_ahead same (accepting.adopted k o.change) r ≡ true)
       from None e m = absurd (false≢true m)
       from (Some o) e m = (o, e, m)
 
@@ -126,9 +131,11 @@ module _ {B Y K : Type 0} (same : B → B → Bool) (holds finds : K → Rows B 
     refused_of (Ok it) h = tt
     refused_of (Err f) h =
         ⊎_elim (λ x. subst (λ g. Refuses same holds finds is_faithful failures p old mid g) (sym x.1) (others k r some loads (fits ∙ x.0)))
-        (λ x. subst (λ g. Refuses same holds finds is_faithful failures p old mid g) (sym x.0) (worn (worn_of x.1))) (judge_refused fit n f h)
+        (λ x. subst (λ g. Refuses same holds finds is_faithful failures p old mid g) (sym x.0) (worn (worn_of x.1)))
+        (judge_refused fit n f h)
       where
-        worn_of : (((fit ≡ Left) × (2 ^ 62 ≤ n)) ⊎ ((fit ≡ Meant) × (2 ^ 62 ≤ suc n))) → IsWorn same holds finds is_faithful failures p old mid
+        worn_of : (((fit ≡ Left) × (2 ^ 62 ≤ n)) ⊎ ((fit ≡ Meant) × (2 ^ 62 ≤ suc n)))
+            → IsWorn same holds finds is_faithful failures p old mid
         worn_of (inl x) = worn_left k r some loads (fits ∙ x.0) (subst (λ e. 2 ^ 62 ≤ e) counts x.1)
         worn_of (inr x) = worn_meant k r some loads (fits ∙ x.0) (subst (λ e. 2 ^ 62 ≤ suc e) counts x.1)
 
@@ -136,26 +143,32 @@ module _ {B Y K : Type 0} (same : B → B → Bool) (holds finds : K → Rows B 
 
 module _ {B K : Type 0} (same : B → B → Bool) (holds finds : K → Rows B → Type 0) (is_faithful : K → Type 0) (failures : K → ℕ)
     (p : Posted B) (old mid : K) where
-  pub fits_of : (r : Rows B) (m : Bool) → Found same holds finds is_faithful failures p old mid r m → Fits same holds finds is_faithful failures p old mid
+  pub fits_of : (r : Rows B) (m : Bool) → Found same holds finds is_faithful failures p old mid r m
+      → Fits same holds finds is_faithful failures p old mid
   fits_of r m (found_left k some loads fits is counts) = again k r some loads (λ e. let both : Left ≡ Others = sym fits ∙ e in absurd cc)
   fits_of r m (found_meant k some loads fits is counts) = again k r some loads (λ e. let both : Meant ≡ Others = sym fits ∙ e in absurd cc)
 
-  loads_of : (r : Rows B) (m : Bool) → Found same holds finds is_faithful failures p old mid r m → Loads same holds finds is_faithful failures old mid r
+  loads_of : (r : Rows B) (m : Bool) → Found same holds finds is_faithful failures p old mid r m
+      → Loads same holds finds is_faithful failures old mid r
   loads_of r m (found_left k some loads fits is counts) = loads
   loads_of r m (found_meant k some loads fits is counts) = loads
 
-  may_of : IsEquality same → (r x : Rows B) (m : Bool) → Found same holds finds is_faithful failures p old mid r m → is_later same r x ≡ true → MayBegin p x m
-  may_of ok r x m (found_left k some loads fits is counts) later = from_left k some is (later_is same ok k r x (fit_left same k r p.failed fits) later) counts
+  may_of : IsEquality same → (r x : Rows B) (m : Bool) → Found same holds finds is_faithful failures p old mid r m
+      → is_later same r x ≡ true → MayBegin p x m
+  may_of ok r x m (found_left k some loads fits is counts) later = from_left k some is (later_is same ok k r x
+      (fit_left same k r p.failed fits) later) counts
   may_of ok r x m (found_meant k some loads fits is counts) later =
       let o = fit_meant same k r p.failed fits in
       from_meant k o.0 some o.1 is (later_is same ok (accepting.adopted k o.0.change) r x o.2 later) counts
 
-  pub strayed_of : {Y : Type 0} (new : K) → IsEquality same → (r x : Rows B) (m : Bool) → Found same holds finds is_faithful failures p old mid r m
+  pub strayed_of : {Y : Type 0} (new : K) → IsEquality same → (r x : Rows B) (m : Bool)
+      → Found same holds finds is_faithful failures p old mid r m
       → Boots holds is_faithful mid new x → ((y : Rows B) → holds mid y → FindsOr finds mid new (raised y)) → is_later same r x ≡ false
       → Refuses same holds finds is_faithful failures {Y = Y} p old new (Keeper store.Damaged)
   strayed_of new ok r x m found boots finds_or later =
       strayed mid (fits_of r m found)
-      (λ f. false≢true (sym later ∙ subst (λ y. is_later same r y ≡ true) (sym (boots.booted f r (loads_of r m found).held)) (later_raised same ok r)))
+      (λ f. false≢true (sym later ∙ subst (λ y. is_later same r y ≡ true) (sym (boots.booted f r (loads_of r m found).held))
+      (later_raised same ok r)))
       (record { may = λ e. absurd cc; found = finds_or })
 
   pub readied_again : (is_failed : K → Bool) (new : K) → IsEquality same → (r x : Rows B) (w : Waiting B) (m : Bool)

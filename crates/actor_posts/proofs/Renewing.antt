@@ -17,14 +17,16 @@ use Rattle.actor_posts.specs.Posts.{Posted, IsLeft, AreRowsOf, renewed}
 use Rattle.actor_posts.specs.Beginning.{IsLater, MayBegin, first_time, from_left, from_meant, seat_before}
 
 -- the rows of a node behind an outcome
-pub rows_behind : {B : Type 0} (me members : ℕ) (o : Outcome B) (x : NodeState B) → (adopted me members o x).rows ≡ accepting.adopted x.rows o.change
+pub rows_behind : {B : Type 0} (me members : ℕ) (o : Outcome B) (x : NodeState B)
+    → (adopted me members o x).rows ≡ accepting.adopted x.rows o.change
 rows_behind me members o x = go o.is_down refl
   where
     go : (b : Bool) → o.is_down ≡ b → (adopted me members o x).rows ≡ accepting.adopted x.rows o.change
     go true e = rw e refl
     go false e = rw e refl
 
-may_renew : {B : Type 0} (o : Opened B) (first r : Rows B) (x : NodeState B) → o ≡ With first → IsLater x.rows r → r.boot ≤ last_boot → MayRenew o x r
+may_renew : {B : Type 0} (o : Opened B) (first r : Rows B) (x : NodeState B) → o ≡ With first → IsLater x.rows r → r.boot ≤ last_boot
+    → MayRenew o x r
 may_renew o first r x e l within = subst (λ q. MayRenew q x r) (sym e) (l.rows, l.later, within)
 
 never_renews : {B : Type 0} (o : Opened B) (r : Rows B) (x : NodeState B) → o ≡ Never → MayRenew o x r
@@ -81,8 +83,10 @@ before_me true (Some o) s = (refl, refl)
 before_me true None s = (refl, refl)
 before_me false f s = (refl, refl)
 
-pub left_renewed : {B : Type 0} (same : B → B → Bool) (p : Posted B) (r : Rows B) (meant : Bool) (s : Seated B) (me members : ℕ) → IsLeft same p → me ≡ p.me → members ≡ p.members
-    → s ≡ renewed r (seat_before meant p.failed p.seat) → IsLeft same (record { me = me; members = members; rows = Some r; failed = None; seat = s })
+pub left_renewed : {B : Type 0} (same : B → B → Bool) (p : Posted B) (r : Rows B) (meant : Bool) (s : Seated B) (me members : ℕ)
+    → IsLeft same p → me ≡ p.me → members ≡ p.members
+    → s ≡ renewed r (seat_before meant p.failed p.seat) → IsLeft same
+    (record { me = me; members = members; rows = Some r; failed = None; seat = s })
 left_renewed {B} same p r meant s me members left is_me is_members e =
     subst (λ (q : Seated B). IsLeft same (record { me = me; members = members; rows = Some r; failed = None; seat = q })) (sym e)
     (record {
@@ -94,7 +98,9 @@ left_renewed {B} same p r meant s me members left is_me is_members e =
     })
 
 -- the outcome whose commit failed may be taken at the post's seat
-pub follows_at : {B : Type 0} (same : B → B → Bool) (p : Posted B) → IsLeft same p → (n : ℕ) → p.seat.members ≡ n → (s : Seated B) → s ≡ p.seat → (o : Outcome B)
+pub follows_at : {B : Type 0} (same : B → B → Bool) (p : Posted B) → IsLeft same p → (n : ℕ) → p.seat.members ≡ n → (s : Seated B)
+    → s ≡ p.seat → (o : Outcome B)
     → p.failed ≡ Some o → Follows same n s.part o
 follows_at {B} same p left n e s is o failed =
-    subst (λ (q : Seated B). Follows same n q.part o) (sym is) (subst (λ m. Follows same m p.seat.part o) (sym left.members ∙ e) (left.failed o failed))
+    subst (λ (q : Seated B). Follows same n q.part o) (sym is) (subst (λ m. Follows same m p.seat.part o) (sym left.members
+    ∙ e) (left.failed o failed))

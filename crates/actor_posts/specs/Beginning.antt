@@ -73,7 +73,14 @@ module _ {B K : Type 0} (holds : K → Rows B → Type 0) (is_faithful : K → T
   -- rows of the boot that had begun
   pub data Leaves {Y : Type 0} (p : Posted B) (old new : K) (left : Posted B) : ActorFault Y → Type 0 where
     as_it_was : (f : ActorFault Y) → left ≡ p → Leaves p old new left f
-    begun : (n : Renews p old new left.seat) → left ≡ record { me = p.me; members = p.members; rows = Some n.rows; failed = None; seat = left.seat }
+    begun : (n : Renews p old new left.seat) → left ≡ record {
+      me = p.me;
+      members = p.members;
+      rows = Some n.rows;
+      failed = None;
+      seat =
+          left.seat;
+    }
         → Leaves p old new left Memory
 
   -- damage is not told where what lies below returned what was written, as it did before, too
@@ -93,6 +100,7 @@ MayKeepFrom m n Disagree = ⊥
 MayKeepFrom m n (LostHere says) = ⊥
 
 -- what is found then is what was held before, or that with one boot more
-pub record Starts {B Y K : Type 0} (holds finds : K → Rows B → Type 0) (failures : K → ℕ) (old new : K) (fault : ActorFault Y) : Type 0 where
+pub record Starts {B Y K : Type 0} (holds finds : K → Rows B → Type 0) (failures : K
+    → ℕ) (old new : K) (fault : ActorFault Y) : Type 0 where
   pub may : MayKeepFrom (failures old) (failures new) fault
   pub found : (r : Rows B) → holds old r → FindsOr finds old new (raised r)

@@ -1,5 +1,6 @@
 -- What a restart is among the events of the core, and why there is none (docs/CONSENSUS.md, "A node with its store").
-use Rattle.std.specs.Prelude.{◌≡◌, ◌<◌, ◌≤◌, ◌^◌, ℕ, zero, suc, ◌-◌, nat_lt, Bool, true, false, Result, Ok, Err, Some, None, List, [], ◌∷◌, if◌then◌else◌}
+use Rattle.std.specs.Prelude.{◌≡◌, ◌<◌, ◌≤◌, ◌^◌, ℕ, zero, suc, ◌-◌, nat_lt, Bool, true, false, Result, Ok, Err, Some, None, List, []}
+use Rattle.std.specs.Prelude.{◌∷◌, if◌then◌else◌}
 use Rattle.paxos_packets.specs.Rows.{raised}
 use Rattle.paxos_packets.specs.declared.rows.Rows.{Rows}
 use Rattle.paxos_acceptor.specs.Acceptor as accepting
@@ -108,7 +109,8 @@ module _ {B K : Type 0} (same : B → B → Bool) (holds finds : K → Rows B �
   -- the word of the node counts no event more, or not the two that the failed event and the renewal are
   pub data IsWorn (p : Posted B) (old new : K) : Type 0 where
     worn_first : p.rows ≡ None → new ≡ old → 2 ^ 62 ≤ p.seat.part.events → IsWorn p old new
-    worn_left : (k r : Rows B) → p.rows ≡ Some k → Loads old new r → fit_of same p.failed k r ≡ Left → 2 ^ 62 ≤ p.seat.part.events → IsWorn p old new
+    worn_left : (k r : Rows B) → p.rows ≡ Some k → Loads old new r → fit_of same p.failed k r ≡ Left → 2 ^ 62 ≤ p.seat.part.events
+        → IsWorn p old new
     worn_meant : (k r : Rows B) → p.rows ≡ Some k → Loads old new r → fit_of same p.failed k r ≡ Meant → 2 ^ 62 ≤ suc p.seat.part.events
         → IsWorn p old new
 
@@ -118,7 +120,8 @@ module _ {B K : Type 0} (same : B → B → Bool) (holds finds : K → Rows B �
     unread : (f : KeeperFault) → Stays old new → (f ≡ store.Store → failures old < failures new)
         → (is_faithful new → (r : Rows B) → holds old r → f ≡ store.Damaged → ⊥)
         → Refuses p old new (Keeper f)
-    others : (k r : Rows B) → p.rows ≡ Some k → Loads old new r → fit_of same p.failed k r ≡ Others → Refuses p old new (Keeper store.Damaged)
+    others : (k r : Rows B) → p.rows ≡ Some k → Loads old new r → fit_of same p.failed k r ≡ Others
+        → Refuses p old new (Keeper store.Damaged)
     unjudged : (r : Rows B) → Loads old new r → Refuses p old new Memory
     worn : IsWorn p old new → Refuses p old new Worn
     unbooted : (f : ActorFault Y) (mid : K) → Fits p old mid → Starts holds finds failures mid new f → NoDamage holds is_faithful mid new f

@@ -25,8 +25,8 @@ pub struct Begun<B: Body> {
     pub seat: NodeSeat<B>,
 }
 
-/// Begins a boot of the node from what is left of it, with its store opened again: opens the node where it was never opened, else goes on from
-/// its rows, or from those that a failed commit was to leave, whose event's step it takes first.
+/// Begins a boot of the node from what is left of it, with its store opened again: opens the node where it was never opened, else goes on
+/// from its rows, or from those that a failed commit was to leave, whose event's step it takes first.
 ///
 /// With a fault the post is handed back, and serves again. `KeeperFault::Damaged` where the store has other rows, and nowhere else where it
 /// returns what was written; no boot is begun then. `Worn` where the node's word counts no more events; no boot is begun then, either.
@@ -37,7 +37,8 @@ pub fn begin<B: Body, K: Keeper<B>, Y: Drop>(
     keeper: &mut K,
 ) -> Result<Begun<B>, (ActorFault<Y>, Post<B>)>
     requires owned { Owns mail.now post.seat }
-    ensures ok { IfOk result (λ begun. Begins K.holds K.is_faithful K.is_failed post keeper.old keeper.new begun.node begun.outboxes begun.seat) }
+    ensures ok { IfOk result (λ begun.
+        Begins K.holds K.is_faithful K.is_failed post keeper.old keeper.new begun.node begun.outboxes begun.seat) }
     ensures refuses { IfErr result (λ e. Refuses B.same K.holds K.finds K.is_faithful K.failures post keeper.old keeper.new e.0) }
     ensures leaves { IfErr result (λ e. Leaves K.holds K.is_faithful post keeper.old keeper.new e.1 e.0) }
     ensures owned { IfOk result (λ begun. Owns mail.now begun.seat) }

@@ -12,8 +12,8 @@ use mail_table::{Mail, NodeSeat};
 use paxos_node::Outcome;
 use paxos_packets::{Body, Rows};
 
-// The seat of the post, whose node has begun with these rows; before that it has taken the step of the event whose commit failed, if that is
-// what they tell.
+// The seat of the post, whose node has begun with these rows; before that it has taken the step of the event whose commit failed, if that
+// is what they tell.
 pub(crate) fn take_seat<B: Body>(
     mail: &Mail<B>,
     post: Post<B>,

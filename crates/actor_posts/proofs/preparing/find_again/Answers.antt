@@ -23,24 +23,30 @@ returns-in-Err-fit_of-clause-err g c =
 
 pub returns-in-Ok-fit_of-clause-ok : goal.returns-in-Ok-fit_of-clause-ok
 returns-in-Ok-fit_of-clause-ok g c =
-    let loads : Loads g.B.Body.same g.K.Keeper.holds g.K.Keeper.finds g.K.Keeper.is_faithful g.K.Keeper.failures c.args.keeper.now c.load.new.self c.in-Ok.rows =
+    let loads : Loads g.B.Body.same g.K.Keeper.holds g.K.Keeper.finds g.K.Keeper.is_faithful g.K.Keeper.failures c.args.keeper.now
+    c.load.new.self c.in-Ok.rows =
     record {
       stays = record { same_rows = c.load.ensures.same; found = c.load.ensures.found; counted = c.load.ensures.counts };
       held = c.in-Ok.ensures.held;
       right = c.in-Ok.ensures.right;
     } in
     let fits : fit_of g.B.Body.same c.args.post.now.failed c.args.kept.now c.in-Ok.rows ≡ c.in-Ok-fit_of.fit = search rules in
-    found_of g.B.Body.same g.K.Keeper.holds g.K.Keeper.finds g.K.Keeper.is_faithful g.K.Keeper.failures c.args.post.now c.args.keeper.now c.load.new.self
-    c.args.kept.now c.in-Ok.rows c.in-Ok-fit_of.fit c.events.result c.requires loads fits c.events.ensures c.judged.result c.judged.ensures.ok
+    found_of g.B.Body.same g.K.Keeper.holds g.K.Keeper.finds g.K.Keeper.is_faithful g.K.Keeper.failures c.args.post.now c.args.keeper.now
+    c.load.new.self
+    c.args.kept.now c.in-Ok.rows c.in-Ok-fit_of.fit c.events.result c.requires loads fits c.events.ensures c.judged.result
+    c.judged.ensures.ok
 
 pub returns-in-Ok-fit_of-clause-err : goal.returns-in-Ok-fit_of-clause-err
 returns-in-Ok-fit_of-clause-err g c =
-    let loads : Loads g.B.Body.same g.K.Keeper.holds g.K.Keeper.finds g.K.Keeper.is_faithful g.K.Keeper.failures c.args.keeper.now c.load.new.self c.in-Ok.rows =
+    let loads : Loads g.B.Body.same g.K.Keeper.holds g.K.Keeper.finds g.K.Keeper.is_faithful g.K.Keeper.failures c.args.keeper.now
+    c.load.new.self c.in-Ok.rows =
     record {
       stays = record { same_rows = c.load.ensures.same; found = c.load.ensures.found; counted = c.load.ensures.counts };
       held = c.in-Ok.ensures.held;
       right = c.in-Ok.ensures.right;
     } in
     let fits : fit_of g.B.Body.same c.args.post.now.failed c.args.kept.now c.in-Ok.rows ≡ c.in-Ok-fit_of.fit = search rules in
-    refused_of g.B.Body.same g.K.Keeper.holds g.K.Keeper.finds g.K.Keeper.is_faithful g.K.Keeper.failures c.args.post.now c.args.keeper.now c.load.new.self
-    c.args.kept.now c.in-Ok.rows c.in-Ok-fit_of.fit c.events.result c.requires loads fits c.events.ensures c.judged.result c.judged.ensures.err
+    refused_of g.B.Body.same g.K.Keeper.holds g.K.Keeper.finds g.K.Keeper.is_faithful g.K.Keeper.failures c.args.post.now
+    c.args.keeper.now c.load.new.self
+    c.args.kept.now c.in-Ok.rows c.in-Ok-fit_of.fit c.events.result c.requires loads fits c.events.ensures c.judged.result
+    c.judged.ensures.err
