@@ -7,3 +7,5 @@ mod actors;
 mod acts;
 #[cfg(test)]
 mod sql;
+#[cfg(test)]
+mod station;
