@@ -1,156 +1,225 @@
-// Three actors in one process over stores in memory: the traffic of `nodes`, with what an actor adds to it.
+// Three actors in one process over stores in memory: the traffic of `nodes` over a mail table, with what an actor adds to it.
+ghost use Rattle.std.specs.Prelude.{◌≡◌, ◌≤◌, All, OnOk};
+ghost use Rattle.mail_table.specs.Seats.{Owns};
+ghost use Rattle.paxos_node.specs.declared.view.Opened.TheVariants.{Never};
+
 use crate::bodies::Numbers;
 use crate::fault::BenchFault;
 use crate::nodes::{Counts, NODES, made, tell};
 use acceptor_keeper::MemKeeper;
 use core_tests::{Count, Number};
-use node_actor::{Actor, ActorFault, Members, Packet};
+use mail_table::{Mail, NodeSeat, Office, found};
+use node_actor::{Actor, ActorFault, Members};
 use paxos_packets::Transport;
 use std::alloc::Global;
-use std::collections::VecDeque;
 use std::time::Instant;
 
 type Sum = (Transport, u64);
 
-type Member = Actor<Count, MemKeeper<Number>>;
-
-// How often a node ticks at most until its log has the length that it comes to: at most 1,024 entries are pending, and a tick forwards 64.
+// How often a node ticks at most until nothing of its own is pending: at most 1,024 entries are, and a tick forwards 64.
 const MOST_TICKS: u64 = 64;
 
-// The actors, the packets that are under way, and how long the logs are once all is applied.
+// An actor, and the table that owns its seat.
 #[derive(Drop)]
-struct Cluster {
-    members: Vec<Member>,
-    sent: VecDeque<Packet<Number>>,
-    length: u64,
+struct Station<'a> {
+    mail: &'a Mail<Number>,
+    actor: Actor<Count, MemKeeper<Number>>,
+    ghost owned: { Owns mail.now actor.seat },
+}
+
+// The actors, the last one first, and how much their machines said to transports: one sum for each act, at its own node.
+#[derive(Drop)]
+struct Cluster<'a> {
+    stations: Vec<Station<'a>>,
+    said: u64,
     counts: Counts,
 }
 
 // The cluster begins.
 
-fn open(alloc: Global, number: u8) -> Result<Member, BenchFault> {
-    let members = Members::new(NODES).ok_or(BenchFault::Nobody)?;
-    if number < 1 || NODES < number {
+// The actor of a node that was never opened.
+fn opened<'a>(
+    alloc: Global,
+    mail: &'a Mail<Number>,
+    seat: NodeSeat<Number>,
+    members: Members,
+) -> Result<Station<'a>, BenchFault>
+    requires owned { Owns mail.now seat }
+    requires members { members ≡ mail.now.members }
+    requires fresh { seat.part.seen.opened ≡ Never }
+{
+    let me = seat.node();
+    if me < 1 || NODES < me || members.count() < me {
+        drop(seat);
         return Err(BenchFault::Nobody);
     }
-    match Actor::open(
-        alloc,
-        number,
-        members,
-        Count::new(alloc),
-        MemKeeper::new(alloc),
-    ) {
-        Ok(actor) => Ok(actor),
+    let (machine, keeper) = (Count::new(alloc), MemKeeper::new(alloc));
+    match Actor::open(alloc, mail, seat, me, members, machine, keeper) {
+        Ok(actor) => Ok(Station { mail, actor }),
         Err(left) => {
             drop(left);
             Err(BenchFault::Actor)
-        },
+        }
     }
 }
 
-fn put_members(alloc: Global, members: &mut Vec<Member>) -> Result<(), BenchFault> {
-    for number in 1..=NODES {
-        members.push(open(alloc, number)?)?;
-    }
+// The actor at the last of these seats.
+fn put_next<'a>(
+    alloc: Global,
+    mail: &'a Mail<Number>,
+    seats: &mut Vec<NodeSeat<Number>>,
+    members: Members,
+    stations: &mut Vec<Station<'a>>,
+) -> Result<(), BenchFault>
+    requires fresh { All (λ s. Owns mail.now s × (s.part.seen.opened ≡ Never)) seats.old.items }
+    requires members { members ≡ mail.now.members }
+    ensures { OnOk result (All (λ s. Owns mail.now s × (s.part.seen.opened ≡ Never)) seats.new.items) }
+{
+    let seat = seats.pop().ok_or(BenchFault::Nobody)?;
+    stations.push(opened(alloc, mail, seat, members)?)?;
     Ok(())
 }
 
-fn empty(alloc: Global) -> Cluster {
-    Cluster {
-        members: Vec::new(alloc),
-        sent: VecDeque::new(alloc),
-        length: 0,
-        counts: Counts {
-            events: 0,
-            packets: 0,
-        },
+// All of them.
+fn put_all<'a>(
+    alloc: Global,
+    mail: &'a Mail<Number>,
+    seats: &mut Vec<NodeSeat<Number>>,
+    members: Members,
+    stations: &mut Vec<Station<'a>>,
+) -> Result<(), BenchFault>
+    requires fresh { All (λ s. Owns mail.now s × (s.part.seen.opened ≡ Never)) seats.old.items }
+    requires members { members ≡ mail.now.members }
+{
+    put_next(alloc, mail, seats, members, stations)?;
+    put_next(alloc, mail, seats, members, stations)?;
+    put_next(alloc, mail, seats, members, stations)
+}
+
+fn nothing() -> Counts {
+    Counts {
+        events: 0,
+        packets: 0,
     }
 }
 
-// One event, and the packets that it sends.
+// One event, and a turn.
 
-fn member_of(members: &mut [Member], number: u8) -> Result<&mut Member, BenchFault> {
-    let index = usize::from(number.saturating_sub(1));
-    members.get_mut(index).ok_or(BenchFault::Nobody)
-}
-
-// What an actor answered; the sayings are let go.
-fn passed(done: Result<Vec<Sum>, ActorFault<Sum>>) -> Result<(), BenchFault> {
-    let failed = done.is_err();
-    drop(done);
-    if failed {
-        return Err(BenchFault::Actor);
-    }
-    Ok(())
-}
-
-// What waits at the actor is under way.
-fn send(sent: &mut VecDeque<Packet<Number>>, actor: &mut Member) -> Result<(), BenchFault> {
-    for _ in 0..u64::MAX {
-        let Some(packet) = actor.outgoing() else {
-            return Ok(());
-        };
-        sent.push_back(packet)?;
-    }
-    Ok(())
-}
-
-// An event of the node with this number was answered so; what it sends is under way.
-fn happened(
-    cluster: &mut Cluster,
+fn station_of<'c, 'a>(
+    stations: &'c mut [Station<'a>],
     number: u8,
-    done: Result<Vec<Sum>, ActorFault<Sum>>,
-) -> Result<(), BenchFault> {
+) -> Result<&'c mut Station<'a>, BenchFault> {
+    let index = usize::from(NODES.saturating_sub(number));
+    stations.get_mut(index).ok_or(BenchFault::Nobody)
+}
+
+// How many sayings an actor answered.
+fn passed(done: Result<Vec<Sum>, ActorFault<Sum>>) -> Result<u64, BenchFault> {
+    let said = match &done {
+        Ok(says) => Some(says.len() as u64),
+        Err(_) => None,
+    };
+    drop(done);
+    said.ok_or(BenchFault::Actor)
+}
+
+impl<'a> Station<'a> {
+    fn start(&mut self) -> Result<u64, BenchFault> {
+        passed(self.actor.start(self.mail))
+    }
+
+    fn tick(&mut self) -> Result<u64, BenchFault> {
+        passed(self.actor.tick(self.mail))
+    }
+
+    fn take(&mut self, body: Number) -> Result<u64, BenchFault> {
+        passed(self.actor.take(self.mail, 1, body))
+    }
+
+    fn turn(&mut self) -> Result<u64, BenchFault> {
+        passed(self.actor.turn(self.mail))
+    }
+
+    // Whether its last turn treated a packet.
+    fn has_treated(&self) -> bool {
+        self.actor.from().is_some()
+    }
+
+    // Whether its last turn posted one.
+    fn has_posted(&self) -> bool {
+        let posted = self.actor.posted();
+        let mut any = false;
+        for node in 1..=NODES {
+            any = any || posted.contains(node);
+        }
+        any
+    }
+}
+
+// One event more, at which so much was said.
+fn counted(cluster: &mut Cluster<'_>, said: u64) {
     cluster.counts.events = cluster.counts.events.saturating_add(1);
-    passed(done)?;
-    let actor = member_of(&mut cluster.members, number)?;
-    send(&mut cluster.sent, actor)
+    cluster.said = cluster.said.saturating_add(said);
 }
 
-fn start(cluster: &mut Cluster, number: u8) -> Result<(), BenchFault> {
-    let done = member_of(&mut cluster.members, number)?.start();
-    happened(cluster, number, done)
+fn start(cluster: &mut Cluster<'_>, number: u8) -> Result<(), BenchFault> {
+    let said = station_of(&mut cluster.stations, number)?.start()?;
+    counted(cluster, said);
+    Ok(())
 }
 
-fn tick(cluster: &mut Cluster, number: u8) -> Result<(), BenchFault> {
-    let done = member_of(&mut cluster.members, number)?.tick();
-    happened(cluster, number, done)
+fn tick(cluster: &mut Cluster<'_>, number: u8) -> Result<(), BenchFault> {
+    let said = station_of(&mut cluster.stations, number)?.tick()?;
+    counted(cluster, said);
+    Ok(())
 }
 
-fn take(cluster: &mut Cluster, number: u8, body: Number) -> Result<(), BenchFault> {
-    let done = member_of(&mut cluster.members, number)?.take(1, body);
-    happened(cluster, number, done)
+fn take(cluster: &mut Cluster<'_>, number: u8, body: Number) -> Result<(), BenchFault> {
+    let said = station_of(&mut cluster.stations, number)?.take(body)?;
+    counted(cluster, said);
+    Ok(())
 }
 
-fn deliver(cluster: &mut Cluster, packet: Packet<Number>) -> Result<(), BenchFault> {
-    cluster.counts.packets = cluster.counts.packets.saturating_add(1);
-    let number = packet.addressee;
-    let done = member_of(&mut cluster.members, number)?.turn(Some(packet));
-    happened(cluster, number, done)
+// One turn of the node; whether a packet was posted or treated in it. One that was treated is counted.
+fn turn(cluster: &mut Cluster<'_>, number: u8) -> Result<bool, BenchFault> {
+    let station = station_of(&mut cluster.stations, number)?;
+    let said = station.turn()?;
+    let (treated, posted) = (station.has_treated(), station.has_posted());
+    if treated {
+        counted(cluster, said);
+        cluster.counts.packets = cluster.counts.packets.saturating_add(1);
+    }
+    Ok(treated || posted)
 }
 
-// Each packet that is under way reaches its addressee, and so do those that are sent for it.
-fn pass_all(cluster: &mut Cluster) -> Result<(), BenchFault> {
+// A turn of each node; whether a packet moved.
+fn turn_each(cluster: &mut Cluster<'_>) -> Result<bool, BenchFault> {
+    let mut moved = false;
+    for number in 1..=NODES {
+        if turn(cluster, number)? {
+            moved = true;
+        }
+    }
+    Ok(moved)
+}
+
+// The nodes take turns until no packet moves.
+fn pass_all(cluster: &mut Cluster<'_>) -> Result<(), BenchFault> {
     for _ in 0..u64::MAX {
-        let Some(packet) = cluster.sent.pop_front() else {
+        if !turn_each(cluster)? {
             return Ok(());
-        };
-        deliver(cluster, packet)?;
+        }
     }
     Ok(())
 }
 
-// Whether the node's log has the length that it comes to.
-fn is_settled(cluster: &mut Cluster, number: u8) -> Result<bool, BenchFault> {
-    let log = member_of(&mut cluster.members, number)?.log();
-    Ok(log.len() as u64 == cluster.length)
-}
-
-// So many entries more are applied at the end: the node ticks until they are.
-fn settle(cluster: &mut Cluster, number: u8, entries: u64) -> Result<(), BenchFault> {
-    cluster.length = cluster.length.saturating_add(entries);
+// The node ticks until nothing of its own is pending.
+fn settle(cluster: &mut Cluster<'_>, number: u8) -> Result<(), BenchFault> {
     for _ in 0..MOST_TICKS {
-        if is_settled(cluster, number)? {
+        if !station_of(&mut cluster.stations, number)?
+            .actor
+            .has_pending()
+        {
             return Ok(());
         }
         tick(cluster, number)?;
@@ -160,35 +229,31 @@ fn settle(cluster: &mut Cluster, number: u8, entries: u64) -> Result<(), BenchFa
 }
 
 // The first node leads, and the Boot of each is applied.
-fn begin(cluster: &mut Cluster) -> Result<(), BenchFault> {
+fn begin(cluster: &mut Cluster<'_>) -> Result<(), BenchFault> {
     start(cluster, 1)?;
     pass_all(cluster)?;
     for number in 1..=NODES {
-        settle(cluster, number, 1)?;
+        settle(cluster, number)?;
     }
-    cluster.counts = Counts {
-        events: 0,
-        packets: 0,
-    };
+    cluster.counts = nothing();
     Ok(())
 }
 
 // Acts are taken.
 
 // The node takes acts with these bodies before a packet is passed, and then all that they bring about happens.
-fn take_all(cluster: &mut Cluster, node: u8, bodies: Vec<Number>) -> Result<(), BenchFault> {
-    let count = bodies.len() as u64;
+fn take_all(cluster: &mut Cluster<'_>, node: u8, bodies: Vec<Number>) -> Result<(), BenchFault> {
     for body in bodies {
         take(cluster, node, body)?;
     }
     pass_all(cluster)?;
-    settle(cluster, node, count)
+    settle(cluster, node)
 }
 
 // The same with so many bodies, which are made before; the nanoseconds that it took.
 fn window(
     rt: &HostRuntime,
-    cluster: &mut Cluster,
+    cluster: &mut Cluster<'_>,
     node: u8,
     count: u64,
 ) -> Result<u128, BenchFault> {
@@ -201,7 +266,7 @@ fn window(
 // So many acts, a window at a time, at the first node and the second by turns; the nanoseconds that they took.
 fn windows(
     rt: &HostRuntime,
-    cluster: &mut Cluster,
+    cluster: &mut Cluster<'_>,
     acts: u64,
     width: u64,
 ) -> Result<u128, BenchFault> {
@@ -215,10 +280,14 @@ fn windows(
     Ok(nanos)
 }
 
-// Whether each log has this length.
-fn have_all(members: &[Member], length: u64) -> bool {
-    for member in members {
-        if member.log().len() as u64 != length {
+// Whether all logs have one length.
+fn have_all(stations: &[Station<'_>]) -> bool {
+    let Some(first) = stations.first() else {
+        return false;
+    };
+    let length = first.actor.applied();
+    for station in stations {
+        if station.actor.applied() != length {
             return false;
         }
     }
@@ -227,14 +296,13 @@ fn have_all(members: &[Member], length: u64) -> bool {
 
 fn run_over(
     rt: &HostRuntime,
-    cluster: &mut Cluster,
+    cluster: &mut Cluster<'_>,
     acts: u64,
     width: u64,
 ) -> Result<(), BenchFault> {
-    put_members(rt.alloc(), &mut cluster.members)?;
     begin(cluster)?;
     let nanos = windows(rt, cluster, acts, width)?;
-    if !have_all(&cluster.members, cluster.length) {
+    if cluster.said != acts || !have_all(&cluster.stations) {
         return Err(BenchFault::Stuck);
     }
     println!(rt;
@@ -245,9 +313,32 @@ fn run_over(
     Ok(())
 }
 
-/// Takes `acts` acts, `width` at a time, at two of three actors by turns, and passes their packets by hand; prints how many were applied, events
-/// and packets, and on standard error what they took. Each body is a number, each store is in memory.
-pub fn run(rt: &HostRuntime, acts: u64, width: u64) -> Result<(), BenchFault> {
-    let mut cluster = empty(rt.alloc());
+// The actors at these seats.
+fn run_at(
+    rt: &HostRuntime,
+    mail: &Mail<Number>,
+    seats: &mut Vec<NodeSeat<Number>>,
+    members: Members,
+    acts: u64,
+    width: u64,
+) -> Result<(), BenchFault>
+    requires fresh { All (λ s. Owns mail.now s × (s.part.seen.opened ≡ Never)) seats.old.items }
+    requires members { members ≡ mail.now.members }
+{
+    let mut cluster = Cluster {
+        stations: Vec::new(rt.alloc()),
+        said: 0,
+        counts: nothing(),
+    };
+    put_all(rt.alloc(), mail, seats, members, &mut cluster.stations)?;
     run_over(rt, &mut cluster, acts, width)
+}
+
+/// Takes `acts` acts, `width` at a time, at two of three actors by turns, which pass their packets over a mail table, a turn each in rotation;
+/// prints how many were applied, events and packets, and on standard error what they took. Each body is a number, each store is in memory.
+pub fn run(rt: &HostRuntime, acts: u64, width: u64) -> Result<(), BenchFault> {
+    let members = Members::new(NODES).ok_or(BenchFault::Nobody)?;
+    let mut office = Office::new();
+    let (mail, mut seats) = found::<Number>(rt.alloc(), &mut office, members)?;
+    run_at(rt, &mail, &mut seats, members, acts, width)
 }

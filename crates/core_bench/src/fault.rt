@@ -39,6 +39,12 @@ impl From<Failed> for BenchFault {
     }
 }
 
+impl From<mail_table::Memory> for BenchFault {
+    fn from(_memory: mail_table::Memory) -> BenchFault {
+        BenchFault::Memory
+    }
+}
+
 impl From<Memory> for BenchFault {
     fn from(_memory: Memory) -> BenchFault {
         BenchFault::Memory
