@@ -4,6 +4,8 @@
 #[cfg(test)]
 mod given_up;
 #[cfg(test)]
+mod handings;
+#[cfg(test)]
 mod impossible;
 #[cfg(test)]
 mod next_boot;

@@ -1,7 +1,7 @@
 // One session through three nodes, whose machines tell each sum also to the transport of that number in its node's next boot.
 use crate::packets::{FIRST, FIVE, Held, SECOND, SIX};
 use crate::schedule::{SESSION, Turn};
-use crate::worlds::{deliver, has_log, run_rows, turn, was_told, world_of};
+use crate::worlds::{Told, flush, hands_out, has_log, run_rows, turn, was_told, world_of};
 use cluster_world::World;
 use core_tests::Foretells;
 use std::alloc::Global;
@@ -30,24 +30,10 @@ fn session(rt: &impl Abort, alloc: Global, world: &mut World<Foretells>) -> Resu
     Ok(())
 }
 
-// Delivers each packet behind the first so many, those that come meanwhile too.
-fn flush(
-    rt: &impl Abort,
-    alloc: Global,
-    world: &mut World<Foretells>,
-    from: usize,
-) -> Result<(), Fail> {
-    for number in from..99 {
-        if number >= world.sent() {
-            break;
-        }
-        assert!(rt; deliver(world, alloc, number + 1)?);
-    }
-    Ok(())
-}
-
 // The log of each node then: node 2 forwards its next Boot to the leader of its promise.
 const LOG_AFTER: &[Held] = &[FIRST, SECOND, FIVE, SIX, ("boot", 2, 2, 0, 0, 0)];
+
+const BOTH: &[Told] = &[(2, 1, 1, &[5, 11]), (2, 2, 1, &[5, 11])];
 
 const BACK: &[Turn] = &[("crash", 2, 0, 0), ("restart", 2, 0, 0)];
 
@@ -60,11 +46,12 @@ fn comes_back(rt: &impl Abort, alloc: Global, world: &mut World<Foretells>) -> R
     assert!(rt; has_log(world, 2, &[]));
     told(rt, world, &[5, 11], &[]);
     assert!(rt; turn(world, alloc, &("tick", 2, 0, 0))?);
-    flush(rt, alloc, world, 38)?;
+    assert!(rt; flush(world, alloc, 38)?);
     for node in [1, 2, 3] {
         assert!(rt; has_log(world, node, LOG_AFTER), "{node}");
     }
     told(rt, world, &[5, 11], &[5, 11]);
+    assert!(rt; hands_out(world, BOTH));
     Ok(())
 }
 

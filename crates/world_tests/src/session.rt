@@ -2,7 +2,7 @@
 use crate::packets::{FIRST, FIVE, LOG, Mail, PACKETS, SECOND, SIX, packet_of};
 use crate::schedule::{SESSION, Turn};
 use crate::worlds::{
-    deliver, happens, has_log, has_sent, run_rows, shown, turn, was_told, world_of,
+    Told, deliver, hands_out, happens, has_log, has_sent, run_rows, shown, turn, was_told, world_of,
 };
 use cluster_world::{Memory, World};
 use core_tests::{Count, Number};
@@ -22,6 +22,9 @@ pub fn counts(alloc: Global) -> Result<World<Count>, Fail> {
         Count::new(alloc),
     )
 }
+
+// What is told behind the session.
+const TOLD: &[Told] = &[(2, 1, 1, &[5, 11])];
 
 // Transports that are told nothing: by node, boot and number.
 const UNTOLD: &[(u8, u64, u32)] = &[
@@ -53,6 +56,7 @@ fn has_told<M: Machine<Say = (Transport, u64)>>(rt: &impl Abort, world: &World<M
     for (node, boot, number) in UNTOLD {
         assert!(rt; was_told(world, *node, *boot, *number, &[]), "{node}");
     }
+    assert!(rt; hands_out(world, TOLD));
 }
 
 // The world is the one behind the session.

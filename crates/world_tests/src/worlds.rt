@@ -85,6 +85,23 @@ pub fn deliver<M: Machine<Body = Number>>(
     Ok(happens(world, Event::Deliver { packet }))
 }
 
+// Delivers each packet behind the first so many, those that come meanwhile too. Whether there was memory for all.
+pub fn flush<M: Machine<Body = Number>>(
+    world: &mut World<M>,
+    alloc: Global,
+    from: usize,
+) -> Result<bool, Fail> {
+    for number in from..999 {
+        if number >= world.sent() {
+            break;
+        }
+        if !deliver(world, alloc, number + 1)? {
+            return Ok(false);
+        }
+    }
+    Ok(true)
+}
+
 // Whether the log of a node holds the entries of these rows.
 pub fn has_log<M: Machine<Body = Number>>(world: &World<M>, node: u8, rows: &[Held]) -> bool {
     is_log(world.log(node), rows)
@@ -108,16 +125,8 @@ pub fn has_sent<M: Machine<Body = Number>>(
     Ok(true)
 }
 
-// Whether the transport of a node was told these sums, in order.
-pub fn was_told<M: Machine<Say = (Transport, u64)>>(
-    world: &World<M>,
-    node: u8,
-    boot: u64,
-    number: u32,
-    sums: &[u64],
-) -> bool {
-    let transport = Transport { node, boot, number };
-    let said = world.said(transport);
+// Whether these are the sums that a transport was told, in order.
+fn are_sums(transport: Transport, said: &[(Transport, u64)], sums: &[u64]) -> bool {
     if said.len() != sums.len() {
         return false;
     }
@@ -127,6 +136,38 @@ pub fn was_told<M: Machine<Say = (Transport, u64)>>(
         }
     }
     true
+}
+
+// Whether the transport of a node was told these sums, in order.
+pub fn was_told<M: Machine<Say = (Transport, u64)>>(
+    world: &World<M>,
+    node: u8,
+    boot: u64,
+    number: u32,
+    sums: &[u64],
+) -> bool {
+    let transport = Transport { node, boot, number };
+    are_sums(transport, world.said(transport), sums)
+}
+
+// A transport by its node, boot and number, and the sums that it was told.
+pub type Told = (u8, u64, u32, &'static [u64]);
+
+// Whether a world hands out these sums to these transports, in this order, and nothing else.
+pub fn hands_out<M: Machine<Say = (Transport, u64)>>(world: &World<M>, rows: &[Told]) -> bool {
+    let mut handings = world.handed();
+    for (node, boot, number, sums) in rows {
+        let Some((transport, said)) = handings.next() else {
+            return false;
+        };
+        if (transport.node, transport.boot, transport.number) != (*node, *boot, *number) {
+            return false;
+        }
+        if !are_sums(transport, said, sums) {
+            return false;
+        }
+    }
+    handings.next().is_none()
 }
 
 // How many packets were sent, how long the logs of the nodes are, which of them are up, and how many sums the transport of node 2 was told.

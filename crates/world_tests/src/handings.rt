@@ -1,0 +1,46 @@
+// Who was told something: transports of three nodes, whose machines add up.
+use crate::schedule::Turn;
+use crate::session::counts;
+use crate::worlds::{Told, flush, hands_out, turn};
+use cluster_world::World;
+use core_tests::Count;
+use std::alloc::Global;
+use std::process::Abort;
+use std::test::Fail;
+
+// Acts of transports of three nodes; each is delivered to its end before the next.
+const ACTS: &[Turn] = &[
+    ("start", 1, 0, 0),
+    ("take", 3, 9, 1),
+    ("take", 1, 4, 2),
+    ("take", 2, 1, 3),
+    ("take", 1, 2, 4),
+    ("take", 1, 4, 5),
+];
+
+// By node, boot and number, each with its sums so far.
+const TOLD: &[Told] = &[
+    (1, 1, 2, &[10]),
+    (1, 1, 4, &[3, 15]),
+    (2, 1, 1, &[6]),
+    (3, 1, 9, &[1]),
+];
+
+fn tells_in_order(rt: &impl Abort, alloc: Global, world: &mut World<Count>) -> Result<(), Fail> {
+    assert!(rt; hands_out(world, &[]));
+    for index in 0..ACTS.len() {
+        let done = world.sent();
+        assert!(rt; turn(world, alloc, &ACTS[index])?);
+        assert!(rt; flush(world, alloc, done)?);
+    }
+    assert!(rt; hands_out(world, TOLD));
+    Ok(())
+}
+
+#[test]
+fn who_was_told_comes_by_node_boot_and_number(rt: HostRuntime) -> Result<(), Fail> {
+    let mut world = counts(rt.alloc())?;
+    let done = tells_in_order(&rt, rt.alloc(), &mut world);
+    drop(world);
+    done
+}
