@@ -74,6 +74,14 @@ fn tell(rt: &HostRuntime, text: &str) -> ExitCode {
     ExitCode::SUCCESS
 }
 
+// Does what is asked for.
+fn run(rt: &HostRuntime, order: &Order) -> ExitCode {
+    match order {
+        Order::Stream { realm } => stream(rt, realm.as_str()),
+        Order::Script { members, realm } => script(rt, *members, realm.as_str()),
+    }
+}
+
 fn main(rt: HostRuntime) -> ExitCode {
     let words = match words_of(&rt) {
         Ok(words) => words,
@@ -85,8 +93,7 @@ fn main(rt: HostRuntime) -> ExitCode {
         Err(fault) => return misuse(&rt, fault),
     }
     match order_of(rt.alloc(), &words) {
-        Ok(Order::Stream { realm }) => stream(&rt, realm.as_str()),
-        Ok(Order::Script { members, realm }) => script(&rt, members, realm.as_str()),
+        Ok(order) => run(&rt, &order),
         Err(fault) => misuse(&rt, fault),
     }
 }
