@@ -5,3 +5,5 @@
 mod posting;
 #[cfg(test)]
 mod tables;
+#[cfg(test)]
+mod threads;

@@ -16,7 +16,7 @@ use std::process::Abort;
 use std::test::Fail;
 
 // The node of this seat, opened for the first time.
-fn opened(
+pub(crate) fn opened(
     alloc: Global,
     mail: &Mail<Number>,
     seat: &mut NodeSeat<Number>,
@@ -54,7 +54,7 @@ fn planned(node: &Node<Number>, me: u8, starts: bool) -> Result<Outcome<Number>,
 }
 
 // The node takes a step of its own, and sends these packets.
-fn stepped(
+pub(crate) fn stepped(
     mail: &Mail<Number>,
     seat: &mut NodeSeat<Number>,
     node: &mut Node<Number>,
@@ -74,7 +74,7 @@ fn stepped(
 }
 
 // The packet for node 2 among two that were sent to 2 and 3.
-fn for_second(packets: Packets<Number>) -> Option<Packet<Number>>
+pub(crate) fn for_second(packets: Packets<Number>) -> Option<Packet<Number>>
     ensures { IfSome result (λ p. Has packets p × (p.addressee ≡ 2)) }
 {
     let mut list = packets.into_vec();
