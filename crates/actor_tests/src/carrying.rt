@@ -1,12 +1,12 @@
-// What actors answer, and packets that are carried by hand.
-use node_actor::{Actor, ActorFault, Entry, Keeper, Machine, Packet, Post};
-use paxos_packets::Kind;
+// What actors answer, and turns in rotation.
+use crate::station::{Answer, Station};
+use node_actor::{ActorFault, Entry, Keeper, Machine};
 use std::alloc::Global;
 use std::process::Abort;
 use std::test::Fail;
 
-// How many packets are carried at most.
-const MOST_PACKETS: u32 = 1_000;
+// How often each node turns at most.
+const MOST_ROUNDS: u32 = 1_000;
 
 /// What calls answered: what was said, what was said as its node was lost, and the numbers of nodes and of their faults.
 #[derive(Drop)]
@@ -34,11 +34,7 @@ fn put_all<Y: Drop>(says: &mut Vec<Y>, more: Vec<Y>) -> Result<(), Fail> {
 }
 
 /// Keeps what a call of a node answered.
-pub fn hear<Y: Drop>(
-    heard: &mut Heard<Y>,
-    node: u8,
-    done: Result<Vec<Y>, ActorFault<Y>>,
-) -> Result<(), Fail> {
+pub fn hear<Y: Drop>(heard: &mut Heard<Y>, node: u8, done: Answer<Y>) -> Result<(), Fail> {
     let fault = match done {
         Ok(says) => return put_all(&mut heard.says, says),
         Err(fault) => fault,
@@ -51,7 +47,7 @@ pub fn hear<Y: Drop>(
 }
 
 /// The fault of a call, 0 where there is none.
-pub fn number<Y: Drop>(done: Result<Vec<Y>, ActorFault<Y>>) -> u8 {
+pub fn number<Y: Drop>(done: Answer<Y>) -> u8 {
     let number = match &done {
         Ok(_) => 0,
         Err(fault) => fault.number(),
@@ -60,61 +56,49 @@ pub fn number<Y: Drop>(done: Result<Vec<Y>, ActorFault<Y>>) -> u8 {
     number
 }
 
-/// The actor that began; what is left where none did is let go.
-pub fn begun<M: Machine, K: Keeper<M::Body> + Drop>(
-    begun: Result<Actor<M, K>, (ActorFault<M::Say>, Post<M::Body>, K)>,
-) -> Result<Actor<M, K>, Fail> {
-    match begun {
-        Ok(actor) => Ok(actor),
-        Err(left) => {
-            drop(left);
-            Err(Fail::from("no actor"))
-        },
-    }
-}
-
-/// The actor of a node.
-pub fn at<M: Machine, K: Keeper<M::Body>>(
-    actors: &mut [Actor<M, K>],
+/// The station of a node among those of the last node, the one before, and so on.
+pub fn at<'t, 'a, M: Machine, K: Keeper<M::Body>>(
+    stations: &'t mut [Station<'a, M, K>],
     node: u8,
-) -> Result<&mut Actor<M, K>, Fail> {
-    let place = usize::from(node.saturating_sub(1));
-    let actor = actors.get_mut(place).ok_or("no such node")?;
-    Ok(actor)
+) -> Result<&'t mut Station<'a, M, K>, Fail> {
+    let place = stations.len().saturating_sub(usize::from(node));
+    let station = stations.get_mut(place).ok_or("no such node")?;
+    Ok(station)
 }
 
-/// The packet goes into its addressee's turn.
-pub fn turn<M: Machine, K: Keeper<M::Body>>(
-    actors: &mut [Actor<M, K>],
+// A turn of one node; whether a packet moved.
+fn turn<M: Machine, K: Keeper<M::Body>>(
+    station: &mut Station<'_, M, K>,
     heard: &mut Heard<M::Say>,
-    packet: Packet<M::Body>,
-) -> Result<(), Fail> {
-    let node = packet.addressee;
-    let done = at(actors, node)?.turn(Some(packet));
-    hear(heard, node, done)
+    node: u8,
+) -> Result<bool, Fail> {
+    let done = station.turn();
+    let moved = done.is_ok() && station.has_moved();
+    hear(heard, node, done)?;
+    Ok(moved)
 }
 
-// The next packet that comes out, those of node 1 first.
-fn next<M: Machine, K: Keeper<M::Body>>(actors: &mut [Actor<M, K>]) -> Option<Packet<M::Body>> {
-    for place in 0..actors.len() {
-        let packet = actors[place].outgoing();
-        if packet.is_some() {
-            return packet;
-        }
+// A turn of each node, of node 1 first; whether a packet moved.
+fn round<M: Machine, K: Keeper<M::Body>>(
+    stations: &mut [Station<'_, M, K>],
+    heard: &mut Heard<M::Say>,
+) -> Result<bool, Fail> {
+    let mut moved = false;
+    for node in 1..=3 {
+        moved = turn(at(stations, node)?, heard, node)? || moved;
     }
-    None
+    Ok(moved)
 }
 
-/// Each packet goes into its addressee's turn as it comes out, until none is left.
+/// All nodes turn, one after another, until no packet is left that can go.
 pub fn all_turns<M: Machine, K: Keeper<M::Body>>(
-    actors: &mut [Actor<M, K>],
+    stations: &mut [Station<'_, M, K>],
     heard: &mut Heard<M::Say>,
 ) -> Result<(), Fail> {
-    for _ in 0..MOST_PACKETS {
-        let Some(packet) = next(actors) else {
+    for _ in 0..MOST_ROUNDS {
+        if !round(stations, heard)? {
             return Ok(());
-        };
-        turn(actors, heard, packet)?;
+        }
     }
     Err(Fail::from("packets without end"))
 }
@@ -136,48 +120,26 @@ fn told<B>(entry: &Entry<B>) -> Told {
     }
 }
 
-/// Asserts what the log of an actor is.
+/// Asserts what the log of a node is.
 pub fn has_log<M: Machine, K: Keeper<M::Body>>(
     rt: &impl Abort,
-    actor: &Actor<M, K>,
+    station: &Station<'_, M, K>,
     wants: &[Told],
 ) {
-    let log = actor.log();
+    let log = station.log();
     assert_eq!(rt; log.len(), wants.len());
     for (entry, want) in log.iter().zip(wants) {
         assert_eq!(rt; told(entry), *want);
     }
 }
 
-/// Asserts what the logs of all actors are.
+/// Asserts what the logs of all nodes are.
 pub fn have_log<M: Machine, K: Keeper<M::Body>>(
     rt: &impl Abort,
-    actors: &[Actor<M, K>],
+    stations: &[Station<'_, M, K>],
     wants: &[Told],
 ) {
-    for actor in actors {
-        has_log(rt, actor, wants);
+    for station in stations {
+        has_log(rt, station, wants);
     }
-}
-
-/// A packet without its entries: its addressee, the letter of its kind, and the slot that it asks for.
-pub type Letter = (u8, char, u64);
-
-fn kind_of<B>(kind: &Kind<B>) -> (char, u64) {
-    match kind {
-        Kind::Prepare { first, .. } => ('p', *first),
-        Kind::Promise { .. } => ('q', 0),
-        Kind::Accept { .. } => ('a', 0),
-        Kind::Accepted { .. } => ('v', 0),
-        Kind::Nack { .. } => ('n', 0),
-        Kind::Forward { .. } => ('f', 0),
-        Kind::Learned { .. } => ('l', 0),
-        Kind::Ask { first } => ('?', *first),
-    }
-}
-
-/// A packet as it is told.
-pub fn letter<B>(packet: &Packet<B>) -> Letter {
-    let (kind, first) = kind_of(&packet.kind);
-    (packet.addressee, kind, first)
 }

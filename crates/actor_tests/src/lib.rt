@@ -1,4 +1,4 @@
-//! Tests of actors over their public calls: three of them with a machine that adds up, with failing keepers, and with a realm. A crate with
+//! Tests of actors over their public calls: three of them at a table, with a machine that adds up, and with failing keepers. A crate with
 //! tests is proved twice, so they stand here.
 #![tactic(auto)]
 
@@ -7,8 +7,4 @@ mod carrying;
 #[cfg(test)]
 mod counting;
 #[cfg(test)]
-mod crashing;
-#[cfg(test)]
-mod refusing;
-#[cfg(test)]
-mod serving;
+mod station;

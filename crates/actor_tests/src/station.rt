@@ -1,0 +1,97 @@
+// An actor at its table.
+ghost use Rattle.std.specs.Prelude.{◌≡◌, false};
+ghost use Rattle.mail_table.specs.Seats.{Owns};
+ghost use Rattle.paxos_node.specs.declared.view.Opened.TheVariants.{Never};
+ghost use Rattle.paxos_packets.specs.Members.{IsMember};
+
+use mail_table::{Mail, NodeSeat};
+use node_actor::{Actor, ActorFault, Entry, Keeper, Machine, Members};
+use replica_machine::AppliedLog;
+use std::alloc::Global;
+use std::test::Fail;
+
+/// What a call of an actor answers.
+pub type Answer<Y> = Result<Vec<Y>, ActorFault<Y>>;
+
+/// An actor, and the table that owns its seat.
+#[derive(Drop)]
+pub struct Station<'a, M: Machine, K: Keeper<M::Body>> {
+    mail: &'a Mail<M::Body>,
+    actor: Actor<M, K>,
+    ghost owned: { Owns mail.now actor.seat },
+}
+
+/// The actor of a node that was never opened; what is left where it can't be is let go.
+pub fn opened<'a, M: Machine, K: Keeper<M::Body> + Drop>(
+    alloc: Global,
+    mail: &'a Mail<M::Body>,
+    seat: NodeSeat<M::Body>,
+    members: Members,
+    machine: M,
+    keeper: K,
+) -> Result<Station<'a, M, K>, Fail>
+    requires owned { Owns mail.now seat }
+    requires members { members ≡ mail.now.members }
+    requires member { IsMember mail.now.members seat.part.me }
+    requires fresh { seat.part.seen.opened ≡ Never }
+    requires machine { M.has_failed machine ≡ false }
+{
+    let me = seat.node();
+    match Actor::open(alloc, mail, seat, me, members, machine, keeper) {
+        Ok(actor) => Ok(Station { mail, actor }),
+        Err(left) => {
+            drop(left);
+            Err(Fail::from("no actor"))
+        },
+    }
+}
+
+impl<'a, M: Machine, K: Keeper<M::Body>> Station<'a, M, K> {
+    /// The node takes an act.
+    pub fn take(&mut self, number: u32, body: M::Body) -> Answer<M::Say> {
+        self.actor.take(self.mail, number, body)
+    }
+
+    /// A turn.
+    pub fn turn(&mut self) -> Answer<M::Say> {
+        self.actor.turn(self.mail)
+    }
+
+    /// Time has passed.
+    pub fn tick(&mut self) -> Answer<M::Say> {
+        self.actor.tick(self.mail)
+    }
+
+    /// The node begins a ballot.
+    pub fn start(&mut self) -> Answer<M::Say> {
+        self.actor.start(self.mail)
+    }
+
+    /// The node takes another to be lost.
+    pub fn suspect(&mut self, node: u8) -> Answer<M::Say> {
+        self.actor.suspect(self.mail, node)
+    }
+
+    /// The node's log.
+    pub fn log(&self) -> &[Entry<M::Body>] {
+        self.actor.log()
+    }
+
+    /// Whether its last turn posted a packet, or treated one.
+    pub fn has_moved(&self) -> bool {
+        let posted = self.actor.posted();
+        let mut moved = self.actor.from().is_some();
+        for node in 1..=7 {
+            moved = moved || posted.contains(node);
+        }
+        moved
+    }
+}
+
+impl<'a, M: Machine, K: Keeper<M::Body> + Drop> Station<'a, M, K> {
+    /// The seat, and the log that the machine has followed.
+    pub fn leave(self) -> (NodeSeat<M::Body>, AppliedLog<M>) {
+        let Station { actor, .. } = self;
+        actor.leave()
+    }
+}
