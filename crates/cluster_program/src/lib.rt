@@ -11,5 +11,6 @@ mod turns;
 
 pub use fault::RunFault;
 pub use program_order::{Members, Order, UsageFault, help_of, order_of, unreadable_words};
+pub use replicated_laws::laws;
 pub use script::script_run;
 pub use stream::stream_run;
