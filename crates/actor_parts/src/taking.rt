@@ -13,7 +13,10 @@ use replica_machine::Machine;
 
 impl<M: Machine, K: Keeper<M::Body>> Parts<M, K> {
     /// The outcome, which is committed, is adopted, its packets wait, and the machine follows what it applied.
-    pub fn take_over(&mut self, outcome: Outcome<M::Body>) -> Result<Vec<M::Say>, ActorFault<M::Say>>
+    pub fn take_over(
+        &mut self,
+        outcome: Outcome<M::Body>,
+    ) -> Result<Vec<M::Say>, ActorFault<M::Say>>
         requires room { HasRoom outcome self.old.node }
         requires fits { Fits self.old.node.me self.old.node.members outcome self.old.node.state }
         requires alive { self.old.log.failed ≡ false }
