@@ -66,6 +66,27 @@ pub fn at<'t, 'a, M: Machine, K: Keeper<M::Body>>(
     Ok(station)
 }
 
+/// The last of these, and the one before it.
+pub fn last_two<T: Drop>(list: &mut Vec<T>) -> Option<(T, T)> {
+    let last = list.pop()?;
+    let before = list.pop()?;
+    Some((last, before))
+}
+
+/// They stand there again.
+pub fn put_two<T: Drop>(list: &mut Vec<T>, last: T, before: Result<T, Fail>) -> Result<(), Fail> {
+    let before = match before {
+        Ok(before) => before,
+        Err(fail) => {
+            drop(last);
+            return Err(fail);
+        },
+    };
+    list.push(before)?;
+    list.push(last)?;
+    Ok(())
+}
+
 // A turn of one node; whether a packet moved.
 fn turn<M: Machine, K: Keeper<M::Body>>(
     station: &mut Station<'_, M, K>,

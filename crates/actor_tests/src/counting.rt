@@ -20,10 +20,25 @@ pub type Counting<'a> = Station<'a, Count, MemKeeper<Number>>;
 /// What these say.
 pub type Sum = (Transport, u64);
 
-// A keeper whose kth commit fails where it is this node's, without the new rows.
-fn keeper_of(alloc: Global, node: u8, failing: (u8, u64)) -> MemKeeper<Number> {
-    let k = if node == failing.0 { failing.1 } else { 0 };
-    MemKeeper::failing(alloc, k, false)
+/// The node whose kth commit fails, and whether that leaves the new rows.
+#[derive(Clone, Copy)]
+pub struct Failing {
+    pub node: u8,
+    pub k: u64,
+    pub after: bool,
+}
+
+/// No commit fails.
+pub const NONE_FAILS: Failing = Failing {
+    node: 0,
+    k: 0,
+    after: false,
+};
+
+// The keeper of this node.
+fn keeper_of(alloc: Global, node: u8, failing: Failing) -> MemKeeper<Number> {
+    let k = if node == failing.node { failing.k } else { 0 };
+    MemKeeper::failing(alloc, k, failing.after)
 }
 
 /// The actors of these seats, that of the last node first; of one the kth commit fails.
@@ -32,7 +47,7 @@ pub fn all_of<'a>(
     mail: &'a Mail<Number>,
     seats: &mut Vec<NodeSeat<Number>>,
     members: Members,
-    failing: (u8, u64),
+    failing: Failing,
 ) -> Result<Vec<Counting<'a>>, Fail>
     requires fresh { All (IsFresh mail.now) seats.old.items }
     requires members { members ≡ mail.now.members }
@@ -130,7 +145,7 @@ fn one_session_goes_through_three_nodes(rt: HostRuntime) -> Result<(), Fail> {
     let members = Members::new(3).ok_or("3 members")?;
     let mut office = Office::new();
     let (mail, mut seats) = found::<Number>(rt.alloc(), &mut office, members)?;
-    let stations = all_of(rt.alloc(), &mail, &mut seats, members, (0, 0))?;
+    let stations = all_of(rt.alloc(), &mail, &mut seats, members, NONE_FAILS)?;
     serve_and_leave(&rt, stations)
 }
 
@@ -150,7 +165,12 @@ fn fails_at(alloc: Global, node: u8, k: u64) -> Result<bool, Fail> {
     let members = Members::new(3).ok_or("3 members")?;
     let mut office = Office::new();
     let (mail, mut seats) = found::<Number>(alloc, &mut office, members)?;
-    let stations = all_of(alloc, &mail, &mut seats, members, (node, k))?;
+    let failing = Failing {
+        node,
+        k,
+        after: false,
+    };
+    let stations = all_of(alloc, &mail, &mut seats, members, failing)?;
     fails(alloc, stations, node)
 }
 

@@ -7,4 +7,8 @@ mod carrying;
 #[cfg(test)]
 mod counting;
 #[cfg(test)]
+mod crashing;
+#[cfg(test)]
+mod refusing;
+#[cfg(test)]
 mod station;

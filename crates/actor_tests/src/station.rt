@@ -5,7 +5,7 @@ ghost use Rattle.paxos_node.specs.declared.view.Opened.TheVariants.{Never};
 ghost use Rattle.paxos_packets.specs.Members.{IsMember};
 
 use mail_table::{Mail, NodeSeat};
-use node_actor::{Actor, ActorFault, Entry, Keeper, Machine, Members};
+use node_actor::{Actor, ActorFault, Entry, Keeper, Machine, Members, Post};
 use replica_machine::AppliedLog;
 use std::alloc::Global;
 use std::test::Fail;
@@ -19,6 +19,14 @@ pub struct Station<'a, M: Machine, K: Keeper<M::Body>> {
     mail: &'a Mail<M::Body>,
     actor: Actor<M, K>,
     ghost owned: { Owns mail.now actor.seat },
+}
+
+/// What is left of an actor, and the table that owns its seat.
+#[derive(Drop)]
+pub struct Left<'a, M: Machine> {
+    mail: &'a Mail<M::Body>,
+    post: Post<M::Body>,
+    ghost owned: { Owns mail.now post.seat },
 }
 
 /// The actor of a node that was never opened; what is left where it can't be is let go.
@@ -86,6 +94,13 @@ impl<'a, M: Machine, K: Keeper<M::Body>> Station<'a, M, K> {
         }
         moved
     }
+
+    /// What is left once the node has gone down.
+    pub fn crash(self) -> (Left<'a, M>, K) {
+        let Station { mail, actor } = self;
+        let (post, keeper) = actor.crash();
+        (Left { mail, post }, keeper)
+    }
 }
 
 impl<'a, M: Machine, K: Keeper<M::Body> + Drop> Station<'a, M, K> {
@@ -93,5 +108,52 @@ impl<'a, M: Machine, K: Keeper<M::Body> + Drop> Station<'a, M, K> {
     pub fn leave(self) -> (NodeSeat<M::Body>, AppliedLog<M>) {
         let Station { actor, .. } = self;
         actor.leave()
+    }
+}
+
+/// What comes of a restart: the actor; or the number of the fault, what is left, and the store.
+pub enum Begun<'a, M: Machine, K: Keeper<M::Body>> {
+    Again(Station<'a, M, K>),
+    Not(u8, Left<'a, M>, K),
+}
+
+impl<'a, M: Machine> Left<'a, M> {
+    /// The node.
+    pub fn me(&self) -> u8 {
+        self.post.me()
+    }
+
+    /// The actor goes on from here.
+    pub fn restart<K: Keeper<M::Body>>(
+        self,
+        alloc: Global,
+        machine: M,
+        keeper: K,
+    ) -> Begun<'a, M, K>
+        requires { M.has_failed machine ≡ false }
+    {
+        let Left { mail, post } = self;
+        match Actor::restart(alloc, mail, post, machine, keeper) {
+            Ok(actor) => Begun::Again(Station { mail, actor }),
+            Err((fault, post, keeper)) => {
+                let number = fault.number();
+                drop(fault);
+                Begun::Not(number, Left { mail, post }, keeper)
+            },
+        }
+    }
+}
+
+/// The actor that goes on; what is left where none does is let go.
+pub fn again<'a, M: Machine, K: Keeper<M::Body> + Drop>(
+    begun: Begun<'a, M, K>,
+) -> Result<Station<'a, M, K>, Fail> {
+    match begun {
+        Begun::Again(station) => Ok(station),
+        Begun::Not(_, left, keeper) => {
+            drop(left);
+            drop(keeper);
+            Err(Fail::from("no actor"))
+        },
     }
 }

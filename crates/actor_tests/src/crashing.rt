@@ -1,0 +1,94 @@
+// An actor whose store fails, and which is restarted.
+use crate::carrying::{Heard, Told, all_turns, at, have_log, last_two, number, put_two};
+use crate::counting::{Counting, Failing, Sum, all_of, start, tick};
+use crate::station::again;
+use core_tests::{Count, Number};
+use mail_table::{Office, found};
+use node_actor::Members;
+use std::alloc::Global;
+use std::process::Abort;
+use std::test::Fail;
+
+// The turn of the second actor on the Prepare of the first one fails, and the actor has ended.
+fn ends(rt: &impl Abort, stations: &mut [Counting<'_>]) -> Result<(), Fail> {
+    assert_eq!(rt; number(at(stations, 1)?.start()), 0);
+    assert_eq!(rt; number(at(stations, 1)?.turn()), 0);
+    assert_eq!(rt; number(at(stations, 2)?.turn()), 61);
+    assert_eq!(rt; number(at(stations, 2)?.turn()), 71);
+    assert_eq!(rt; number(at(stations, 2)?.tick()), 71);
+    Ok(())
+}
+
+/// The actor that goes on from this one, its store opened again.
+pub fn restarted<'a>(alloc: Global, station: Counting<'a>) -> Result<Counting<'a>, Fail> {
+    let (left, keeper) = station.crash();
+    again(left.restart(alloc, Count::new(alloc), keeper.reopen()))
+}
+
+// The second actor goes on, between the others.
+fn restart_second(alloc: Global, stations: &mut Vec<Counting<'_>>) -> Result<(), Fail> {
+    let (first, second) = last_two(stations).ok_or("two actors")?;
+    put_two(stations, first, restarted(alloc, second))
+}
+
+const BOTH: &[Told] = &[('b', 1, 1, 0), ('b', 2, 2, 0)];
+
+// The first actor leads in its next ballot, and what the second one has pending is applied.
+fn goes_on(
+    rt: &impl Abort,
+    stations: &mut [Counting<'_>],
+    heard: &mut Heard<Sum>,
+) -> Result<(), Fail> {
+    tick(stations, heard, 2)?;
+    all_turns(stations, heard)?;
+    start(stations, heard, 1)?;
+    all_turns(stations, heard)?;
+    tick(stations, heard, 2)?;
+    all_turns(stations, heard)?;
+    have_log(rt, stations, BOTH);
+    assert!(rt; heard.faults.is_empty());
+    Ok(())
+}
+
+fn runs(
+    rt: &impl Abort,
+    alloc: Global,
+    stations: &mut Vec<Counting<'_>>,
+    heard: &mut Heard<Sum>,
+) -> Result<(), Fail> {
+    ends(rt, stations.as_mut_slice())?;
+    restart_second(alloc, stations)?;
+    goes_on(rt, stations.as_mut_slice(), heard)
+}
+
+fn runs_all(rt: &impl Abort, alloc: Global, stations: Vec<Counting<'_>>) -> Result<(), Fail> {
+    let mut stations = stations;
+    let mut heard = Heard::nothing(alloc);
+    let done = runs(rt, alloc, &mut stations, &mut heard);
+    drop(heard);
+    drop(stations);
+    done
+}
+
+fn outlives(rt: &impl Abort, alloc: Global, after: bool) -> Result<(), Fail> {
+    let members = Members::new(3).ok_or("3 members")?;
+    let mut office = Office::new();
+    let (mail, mut seats) = found::<Number>(alloc, &mut office, members)?;
+    let failing = Failing {
+        node: 2,
+        k: 1,
+        after,
+    };
+    let stations = all_of(alloc, &mail, &mut seats, members, failing)?;
+    runs_all(rt, alloc, stations)
+}
+
+#[test]
+fn an_actor_outlives_a_commit_that_left_the_old_rows(rt: HostRuntime) -> Result<(), Fail> {
+    outlives(&rt, rt.alloc(), false)
+}
+
+#[test]
+fn an_actor_outlives_a_commit_that_left_the_new_rows(rt: HostRuntime) -> Result<(), Fail> {
+    outlives(&rt, rt.alloc(), true)
+}

@@ -1,0 +1,305 @@
+// What actors refuse, what is no event, and how many acts wait.
+ghost use Rattle.std.specs.Prelude.{◌≡◌, All};
+ghost use Rattle.actor_tests.specs.Fresh.{IsFresh};
+
+use crate::carrying::{has_log, number};
+use crate::counting::{Counting, Sum};
+use crate::crashing::restarted;
+use crate::station::{Begun, Left, opened};
+use acceptor_keeper::{Keeper, KeeperFault, MemKeeper};
+use core_tests::{Count, Number};
+use mail_table::{Mail, NodeSeat, Office, found};
+use node_actor::{ActorFault, Members};
+use paxos_packets::{Ballot, Change, Votes};
+use std::alloc::Global;
+use std::process::Abort;
+use std::test::Fail;
+
+// The actor of the first seat.
+fn first_of<'a>(
+    alloc: Global,
+    mail: &'a Mail<Number>,
+    seats: &mut Vec<NodeSeat<Number>>,
+    members: Members,
+) -> Result<Counting<'a>, Fail>
+    requires fresh { All (IsFresh mail.now) seats.old.items }
+    requires members { members ≡ mail.now.members }
+{
+    drop(seats.pop());
+    drop(seats.pop());
+    let seat = seats.pop().ok_or("a seat of node 1")?;
+    opened(
+        alloc,
+        mail,
+        seat,
+        members,
+        Count::new(alloc),
+        MemKeeper::new(alloc),
+    )
+}
+
+// What is done with the first of three actors.
+#[derive(Clone, Copy)]
+enum Row {
+    Fills,
+    Rests,
+    Restarts,
+    Refuses,
+}
+
+fn done_at_first(rt: &impl Abort, alloc: Global, row: Row) -> Result<(), Fail> {
+    let members = Members::new(3).ok_or("3 members")?;
+    let mut office = Office::new();
+    let (mail, mut seats) = found::<Number>(alloc, &mut office, members)?;
+    let first = first_of(alloc, &mail, &mut seats, members)?;
+    does(rt, alloc, first, row)
+}
+
+fn does(rt: &impl Abort, alloc: Global, first: Counting<'_>, row: Row) -> Result<(), Fail> {
+    match row {
+        Row::Fills => fills(rt, first),
+        Row::Rests => rests(rt, first),
+        Row::Restarts => begins_again(rt, restarted(alloc, first)?),
+        Row::Refuses => refuses(rt, alloc, first),
+    }
+}
+
+// Acts that are pending.
+
+fn takes(actor: &mut Counting<'_>, count: u32) -> u32 {
+    let mut done = 0u32;
+    for _ in 0..count {
+        if number(actor.take(1, Number::new(1))) == 0 {
+            done = done.saturating_add(1);
+        }
+    }
+    done
+}
+
+fn fills(rt: &impl Abort, actor: Counting<'_>) -> Result<(), Fail> {
+    let mut actor = actor;
+    fills_up(rt, &mut actor);
+    drop(actor);
+    Ok(())
+}
+
+fn fills_up(rt: &impl Abort, actor: &mut Counting<'_>) {
+    assert_eq!(rt; takes(actor, 1_023), 1_023);
+    assert_eq!(rt; number(actor.take(1, Number::new(1))), 74);
+    assert_eq!(rt; number(actor.tick()), 0);
+}
+
+#[test]
+fn a_full_actor_goes_on(rt: HostRuntime) -> Result<(), Fail> {
+    done_at_first(&rt, rt.alloc(), Row::Fills)
+}
+
+// What is no event.
+
+fn is_still(rt: &impl Abort, actor: &Counting<'_>) {
+    assert!(rt; !actor.has_moved());
+    has_log(rt, actor, &[]);
+}
+
+fn rests(rt: &impl Abort, actor: Counting<'_>) -> Result<(), Fail> {
+    let mut actor = actor;
+    passes(rt, &mut actor);
+    drop(actor);
+    Ok(())
+}
+
+fn passes(rt: &impl Abort, actor: &mut Counting<'_>) {
+    is_still(rt, actor);
+    assert_eq!(rt; number(actor.turn()), 0);
+    is_still(rt, actor);
+    assert_eq!(rt; number(actor.take(0, Number::new(5))), 0);
+    assert_eq!(rt; number(actor.turn()), 0);
+    is_still(rt, actor);
+}
+
+#[test]
+fn no_event_changes_nothing(rt: HostRuntime) -> Result<(), Fail> {
+    done_at_first(&rt, rt.alloc(), Row::Rests)
+}
+
+#[test]
+fn an_actor_begins_again(rt: HostRuntime) -> Result<(), Fail> {
+    done_at_first(&rt, rt.alloc(), Row::Restarts)
+}
+
+fn begins_again(rt: &impl Abort, actor: Counting<'_>) -> Result<(), Fail> {
+    let mut actor = actor;
+    is_still(rt, &actor);
+    let number = number(actor.tick());
+    drop(actor);
+    assert_eq!(rt; number, 0);
+    Ok(())
+}
+
+// Restarts on other stores.
+
+// A store of a node that was started so often, and then promised this round, if one.
+fn keeper_with(alloc: Global, boots: u64, round: u64) -> Result<MemKeeper<Number>, Fail> {
+    let mut keeper = MemKeeper::new(alloc);
+    for _ in 0..boots {
+        boot(&mut keeper)?;
+    }
+    if 0 < round {
+        promise(alloc, &mut keeper, round)?;
+    }
+    Ok(keeper)
+}
+
+fn boot(keeper: &mut MemKeeper<Number>) -> Result<(), Fail> {
+    let rows = keeper.boot()?;
+    drop(rows);
+    Ok(())
+}
+
+fn promise(alloc: Global, keeper: &mut MemKeeper<Number>, round: u64) -> Result<(), Fail> {
+    keeper.commit(&Change {
+        promised: Some(Ballot { round, node: 3 }),
+        votes: Votes::new(alloc),
+    })?;
+    Ok(())
+}
+
+fn boots_of(keeper: &mut MemKeeper<Number>) -> Option<u64> {
+    let rows = keeper.load().ok()?;
+    Some(rows.boot)
+}
+
+// What is left behind a restart on a store of another node, and whether it answered 62 and began no boot.
+fn refused<'a>(
+    alloc: Global,
+    left: Left<'a, Count>,
+    keeper: MemKeeper<Number>,
+    boots: u64,
+) -> Result<(Left<'a, Count>, bool), Fail> {
+    match left.restart(alloc, Count::new(alloc), keeper) {
+        Begun::Again(station) => {
+            drop(station);
+            Err(Fail::from("an actor"))
+        },
+        Begun::Not(number, left, mut keeper) => {
+            let found = boots_of(&mut keeper);
+            drop(keeper);
+            Ok((left, number == 62 && found == Some(boots)))
+        },
+    }
+}
+
+// How often the node of another store was started, and the round that it promised then.
+const OTHERS: &[(u64, u64)] = &[(0, 0), (1, 0), (1, 2), (2, 2), (0, 1)];
+
+// Their stores.
+fn others(alloc: Global) -> Result<Vec<(u64, MemKeeper<Number>)>, Fail> {
+    let mut keepers = Vec::new(alloc);
+    for (boots, round) in OTHERS {
+        keepers.push((*boots, keeper_with(alloc, *boots, *round)?))?;
+    }
+    Ok(keepers)
+}
+
+// Whether all of them are refused.
+fn refuses_all(
+    alloc: Global,
+    left: Left<'_, Count>,
+    keepers: Vec<(u64, MemKeeper<Number>)>,
+) -> Result<bool, Fail> {
+    let mut left = left;
+    let mut all = true;
+    for (boots, keeper) in keepers {
+        let (next, is_one) = refused(alloc, left, keeper, boots)?;
+        left = next;
+        all = all && is_one;
+    }
+    let is_first = left.me() == 1;
+    drop(left);
+    Ok(all && is_first)
+}
+
+// An actor that has promised the round 1 of its own goes down, and is not restarted on other stores.
+fn refuses(rt: &impl Abort, alloc: Global, actor: Counting<'_>) -> Result<(), Fail> {
+    let left = ended(actor);
+    let all = refuses_with(alloc, left, others(alloc))?;
+    assert!(rt; all);
+    Ok(())
+}
+
+fn refuses_with(
+    alloc: Global,
+    left: Left<'_, Count>,
+    keepers: Result<Vec<(u64, MemKeeper<Number>)>, Fail>,
+) -> Result<bool, Fail> {
+    match keepers {
+        Ok(keepers) => refuses_all(alloc, left, keepers),
+        Err(fail) => {
+            drop(left);
+            Err(fail)
+        },
+    }
+}
+
+fn ended<'a>(actor: Counting<'a>) -> Left<'a, Count> {
+    let mut actor = actor;
+    drop(actor.start());
+    let (left, keeper) = actor.crash();
+    drop(keeper);
+    left
+}
+
+#[test]
+fn other_stores_are_refused(rt: HostRuntime) -> Result<(), Fail> {
+    done_at_first(&rt, rt.alloc(), Row::Refuses)
+}
+
+// The texts of faults.
+
+fn fault_of(alloc: Global, number: u8) -> ActorFault<Sum> {
+    match number {
+        51 => ActorFault::Rounds,
+        62 => ActorFault::Keeper(KeeperFault::Damaged),
+        71 => ActorFault::Failed,
+        72 => ActorFault::Disagree,
+        73 => ActorFault::LostHere(Vec::new(alloc)),
+        74 => ActorFault::Full,
+        75 => ActorFault::Worn,
+        _ => ActorFault::Memory,
+    }
+}
+
+const TEXTS: &[(u8, &str)] = &[
+    (51, "no round is left for a new ballot"),
+    (62, "what is stored is damaged"),
+    (71, "the actor has failed before"),
+    (72, "another entry was learned in the slot"),
+    (73, "the node is lost in its present boot"),
+    (74, "no room for one more pending entry"),
+    (75, "the node has taken all events that its word counts"),
+    (76, "no memory for the actor"),
+];
+
+fn is_told(
+    rt: &impl Abort,
+    alloc: Global,
+    fault: &ActorFault<Sum>,
+    number: u8,
+    text: &str,
+) -> Result<(), Fail> {
+    assert_eq!(rt; fault.number(), number);
+    let told = format!(in alloc; "{fault}")?;
+    assert!(rt; told.as_str() == text);
+    Ok(())
+}
+
+#[test]
+fn faults_have_numbers_and_texts(rt: HostRuntime) -> Result<(), Fail> {
+    for (number, text) in TEXTS {
+        let fault = fault_of(rt.alloc(), *number);
+        let told = is_told(&rt, rt.alloc(), &fault, *number, text);
+        drop(fault);
+        told?;
+    }
+    Ok(())
+}
