@@ -1,4 +1,5 @@
 pub mod Consuming
 pub mod Greeting
 pub mod Putting
+pub mod Sendable
 pub mod Sending

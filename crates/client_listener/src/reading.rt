@@ -39,7 +39,8 @@ pub fn read_transport<R: Read>(
 /// Puts what a client sends behind its handshake into a ring: `Connect`, an item for each frame (none for a PONG), and `Hung`.
 ///
 /// `Ok` at the reader's end alone; `Frame` for what is no frame, and `Read` for a read that failed: all is put then, `Hung`
-/// last. `Turns` once the turns are spent, and `Memory`: what was put is then a front of that.
+/// last. `Turns` once the turns are spent, or where the ring is full and its other end was dropped, and `Memory`: what was put is then a
+/// front of that.
 ///
 /// A turn is one read of up to 64 KiB, or one try that finds the ring full; `turns` counts them down, and of more than 2^32
 /// only 2^32 are left. Behind a vain try the reader is asked to read no octets, and the thread gives way or sleeps, for
@@ -189,6 +190,10 @@ fn put<T: Drop, R: Read>(
         match producer.push(item) {
             Ok(()) => return Ok(()),
             Err(PushError::Full(back)) => item = back,
+        }
+        // Nobody makes room any more.
+        if producer.is_abandoned() {
+            *turns = 0;
         }
         spend(turns)?;
         ask(reader);

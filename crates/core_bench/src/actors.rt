@@ -21,10 +21,10 @@ const MOST_TICKS: u64 = 64;
 
 // An actor, and the table that owns its seat.
 #[derive(Drop)]
-struct Station<'a> {
-    mail: &'a Mail<Number>,
-    actor: Actor<Count, MemKeeper<Number>>,
-    ghost owned: { Owns mail.now actor.seat },
+pub(crate) struct Station<'a> {
+    pub(crate) mail: &'a Mail<Number>,
+    pub(crate) actor: Actor<Count, MemKeeper<Number>>,
+    pub(crate) ghost owned: { Owns mail.now actor.seat },
 }
 
 // The actors, the last one first, and how much their machines said to transports: one sum for each act, at its own node.
@@ -80,8 +80,8 @@ fn put_next<'a>(
     Ok(())
 }
 
-// All of them.
-fn put_all<'a>(
+/// All of them.
+pub(crate) fn put_all<'a>(
     alloc: Global,
     mail: &'a Mail<Number>,
     seats: &mut Vec<NodeSeat<Number>>,

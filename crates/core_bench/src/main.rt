@@ -1,5 +1,5 @@
 //! Measures of the consensus core, each over a run of this program: `core_bench log N W`, `core_bench codec N`,
-//! `core_bench nodes N W number|act` and `core_bench actors N W`.
+//! `core_bench nodes N W number|act`, `core_bench actors N W` and `core_bench threads N W`.
 #![tactic(auto)]
 
 mod actors;
@@ -8,17 +8,20 @@ mod codec;
 mod fault;
 mod log;
 mod nodes;
+mod threads;
 
 use crate::fault::BenchFault;
 use std::env;
 use std::io::Error;
 use std::process::ExitCode;
+use std::thread::Threads;
 
 const USAGE: &str = "\
 usage: core_bench log N W
        core_bench codec N
        core_bench nodes N W number|act
        core_bench actors N W
+       core_bench threads N W
        core_bench all N W
   log N W  learns N entries in windows of W slots, the last slot of each first, and applies them
   codec N  puts and takes a PUBLISH with 200 octets of text N times a turn, beside writing it and reading its text
@@ -26,6 +29,8 @@ usage: core_bench log N W
            takes N acts with such bodies, W at a time, at two of three nodes by turns, and passes their packets by hand
   actors N W
            does the same with numbers at three actors over stores in memory
+  threads N W
+           takes N acts at the second of three actors, W at a time, each actor on a thread of its own
   all N W  does each, one after the other
   Counts are printed, and on standard error the nanoseconds of an entry, a call, an event or an act";
 
@@ -61,20 +66,33 @@ fn ended(rt: &HostRuntime, done: Result<(), BenchFault>) -> ExitCode {
 }
 
 // Each measure, one after the other.
-fn run_all(rt: &HostRuntime, number: u64, window: u64) -> Result<(), BenchFault> {
+fn run_all(
+    rt: &HostRuntime,
+    threads: &impl Threads,
+    number: u64,
+    window: u64,
+) -> Result<(), BenchFault> {
     log::run(rt, number, window)?;
     codec::run(rt, number)?;
     nodes::run_numbers(rt, number, window)?;
     nodes::run_acts(rt, number, window)?;
-    actors::run(rt, number, window)
+    actors::run(rt, number, window)?;
+    threads::run(rt, threads, number, window)
 }
 
 // The measure of two numbers that is so named.
-fn by_two(rt: &HostRuntime, kind: &str, number: u64, window: u64) -> ExitCode {
+fn by_two(
+    rt: &HostRuntime,
+    threads: &impl Threads,
+    kind: &str,
+    number: u64,
+    window: u64,
+) -> ExitCode {
     match kind {
         "log" => ended(rt, log::run(rt, number, window)),
         "actors" => ended(rt, actors::run(rt, number, window)),
-        "all" => ended(rt, run_all(rt, number, window)),
+        "threads" => ended(rt, threads::run(rt, threads, number, window)),
+        "all" => ended(rt, run_all(rt, threads, number, window)),
         _ => misuse(rt),
     }
 }
@@ -97,14 +115,14 @@ fn by_body(rt: &HostRuntime, kind: &str, number: u64, window: u64, body: &str) -
 }
 
 // What the words of the command line ask for.
-fn ordered(rt: &HostRuntime, words: &[String]) -> ExitCode {
+fn ordered(rt: &HostRuntime, threads: &impl Threads, words: &[String]) -> ExitCode {
     match words {
         [kind, number] => match number_of(number.as_str()) {
             Some(number) => by_one(rt, kind.as_str(), number),
             None => misuse(rt),
         },
         [kind, number, window] => match (number_of(number.as_str()), number_of(window.as_str())) {
-            (Some(number), Some(window)) => by_two(rt, kind.as_str(), number, window),
+            (Some(number), Some(window)) => by_two(rt, threads, kind.as_str(), number, window),
             _ => misuse(rt),
         },
         [kind, number, window, body] => match (
@@ -126,7 +144,7 @@ fn ordered(rt: &HostRuntime, words: &[String]) -> ExitCode {
 
 fn main(rt: HostRuntime) -> ExitCode {
     match words_of(&rt) {
-        Ok(words) => ordered(&rt, words.as_slice()),
+        Ok(words) => ordered(&rt, &rt, words.as_slice()),
         Err(_) => misuse(&rt),
     }
 }

@@ -191,6 +191,13 @@ impl<M: Machine, K: Keeper<M::Body>> Actor<M, K> {
         self.parts.me()
     }
 
+    /// The present boot of its node.
+    pub fn boot(&self) -> u64
+        ensures { result ≡ self.now.node.state.rows.boot }
+    {
+        self.parts.boot()
+    }
+
     /// How many entries its node has applied.
     pub fn applied(&self) -> u64
         ensures { result ≡ length self.now.node.state.applied }

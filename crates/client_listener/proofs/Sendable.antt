@@ -42,52 +42,52 @@ use Rattle.client_listener.specs.contracts.items.ToClient as to_client
 
 -- ---- fields
 
-text_send : IsSend text.the_field.row
+pub text_send : IsSend text.the_field.row
 text_send = search (sendable, heap.crosses, maps.crosses) depth 20
 
-number_send : IsSend number.the_field.row
+pub number_send : IsSend number.the_field.row
 number_send = search sendable depth 20
 
-value_send : IsSend value.the_field.row
+pub value_send : IsSend value.the_field.row
 value_send = let n = number_send in search (sendable, heap.crosses, maps.crosses, knot.send-Value) depth 20
 
-payload_send : IsSend payload.the_field.row
+pub payload_send : IsSend payload.the_field.row
 payload_send = let v = value_send in search sendable depth 20
 
 -- arguments are held once, by several threads at a time
-number_sync : IsSync number.the_field.row
+pub number_sync : IsSync number.the_field.row
 number_sync = search sendable depth 20
 
-value_sync : IsSync value.the_field.row
+pub value_sync : IsSync value.the_field.row
 value_sync = let n = number_sync in search (sendable, heap.crosses, maps.crosses, knot.sync-Value) depth 20
 
-payload_sync : IsSync payload.the_field.row
+pub payload_sync : IsSync payload.the_field.row
 payload_sync = let v = value_sync in search sendable depth 20
 
-arguments_send : IsSend arguments.the_field.row
+pub arguments_send : IsSend arguments.the_field.row
 arguments_send = let v = payload_send in let w = payload_sync in search (sendable, heap.crosses) depth 20
 
-arguments_kw_send : IsSend arguments_kw.the_field.row
+pub arguments_kw_send : IsSend arguments_kw.the_field.row
 arguments_kw_send = let v = payload_send in let w = payload_sync in search (sendable, heap.crosses) depth 20
 
-args_send : IsSend args.the_field.row
+pub args_send : IsSend args.the_field.row
 args_send = let v = arguments_send in let w = arguments_kw_send in search sendable depth 20
 
 -- ---- kinds
 
-hello_send : IsSend hello.the_field.row
+pub hello_send : IsSend hello.the_field.row
 hello_send = let t = text_send in let a = args_send in search sendable depth 20
 
-welcome_send : IsSend welcome.the_field.row
+pub welcome_send : IsSend welcome.the_field.row
 welcome_send = let t = text_send in let a = args_send in search sendable depth 20
 
-abort_send : IsSend abort.the_field.row
+pub abort_send : IsSend abort.the_field.row
 abort_send = let t = text_send in let a = args_send in search sendable depth 20
 
-goodbye_send : IsSend goodbye.the_field.row
+pub goodbye_send : IsSend goodbye.the_field.row
 goodbye_send = let t = text_send in let a = args_send in search sendable depth 20
 
-error_send : IsSend error.the_field.row
+pub error_send : IsSend error.the_field.row
 error_send = let t = text_send in let a = args_send in search sendable depth 20
 
 publish_send : IsSend publish.the_field.row
@@ -96,57 +96,57 @@ publish_send = let t = text_send in let a = args_send in search sendable depth 2
 published_send : IsSend published.the_field.row
 published_send = let t = text_send in let a = args_send in search sendable depth 20
 
-subscribe_send : IsSend subscribe.the_field.row
+pub subscribe_send : IsSend subscribe.the_field.row
 subscribe_send = let t = text_send in let a = args_send in search sendable depth 20
 
-subscribed_send : IsSend subscribed.the_field.row
+pub subscribed_send : IsSend subscribed.the_field.row
 subscribed_send = let t = text_send in let a = args_send in search sendable depth 20
 
-event_send : IsSend event.the_field.row
+pub event_send : IsSend event.the_field.row
 event_send = let t = text_send in let a = args_send in search sendable depth 20
 
-unsubscribe_send : IsSend unsubscribe.the_field.row
+pub unsubscribe_send : IsSend unsubscribe.the_field.row
 unsubscribe_send = let t = text_send in let a = args_send in search sendable depth 20
 
-unsubscribed_send : IsSend unsubscribed.the_field.row
+pub unsubscribed_send : IsSend unsubscribed.the_field.row
 unsubscribed_send = let t = text_send in let a = args_send in search sendable depth 20
 
-register_send : IsSend register.the_field.row
+pub register_send : IsSend register.the_field.row
 register_send = let t = text_send in let a = args_send in search sendable depth 20
 
-registered_send : IsSend registered.the_field.row
+pub registered_send : IsSend registered.the_field.row
 registered_send = let t = text_send in let a = args_send in search sendable depth 20
 
-unregister_send : IsSend unregister.the_field.row
+pub unregister_send : IsSend unregister.the_field.row
 unregister_send = let t = text_send in let a = args_send in search sendable depth 20
 
-unregistered_send : IsSend unregistered.the_field.row
+pub unregistered_send : IsSend unregistered.the_field.row
 unregistered_send = let t = text_send in let a = args_send in search sendable depth 20
 
-call_send : IsSend call.the_field.row
+pub call_send : IsSend call.the_field.row
 call_send = let t = text_send in let a = args_send in search sendable depth 20
 
-cancel_send : IsSend cancel.the_field.row
+pub cancel_send : IsSend cancel.the_field.row
 cancel_send = let t = text_send in let a = args_send in search sendable depth 20
 
-reply_send : IsSend reply.the_field.row
+pub reply_send : IsSend reply.the_field.row
 reply_send = let t = text_send in let a = args_send in search sendable depth 20
 
-invocation_send : IsSend invocation.the_field.row
+pub invocation_send : IsSend invocation.the_field.row
 invocation_send = let t = text_send in let a = args_send in search sendable depth 20
 
-interrupt_send : IsSend interrupt.the_field.row
+pub interrupt_send : IsSend interrupt.the_field.row
 interrupt_send = let t = text_send in let a = args_send in search sendable depth 20
 
-yield_send : IsSend yield.the_field.row
+pub yield_send : IsSend yield.the_field.row
 yield_send = let t = text_send in let a = args_send in search sendable depth 20
 
 -- ---- what goes through a ring
 
-message_send : IsSend message.the_field.row
+pub message_send : IsSend message.the_field.row
 message_send = enum_send (shape message.the_type) ((hello_send, tt), ((welcome_send, tt), ((abort_send, tt), ((goodbye_send, tt), ((error_send, tt), ((publish_send, tt), ((published_send, tt), ((subscribe_send, tt), ((subscribed_send, tt), ((event_send, tt), ((unsubscribe_send, tt), ((unsubscribed_send, tt), ((register_send, tt), ((registered_send, tt), ((unregister_send, tt), ((unregistered_send, tt), ((call_send, tt), ((cancel_send, tt), ((reply_send, tt), ((invocation_send, tt), ((interrupt_send, tt), ((yield_send, tt), tt))))))))))))))))))))))
 
-read_send : IsSend read.the_field.row
+pub read_send : IsSend read.the_field.row
 read_send = let m = message_send in search sendable depth 20
 
 pub from_client_send : IsSend from_client.the_field.row

@@ -1,0 +1,296 @@
+// Three actors, each on a thread of its own, over a mail table and stores in memory: acts are taken at the second one.
+ghost use Rattle.std.specs.Prelude.{◌≡◌, All};
+ghost use Rattle.mail_table.specs.Seats.{Owns};
+ghost use Rattle.paxos_node.specs.declared.view.Opened.TheVariants.{Never};
+
+use crate::actors::{Station, put_all};
+use crate::fault::BenchFault;
+use crate::nodes::NODES;
+use actor_run::{Feed, Gate, Seen, run_node};
+use core_tests::Number;
+use mail_table::{Mail, NodeSeat, Office, found};
+use node_actor::{Event, Members};
+use paxos_packets::Transport;
+use std::sync::atomic::{AtomicBool, Ordering};
+use std::thread;
+use std::thread::Threads;
+use std::time::Instant;
+
+// After how many turns in which nothing came a node ticks, and how many turns it makes at most.
+const QUIET: u64 = 100_000;
+
+const MOST_TURNS: u64 = 1 << 40;
+
+// The node at which acts are taken. It does not lead.
+const TAKER: u8 = 2;
+
+type Sum = (Transport, u64);
+
+// What a run is to do: whether the first node starts, how many acts there are, and how many may be under way.
+#[derive(Clone, Copy)]
+struct Load {
+    starts: bool,
+    acts: u64,
+    width: u64,
+}
+
+// How many turns there were, and in how many no packet came.
+#[derive(Clone, Copy)]
+struct Turns {
+    all: u64,
+    idle: u64,
+}
+
+// Turns are made until all acts are answered.
+#[derive(Drop)]
+struct Until<'a> {
+    open: &'a AtomicBool,
+}
+
+impl Gate for Until<'_> {
+    fn pass(&self, _node: u8, turn: u64) -> bool {
+        turn < MOST_TURNS && self.open.load(Ordering::Relaxed)
+    }
+}
+
+// What a node is asked for: a start, acts, so many at a time, and ticks. It shuts the gate of all nodes once its acts are answered.
+#[derive(Drop)]
+struct Asks<'a> {
+    open: &'a AtomicBool,
+    node: u8,
+    load: Load,
+    taken: u64,
+    answered: u64,
+    quiet: u64,
+    turns: Turns,
+}
+
+impl Asks<'_> {
+    // A start, once.
+    fn start(&mut self) -> Option<Event<Number>> {
+        if !self.load.starts {
+            return None;
+        }
+        self.load.starts = false;
+        Some(Event::Start { node: self.node })
+    }
+
+    // An act, if one more may be under way.
+    fn act(&mut self) -> Option<Event<Number>> {
+        let under_way = self.taken.saturating_sub(self.answered);
+        if self.load.acts <= self.taken || self.load.width <= under_way {
+            return None;
+        }
+        self.taken += 1;
+        Some(Event::Take {
+            node: self.node,
+            transport: 1,
+            body: Number::new(1),
+        })
+    }
+
+    // A tick, where nothing came for long.
+    fn tick(&mut self) -> Option<Event<Number>> {
+        if self.quiet < QUIET {
+            return None;
+        }
+        self.quiet = 0;
+        Some(Event::Tick { node: self.node })
+    }
+
+    // A turn begins; whether a packet came in the last one.
+    fn begins(&mut self, came: bool) {
+        self.turns.all = self.turns.all.saturating_add(1);
+        if came {
+            self.quiet = 0;
+            return;
+        }
+        self.quiet = self.quiet.saturating_add(1);
+        self.turns.idle = self.turns.idle.saturating_add(1);
+    }
+}
+
+impl Feed<Number, Sum> for Asks<'_> {
+    ghost saw = { λ feed given got. Unit {0} };
+
+    fn next(&mut self, seen: Seen) -> Option<Event<Number>>
+        ensures { Unit {0} }
+    {
+        if let Some(event) = self.start() {
+            return Some(event);
+        }
+        if let Some(event) = self.act() {
+            return Some(event);
+        }
+        if let Some(event) = self.tick() {
+            return Some(event);
+        }
+        self.begins(seen.from.is_some());
+        None
+    }
+
+    fn hand(&mut self, says: Vec<Sum>)
+        ensures { Unit {0} }
+    {
+        self.answered = self.answered.saturating_add(says.len() as u64);
+        drop(says);
+        if 0 < self.load.acts && self.load.acts <= self.answered {
+            self.open.store(false, Ordering::Relaxed);
+        }
+    }
+}
+
+// What a node is asked for of this load: the first one starts, and one takes the acts.
+fn asks_of<'a>(open: &'a AtomicBool, node: u8, load: Load) -> Asks<'a> {
+    Asks {
+        open,
+        node,
+        load: Load {
+            starts: load.starts && node == 1,
+            acts: if node == TAKER { load.acts } else { 0 },
+            width: load.width,
+        },
+        taken: 0,
+        answered: 0,
+        quiet: 0,
+        turns: Turns { all: 0, idle: 0 },
+    }
+}
+
+// The node runs until the gate is shut; it is shut then. Whether no fault ended it.
+fn run_one(station: &mut Station<'_>, asks: &mut Asks<'_>) -> bool {
+    let gate = Until { open: asks.open };
+    let done = run_node(station.mail, &mut station.actor, &gate, asks);
+    asks.open.store(false, Ordering::Relaxed);
+    let good = done.is_ok();
+    drop(done);
+    good
+}
+
+// The turns of three nodes.
+fn turns_of(one: &Asks<'_>, two: &Asks<'_>, three: &Asks<'_>) -> Turns {
+    Turns {
+        all: one
+            .turns
+            .all
+            .saturating_add(two.turns.all)
+            .saturating_add(three.turns.all),
+        idle: one
+            .turns
+            .idle
+            .saturating_add(two.turns.idle)
+            .saturating_add(three.turns.idle),
+    }
+}
+
+// Each node on a thread of its own, until each act is answered. None where a fault ended a node, or one act was answered twice.
+fn run_three(
+    threads: &impl Threads,
+    one: &mut Station<'_>,
+    two: &mut Station<'_>,
+    three: &mut Station<'_>,
+    load: Load,
+) -> Option<Turns> {
+    let open = AtomicBool::new(true);
+    let mut first = asks_of(&open, 1, load);
+    let mut second = asks_of(&open, TAKER, load);
+    let mut third = asks_of(&open, 3, load);
+    let (one_ran, (two_ran, three_ran)) = thread::join(
+        threads,
+        || run_one(one, &mut first),
+        || {
+            thread::join(
+                threads,
+                || run_one(two, &mut second),
+                || run_one(three, &mut third),
+            )
+        },
+    );
+    if !one_ran || !two_ran || !three_ran || second.answered != load.acts {
+        return None;
+    }
+    Some(turns_of(&first, &second, &third))
+}
+
+// The three stations, the first node's last.
+fn run_stations(
+    threads: &impl Threads,
+    stations: &mut [Station<'_>],
+    load: Load,
+) -> Result<Turns, BenchFault> {
+    let (three, rest) = stations.split_first_mut().ok_or(BenchFault::Nobody)?;
+    let (two, rest) = rest.split_first_mut().ok_or(BenchFault::Nobody)?;
+    let one = rest.first_mut().ok_or(BenchFault::Nobody)?;
+    run_three(threads, one, two, three, load).ok_or(BenchFault::Stuck)
+}
+
+// Tells on standard error how many acts were answered in a second, what one took, and how many turns found no packet.
+fn tell(rt: &HostRuntime, turns: Turns, acts: u64, nanos: u128) {
+    let _ = eprintln!(rt;
+        "{} acts a second, {} ns an act, {} turns, of which {} in 100 found no packet",
+        u128::from(acts).saturating_mul(1_000_000_000) / nanos.max(1),
+        nanos / u128::from(acts.max(1)),
+        turns.all,
+        turns.idle.saturating_mul(100) / turns.all.max(1)
+    );
+}
+
+// The first node leads, and one act is answered; then the run is made and told.
+fn run_over(
+    rt: &HostRuntime,
+    threads: &impl Threads,
+    stations: &mut [Station<'_>],
+    acts: u64,
+    width: u64,
+) -> Result<(), BenchFault> {
+    let begin = Load {
+        starts: true,
+        acts: 1,
+        width: 1,
+    };
+    run_stations(threads, stations, begin)?;
+    let load = Load {
+        starts: false,
+        acts,
+        width,
+    };
+    let start = Instant::now(rt)?;
+    let turns = run_stations(threads, stations, load)?;
+    let nanos = start.elapsed(rt)?.as_nanos();
+    println!(rt; "{acts} acts answered at one of {NODES} actors on threads")?;
+    tell(rt, turns, acts, nanos);
+    Ok(())
+}
+
+// The actors at these seats.
+fn run_at(
+    rt: &HostRuntime,
+    threads: &impl Threads,
+    mail: &Mail<Number>,
+    seats: &mut Vec<NodeSeat<Number>>,
+    members: Members,
+    acts: u64,
+    width: u64,
+) -> Result<(), BenchFault>
+    requires fresh { All (λ s. Owns mail.now s × (s.part.seen.opened ≡ Never)) seats.old.items }
+    requires members { members ≡ mail.now.members }
+{
+    let mut stations = Vec::new(rt.alloc());
+    put_all(rt.alloc(), mail, seats, members, &mut stations)?;
+    run_over(rt, threads, stations.as_mut_slice(), acts, width)
+}
+
+/// Takes `acts` acts, of which `width` are under way at most, at the second of three actors, each of which runs on a thread of its own;
+/// prints how many were answered, and on standard error what they took by the clock, and how many turns found no packet. Each body is a
+/// number, each store is in memory.
+pub fn run(
+    rt: &HostRuntime,
+    threads: &impl Threads,
+    acts: u64,
+    width: u64,
+) -> Result<(), BenchFault> {
+    let members = Members::new(NODES).ok_or(BenchFault::Nobody)?;
+    let mut office = Office::new();
+    let (mail, mut seats) = found(rt.alloc(), &mut office, members)?;
+    run_at(rt, threads, &mail, &mut seats, members, acts, width)
+}

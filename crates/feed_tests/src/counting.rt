@@ -1,0 +1,72 @@
+// When a node ticks, begins a ballot and suspects another.
+use paxos_packets::Members;
+use serve_ticks::{Due, Ticks};
+use std::process::Abort;
+use std::test::Fail;
+
+// So many turns without a packet.
+fn rest(ticks: &mut Ticks, turns: u64, is_pending: bool) {
+    for _ in 0..turns {
+        ticks.count(None, 7, is_pending, true);
+    }
+}
+
+// So many times 64 turns without a packet, and each time one with a packet of this node, if it is any; how many ticks and ballots were due
+// behind them, and the nodes that were suspected, as the digits of a number.
+fn over(ticks: &mut Ticks, times: u64, is_pending: bool, hears: Option<u8>) -> (u64, u64, u64) {
+    let mut due: (u64, u64, u64) = (0, 0, 0);
+    for _ in 0..times {
+        rest(ticks, 64, is_pending);
+        if hears.is_some() {
+            ticks.count(hears, 7, is_pending, true);
+        }
+        for _ in 0..4 {
+            match ticks.next() {
+                Some(Due::Tick) => due.0 = due.0.saturating_add(1),
+                Some(Due::Start) => due.1 = due.1.saturating_add(1),
+                Some(Due::Suspect(node)) => due.2 = due
+                    .2
+                    .saturating_mul(10)
+                    .saturating_add(u64::from(node)),
+                None => {},
+            }
+        }
+    }
+    due
+}
+
+// When ticks and ballots are due.
+fn starts(rt: &impl Abort, members: Members) {
+    let mut first = Ticks::new(1, members);
+    assert_eq!(rt; first.next(), Some(Due::Start));
+    assert_eq!(rt; first.next(), None);
+    let mut ticks = Ticks::new(2, members);
+    rest(&mut ticks, 63, false);
+    assert_eq!(rt; ticks.next(), None);
+    rest(&mut ticks, 1, false);
+    assert_eq!(rt; ticks.next(), Some(Due::Tick));
+    assert_eq!(rt; ticks.next(), None);
+    assert_eq!(rt; over(&mut ticks, 600, false, None), (600, 0, 0));
+    assert_eq!(rt; over(&mut ticks, 510, true, None), (510, 0, 0));
+    assert_eq!(rt; over(&mut ticks, 1, true, None), (1, 1, 0));
+    assert_eq!(rt; over(&mut ticks, 511, true, None), (511, 0, 0));
+    assert_eq!(rt; over(&mut ticks, 1, true, None), (1, 1, 0));
+}
+
+// Who is suspected, and when.
+fn suspects(rt: &impl Abort, members: Members) {
+    let mut ticks = Ticks::new(2, members);
+    assert_eq!(rt; over(&mut ticks, 4095, false, Some(1)), (4095, 0, 0));
+    assert_eq!(rt; over(&mut ticks, 1, false, Some(1)), (1, 0, 3));
+    assert_eq!(rt; over(&mut ticks, 4094, false, None), (4094, 0, 0));
+    assert_eq!(rt; over(&mut ticks, 1, false, None), (1, 0, 1));
+    assert_eq!(rt; over(&mut ticks, 1, false, None), (1, 0, 3));
+}
+
+#[test]
+fn ticks_starts_and_suspects_when_it_is_time(rt: HostRuntime) -> Result<(), Fail> {
+    let members = Members::new(3).ok_or("three members")?;
+    starts(&rt, members);
+    suspects(&rt, members);
+    Ok(())
+}

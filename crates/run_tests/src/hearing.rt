@@ -1,0 +1,82 @@
+// What calls of actors answer.
+use node_actor::{ActorFault, Entry};
+use std::alloc::Global;
+use std::process::Abort;
+use std::test::Fail;
+
+/// What a call of an actor answers.
+pub type Answer<Y> = Result<Vec<Y>, ActorFault<Y>>;
+
+/// What calls answered: what was said, what was said as its node was lost, and the numbers of nodes and of their faults.
+#[derive(Drop)]
+pub struct Heard<Y> {
+    pub says: Vec<Y>,
+    pub lost: Vec<Y>,
+    pub faults: Vec<(u8, u8)>,
+}
+
+impl<Y> Heard<Y> {
+    pub fn nothing(alloc: Global) -> Heard<Y> {
+        Heard {
+            says: Vec::new(alloc),
+            lost: Vec::new(alloc),
+            faults: Vec::new(alloc),
+        }
+    }
+}
+
+fn put_all<Y: Drop>(says: &mut Vec<Y>, more: Vec<Y>) -> Result<(), Fail> {
+    for say in more {
+        says.push(say)?;
+    }
+    Ok(())
+}
+
+/// Keeps what a call of a node answered.
+pub fn hear<Y: Drop>(heard: &mut Heard<Y>, node: u8, done: Answer<Y>) -> Result<(), Fail> {
+    let fault = match done {
+        Ok(says) => return put_all(&mut heard.says, says),
+        Err(fault) => fault,
+    };
+    heard.faults.push((node, fault.number()))?;
+    match fault {
+        ActorFault::LostHere(says) => put_all(&mut heard.lost, says),
+        _ => Ok(()),
+    }
+}
+
+/// The fault of a call, 0 where there is none.
+pub fn number<Y: Drop>(done: Answer<Y>) -> u8 {
+    let number = match &done {
+        Ok(_) => 0,
+        Err(fault) => fault.number(),
+    };
+    drop(done);
+    number
+}
+
+/// An entry without its body: the letter of its kind, its node, its boot, and its number.
+pub type Told = (char, u8, u64, u64);
+
+/// What is told of an entry.
+pub fn told<B>(entry: &Entry<B>) -> Told {
+    match entry {
+        Entry::Noop => ('n', 0, 0, 0),
+        Entry::Boot { node, boot } => ('b', *node, *boot, 0),
+        Entry::Item {
+            node,
+            boot,
+            seq,
+            ..
+        } => ('i', *node, *boot, *seq),
+        Entry::Lost { node, boot } => ('l', *node, *boot, 0),
+    }
+}
+
+/// Asserts what a log is.
+pub fn is_log<B>(rt: &impl Abort, log: &[Entry<B>], wants: &[Told]) {
+    assert_eq!(rt; log.len(), wants.len());
+    for (entry, want) in log.iter().zip(wants) {
+        assert_eq!(rt; told(entry), *want);
+    }
+}

@@ -1,0 +1,228 @@
+use crate::home::Home;
+use crate::lanes::Lanes;
+use crate::pace::Pace;
+use actor_run::{Feed, Seen};
+use client_listener::ToClient;
+use paxos_node::Event;
+use paxos_packets::Members;
+use realm_acts::Act;
+use realm_machine::{Out, Say};
+use rtrb::Consumer;
+use serve_draws::Draws;
+use serve_lanes::{Arrival, Lobby};
+use serve_ticks::{Due, Ticks};
+use std::alloc::Global;
+use std::sync::Arc;
+
+/// How many acts are given while entries are pending. A node has room for 1,024 pending entries; so it always has some for those of its own.
+const MOST_UNDER_WAY: u32 = 1000;
+
+/// How many arrivals are taken in a round at the most; their ring has room for so many.
+const MOST_ARRIVALS: u8 = 64;
+
+/// The events of a node in one boot: what its clients do, ticks, ballots and suspicions; and the way of its sayings to their clients.
+///
+/// A round in which nobody stirred costs some loads. An item of a client's costs constant time, and a removed connection as many moves as there
+/// are connections; each time that somebody stirred each connection's ring is asked once. Messages are moved, not copied.
+#[derive(Drop)]
+pub struct ClientFeed<'a> {
+    node: u8,
+    members: Members,
+    key: u64,
+    lobby: &'a Lobby,
+    lobbies: &'a [Arc<Lobby>],
+    pace: &'a Pace,
+    boot: u64,
+    arrivals: Consumer<Arrival>,
+    lanes: Lanes,
+    draws: Draws,
+    ticks: Ticks,
+    // The round whose turn was counted last.
+    round: u64,
+    // Whether something happened since.
+    is_busy: bool,
+    // How many acts were given since no entry was pending.
+    under_way: u32,
+}
+
+impl<'a> ClientFeed<'a> {
+    /// No connection yet. Takes no memory.
+    pub fn new(
+        alloc: Global,
+        home: Home<'a>,
+        boot: u64,
+        arrivals: Consumer<Arrival>,
+    ) -> ClientFeed<'a> {
+        let Home {
+            node,
+            members,
+            key,
+            lobby,
+            lobbies,
+            pace,
+        } = home;
+        ClientFeed {
+            node,
+            members,
+            key,
+            lobby,
+            lobbies,
+            pace,
+            boot,
+            arrivals,
+            lanes: Lanes::new(alloc),
+            draws: Draws::new(key, node, boot),
+            ticks: Ticks::new(node, members),
+            round: 0,
+            is_busy: true,
+            under_way: 0,
+        }
+    }
+
+    /// Begins anew in another boot of the node: every connection ends, transports are numbered from 1, the draws are those of the boot, and
+    /// nothing is counted yet. Arrivals that were not taken yet stay.
+    pub fn restart(&mut self, boot: u64) {
+        self.lanes.end_all();
+        self.boot = boot;
+        self.draws = Draws::new(self.key, self.node, boot);
+        self.ticks = Ticks::new(self.node, self.members);
+        self.is_busy = true;
+        self.under_way = 0;
+        self.lanes.stir();
+    }
+
+    /// Ends every connection, those that have just come among them.
+    pub fn close(&mut self) {
+        self.take_arrivals();
+        self.lanes.end_all();
+    }
+
+    // Connections that came have lanes from now on.
+    fn take_arrivals(&mut self) {
+        for _ in 0..MOST_ARRIVALS {
+            let Ok(arrival) = self.arrivals.pop() else {
+                return;
+            };
+            self.lanes.come(arrival);
+        }
+    }
+
+    // Counts the last turn, and wakes whom it concerns. Once a round.
+    fn count(&mut self, seen: &Seen) {
+        let moved = wake_peers(self.members, self.lobbies, seen);
+        if self.lobby.take_stirred() {
+            self.take_arrivals();
+            self.lanes.stir();
+        }
+        let may_look = self.under_way < MOST_UNDER_WAY && self.lanes.is_on();
+        self.pace.judge(!moved && !self.is_busy && !may_look);
+        self.is_busy = false;
+        self.ticks
+            .count(seen.from, seen.applied, seen.pending, self.pace.is_due());
+    }
+
+    // Something happens in this round: no rest comes before the turn behind it is counted.
+    fn stay(&mut self) {
+        self.is_busy = true;
+        self.pace.judge(false);
+    }
+
+    // What time brings.
+    fn due(&mut self) -> Option<Event<Act>> {
+        let node = self.node;
+        Some(match self.ticks.next()? {
+            Due::Tick => {
+                self.pace.ticked();
+                Event::Tick { node }
+            },
+            Due::Start => Event::Start { node },
+            Due::Suspect(other) => Event::Suspect { node, other },
+        })
+    }
+
+    // What a client does.
+    fn act(&mut self) -> Option<Event<Act>> {
+        if self.under_way >= MOST_UNDER_WAY {
+            return None;
+        }
+        let (transport, body) = self.lanes.next(&mut self.draws)?;
+        self.under_way = self.under_way.saturating_add(1);
+        Some(Event::Take {
+            node: self.node,
+            transport,
+            body,
+        })
+    }
+
+    // A saying, to its transport; one for another boot's is dropped.
+    fn tell(&mut self, say: Say) {
+        let Say { transport, out } = say;
+        let saying = saying_of(out);
+        if transport.node == self.node && transport.boot == self.boot {
+            self.lanes.reply(transport.number, saying);
+        } else {
+            drop(saying);
+        }
+    }
+}
+
+impl Feed<Act, Say> for ClientFeed<'_> {
+    ghost saw = { λ feed given got. Unit {0} };
+
+    fn next(&mut self, seen: Seen) -> Option<Event<Act>>
+        ensures { Unit {0} }
+    {
+        let round = self.pace.round();
+        if round != self.round {
+            self.round = round;
+            self.count(&seen);
+        }
+        if !seen.pending {
+            self.under_way = 0;
+        }
+        let event = match self.due() {
+            Some(event) => Some(event),
+            None => self.act(),
+        };
+        self.lanes.wake_told();
+        if event.is_some() {
+            self.stay();
+        }
+        event
+    }
+
+    fn hand(&mut self, says: Vec<Say>)
+        ensures { Unit {0} }
+    {
+        if says.len() > 0 {
+            self.stay();
+        }
+        for say in says {
+            self.tell(say);
+        }
+        self.lanes.wake_told();
+    }
+}
+
+// Wakes those to whom the last turn posted, and the one whose packet it took. Answers whether there are any.
+fn wake_peers(members: Members, lobbies: &[Arc<Lobby>], seen: &Seen) -> bool {
+    let mut any = false;
+    for below in 0..members.count() {
+        let peer = below + 1;
+        if seen.posted.contains(peer) || seen.from == Some(peer) {
+            any = true;
+            if let Some(lobby) = lobbies.get(usize::from(below)) {
+                lobby.wake();
+            }
+        }
+    }
+    any
+}
+
+// What a transport is told, as its writer takes it.
+fn saying_of(out: Out) -> ToClient {
+    match out {
+        Out::Send(message) => ToClient::Send(message),
+        Out::Close => ToClient::Close,
+    }
+}

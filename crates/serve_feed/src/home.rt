@@ -1,0 +1,21 @@
+use crate::pace::Pace;
+use paxos_packets::Members;
+use serve_lanes::Lobby;
+use std::sync::Arc;
+
+/// Which node it is, and what the gate and the feed of its thread stand on.
+#[derive(Clone, Copy)]
+pub struct Home<'a> {
+    /// The node's number.
+    pub node: u8,
+    /// The members of its cluster.
+    pub members: Members,
+    /// The key that all nodes' draws come from.
+    pub key: u64,
+    /// Where the node rests.
+    pub lobby: &'a Lobby,
+    /// Where each node rests, node 1 first.
+    pub lobbies: &'a [Arc<Lobby>],
+    /// What the gate and the feed of the thread tell each other.
+    pub pace: &'a Pace,
+}

@@ -1,0 +1,24 @@
+//! What a node's thread stands on in a served cluster: a gate that rests while nothing happens, and a feed out of the rings of the node's
+//! clients (docs/CONSENSUS.md, "Threads").
+//!
+//! **No wake-up is lost.** Who puts something where a node looks for it, wakes the node behind that: a client's threads behind a push, a peer
+//! behind the turn that posted to it or took a packet of it, so that a box is free again. A wake-up that comes while the node does not rest
+//! ends its next rest at once. So what a wake-up that a rest took stands for lay there before the rest ended, and two rounds, in each of which the
+//! node looked into every ring that was stirred and tried every box until one had a packet, have found nothing more by the time it rests again;
+//! what came since has its wake-up before it.
+//!
+//! **Wake-ups do not breed others.** A round in which nothing came, and nothing could be posted, wakes nobody; so there are at most two wake-ups
+//! for each packet that moves, one each way, and two idle rounds for each wake-up. Turns count towards a tick only once 10 ms have passed since the
+//! last one was due; so idle rounds, however many wake-ups make them, bring forth no tick.
+#![tactic(auto)]
+
+mod feed;
+mod home;
+mod lane;
+mod lanes;
+mod look;
+mod pace;
+
+pub use feed::ClientFeed;
+pub use home::Home;
+pub use pace::{Pace, Paced};

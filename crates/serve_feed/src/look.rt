@@ -1,0 +1,81 @@
+// Which lane is looked at next. A look goes round all lanes once; a lane in which more may lie is left after some items, and looked at anew
+// behind the others.
+
+/// How many items in a row are taken out of one lane.
+const ITEMS_A_VISIT: u8 = 8;
+
+// A look: which lane it is at, how many lanes are left in this round, how many items were taken at this one, and whether a further round is due.
+#[derive(Clone, Copy, Drop)]
+pub(crate) struct Look {
+    place: usize,
+    left: usize,
+    taken: u8,
+    again: bool,
+}
+
+impl Look {
+    // No lane is looked at.
+    pub fn new() -> Look {
+        Look {
+            place: 0,
+            left: 0,
+            taken: 0,
+            again: false,
+        }
+    }
+
+    // Something may lie in any lane.
+    pub fn stir(&mut self) {
+        self.again = true;
+    }
+
+    // Whether a lane is left to be looked at.
+    pub fn is_on(&self) -> bool {
+        self.again || self.left > 0
+    }
+
+    // The lane at which it is, of so many; none where it is through.
+    pub fn place(&mut self, lanes: usize) -> Option<usize> {
+        if self.left == 0 {
+            if !self.again {
+                return None;
+            }
+            self.again = false;
+            self.left = lanes;
+        }
+        if self.place >= lanes {
+            self.place = 0;
+        }
+        if self.left == 0 {
+            None
+        } else {
+            Some(self.place)
+        }
+    }
+
+    // An item was taken; answers whether the lane is left for now.
+    pub fn took(&mut self) -> bool {
+        self.taken = self.taken.saturating_add(1);
+        if self.taken < ITEMS_A_VISIT {
+            return false;
+        }
+        self.again = true;
+        self.leave();
+        true
+    }
+
+    // The lane is left; answers whether an item was taken there.
+    pub fn leave(&mut self) -> bool {
+        let took = self.taken > 0;
+        self.taken = 0;
+        self.left = self.left.saturating_sub(1);
+        self.place = self.place.saturating_add(1);
+        took
+    }
+
+    // The lane is no more; the one behind it has its place.
+    pub fn removed(&mut self) {
+        self.taken = 0;
+        self.left = self.left.saturating_sub(1);
+    }
+}

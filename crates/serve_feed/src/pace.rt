@@ -1,0 +1,133 @@
+use crate::home::Home;
+use actor_run::Gate;
+use serve_lanes::Lobby;
+use std::cell::Cell;
+use std::sync::Wait;
+use std::time::{Clock, Duration, Instant};
+
+/// How long it is from where one tick is due to where the next one is, in milliseconds.
+const TICK_MILLIS: u64 = 10;
+
+/// After how many idle rounds in a row a node rests.
+const IDLE_ROUNDS: u8 = 2;
+
+/// Each how many rounds a node that does not rest looks at the clock.
+const ROUNDS_A_LOOK: u64 = 64;
+
+/// What the gate and the feed of one node's thread tell each other: which round it is, how many rounds in a row were idle, and whether a tick
+/// is due. It stays on its thread.
+#[derive(Drop)]
+pub struct Pace {
+    round: Cell<u64>,
+    idle: Cell<u8>,
+    is_due: Cell<bool>,
+}
+
+impl Pace {
+    /// Before the first round; a tick is due.
+    pub const fn new() -> Pace {
+        Pace {
+            round: Cell::new(0),
+            idle: Cell::new(0),
+            is_due: Cell::new(true),
+        }
+    }
+
+    // A round begins.
+    fn begin(&self) {
+        self.round.set(self.round.get().wrapping_add(1));
+    }
+
+    // The number of the round that began last.
+    pub(crate) fn round(&self) -> u64 {
+        self.round.get()
+    }
+
+    // The last round was idle, or it was not.
+    pub(crate) fn judge(&self, is_idle: bool) {
+        let idle = if is_idle {
+            self.idle.get().saturating_add(1)
+        } else {
+            0
+        };
+        self.idle.set(idle);
+    }
+
+    // Whether turns without a packet count towards a tick.
+    pub(crate) fn is_due(&self) -> bool {
+        self.is_due.get()
+    }
+
+    // The tick that was due was given.
+    pub(crate) fn ticked(&self) {
+        self.is_due.set(false);
+    }
+}
+
+/// The gate of a node's thread: it rests where the last two rounds were idle and no tick is due, until somebody wakes the node or 10 ms are over
+/// since a tick was due last; then it asks the caller's gate.
+///
+/// A round costs it some loads, and each 64th one a look at the clock. Where the clock cannot be read a tick is always due.
+#[derive(Drop)]
+pub struct Paced<'a, R: Wait + Clock, G: Gate> {
+    rt: &'a R,
+    pace: &'a Pace,
+    lobby: &'a Lobby,
+    gate: &'a G,
+    last: Cell<Option<Instant>>,
+}
+
+impl<'a, R: Wait + Clock, G: Gate> Paced<'a, R, G> {
+    /// Over the caller's gate. The next tick but the first is due in 10 ms.
+    pub fn new(rt: &'a R, home: Home<'a>, gate: &'a G) -> Paced<'a, R, G> {
+        Paced {
+            rt,
+            pace: home.pace,
+            lobby: home.lobby,
+            gate,
+            last: Cell::new(Instant::now(rt).ok()),
+        }
+    }
+
+    // How long it is until a tick is due; nothing where it is, which is noted then.
+    fn left(&self) -> Duration {
+        let Ok(now) = Instant::now(self.rt) else {
+            self.pace.is_due.set(true);
+            return Duration::ZERO;
+        };
+        let left = match self.last.get() {
+            Some(last) => Duration::from_millis(TICK_MILLIS).saturating_sub(
+                now.saturating_duration_since(last),
+            ),
+            None => Duration::ZERO,
+        };
+        if left.is_zero() {
+            self.last.set(Some(now));
+            self.pace.is_due.set(true);
+        }
+        left
+    }
+
+    // Rests until somebody wakes the node or a tick is due; at least two rounds follow.
+    fn rest(&self) {
+        let left = self.left();
+        if !left.is_zero() {
+            self.lobby.rest(self.rt, left);
+        }
+        self.pace.idle.set(0);
+    }
+}
+
+impl<R: Wait + Clock, G: Gate> Gate for Paced<'_, R, G> {
+    fn pass(&self, node: u8, turn: u64) -> bool {
+        self.pace.begin();
+        if !self.pace.is_due.get() {
+            if self.pace.idle.get() >= IDLE_ROUNDS {
+                self.rest();
+            } else if turn % ROUNDS_A_LOOK == 0 {
+                self.left();
+            }
+        }
+        self.gate.pass(node, turn)
+    }
+}

@@ -1,0 +1,68 @@
+use crate::ties::Ties;
+use client_listener::{FromClient, ToClient};
+use rtrb::{Consumer, Producer};
+use std::alloc::{AllocError, Global};
+use std::net::TcpStream;
+use std::sync::Arc;
+
+/// How many items of a client may wait for its node.
+pub const REQUESTS_WAITING: usize = 64;
+
+/// How many sayings may wait for a client.
+pub const SAYINGS_WAITING: usize = 1024;
+
+/// A connection as its node has it: the ring out of which it takes what the client sends, the ring into which it puts what the client is
+/// sent, and its hold on the connection.
+///
+/// The first item is `Connect`, once the handshake is done. Where the handshake failed the items' ring is abandoned with nothing in it.
+/// Where an arrival is dropped its line is.
+#[derive(Drop)]
+pub struct Arrival {
+    pub items: Consumer<FromClient>,
+    pub replies: Producer<ToClient>,
+    pub line: Line,
+}
+
+/// A node's hold on a client's connection. No call but [`Line::over`] takes memory, and none waits.
+///
+/// Where it is dropped, what waits in the ring of sayings is still written, and then the connection ends.
+pub struct Line {
+    ties: Arc<Ties, Global>,
+}
+
+impl Line {
+    /// A hold on a connection that nobody reads or writes yet.
+    pub fn over(alloc: Global, stream: TcpStream) -> Result<Line, AllocError> {
+        let ties = Arc::new(alloc, Ties::new(stream))?;
+        Ok(Line { ties })
+    }
+
+    // What the connection's threads share with the line.
+    pub(crate) fn ties(&self) -> Result<Arc<Ties, Global>, AllocError> {
+        Arc::try_clone(&self.ties)
+    }
+
+    /// Lets the writer go on, which rests where its ring is empty. For a node that has put sayings into the ring: once behind all of a turn.
+    pub fn wake_writer(&self) {
+        self.ties.wake_writer();
+    }
+
+    /// Lets the reader go on, which rests for a moment where its ring is full. For a node that has taken items.
+    pub fn wake_reader(&self) {
+        self.ties.wake_reader();
+    }
+
+    /// Ends the connection at once: nothing more is read or written, and both of its threads end.
+    pub fn hang_up(&self) {
+        self.ties.let_go();
+        self.ties.shut();
+    }
+}
+
+impl Drop for Line {
+    fn drop(self) {
+        let Line { ties } = self;
+        ties.let_go();
+        drop(ties);
+    }
+}

@@ -1,0 +1,92 @@
+use std::alloc::{AllocError, Global};
+use std::sync::atomic::{AtomicBool, AtomicU64, Ordering};
+use std::sync::{Arc, Wait};
+use std::thread::Parker;
+use std::time::Duration;
+
+/// How many connections a node has at a time, at the most.
+pub const MOST_CONNECTIONS: u64 = 256;
+
+/// What a node's thread shares with the threads of its clients and with those of its peers: where it rests, who wakes it, and how many
+/// connections there are. One thread alone rests in it. No call takes memory, and but for [`Lobby::rest`] none waits.
+#[derive(Drop)]
+pub struct Lobby {
+    bell: Parker,
+    is_stirred: AtomicBool,
+    taken: AtomicU64,
+}
+
+impl Lobby {
+    /// Nobody has woken anybody, and there are no connections.
+    pub const fn new() -> Lobby {
+        Lobby {
+            bell: Parker::new(),
+            is_stirred: AtomicBool::new(false),
+            taken: AtomicU64::new(0),
+        }
+    }
+
+    /// Lets the node's thread go on: it rests no longer, or its next rest ends at once. For who put something into the node's mail, or
+    /// ends its run.
+    pub fn wake(&self) {
+        self.bell.unpark();
+    }
+
+    /// The same, for who put something into one of the node's rings: it looks there.
+    pub fn stir(&self) {
+        self.is_stirred.store(true, Ordering::SeqCst);
+        self.bell.unpark();
+    }
+
+    /// Whether somebody has stirred since the last call. Where nobody has, there is nothing new in the node's rings.
+    pub fn take_stirred(&self) -> bool {
+        self.is_stirred.load(Ordering::SeqCst) && self.is_stirred.swap(false, Ordering::SeqCst)
+    }
+
+    /// Rests until somebody wakes or stirs, or for so long; at once where somebody did since the last rest. It may return early.
+    pub fn rest<R: Wait>(&self, rt: &R, longest: Duration) {
+        self.bell.park_timeout(rt, longest);
+    }
+
+    /// Takes a place for a connection. Answers false where all 256 are taken.
+    pub fn enter(&self) -> bool {
+        if self.taken.fetch_add(1, Ordering::SeqCst) < MOST_CONNECTIONS {
+            return true;
+        }
+        self.leave();
+        false
+    }
+
+    /// Gives a place back that was taken.
+    pub fn leave(&self) {
+        self.taken.fetch_sub(1, Ordering::SeqCst);
+    }
+}
+
+// A place that a connection has taken in a lobby. It is given back where this is dropped.
+pub(crate) struct Place {
+    lobby: Arc<Lobby, Global>,
+}
+
+impl Place {
+    // `None` where there is none left.
+    pub fn take(lobby: &Arc<Lobby, Global>) -> Result<Option<Place>, AllocError> {
+        let lobby = Arc::try_clone(lobby)?;
+        if !lobby.enter() {
+            return Ok(None);
+        }
+        Ok(Some(Place { lobby }))
+    }
+
+    pub fn lobby(&self) -> &Lobby {
+        &self.lobby
+    }
+}
+
+impl Drop for Place {
+    fn drop(self) {
+        let Place { lobby } = self;
+        lobby.leave();
+        drop(lobby);
+    }
+}
