@@ -55,13 +55,13 @@ impl Realm {
         ensures act { Acts self.old.config self.old.content transport act.now result self.new.content }
         ensures config { self.new.config ≡ self.old.config }
     {
-        let Some(mut content) = self.content.take() else {
+        let Some(content) = &mut self.content else {
             return Err(Failed);
         };
         let Ok(says) = content.on_act(&self.config, transport, act) else {
+            drop(self.content.take());
             return Err(Failed);
         };
-        self.content = Some(content);
         Ok(says)
     }
 
@@ -74,13 +74,13 @@ impl Realm {
         ensures gone { Goes self.old.content node result self.new.content }
         ensures config { self.new.config ≡ self.old.config }
     {
-        let Some(mut content) = self.content.take() else {
+        let Some(content) = &mut self.content else {
             return Err(Failed);
         };
         let Ok(says) = content.gone(node) else {
+            drop(self.content.take());
             return Err(Failed);
         };
-        self.content = Some(content);
         Ok(says)
     }
 }
