@@ -54,7 +54,14 @@ fn serve<R: Read, W: Write>(
     let mut room = vec![in alloc; 0u8; CHUNK]?;
     let chunk = room.as_mut_slice();
     let mut service = Service::new(alloc, realm, limit)?;
-    match act_out(writer, &mut service, &Act::Connect)? {
+    let progress = match act_out(writer, &mut service, &Act::Connect) {
+        Ok(progress) => progress,
+        Err(fault) => {
+            drop(service);
+            return Err(fault);
+        }
+    };
+    match progress {
         Progress::Closed => {
             drop(service);
             return Ok(());

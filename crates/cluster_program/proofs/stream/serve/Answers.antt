@@ -11,31 +11,28 @@ returns-in_err-service g c =
     let p = err_from_is_err_and c.from_residual-in_err-service.result c.from_residual-in_err-service.ensures.1 in
     rw (p.1, p.2, c.in_err-service.ensures.memory) (ends_memory (opened (config_of c.args.realm.now) c.args.limit) _ _)
 
-pub returns-in_err-act_out : goal.returns-in_err-act_out
-returns-in_err-act_out g c =
-    let p = err_from_is_err_and c.from_residual-in_err-act_out.result c.from_residual-in_err-act_out.ensures.1 in
-    rw (p.1, p.2)
-    (over_ends (opened (config_of c.args.realm.now) c.args.limit) (Err c.in_err-act_out.field-0.0) (g.R.Read.remaining c.args.reader.now)
+pub returns-in-Err : goal.returns-in-Err
+returns-in-Err g c =
+    over_ends (opened (config_of c.args.realm.now) c.args.limit) (Err c.in-Err.fault) (g.R.Read.remaining c.args.reader.now)
     (g.W.Write.contents c.args.writer.now)
     (g.W.Write.contents c.act_out.new.writer)
-    (opens_over c.args.realm.now c.args.limit c.in_ok-service.service c.act_out.new.service c.in_err-act_out.field-0.0 _ _
-    c.in_ok-service.ensures.first c.in_err-act_out.ensures))
+    (opens_over c.args.realm.now c.args.limit c.in_ok-service.service c.act_out.new.service c.in-Err.fault _ _
+    c.in_ok-service.ensures.first c.in-Err.ensures)
 
 pub returns-in-Closed : goal.returns-in-Closed
 returns-in-Closed g c =
     over_ends (opened (config_of c.args.realm.now) c.args.limit) (Ok tt) (g.R.Read.remaining c.args.reader.now)
     (g.W.Write.contents c.args.writer.now) (g.W.Write.contents c.act_out.new.writer)
     (opens_closed c.args.realm.now c.args.limit c.in_ok-service.service c.act_out.new.service _ _ c.in_ok-service.ensures.first
-    (rw c.in-Closed.is at c.in_ok-act_out.ensures))
+    (rw c.in-Closed.is at c.in-Ok.ensures))
 
 pub loop-turn-init : goal.loop-turn-init
 loop-turn-init g c =
     let first = c.in_ok-service.ensures.first in (
       goes_writing _ _ _ _ _
-          (opens_writes c.args.realm.now c.args.limit c.in_ok-service.service c.act_out.new.service c.in_ok-act_out.field-0 _ _ first
-          c.in_default.not-Closed c.in_ok-act_out.ensures),
-      opens_idle c.args.realm.now c.args.limit c.in_ok-service.service c.act_out.new.service c.in_ok-act_out.field-0 _ _ first
-          c.in_ok-act_out.ensures,
+          (opens_writes c.args.realm.now c.args.limit c.in_ok-service.service c.act_out.new.service c.in-Ok.progress _ _ first
+          c.in_default.not-Closed c.in-Ok.ensures),
+      opens_idle c.args.realm.now c.args.limit c.in_ok-service.service c.act_out.new.service c.in-Ok.progress _ _ first c.in-Ok.ensures,
       search rules,
     )
 
@@ -49,10 +46,10 @@ returns-in-Ok-false g c =
     (g.W.Write.contents c.args.writer.now) (g.W.Write.contents c.loop-turn.writer) (g.W.Write.contents c.turn.new.writer)
     c.loop-turn.invariant.0 (rw c.in-Ok-false.field-0-test at c.in-Ok-false.ensures)
 
-pub returns-in-Err : goal.returns-in-Err
-returns-in-Err g c =
-    ends_then (opened (config_of c.args.realm.now) c.args.limit) (owed c.loop-turn.service) c.loop-turn._turn (Err c.in-Err.fault) _ _ _ _ _
-    _ c.loop-turn.invariant.0 c.in-Err.ensures
+pub returns-in-Err-turn : goal.returns-in-Err-turn
+returns-in-Err-turn g c =
+    ends_then (opened (config_of c.args.realm.now) c.args.limit) (owed c.loop-turn.service) c.loop-turn._turn (Err c.in-Err-turn.fault) _ _ _ _ _
+    _ c.loop-turn.invariant.0 c.in-Err-turn.ensures
 
 pub loop-turn-preserved : goal.loop-turn-preserved
 loop-turn-preserved g c =
