@@ -1,11 +1,15 @@
-//! Tests of what stands between a client's socket and a node's thread, over public calls. A crate with tests is proved twice, so they
-//! stand here.
+//! Tests of what stands between a client's socket and a node's thread, over public calls, in memory and over loopback sockets. A crate
+//! with tests is proved twice, so they stand here.
 #![tactic(auto)]
 
 #[cfg(test)]
 mod draining;
 #[cfg(test)]
 mod greeting;
+#[cfg(test)]
+mod house;
+#[cfg(test)]
+mod lanes;
 #[cfg(test)]
 mod reading;
 #[cfg(test)]
