@@ -1,4 +1,5 @@
-//! Tests of whole clusters under schedules, over the public calls of a world. A crate with tests is proved twice, so they stand here.
+//! Tests of whole clusters under schedules, and of the mail table between their nodes, over public calls. A crate with tests is proved
+//! twice, so they stand here.
 #![tactic(auto)]
 
 #[cfg(test)]
@@ -12,8 +13,14 @@ mod next_boot;
 #[cfg(test)]
 mod packets;
 #[cfg(test)]
+mod posting;
+#[cfg(test)]
 mod schedule;
 #[cfg(test)]
 mod session;
+#[cfg(test)]
+mod tables;
+#[cfg(test)]
+mod threads;
 #[cfg(test)]
 mod worlds;
