@@ -9,7 +9,7 @@ use crate::hearing::{Heard, Told, hear, is_log};
 use crate::realms::{act_of, are_said, realm};
 use acceptor_keeper::MemKeeper;
 use mail_table::{Mail, NodeSeat, Office, found};
-use node_actor::{Actor, Members};
+use node_actor::{Actor, Keeper, Machine, Members};
 use realm_machine::{Act, Realm, Say};
 use std::alloc::Global;
 use std::process::Abort;
@@ -69,10 +69,10 @@ enum Does {
     SuspectsTwo,
 }
 
-fn first_does(
-    mail: &Mail<Act>,
-    one: &mut Serving,
-    heard: &mut Heard<Say>,
+fn first_does<M: Machine, K: Keeper<M::Body>>(
+    mail: &Mail<M::Body>,
+    one: &mut Actor<M, K>,
+    heard: &mut Heard<M::Say>,
     does: Does,
 ) -> Result<(), Fail>
     requires { Owns mail.now one.old.seat }
@@ -148,20 +148,26 @@ const SIX: &[Told] = &[
     ('b', 2, 2, 0),
 ];
 
-fn have_log(rt: &impl Abort, one: &Serving, two: &Serving, three: &Serving, wants: &[Told]) {
+fn have_log<M: Machine, K: Keeper<M::Body>>(
+    rt: &impl Abort,
+    one: &Actor<M, K>,
+    two: &Actor<M, K>,
+    three: &Actor<M, K>,
+    wants: &[Told],
+) {
     is_log(rt, one.log(), wants);
     is_log(rt, two.log(), wants);
     is_log(rt, three.log(), wants);
 }
 
 // Node 2 is lost once node 1 takes it to be, and its next call answers 71.
-fn is_lost(
+fn is_lost<M: Machine, K: Keeper<M::Body>>(
     rt: &impl Abort,
-    mail: &Mail<Act>,
-    one: &mut Serving,
-    two: &mut Serving,
-    three: &mut Serving,
-    heard: &mut Heard<Say>,
+    mail: &Mail<M::Body>,
+    one: &mut Actor<M, K>,
+    two: &mut Actor<M, K>,
+    three: &mut Actor<M, K>,
+    heard: &mut Heard<M::Say>,
 ) -> Result<(), Fail>
     requires one { Owns mail.now one.old.seat }
     requires two { Owns mail.now two.old.seat }
@@ -208,13 +214,13 @@ fn lives(
 }
 
 // Node 2, which has begun again, tells of its next boot, and learns what it lacks.
-fn tells(
+fn tells<M: Machine, K: Keeper<M::Body>>(
     rt: &impl Abort,
-    mail: &Mail<Act>,
-    one: &mut Serving,
-    two: &mut Serving,
-    three: &mut Serving,
-    heard: &mut Heard<Say>,
+    mail: &Mail<M::Body>,
+    one: &mut Actor<M, K>,
+    two: &mut Actor<M, K>,
+    three: &mut Actor<M, K>,
+    heard: &mut Heard<M::Say>,
 ) -> Result<(), Fail>
     requires one { Owns mail.now one.old.seat }
     requires two { Owns mail.now two.old.seat }
