@@ -1,14 +1,23 @@
-//! Tests of the program's calls, over the public surface of `cluster_program`. A crate with tests is proved twice, so they stand
-//! here.
+//! Tests of the program's calls, and below them of a script's lines, of the packets that its flushes deliver, of a script that is played
+//! and of the text of a world, over the public surfaces of `cluster_program`, `script_lines`, `waiting_packets`, `script_player` and
+//! `script_text`. A crate with tests is proved twice, so they stand here.
 #![tactic(auto)]
 
 #[cfg(test)]
 mod ends;
 #[cfg(test)]
+mod lines;
+#[cfg(test)]
 mod order;
+#[cfg(test)]
+mod player;
 #[cfg(test)]
 mod script;
 #[cfg(test)]
 mod stream;
 #[cfg(test)]
+mod text;
+#[cfg(test)]
 mod turns;
+#[cfg(test)]
+mod waiting;
