@@ -8,6 +8,7 @@ ghost use Rattle.paxos_node.specs.Adopting.{Planned, Fits};
 ghost use Rattle.paxos_node.specs.Events.{outcome_of, is_round_refused, is_full_refused};
 ghost use Rattle.paxos_node.specs.Held.{HasRoom};
 ghost use Rattle.paxos_node.specs.Plans.{plans, unchanged, Answers};
+ghost use Rattle.paxos_proposer.specs.Proposer.{is_leading};
 ghost use Rattle.packet_outboxes.specs.Outboxes.{HasLimits, IsPeer, TakenFor, WaitsFirst, most_waiting, waiting};
 ghost use Rattle.replica_machine.specs.Log.{machine_from, Follows};
 ghost use Rattle.actor_parts.specs.Parts.{Parted, IsPrefixOf, first_parts};
@@ -116,6 +117,13 @@ impl<M: Machine, K: Keeper<M::Body>> Parts<M, K> {
         ensures { result ≡ nat_lt 0 (length self.now.node.state.pending) }
     {
         self.node.has_pending()
+    }
+
+    /// Whether its node leads.
+    pub fn is_leading(&self) -> bool
+        ensures { result ≡ is_leading self.now.node.state.proposer.role }
+    {
+        self.node.is_leading()
     }
 
     /// No more packets wait for a member than may.

@@ -22,6 +22,7 @@ fn seen_by<M: Machine, K: Keeper<M::Body>>(actor: &Actor<M, K>) -> Seen {
         applied: actor.applied(),
         pending: actor.has_pending(),
         posted: actor.posted(),
+        leads: actor.is_leading(),
     }
 }
 

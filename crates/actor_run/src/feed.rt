@@ -6,13 +6,14 @@ use paxos_node::Event;
 use paxos_packets::NodeSet;
 
 /// What a feed is told when it is asked for an event: from whom the last turn treated a packet, how long the node's log is, whether
-/// entries are pending, and to whom the last turn posted.
+/// entries are pending, to whom the last turn posted, and whether the node leads.
 #[derive(Clone, Copy)]
 pub struct Seen {
     pub from: Option<u8>,
     pub applied: u64,
     pub pending: bool,
     pub posted: NodeSet,
+    pub leads: bool,
 }
 
 /// Where the events of a node come from, and its sayings go.

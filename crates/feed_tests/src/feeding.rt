@@ -40,6 +40,7 @@ fn quiet() -> Seen {
         applied: 0,
         pending: false,
         posted: NodeSet::new(),
+        leads: false,
     }
 }
 

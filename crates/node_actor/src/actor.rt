@@ -1,5 +1,6 @@
 ghost use Rattle.std.specs.Prelude.{◌≡◌, ℕ, [], length, nat_lt, true, false, Some, Err};
 ghost use Rattle.paxos_node.specs.declared.event.Event.TheVariants.{Take, Tick, Start, Suspect};
+ghost use Rattle.paxos_proposer.specs.Proposer.{is_leading};
 ghost use Rattle.replica_machine.specs.Log.{machine_from, Follows};
 ghost use Rattle.actor_parts.specs.declared.fault.ActorFault.TheVariants.{Failed};
 ghost use Rattle.actor_parts.specs.Parts.{IsPrefixOf, IsSound};
@@ -210,6 +211,13 @@ impl<M: Machine, K: Keeper<M::Body>> Actor<M, K> {
         ensures { result ≡ nat_lt 0 (length self.now.node.state.pending) }
     {
         self.parts.has_pending()
+    }
+
+    /// Whether its node leads.
+    pub fn is_leading(&self) -> bool
+        ensures { result ≡ is_leading self.now.node.state.proposer.role }
+    {
+        self.parts.is_leading()
     }
 
     /// Whose packet the last turn treated, if it treated one.

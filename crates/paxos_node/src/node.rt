@@ -8,7 +8,7 @@ ghost use Rattle.paxos_learner.specs.Learned.{Begins};
 ghost use Rattle.paxos_learner.specs.Hearing.{HasRoomFor};
 ghost use Rattle.paxos_proposer.specs.Moves.{promises_in, proposals_in};
 ghost use Rattle.paxos_proposer.specs.State.{HasRoom as HasRoomToPropose};
-ghost use Rattle.paxos_proposer.specs.Proposer.{round_of};
+ghost use Rattle.paxos_proposer.specs.Proposer.{round_of, is_leading};
 ghost use Rattle.paxos_turn.specs.Drafting.{known, with_pending_entry};
 ghost use Rattle.paxos_turn.specs.Front.{IsFront};
 ghost use Rattle.paxos_turn.specs.Turn.{begun};
@@ -184,6 +184,13 @@ impl<B> Node<B> {
         ensures { result ≡ nat_lt 0 (length self.now.state.pending) }
     {
         0 < self.pending.len()
+    }
+
+    /// Whether it leads: whether a majority has promised its ballot under way.
+    pub fn is_leading(&self) -> bool
+        ensures { result ≡ is_leading self.now.state.proposer.role }
+    {
+        self.proposer.is_leading()
     }
 
     /// How often the node was started.
