@@ -1,3 +1,5 @@
+mod Answering
 mod Numbers
 mod Parsing
 mod Spelling
+mod Walking

@@ -1,18 +1,85 @@
 -- What the parser makes of a command line in plain words.
-use Rattle.std.proofs.Common.{◌≡◌, inl, inr, refl, ap, sym, ◌∙◌, subst, ℕ, Bool, true, false, List, [], ◌∷◌, Option, Some, None}
+use Rattle.std.proofs.Common.{◌≡◌, refl, ap, sym, ◌∙◌, subst, ℕ, Bool, true, false, List, [], ◌∷◌, map, Option, Some, None}
 use Rattle.std.proofs.Common.{Result, Ok, Err, codes}
-use Rattle.std.specs.Prelude.{◌⊎◌, ◌==◌, ◌&&◌, ◌||◌, not, bytes_eq, is_some, unwrap_or}
+use Rattle.std.specs.Prelude.{⊤, ◌&&◌, not, bytes_eq, is_some, unwrap_or}
 use Rattle.std.specs.List.{list_any}
+use Rattle.std.proofs.Math.Path.{fun_ext}
 use Rattle.std.proofs.lemmas.Bool.{false≢true, and_parts}
+use Rattle.std.proofs.lemmas.Option.{option_and_then_some, none-some}
 use Rattle.std.proofs.lemmas.Slice.Eq.{bytes_eq-Decides}
 use Rattle.clap.proofs.OnLiterals.{clap_on_literals}
-use Rattle.clap.specs.Words.{Text, takes}
+use Rattle.clap.specs.Walk.{Rule, Text, first_of}
+use Rattle.clap.specs.Simple.{Shape, argument_words, built, built_leaf, inherited, marked_built, with_leaf_noted}
+use Rattle.clap.specs.Takes.{is_valid}
+use Rattle.clap.specs.Words.{takes}
 use Rattle.program_order.specs.declared.order.Order.{Order}
 use Rattle.program_order.specs.declared.usage.UsageFault.{UsageFault}
-use Rattle.program_order.specs.Program.{program}
-use Rattle.program_order.specs.Order.{Asked, Options, Asks, AnswersWords, AnswersAsked, asked_of, asked_in, asked_by, stream_by}
-use Rattle.program_order.specs.Order.{script_by, given_in, is_given, is_name}
+use Rattle.program_order.specs.Program.{program, stream_shape, script_shape, serve_shape}
+use Rattle.program_order.specs.Order.{Asked, Options, Asks, AnswersWords, AnswersAsked, asked_of, asked_in, asked_by}
+use Rattle.program_order.specs.Order.{script_by, serve_by, nodes_in, port_in, key_in, given_in, is_given, is_name}
 use Rattle.program_order.specs.Order.{are_options, option_words, options_of}
+use Rattle.program_order.proofs.Parsing.{program_is_simple}
+use Rattle.program_order.proofs.Walking.{Knows, Known, Plain, Enters, row_of, passes_are, rows_are, enters, takes_words, first_is, used_is}
+
+-- the parser takes the words, and finds what they ask for
+abbrev Takes : List Text → Option Asked → Type 0
+Takes words asked = (takes program words ≡ true) × (asked_in words ≡ asked)
+
+plain_words : (words : List Text) → argument_words program words ≡ words
+unfolding program
+plain_words words = refl
+
+-- ---- what options are
+
+abbrev KnowsAll : List Rule → List Text → Type 0
+KnowsAll rules [] = ⊤
+KnowsAll rules (name ∷ names) = Knows rules name × KnowsAll rules names
+
+same_name : (a b : Text) → bytes_eq a b ≡ true → a ≡ b
+same_name a b h = (bytes_eq-Decides a b).0 h
+
+knows_at : (rules : List Rule) (names : List Text) (name : Text) → KnowsAll rules names → list_any (λ n. bytes_eq name n) names ≡ true
+    → Knows rules name
+knows_at rules [] name k h = absurd (false≢true h)
+knows_at rules (n ∷ ns) name k h = go (bytes_eq name n) refl (knows_at rules ns name k.1)
+  where
+    go : (b : Bool) → bytes_eq name n ≡ b → (list_any (λ n. bytes_eq name n) ns ≡ true → Knows rules name) → Knows rules name
+    go true e f = subst (λ (x : Text). Knows rules x) (sym (same_name name n e)) k.0
+    go false e f = f (rw e at h)
+
+not_true : (b : Bool) → not b ≡ true → b ≡ false
+not_true true h = absurd (false≢true h)
+not_true false h = refl
+
+known : (rules : List Rule) (names : List Text) (os : Options) → KnowsAll rules names → are_options names os ≡ true → Known rules os
+known rules names [] k h = tt
+known rules names (o ∷ os) k h =
+    let p = and_parts (list_any (λ name. bytes_eq o.0 name) names) (is_name o.1 && (not (is_given o.0 os) && are_options names os)) h in
+    let q = and_parts (is_name o.1) (not (is_given o.0 os) && are_options names os) p.1 in
+    let r = and_parts (not (is_given o.0 os)) (are_options names os) q.1 in
+    (knows_at rules names o.0 k p.0, q.0, not_true (is_given o.0 os) r.0, known rules names os k r.1)
+
+-- ---- a subcommand
+
+module _ (name : Text) (names : List Text) (s : Shape) (e : Enters (built program) name s) (plain : Plain s) (k : KnowsAll s.rules names)
+    (os : Options) (asked : Asked) (are : are_options names os ≡ true) (valid : is_valid s (map row_of os) false ≡ true)
+    (is : asked_by name (given_in os) ≡ Some asked) where
+  answered : Takes (name ∷ option_words os) (Some asked)
+  answered =
+      let of = known s.rules names os k are in
+      let words = name ∷ option_words os in
+      let passes = takes_words (built program) name s e (option_words os) (passes_are s plain os of valid) in
+      let found = enters (built program) name s e (option_words os) in
+      let values : (λ (id : Text). first_of id (map row_of os)) ≡ given_in os = fun_ext (λ id. first_is os id) in (
+        rw (program_is_simple, plain_words words, passes) refl,
+        rw (plain_words words, found, rows_are s plain os of) (ap (asked_by name) values ∙ is),
+      )
+
+-- ---- the program's subcommands
+
+-- a subcommand as it is once the parser has built it
+abbrev leaf : Shape → Shape
+leaf s = built_leaf (inherited (with_leaf_noted (marked_built program.top)) s)
 
 abbrev realm : Text
 realm = codes "realm"
@@ -20,207 +87,136 @@ realm = codes "realm"
 abbrev nodes : Text
 nodes = codes "nodes"
 
--- the parser takes the words, and finds what they ask for
-abbrev Takes : List Text → Option Asked → Type 0
-Takes words asked = (takes program words ≡ true) × (asked_in words ≡ asked)
+abbrev port : Text
+port = codes "port"
 
--- ---- by the options that are given
+abbrev key : Text
+key = codes "key"
 
-no_name : (value : Text) → is_name value ≡ true → (P : Text → Type 0) → ((x : ℕ) (xs : List ℕ) → (x == 45) ≡ false → P (x ∷ xs)) → P value
-no_name [] h P f = absurd (false≢true h)
-no_name (x ∷ xs) h P f = go (x == 45) refl
-  where
-    go : (b : Bool) → (x == 45) ≡ b → P (x ∷ xs)
-    go true e = let bad : is_name (x ∷ xs) ≡ false = rw e refl in absurd (false≢true (sym bad ∙ h))
-    go false e = f x xs e
+abbrev dir : Text
+dir = codes "dir"
 
-stream_bare : Takes (codes "stream" ∷ option_words []) (stream_by (given_in []))
+stream_enters : Enters (built program) (codes "stream") (leaf stream_shape)
 unfolding program clap_on_literals
-stream_bare = (refl, refl)
+stream_enters = record { walks = refl; passes = refl; found = refl; is_called = refl; default_pass = refl; valid = refl }
 
-stream_named : (x : ℕ) (xs : List ℕ) → (x == 45) ≡ false
-    → Takes (codes "stream" ∷ option_words ((realm, x ∷ xs) ∷ [])) (stream_by (given_in ((realm, x ∷ xs) ∷ [])))
+script_enters : Enters (built program) (codes "script") (leaf script_shape)
 unfolding program clap_on_literals
-stream_named x xs h = (rw h (rw h refl), rw h (rw h (rw h refl)))
+script_enters = record { walks = refl; passes = refl; found = refl; is_called = refl; default_pass = refl; valid = refl }
 
-script_bare : (x : ℕ) (xs : List ℕ) → (x == 45) ≡ false
-    → Takes (codes "script" ∷ option_words ((nodes, x ∷ xs) ∷ [])) (script_by (given_in ((nodes, x ∷ xs) ∷ [])))
+serve_enters : Enters (built program) (codes "serve") (leaf serve_shape)
 unfolding program clap_on_literals
-script_bare x xs h = (rw h (rw h refl), rw h (rw h refl))
+serve_enters = record { walks = refl; passes = refl; found = refl; is_called = refl; default_pass = refl; valid = refl }
 
-script_named : (x y : ℕ) (xs ys : List ℕ) → (x == 45) ≡ false → (y == 45) ≡ false
-    → Takes (codes "script" ∷ option_words ((nodes, x ∷ xs) ∷ (realm, y ∷ ys) ∷ []))
-    (script_by (given_in ((nodes, x ∷ xs) ∷ (realm, y ∷ ys) ∷ [])))
-unfolding program clap_on_literals
-script_named x y xs ys h k = (rw h (rw h (rw k (rw k refl))), rw h (rw h (rw k (rw k (rw k refl)))))
+stream_plain : Plain (leaf stream_shape)
+unfolding program
+stream_plain = record { undefaulted = refl; default_pass = refl }
 
-named_script : (x y : ℕ) (xs ys : List ℕ) → (x == 45) ≡ false → (y == 45) ≡ false
-    → Takes (codes "script" ∷ option_words ((realm, x ∷ xs) ∷ (nodes, y ∷ ys) ∷ []))
-    (script_by (given_in ((realm, x ∷ xs) ∷ (nodes, y ∷ ys) ∷ [])))
-unfolding program clap_on_literals
-named_script x y xs ys h k = (rw h (rw h (rw k (rw k refl))), rw h (rw h (rw k (rw k (rw h refl)))))
+script_plain : Plain (leaf script_shape)
+unfolding program
+script_plain = record { undefaulted = refl; default_pass = refl }
 
--- ---- what options are
+serve_plain : Plain (leaf serve_shape)
+unfolding program
+serve_plain = record { undefaulted = refl; default_pass = refl }
 
-record First (names : List Text) (o : Text × Text) (os : Options) : Type 0 where
-  known : list_any (λ name. bytes_eq o.0 name) names ≡ true
-  valued : is_name o.1 ≡ true
-  once : is_given o.0 os ≡ false
-  others : are_options names os ≡ true
+knows_stream : KnowsAll (leaf stream_shape).rules (realm ∷ [])
+unfolding program
+knows_stream = (record { needed = false; spelled = refl; no_end = refl; by_long = refl; by_id = refl }, tt)
 
-not_true : (b : Bool) → not b ≡ true → b ≡ false
-not_true true h = absurd (false≢true h)
-not_true false h = refl
+knows_script : KnowsAll (leaf script_shape).rules (nodes ∷ realm ∷ [])
+unfolding program
+knows_script = (
+  record { needed = true; spelled = refl; no_end = refl; by_long = refl; by_id = refl },
+  (record { needed = false; spelled = refl; no_end = refl; by_long = refl; by_id = refl }, tt),
+)
 
-or_false : (a b : Bool) → (a || b) ≡ false → b ≡ false
-or_false true b h = absurd (false≢true (sym h))
-or_false false b h = h
+knows_serve : KnowsAll (leaf serve_shape).rules (nodes ∷ port ∷ key ∷ dir ∷ realm ∷ [])
+unfolding program
+knows_serve = (
+  record { needed = true; spelled = refl; no_end = refl; by_long = refl; by_id = refl },
+  (
+    record { needed = true; spelled = refl; no_end = refl; by_long = refl; by_id = refl },
+    (
+      record { needed = true; spelled = refl; no_end = refl; by_long = refl; by_id = refl },
+      (
+        record { needed = false; spelled = refl; no_end = refl; by_long = refl; by_id = refl },
+        (record { needed = false; spelled = refl; no_end = refl; by_long = refl; by_id = refl }, tt),
+      ),
+    ),
+  ),
+)
 
-first : (names : List Text) (o : Text × Text) (os : Options) → are_options names (o ∷ os) ≡ true → First names o os
-first names o os h =
-    let p = and_parts (list_any (λ name. bytes_eq o.0 name) names) (is_name o.1 && (not (is_given o.0 os) && are_options names os)) h in
-    let q = and_parts (is_name o.1) (not (is_given o.0 os) && are_options names os) p.1 in
-    let r = and_parts (not (is_given o.0 os)) (are_options names os) q.1 in
-    record { known = p.0; valued = q.0; once = not_true (is_given o.0 os) r.0; others = r.1 }
+-- ---- what is required is given
 
-same_name : (a b : Text) → bytes_eq a b ≡ true → a ≡ b
-same_name a b h = (bytes_eq-Decides a b).0 h
+from_nodes : (given : Option Text) (n : ℕ) → nodes_in given ≡ Some n → is_some given ≡ true
+from_nodes None n h = absurd (none-some n h)
+from_nodes (Some text) n h = refl
 
-is_realm : (name : Text) → (bytes_eq name realm || false) ≡ true → name ≡ realm
-is_realm name h = go (bytes_eq name realm) refl
-  where
-    go : (b : Bool) → bytes_eq name realm ≡ b → name ≡ realm
-    go true e = same_name name realm e
-    go false e = let bad : (bytes_eq name realm || false) ≡ false = rw e refl in absurd (false≢true (sym bad ∙ h))
+from_port : (given : Option Text) (n : ℕ) → port_in given ≡ Some n → is_some given ≡ true
+from_port None n h = absurd (none-some n h)
+from_port (Some text) n h = refl
 
-is_either : (name : Text) → (bytes_eq name nodes || (bytes_eq name realm || false)) ≡ true → (name ≡ nodes) ⊎ (name ≡ realm)
-is_either name h = go (bytes_eq name nodes) refl
-  where
-    go : (b : Bool) → bytes_eq name nodes ≡ b → (name ≡ nodes) ⊎ (name ≡ realm)
-    go true e = inl (same_name name nodes e)
-    go false e = inr (is_realm name (rw e at h))
+from_key : (given : Option Text) (n : ℕ) → key_in given ≡ Some n → is_some given ≡ true
+from_key None n h = absurd (none-some n h)
+from_key (Some text) n h = refl
 
--- no name stands twice
-clash : (o p : Text × Text) (os : Options) → is_given o.0 (p ∷ os) ≡ false → p.0 ≡ o.0 → ⊥
-clash o p os h e =
-    let t : is_given o.0 (p ∷ os) ≡ true = rw ((bytes_eq-Decides p.0 o.0).1 e) refl in
-    false≢true (sym h ∙ t)
+module _ (os : Options) (asked : Asked) where
+  stream_valid : is_valid (leaf stream_shape) (map row_of os) false ≡ true
+  unfolding program
+  stream_valid = refl
 
--- ---- each subcommand
+  script_valid : script_by (given_in os) ≡ Some asked → is_valid (leaf script_shape) (map row_of os) false ≡ true
+  unfolding program
+  script_valid h = option_and_then_some _ (nodes_in (given_in os nodes)) asked h
+      (λ n is rest. rw (used_is os nodes ∙ from_nodes (given_in os nodes) n is) refl)
 
-taken : (words : List Text) (asked : Asked) (found : Option Asked) → Takes words found → found ≡ Some asked → Takes words (Some asked)
-taken words asked found t e = (t.0, t.1 ∙ e)
-
-unasked : (asked : Asked) → None ≡ Some asked → ⊥
-unasked asked e = let bad : false ≡ true = ap is_some e in false≢true bad
-
-stream_one : (o : Text × Text) (asked : Asked) → o.0 ≡ realm → is_name o.1 ≡ true → stream_by (given_in (o ∷ [])) ≡ Some asked
-    → Takes (codes "stream" ∷ option_words (o ∷ [])) (Some asked)
-stream_one o asked n v =
-    let P : Text → Text → Type 0 = λ name value. stream_by (given_in ((name, value) ∷ [])) ≡ Some asked
-    → Takes (codes "stream" ∷ option_words ((name, value) ∷ [])) (Some asked) in
-    subst (λ (name : Text). P name o.1) (sym n)
-    (no_name o.1 v (P realm) (λ x xs h e. taken _ asked _ (stream_named x xs h) e))
-
-stream_asks : (options : Options) (asked : Asked) → are_options (realm ∷ []) options ≡ true → stream_by (given_in options) ≡ Some asked
-    → Takes (codes "stream" ∷ option_words options) (Some asked)
-stream_asks [] asked ok e = taken _ asked _ stream_bare e
-stream_asks (o ∷ []) asked ok e =
-    let f = first (realm ∷ []) o [] ok in stream_one o asked (is_realm o.0 f.known) f.valued e
-stream_asks (o ∷ (p ∷ os)) asked ok e =
-    let f = first (realm ∷ []) o (p ∷ os) ok in
-    let g = first (realm ∷ []) p os f.others in
-    absurd (clash o p os f.once (is_realm p.0 g.known ∙ sym (is_realm o.0 f.known)))
-
-abbrev both : List Text
-both = nodes ∷ realm ∷ []
-
-script_one : (o : Text × Text) (asked : Asked) → is_name o.1 ≡ true → script_by (given_in (o ∷ [])) ≡ Some asked
-    → (o.0 ≡ nodes) ⊎ (o.0 ≡ realm)
-    → Takes (codes "script" ∷ option_words (o ∷ [])) (Some asked)
-script_one o asked v e (inl n) =
-    let P : Text → Text → Type 0 = λ name value. script_by (given_in ((name, value) ∷ [])) ≡ Some asked
-    → Takes (codes "script" ∷ option_words ((name, value) ∷ [])) (Some asked) in
-    subst (λ (name : Text). P name o.1) (sym n)
-    (no_name o.1 v (P nodes) (λ x xs h d. taken _ asked _ (script_bare x xs h) d)) e
-script_one o asked v e (inr n) =
-    let bad : None ≡ Some asked = subst (λ (name : Text). script_by (given_in ((name, o.1) ∷ [])) ≡ Some asked) n e in
-    absurd (unasked asked bad)
-
-module _ (asked : Asked) where
-  abbrev Answered : Text → Text → Text → Text → Type 0
-  Answered n v m w = script_by (given_in ((n, v) ∷ (m, w) ∷ [])) ≡ Some asked
-      → Takes (codes "script" ∷ option_words ((n, v) ∷ (m, w) ∷ [])) (Some asked)
-
-  nodes_then_realm : (v w : Text) → is_name v ≡ true → is_name w ≡ true → Answered nodes v realm w
-  nodes_then_realm v w is_v is_w =
-      no_name v is_v (λ a. Answered nodes a realm w) (λ x xs h.
-      no_name w is_w (λ b. Answered nodes (x ∷ xs) realm b) (λ y ys k e. taken _ asked _ (script_named x y xs ys h k) e))
-
-  realm_then_nodes : (v w : Text) → is_name v ≡ true → is_name w ≡ true → Answered realm v nodes w
-  realm_then_nodes v w is_v is_w =
-      no_name v is_v (λ a. Answered realm a nodes w) (λ x xs h.
-      no_name w is_w (λ b. Answered realm (x ∷ xs) nodes b) (λ y ys k e. taken _ asked _ (named_script x y xs ys h k) e))
-
-  script_two : (o p : Text × Text) → is_name o.1 ≡ true → is_name p.1 ≡ true → (p.0 ≡ o.0 → ⊥) → (o.0 ≡ nodes) ⊎ (o.0 ≡ realm)
-      → (p.0 ≡ nodes) ⊎ (p.0 ≡ realm) → Answered o.0 o.1 p.0 p.1
-  script_two o p v w differ (inl n) (inl m) = absurd (differ (m ∙ sym n))
-  script_two o p v w differ (inl n) (inr m) =
-      subst (λ (a : Text). Answered a o.1 p.0 p.1) (sym n)
-      (subst (λ (b : Text). Answered nodes o.1 b p.1) (sym m) (nodes_then_realm o.1 p.1 v w))
-  script_two o p v w differ (inr n) (inl m) =
-      subst (λ (a : Text). Answered a o.1 p.0 p.1) (sym n)
-      (subst (λ (b : Text). Answered realm o.1 b p.1) (sym m) (realm_then_nodes o.1 p.1 v w))
-  script_two o p v w differ (inr n) (inr m) = absurd (differ (m ∙ sym n))
-
--- of three names two are the same
-three : (a b c : Text) → (b ≡ a → ⊥) → (c ≡ a → ⊥) → (c ≡ b → ⊥) → (a ≡ nodes) ⊎ (a ≡ realm) → (b ≡ nodes) ⊎ (b ≡ realm)
-    → (c ≡ nodes) ⊎ (c ≡ realm) → ⊥
-three a b c ba ca cb (inl x) (inl y) z = ba (y ∙ sym x)
-three a b c ba ca cb (inr x) (inr y) z = ba (y ∙ sym x)
-three a b c ba ca cb (inl x) (inr y) (inl z) = ca (z ∙ sym x)
-three a b c ba ca cb (inl x) (inr y) (inr z) = cb (z ∙ sym y)
-three a b c ba ca cb (inr x) (inl y) (inl z) = cb (z ∙ sym y)
-three a b c ba ca cb (inr x) (inl y) (inr z) = ca (z ∙ sym x)
-
-script_asks : (options : Options) (asked : Asked) → are_options both options ≡ true → script_by (given_in options) ≡ Some asked
-    → Takes (codes "script" ∷ option_words options) (Some asked)
-script_asks [] asked ok e = absurd (unasked asked e)
-script_asks (o ∷ []) asked ok e =
-    let f = first both o [] ok in script_one o asked f.valued e (is_either o.0 f.known)
-script_asks (o ∷ (p ∷ [])) asked ok e =
-    let f = first both o (p ∷ []) ok in
-    let g = first both p [] f.others in
-    script_two asked o p f.valued g.valued (clash o p [] f.once) (is_either o.0 f.known) (is_either p.0 g.known) e
-script_asks (o ∷ (p ∷ (q ∷ os))) asked ok e =
-    let f = first both o (p ∷ (q ∷ os)) ok in
-    let g = first both p (q ∷ os) f.others in
-    let i = first both q os g.others in
-    absurd (three o.0 p.0 q.0 (clash o p (q ∷ os) f.once)
-    (clash o q os (or_false (bytes_eq p.0 o.0) (is_given o.0 (q ∷ os)) f.once)) (clash p q os g.once)
-    (is_either o.0 f.known) (is_either p.0 g.known) (is_either q.0 i.known))
+  serve_valid : serve_by (given_in os) ≡ Some asked → is_valid (leaf serve_shape) (map row_of os) false ≡ true
+  unfolding program
+  serve_valid h = option_and_then_some _ (nodes_in (given_in os nodes)) asked h (λ n is_n g.
+      option_and_then_some _ (port_in (given_in os port)) asked g (λ p is_p f.
+      option_and_then_some _ (key_in (given_in os key)) asked f (λ k is_k rest. rw (
+        used_is os nodes ∙ from_nodes (given_in os nodes) n is_n,
+        used_is os port ∙ from_port (given_in os port) p is_p,
+        used_is os key ∙ from_key (given_in os key) k is_k,
+      ) refl)))
 
 -- ---- all subcommands
 
-asks : (name : Text) (options : Options) (asked : Asked) → are_options (options_of name) options ≡ true
-    → asked_by name (given_in options) ≡ Some asked
-    → Takes (name ∷ option_words options) (Some asked)
-asks name options asked ok e = go (bytes_eq name (codes "stream")) (bytes_eq name (codes "script")) refl refl
-  where
-    go : (a b : Bool) → bytes_eq name (codes "stream") ≡ a → bytes_eq name (codes "script") ≡ b
-        → Takes (name ∷ option_words options) (Some asked)
-    go true b s t =
-        let is = same_name name (codes "stream") s in
-        subst (λ (n : Text). Takes (n ∷ option_words options) (Some asked)) (sym is) (stream_asks options asked (rw s at ok) (rw s at e))
-    go false true s t =
-        let is = same_name name (codes "script") t in
-        subst (λ (n : Text). Takes (n ∷ option_words options) (Some asked)) (sym is)
-        (script_asks options asked (rw (s, t) at ok) (rw (s, t) at e))
-    go false false s t = absurd (unasked asked (rw (s, t) at e))
+module _ (options : Options) (asked : Asked) where
+  abbrev Answered : Text → Type 0
+  Answered name = are_options (options_of name) options ≡ true → asked_by name (given_in options) ≡ Some asked
+      → Takes (name ∷ option_words options) (Some asked)
+
+  stream_asks : Answered (codes "stream")
+  stream_asks are is = answered (codes "stream") (realm ∷ []) (leaf stream_shape) stream_enters stream_plain knows_stream
+      options asked are (stream_valid options asked) is
+
+  script_asks : Answered (codes "script")
+  script_asks are is = answered (codes "script") (nodes ∷ realm ∷ []) (leaf script_shape) script_enters script_plain knows_script
+      options asked are (script_valid options asked is) is
+
+  serve_asks : Answered (codes "serve")
+  serve_asks are is = answered (codes "serve") (nodes ∷ port ∷ key ∷ dir ∷ realm ∷ []) (leaf serve_shape) serve_enters serve_plain knows_serve
+      options asked are (serve_valid options asked is) is
+
+  asks : (name : Text) → Answered name
+  asks name are is =
+      go (bytes_eq name (codes "stream")) (bytes_eq name (codes "script")) (bytes_eq name (codes "serve")) refl refl refl
+    where
+      called : (other : Text) → bytes_eq name other ≡ true → Answered other → Takes (name ∷ option_words options) (Some asked)
+      called other e f = subst (λ (n : Text). Answered n) (sym (same_name name other e)) f are is
+
+      go : (a b c : Bool) → bytes_eq name (codes "stream") ≡ a → bytes_eq name (codes "script") ≡ b → bytes_eq name (codes "serve") ≡ c
+          → Takes (name ∷ option_words options) (Some asked)
+      go true b c s t u = called (codes "stream") s stream_asks
+      go false true c s t u = called (codes "script") t script_asks
+      go false false true s t u = called (codes "serve") u serve_asks
+      go false false false s t u = absurd (none-some asked (rw (s, t, u) at is))
 
 asks_taken : (words : List Text) (asked : Asked) → Asks words asked → Takes words (Some asked)
 asks_taken words asked a =
-    subst (λ (ws : List Text). Takes ws (Some asked)) (sym a.are_words) (asks a.name a.options asked a.are_options a.is_asked)
+    subst (λ (ws : List Text). Takes ws (Some asked)) (sym a.are_words) (asks a.options asked a.name a.are_options a.is_asked)
 
 pub answers_asked : (words : List Text) (result : Result Order UsageFault) → AnswersWords words result → AnswersAsked words result
 answers_asked words (Ok order) h asked a =

@@ -1,12 +1,12 @@
 -- Which words are an order, and what it asks for.
-use Rattle.std.specs.Prelude.{◌≡◌, ℕ, ◌≤◌, Bool, true, false, not, ◌&&◌, ◌==◌, nat_le, List, [], ◌∷◌, Option, Some, None, is_some}
-use Rattle.std.specs.Prelude.{if◌then◌else◌}
+use Rattle.std.specs.Prelude.{◌≡◌, ℕ, ◌<◌, ◌≤◌, ◌^◌, Bool, true, false, not, ◌&&◌, ◌==◌, nat_le, List, [], ◌∷◌, Option, Some, None, is_some}
+use Rattle.std.specs.Prelude.{if◌then◌else◌, IfSome}
 use Rattle.std.specs.Prelude.{codes, bytes_eq, find, option_map, option_and_then, MatchResult, Result, Ok, Err}
 use Rattle.std.specs.List.{list_any}
 use Rattle.std.specs.String.{string_bytes}
 use Rattle.clap.specs.Words.{Row, Text, first_of, subcommand_of, takes}
 use Rattle.program_order.specs.declared.order.Order.{Order}
-use Rattle.program_order.specs.declared.order.Order.TheVariants.{Stream, Script}
+use Rattle.program_order.specs.declared.order.Order.TheVariants.{Stream, Script, Serve}
 use Rattle.program_order.specs.declared.usage.UsageFault.{UsageFault}
 use Rattle.program_order.specs.declared.usage.UsageFault.TheVariants.{Memory}
 use Rattle.program_order.specs.Number.{number_in}
@@ -16,10 +16,12 @@ use Rattle.program_order.specs.Program.{program}
 pub data Asked : Type 0 where
   stream : (realm : Text) → Asked
   script : (nodes : ℕ) (realm : Text) → Asked
+  serve : (nodes port key : ℕ) (dir : Option Text) (realm : Text) → Asked
 
 abbrev pub asked_of : Order → Asked
 asked_of (Stream realm) = stream (string_bytes realm)
 asked_of (Script members realm) = script members (string_bytes realm)
+asked_of (Serve members port key dir realm) = serve members port key (option_map (λ s. string_bytes s) dir) (string_bytes realm)
 
 -- ---- values of options
 
@@ -46,6 +48,22 @@ nodes_of count = if are_nodes count then Some count else None
 abbrev pub nodes_in : Option Text → Option ℕ
 nodes_in given = option_and_then nodes_of (option_and_then (number_in 255) given)
 
+abbrev pub port_of : ℕ → Option ℕ
+port_of port = if nat_le 1024 port then Some port else None
+
+-- a port from 1024 to 65529, so that the ports of seven nodes are ports
+abbrev pub port_in : Option Text → Option ℕ
+port_in given = option_and_then port_of (option_and_then (number_in 65529) given)
+
+-- a number of 64 bits
+abbrev pub key_in : Option Text → Option ℕ
+key_in given = option_and_then (number_in 18446744073709551615) given
+
+-- the folder that is named, if one is
+abbrev pub dir_in : Option Text → Option (Option Text)
+dir_in None = Some None
+dir_in (Some text) = option_map (λ name. Some name) (name_in text)
+
 -- ---- what a subcommand asks for, by the value that is given for each option
 
 abbrev pub stream_by : (Text → Option Text) → Option Asked
@@ -55,11 +73,18 @@ abbrev pub script_by : (Text → Option Text) → Option Asked
 script_by given =
     option_and_then (λ nodes. option_map (script nodes) (realm_in (given (codes "realm")))) (nodes_in (given (codes "nodes")))
 
+abbrev pub serve_by : (Text → Option Text) → Option Asked
+serve_by given =
+    option_and_then (λ nodes. option_and_then (λ port. option_and_then (λ key. option_and_then (λ dir.
+    option_map (serve nodes port key dir) (realm_in (given (codes "realm")))) (dir_in (given (codes "dir"))))
+    (key_in (given (codes "key")))) (port_in (given (codes "port")))) (nodes_in (given (codes "nodes")))
+
 abbrev pub asked_by : Text → (Text → Option Text) → Option Asked
 asked_by name given =
     if bytes_eq name (codes "stream") then stream_by given
     else (if bytes_eq name (codes "script") then script_by given
-    else None)
+    else (if bytes_eq name (codes "serve") then serve_by given
+    else None))
 
 -- by what the parser found for the subcommand's options
 abbrev pub asked_in_rows : Text → List Row → Option Asked
@@ -70,10 +95,20 @@ asked_in words = option_and_then (λ met. asked_in_rows met.0 met.1) (subcommand
 
 -- ---- what an answer says
 
+abbrev pub IsFolder : Option Text → Type 0
+IsFolder dir = IfSome dir (λ name. is_name name ≡ true)
+
 -- each option has an allowed value
 abbrev pub IsAllowed : Asked → Type 0
 IsAllowed (stream realm) = is_name realm ≡ true
 IsAllowed (script nodes realm) = (3 ≤ nodes) × (nodes ≤ 7) × (is_name realm ≡ true)
+IsAllowed (serve nodes port key dir realm) = (3 ≤ nodes) × (nodes ≤ 7) × (1024 ≤ port) × (port ≤ 65529) × (key < 2 ^ 64)
+    × IsFolder dir × (is_name realm ≡ true)
+
+-- an option's value is the one that is given; where an allowed one is, only memory keeps it from being answered
+abbrev pub Gives : {T : Type 0} → Option T → Result T UsageFault → Type 0
+Gives given (Ok value) = given ≡ Some value
+Gives given (Err fault) = is_some given ≡ true → fault ≡ Memory
 
 -- the order is what is asked for; where something is, only memory keeps it from being answered
 abbrev pub Answers : Option Asked → Result Order UsageFault → Type 0
@@ -110,7 +145,8 @@ abbrev pub options_of : Text → List Text
 options_of name =
     if bytes_eq name (codes "stream") then codes "realm" ∷ []
     else (if bytes_eq name (codes "script") then codes "nodes" ∷ codes "realm" ∷ []
-    else [])
+    else (if bytes_eq name (codes "serve") then codes "nodes" ∷ codes "port" ∷ codes "key" ∷ codes "dir" ∷ codes "realm" ∷ []
+    else []))
 
 -- the words are a subcommand's name, followed by its required options once and its others at most once, in any order, each with an
 -- allowed value; and this is what they ask for

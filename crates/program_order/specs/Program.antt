@@ -7,17 +7,26 @@ use Rattle.clap.specs.Words.{App, Rule, Shape, new_app, new_rule, with_rule, wit
 abbrev pub option_rule : List ℕ → Rule
 option_rule name = record (new_rule name) { long = Some name; action = Some Set; value_names = 1 }
 
-abbrev pub realm_rule : Rule
-realm_rule = option_rule (codes "realm")
+-- one that has to be given
+abbrev pub required_rule : List ℕ → Rule
+required_rule name = record (option_rule name) { required = true }
 
-abbrev pub nodes_rule : Rule
-nodes_rule = record (option_rule (codes "nodes")) { required = true }
+abbrev pub with_option : List ℕ → App → App
+with_option name a = with_rule a (option_rule name)
+
+abbrev pub with_required : List ℕ → App → App
+with_required name a = with_rule a (required_rule name)
 
 abbrev pub stream_shape : Shape
-stream_shape = (with_rule (new_app (codes "stream")) realm_rule).top
+stream_shape = (with_option (codes "realm") (new_app (codes "stream"))).top
 
 abbrev pub script_shape : Shape
-script_shape = (with_rule (with_rule (new_app (codes "script")) nodes_rule) realm_rule).top
+script_shape = (with_option (codes "realm") (with_required (codes "nodes") (new_app (codes "script")))).top
+
+abbrev pub serve_shape : Shape
+serve_shape =
+    (with_option (codes "realm") (with_option (codes "dir")
+    (with_required (codes "key") (with_required (codes "port") (with_required (codes "nodes") (new_app (codes "serve"))))))).top
 
 abbrev pub top_shape : Shape
 top_shape = record ((new_app (codes "wampd")).top) {
@@ -28,4 +37,5 @@ top_shape = record ((new_app (codes "wampd")).top) {
 }
 
 unfoldable pub program : App
-program = with_subcommand (with_subcommand (record (new_app (codes "wampd")) { top = top_shape }) stream_shape) script_shape
+program = with_subcommand (with_subcommand (with_subcommand (record (new_app (codes "wampd")) { top = top_shape })
+    stream_shape) script_shape) serve_shape

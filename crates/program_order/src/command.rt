@@ -1,7 +1,7 @@
 // The program's command line, as its parser reads it.
-ghost use Rattle.std.specs.Prelude.{◌≡◌, false, IfOk};
+ghost use Rattle.std.specs.Prelude.{◌≡◌, false, IfOk, codes};
 ghost use Rattle.clap.specs.Words.{app_of, rule_of};
-ghost use Rattle.program_order.specs.Program.{option_rule, realm_rule, nodes_rule, program};
+ghost use Rattle.program_order.specs.Program.{option_rule, required_rule, program};
 
 use clap::{Arg, ArgAction, Command};
 use std::alloc::{AllocError, Global};
@@ -16,12 +16,24 @@ const STREAM: &str =
 const SCRIPT: &str =
     "Plays a cluster's schedule, one event a line on standard input, and writes what became of it";
 
+const SERVE: &str =
+    "Runs a cluster whose nodes clients connect to by RawSocket and JSON, until standard input ends";
+
+// How a cluster is run, for the help of its subcommand.
+const EXAMPLE: &str = "\
+Example: three nodes at 127.0.0.1:9000, 127.0.0.1:9001 and 127.0.0.1:9002, whose rows are kept in the folder data.
+They run until standard input ends (Ctrl-D); started again in the same way, they go on from their rows.
+
+  mkdir data
+  wampd serve --nodes 3 --port 9000 --key 7 --dir data";
+
 // How the program ends, for its help.
 const STATUSES: &str = "\
 Exit status:
-  0  the client ended, or was told goodbye; the script was played
+  0  the client ended, or was told goodbye; the script was played; the cluster's standard input ended
   2  the command line is wrong
   3  a line of the script is no event
+  4  a node of the cluster failed; docs/PROTOCOL.md has the numbers of its faults
   5  no memory is left
   6  the transport failed, or nothing can be written; docs/PROTOCOL.md has the numbers of its faults";
 
@@ -36,6 +48,14 @@ pub(crate) fn command<'a>(alloc: Global) -> Result<Command<'a>, AllocError>
         .about(SCRIPT)
         .arg(nodes_arg(alloc))?
         .arg(realm_arg(alloc))?;
+    let serve = Command::new(alloc, "serve")
+        .about(SERVE)
+        .after_help(EXAMPLE)
+        .arg(nodes_arg(alloc))?
+        .arg(port_arg(alloc))?
+        .arg(key_arg(alloc))?
+        .arg(dir_arg(alloc))?
+        .arg(realm_arg(alloc))?;
     let program = Command::new(alloc, "wampd")
         .about("A WAMP router (RawSocket, JSON)")
         .version(VERSION)
@@ -44,11 +64,14 @@ pub(crate) fn command<'a>(alloc: Global) -> Result<Command<'a>, AllocError>
         .bin_name("wampd")?
         .disable_help_subcommand(true)
         .subcommand_required(true);
-    program.subcommand(stream)?.subcommand(script)
+    program
+        .subcommand(stream)?
+        .subcommand(script)?
+        .subcommand(serve)
 }
 
 fn realm_arg<'a>(alloc: Global) -> Arg<'a>
-    ensures rule { rule_of result ≡ realm_rule }
+    ensures rule { rule_of result ≡ option_rule (codes "realm") }
     ensures local { result.global ≡ false }
 {
     option_arg(
@@ -60,7 +83,7 @@ fn realm_arg<'a>(alloc: Global) -> Arg<'a>
 }
 
 fn nodes_arg<'a>(alloc: Global) -> Arg<'a>
-    ensures rule { rule_of result ≡ nodes_rule }
+    ensures rule { rule_of result ≡ required_rule (codes "nodes") }
     ensures local { result.global ≡ false }
 {
     option_arg(
@@ -70,6 +93,44 @@ fn nodes_arg<'a>(alloc: Global) -> Arg<'a>
         "How many nodes the cluster has, 3 to 7",
     )
     .required(true)
+}
+
+fn port_arg<'a>(alloc: Global) -> Arg<'a>
+    ensures rule { rule_of result ≡ required_rule (codes "port") }
+    ensures local { result.global ≡ false }
+{
+    option_arg(
+        alloc,
+        "port",
+        "P",
+        "The port of node 1, 1024 to 65529; node I listens on 127.0.0.1 at port P+I-1",
+    )
+    .required(true)
+}
+
+fn key_arg<'a>(alloc: Global) -> Arg<'a>
+    ensures rule { rule_of result ≡ required_rule (codes "key") }
+    ensures local { result.global ≡ false }
+{
+    option_arg(
+        alloc,
+        "key",
+        "K",
+        "The key of the cluster's random draws, 0 to 18446744073709551615",
+    )
+    .required(true)
+}
+
+fn dir_arg<'a>(alloc: Global) -> Arg<'a>
+    ensures rule { rule_of result ≡ option_rule (codes "dir") }
+    ensures local { result.global ≡ false }
+{
+    option_arg(
+        alloc,
+        "dir",
+        "FOLDER",
+        "The folder that keeps the nodes' rows, which has to be there [default: they are kept in memory]",
+    )
 }
 
 // An option with a value.

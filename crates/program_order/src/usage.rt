@@ -12,10 +12,15 @@ use thiserror::Error;
 const USAGE: &str = "\
 Usage: wampd stream [--realm NAME]
        wampd script --nodes N [--realm NAME]
+       wampd serve --nodes N --port P --key K [--dir FOLDER] [--realm NAME]
 
   stream        serves one client: its RawSocket octets on standard input, the router's on standard output
   script        plays a cluster's schedule, one event a line on standard input, and writes what became of it
+  serve         runs a cluster whose nodes clients connect to, until standard input ends
   --nodes N     how many nodes the cluster has, 3 to 7
+  --port P      the port of node 1, 1024 to 65529; node I listens at port P+I-1
+  --key K       the key of the cluster's random draws, 0 to 18446744073709551615
+  --dir FOLDER  the folder that keeps the nodes' rows; in memory if none is named
   --realm NAME  the realm that is served; realm1 if none is named
 
 For more information, try 'wampd --help'.";
