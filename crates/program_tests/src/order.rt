@@ -12,7 +12,7 @@ fn words_of(alloc: Global, line: &str) -> Result<Vec<String>, AllocError> {
 }
 
 // The order in words, or the status of the fault.
-fn read(alloc: Global, line: &str) -> Result<String, Fail> {
+pub(crate) fn read(alloc: Global, line: &str) -> Result<String, Fail> {
     match order_of(alloc, &words_of(alloc, line)?) {
         Ok(order) => told(alloc, &order),
         Err(fault) => Ok(format!(in alloc; "{}", fault.status())?),
@@ -24,6 +24,19 @@ fn told(alloc: Global, order: &Order) -> Result<String, Fail> {
         Order::Stream { realm } => Ok(format!(in alloc; "stream {realm}")?),
         Order::Script { members, realm } => {
             Ok(format!(in alloc; "script {} {realm}", members.count())?)
+        }
+        Order::Serve {
+            members,
+            port,
+            key,
+            dir,
+            realm,
+        } => {
+            let dir = match dir {
+                Some(name) => name.as_str(),
+                None => "-",
+            };
+            Ok(format!(in alloc; "serve {} {port} {key} {dir} {realm}", members.count())?)
         }
     }
 }
@@ -42,7 +55,6 @@ const LINES: &[(&str, &str)] = &[
     ("stream --realm a.b", "stream a.b"),
     ("stream --realm=a.b", "stream a.b"),
     ("", "2"),
-    ("serve", "2"),
     ("stream --realm", "2"),
     ("stream --realm -x", "2"),
     ("stream --realm=-x", "2"),
@@ -96,10 +108,30 @@ fn says_what_may_have_been_meant(rt: HostRuntime) -> Result<(), Fail> {
             "tip: a similar argument exists: '--realm'",
         ),
         (
-            "serve",
-            "error: unrecognized subcommand 'serve'\n\nUsage: wampd stream [--realm NAME]\n",
+            "help",
+            "error: unrecognized subcommand 'help'\n\nUsage: wampd stream [--realm NAME]\n",
         ),
         ("script --nodes 8", "error: a cluster has 3 to 7 nodes"),
+        (
+            "serve --nodes 8 --port 9000 --key 7",
+            "error: a cluster has 3 to 7 nodes",
+        ),
+        (
+            "serve --nodes 3 --port 1023 --key 7",
+            "error: a port is a number from 1024 to 65529",
+        ),
+        (
+            "serve --nodes 3 --port 9000 --key seven",
+            "error: a key is a number from 0 to 18446744073709551615",
+        ),
+        (
+            "serve --nodes 3 --port 9000 --key 7 --dir=",
+            "error: the name of a folder is not empty and does not begin with '-'",
+        ),
+        (
+            "serve --nodes 3 --prot 9000 --key 7",
+            "tip: a similar argument exists: '--port'",
+        ),
     ] {
         assert!(rt; cause(rt.alloc(), line)?.contains(hint), "{line}");
     }
@@ -117,6 +149,11 @@ fn tells_what_is_asked_for(rt: HostRuntime) -> Result<(), Fail> {
             "script --help",
             "Usage: wampd script [OPTIONS] --nodes <N>\n",
         ),
+        (
+            "serve --help",
+            "wampd serve --nodes 3 --port 9000 --key 7 --dir data",
+        ),
+        ("--help", "\n  serve "),
     ] {
         let words = words_of(rt.alloc(), line)?;
         let Ok(Some(told)) = help_of(rt.alloc(), &words) else {
