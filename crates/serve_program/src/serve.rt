@@ -1,0 +1,404 @@
+//! The cluster: its table, its ports, its threads.
+ghost use Rattle.std.specs.Prelude.{◌≡◌, All, IfOk, OnOk};
+ghost use Rattle.mail_table.specs.Seats.{Owns};
+ghost use Rattle.paxos_node.specs.declared.view.Opened.TheVariants.{Never};
+
+use crate::fault::ServeFault;
+use crate::station::{Runs, Site, Station};
+use actor_run::Gate;
+use crossbeam_channel::{Receiver, Sender, bounded};
+use mail_table::{Mail, NodeSeat, Office, found};
+use node_actor::Members;
+use realm_machine::Act;
+use rtrb::{Consumer, Producer, RingBuffer};
+use serve_lanes::{Arrival, Lobby, keep_door};
+use serve_stores::Stores;
+use std::alloc::Global;
+use std::io::{Eprint, ErrorKind, Read, Write};
+use std::net::{Ipv4Addr, Net, TcpListener, TcpStream};
+use std::sync::atomic::{AtomicBool, Ordering};
+use std::sync::{Arc, Wait};
+use std::thread;
+use std::thread::Threads;
+use std::time::Clock;
+
+// How many connections wait at most to be seen by their node.
+const ARRIVALS: usize = 64;
+
+// How many ends may wait: one of each node, and that of the input.
+const ENDS: usize = 8;
+
+// What ends a cluster, or a part of it.
+#[derive(Clone, Copy, Drop)]
+enum End {
+    // The input has ended.
+    Input,
+    // A node has ended, by a fault with this number if there is one.
+    Node { node: u8, fault: Option<u8> },
+}
+
+// What is to be served.
+#[derive(Clone, Copy, Drop)]
+struct Plan<'a> {
+    members: Members,
+    port: u16,
+    key: u64,
+    realm: &'a str,
+}
+
+// ---- before the threads
+
+// Where each node is woken.
+fn lobbies_of(alloc: Global, members: Members) -> Result<Vec<Arc<Lobby>>, ServeFault> {
+    let mut lobbies = Vec::new(alloc);
+    for _ in 0..members.count() {
+        lobbies.push(Arc::new(alloc, Lobby::new())?)?;
+    }
+    Ok(lobbies)
+}
+
+// A listener for each node, the first one's at this port and each further one's at the next.
+fn listeners_of<R: Net<Listener = TcpListener, Stream = TcpStream>>(
+    rt: &R,
+    alloc: Global,
+    members: Members,
+    port: u16,
+) -> Result<Vec<TcpListener>, ServeFault> {
+    let mut listeners = Vec::new(alloc);
+    for below in 0..members.count() {
+        let Some(port) = port.checked_add(u16::from(below)) else {
+            return Err(ServeFault::Port);
+        };
+        match TcpListener::bind(rt, (Ipv4Addr::LOCALHOST, port)) {
+            Ok(listener) => listeners.push(listener)?,
+            Err(_) => return Err(ServeFault::Port),
+        }
+    }
+    Ok(listeners)
+}
+
+// Says where each node listens.
+fn tell<W: Write>(writer: &mut W, members: Members, port: u16) -> Result<(), ServeFault> {
+    for below in 0..members.count() {
+        let node = below.saturating_add(1);
+        let at = port.saturating_add(u16::from(below));
+        if writeln!(writer, "node {node} listens on 127.0.0.1:{at}").is_err() {
+            return Err(ServeFault::Write);
+        }
+    }
+    match writer.flush() {
+        Ok(()) => Ok(()),
+        Err(_) => Err(ServeFault::Write),
+    }
+}
+
+// The station of the last of these seats, and where its door puts what arrives.
+fn station_of<'a>(
+    alloc: Global,
+    mail: &'a Mail<Act>,
+    members: Members,
+    seats: &mut Vec<NodeSeat<Act>>,
+) -> Result<(Station<'a>, Producer<Arrival>), ServeFault>
+    requires fresh { All (λ s. Owns mail.now s × (s.part.seen.opened ≡ Never)) seats.old.items }
+    requires members { members ≡ mail.now.members }
+    ensures { OnOk result (All (λ s. Owns mail.now s × (s.part.seen.opened ≡ Never)) seats.new.items) }
+{
+    let (arrivals, taken): (Producer<Arrival>, Consumer<Arrival>) = RingBuffer::new(
+        alloc, ARRIVALS,
+    )?;
+    let Some(seat) = seats.pop() else {
+        return Err(ServeFault::Memory);
+    };
+    Ok((Station::of(mail, members, seat, taken), arrivals))
+}
+
+// The stations of all these seats, the last one's first, and where their doors put what arrives.
+fn stations_of<'a>(
+    alloc: Global,
+    mail: &'a Mail<Act>,
+    members: Members,
+    seats: &mut Vec<NodeSeat<Act>>,
+    doors: &mut Vec<Producer<Arrival>>,
+) -> Result<Vec<Station<'a>>, ServeFault>
+    requires fresh { All (λ s. Owns mail.now s × (s.part.seen.opened ≡ Never)) seats.old.items }
+    requires members { members ≡ mail.now.members }
+{
+    let mut stations = Vec::new(alloc);
+    for _ in 0..members.count() {
+        let (station, arrivals) = station_of(alloc, mail, members, seats)?;
+        stations.push(station)?;
+        doors.push(arrivals)?;
+    }
+    Ok(stations)
+}
+
+// ---- threads that nobody joins
+
+// The thread of a node's door.
+fn open_door<R: Threads + Wait + Clock + Eprint + Clone + Drop + Send + 'static>(
+    rt: &R,
+    alloc: Global,
+    listener: TcpListener,
+    lobby: &Arc<Lobby>,
+    arrivals: Producer<Arrival>,
+    node: u8,
+) -> Result<(), ServeFault> {
+    let theirs = rt.clone()?;
+    let lobby = Arc::try_clone(lobby)?;
+    match thread::spawn(
+        rt,
+        move || keep_door(theirs, alloc, listener, lobby, arrivals, node),
+    ) {
+        Ok(_) => Ok(()),
+        Err(_) => Err(ServeFault::Memory),
+    }
+}
+
+// The doors of all nodes, the last one first.
+fn open_doors<R: Threads + Wait + Clock + Eprint + Clone + Drop + Send + 'static>(
+    rt: &R,
+    alloc: Global,
+    lobbies: &[Arc<Lobby>],
+    listeners: &mut Vec<TcpListener>,
+    doors: Vec<Producer<Arrival>>,
+) -> Result<(), ServeFault> {
+    let mut node = listeners.len().min(7) as u8;
+    for arrivals in doors {
+        let Some(listener) = listeners.pop() else {
+            return Err(ServeFault::Memory);
+        };
+        let Some(lobby) = lobbies.get(usize::from(node).saturating_sub(1)) else {
+            return Err(ServeFault::Memory);
+        };
+        open_door(rt, alloc, listener, lobby, arrivals, node)?;
+        node = node.saturating_sub(1);
+    }
+    Ok(())
+}
+
+// Reads to the end.
+fn read_out<I: Read>(reader: &mut I) {
+    let mut octets = [0u8; 512];
+    for _ in 0..u64::MAX {
+        match reader.read(&mut octets) {
+            Ok(0) => return,
+            Ok(_) => {}
+            Err(error) if error.kind() == ErrorKind::Interrupted => {}
+            Err(_) => return,
+        }
+    }
+}
+
+// The thread that waits for the end of the input.
+fn watch<R, I>(rt: &R, reader: I, ends: &Sender<End>) -> Result<(), ServeFault>
+where
+    R: Threads + Wait + Clone + Drop + Send + 'static,
+    I: Read + Drop + Send + 'static,
+{
+    let theirs = rt.clone()?;
+    let ends = ends.clone()?;
+    let spawned = thread::spawn(rt, move || {
+        let mut reader = reader;
+        read_out(&mut reader);
+        let _ = ends.send(&theirs, End::Input);
+    });
+    match spawned {
+        Ok(_) => Ok(()),
+        Err(_) => Err(ServeFault::Memory),
+    }
+}
+
+// ---- the nodes' threads
+
+// What a fault of this number is, where a node ended by it.
+fn fault_of(node: u8, fault: u8) -> ServeFault {
+    match fault {
+        64 | 76 => ServeFault::Memory,
+        fault => ServeFault::Node { node, fault },
+    }
+}
+
+// Waits until the input has ended, a node has ended by a fault, or all nodes have ended.
+fn await_end<R: Wait>(rt: &R, ends: &Receiver<End>, members: Members) -> Result<(), ServeFault> {
+    let mut left = members.count();
+    for _ in rt.forever() {
+        match ends.recv(rt) {
+            Ok(End::Input) => return Ok(()),
+            Ok(
+                End::Node {
+                    node,
+                    fault: Some(fault),
+                },
+            ) => return Err(fault_of(node, fault)),
+            Ok(End::Node { fault: None, .. }) => left = left.saturating_sub(1),
+            Err(_) => return Err(ServeFault::Memory),
+        }
+        if left == 0 {
+            return Ok(());
+        }
+    }
+    unreachable!()
+}
+
+// A node's thread.
+fn run_node_thread<'b, R, G, T>(
+    rt: &'b R,
+    alloc: Global,
+    station: T,
+    site: &'b Site<'b, G>,
+    ends: &Sender<End>,
+)
+where
+    R: Wait + Eprint,
+    T: Runs<R, G>,
+{
+    let node = station.node();
+    let fault = station.run(rt, alloc, site).err();
+    if let Some(number) = fault {
+        let _ = eprintln!(rt; "node {node} has ended by fault {number}");
+    }
+    let _ = ends.send(rt, End::Node { node, fault });
+}
+
+// All nodes' threads, until an end comes. Generic in what runs on them, so that it crosses to a thread by its bound.
+fn run_all<'b, R, G, T>(
+    rt: &'b R,
+    alloc: Global,
+    stations: Vec<T>,
+    site: &'b Site<'b, G>,
+    ends: (&Sender<End>, &Receiver<End>),
+    members: Members,
+) -> Result<(), ServeFault>
+where
+    R: Threads + Wait + Eprint + Sync,
+    G: Sync,
+    T: Runs<R, G> + Drop + Send,
+{
+    let (sender, receiver) = ends;
+    thread::scope(thread::scope_env(), rt, |scope| {
+        let mut spawned = true;
+        for station in stations {
+            spawned = scope
+                .spawn(move || run_node_thread(rt, alloc, station, site, sender))
+                .is_ok()
+                && spawned;
+        }
+        let end = if spawned {
+            await_end(rt, receiver, members)
+        } else {
+            Err(ServeFault::Memory)
+        };
+        site.open.store(false, Ordering::SeqCst);
+        for lobby in site.lobbies {
+            lobby.wake();
+        }
+        end
+    })
+}
+
+// The same for these stations.
+fn run_stations<'b, R, G>(
+    rt: &'b R,
+    alloc: Global,
+    stations: Vec<Station<'_>>,
+    site: &'b Site<'b, G>,
+    ends: (&Sender<End>, &Receiver<End>),
+    members: Members,
+) -> Result<(), ServeFault>
+where
+    R: Threads + Wait + Clock + Eprint + Sync,
+    G: Gate + Sync,
+{
+    run_all(rt, alloc, stations, site, ends, members)
+}
+
+// The cluster over these stores.
+fn serve<R, I, W, G>(
+    rt: &R,
+    alloc: Global,
+    reader: I,
+    writer: &mut W,
+    plan: Plan<'_>,
+    stores: Stores<'_>,
+    gate: &G,
+) -> Result<(), ServeFault>
+where
+    R: Net<Listener = TcpListener, Stream = TcpStream>
+        + Threads
+        + Wait
+        + Clock
+        + Eprint
+        + Clone
+        + Drop
+        + Send
+        + Sync
+        + 'static,
+    I: Read + Drop + Send + 'static,
+    W: Write,
+    G: Gate + Sync,
+{
+    let members = plan.members;
+    let mut listeners = listeners_of(rt, alloc, members, plan.port)?;
+    tell(writer, members, plan.port)?;
+    let lobbies = lobbies_of(alloc, members)?;
+    let (sender, receiver) = bounded(alloc, ENDS)?;
+    let mut office = Office::new();
+    let Ok((mail, mut seats)) = found(alloc, &mut office, members) else {
+        return Err(ServeFault::Memory);
+    };
+    let mut doors = Vec::new(alloc);
+    let stations = stations_of(alloc, &mail, members, &mut seats, &mut doors)?;
+    open_doors(rt, alloc, &lobbies, &mut listeners, doors)?;
+    watch(rt, reader, &sender)?;
+    let open = AtomicBool::new(true);
+    let site = Site {
+        stores,
+        gate,
+        open: &open,
+        lobbies: &lobbies,
+        key: plan.key,
+        realm: plan.realm,
+    };
+    run_stations(rt, alloc, stations, &site, (&sender, &receiver), members)
+}
+
+/// Serves clients.
+pub fn serve_run<R, I, W, G>(
+    rt: &R,
+    host: &HostRuntime,
+    reader: I,
+    writer: &mut W,
+    members: Members,
+    port: u16,
+    key: u64,
+    dir: Option<&str>,
+    realm: &str,
+    gate: &G,
+) -> Result<(), ServeFault>
+where
+    R: Net<Listener = TcpListener, Stream = TcpStream>
+        + Threads
+        + Wait
+        + Clock
+        + Eprint
+        + Clone
+        + Drop
+        + Send
+        + Sync
+        + 'static,
+    I: Read + Drop + Send + 'static,
+    W: Write,
+    G: Gate + Sync,
+{
+    let plan = Plan {
+        members,
+        port,
+        key,
+        realm,
+    };
+    let stores = match dir {
+        None => Stores::Memory,
+        Some(folder) => Stores::Folder { host, folder },
+    };
+    serve(rt, host.alloc(), reader, writer, plan, stores, gate)
+}
