@@ -5,6 +5,8 @@ use Rattle.client_listener.specs.declared.fault.ListenFault.TheVariants as liste
 use Rattle.client_listener.specs.Fault.{number_of}
 use Rattle.script_program.specs.declared.fault.ScriptFault.{ScriptFault}
 use Rattle.script_program.specs.declared.fault.ScriptFault.TheVariants as script
+use Rattle.serve_program.specs.declared.fault.ServeFault.{ServeFault}
+use Rattle.serve_program.specs.declared.fault.ServeFault.TheVariants as serve
 use Rattle.cluster_program.specs.declared.fault.RunFault.{RunFault}
 use Rattle.cluster_program.specs.declared.fault.RunFault.TheVariants.{Line, Store, Memory, Transport}
 
@@ -32,3 +34,10 @@ script_fault_of script.Memory = Memory
 script_fault_of script.Read = run_fault_of listen.Read
 script_fault_of script.Write = run_fault_of listen.Write
 script_fault_of script.Reads = run_fault_of listen.Turns
+
+-- the fault of a run whose cluster was not served to its end
+abbrev pub serve_fault_of : ServeFault → RunFault
+serve_fault_of (serve.Node node number) = Store number
+serve_fault_of serve.Memory = Memory
+serve_fault_of serve.Port = run_fault_of listen.Read
+serve_fault_of serve.Write = run_fault_of listen.Write

@@ -4,6 +4,7 @@ ghost use Rattle.cluster_program.specs.Fault.{status_of};
 use client_listener::ListenFault;
 use realm_machine::Failed;
 use script_program::ScriptFault;
+use serve_program::ServeFault;
 use std::alloc::{AllocError, AllocFailed};
 use std::error::Error;
 use std::fmt;
@@ -119,6 +120,21 @@ impl From<ScriptFault> for RunFault {
             ScriptFault::Read => RunFault::from(ListenFault::Read),
             ScriptFault::Write => RunFault::from(ListenFault::Write),
             ScriptFault::Reads => RunFault::from(ListenFault::Turns),
+        }
+    }
+}
+
+impl From<ServeFault> for RunFault {
+    ghost use Rattle.cluster_program.specs.Fault.{serve_fault_of};
+
+    ghost from_gives = { λ fault made. made ≡ serve_fault_of fault };
+
+    fn from(fault: ServeFault) -> RunFault {
+        match fault {
+            ServeFault::Node { fault, .. } => RunFault::Store(fault),
+            ServeFault::Memory => RunFault::Memory,
+            ServeFault::Port => RunFault::from(ListenFault::Read),
+            ServeFault::Write => RunFault::from(ListenFault::Write),
         }
     }
 }
