@@ -1,13 +1,18 @@
-//! A WAMP router: `wampd stream` serves one client on standard input and output, `wampd script` plays a cluster's schedule.
+//! A WAMP router: `wampd stream` serves one client on standard input and output, `wampd script` plays a cluster's schedule, `wampd serve`
+//! runs a cluster that clients connect to.
 #![tactic(auto)]
 
 use cluster_program::{
-    Members, Order, RunFault, UsageFault, help_of, order_of, script_run, stream_run,
-    unreadable_words,
+    Gate, Members, Order, RunFault, UsageFault, help_of, order_of, script_run, serve_run,
+    stream_run, unreadable_words,
 };
 use std::env;
-use std::io::{ErrorKind, Write};
+use std::io::{Eprint, ErrorKind, Write};
+use std::net::{Net, TcpListener, TcpStream};
 use std::process::ExitCode;
+use std::sync::Wait;
+use std::thread::Threads;
+use std::time::Clock;
 
 // The status where the help or the version cannot be written: that of a transport that failed.
 const UNWRITTEN: u8 = 6;
@@ -52,6 +57,56 @@ fn script(rt: &HostRuntime, members: Members, realm: &str) -> ExitCode {
     }
 }
 
+// Lets each node take each of its turns.
+#[derive(Drop)]
+struct Always;
+
+impl Gate for Always {
+    fn pass(&self, _node: u8, _turn: u64) -> bool {
+        true
+    }
+}
+
+// Serves clients until standard input ends, and says on standard error why it ended before.
+fn serve<R>(
+    rt: &HostRuntime,
+    threads: &R,
+    members: Members,
+    port: u16,
+    key: u64,
+    dir: Option<&str>,
+    realm: &str,
+) -> ExitCode
+where
+    R: Net<Listener = TcpListener, Stream = TcpStream>
+        + Threads
+        + Wait
+        + Clock
+        + Eprint
+        + Clone
+        + Drop
+        + Send
+        + Sync
+        + 'static,
+{
+    let mut out = rt.stdout();
+    match serve_run(
+        threads,
+        rt,
+        rt.stdin(),
+        &mut out,
+        members,
+        port,
+        key,
+        dir,
+        realm,
+        &Always,
+    ) {
+        Ok(()) => ExitCode::SUCCESS,
+        Err(fault) => failure(rt, fault),
+    }
+}
+
 // The fault on a line of its own on standard error, and its status.
 fn failure(rt: &HostRuntime, fault: RunFault) -> ExitCode {
     let _ = eprintln!(rt; "{fault}");
@@ -75,10 +130,32 @@ fn tell(rt: &HostRuntime, text: &str) -> ExitCode {
 }
 
 // Does what is asked for.
-fn run(rt: &HostRuntime, order: &Order) -> ExitCode {
+fn run<R>(rt: &HostRuntime, threads: &R, order: &Order) -> ExitCode
+where
+    R: Net<Listener = TcpListener, Stream = TcpStream>
+        + Threads
+        + Wait
+        + Clock
+        + Eprint
+        + Clone
+        + Drop
+        + Send
+        + Sync
+        + 'static,
+{
     match order {
         Order::Stream { realm } => stream(rt, realm.as_str()),
         Order::Script { members, realm } => script(rt, *members, realm.as_str()),
+        Order::Serve {
+            members,
+            port,
+            key,
+            dir,
+            realm,
+        } => {
+            let dir = dir.as_ref().map(|dir| dir.as_str());
+            serve(rt, threads, *members, *port, *key, dir, realm.as_str())
+        }
     }
 }
 
@@ -93,7 +170,7 @@ fn main(rt: HostRuntime) -> ExitCode {
         Err(fault) => return misuse(&rt, fault),
     }
     match order_of(rt.alloc(), &words) {
-        Ok(order) => run(&rt, &order),
+        Ok(order) => run(&rt, &rt, &order),
         Err(fault) => misuse(&rt, fault),
     }
 }
