@@ -16,6 +16,8 @@ mod player;
 #[cfg(test)]
 mod script;
 #[cfg(test)]
+mod serve;
+#[cfg(test)]
 mod stream;
 #[cfg(test)]
 mod text;

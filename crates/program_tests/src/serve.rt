@@ -1,0 +1,168 @@
+// A served cluster: its nodes step on threads of their own, and what a client of one node publishes reaches a client of another.
+use cluster_program::{Gate, Members, serve_run};
+use std::alloc::{AllocError, Global};
+use std::io;
+use std::io::{Read, Write};
+use std::net::{Ipv4Addr, Net, TcpStream};
+use std::sync::Arc;
+use std::sync::atomic::{AtomicBool, Ordering};
+use std::test::Fail;
+use std::thread;
+use std::time::{Clock, Duration};
+
+// How often something is looked for, a millisecond apart.
+const POLLS: u32 = 10_000;
+
+const PORT: u16 = 24_871;
+
+const HELLO: &str = r#"[1,"realm1",{"roles":{"subscriber":{},"publisher":{}}}]"#;
+
+// Looks until the flag is set; whether it was.
+fn is_set_in_time<R: Clock>(rt: &R, flag: &AtomicBool) -> bool {
+    for _ in 0..POLLS {
+        if flag.load(Ordering::SeqCst) {
+            return true;
+        }
+        thread::sleep(rt, Duration::from_millis(1));
+    }
+    false
+}
+
+// Holds the second turn of node 1 until node 2 asks for its second.
+#[derive(Drop)]
+struct InTurn<'a, R: Clock> {
+    rt: &'a R,
+    second: AtomicBool,
+}
+
+impl<R: Clock> Gate for InTurn<'_, R> {
+    fn pass(&self, node: u8, turn: u64) -> bool {
+        if turn != 1 {
+            return true;
+        }
+        match node {
+            1 => is_set_in_time(self.rt, &self.second),
+            2 => {
+                self.second.store(true, Ordering::SeqCst);
+                true
+            }
+            _ => true,
+        }
+    }
+}
+
+// Input that ends once the flag is set.
+#[derive(Drop)]
+struct Input<R: Clock> {
+    rt: R,
+    over: Arc<AtomicBool, Global>,
+}
+
+impl<R: Clock> Read for Input<R> {
+    fn read(&mut self, _buf: &mut [u8]) -> io::Result<usize> {
+        for _ in 0..10 {
+            if is_set_in_time(&self.rt, &self.over) {
+                break;
+            }
+        }
+        Ok(0)
+    }
+}
+
+// A client, which has done the handshake.
+#[derive(Drop)]
+struct Client {
+    stream: TcpStream,
+}
+
+impl Client {
+    // Connects as soon as the port is listened on.
+    fn open<R: Net<Stream = TcpStream> + Clock>(rt: &R, port: u16) -> io::Result<Client> {
+        for _ in 0..POLLS {
+            if let Ok(stream) = TcpStream::connect(rt, (Ipv4Addr::LOCALHOST, port)) {
+                let mut client = Client { stream };
+                client.greet()?;
+                return Ok(client);
+            }
+            thread::sleep(rt, Duration::from_millis(1));
+        }
+        Err(io::ErrorKind::TimedOut.into())
+    }
+
+    fn greet(&mut self) -> io::Result<()> {
+        self.stream.set_read_timeout(Some(Duration::from_secs(30)))?;
+        self.stream.write_all(&[0x7F, 0xF1, 0, 0])?;
+        let mut answer = [0u8; 4];
+        self.stream.read_exact(&mut answer)
+    }
+
+    // Sends a message of fewer than 256 octets.
+    fn say(&mut self, text: &str) -> io::Result<()> {
+        self.stream.write_all(&[0, 0, 0, text.len() as u8])?;
+        self.stream.write_all(text.as_bytes())
+    }
+
+    // The next message; empty where it has 256 octets or more.
+    fn hear(&mut self, alloc: Global) -> io::Result<String> {
+        let mut head = [0u8; 4];
+        self.stream.read_exact(&mut head)?;
+        let mut text = [0u8; 255];
+        let length = usize::from(head[3]);
+        if head[2] != 0 || length > text.len() {
+            return Err(io::ErrorKind::InvalidData.into());
+        }
+        self.stream.read_exact(&mut text[..length])?;
+        match str::from_utf8(&text[..length]) {
+            Ok(text) => Ok(String::from_str(alloc, text)?),
+            Err(_) => Err(io::ErrorKind::InvalidData.into()),
+        }
+    }
+}
+
+// A client of node 1 subscribes, and once it is answered one of node 2 publishes: what the first one is told.
+fn event_of<R: Net<Stream = TcpStream> + Clock>(rt: &R, alloc: Global) -> io::Result<String> {
+    let mut first = Client::open(rt, PORT)?;
+    first.say(HELLO)?;
+    let _welcome = first.hear(alloc)?;
+    first.say(r#"[32,1,{},"a.b"]"#)?;
+    let _subscribed = first.hear(alloc)?;
+    let mut second = Client::open(rt, PORT + 1)?;
+    second.say(HELLO)?;
+    let _welcome = second.hear(alloc)?;
+    second.say(r#"[16,2,{},"a.b",["hi"]]"#)?;
+    first.hear(alloc)
+}
+
+#[test]
+fn an_event_crosses_nodes_that_step_on_threads_of_their_own(rt: HostRuntime) -> Result<(), Fail> {
+    let alloc = rt.alloc();
+    let members = Members::new(3).expect(&rt, "three nodes");
+    let over = Arc::new(alloc, AtomicBool::new(false))?;
+    let input = Input {
+        rt: rt.clone()?,
+        over: Arc::try_clone(&over)?,
+    };
+    let gate = InTurn {
+        rt: &rt,
+        second: AtomicBool::new(false),
+    };
+    let mut told = Vec::new(alloc);
+    let (served, heard) = thread::join(
+        &rt,
+        || serve_run(&rt, &rt, input, &mut told, members, PORT, 7, None, "realm1", &gate),
+        || {
+            let heard = event_of(&rt, alloc);
+            over.store(true, Ordering::SeqCst);
+            heard
+        },
+    );
+    assert!(rt; served.is_ok());
+    assert!(rt; gate.second.load(Ordering::SeqCst));
+    let heard = heard?;
+    assert!(rt; heard.as_str().starts_with("[36,1,"));
+    assert!(rt; heard.as_str().ends_with(r#",{},["hi"]]"#));
+    let told = str::from_utf8(told.as_slice()).expect(&rt, "text");
+    assert_eq!(rt; told,
+        "node 1 listens on 127.0.0.1:24871\nnode 2 listens on 127.0.0.1:24872\nnode 3 listens on 127.0.0.1:24873\n");
+    Ok(())
+}
