@@ -93,6 +93,7 @@ impl<R: Eprint> Boots for Served<'_, R> {
 }
 
 // Realms of this name, with no transport.
+#[derive(Drop)]
 struct Realms<'a> {
     name: &'a str,
 }
