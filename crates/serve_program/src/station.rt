@@ -57,19 +57,25 @@ impl<R: Wait + Clock, G: Gate> Gate for Turns<'_, R, G> {
     }
 }
 
-// What feeds a node: its clients. Each boot is told on standard error.
+// What feeds a node: its clients. Each boot, and each time that it begins to lead, is told on standard error.
 #[derive(Drop)]
 struct Served<'a, R> {
     rt: &'a R,
+    node: u8,
+    leads: bool,
     feed: ClientFeed<'a>,
 }
 
-impl<R> Feed<Act, Say> for Served<'_, R> {
+impl<R: Eprint> Feed<Act, Say> for Served<'_, R> {
     ghost saw = { λ feed given got. Unit {0} };
 
     fn next(&mut self, seen: Seen) -> Option<Event<Act>>
         ensures { Unit {0} }
     {
+        if seen.leads && !self.leads {
+            let _ = eprintln!(self.rt; "node {} leads", self.node);
+        }
+        self.leads = seen.leads;
         self.feed.next(seen)
     }
 
@@ -270,7 +276,12 @@ fn serve_paced<'c, R: Wait + Clock + Eprint, G: Gate, K: Keeper<Act> + Drop>(
     let paced = Paced::new(rt, home, gate);
     let turns = Turns { open, paced };
     let feed = ClientFeed::new(alloc, again, 0, arrivals);
-    let served = Served { rt, feed };
+    let served = Served {
+        rt,
+        node: seat.node(),
+        leads: false,
+        feed,
+    };
     serve_out(alloc, mail, members, seat, realm, keeper, &turns, served)
 }
 
