@@ -1,1 +1,2 @@
 pub mod Sendable
+mod Founding
