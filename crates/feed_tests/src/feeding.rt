@@ -323,6 +323,27 @@ fn acts<F: Feed<Act, Say>, G: Gate>(
     hand(alloc, feed, BOOT, &[1])?;
     assert_eq!(rt; told(alloc, one)?.as_str(), "pmmpm");
     assert_eq!(rt; told(alloc, two)?.as_str(), "");
+    holds_back(rt, alloc, gate, feed, lobby, one)
+}
+
+// While entries are pending a node that does not lead gives two acts, and one that leads goes on.
+fn holds_back<F: Feed<Act, Say>, G: Gate>(
+    rt: &impl Abort,
+    alloc: Global,
+    gate: &G,
+    feed: &mut F,
+    lobby: &Lobby,
+    client: &mut Client,
+) -> Result<(), Fail> {
+    let sent = send(alloc, client, "SSS")?;
+    lobby.stir();
+    let mut seen = quiet();
+    seen.pending = true;
+    assert!(rt; sent);
+    assert_eq!(rt; round(alloc, gate, feed, &seen)?.as_str(), "1S1S");
+    assert_eq!(rt; round(alloc, gate, feed, &seen)?.as_str(), "");
+    seen.leads = true;
+    assert_eq!(rt; round(alloc, gate, feed, &seen)?.as_str(), "1S");
     Ok(())
 }
 

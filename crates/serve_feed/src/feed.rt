@@ -14,8 +14,13 @@ use serve_ticks::{Due, Ticks};
 use std::alloc::Global;
 use std::sync::Arc;
 
-/// How many acts are given while entries are pending. A node has room for 1,024 pending entries; so it always has some for those of its own.
+/// How many acts are given while entries are pending, at a node that leads. A node has room for 1,024 pending entries; so it always has some
+/// for those of its own.
 const MOST_UNDER_WAY: u32 = 1000;
+
+/// The same at a node that does not lead. It forwards all its pending entries with each act, and a leader that has applied one by then proposes
+/// it again, in vain: with many under way nearly all slots would go so.
+const MOST_FORWARDED: u32 = 2;
 
 /// How many arrivals are taken in a round at the most; their ring has room for so many.
 const MOST_ARRIVALS: u8 = 64;
@@ -41,8 +46,9 @@ pub struct ClientFeed<'a> {
     round: u64,
     // Whether something happened since.
     is_busy: bool,
-    // How many acts were given since no entry was pending.
+    // How many acts were given since no entry was pending, and how many may be.
     under_way: u32,
+    most: u32,
 }
 
 impl<'a> ClientFeed<'a> {
@@ -76,6 +82,7 @@ impl<'a> ClientFeed<'a> {
             round: 0,
             is_busy: true,
             under_way: 0,
+            most: MOST_FORWARDED,
         }
     }
 
@@ -114,7 +121,7 @@ impl<'a> ClientFeed<'a> {
             self.take_arrivals();
             self.lanes.stir();
         }
-        let may_look = self.under_way < MOST_UNDER_WAY && self.lanes.is_on();
+        let may_look = self.under_way < self.most && self.lanes.is_on();
         self.pace.judge(!moved && !self.is_busy && !may_look);
         self.is_busy = false;
         self.ticks
@@ -142,7 +149,7 @@ impl<'a> ClientFeed<'a> {
 
     // What a client does.
     fn act(&mut self) -> Option<Event<Act>> {
-        if self.under_way >= MOST_UNDER_WAY {
+        if self.under_way >= self.most {
             return None;
         }
         let (transport, body) = self.lanes.next(&mut self.draws)?;
@@ -172,6 +179,11 @@ impl Feed<Act, Say> for ClientFeed<'_> {
     fn next(&mut self, seen: Seen) -> Option<Event<Act>>
         ensures { Unit {0} }
     {
+        self.most = if seen.leads {
+            MOST_UNDER_WAY
+        } else {
+            MOST_FORWARDED
+        };
         let round = self.pace.round();
         if round != self.round {
             self.round = round;
