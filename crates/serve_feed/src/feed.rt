@@ -49,6 +49,8 @@ pub struct ClientFeed<'a> {
     // How many acts were given since no entry was pending, and how many may be.
     under_way: u32,
     most: u32,
+    // How many entries were applied by the last turn.
+    applied: u64,
 }
 
 impl<'a> ClientFeed<'a> {
@@ -83,6 +85,7 @@ impl<'a> ClientFeed<'a> {
             is_busy: true,
             under_way: 0,
             most: MOST_FORWARDED,
+            applied: 0,
         }
     }
 
@@ -121,6 +124,10 @@ impl<'a> ClientFeed<'a> {
             self.take_arrivals();
             self.lanes.stir();
         }
+        if seen.pending || seen.applied != self.applied {
+            self.pace.moved();
+        }
+        self.applied = seen.applied;
         let may_look = self.under_way < self.most && self.lanes.is_on();
         self.pace.judge(!moved && !self.is_busy && !may_look);
         self.is_busy = false;

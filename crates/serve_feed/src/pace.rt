@@ -14,13 +14,14 @@ const IDLE_ROUNDS: u8 = 2;
 /// Each how many rounds a node that does not rest looks at the clock.
 const ROUNDS_A_LOOK: u64 = 64;
 
-/// What the gate and the feed of one node's thread tell each other: which round it is, how many rounds in a row were idle, and whether a tick
-/// is due. It stays on its thread.
+/// What the gate and the feed of one node's thread tell each other: which round it is, how many rounds in a row were idle, whether a tick is
+/// due, and whether entries moved since the last one. It stays on its thread.
 #[derive(Drop)]
 pub struct Pace {
     round: Cell<u64>,
     idle: Cell<u8>,
     is_due: Cell<bool>,
+    is_moving: Cell<bool>,
 }
 
 impl Pace {
@@ -30,6 +31,7 @@ impl Pace {
             round: Cell::new(0),
             idle: Cell::new(0),
             is_due: Cell::new(true),
+            is_moving: Cell::new(false),
         }
     }
 
@@ -61,11 +63,18 @@ impl Pace {
     // The tick that was due was given.
     pub(crate) fn ticked(&self) {
         self.is_due.set(false);
+        self.is_moving.set(false);
+    }
+
+    // Entries are pending, or were applied.
+    pub(crate) fn moved(&self) {
+        self.is_moving.set(true);
     }
 }
 
 /// The gate of a node's thread: it rests where the last two rounds were idle and no tick is due, until somebody wakes the node or 10 ms are over
-/// since a tick was due last; then it asks the caller's gate.
+/// since a tick was due last; then it asks the caller's gate. Where entries moved since the last tick it looks for some microseconds before it
+/// rests: who waits for a packet has it sooner than it could rest and be woken.
 ///
 /// A round costs it some loads, and each 64th one a look at the clock. Where the clock cannot be read a tick is always due.
 #[derive(Drop)]
@@ -111,7 +120,8 @@ impl<'a, R: Wait + Clock, G: Gate> Paced<'a, R, G> {
     // Rests until somebody wakes the node or a tick is due; at least two rounds follow.
     fn rest(&self) {
         let left = self.left();
-        if !left.is_zero() {
+        let is_woken = self.pace.is_moving.get() && self.lobby.is_woken_soon();
+        if !is_woken && !left.is_zero() {
             self.lobby.rest(self.rt, left);
         }
         self.pace.idle.set(0);

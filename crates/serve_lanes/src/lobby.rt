@@ -7,11 +7,16 @@ use std::time::Duration;
 /// How many connections a node has at a time, at the most.
 pub const MOST_CONNECTIONS: u64 = 256;
 
+/// How often a node's thread that expects it looks whether it was woken, before it rests: for about as long as to rest and to be woken takes.
+const LOOKS: u32 = 10_000;
+
 /// What a node's thread shares with the threads of its clients and with those of its peers: where it rests, who wakes it, and how many
 /// connections there are. One thread alone rests in it. No call takes memory, and but for [`Lobby::rest`] none waits.
 #[derive(Drop)]
 pub struct Lobby {
     bell: Parker,
+    is_woken: AtomicBool,
+    is_resting: AtomicBool,
     is_stirred: AtomicBool,
     taken: AtomicU64,
 }
@@ -21,6 +26,8 @@ impl Lobby {
     pub const fn new() -> Lobby {
         Lobby {
             bell: Parker::new(),
+            is_woken: AtomicBool::new(false),
+            is_resting: AtomicBool::new(false),
             is_stirred: AtomicBool::new(false),
             taken: AtomicU64::new(0),
         }
@@ -29,13 +36,16 @@ impl Lobby {
     /// Lets the node's thread go on: it rests no longer, or its next rest ends at once. For who put something into the node's mail, or
     /// ends its run.
     pub fn wake(&self) {
-        self.bell.unpark();
+        self.is_woken.store(true, Ordering::SeqCst);
+        if self.is_resting.load(Ordering::SeqCst) {
+            self.bell.unpark();
+        }
     }
 
     /// The same, for who put something into one of the node's rings: it looks there.
     pub fn stir(&self) {
         self.is_stirred.store(true, Ordering::SeqCst);
-        self.bell.unpark();
+        self.wake();
     }
 
     /// Whether somebody has stirred since the last call. Where nobody has, there is nothing new in the node's rings.
@@ -45,7 +55,25 @@ impl Lobby {
 
     /// Rests until somebody wakes or stirs, or for so long; at once where somebody did since the last rest. It may return early.
     pub fn rest<R: Wait>(&self, rt: &R, longest: Duration) {
-        self.bell.park_timeout(rt, longest);
+        // Whoever wakes from here on rings: either this load sees that it was woken, or who wakes sees that it rests.
+        self.is_resting.store(true, Ordering::SeqCst);
+        if !self.is_woken.load(Ordering::SeqCst) {
+            self.bell.park_timeout(rt, longest);
+        }
+        self.is_resting.store(false, Ordering::SeqCst);
+        self.is_woken.store(false, Ordering::SeqCst);
+    }
+
+    /// Whether somebody wakes or stirs within some microseconds, or did since the last rest: as a rest without the cost of one, for a node
+    /// that expects it. It does not give the processor away.
+    pub fn is_woken_soon(&self) -> bool {
+        for _ in 0..LOOKS {
+            if self.is_woken.load(Ordering::SeqCst) {
+                self.is_woken.store(false, Ordering::SeqCst);
+                return true;
+            }
+        }
+        false
     }
 
     /// Takes a place for a connection. Answers false where all 256 are taken.
