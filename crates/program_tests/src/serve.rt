@@ -98,7 +98,10 @@ impl Client {
 
     // Sends a message of fewer than 256 octets.
     fn say(&mut self, text: &str) -> io::Result<()> {
-        self.stream.write_all(&[0, 0, 0, text.len() as u8])?;
+        let Ok(length) = u8::try_from(text.len()) else {
+            return Err(io::ErrorKind::InvalidInput.into());
+        };
+        self.stream.write_all(&[0, 0, 0, length])?;
         self.stream.write_all(text.as_bytes())
     }
 
