@@ -1,14 +1,13 @@
 // A served cluster: its nodes step on threads of their own, and what a client of one node publishes reaches a client of another.
 use cluster_program::{Gate, Members, serve_run};
 use std::alloc::{AllocError, Global};
-use std::io;
 use std::io::{Read, Write};
 use std::net::{Ipv4Addr, Net, TcpStream};
 use std::sync::Arc;
 use std::sync::atomic::{AtomicBool, Ordering};
 use std::test::Fail;
-use std::thread;
 use std::time::{Clock, Duration};
+use std::{io, thread};
 
 // How often something is looked for, a millisecond apart.
 const POLLS: u32 = 10_000;
@@ -152,7 +151,9 @@ fn an_event_crosses_nodes_that_step_on_threads_of_their_own(rt: HostRuntime) -> 
     let mut told = Vec::new(alloc);
     let (served, heard) = thread::join(
         &rt,
-        || serve_run(&rt, &rt, input, &mut told, members, PORT, 7, None, "realm1", &gate),
+        || serve_run(
+            &rt, &rt, input, &mut told, members, PORT, 7, None, "realm1", &gate,
+        ),
         || {
             let heard = event_of(&rt, alloc);
             over.store(true, Ordering::SeqCst);
@@ -165,7 +166,9 @@ fn an_event_crosses_nodes_that_step_on_threads_of_their_own(rt: HostRuntime) -> 
     assert!(rt; heard.as_str().starts_with("[36,1,"));
     assert!(rt; heard.as_str().ends_with(r#",{},["hi"]]"#));
     let told = str::from_utf8(told.as_slice()).expect(&rt, "text");
-    assert_eq!(rt; told,
-        "node 1 listens on 127.0.0.1:24871\nnode 2 listens on 127.0.0.1:24872\nnode 3 listens on 127.0.0.1:24873\n");
+    assert_eq!(rt;
+        told,
+        "node 1 listens on 127.0.0.1:24871\nnode 2 listens on 127.0.0.1:24872\nnode 3 listens on 127.0.0.1:24873\n"
+    );
     Ok(())
 }

@@ -94,7 +94,9 @@ impl<R: Eprint> Boots for Served<'_, R> {
 
     fn up_again(&mut self, node: u8, boot: u64) {
         self.feed.restart(boot);
-        let _ = eprintln!(self.rt; "node {node} is restarted in boot {boot}: it was taken to be lost");
+        let _ = eprintln!(self.rt;
+            "node {node} is restarted in boot {boot}: it was taken to be lost"
+        );
     }
 }
 
@@ -213,7 +215,10 @@ impl<R: Wait + Clock + Eprint, G: Gate> Runs<R, G> for Station<'_> {
 
     // Opens the node over its store, and turns it until its gate is shut; a node that is lost begins its next boot.
     fn run<'b>(self, rt: &'b R, alloc: Global, site: &'b Site<'b, G>) -> Result<(), u8> {
-        match site.lobbies.get(usize::from(self.seat.node()).saturating_sub(1)) {
+        match site
+            .lobbies
+            .get(usize::from(self.seat.node()).saturating_sub(1))
+        {
             Some(lobby) => self.run_at(rt, alloc, site, lobby),
             None => {
                 drop(self);
@@ -303,7 +308,14 @@ fn serve_out<R: Eprint, T: Gate, K: Keeper<Act> + Drop>(
     let source = Realms { name: realm };
     let mut served = served;
     let done = run_lives::<Realm, _, _, _, _>(
-        alloc, mail, members, seat, &source, keeper, gate, &mut served,
+        alloc,
+        mail,
+        members,
+        seat,
+        &source,
+        keeper,
+        gate,
+        &mut served,
     );
     served.feed.close();
     drop(served);
