@@ -6,10 +6,13 @@ use Rattle.serde_json.specs.Data.{Data}
 use Rattle.serde_json.specs.Read.{read}
 use Rattle.wamp_elements.specs.declared.fault.MessageFault.TheVariants.{NotJson}
 use Rattle.wamp_kinds.specs.declared.read_result.Read.TheVariants.{Bad}
-use Rattle.wamp_messages.specs.Reading.{read_of, message_in}
+use Rattle.wamp_messages.specs.Reading.{read_of, json_read_as, message_in}
 
 pub json_read : (octets : List ℕ) (d : Data) → IsUtf8 octets → read octets ≡ Some d → message_in d ≡ read_of octets
 json_read octets d text value = rw (is_utf8-from_IsUtf8 octets text, value) refl
+
+pub octets_read : (octets : List ℕ) → IsUtf8 octets → json_read_as (read octets) ≡ read_of octets
+octets_read octets text = rw (is_utf8-from_IsUtf8 octets text) refl
 
 refused : (octets : List ℕ) (b : Bool) → is_utf8 octets ≡ b → (IsUtf8 octets → read octets ≡ None) → Bad NotJson ≡ read_of octets
 refused octets true text none = rw (text, none (IsUtf8-from_is_utf8 octets text)) refl

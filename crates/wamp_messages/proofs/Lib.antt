@@ -1,5 +1,6 @@
 mod Json
 mod Tokens
+mod Flagged
 mod Values
 mod RoundTrip
 mod FirstFault

@@ -1,5 +1,5 @@
 -- The grammar's loops over tokens, a turn at a time, as data.
-use Rattle.std.proofs.Common.{◌≡◌, ℕ, ◌-◌, ◌<◌, ◌≤◌, List, [], ◌∷◌, ◌++◌, length, Option, Some, None, option_map, option_and_then, refl, ap, ◌∙◌}
+use Rattle.std.proofs.Common.{◌≡◌, ℕ, ◌-◌, ◌<◌, ◌≤◌, List, [], ◌∷◌, ◌++◌, length, Option, Some, None, option_map, option_and_then, refl, sym, ap, ◌∙◌}
 use Rattle.json.specs.Token.{Token}
 use Rattle.json.specs.Json as json
 use Rattle.json.specs.Json.{Parse, parse_map, after_end_array, read_key, items, members, if_last}
@@ -8,6 +8,7 @@ use Rattle.serde_json.specs.Data.{Data, array, object, Items, no_items, item, Me
 use Rattle.serde_json.specs.Read.{of_json, of_items, of_members, converted}
 use Rattle.serde_json.specs.View.{view, items_view}
 use Rattle.serde_json.specs.declared.value.Value.{Value}
+use Rattle.wamp_messages.specs.Outermost.{before}
 
 -- ---- what was read, and what it is converted to
 
@@ -68,10 +69,6 @@ module _ (p : Parse json.Json) where
 
 -- ---- a list that grows at its end
 
-abbrev pub before : List Value → Items → Items
-before [] rest = rest
-before (v ∷ vs) rest = item (view v) (before vs rest)
-
 pub before_none : (vs : List Value) → before vs no_items ≡ items_view vs
 before_none [] = refl
 before_none (v ∷ vs) = ap (item (view v)) (before_none vs)
@@ -83,6 +80,13 @@ pushed (w ∷ vs) v rest = ap (item (view w)) (pushed vs v rest)
 pub one_more : (vs : List Value) (v : Value) (r : Option (Items × List Token)) → parse_map (before vs) (parse_map (item (view v)) r) ≡ parse_map (before (vs ++ v ∷ [])) r
 one_more vs v None = refl
 one_more vs v (Some p) = ap (λ ds. Some (ds, p.1)) (pushed vs v p.0)
+
+pub behind_front : (vs : List Value) (o : Option (Items × List Token)) (all : Items) (r : List Token) → parse_map (before vs) o ≡ Some (all, r)
+    → (ds : Items) × (o ≡ Some (ds, r)) × (all ≡ before vs ds)
+behind_front vs None all r e = absurd (cc)
+behind_front vs (Some p) all r e =
+    let same : (before vs p.0, p.1) ≡ (all, r) = ap (pick (all, r)) e in
+    (p.0, ap (λ s. Some (p.0, s)) (ap (λ (q : Items × List Token). q.1) same), sym (ap (λ (q : Items × List Token). q.0) same))
 
 -- ---- the whole text
 

@@ -2,6 +2,8 @@ pub mod ReadResult
 pub mod Session
 pub mod Error
 pub mod Publish
+pub mod Flags
+pub mod Outermost
 pub mod Subscribe
 pub mod Register
 pub mod Call

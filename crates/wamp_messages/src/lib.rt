@@ -3,7 +3,9 @@
 
 mod call;
 mod error;
+mod flags;
 pub mod laws;
+mod outermost;
 mod parser;
 mod publish;
 mod reading;

@@ -1,21 +1,25 @@
 // From octets to a JSON value, in room that is kept from text to text.
-ghost use Rattle.std.specs.Prelude.{◌≡◌, ◌<◌, ◌==◌, length, slice_index, true, false, Some, IfSome, IfOk, OnOk, IsTrue, IsUtf8};
-ghost use Rattle.json.specs.Json.{value, items, members};
+ghost use Rattle.std.specs.Prelude.{◌≡◌, ◌<◌, ◌≤◌, ◌==◌, ℕ, length, slice_index, true, false, Some, IfSome, IfOk, OnOk, IsTrue, IsUtf8};
+ghost use Rattle.json.specs.Json.{value, items, members, parse_map};
 ghost use Rattle.serde_json.specs.Data.{no_members};
-ghost use Rattle.serde_json.specs.Read.{of_json, of_items, of_members, converted, number_of, number_from, read as read_text};
+ghost use Rattle.serde_json.specs.Read.{of_json, of_items, of_members, converted, number_of, number_from};
 ghost use Rattle.serde_json.specs.View.{view, number_view, items_view, members_view};
+ghost use Rattle.wamp_messages.specs.Outermost.{before, read_from};
+ghost use Rattle.wamp_messages.specs.Reading.{read_of};
 
+use crate::outermost::{Elements, elements_of};
 use fast_float::Numeral;
 use json::{Invalid, Reader, Scratch, Token};
 use serde_json::value::Map;
 use serde_json::{Number, Value};
+use simdutf8::basic::from_utf8;
 use std::alloc::{AllocError, AllocFailed, Global};
 
 // How deep a value may nest, as in `serde_json`.
-const DEPTH: usize = 127;
+pub(crate) const DEPTH: usize = 127;
 
-// Room for the elements of a message, which are seven at the most.
-const ELEMENTS: usize = 8;
+// Room for the elements of a message, which are seven at the most, and for the first items of any array that has one.
+pub(crate) const ROOM: usize = 8;
 
 /// What reading needs: the allocator, and room that is kept from message to message.
 #[derive(Drop)]
@@ -55,32 +59,27 @@ impl Parser {
         }
     }
 
-    // The JSON value of these octets, where they are JSON with no number but integers of 64 bits, and memory suffices.
-    pub(crate) fn value(&mut self, octets: &[u8]) -> Result<Value, Untaken>
-        ensures { IfOk result
-            (λ found. IsUtf8 octets.now × (read_text octets.now ≡ Some (view found))) }
+    // The elements of these octets, where they are an array of JSON with no number but integers of 64 bits, and memory suffices.
+    #[tactic(auto, using(crate::proofs::Json::octets_read))]
+    pub(crate) fn elements(&mut self, octets: &[u8]) -> Result<Elements, Untaken>
+        ensures { IfOk result (λ found. read_from found ≡ read_of octets.now) }
     {
-        let Ok(text) = std::str::from_utf8(octets) else {
+        let Ok(text) = from_utf8(octets) else {
             return Err(Untaken);
         };
-        text_value(self.alloc, text, &mut self.scratch)
+        let found = elements_of(self.alloc, text, &mut self.scratch)?;
+        Ok(found)
     }
-}
-
-fn text_value(alloc: Global, text: &str, scratch: &mut Scratch) -> Result<Value, Untaken>
-    ensures { IfOk result (λ found. read_text text.now ≡ Some (view found)) }
-{
-    let mut reader = Reader::new(text, scratch)?;
-    let found = value_in(alloc, &mut reader, DEPTH)?;
-    if reader.next().is_some() {
-        return Err(Untaken);
-    }
-    Ok(found)
 }
 
 // The next value, nested no deeper than this.
 #[cycle(value_in)]
-fn value_in(alloc: Global, reader: &mut Reader<'_>, depth: usize) -> Result<Value, Untaken>
+#[inline(always)]
+pub(crate) fn value_in(
+    alloc: Global,
+    reader: &mut Reader<'_>,
+    depth: usize,
+) -> Result<Value, Untaken>
     ensures value { IfOk result
         (λ found. converted of_json (value depth reader.old) ≡ Some (view found, reader.new)) }
     ensures shorter { OnOk result (length reader.new < length reader.old) }
@@ -112,27 +111,44 @@ fn value_in(alloc: Global, reader: &mut Reader<'_>, depth: usize) -> Result<Valu
 
 // The items of an array whose bracket was passed, and its end.
 #[cycle(value_in)]
+#[inline(never)]
 fn items_in(alloc: Global, reader: &mut Reader<'_>, depth: usize) -> Result<Vec<Value>, Untaken>
     ensures value { IfOk result
         (λ found. converted of_items (items (value depth) (length reader.old) reader.old)
         ≡ Some (items_view found.items, reader.new)) }
     ensures shorter { OnOk result (length reader.new < length reader.old) }
 {
-    let mut found = Vec::with_capacity(alloc, room_at(depth))?;
-    'items: while !reader.take_end_array() {
-        let item = value_in(alloc, reader, depth)?;
-        found.push(item)?;
+    if reader.take_end_array() {
+        return Ok(Vec::new(alloc));
     }
-    Ok(found)
+    more_items(alloc, reader, depth, Vec::with_capacity(alloc, ROOM)?)
 }
 
-// For how many items of an array there is room from the first, where they may nest this deep: the outermost array is a message.
-fn room_at(depth: usize) -> usize {
-    if depth == DEPTH - 1 { ELEMENTS } else { 0 }
+// These items and those that follow, up to the end of the array.
+#[cycle(value_in)]
+#[inline(never)]
+pub(crate) fn more_items(
+    alloc: Global,
+    reader: &mut Reader<'_>,
+    depth: usize,
+    found: Vec<Value>,
+) -> Result<Vec<Value>, Untaken>
+    ensures value { IfOk result (λ all. (n : ℕ) → length reader.old ≤ n
+        → parse_map (before found.items) (converted of_items (items (value depth) n reader.old))
+        ≡ Some (items_view all.items, reader.new)) }
+    ensures shorter { OnOk result (length reader.new < length reader.old) }
+{
+    let mut all = found;
+    'items: while !reader.take_end_array() {
+        let item = value_in(alloc, reader, depth)?;
+        all.push(item)?;
+    }
+    Ok(all)
 }
 
 // The members of an object whose brace was passed, and its end. Of members with one key the last stays.
 #[cycle(value_in)]
+#[inline(never)]
 fn members_in(
     alloc: Global,
     reader: &mut Reader<'_>,

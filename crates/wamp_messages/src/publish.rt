@@ -5,9 +5,11 @@ ghost use Rattle.wamp_values.specs.Tokens.{data_tokens, Appends};
 ghost use Rattle.wamp_elements.specs.Elements.{elements};
 ghost use Rattle.wamp_elements.specs.Layouts.{seen_asked};
 ghost use Rattle.wamp_messages.specs.Message.{IsId};
-ghost use Rattle.wamp_messages.specs.Publish.{publish_in, publish_read, publish_value, publish_options, published_in, published_value};
+ghost use Rattle.wamp_messages.specs.Flags.{flagged_in, flagged_read};
+ghost use Rattle.wamp_messages.specs.Publish.{publish_in, publish_with, publish_read, publish_value, publish_options, published_in, published_value};
 ghost use Rattle.wamp_messages.specs.Publish.{event_in, event_value};
 
+use crate::flags::{Flags, flag_of};
 use json::Writer;
 use serde_json::Value;
 use std::alloc::AllocError;
@@ -16,7 +18,9 @@ use wamp_elements::{
     UriRequest, begin, codes, end, flag_in, id_dictionary_text_args, open, put_flag_option,
     put_label, put_nothing, two_ids, two_ids_label_args,
 };
+use wamp_ids::{Id, Text};
 use wamp_kinds::{Event, Message, Publish, Published, Read, UnfitKind};
+use wamp_values::Args;
 
 // What the elements behind the code of PUBLISH are read as.
 pub(crate) fn read_publish(rest: IntoIter<Value>) -> Read
@@ -40,13 +44,26 @@ fn publish_of(asked: UriRequest) -> Read
     let acknowledge = flag_in(&options, "acknowledge", false);
     let exclude_me = flag_in(&options, "exclude_me", true);
     drop(options);
+    publish_with(request, acknowledge, exclude_me, uri, args)
+}
+
+#[inline(always)]
+fn publish_with(
+    request: Id,
+    acknowledge: Option<bool>,
+    exclude_me: Option<bool>,
+    topic: Text,
+    args: Option<Args>,
+) -> Read
+    ensures { result ≡ publish_with request acknowledge exclude_me topic args }
+{
     match (acknowledge, exclude_me, args) {
         (Some(acknowledge), Some(exclude_me), Some(args)) => {
             Read::Good(Message::Publish(Publish {
                 request,
                 acknowledge,
                 exclude_me,
-                topic: uri,
+                topic,
                 args,
             }))
         }
@@ -56,6 +73,33 @@ fn publish_of(asked: UriRequest) -> Read
             quiet: !acknowledge.unwrap_or(false),
         },
     }
+}
+
+// The same of elements whose options were read before: flags stand for them, and an object without members in their place.
+#[inline(always)]
+pub(crate) fn read_flagged(rest: IntoIter<Value>, flags: Flags) -> Read
+    ensures { result ≡ flagged_in flags (elements rest) }
+{
+    match id_dictionary_text_args(rest) {
+        Ok(asked) => flagged_of(asked, flags),
+        Err(fault) => Read::Bad(fault),
+    }
+}
+
+#[inline(always)]
+fn flagged_of(asked: UriRequest, flags: Flags) -> Read
+    ensures { result ≡ flagged_read flags (seen_asked asked) }
+{
+    let UriRequest {
+        request,
+        options,
+        uri,
+        args,
+    } = asked;
+    drop(options);
+    let acknowledge = flag_of(flags.acknowledge, false);
+    let exclude_me = flag_of(flags.exclude_me, true);
+    publish_with(request, acknowledge, exclude_me, uri, args)
 }
 
 pub(crate) fn put_publish(publish: &Publish, out: &mut Writer) -> Result<(), AllocError>

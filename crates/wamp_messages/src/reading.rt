@@ -1,13 +1,14 @@
 // From octets to a message.
 ghost use Rattle.std.specs.Prelude.{◌≡◌, IfOk};
-ghost use Rattle.serde_json.specs.View.{view};
+ghost use Rattle.serde_json.specs.View.{view, items_view};
 ghost use Rattle.wamp_elements.specs.Elements.{elements};
-ghost use Rattle.wamp_messages.specs.Reading.{read_of, message_in, by_code};
+ghost use Rattle.wamp_messages.specs.Reading.{read_of, message_in, list_in, by_code};
 
 use crate::call::{
     read_call, read_cancel, read_interrupt, read_invocation, read_reply, read_yield,
 };
 use crate::error::read_error;
+use crate::outermost::read_from;
 use crate::parser::Parser;
 use crate::publish::{read_event, read_publish, read_published};
 use crate::register::{read_register, read_registered, read_unregister, read_unregistered};
@@ -41,12 +42,11 @@ pub fn read(alloc: Global, octets: &[u8]) -> Result<Read, Memory>
 ///
 /// Nearly all messages are read in that room. What is not (no JSON, a number that is no integer of 64 bits, no memory) is gone
 /// over once more, by `read`.
-#[tactic(auto, using(crate::proofs::Json::json_read))]
 pub fn read_by(parser: &mut Parser, octets: &[u8]) -> Result<Read, Memory>
     ensures { IfOk result (λ done. done ≡ read_of octets.now) }
 {
-    match parser.value(octets) {
-        Ok(value) => Ok(read_value(value)),
+    match parser.elements(octets) {
+        Ok(found) => Ok(read_from(found)),
         Err(_) => read(parser.alloc, octets),
     }
 }
@@ -57,7 +57,14 @@ fn read_value(value: Value) -> Read
     let Value::Array(elements) = value else {
         return Read::Bad(MessageFault::NotArray);
     };
-    let mut rest = elements.into_iter();
+    read_elements(elements)
+}
+
+// What the elements of a message's array are read as.
+pub(crate) fn read_elements(all: Vec<Value>) -> Read
+    ensures { result ≡ list_in (items_view all.items) }
+{
+    let mut rest = all.into_iter();
     let Some(code) = rest.next() else {
         return Read::Bad(MessageFault::Kind);
     };

@@ -1,14 +1,15 @@
-use Rattle.std.proofs.Common.{◌≡◌, ◌-◌, ◌<◌, ◌∷◌, length, Some, None, string_bytes, sym, ap, ◌∙◌, arith, rules}
+use Rattle.std.proofs.Common.{◌≡◌, ◌-◌, ◌<◌, [], ◌∷◌, length, Some, None, string_bytes, refl, sym, ap, ◌∙◌, arith, rules}
 use Rattle.json.specs.Token.{Token}
 use Rattle.json.specs.Json.{parse_map, after_end_array, read_key, items, members, value}
 use Rattle.json.specs.Reads.{token_of}
 use Rattle.json.proofs.Grammar.{value_is, value-begin_array, value-begin_object, read_key-shorter}
 use Rattle.serde_json.specs.Data.{null, boolean, number, string, array, object, put}
 use Rattle.serde_json.specs.Read.{of_json, of_items, of_members, converted}
-use Rattle.serde_json.specs.View.{view, number_view, members_view}
+use Rattle.serde_json.specs.View.{view, number_view, items_view, members_view}
 use Rattle.serde_json.specs.declared.value.Value.{String, Number, Bool, Null, the_lemmas}
 use Rattle.serde_json.proofs.Views.{view-Array, view-Object, members_view-insert_entry}
-use Rattle.wamp_messages.proofs.Tokens.{array_of, object_of, item_read, items_over, member_read, members_over, before, before_none, one_more}
+use Rattle.wamp_messages.proofs.Tokens.{array_of, object_of, item_read, items_over, member_read, members_over, before_none, one_more}
+use Rattle.wamp_messages.specs.Outermost.{before}
 use Rattle.wamp_messages.proofs.parser.+value_in.Goals as goal
 
 pub value_in-returns-in_ok-from_str-in-String-clause-value : goal.value_in-returns-in_ok-from_str-in-String-clause-value
@@ -57,31 +58,44 @@ value_in-returns-in_ok-members_in-in-BeginObject-clause-value t c =
     let found = c.in_ok-members_in-in-BeginObject in
     opened ∙ ap (parse_map object) found.ensures.value ∙ ap (λ d. Some (d, c.members_in.new.reader)) (sym (view-Object found.field-0))
 
-pub items_in-items-preserved : goal.items_in-items-preserved
-items_in-items-preserved t c =
+pub items_in-returns-then-take_end_array-clause-value : goal.items_in-returns-then-take_end_array-clause-value
+items_in-returns-then-take_end_array-clause-value t c =
+    let r = c.take_end_array.new.self in
+    let empty : c.new.result.items ≡ [] = search rules in
+    items_over (value c.args.depth) (length c.args.reader.now) c.args.reader.now r (omega arith) (grind arith)
+    ∙ ap (λ vs. Some (items_view vs, r)) (sym empty)
+
+pub more_items-items-init : goal.more_items-items-init
+more_items-items-init t c = (λ m enough. (m, enough, refl), omega arith)
+
+pub more_items-items-preserved : goal.more_items-items-preserved
+more_items-items-preserved t c =
     let p = value c.args.depth in
     let l = c.items in
-    let n = l.invariant.0 in
     let going : (after_end_array l.reader ≡ None) × (c.take_end_array.new.self ≡ l.reader) = grind arith in
     let done = c.in_ok-item.ensures in
     let v = c.in_ok-item.item in
     let r = c.value_in.new.reader in
-    let less : length r < length l.reader = rw (← going.1) done.shorter in
-    let turn = item_read p n l.reader r (view v) (omega (arith, l.invariant.1)) going.0 (rw (← going.1) done.value) in (
-      n - 1,
+    let less : length r < length l.reader = rw (← going.1) done.shorter in (
+      λ m enough.
+          let was = l.invariant.0 m enough in
+          let n = was.0 in
+          let turn = item_read p n l.reader r (view v) (omega (arith, was.1)) going.0 (rw (← going.1) done.value) in (
+            n - 1,
+            omega (arith, was.1),
+            was.2 ∙ ap (parse_map (before l.all.items)) turn ∙ one_more l.all.items v _
+                ∙ ap (λ vs. parse_map (before vs) (converted of_items (items p (n - 1) r))) (sym c.in_ok-push.ensures.items),
+          ),
       omega (arith, l.invariant.1),
-      l.invariant.2 ∙ ap (parse_map (before l.found.items)) turn ∙ one_more l.found.items v _
-          ∙ ap (λ vs. parse_map (before vs) (converted of_items (items p (n - 1) r))) (sym c.in_ok-push.ensures.items),
-      omega (arith, l.invariant.3),
     )
 
-pub items_in-returns-clause-value : goal.items_in-returns-clause-value
-items_in-returns-clause-value t c =
+pub more_items-returns-clause-value : goal.more_items-returns-clause-value
+more_items-returns-clause-value t c n enough =
     let p = value c.args.depth in
     let l = c.items in
-    let n = l.invariant.0 in
+    let was = l.invariant.0 n enough in
     let r = c.take_end_array.new.self in
-    l.invariant.2 ∙ ap (parse_map (before l.found.items)) (items_over p n l.reader r l.invariant.1 (grind arith)) ∙ ap (λ ds. Some (ds, r)) (before_none l.found.items)
+    was.2 ∙ ap (parse_map (before l.all.items)) (items_over p was.0 l.reader r was.1 (grind arith)) ∙ ap (λ ds. Some (ds, r)) (before_none l.all.items)
 
 pub members_in-members-preserved : goal.members_in-members-preserved
 members_in-members-preserved t c =
