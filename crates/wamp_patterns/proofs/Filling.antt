@@ -1,8 +1,8 @@
 -- What a kind and a URI leave: the one text of this kind that may match, and when it does.
 use Rattle.std.proofs.Common.{◌≡◌, ℕ, zero, suc, ◌+◌, ◌-◌, ◌*◌, ◌/◌, ◌%◌, ◌<◌, ◌≤◌, Bool, true, false, cond, ◌&&◌, ◌||◌, Option, Some, None}
-use Rattle.std.proofs.Common.{Ordering, List, [], ◌∷◌, ◌++◌, length, map, take, eqb, ltb, leb, refl, ap, sym, subst, ◌∙◌, arith}
+use Rattle.std.proofs.Common.{Ordering, List, [], ◌∷◌, ◌++◌, length, map, take, drop, eqb, ltb, leb, refl, ap, sym, subst, ◌∙◌, arith}
 use Rattle.std.specs.declared.cmp.Ordering.TheVariants.{Less, Equal, Greater}
-use Rattle.std.specs.List.{count_by, list_any, onto_first}
+use Rattle.std.specs.List.{list_any, onto_first}
 use Rattle.std.specs.Ordering.{is_lt, nat_cmp, bool_cmp, ordering_then}
 use Rattle.std.specs.Cmp.Lexicographic.{pointwise, slice_cmp}
 use Rattle.std.proofs.lemmas.Bool.Decides.{nat_tests}
@@ -13,8 +13,9 @@ use Rattle.wamp_ids.specs.declared.policy.Match.TheVariants.{Exact, Prefix, Wild
 use Rattle.wamp_ids.specs.Uri.{parts, is_empty}
 use Rattle.wamp_patterns.specs.Matching.{part_matches, text_matches}
 use Rattle.wamp_patterns.specs.Ranking.{text_is_better}
-use Rattle.wamp_patterns.specs.Kinds.{behind, ended, ending, filled, front, gap, gaps_from, is_named, kind, masked, two_octets}
+use Rattle.wamp_patterns.specs.Kinds.{behind, components, ended, ending, filled, front, gap, gaps_from, is_named, is_shaped, kind, masked, shape, two_octets}
 use Rattle.wamp_patterns.specs.Texts.{text_cmp}
+use Rattle.wamp_patterns.proofs.Shapes.{gaps_behind, ordered_gaps, shaped_own, shaped_same}
 use Rattle.wamp_patterns.proofs.Ranks.{no_parts, or_named, and_left, and_right, not_none, off, text_from_parts}
 
 -- ---- which components are empty
@@ -297,33 +298,52 @@ length_map : {A B : Type 0} (f : A → B) (xs : List A) → length (map f xs) �
 length_map f [] = refl
 length_map f (x ∷ xs) = ap suc (length_map f xs)
 
+number_of_parts : (text : List ℕ) → length (parts text) ≡ components text
+number_of_parts text = length-slice_split (λ c. eqb c 46) text
+
+as_many : (w u : List ℕ) → text_matches Wildcard w u ≡ true → components w ≡ components u
+as_many w u h = sym (number_of_parts w) ∙ same_parts_length part_matches (parts w) (parts u) h ∙ number_of_parts u
+
 wildcard_filled : (w u : List ℕ) → text_matches Wildcard w u ≡ true → filled Wildcard (kind Wildcard w) u ≡ Some w
 wildcard_filled w u h =
-    ap (λ b. cond b (Some (masked (map gap (parts w)) u)) None)
-    (same_true (length (map gap (parts w))) (count_by (λ c. eqb c 46) u + 1)
-    (length_map gap (parts w) ∙ same_parts_length part_matches (parts w) (parts u) h ∙ length-slice_split (λ c. eqb c 46) u))
+    let same : components w ≡ components u = as_many w u h in
+    let gaps : drop (components u + 1) (shape (components w) (map gap (parts w))) ≡ map gap (parts w) =
+    gaps_behind (components w) (components u + 1) (map gap (parts w)) (ap (λ n. n + 1) (sym same)) in
+    ap (λ b. cond b (Some (masked (drop (components u + 1) (kind Wildcard w)) u)) None)
+    (subst (λ n. is_shaped n (kind Wildcard w) ≡ true) same (shaped_own (components w) (map gap (parts w))))
+    ∙ ap (λ gs. Some (masked gs u)) gaps
     ∙ ap Some (text_from_parts (masked (map gap (parts w)) u) w
     (parts_masked (map gap (parts w)) u ∙ mask_gaps (parts w) (parts u) h))
 
-wildcard_gives : (k t u : List ℕ) → filled Wildcard k u ≡ Some t → (length k ≡ length (parts u)) × (masked k u ≡ t)
-wildcard_gives k t u h = go (eqb (length k) (count_by (λ c. eqb c 46) u + 1)) refl h
+wildcard_gives : (k t u : List ℕ) → filled Wildcard k u ≡ Some t
+    → (is_shaped (components u) k ≡ true) × (masked (drop (components u + 1) k) u ≡ t)
+wildcard_gives k t u h = go (is_shaped (components u) k) refl h
   where
-    go : (b : Bool) → eqb (length k) (count_by (λ c. eqb c 46) u + 1) ≡ b → cond b (Some (masked k u)) None ≡ Some t
-        → (length k ≡ length (parts u)) × (masked k u ≡ t)
-    go true e f = (true_same (length k) (count_by (λ c. eqb c 46) u + 1) e ∙ sym (length-slice_split (λ c. eqb c 46) u), some_text f)
+    go : (b : Bool) → is_shaped (components u) k ≡ b → cond b (Some (masked (drop (components u + 1) k) u)) None ≡ Some t
+        → (is_shaped (components u) k ≡ true) × (masked (drop (components u + 1) k) u ≡ t)
+    go true e f = (e, some_text f)
     go false e f = off (cc f)
 
 wildcard_matches : (k t u : List ℕ) → filled Wildcard k u ≡ Some t → text_matches Wildcard t u ≡ true
 wildcard_matches k t u h =
     let g = wildcard_gives k t u h in
-    ap (λ ps. pointwise part_matches ps (parts u)) (ap parts (sym g.1) ∙ parts_masked k u) ∙ mask_matches k (parts u)
+    ap (λ ps. pointwise part_matches ps (parts u)) (ap parts (sym g.1) ∙ parts_masked (drop (components u + 1) k) u)
+    ∙ mask_matches (drop (components u + 1) k) (parts u)
 
 wildcard_kind : (w t u : List ℕ) → list_any is_empty (parts u) ≡ false → filled Wildcard (kind Wildcard w) u ≡ Some t
     → kind Wildcard t ≡ kind Wildcard w
 wildcard_kind w t u named h =
-    let g = wildcard_gives (map gap (parts w)) t u h in
-    ap (map gap) (ap parts (sym g.1) ∙ parts_masked (map gap (parts w)) u)
-    ∙ gaps_masked (parts w) (parts u) (sym (length_map gap (parts w)) ∙ g.0) named
+    let g = wildcard_gives (kind Wildcard w) t u h in
+    let same : components u ≡ components w = shaped_same (components u) (components w) (map gap (parts w)) g.0 in
+    let gaps : drop (components u + 1) (shape (components w) (map gap (parts w))) ≡ map gap (parts w) =
+    gaps_behind (components w) (components u + 1) (map gap (parts w)) (ap (λ n. n + 1) same) in
+    let text : masked (map gap (parts w)) u ≡ t = ap (λ gs. masked gs u) (sym gaps) ∙ g.1 in
+    let told : map gap (parts t) ≡ map gap (parts w) =
+    ap (map gap) (ap parts (sym text) ∙ parts_masked (map gap (parts w)) u)
+    ∙ gaps_masked (parts w) (parts u) (number_of_parts w ∙ sym same ∙ sym (number_of_parts u)) named in
+    let number : components t ≡ components w =
+    sym (number_of_parts t) ∙ sym (length_map gap (parts t)) ∙ ap length told ∙ length_map gap (parts w) ∙ number_of_parts w in
+    λ i. shape (number i) (told i)
 
 -- what matches is what its kind leaves
 pub only_one : (m : Match) (t u : List ℕ) → length u ≤ 1024 → text_matches m t u ≡ true → filled m (kind m t) u ≡ Some t
@@ -351,4 +371,8 @@ no_better Prefix q t u l h k order =
     let a : length q ≤ length u = (begins q u h).1 in
     let b : length t ≤ length u = (begins t u k).1 in
     prefix_order q t (omega arith) (omega arith) order
-no_better Wildcard q t u l h k order = ap is_lt (sym (gaps_order (parts q) (parts t))) ∙ order
+no_better Wildcard q t u l h k order =
+    let same : components t ≡ components q = as_many t u k ∙ sym (as_many q u h) in
+    ap is_lt (sym (gaps_order (parts q) (parts t))
+    ∙ sym (ordered_gaps (components t) (map gap (parts q)) (map gap (parts t)))
+    ∙ ap (λ n. text_cmp (shape n (map gap (parts q))) (kind Wildcard t)) same) ∙ order

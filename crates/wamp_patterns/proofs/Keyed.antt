@@ -1,5 +1,5 @@
 -- A map's entries, with their keys by a function: what is looked up, put and removed by the keys' images.
-use Rattle.std.proofs.Common.{◌≡◌, ℕ, Bool, true, false, cond, Option, Some, None, is_some, Ordering, List, [], ◌∷◌, map, refl, ap, sym, ◌∙◌}
+use Rattle.std.proofs.Common.{◌≡◌, ℕ, Bool, true, false, cond, Option, Some, None, is_some, Ordering, List, [], ◌∷◌, filter, map, refl, ap, sym, ◌∙◌}
 use denote.Ref.{Bor}
 use Rattle.std.specs.declared.cmp.Ordering.TheVariants.{Less, Equal, Greater}
 use Rattle.std.specs.Option.{IsSome}
@@ -51,6 +51,16 @@ module _ {K B V : Type 0} (f : K → B) where
       go Less h = refl
       go Equal h = refl
       go Greater h = ap (λ xs. (f e.0, e.1) ∷ xs) h
+
+  pub filtered : (test : B → Bool) (es : List (K × V)) → with_keys f (filter (λ e. test (f e.0)) es) ≡ filter (λ e. test e.0) (with_keys f es)
+  filtered test [] = refl
+  filtered test (e ∷ es) = go (test (f e.0)) (filtered test es)
+    where
+      go : (b : Bool) → with_keys f (filter (λ x. test (f x.0)) es) ≡ filter (λ x. test x.0) (with_keys f es)
+          → with_keys f (cond b (e ∷ filter (λ x. test (f x.0)) es) (filter (λ x. test (f x.0)) es))
+          ≡ cond b ((f e.0, e.1) ∷ filter (λ x. test x.0) (with_keys f es)) (filter (λ x. test x.0) (with_keys f es))
+      go true h = ap (λ xs. (f e.0, e.1) ∷ xs) h
+      go false h = h
 
   pub all_keyed : (P : B → Type 0) (es : List (K × V)) → AllByRecursion (λ k. P (f k)) (keys_of es) → AllByRecursion P (keys_of (with_keys f es))
   all_keyed P [] all = tt

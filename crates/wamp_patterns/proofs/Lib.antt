@@ -13,5 +13,6 @@ pub mod Places
 pub mod Placing
 pub mod Ranks
 pub mod Serving
+pub mod Shapes
 pub mod Tables
 pub mod Wordings

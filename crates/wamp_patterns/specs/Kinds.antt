@@ -1,6 +1,6 @@
 -- Kinds of patterns of one match. A URI and a kind leave one text that a pattern of this kind may have to match the URI: so a search
 -- asks once for each kind that stands. Kinds stand in the order in which their patterns serve.
-use Rattle.std.specs.Prelude.{◌≡◌, ℕ, ◌+◌, ◌-◌, ◌*◌, ◌/◌, ◌%◌, ◌==◌, nat_le, nat_lt, Bool, true, List, [], ◌∷◌, ◌++◌, length, map, take}
+use Rattle.std.specs.Prelude.{◌≡◌, ℕ, ◌+◌, ◌-◌, ◌*◌, ◌/◌, ◌%◌, ◌==◌, nat_le, nat_lt, Bool, true, List, [], ◌∷◌, ◌++◌, length, map, take, drop, replicate}
 use Rattle.std.specs.Prelude.{Option, Some, None, slice_get, if◌then◌else◌}
 use Rattle.std.specs.List.{count_by}
 use Rattle.std.specs.Option.{unwrap_or}
@@ -9,7 +9,7 @@ use Rattle.std.specs.BTreeMap.{insert_entry}
 use Rattle.wamp_ids.specs.declared.policy.Match.{Match}
 use Rattle.wamp_ids.specs.declared.policy.Match.TheVariants.{Exact, Prefix, Wildcard}
 use Rattle.wamp_ids.specs.Uri.{parts, is_empty}
-use Rattle.wamp_patterns.specs.Texts.{same_text, text_cmp}
+use Rattle.wamp_patterns.specs.Texts.{is_between, same_text, text_cmp}
 
 abbrev pub gap : List ℕ → ℕ
 gap part = if is_empty part then 1 else 0
@@ -21,12 +21,21 @@ two_octets n = n / 256 ∷ n % 256 ∷ []
 abbrev pub ending : List ℕ → ℕ
 ending text = unwrap_or (slice_get text (length text - 1)) 0
 
+-- how many components there are
+abbrev pub components : List ℕ → ℕ
+components text = count_by (λ c. c == 46) text + 1
+
+-- as many ones as there are components, then 0, then of each component whether it is empty: so the shapes of one number of components
+-- stand together
+abbrev pub shape : ℕ → List ℕ → List ℕ
+shape number gaps = replicate number 1 ++ 0 ∷ gaps
+
 -- exact patterns are of one kind, prefixes of one length and one last octet are, and wildcards of as many components of which the same
 -- are empty
 abbrev pub kind : Match → List ℕ → List ℕ
 kind Exact text = []
 kind Prefix text = two_octets (65535 - length text) ++ ending text ∷ []
-kind Wildcard text = map gap (parts text)
+kind Wildcard text = shape (components text) (map gap (parts text))
 
 -- a text that ends so
 abbrev pub ended : ℕ → List ℕ → Option (List ℕ)
@@ -51,11 +60,15 @@ abbrev pub masked : List ℕ → List ℕ → List ℕ
 masked gaps [] = []
 masked gaps (c ∷ cs) = if c == 46 then 46 ∷ masked (behind gaps) cs else (if is_named gaps then c ∷ masked gaps cs else masked gaps cs)
 
+-- it stands where the shapes of so many components do
+abbrev pub is_shaped : ℕ → List ℕ → Bool
+is_shaped number kind = is_between (replicate number 1) (1 ∷ replicate number 1) kind
+
 -- the one text that a pattern of this kind may have to match the URI
 abbrev pub filled : Match → List ℕ → List ℕ → Option (List ℕ)
 filled Exact kind uri = Some uri
 filled Prefix kind uri = front kind uri
-filled Wildcard kind uri = if length kind == count_by (λ c. c == 46) uri + 1 then Some (masked kind uri) else None
+filled Wildcard kind uri = if is_shaped (components uri) kind then Some (masked (drop (components uri + 1) kind) uri) else None
 
 -- which components are empty, where the first one is told so far to be so or not
 abbrev pub gaps_from : ℕ → List ℕ → List ℕ

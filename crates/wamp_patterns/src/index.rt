@@ -1,14 +1,16 @@
-ghost use Rattle.std.specs.Prelude.{◌≡◌, ◌≤◌, ◌+◌, ◌++◌, [], None, Some, IfOk, IfErr, OnOk, OnErr, option_copied, length, map};
+ghost use Rattle.std.specs.Prelude.{◌≡◌, ◌≤◌, ◌+◌, ◌++◌, [], None, Some, IfOk, IfErr, OnOk, OnErr, option_copied, length, filter, map};
 ghost use Rattle.std.specs.Map.{keys_of, lookup, remove_entry, values_of};
 ghost use Rattle.std.specs.BTreeMap.{insert_entry};
-ghost use Rattle.wamp_patterns.specs.Kinds.{Tells, all_found, count_of, filled, first_found, found_kind, lowered, with_text};
-ghost use Rattle.wamp_patterns.specs.Texts.{AreTextsInOrder, same_text, shown, text_cmp};
+ghost use Rattle.wamp_patterns.specs.Kinds.{Tells, all_found, components, count_of, filled, first_found, found_kind, is_shaped, lowered, with_text};
+ghost use Rattle.wamp_patterns.specs.Texts.{AreTextsInOrder, same_text, shown, text_cmp, texts_of};
 
-use crate::kinds::{front, kind_of, masked_if_fit};
+use crate::kinds::{components, front, kind_of, masked_if_fit, ones};
 use crate::memory::Memory;
 use crate::texts::Texts;
 use std::alloc::Global;
+use std::borrow::CowSlice;
 use std::collections::BTreeMap;
+use std::collections::btree_map::Range;
 use wamp_ids::Match;
 
 /// Values by the texts of the patterns of one match, and beside them how many patterns there are of each kind that stands.
@@ -101,8 +103,35 @@ impl<V> Index<V> {
     }
 
     /// The value of the first kind, in their order, of which a pattern matches the URI. Takes no memory, and for each kind that stands a
-    /// look-up.
+    /// look-up: of wildcards for each that has as many components as the URI, and no other is met.
     pub(crate) fn first(&self, matching: Match, uri: &[u8]) -> Option<&V>
+        requires { length uri.now ≤ 1024 }
+        ensures found { option_copied result ≡ first_found matching self.now.texts uri.now (keys_of self.now.kinds) }
+        ensures ordered { AreTextsInOrder self.now.kinds }
+    {
+        match matching {
+            Match::Wildcard => self.first_shape(uri),
+            _ => self.first_kind(matching, uri),
+        }
+    }
+
+    // The same for wildcards.
+    fn first_shape(&self, uri: &[u8]) -> Option<&V>
+        requires { length uri.now ≤ 1024 }
+        ensures found { option_copied result ≡ first_found Match.Wildcard self.now.texts uri.now (keys_of self.now.kinds) }
+        ensures ordered { AreTextsInOrder self.now.kinds }
+    {
+        let number = components(uri);
+        for (kind, _count) in shapes(&self.kinds, number) {
+            if let Some(value) = self.of_shape(kind.as_slice(), number, uri) {
+                return Some(value);
+            }
+        }
+        None
+    }
+
+    // The same for all kinds, each of which is met.
+    fn first_kind(&self, matching: Match, uri: &[u8]) -> Option<&V>
         requires { length uri.now ≤ 1024 }
         ensures found { option_copied result ≡ first_found matching self.now.texts uri.now (keys_of self.now.kinds) }
         ensures ordered { AreTextsInOrder self.now.kinds }
@@ -123,7 +152,7 @@ impl<V> Index<V> {
         match matching {
             Match::Exact => self.texts.get(uri),
             Match::Prefix => self.of_ending(kind, uri),
-            Match::Wildcard => self.of_shape(kind, uri),
+            Match::Wildcard => self.of_shape(kind, components(uri), uri),
         }
     }
 
@@ -137,12 +166,14 @@ impl<V> Index<V> {
         self.texts.get(text)
     }
 
-    // The same for wildcards.
-    fn of_shape(&self, kind: &[u8], uri: &[u8]) -> Option<&V>
-        requires { length uri.now ≤ 1024 }
+    // The same for wildcards, where the URI has so many components.
+    fn of_shape(&self, kind: &[u8], number: usize, uri: &[u8]) -> Option<&V>
+        requires short { length uri.now ≤ 1024 }
+        requires number { number ≡ components uri.now }
+        requires within { number ≤ 1025 }
         ensures { option_copied result ≡ found_kind Match.Wildcard self.now.texts uri.now kind.now }
     {
-        let Some(text) = masked_if_fit(kind, uri) else {
+        let Some(text) = masked_if_fit(kind, number, uri) else {
             return None;
         };
         self.texts.get(text.as_slice())
@@ -202,6 +233,38 @@ impl<V> Index<V> {
         requires { length uri.now ≤ 1024 }
         ensures { IfOk result (λ hits. shown hits.entries ≡ all_found matching self.now.texts uri.now [] (keys_of self.now.kinds)) }
     {
+        match matching {
+            Match::Wildcard => self.shape_hits(alloc, uri),
+            _ => self.kind_hits(alloc, matching, uri),
+        }
+    }
+
+    // The same for wildcards.
+    fn shape_hits<'a>(
+        &'a self,
+        alloc: Global,
+        uri: &[u8],
+    ) -> Result<BTreeMap<&'a [u8], &'a V>, Memory>
+        requires { length uri.now ≤ 1024 }
+        ensures { IfOk result (λ hits. shown hits.entries ≡ all_found Match.Wildcard self.now.texts uri.now [] (keys_of self.now.kinds)) }
+    {
+        let mut hits = BTreeMap::new(alloc);
+        for (kind, _count) in shapes(&self.kinds, components(uri)) {
+            self.add_hit(Match::Wildcard, kind.as_slice(), uri, &mut hits)?;
+        }
+        Ok(hits)
+    }
+
+    // The same for all kinds, each of which is met.
+    fn kind_hits<'a>(
+        &'a self,
+        alloc: Global,
+        matching: Match,
+        uri: &[u8],
+    ) -> Result<BTreeMap<&'a [u8], &'a V>, Memory>
+        requires { length uri.now ≤ 1024 }
+        ensures { IfOk result (λ hits. shown hits.entries ≡ all_found matching self.now.texts uri.now [] (keys_of self.now.kinds)) }
+    {
         let mut hits = BTreeMap::new(alloc);
         for (kind, _count) in self.kinds.iter() {
             self.add_hit(matching, kind.as_slice(), uri, &mut hits)?;
@@ -229,7 +292,7 @@ impl<V> Index<V> {
                 self.add_text(text, hits)
             }
             Match::Wildcard => {
-                let Some(text) = masked_if_fit(kind, uri) else {
+                let Some(text) = masked_if_fit(kind, components(uri), uri) else {
                     return Ok(());
                 };
                 self.add_text(text.as_slice(), hits)
@@ -251,6 +314,15 @@ impl<V> Index<V> {
         hits.insert(text, value)?;
         Ok(())
     }
+}
+
+// The kinds of wildcards of so many components.
+fn shapes(kinds: &Texts<usize>, number: usize) -> Range<'_, CowSlice<'static, u8>, usize>
+    requires { number ≤ 1025 }
+    ensures shapes { texts_of result ≡ filter (λ entry. is_shaped number entry.0) kinds.now }
+    ensures ordered { AreTextsInOrder kinds.now }
+{
+    kinds.between(ones(number), ones(number + 1))
 }
 
 fn count_of(kinds: &Texts<usize>, kind: &[u8]) -> usize

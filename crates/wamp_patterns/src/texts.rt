@@ -1,14 +1,15 @@
-ghost use Rattle.std.specs.Prelude.{◌≡◌, ◌<◌, ◌^◌, [], None, Some, IfOk, IfErr, OnOk, OnErr, MatchOption, option_copied, length};
+ghost use Rattle.std.specs.Prelude.{◌≡◌, ◌<◌, ◌^◌, [], None, Some, false, IfOk, IfErr, OnOk, OnErr, MatchOption, option_copied, length};
 ghost use Rattle.std.specs.Cow.{cow_slice_items};
 ghost use Rattle.std.specs.Map.{lookup, remove_entry};
 ghost use Rattle.std.specs.BTreeMap.{insert_entry};
-ghost use Rattle.wamp_patterns.specs.Texts.{AreTextsInOrder, same_text, text_cmp, texts_of};
+ghost use Rattle.std.specs.Ordering.{is_gt};
+ghost use Rattle.wamp_patterns.specs.Texts.{AreTextsInOrder, same_text, text_cmp, texts_between, texts_of};
 
 use crate::memory::Memory;
 use std::alloc::Global;
 use std::borrow::CowSlice;
 use std::collections::BTreeMap;
-use std::collections::btree_map::Iter;
+use std::collections::btree_map::{Iter, Range};
 use std::marker::Model;
 use std::mem;
 
@@ -138,6 +139,20 @@ impl<V> Texts<V> {
         ensures ordered { AreTextsInOrder self.now }
     {
         self.map.iter()
+    }
+
+    /// The texts from the first on and before the last with their values, in order.
+    pub(crate) fn between(
+        &self,
+        first: &'static [u8],
+        last: &'static [u8],
+    ) -> Range<'_, CowSlice<'static, u8>, V>
+        requires { is_gt (text_cmp first.now last.now) ≡ false }
+        ensures rest { texts_of result ≡ texts_between first.now last.now self.now }
+        ensures ordered { AreTextsInOrder self.now }
+    {
+        self.map
+            .range(CowSlice::Borrowed(first)..CowSlice::Borrowed(last))
     }
 }
 

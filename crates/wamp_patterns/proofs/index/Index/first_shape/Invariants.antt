@@ -1,0 +1,11 @@
+use Rattle.std.proofs.Common.{◌≡◌}
+use Rattle.std.specs.Map.{keys_of}
+use Rattle.wamp_ids.specs.declared.policy.Match.TheVariants.{Wildcard}
+use Rattle.wamp_patterns.specs.Kinds.{first_found}
+use Rattle.wamp_patterns.specs.Texts.{texts_of}
+use Rattle.wamp_patterns.proofs.index.Index.first_shape.Given as goal
+
+-- the rest gives what the whole gives
+abbrev pub invariant-loop-kind : goal.invariant-loop-kind
+invariant-loop-kind g l =
+    first_found Wildcard l.self.texts l.uri (keys_of (texts_of l.kind-iterator)) ≡ first_found Wildcard l.self.texts l.uri (keys_of l.self.kinds)
