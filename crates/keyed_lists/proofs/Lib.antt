@@ -5,6 +5,7 @@ pub mod Under
 pub mod Keys
 pub mod Gathering
 pub mod Told
+pub mod Tables
 pub mod Telling
 pub mod Changing
 pub mod Walking

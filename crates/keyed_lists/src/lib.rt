@@ -2,9 +2,11 @@
 #![tactic(auto)]
 
 mod place_index;
+mod place_table;
 mod rows;
 mod tally;
 
 pub use place_index::PlaceIndex;
+pub use place_table::PlaceTable;
 pub use rows::Rows;
 pub use tally::Tally;

@@ -9,7 +9,7 @@ ghost use Rattle.realm_sessions.specs.Connected.{less_one};
 use crate::fault::RealmFault;
 use crate::links::{Link, Session};
 use crate::session_index::SessionIndex;
-use keyed_lists::{PlaceIndex, Rows};
+use keyed_lists::{PlaceTable, Rows};
 use paxos_packets::Transport;
 use std::alloc::Global;
 use std::marker::Model;
@@ -21,7 +21,7 @@ use wamp_ids::Id;
 pub struct Connected {
     alloc: Global,
     rows: Rows<Link>,
-    transports: PlaceIndex<Transport>,
+    transports: PlaceTable<Transport>,
     ids: SessionIndex,
     count: u64,
 }
@@ -48,7 +48,7 @@ impl Connected {
         Connected {
             alloc,
             rows: Rows::new(alloc),
-            transports: PlaceIndex::new(alloc),
+            transports: PlaceTable::new(alloc),
             ids: SessionIndex::new(alloc),
             count: 0,
         }

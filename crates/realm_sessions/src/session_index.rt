@@ -5,14 +5,14 @@ ghost use Rattle.realm_sessions.specs.Links.{is_session, has_id};
 ghost use Rattle.realm_sessions.specs.Connected.{Follows};
 
 use crate::links::{Link, Session};
-use keyed_lists::{PlaceIndex, Rows};
+use keyed_lists::{PlaceTable, Rows};
 use std::alloc::Global;
 use wamp_ids::Id;
 
 // The places of sessions. Nothing is kept any more once there was no memory for one of them: each is found by a walk then.
 #[derive(Drop)]
 pub struct SessionIndex {
-    places: Option<PlaceIndex<u64>>,
+    places: Option<PlaceTable<u64>>,
 }
 
 impl SessionIndex {
@@ -21,7 +21,7 @@ impl SessionIndex {
         ensures { Follows result.places (λ _. None) }
     {
         SessionIndex {
-            places: Some(PlaceIndex::new(alloc)),
+            places: Some(PlaceTable::new(alloc)),
         }
     }
 
