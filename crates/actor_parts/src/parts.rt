@@ -126,6 +126,13 @@ impl<M: Machine, K: Keeper<M::Body>> Parts<M, K> {
         self.node.is_leading()
     }
 
+    /// How many packets wait to be posted to this node.
+    pub fn waiting_for(&self, peer: u8) -> usize
+        ensures { result ≡ length (waiting peer self.now.waiting) }
+    {
+        self.outboxes.waiting_for(peer)
+    }
+
     /// No more packets wait for a member than may.
     pub fn limits(&self)
         ensures { HasLimits self.now.waiting }

@@ -15,6 +15,15 @@ use node_actor::{Actor, ActorFault, Event, Keeper, Machine};
 // How many events are made before a turn at most.
 const MOST_EVENTS: u8 = 64;
 
+// How many packets wait for each member, member 1 first.
+fn waiting_of<M: Machine, K: Keeper<M::Body>>(actor: &Actor<M, K>) -> [usize; 7] {
+    let mut waiting = [0; 7];
+    for below in 0..7u8 {
+        waiting[usize::from(below)] = actor.waiting_for(below + 1);
+    }
+    waiting
+}
+
 // What the feed is told.
 fn seen_by<M: Machine, K: Keeper<M::Body>>(actor: &Actor<M, K>) -> Seen {
     Seen {
@@ -22,6 +31,7 @@ fn seen_by<M: Machine, K: Keeper<M::Body>>(actor: &Actor<M, K>) -> Seen {
         applied: actor.applied(),
         pending: actor.has_pending(),
         posted: actor.posted(),
+        waiting: waiting_of(actor),
         leads: actor.is_leading(),
     }
 }

@@ -6,13 +6,14 @@ use paxos_node::Event;
 use paxos_packets::NodeSet;
 
 /// What a feed is told when it is asked for an event: from whom the last turn treated a packet, how long the node's log is, whether
-/// entries are pending, to whom the last turn posted, and whether the node leads.
+/// entries are pending, to whom the last turn posted, how many packets wait for each member (member 1 first), and whether the node leads.
 #[derive(Clone, Copy)]
 pub struct Seen {
     pub from: Option<u8>,
     pub applied: u64,
     pub pending: bool,
     pub posted: NodeSet,
+    pub waiting: [usize; 7],
     pub leads: bool,
 }
 

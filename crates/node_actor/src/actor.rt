@@ -5,6 +5,7 @@ ghost use Rattle.replica_machine.specs.Log.{machine_from, Follows};
 ghost use Rattle.actor_parts.specs.declared.fault.ActorFault.TheVariants.{Failed};
 ghost use Rattle.actor_parts.specs.Parts.{IsPrefixOf, IsSound};
 ghost use Rattle.actor_posts.specs.Posts.{LeftOf};
+ghost use Rattle.packet_outboxes.specs.Outboxes.{waiting};
 ghost use Rattle.mail_table.specs.Seats.{Owns};
 ghost use Rattle.node_actor.specs.Actor.{acting, IsSeated};
 ghost use Rattle.node_actor.specs.Calls.{Acts, Rests, is_own, take_event};
@@ -110,7 +111,8 @@ impl<M: Machine, K: Keeper<M::Body>> Actor<M, K> {
 
     /// For each peer for which packets are due, one try to post the oldest; then tries to fetch from one peer after another, until one wins.
     /// The packet that came, if one did, reaches the node; without one, with one for another node, or with one from no other member nothing
-    /// more happens. Each turn begins to fetch one peer further on.
+    /// more happens. Each turn begins to fetch behind the peer whose packet came
+    /// last, or one peer further on.
     pub fn turn(&mut self, mail: &Mail<M::Body>) -> Result<Vec<M::Say>, ActorFault<M::Say>>
         requires owned { Owns mail.now self.old.seat }
         ensures still_owned { Owns mail.now self.new.seat }
@@ -218,6 +220,13 @@ impl<M: Machine, K: Keeper<M::Body>> Actor<M, K> {
         ensures { result ≡ is_leading self.now.node.state.proposer.role }
     {
         self.parts.is_leading()
+    }
+
+    /// How many packets wait to be posted to this node.
+    pub fn waiting_for(&self, peer: u8) -> usize
+        ensures { result ≡ length (waiting peer self.now.waiting) }
+    {
+        self.parts.waiting_for(peer)
     }
 
     /// Whose packet the last turn treated, if it treated one.

@@ -17,7 +17,8 @@ use mail_table::{Mail, NodeSeat};
 use paxos_packets::NodeSet;
 use replica_machine::Machine;
 
-// From whom the next turn fetches first; and of the last turn, whose packet it treated, and to whom it posted.
+// From whom the next turn fetches first: the member behind the one whose packet came last, so that each of those that always have one gets
+// as many turns; and of the last turn, whose packet it treated, and to whom it posted.
 #[derive(Drop)]
 pub(crate) struct Round {
     pub(crate) first: u8,
@@ -66,6 +67,7 @@ pub(crate) fn turn<M: Machine, K: Keeper<M::Body>>(
     match fetch_round(mail, seat, members, first) {
         None => pass(seat, parts),
         Some((from, packet)) => {
+            round.first = after(members, from);
             round.from = Some(from);
             deliver(mail, seat, parts, packet)
         },

@@ -150,6 +150,16 @@ impl<B: Drop> Outboxes<B> {
         put_first(&mut self.boxes, Stamped { stamp: 0, packet });
     }
 
+    /// How many packets wait for this node. Takes no memory.
+    pub fn waiting_for(&self, peer: u8) -> usize
+        ensures { result ≡ length (waiting peer self.now) }
+    {
+        match self.boxes.get(usize::from(peer)) {
+            None => 0,
+            Some(outbox) => outbox.len(),
+        }
+    }
+
     // Which outbox has the first packet that was put before the first ones of the others.
     fn oldest(&self) -> Option<First>
         ensures { IsOldestBelow (length self.now.boxes) self.now.boxes result }
