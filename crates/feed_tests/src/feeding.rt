@@ -40,6 +40,7 @@ fn quiet() -> Seen {
         applied: 0,
         pending: false,
         posted: NodeSet::new(),
+        waiting: [0; 7],
         leads: false,
     }
 }
@@ -326,7 +327,7 @@ fn acts<F: Feed<Act, Say>, G: Gate>(
     holds_back(rt, alloc, gate, feed, lobby, one)
 }
 
-// While entries are pending a node that does not lead gives two acts, and one that leads goes on.
+// While entries are pending a node that does not lead gives two acts, and one that leads goes on, but while too many packets wait for another.
 fn holds_back<F: Feed<Act, Say>, G: Gate>(
     rt: &impl Abort,
     alloc: Global,
@@ -335,7 +336,7 @@ fn holds_back<F: Feed<Act, Say>, G: Gate>(
     lobby: &Lobby,
     client: &mut Client,
 ) -> Result<(), Fail> {
-    let sent = send(alloc, client, "SSS")?;
+    let sent = send(alloc, client, "SSSSS")?;
     lobby.stir();
     let mut seen = quiet();
     seen.pending = true;
@@ -343,7 +344,10 @@ fn holds_back<F: Feed<Act, Say>, G: Gate>(
     assert_eq!(rt; round(alloc, gate, feed, &seen)?.as_str(), "1S1S");
     assert_eq!(rt; round(alloc, gate, feed, &seen)?.as_str(), "");
     seen.leads = true;
-    assert_eq!(rt; round(alloc, gate, feed, &seen)?.as_str(), "1S");
+    seen.waiting[2] = 257;
+    assert_eq!(rt; round(alloc, gate, feed, &seen)?.as_str(), "");
+    seen.waiting[2] = 256;
+    assert_eq!(rt; round(alloc, gate, feed, &seen)?.as_str(), "1S1S1S");
     Ok(())
 }
 

@@ -10,7 +10,7 @@ use realm_machine::{Out, Say};
 use rtrb::Consumer;
 use serve_draws::Draws;
 use serve_lanes::{Arrival, Lobby};
-use serve_ticks::{Due, Ticks};
+use serve_ticks::{Due, Keeping, Ticks};
 use std::alloc::Global;
 use std::sync::Arc;
 
@@ -51,6 +51,10 @@ pub struct ClientFeed<'a> {
     most: u32,
     // How many entries were applied by the last turn.
     applied: u64,
+    // How many ticks were given, whether each member keeps up (member 1 first), and whether acts are held back for one.
+    given: u64,
+    keeping: [Keeping; 7],
+    is_held: bool,
 }
 
 impl<'a> ClientFeed<'a> {
@@ -86,6 +90,17 @@ impl<'a> ClientFeed<'a> {
             under_way: 0,
             most: MOST_FORWARDED,
             applied: 0,
+            given: 0,
+            keeping: [
+                Keeping::new(),
+                Keeping::new(),
+                Keeping::new(),
+                Keeping::new(),
+                Keeping::new(),
+                Keeping::new(),
+                Keeping::new(),
+            ],
+            is_held: false,
         }
     }
 
@@ -119,16 +134,20 @@ impl<'a> ClientFeed<'a> {
 
     // Counts the last turn, and wakes whom it concerns. Once a round.
     fn count(&mut self, seen: &Seen) {
-        let moved = wake_peers(self.members, self.lobbies, seen);
+        tell_waits(self.lobby, self.members, seen);
+        self.is_held = hold_back(&mut self.keeping, self.given, &seen.waiting);
+        let moved = wake_peers(self.node, self.members, self.lobbies, seen);
         if self.lobby.take_stirred() {
             self.take_arrivals();
             self.lanes.stir();
         }
         if seen.pending || seen.applied != self.applied {
             self.pace.moved();
+        } else if moved {
+            self.pace.stirred();
         }
         self.applied = seen.applied;
-        let may_look = self.under_way < self.most && self.lanes.is_on();
+        let may_look = !self.is_held && self.under_way < self.most && self.lanes.is_on();
         self.pace.judge(!moved && !self.is_busy && !may_look);
         self.is_busy = false;
         self.ticks
@@ -147,6 +166,7 @@ impl<'a> ClientFeed<'a> {
         Some(match self.ticks.next()? {
             Due::Tick => {
                 self.pace.ticked();
+                self.given = self.given.saturating_add(1);
                 Event::Tick { node }
             },
             Due::Start => Event::Start { node },
@@ -156,7 +176,7 @@ impl<'a> ClientFeed<'a> {
 
     // What a client does.
     fn act(&mut self) -> Option<Event<Act>> {
-        if self.under_way >= self.most {
+        if self.is_held || self.under_way >= self.most {
             return None;
         }
         let (transport, body) = self.lanes.next(&mut self.draws)?;
@@ -223,16 +243,38 @@ impl Feed<Act, Say> for ClientFeed<'_> {
     }
 }
 
-// Wakes those to whom the last turn posted, and the one whose packet it took. Answers whether there are any.
-fn wake_peers(members: Members, lobbies: &[Arc<Lobby>], seen: &Seen) -> bool {
+// Says in the node's lobby for whom its packets wait.
+fn tell_waits(lobby: &Lobby, members: Members, seen: &Seen) {
+    for below in 0..members.count() {
+        if let Some(waiting) = seen.waiting.get(usize::from(below)) {
+            lobby.set_waits(below + 1, *waiting > 0);
+        }
+    }
+}
+
+// Whether acts are held back, so that each member keeps up for whom so many packets wait at this tick.
+fn hold_back(keeping: &mut [Keeping; 7], tick: u64, waiting: &[usize; 7]) -> bool {
+    let mut is_held = false;
+    for place in 0..7 {
+        if keeping[place].holds(tick, waiting[place]) {
+            is_held = true;
+        }
+    }
+    is_held
+}
+
+// Wakes those to whom the last turn of this node posted, and the one whose packet it took, if packets of that one wait for room. Answers
+// whether it posted or took any.
+fn wake_peers(node: u8, members: Members, lobbies: &[Arc<Lobby>], seen: &Seen) -> bool {
     let mut any = false;
     for below in 0..members.count() {
         let peer = below + 1;
-        if seen.posted.contains(peer) || seen.from == Some(peer) {
-            any = true;
-            if let Some(lobby) = lobbies.get(usize::from(below)) {
-                lobby.wake();
-            }
+        let (posted, took) = (seen.posted.contains(peer), seen.from == Some(peer));
+        any = any || posted || took;
+        if let Some(lobby) = lobbies.get(usize::from(below))
+            && (posted || took && lobby.waits_for(node))
+        {
+            lobby.wake();
         }
     }
     any

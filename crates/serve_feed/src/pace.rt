@@ -11,17 +11,21 @@ const TICK_MILLIS: u64 = 10;
 /// After how many idle rounds in a row a node rests.
 const IDLE_ROUNDS: u8 = 2;
 
+/// How many rounds with packets make a node expect more before the next tick. A few come with each tick.
+const ROUNDS_MOVING: u8 = 16;
+
 /// Each how many rounds a node that does not rest looks at the clock.
 const ROUNDS_A_LOOK: u64 = 64;
 
 /// What the gate and the feed of one node's thread tell each other: which round it is, how many rounds in a row were idle, whether a tick is
-/// due, and whether entries moved since the last one. It stays on its thread.
+/// due, and whether entries or many packets moved since the last one. It stays on its thread.
 #[derive(Drop)]
 pub struct Pace {
     round: Cell<u64>,
     idle: Cell<u8>,
     is_due: Cell<bool>,
     is_moving: Cell<bool>,
+    stirs: Cell<u8>,
 }
 
 impl Pace {
@@ -32,6 +36,7 @@ impl Pace {
             idle: Cell::new(0),
             is_due: Cell::new(true),
             is_moving: Cell::new(false),
+            stirs: Cell::new(0),
         }
     }
 
@@ -64,17 +69,27 @@ impl Pace {
     pub(crate) fn ticked(&self) {
         self.is_due.set(false);
         self.is_moving.set(false);
+        self.stirs.set(0);
     }
 
     // Entries are pending, or were applied.
     pub(crate) fn moved(&self) {
         self.is_moving.set(true);
     }
+
+    // Packets were posted or taken.
+    pub(crate) fn stirred(&self) {
+        let stirs = self.stirs.get().saturating_add(1);
+        self.stirs.set(stirs);
+        if stirs >= ROUNDS_MOVING {
+            self.moved();
+        }
+    }
 }
 
 /// The gate of a node's thread: it rests where the last two rounds were idle and no tick is due, until somebody wakes the node or 10 ms are over
-/// since a tick was due last; then it asks the caller's gate. Where entries moved since the last tick it looks for some microseconds before it
-/// rests: who waits for a packet has it sooner than it could rest and be woken.
+/// since a tick was due last; then it asks the caller's gate. Where entries or many packets moved since the last tick it looks for some
+/// microseconds before it rests: who waits for a packet has it sooner than it could rest and be woken.
 ///
 /// A round costs it some loads, and each 64th one a look at the clock. Where the clock cannot be read a tick is always due.
 #[derive(Drop)]

@@ -10,8 +10,8 @@ pub const MOST_CONNECTIONS: u64 = 256;
 /// How often a node's thread that expects it looks whether it was woken, before it rests: for about as long as to rest and to be woken takes.
 const LOOKS: u32 = 10_000;
 
-/// What a node's thread shares with the threads of its clients and with those of its peers: where it rests, who wakes it, and how many
-/// connections there are. One thread alone rests in it. No call takes memory, and but for [`Lobby::rest`] none waits.
+/// What a node's thread shares with the threads of its clients and with those of its peers: where it rests, who wakes it, for whom its
+/// packets wait, and how many connections there are. One thread alone rests in it. No call takes memory, and but for [`Lobby::rest`] none waits.
 #[derive(Drop)]
 pub struct Lobby {
     bell: Parker,
@@ -19,6 +19,13 @@ pub struct Lobby {
     is_resting: AtomicBool,
     is_stirred: AtomicBool,
     taken: AtomicU64,
+    // For whom its packets wait: a bit for each node.
+    waits: AtomicU64,
+}
+
+// The bit of a node; those above 7 have none.
+fn bit_of(node: u8) -> u64 {
+    if node < 8 { 1 << node } else { 0 }
 }
 
 impl Lobby {
@@ -30,12 +37,17 @@ impl Lobby {
             is_resting: AtomicBool::new(false),
             is_stirred: AtomicBool::new(false),
             taken: AtomicU64::new(0),
+            waits: AtomicU64::new(0),
         }
     }
 
     /// Lets the node's thread go on: it rests no longer, or its next rest ends at once. For who put something into the node's mail, or
     /// ends its run.
     pub fn wake(&self) {
+        // Where it is woken already, whoever woke it rings; and it takes that before it looks again.
+        if self.is_woken.load(Ordering::SeqCst) {
+            return;
+        }
         self.is_woken.store(true, Ordering::SeqCst);
         if self.is_resting.load(Ordering::SeqCst) {
             self.bell.unpark();
@@ -44,13 +56,34 @@ impl Lobby {
 
     /// The same, for who put something into one of the node's rings: it looks there.
     pub fn stir(&self) {
-        self.is_stirred.store(true, Ordering::SeqCst);
+        if !self.is_stirred.load(Ordering::SeqCst) {
+            self.is_stirred.store(true, Ordering::SeqCst);
+        }
         self.wake();
     }
 
     /// Whether somebody has stirred since the last call. Where nobody has, there is nothing new in the node's rings.
     pub fn take_stirred(&self) -> bool {
         self.is_stirred.load(Ordering::SeqCst) && self.is_stirred.swap(false, Ordering::SeqCst)
+    }
+
+    /// Says whether packets of the node wait for this other one. For the node's thread, at least one turn before it rests: whoever takes a
+    /// packet out of the box between the two either sees it then, or has made room for that turn. Nodes above 7 are none.
+    pub fn set_waits(&self, peer: u8, waits: bool) {
+        let kept = self.waits.load(Ordering::SeqCst);
+        let told = if waits {
+            kept | bit_of(peer)
+        } else {
+            kept & !bit_of(peer)
+        };
+        if told != kept {
+            self.waits.store(told, Ordering::SeqCst);
+        }
+    }
+
+    /// Whether packets of the node wait for this other one, as the node said last. For the other one, once it has taken a packet.
+    pub fn waits_for(&self, peer: u8) -> bool {
+        self.waits.load(Ordering::SeqCst) & bit_of(peer) != 0
     }
 
     /// Rests until somebody wakes or stirs, or for so long; at once where somebody did since the last rest. It may return early.

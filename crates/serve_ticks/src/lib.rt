@@ -1,6 +1,8 @@
-//! When a node of a served cluster ticks, begins a ballot and suspects another, by its turns alone: no clock is asked here.
+//! When a node of a served cluster ticks, begins a ballot, suspects another and holds acts back, by its turns alone: no clock is asked here.
 #![tactic(auto)]
 
+mod keeping;
 mod ticks;
 
+pub use keeping::Keeping;
 pub use ticks::{Due, Ticks};
