@@ -1,7 +1,10 @@
 use std::thread;
 use std::time::{Clock, Duration};
 
-/// How often a thread only gives way before it begins to sleep.
+/// How often a thread only looks again: a reader or writer that rests when it is asked to read or flush for nothing is asked by then.
+const LOOKS: u32 = 3;
+
+/// How often it only gives way, behind that, before it begins to sleep.
 const YIELDS: u32 = 64;
 
 /// How long it sleeps first, and at the most, in microseconds.
@@ -9,9 +12,10 @@ const FIRST_PAUSE: u64 = 50;
 
 const LONGEST_PAUSE: u64 = 1000;
 
-// How long a thread waits between vain tries: it gives way some times, and then sleeps for longer and longer.
+// How long a thread waits between vain tries: at first not at all, then it gives way some times, and then sleeps for longer and longer.
 #[derive(Drop)]
 pub(crate) struct Patience {
+    looks: u32,
     yields: u32,
     pause: u64,
 }
@@ -20,6 +24,7 @@ impl Patience {
     // As before the first vain try.
     pub fn new() -> Patience {
         Patience {
+            looks: LOOKS,
             yields: YIELDS,
             pause: FIRST_PAUSE,
         }
@@ -27,6 +32,10 @@ impl Patience {
 
     // Waits behind a vain try.
     pub fn wait(&mut self, clock: &impl Clock) {
+        if self.looks > 0 {
+            self.looks -= 1;
+            return;
+        }
         if self.yields > 0 {
             self.yields -= 1;
             thread::yield_now();

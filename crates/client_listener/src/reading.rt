@@ -43,8 +43,8 @@ pub fn read_transport<R: Read>(
 /// front of that.
 ///
 /// A turn is one read of up to 64 KiB, or one try that finds the ring full; `turns` counts them down, and of more than 2^32
-/// only 2^32 are left. Behind a vain try the reader is asked to read no octets, and the thread gives way or sleeps, for
-/// 1 ms at the most. The memory that is taken does not grow with the length of the stream.
+/// only 2^32 are left. Behind a vain try the reader is asked to read no octets, and from the fourth in a row on the thread
+/// gives way or sleeps, for 1 ms at the most. The memory that is taken does not grow with the length of the stream.
 /// (WAMP specification, "RawSocket Transport".)
 pub fn put_transport<R: Read>(
     clock: &impl Clock,

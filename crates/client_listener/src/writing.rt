@@ -35,8 +35,8 @@ pub fn write_transport<W: Write, P: Protocol<ToClient>>(
 ///
 /// The frames of all items at hand are written and flushed together, and earlier where they pass 64 KiB. A turn is one try
 /// that finds the ring empty; `turns` counts them down, and of more than 2^32 only 2^32 are left. At a vain try the writer is
-/// flushed, and the thread gives way or sleeps, for 1 ms at the most. The memory that is taken does not grow with the number
-/// of items. (WAMP specification, "RawSocket Transport".)
+/// flushed, and from the fourth in a row on the thread gives way or sleeps, for 1 ms at the most. The memory that is taken
+/// does not grow with the number of items. (WAMP specification, "RawSocket Transport".)
 pub fn take_transport<W: Write, P: Protocol<ToClient>>(
     clock: &impl Clock,
     alloc: Global,
