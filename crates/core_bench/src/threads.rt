@@ -16,9 +16,13 @@ use std::thread;
 use std::thread::Threads;
 use std::time::Instant;
 
-// After how many turns in which nothing came a node ticks, and how many turns it makes at most.
+// After how many turns in which nothing came a node ticks, and after how many its thread gives way each time, so that each node comes to
+// its turns where processors are wanting.
 const QUIET: u64 = 100_000;
 
+const STRETCH: u64 = 1024;
+
+// How many turns a node makes at most.
 const MOST_TURNS: u64 = 1 << 40;
 
 // The node at which acts are taken. It does not lead.
@@ -107,6 +111,9 @@ impl Asks<'_> {
         }
         self.quiet = self.quiet.saturating_add(1);
         self.turns.idle = self.turns.idle.saturating_add(1);
+        if self.quiet % STRETCH == 0 {
+            thread::yield_now();
+        }
     }
 }
 
