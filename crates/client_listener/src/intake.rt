@@ -7,19 +7,20 @@ use bytes::BytesMut;
 use std::alloc::Global;
 use std::io::Read;
 use std::marker::Model;
-use wamp_messages::read;
+use wamp_messages::{Parser, read_by};
 use wamp_rawsocket::{Frame, FrameFault, FrameKind, Splitter};
 
-/// How many octets one read takes at the most.
-const CHUNK: usize = 1 << 16;
+/// How many octets one read takes at the most. The room of a read is cleared before it, so more of it would cost each small message.
+const CHUNK: usize = 1 << 14;
 
 // What a client's octets are read into, and cut into frames. A clause sees what the splitter holds.
 #[derive(Drop)]
 pub(crate) struct Intake {
-    alloc: Global,
     splitter: Splitter,
     // What one read gave, kept for its room.
     chunk: BytesMut,
+    // What messages are read by, kept for its room.
+    parser: Parser,
 }
 
 impl Model for Intake {
@@ -38,9 +39,9 @@ impl Intake {
         ensures err { IfErr result (λ fault. fault ≡ ListenFault.Memory) }
     {
         Ok(Intake {
-            alloc,
             splitter: Splitter::new(alloc),
             chunk: BytesMut::with_capacity(alloc, CHUNK)?,
+            parser: Parser::new(alloc),
         })
     }
 
@@ -68,12 +69,13 @@ impl Intake {
     }
 
     // The item that is put for a frame, if one is.
-    pub fn item(&self, frame: Frame) -> Result<Option<FromClient>, ListenFault>
-        ensures { Makes result (item_of frame.kind frame.payload) }
+    pub fn item(&mut self, frame: Frame) -> Result<Option<FromClient>, ListenFault>
+        ensures item { Makes result (item_of frame.kind frame.payload) }
+        ensures same { self.new ≡ self.old }
     {
         match frame.kind {
-            FrameKind::Message => Ok(Some(FromClient::Read(read(
-                self.alloc,
+            FrameKind::Message => Ok(Some(FromClient::Read(read_by(
+                &mut self.parser,
                 frame.payload.as_slice(),
             )?))),
             FrameKind::Ping => Ok(Some(FromClient::Ping(frame.payload))),

@@ -42,7 +42,7 @@ pub fn read_transport<R: Read>(
 /// last. `Turns` once the turns are spent, or where the ring is full and its other end was dropped, and `Memory`: what was put is then a
 /// front of that.
 ///
-/// A turn is one read of up to 64 KiB, or one try that finds the ring full; `turns` counts them down, and of more than 2^32
+/// A turn is one read of up to 16 KiB, or one try that finds the ring full; `turns` counts them down, and of more than 2^32
 /// only 2^32 are left. Behind a vain try the reader is asked to read no octets, and from the fourth in a row on the thread
 /// gives way or sleeps, for 1 ms at the most. The memory that is taken does not grow with the length of the stream.
 /// (WAMP specification, "RawSocket Transport".)
