@@ -1,7 +1,7 @@
 -- Lists of events with one more behind, or none.
 use Rattle.std.proofs.Common.{◌≡◌, ℕ, Bool, true, false, List, [], ◌∷◌, ◌++◌, ap, sym, ◌∙◌, refl, Option, Some, None}
 use Rattle.std.specs.Prelude.{◌==◌, ◌&&◌, not, if◌then◌else◌}
-use Rattle.std.specs.Option.{option_to_list}
+use Rattle.std.specs.Option.{option_to_list, is_some}
 use Rattle.std.proofs.lemmas.List.{append-nil, append_assoc}
 use Rattle.paxos_packets.specs.declared.entry.Entry.{Entry}
 use Rattle.paxos_packets.specs.declared.packet.Packet.{Packet}
@@ -109,3 +109,8 @@ module _ {B : Type 0} (same : B → B → Bool) (members : ℕ) where
   pub turn_rooms : (me : ℕ) (p : Option (Packet B)) (x : NodeState B) → has_no_room same (turn_event me members p) x ≡ false
   turn_rooms me None x = refl
   turn_rooms me (Some p) x = rooms_by (is_for me members p) p x
+
+-- an option that is seen to be none
+pub none_seen : {A : Type 0} (x : Option A) → is_some x ≡ false → x ≡ None
+none_seen None h = refl
+none_seen (Some a) h = absurd (let off : ◌≡◌ {A = Bool} true false = h in cc)

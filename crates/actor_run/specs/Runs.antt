@@ -96,6 +96,11 @@ module _ {B S Y M K : Type 0} (same : B → B → Bool) (from : S → Machine B 
       Makes o now feed (Ok held) = Waits held o now feed
       Makes o now feed (Err answer) = Ended o now feed answer
 
+      -- the same, where what is held back stays where it was
+      abbrev pub Keeps : Outset B Y M K → Acting B M K → F → Option (Event B) → Result (Unit {0}) (ActorFault Y) → Type 0
+      Keeps o now feed held (Ok _) = Waits held o now feed
+      Keeps o now feed held (Err answer) = Ended o now feed answer
+
       abbrev pub Runs : Outset B Y M K → Acting B M K → F → Result (Unit {0}) (ActorFault Y) → Type 0
       Runs o now feed (Ok _) = (held : Option (Event B)) × Waits held o now feed
       Runs o now feed (Err answer) = Ended o now feed answer

@@ -6,7 +6,7 @@ ghost use Rattle.mail_table.specs.Seats.{Owns};
 ghost use Rattle.node_actor.specs.Calls.{is_own};
 ghost use Rattle.actor_run.specs.Answers.{says_of, IsQuiet, Gets, Answered};
 ghost use Rattle.actor_run.specs.Events.{asked_by};
-ghost use Rattle.actor_run.specs.Runs.{Outset, Underway, Waits, Makes};
+ghost use Rattle.actor_run.specs.Runs.{Outset, Underway, Waits, Makes, Keeps};
 
 use crate::feed::{Feed, Seen};
 use mail_table::Mail;
@@ -16,10 +16,11 @@ use node_actor::{Actor, ActorFault, Event, Keeper, Machine};
 const MOST_EVENTS: u8 = 64;
 
 // How many packets wait for each member, member 1 first.
-fn waiting_of<M: Machine, K: Keeper<M::Body>>(actor: &Actor<M, K>) -> [usize; 7] {
+fn waiting_of<M: Machine, K: Keeper<M::Body>>(actor: &Actor<M, K>) -> [u16; 7] {
     let mut waiting = [0; 7];
     for below in 0..7u8 {
-        waiting[usize::from(below)] = actor.waiting_for(below + 1);
+        let count = actor.waiting_for(below + 1);
+        waiting[usize::from(below)] = u16::try_from(count).unwrap_or(u16::MAX);
     }
     waiting
 }
@@ -55,20 +56,21 @@ fn is_own<B>(node: u8, event: &Event<B>) -> bool
     }
 }
 
-// The event that was held back, or the next one that the feed gives.
+// The event that was held back, or the next one that the feed gives; none is held back then.
 fn next_event<M: Machine, K: Keeper<M::Body>, F: Feed<M::Body, M::Say>>(
     actor: &Actor<M, K>,
     feed: &mut F,
-    held: Option<Event<M::Body>>,
+    held: &mut Option<Event<M::Body>>,
 ) -> Option<Event<M::Body>>
-    ensures { (o : Outset M.Body M.Say M K) → Waits M.Body.same (machine_from M.next M.says M.to) M.content F.saw held o actor.now feed.old →
+    ensures next { (o : Outset M.Body M.Say M K) → Waits M.Body.same (machine_from M.next M.says M.to) M.content F.saw held.old o actor.now feed.old →
         MatchOption result (Waits M.Body.same (machine_from M.next M.says M.to) M.content F.saw Option.None o actor.now feed.new)
         (λ e. Underway M.Body.same (machine_from M.next M.says M.to) M.content F.saw (asked_by actor.now.node.me e) o actor.now feed.new) }
+    ensures taken { held.new ≡ Option.None }
 {
-    match held {
-        Some(event) => Some(event),
-        None => feed.next(seen_by(actor)),
+    if held.is_none() {
+        return feed.next(seen_by(actor));
     }
+    held.take()
 }
 
 // The sayings in a fault are handed out; gives it without them.
@@ -135,28 +137,27 @@ fn make<M: Machine, K: Keeper<M::Body>, F: Feed<M::Body, M::Say>>(
     }
 }
 
-// At most 64 events, the one that was held back first; gives one that is held back then.
+// At most 64 events, the one that was held back first; one may be held back then.
 pub(crate) fn make_events<M: Machine, K: Keeper<M::Body>, F: Feed<M::Body, M::Say>>(
     mail: &Mail<M::Body>,
     actor: &mut Actor<M, K>,
     feed: &mut F,
-    held: Option<Event<M::Body>>,
-) -> Result<Option<Event<M::Body>>, ActorFault<M::Say>>
+    held: &mut Option<Event<M::Body>>,
+) -> Result<(), ActorFault<M::Say>>
     requires owned { Owns mail.now actor.old.seat }
     ensures still_owned { Owns mail.now actor.new.seat }
     ensures makes { (o : Outset M.Body M.Say M K) →
-        Waits M.Body.same (machine_from M.next M.says M.to) M.content F.saw held o actor.old feed.old →
-        Makes M.Body.same (machine_from M.next M.says M.to) M.content F.saw K.holds K.finds K.failures o actor.new feed.new result }
+        Waits M.Body.same (machine_from M.next M.says M.to) M.content F.saw held.old o actor.old feed.old →
+        Keeps M.Body.same (machine_from M.next M.says M.to) M.content F.saw K.holds K.finds K.failures o actor.new feed.new held.new result }
 {
-    let mut held = held;
     for _ in 0..MOST_EVENTS {
         let Some(event) = next_event(actor, feed, held) else {
-            return Ok(None);
+            return Ok(());
         };
-        held = make(mail, actor, feed, event)?;
+        *held = make(mail, actor, feed, event)?;
         if held.is_some() {
-            return Ok(held);
+            return Ok(());
         }
     }
-    Ok(held)
+    Ok(())
 }

@@ -13,7 +13,7 @@ pub struct Seen {
     pub applied: u64,
     pub pending: bool,
     pub posted: NodeSet,
-    pub waiting: [usize; 7],
+    pub waiting: [u16; 7],
     pub leads: bool,
 }
 

@@ -3,7 +3,7 @@ ghost use Rattle.paxos_node.specs.declared.event.Event.{Event};
 ghost use Rattle.replica_machine.specs.Log.{machine_from};
 ghost use Rattle.mail_table.specs.Seats.{Owns};
 ghost use Rattle.node_actor.specs.Views.{View, StandsFor};
-ghost use Rattle.actor_run.specs.Runs.{Outset, Waits, Makes, Runs};
+ghost use Rattle.actor_run.specs.Runs.{Outset, Waits, Keeps, Runs};
 
 use crate::events::{make_events, told};
 use crate::feed::Feed;
@@ -16,23 +16,19 @@ fn turned<M: Machine, K: Keeper<M::Body>, F: Feed<M::Body, M::Say>>(
     mail: &Mail<M::Body>,
     actor: &mut Actor<M, K>,
     feed: &mut F,
-    held: Option<Event<M::Body>>,
-) -> Result<Option<Event<M::Body>>, ActorFault<M::Say>>
+) -> Result<(), ActorFault<M::Say>>
     requires owned { Owns mail.now actor.old.seat }
     ensures still_owned { Owns mail.now actor.new.seat }
-    ensures turned { (o : Outset M.Body M.Say M K) →
+    ensures turned { (held : Option (Event M.Body)) (o : Outset M.Body M.Say M K) →
         Waits M.Body.same (machine_from M.next M.says M.to) M.content F.saw held o actor.old feed.old →
-        Makes M.Body.same (machine_from M.next M.says M.to) M.content F.saw K.holds K.finds K.failures o actor.new feed.new result }
+        Keeps M.Body.same (machine_from M.next M.says M.to) M.content F.saw K.holds K.finds K.failures o actor.new feed.new held result }
 {
     match actor.turn(mail) {
         Ok(says) => {
             feed.hand(says);
-            Ok(held)
+            Ok(())
         },
-        Err(fault) => {
-            drop(held);
-            Err(told(feed, fault))
-        },
+        Err(fault) => Err(told(feed, fault)),
     }
 }
 
@@ -41,16 +37,16 @@ fn round<M: Machine, K: Keeper<M::Body>, F: Feed<M::Body, M::Say>>(
     mail: &Mail<M::Body>,
     actor: &mut Actor<M, K>,
     feed: &mut F,
-    held: Option<Event<M::Body>>,
-) -> Result<Option<Event<M::Body>>, ActorFault<M::Say>>
+    held: &mut Option<Event<M::Body>>,
+) -> Result<(), ActorFault<M::Say>>
     requires owned { Owns mail.now actor.old.seat }
     ensures still_owned { Owns mail.now actor.new.seat }
     ensures makes { (o : Outset M.Body M.Say M K) →
-        Waits M.Body.same (machine_from M.next M.says M.to) M.content F.saw held o actor.old feed.old →
-        Makes M.Body.same (machine_from M.next M.says M.to) M.content F.saw K.holds K.finds K.failures o actor.new feed.new result }
+        Waits M.Body.same (machine_from M.next M.says M.to) M.content F.saw held.old o actor.old feed.old →
+        Keeps M.Body.same (machine_from M.next M.says M.to) M.content F.saw K.holds K.finds K.failures o actor.new feed.new held.new result }
 {
     match make_events(mail, actor, feed, held) {
-        Ok(held) => turned(mail, actor, feed, held),
+        Ok(()) => turned(mail, actor, feed),
         Err(fault) => Err(fault),
     }
 }
@@ -78,10 +74,10 @@ pub fn run_node<M: Machine, K: Keeper<M::Body>, G: Gate, F: Feed<M::Body, M::Say
             drop(held);
             return Ok(());
         }
-        held = match round(mail, actor, feed, held) {
-            Ok(held) => held,
-            Err(fault) => return Err(fault),
-        };
+        if let Err(fault) = round(mail, actor, feed, &mut held) {
+            drop(held);
+            return Err(fault);
+        }
     }
     drop(held);
     Ok(())

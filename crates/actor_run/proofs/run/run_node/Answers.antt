@@ -32,4 +32,4 @@ returns-clause-runs g c = λ view gave got stands told.
     )
 
 pub loop-turn-preserved : goal.loop-turn-preserved
-loop-turn-preserved g c = (c.in-Ok.ensures.still_owned, λ o w. c.in-Ok.ensures.makes o (c.loop-turn.invariant.1 o w))
+loop-turn-preserved g c = (c.round.ensures.still_owned, λ o w. c.in_default.ensures.makes o (c.loop-turn.invariant.1 o w))
