@@ -422,6 +422,7 @@ fn home_of<'a>(
         lobby,
         lobbies,
         pace,
+        began: None,
     }
 }
 

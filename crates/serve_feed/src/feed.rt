@@ -4,7 +4,7 @@ use crate::pace::Pace;
 use actor_run::{Feed, Seen};
 use client_listener::ToClient;
 use paxos_node::Event;
-use paxos_packets::Members;
+use paxos_packets::{Members, NodeSet};
 use realm_acts::Act;
 use realm_machine::{Out, Say};
 use rtrb::Consumer;
@@ -51,8 +51,11 @@ pub struct ClientFeed<'a> {
     most: u32,
     // How many entries were applied by the last turn.
     applied: u64,
-    // How many ticks were given, whether each member keeps up (member 1 first), and whether acts are held back for one.
+    // How many packets waited for each member behind the last turn, and how many ticks were given by then, at the last of which it was judged
+    // whether each member keeps up (member 1 first in both), and whether acts are held back for one.
+    waiting: [u16; 7],
     given: u64,
+    judged: u64,
     keeping: [Keeping; 7],
     is_held: bool,
 }
@@ -72,6 +75,7 @@ impl<'a> ClientFeed<'a> {
             lobby,
             lobbies,
             pace,
+            ..
         } = home;
         ClientFeed {
             node,
@@ -90,7 +94,9 @@ impl<'a> ClientFeed<'a> {
             under_way: 0,
             most: MOST_FORWARDED,
             applied: 0,
+            waiting: [0; 7],
             given: 0,
+            judged: u64::MAX,
             keeping: [
                 Keeping::new(),
                 Keeping::new(),
@@ -134,9 +140,10 @@ impl<'a> ClientFeed<'a> {
 
     // Counts the last turn, and wakes whom it concerns. Once a round.
     fn count(&mut self, seen: &Seen) {
-        tell_waits(self.lobby, self.members, seen);
-        self.is_held = hold_back(&mut self.keeping, self.given, &seen.waiting);
+        self.watch(&seen.waiting);
         let moved = wake_peers(self.node, self.members, self.lobbies, seen);
+        // Nothing came, and all that was due is posted.
+        let is_still = !moved || seen.from.is_none() && seen.waiting == [0; 7];
         if self.lobby.take_stirred() {
             self.take_arrivals();
             self.lanes.stir();
@@ -147,11 +154,23 @@ impl<'a> ClientFeed<'a> {
             self.pace.stirred();
         }
         self.applied = seen.applied;
-        let may_look = !self.is_held && self.under_way < self.most && self.lanes.is_on();
-        self.pace.judge(!moved && !self.is_busy && !may_look);
+        self.pace
+            .judge(is_still && !self.is_busy && !self.may_act());
         self.is_busy = false;
         self.ticks
             .count(seen.from, seen.applied, seen.pending, self.pace.is_due());
+    }
+
+    // So many packets wait for each member: where that has changed, or a tick was given since, says in the node's lobby for whom, and judges who
+    // keeps up.
+    fn watch(&mut self, waiting: &[u16; 7]) {
+        if *waiting == self.waiting && self.judged == self.given {
+            return;
+        }
+        self.waiting = *waiting;
+        self.judged = self.given;
+        tell_waits(self.lobby, self.members, waiting);
+        self.is_held = hold_back(&mut self.keeping, self.given, waiting);
     }
 
     // Something happens in this round: no rest comes before the turn behind it is counted.
@@ -160,10 +179,28 @@ impl<'a> ClientFeed<'a> {
         self.pace.judge(false);
     }
 
-    // What time brings.
-    fn due(&mut self) -> Option<Event<Act>> {
+    // Takes note of what the node has come to.
+    fn see(&mut self, seen: &Seen) {
+        self.most = if seen.leads {
+            MOST_UNDER_WAY
+        } else {
+            MOST_FORWARDED
+        };
+        let round = self.pace.round();
+        if round != self.round {
+            self.round = round;
+            self.count(seen);
+        }
+        if !seen.pending {
+            self.under_way = 0;
+        }
+    }
+
+    // What time has brought.
+    fn due(&mut self, due: Due) -> Event<Act> {
+        self.stay();
         let node = self.node;
-        Some(match self.ticks.next()? {
+        match due {
             Due::Tick => {
                 self.pace.ticked();
                 self.given = self.given.saturating_add(1);
@@ -171,15 +208,20 @@ impl<'a> ClientFeed<'a> {
             },
             Due::Start => Event::Start { node },
             Due::Suspect(other) => Event::Suspect { node, other },
-        })
+        }
+    }
+
+    // Whether a client may do something next, and may have done it.
+    fn may_act(&self) -> bool {
+        !self.is_held && self.under_way < self.most && self.lanes.is_on()
     }
 
     // What a client does.
     fn act(&mut self) -> Option<Event<Act>> {
-        if self.is_held || self.under_way >= self.most {
-            return None;
-        }
-        let (transport, body) = self.lanes.next(&mut self.draws)?;
+        let next = self.lanes.next(&mut self.draws);
+        self.lanes.wake_told();
+        let (transport, body) = next?;
+        self.stay();
         self.under_way = self.under_way.saturating_add(1);
         Some(Event::Take {
             node: self.node,
@@ -206,36 +248,25 @@ impl Feed<Act, Say> for ClientFeed<'_> {
     fn next(&mut self, seen: Seen) -> Option<Event<Act>>
         ensures { Unit {0} }
     {
-        self.most = if seen.leads {
-            MOST_UNDER_WAY
-        } else {
-            MOST_FORWARDED
-        };
-        let round = self.pace.round();
-        if round != self.round {
-            self.round = round;
-            self.count(&seen);
+        self.see(&seen);
+        if self.pace.is_due()
+            && let Some(due) = self.ticks.next()
+        {
+            return Some(self.due(due));
         }
-        if !seen.pending {
-            self.under_way = 0;
+        if !self.may_act() {
+            return None;
         }
-        let event = match self.due() {
-            Some(event) => Some(event),
-            None => self.act(),
-        };
-        self.lanes.wake_told();
-        if event.is_some() {
-            self.stay();
-        }
-        event
+        self.act()
     }
 
     fn hand(&mut self, says: Vec<Say>)
         ensures { Unit {0} }
     {
-        if says.len() > 0 {
-            self.stay();
+        if says.is_empty() {
+            return;
         }
+        self.stay();
         for say in says {
             self.tell(say);
         }
@@ -244,19 +275,19 @@ impl Feed<Act, Say> for ClientFeed<'_> {
 }
 
 // Says in the node's lobby for whom its packets wait.
-fn tell_waits(lobby: &Lobby, members: Members, seen: &Seen) {
+fn tell_waits(lobby: &Lobby, members: Members, waiting: &[u16; 7]) {
     for below in 0..members.count() {
-        if let Some(waiting) = seen.waiting.get(usize::from(below)) {
-            lobby.set_waits(below + 1, *waiting > 0);
+        if let Some(count) = waiting.get(usize::from(below)) {
+            lobby.set_waits(below + 1, *count > 0);
         }
     }
 }
 
 // Whether acts are held back, so that each member keeps up for whom so many packets wait at this tick.
-fn hold_back(keeping: &mut [Keeping; 7], tick: u64, waiting: &[usize; 7]) -> bool {
+fn hold_back(keeping: &mut [Keeping; 7], tick: u64, waiting: &[u16; 7]) -> bool {
     let mut is_held = false;
     for place in 0..7 {
-        if keeping[place].holds(tick, waiting[place]) {
+        if keeping[place].holds(tick, usize::from(waiting[place])) {
             is_held = true;
         }
     }
@@ -266,18 +297,19 @@ fn hold_back(keeping: &mut [Keeping; 7], tick: u64, waiting: &[usize; 7]) -> boo
 // Wakes those to whom the last turn of this node posted, and the one whose packet it took, if packets of that one wait for room. Answers
 // whether it posted or took any.
 fn wake_peers(node: u8, members: Members, lobbies: &[Arc<Lobby>], seen: &Seen) -> bool {
-    let mut any = false;
+    if seen.from.is_none() && seen.posted == NodeSet::new() {
+        return false;
+    }
     for below in 0..members.count() {
         let peer = below + 1;
         let (posted, took) = (seen.posted.contains(peer), seen.from == Some(peer));
-        any = any || posted || took;
         if let Some(lobby) = lobbies.get(usize::from(below))
             && (posted || took && lobby.waits_for(node))
         {
             lobby.wake();
         }
     }
-    any
+    true
 }
 
 // What a transport is told, as its writer takes it.

@@ -2,6 +2,7 @@ use crate::pace::Pace;
 use paxos_packets::Members;
 use serve_lanes::Lobby;
 use std::sync::Arc;
+use std::time::Instant;
 
 /// Which node it is, and what the gate and the feed of its thread stand on.
 #[derive(Clone, Copy)]
@@ -18,4 +19,6 @@ pub struct Home<'a> {
     pub lobbies: &'a [Arc<Lobby>],
     /// What the gate and the feed of the thread tell each other.
     pub pace: &'a Pace,
+    /// When the cluster began, if the clock could be read.
+    pub began: Option<Instant>,
 }

@@ -4,9 +4,8 @@
 //! **No wake-up is lost.** Who puts something where a node looks for it, wakes the node behind that: a client's threads behind a push, a peer
 //! behind the turn that posted to it, or that took a packet of it, so that a box is free again, where the node has said that packets wait for
 //! the peer. It says so a turn before it rests: so the peer sees it, or the turn finds the box free. A wake-up that comes while the node does
-//! not rest ends its next rest at once. So what a wake-up that a rest took stands for lay there before the rest ended, and two rounds, in each of which the
-//! node looked into every ring that was stirred and tried every box until one had a packet, have found nothing more by the time it rests again;
-//! what came since has its wake-up before it.
+//! not rest ends its next rest at once. So before it rests a turn behind its last rest has found every box empty, and left nothing to post but
+//! what its boxes have no room for; and every ring that was stirred was looked into. What came since has its wake-up before it.
 //!
 //! **Wake-ups do not breed others.** A round in which nothing came, and nothing could be posted, wakes nobody; so there are at most two wake-ups
 //! for each packet that moves, one each way, and two idle rounds for each wake-up. Turns count towards a tick only once 10 ms have passed since the

@@ -8,8 +8,8 @@ use std::time::{Clock, Duration, Instant};
 /// How long it is from where one tick is due to where the next one is, in milliseconds.
 const TICK_MILLIS: u64 = 10;
 
-/// After how many idle rounds in a row a node rests.
-const IDLE_ROUNDS: u8 = 2;
+/// How near a tick is to count as due: a node that is awake then ticks together with those that woke it.
+const NEAR_MICROS: u64 = 500;
 
 /// How many rounds with packets make a node expect more before the next tick. A few come with each tick.
 const ROUNDS_MOVING: u8 = 16;
@@ -17,12 +17,14 @@ const ROUNDS_MOVING: u8 = 16;
 /// Each how many rounds a node that does not rest looks at the clock.
 const ROUNDS_A_LOOK: u64 = 64;
 
-/// What the gate and the feed of one node's thread tell each other: which round it is, how many rounds in a row were idle, whether a tick is
-/// due, and whether entries or many packets moved since the last one. It stays on its thread.
+/// What the gate and the feed of one node's thread tell each other: which round it is, whether the turn that was judged last was idle, whether
+/// none was judged that came behind the last rest, whether a tick is due, and whether entries or many packets moved since the last one. It
+/// stays on its thread.
 #[derive(Drop)]
 pub struct Pace {
     round: Cell<u64>,
-    idle: Cell<u8>,
+    is_idle: Cell<bool>,
+    is_rested: Cell<bool>,
     is_due: Cell<bool>,
     is_moving: Cell<bool>,
     stirs: Cell<u8>,
@@ -33,7 +35,8 @@ impl Pace {
     pub const fn new() -> Pace {
         Pace {
             round: Cell::new(0),
-            idle: Cell::new(0),
+            is_idle: Cell::new(false),
+            is_rested: Cell::new(true),
             is_due: Cell::new(true),
             is_moving: Cell::new(false),
             stirs: Cell::new(0),
@@ -50,14 +53,10 @@ impl Pace {
         self.round.get()
     }
 
-    // The last round was idle, or it was not.
+    // The last turn was idle, or it was not. One that came before a rest says nothing of what came since.
     pub(crate) fn judge(&self, is_idle: bool) {
-        let idle = if is_idle {
-            self.idle.get().saturating_add(1)
-        } else {
-            0
-        };
-        self.idle.set(idle);
+        self.is_idle.set(is_idle && !self.is_rested.get());
+        self.is_rested.set(false);
     }
 
     // Whether turns without a packet count towards a tick.
@@ -87,8 +86,9 @@ impl Pace {
     }
 }
 
-/// The gate of a node's thread: it rests where the last two rounds were idle and no tick is due, until somebody wakes the node or 10 ms are over
-/// since a tick was due last; then it asks the caller's gate. Where entries or many packets moved since the last tick it looks for some
+/// The gate of a node's thread: it rests where a turn behind the last rest was idle and no tick is due, until somebody wakes the node or 10 ms
+/// are over since a tick was due last; then it asks the caller's gate. One more turn comes between the idle one and the rest; what it may
+/// take was put there behind the idle one, and who put it there wakes the node. Where entries or many packets moved since the last tick it looks for some
 /// microseconds before it rests: who waits for a packet has it sooner than it could rest and be woken.
 ///
 /// A round costs it some loads, and each 64th one a look at the clock. Where the clock cannot be read a tick is always due.
@@ -102,52 +102,65 @@ pub struct Paced<'a, R: Wait + Clock, G: Gate> {
 }
 
 impl<'a, R: Wait + Clock, G: Gate> Paced<'a, R, G> {
-    /// Over the caller's gate. The next tick but the first is due in 10 ms.
+    /// Over the caller's gate. Ticks are due each 10 ms from the cluster's beginning on, or from now on where that is not known: nodes that tick
+    /// together wake each other less often.
     pub fn new(rt: &'a R, home: Home<'a>, gate: &'a G) -> Paced<'a, R, G> {
         Paced {
             rt,
             pace: home.pace,
             lobby: home.lobby,
             gate,
-            last: Cell::new(Instant::now(rt).ok()),
+            last: Cell::new(home.began.or(Instant::now(rt).ok())),
         }
     }
 
     // How long it is until a tick is due; nothing where it is, which is noted then.
     fn left(&self) -> Duration {
         let Ok(now) = Instant::now(self.rt) else {
-            self.pace.is_due.set(true);
-            return Duration::ZERO;
+            return self.due(None);
         };
-        let left = match self.last.get() {
-            Some(last) => Duration::from_millis(TICK_MILLIS).saturating_sub(
-                now.saturating_duration_since(last),
-            ),
-            None => Duration::ZERO,
+        let Some(last) = self.last.get() else {
+            return self.due(Some(now));
         };
-        if left.is_zero() {
-            self.last.set(Some(now));
-            self.pace.is_due.set(true);
+        let passed = now.saturating_duration_since(last);
+        let ticks = ticks_in(passed);
+        if ticks == 0 {
+            return Duration::from_millis(TICK_MILLIS).saturating_sub(passed);
         }
-        left
+        let since = last.checked_add(Duration::from_millis(ticks.saturating_mul(TICK_MILLIS)));
+        self.due(since.or(Some(now)))
     }
 
-    // Rests until somebody wakes the node or a tick is due; at least two rounds follow.
+    // A tick is due since then, if it is known since when.
+    fn due(&self, since: Option<Instant>) -> Duration {
+        self.last.set(since.or(self.last.get()));
+        self.pace.is_due.set(true);
+        Duration::ZERO
+    }
+
+    // Rests until somebody wakes the node or a tick is due; at least two turns follow.
     fn rest(&self) {
         let left = self.left();
         let is_woken = self.pace.is_moving.get() && self.lobby.is_woken_soon();
         if !is_woken && !left.is_zero() {
             self.lobby.rest(self.rt, left);
         }
-        self.pace.idle.set(0);
+        self.pace.is_idle.set(false);
+        self.pace.is_rested.set(true);
     }
+}
+
+// How many ticks become due within so long behind one, one that is near among them.
+fn ticks_in(passed: Duration) -> u64 {
+    let near = passed.saturating_add(Duration::from_micros(NEAR_MICROS));
+    u64::try_from(near.as_millis()).unwrap_or(u64::MAX) / TICK_MILLIS
 }
 
 impl<R: Wait + Clock, G: Gate> Gate for Paced<'_, R, G> {
     fn pass(&self, node: u8, turn: u64) -> bool {
         self.pace.begin();
         if !self.pace.is_due.get() {
-            if self.pace.idle.get() >= IDLE_ROUNDS {
+            if self.pace.is_idle.get() {
                 self.rest();
             } else if turn % ROUNDS_A_LOOK == 0 {
                 self.left();

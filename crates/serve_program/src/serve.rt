@@ -20,7 +20,7 @@ use std::sync::atomic::{AtomicBool, Ordering};
 use std::sync::{Arc, Wait};
 use std::thread;
 use std::thread::Threads;
-use std::time::Clock;
+use std::time::{Clock, Instant};
 
 // How many connections wait at most to be seen by their node.
 const ARRIVALS: usize = 64;
@@ -358,6 +358,7 @@ where
         lobbies: &lobbies,
         key: plan.key,
         realm: plan.realm,
+        began: Instant::now(rt).ok(),
     };
     run_stations(rt, alloc, stations, &site, (&sender, &receiver), members)
 }

@@ -16,7 +16,7 @@ use std::alloc::Global;
 use std::io::Eprint;
 use std::sync::atomic::{AtomicBool, Ordering};
 use std::sync::{Arc, Wait};
-use std::time::Clock;
+use std::time::{Clock, Instant};
 
 // How much the realm holds at the most.
 const LIMITS: Limits = Limits {
@@ -31,7 +31,8 @@ const MEMORY: u8 = 76;
 
 const FOREIGN: u8 = 72;
 
-/// What all nodes' threads are told: the stores, the gate that each turn asks, whether the cluster is still to run, where each node is woken.
+/// What all nodes' threads are told: the stores, the gate that each turn asks, whether the cluster is still to run, where each node is woken,
+/// and when the cluster began.
 #[derive(Drop)]
 pub(crate) struct Site<'a, G> {
     pub stores: Stores<'a>,
@@ -40,6 +41,7 @@ pub(crate) struct Site<'a, G> {
     pub lobbies: &'a [Arc<Lobby>],
     pub key: u64,
     pub realm: &'a str,
+    pub began: Option<Instant>,
 }
 
 // The gate of a node's turns, which is shut once the cluster is to end.
@@ -198,7 +200,7 @@ impl<'a> Station<'a> {
             (site.gate, site.open),
             (lobby, site.lobbies),
             &pace,
-            (members, site.key, site.realm),
+            (members, site.key, site.realm, site.began),
             alloc,
             mail,
             seat,
@@ -236,6 +238,7 @@ fn homes<'c>(
     lobby: &'c Lobby,
     lobbies: &'c [Arc<Lobby>],
     pace: &'c Pace,
+    began: Option<Instant>,
 ) -> (Home<'c>, Home<'c>) {
     (
         Home {
@@ -245,6 +248,7 @@ fn homes<'c>(
             lobby,
             lobbies,
             pace,
+            began,
         },
         Home {
             node,
@@ -253,6 +257,7 @@ fn homes<'c>(
             lobby,
             lobbies,
             pace,
+            began,
         },
     )
 }
@@ -263,7 +268,7 @@ fn serve_paced<'c, R: Wait + Clock + Eprint, G: Gate, K: Keeper<Act> + Drop>(
     gates: (&'c G, &'c AtomicBool),
     places: (&'c Lobby, &'c [Arc<Lobby>]),
     pace: &'c Pace,
-    cluster: (Members, u64, &str),
+    cluster: (Members, u64, &str, Option<Instant>),
     alloc: Global,
     mail: &Mail<Act>,
     seat: NodeSeat<Act>,
@@ -274,10 +279,10 @@ fn serve_paced<'c, R: Wait + Clock + Eprint, G: Gate, K: Keeper<Act> + Drop>(
     requires fresh { seat.part.seen.opened ≡ Never }
     requires table { cluster.0 ≡ mail.now.members }
 {
-    let (members, key, realm) = cluster;
+    let (members, key, realm, began) = cluster;
     let (gate, open) = gates;
     let (lobby, lobbies) = places;
-    let (home, again) = homes(seat.node(), members, key, lobby, lobbies, pace);
+    let (home, again) = homes(seat.node(), members, key, lobby, lobbies, pace, began);
     let paced = Paced::new(rt, home, gate);
     let turns = Turns { open, paced };
     let feed = ClientFeed::new(alloc, again, 0, arrivals);
