@@ -86,10 +86,10 @@ impl Pace {
     }
 }
 
-/// The gate of a node's thread: it rests where a turn behind the last rest was idle and no tick is due, until somebody wakes the node or 10 ms
-/// are over since a tick was due last; then it asks the caller's gate. One more turn comes between the idle one and the rest; what it may
-/// take was put there behind the idle one, and who put it there wakes the node. Where entries or many packets moved since the last tick it looks for some
-/// microseconds before it rests: who waits for a packet has it sooner than it could rest and be woken.
+/// The gate of a node's thread: it rests where a turn behind the last rest was idle and no tick is due, until somebody wakes the node or the
+/// next tick is due, 10 ms behind the last; then it asks the caller's gate. One more turn comes between the idle one and the rest; what it may
+/// take was put there behind the idle one, and who put it there wakes the node. Where entries or many packets moved since the last tick it
+/// looks for some microseconds before it rests: who waits for a packet has it sooner than it could rest and be woken.
 ///
 /// A round costs it some loads, and each 64th one a look at the clock. Where the clock cannot be read a tick is always due.
 #[derive(Drop)]
