@@ -195,6 +195,21 @@ impl Seen {
     }
 }
 
+// What is seen once more has been asked: a drawn text, if it is a URI.
+fn ask_one(
+    rt: &impl Abort,
+    text: &str,
+    table: &PatternTable<usize>,
+    drawn: &[Drawn],
+    seen: Seen,
+) -> Result<Seen, Fail> {
+    let Ok(uri) = Uri::of(text) else {
+        return Ok(seen);
+    };
+    let count = compare(rt, table, drawn, &uri)?;
+    Ok(seen.with(count))
+}
+
 // What the drawn URIs show.
 fn ask(
     rt: &impl Abort,
@@ -210,10 +225,9 @@ fn ask(
     };
     for _ in 0..200u32 {
         let text = draw_text(alloc, words)?;
-        if let Ok(uri) = Uri::of(text.as_str()) {
-            let count = compare(rt, table, drawn, &uri)?;
-            seen = seen.with(count);
-        }
+        let asked = ask_one(rt, text.as_str(), table, drawn, seen);
+        drop(text);
+        seen = asked?;
     }
     Ok(seen)
 }
@@ -229,20 +243,33 @@ fn take_half(table: &mut PatternTable<usize>, drawn: &mut [Drawn]) {
     }
 }
 
+// Draws few patterns, then many, then takes half of them out again; after each the table answers as the scan.
+fn draws_and_asks(
+    rt: &impl Abort,
+    alloc: Global,
+    table: &mut PatternTable<usize>,
+    drawn: &mut Vec<Drawn>,
+) -> Result<(), Fail> {
+    let mut words = ChaCha20Rng::from_seed([7; 32]);
+    fill(alloc, &mut words, table, drawn, 5)?;
+    let few = ask(rt, alloc, &mut words, table, drawn)?;
+    assert!(rt; few.none > 0 && few.one > 0);
+    fill(alloc, &mut words, table, drawn, 2_000)?;
+    assert_eq!(rt; drawn.len(), 2_000);
+    let full = ask(rt, alloc, &mut words, table, drawn)?;
+    assert!(rt; full.many > 0);
+    take_half(table, drawn);
+    ask(rt, alloc, &mut words, table, drawn)?;
+    Ok(())
+}
+
 #[test]
 fn answers_as_a_scan_does(rt: HostRuntime) -> Result<(), Fail> {
     let alloc = rt.alloc();
-    let mut words = ChaCha20Rng::from_seed([7; 32]);
     let mut table = PatternTable::new(alloc);
     let mut drawn = Vec::new(alloc);
-    fill(alloc, &mut words, &mut table, &mut drawn, 5)?;
-    let few = ask(&rt, alloc, &mut words, &table, &drawn)?;
-    assert!(rt; few.none > 0 && few.one > 0);
-    fill(alloc, &mut words, &mut table, &mut drawn, 2_000)?;
-    assert_eq!(rt; drawn.len(), 2_000);
-    let full = ask(&rt, alloc, &mut words, &table, &drawn)?;
-    assert!(rt; full.many > 0);
-    take_half(&mut table, &mut drawn);
-    ask(&rt, alloc, &mut words, &table, &drawn)?;
-    Ok(())
+    let done = draws_and_asks(&rt, alloc, &mut table, &mut drawn);
+    drop(table);
+    drop(drawn);
+    done
 }

@@ -285,22 +285,26 @@ fn arguments_are_an_array_and_an_object(rt: HostRuntime) -> Result<(), Fail> {
     Ok(())
 }
 
-fn list_is_copied(list: &Arguments) -> Result<bool, Memory> {
-    Ok(list.same(&list.copy()?))
+fn list_is_copied(alloc: Global, text: &str) -> Result<bool, Fail> {
+    let list = list(alloc, text)?;
+    let copied = list.copy().map(|copy| list.same(&copy));
+    drop(list);
+    Ok(copied?)
 }
 
-fn dict_is_copied(dict: &ArgumentsKw) -> Result<bool, Memory> {
-    Ok(dict.same(&dict.copy()?))
+fn dict_is_copied(alloc: Global, text: &str) -> Result<bool, Fail> {
+    let dict = dict(alloc, text)?;
+    let copied = dict.copy().map(|copy| dict.same(&copy));
+    drop(dict);
+    Ok(copied?)
 }
 
 #[test]
 fn arguments_are_copied(rt: HostRuntime) -> Result<(), Fail> {
-    for text in ["[\"hi\"]", "[]"] {
-        assert!(rt; list_is_copied(&list(rt.alloc(), text)?)?, "{text}");
-    }
-    for text in ["{\"a\":1}", "{}"] {
-        assert!(rt; dict_is_copied(&dict(rt.alloc(), text)?)?, "{text}");
-    }
+    assert!(rt; list_is_copied(rt.alloc(), "[\"hi\"]")?);
+    assert!(rt; list_is_copied(rt.alloc(), "[]")?);
+    assert!(rt; dict_is_copied(rt.alloc(), "{\"a\":1}")?);
+    assert!(rt; dict_is_copied(rt.alloc(), "{}")?);
     Ok(())
 }
 
