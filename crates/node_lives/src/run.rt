@@ -120,12 +120,20 @@ fn life<M: Machine, K: Keeper<M::Body> + Drop, G: Gate, F: Feed<M::Body, M::Say>
 {
     let mut actor = actor;
     match turned(mail, &mut actor, gate, feed) {
-        None => Ok(None),
+        None => {
+            drop(actor);
+            drop(machine);
+            Ok(None)
+        }
         Some(LOST) => match restarted(alloc, mail, actor, machine) {
             Ok(actor) => Ok(Some(actor)),
             Err(fault) => Err(fault),
         },
-        Some(fault) => Err(fault),
+        Some(fault) => {
+            drop(actor);
+            drop(machine);
+            Err(fault)
+        }
     }
 }
 
