@@ -42,13 +42,23 @@ const ITEM: &[u8] = &[
     3, 2, 0, 0, 0, 0, 0, 0, 0, 1, 0, 0, 0, 0, 0, 0, 0, 5, 0, 0, 0, 1, 9,
 ];
 
+// What the octets of a row stand for.
+fn entry(row: usize) -> Entry<Number> {
+    match row {
+        0 => Entry::Noop,
+        1 => Entry::Boot { node: 2, boot: 1 },
+        2 => Entry::Lost { node: 7, boot: 258 },
+        _ => item(5, 9),
+    }
+}
+
+const SPELLED: [&[u8]; 4] = [&[0], BOOT, LOST, ITEM];
+
 #[test]
 fn entries_have_their_octets(rt: HostRuntime) -> Result<(), Fail> {
-    let alloc = rt.alloc();
-    assert!(rt; is_spelled(alloc, &Entry::Noop, &[0])?);
-    assert!(rt; is_spelled(alloc, &Entry::Boot { node: 2, boot: 1 }, BOOT)?);
-    assert!(rt; is_spelled(alloc, &Entry::Lost { node: 7, boot: 258 }, LOST)?);
-    assert!(rt; is_spelled(alloc, &item(5, 9), ITEM)?);
+    for (row, octets) in SPELLED.iter().enumerate() {
+        assert!(rt; is_spelled(rt.alloc(), &entry(row), octets)?, "{row}");
+    }
     Ok(())
 }
 
@@ -125,21 +135,24 @@ fn refusal(entry: &Entry<Number>, out: &mut Vec<u8>) -> u8 {
     }
 }
 
+// Entries that have no spelling: for its node, its boot, its number, its body.
+fn unspelled(row: u8) -> Entry<Number> {
+    match row {
+        0 => Entry::Boot { node: 8, boot: 1 },
+        1 => Entry::Lost {
+            node: 1,
+            boot: 1 << 48,
+        },
+        2 => item(0, 1),
+        _ => item(1, 256),
+    }
+}
+
 // Of an entry that has no spelling nothing is put.
 fn puts_nothing(rt: &impl Abort, out: &mut Vec<u8>) {
-    assert_eq!(rt; refusal(&Entry::Boot { node: 8, boot: 1 }, out), 43);
-    assert_eq!(rt;
-        refusal(
-            &Entry::Lost {
-                node: 1,
-                boot: 1 << 48
-            },
-            out
-        ),
-        43
-    );
-    assert_eq!(rt; refusal(&item(0, 1), out), 43);
-    assert_eq!(rt; refusal(&item(1, 256), out), 43);
+    for row in 0..4u8 {
+        assert_eq!(rt; refusal(&unspelled(row), out), 43, "{row}");
+    }
     assert_eq!(rt; out.as_slice(), [5, 6].as_slice());
 }
 

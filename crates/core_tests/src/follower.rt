@@ -117,6 +117,9 @@ const AHEAD: &[Row] = &[
     (3, 0, 4, (2, Some(11)), (2, Some(11))),
 ];
 
+// The node hands out what is for another one to nobody.
+const OF_ANOTHER: &[Row] = &[(1, 0, 4, (0, None), (0, None))];
+
 // The node was down before it passed the last act in boot 2.
 const CUT_SHORT: &[Row] = &[
     (1, 0, 3, (1, Some(5)), (0, None)),
@@ -124,50 +127,74 @@ const CUT_SHORT: &[Row] = &[
     (3, 0, 4, (1, Some(5)), (2, Some(11))),
 ];
 
+// What a piece of the log leads to: whether it is passed, and what the transports of boots 1 and 2 were handed then.
+fn passed<M: Machine<Say = (Transport, u64)>>(
+    walk: &mut Walk<M>,
+    row: &Row,
+) -> (bool, (usize, Option<u64>), (usize, Option<u64>)) {
+    let passed = walk.pass(row.0, row.1, row.2);
+    (
+        passed,
+        handed(&walk.follower, 2, 1),
+        handed(&walk.follower, 2, 2),
+    )
+}
+
 fn goes<M: Machine<Say = (Transport, u64)>>(rt: &impl Abort, walk: &mut Walk<M>, rows: &[Row]) {
-    for (boot, from, end, first, second) in rows {
-        assert!(rt; walk.pass(*boot, *from, *end));
-        assert_eq!(rt; handed(&walk.follower, 2, 1), *first);
-        assert_eq!(rt; handed(&walk.follower, 2, 2), *second);
+    for row in rows {
+        assert_eq!(rt; passed(walk, row), (true, row.3, row.4));
     }
 }
 
-fn counts_once(rt: &impl Abort, walk: &mut Walk<Count>) {
-    goes(rt, walk, ONCE);
-    assert_eq!(rt; walk.follower.machine().sum(), 11);
-    assert_eq!(rt; walk.follower.log().len(), 4);
-    assert_eq!(rt; told(&walk.follower), 1);
+// The sum of a walk, the length of its log, and how many transports were handed something.
+fn counted(walk: &Walk<Count>) -> (u64, usize, usize) {
+    let follower = &walk.follower;
+    (
+        follower.machine().sum(),
+        follower.log().len(),
+        told(follower),
+    )
 }
 
 #[test]
 fn what_is_applied_again_is_not_told_again(rt: HostRuntime) -> Result<(), Fail> {
     let mut walk = walk_of(rt.alloc(), 2, Count::new(rt.alloc()))?;
-    counts_once(&rt, &mut walk);
+    goes(&rt, &mut walk, ONCE);
+    let counted = counted(&walk);
+    drop(walk);
+    assert_eq!(rt; counted, (11, 4, 1));
+    Ok(())
+}
+
+// A node whose machine speaks ahead goes as these rows say, and hands something to so many transports.
+fn speaks_ahead(
+    rt: &impl Abort,
+    alloc: Global,
+    node: u8,
+    rows: &[Row],
+    transports: usize,
+) -> Result<(), Fail> {
+    let mut walk = walk_of(alloc, node, Foretells::new(alloc))?;
+    goes(rt, &mut walk, rows);
+    let told = told(&walk.follower);
+    drop(walk);
+    assert_eq!(rt; told, transports);
     Ok(())
 }
 
 #[test]
 fn what_was_said_early_is_handed_out_when_its_boot_passes(rt: HostRuntime) -> Result<(), Fail> {
-    let mut walk = walk_of(rt.alloc(), 2, Foretells::new(rt.alloc()))?;
-    goes(&rt, &mut walk, AHEAD);
-    assert_eq!(rt; told(&walk.follower), 2);
-    Ok(())
+    speaks_ahead(&rt, rt.alloc(), 2, AHEAD, 2)
 }
 
 #[test]
 fn what_a_boot_did_not_pass_is_not_handed_out(rt: HostRuntime) -> Result<(), Fail> {
-    let mut walk = walk_of(rt.alloc(), 2, Foretells::new(rt.alloc()))?;
-    goes(&rt, &mut walk, CUT_SHORT);
-    Ok(())
+    speaks_ahead(&rt, rt.alloc(), 2, CUT_SHORT, 2)
 }
 
 #[test]
 fn what_is_for_another_node_is_dropped(rt: HostRuntime) -> Result<(), Fail> {
-    let mut walk = walk_of(rt.alloc(), 1, Foretells::new(rt.alloc()))?;
-    assert!(rt; walk.pass(1, 0, 4));
-    assert_eq!(rt; handed(&walk.follower, 2, 1), (0, None));
-    assert_eq!(rt; told(&walk.follower), 0);
-    Ok(())
+    speaks_ahead(&rt, rt.alloc(), 1, OF_ANOTHER, 0)
 }
 
 // A piece of the log in a boot, whether it is passed, and the length of the log then and whether the machine is given up.
@@ -182,11 +209,19 @@ const REFUSED: &[Try] = &[
     (2, 0, 2, false, 1, true),
 ];
 
+// Whether a piece is passed, and the length of the log then and whether the machine is given up.
+fn tried(walk: &mut Walk<Refuses>, row: &Try) -> (bool, usize, bool) {
+    let passed = walk.pass(row.0, row.1, row.2);
+    (
+        passed,
+        walk.follower.log().len(),
+        walk.follower.is_given_up(),
+    )
+}
+
 fn is_given_up(rt: &impl Abort, walk: &mut Walk<Refuses>) {
-    for (boot, from, end, passed, length, given_up) in REFUSED {
-        assert_eq!(rt; walk.pass(*boot, *from, *end), *passed);
-        assert_eq!(rt; walk.follower.log().len(), *length);
-        assert_eq!(rt; walk.follower.is_given_up(), *given_up);
+    for row in REFUSED {
+        assert_eq!(rt; tried(walk, row), (row.3, row.4, row.5));
     }
     // it took the second entry of the refused event before it failed at the third
     assert_eq!(rt; walk.follower.machine().taken(), 2);
@@ -196,5 +231,6 @@ fn is_given_up(rt: &impl Abort, walk: &mut Walk<Refuses>) {
 fn a_machine_that_refuses_is_given_up(rt: HostRuntime) -> Result<(), Fail> {
     let mut walk = walk_of(rt.alloc(), 3, Refuses::new(rt.alloc(), 2))?;
     is_given_up(&rt, &mut walk);
+    drop(walk);
     Ok(())
 }

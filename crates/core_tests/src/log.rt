@@ -1,5 +1,5 @@
 use crate::{Count, Number, Refuses};
-use replica_machine::{AppliedLog, Entry, LearnFault, Machine, Roll, Slot};
+use replica_machine::{AppliedLog, Entry, Failed, LearnFault, Machine, Roll, Slot};
 use std::process::Abort;
 use std::test::Fail;
 
@@ -38,8 +38,11 @@ fn learn_behind<M: Machine<Body = Number>>(
 // A Boot, then Items 1, 1 again, 3, 2 and 3.
 const OUT_OF_ORDER: [u32; 6] = [0, 1, 1, 3, 2, 3];
 
-// The slot that is applied next, whether its entry took effect, and the sum that was said; nothing where none is learned.
-fn step(log: &mut AppliedLog<Count>) -> Result<Option<(u64, bool, Option<u64>)>, Fail> {
+// The slot that is applied, whether its entry took effect, and the sum that was said; nothing where none is learned.
+type Told = Option<(u64, bool, Option<u64>)>;
+
+// What is told of the next step.
+fn step(log: &mut AppliedLog<Count>) -> Result<Told, Failed> {
     let Some(step) = log.advance()? else {
         return Ok(None);
     };
@@ -50,25 +53,31 @@ fn step(log: &mut AppliedLog<Count>) -> Result<Option<(u64, bool, Option<u64>)>,
     )))
 }
 
+// The log goes on with these steps.
+fn goes_on(rt: &impl Abort, log: &mut AppliedLog<Count>, rows: &[Told]) {
+    for told in rows {
+        assert_eq!(rt; step(log), Ok(*told));
+    }
+}
+
+// What is told of the entries out of order, and then nothing.
+const SKIPPED: &[Told] = &[
+    Some((1, true, None)),
+    Some((2, true, Some(10))),
+    Some((3, false, None)),
+    Some((4, false, None)),
+    Some((5, true, Some(30))),
+    Some((6, true, Some(60))),
+    None,
+];
+
 // Goes along a log by reference: who owns it drops it at each of its exits.
 fn skips(rt: &impl Abort, log: &mut AppliedLog<Count>) -> Result<(), Fail> {
     learn_behind(log, &OUT_OF_ORDER, 1)?;
-    assert_eq!(rt; step(log)?, None);
-    log.learn(slot(0)?, entry(0))?;
-    let told = [
-        (1, true, None),
-        (2, true, Some(10)),
-        (3, false, None),
-        (4, false, None),
-        (5, true, Some(30)),
-        (6, true, Some(60)),
-    ];
-    for row in &told {
-        assert_eq!(rt; step(log)?, Some(*row));
-    }
-    assert_eq!(rt; step(log)?, None);
-    assert_eq!(rt; log.machine().sum(), 60);
-    assert_eq!(rt; log.applied().len(), 6);
+    goes_on(rt, log, &[None]);
+    learn_behind(log, &[0], 0)?;
+    goes_on(rt, log, SKIPPED);
+    assert_eq!(rt; (log.machine().sum(), log.applied().len()), (60, 6));
     Ok(())
 }
 
@@ -79,7 +88,7 @@ fn items_out_of_order_are_skipped(rt: HostRuntime) -> Result<(), Fail> {
 }
 
 // The number of the fault with which an entry is not learned in a slot, by its place from 0; 0 where it is.
-fn refusal(log: &mut AppliedLog<Count>, place: usize, seq: u32) -> u8 {
+fn refusal<M: Machine<Body = Number>>(log: &mut AppliedLog<M>, place: usize, seq: u32) -> u8 {
     let done = match slot(place) {
         Ok(slot) => log.learn(slot, entry(seq)),
         Err(fault) => Err(fault),
@@ -92,13 +101,13 @@ fn refusal(log: &mut AppliedLog<Count>, place: usize, seq: u32) -> u8 {
 
 fn keeps_entries(rt: &impl Abort, log: &mut AppliedLog<Count>) -> Result<(), Fail> {
     learn_behind(log, &[0, 1], 0)?;
-    assert_eq!(rt; step(log)?, Some((1, true, None)));
+    goes_on(rt, log, &[Some((1, true, None))]);
     // another entry, in a slot that is applied and in one that is not, and the same again
     for (place, seq, number) in [(0, 1, 46), (1, 2, 46), (0, 0, 0), (1, 1, 0)] {
         assert_eq!(rt; refusal(log, place, seq), number);
     }
     assert_eq!(rt; log.applied().len(), 1);
-    assert_eq!(rt; step(log)?, Some((2, true, Some(10))));
+    goes_on(rt, log, &[Some((2, true, Some(10)))]);
     Ok(())
 }
 
@@ -126,16 +135,23 @@ fn steps(log: &mut AppliedLog<Refuses>, times: u32) -> u32 {
     told
 }
 
+// The number of the fault with which the log does not advance; 0 where it does.
+fn stop(log: &mut AppliedLog<Refuses>) -> u8 {
+    match log.advance() {
+        Ok(_) => 0,
+        Err(failed) => failed.number(),
+    }
+}
+
 fn spoils(rt: &impl Abort, log: &mut AppliedLog<Refuses>) -> Result<(), Fail> {
     learn_behind(log, &OUT_OF_ORDER, 0)?;
     // of the six slots the first, second and fifth take effect; the sixth is refused
     assert_eq!(rt; steps(log, 5), 5);
     for _again in 0..3u8 {
-        assert_eq!(rt; log.advance().err().map(|failed| failed.number()), Some(48));
+        assert_eq!(rt; stop(log), 48);
     }
-    assert_eq!(rt; log.learn(slot(0)?, entry(0)), Err(LearnFault::Failed));
-    assert_eq!(rt; log.applied().len(), 5);
-    assert_eq!(rt; log.machine().taken(), 3);
+    assert_eq!(rt; refusal(log, 0, 0), 48);
+    assert_eq!(rt; (log.applied().len(), log.machine().taken()), (5, 3));
     Ok(())
 }
 
@@ -145,8 +161,11 @@ fn a_machine_that_refuses_spoils_the_log(rt: HostRuntime) -> Result<(), Fail> {
     spoils(&rt, &mut log)
 }
 
-// Entries one behind the other, of which node and boot, and whether each takes effect.
-const TAKEN: &[(&str, u8, u64, bool)] = &[
+// An entry, of which node and boot, and whether it takes effect.
+type Row = (&'static str, u8, u64, bool);
+
+// Entries one behind the other.
+const TAKEN: &[Row] = &[
     ("noop", 0, 0, false),
     ("boot", 3, 2, true),
     ("boot", 3, 2, false),
@@ -155,7 +174,8 @@ const TAKEN: &[(&str, u8, u64, bool)] = &[
     ("boot", 255, 9, true),
 ];
 
-fn taken(word: &str, node: u8, boot: u64) -> Entry<Number> {
+fn taken(row: &Row) -> Entry<Number> {
+    let (word, node, boot, _) = *row;
     if word == "noop" {
         return Entry::Noop;
     }
@@ -176,20 +196,27 @@ fn item() -> Entry<Number> {
     }
 }
 
+// Whether the entry of the row takes effect.
+fn takes(roll: &mut Roll, row: &Row) -> bool {
+    roll.take(&taken(row))
+}
+
 fn goes_along(rt: &impl Abort, roll: &mut Roll) {
     assert_eq!(rt; roll.live(3), None);
-    for (word, node, boot, took) in TAKEN {
-        assert_eq!(rt; roll.take(&taken(word, *node, *boot)), *took);
+    for row in TAKEN {
+        assert_eq!(rt; takes(roll, row), row.3);
     }
-    assert_eq!(rt; roll.live(3), None);
-    assert_eq!(rt; roll.live(255), Some(9));
+    assert_eq!(rt; (roll.live(3), roll.live(255)), (None, Some(9)));
+}
+
+fn counts_items(rt: &impl Abort, roll: &mut Roll) {
     assert!(rt; roll.take(&item()));
-    assert_eq!(rt; roll.taken(255), 1);
-    assert_eq!(rt; roll.taken(3), 0);
+    assert_eq!(rt; (roll.taken(255), roll.taken(3)), (1, 0));
 }
 
 #[test]
 fn a_roll_goes_along_with_a_log(rt: HostRuntime) {
     let mut roll = Roll::new();
     goes_along(&rt, &mut roll);
+    counts_items(&rt, &mut roll);
 }
