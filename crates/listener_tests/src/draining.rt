@@ -7,35 +7,37 @@ use crate::streams::AtOnce;
 use client_listener::{FromClient, drain, read_transport};
 use rtrb::{Consumer, Finished, RingBuffer};
 use std::alloc::Global;
+use std::panic::Expect;
 use std::process::Abort;
 use std::test::Fail;
 
 // The letters of items.
-fn letters_of(alloc: Global, items: &[FromClient]) -> Result<String, Fail> {
+fn letters_of(rt: &impl Abort, alloc: Global, items: &[FromClient]) -> String {
     let mut letters = String::new(alloc);
     for item in items {
-        letters.push(letter(item))?;
+        letters.push(letter(item)).expect(rt, "room for a letter");
     }
-    Ok(letters)
+    letters
 }
 
 // The letters of what is left.
 fn letters_left(
+    rt: &impl Abort,
     alloc: Global,
     consumer: &mut Consumer<FromClient>,
     finished: Finished<FromClient>,
-) -> Result<String, Fail>
+) -> String
     requires { IsFinishedOf finished consumer.old }
 {
     match drain(alloc, consumer, finished) {
         Ok(left) => {
-            let letters = letters_of(alloc, &left);
+            let letters = letters_of(rt, alloc, &left);
             drop(left);
             letters
         }
         Err(refused) => {
             drop(refused);
-            Err(Fail::from("no memory"))
+            rt.panic("no memory")
         }
     }
 }
@@ -72,21 +74,21 @@ fn drains(
     alloc: Global,
     consumer: &mut Consumer<FromClient>,
     finished: Finished<FromClient>,
-) -> Result<(), Fail>
+)
     requires { IsFinishedOf finished consumer.old }
 {
     let taken = three(consumer);
-    let left = letters_left(alloc, consumer, finished)?;
+    let left = letters_left(rt, alloc, consumer, finished);
     assert!(rt; taken == [Some('C'), Some('R'), Some('R')]);
     assert_eq!(rt; left.as_str(), "RRPH");
+    drop(left);
     assert_eq!(rt; next_letter(consumer), None);
-    Ok(())
 }
 
 #[test]
 fn what_is_left_comes_behind_what_was_taken(rt: HostRuntime) -> Result<(), Fail> {
     let (finished, mut consumer) = finished_ring(rt.alloc())?;
-    let done = drains(&rt, rt.alloc(), &mut consumer, finished);
+    drains(&rt, rt.alloc(), &mut consumer, finished);
     drop(consumer);
-    done
+    Ok(())
 }

@@ -1,20 +1,22 @@
-// A node's side of its clients, without a node: the test takes and puts in its place. Every wait ends after ten seconds.
+// A node's side of its clients, without a node: the test takes and puts in its place. Every wait ends after ten seconds, and what cannot be
+// had (memory, a socket, an answer in time) ends the test at once, so that no way out drops what a test has.
+use crate::reading;
+use crate::writing::{hand, message_of};
 use bytes::Bytes;
-use client_listener::{FromClient, ToClient};
+use client_listener::ToClient;
 use rtrb::{Consumer, Producer, RingBuffer};
 use serve_lanes::{Arrival, Lobby, keep_door};
 use std::alloc::{AllocError, Global};
 use std::io::{Read, Write};
 use std::net::{Net, SocketAddr, TcpListener, TcpStream};
+use std::panic::Expect;
+use std::process::Abort;
 use std::sync::{Arc, Wait};
-use std::test::Fail;
 use std::thread;
 use std::thread::{JoinHandle, Threads};
 use std::time::{Clock, Duration};
-use wamp_messages::{Read as ReadResult, read};
 
 // A listener's thread, and what it shares with the test.
-#[derive(Drop)]
 pub struct House {
     pub lobby: Arc<Lobby, Global>,
     pub arrivals: Consumer<Arrival>,
@@ -29,59 +31,66 @@ impl House {
             + Clock
             + Threads
             + Eprint
+            + Abort
             + Clone
             + Drop
             + Send
             + 'static,
-    >(rt: &R, alloc: Global) -> Result<House, Fail> {
-        let listener = TcpListener::bind(rt, "127.0.0.1:0")?;
-        let address = listener.local_addr()?;
-        let lobby = Arc::new(alloc, Lobby::new())?;
-        let theirs = Arc::try_clone(&lobby)?;
-        let (producer, arrivals) = RingBuffer::new(alloc, 64)?;
-        let door = start(rt, rt.clone()?, alloc, listener, theirs, producer)?;
-        Ok(House {
+    >(rt: &R, alloc: Global) -> House {
+        let listener = TcpListener::bind(rt, "127.0.0.1:0").expect(rt, "a port");
+        let address = listener.local_addr().expect(rt, "an address");
+        let lobby = Arc::new(alloc, Lobby::new()).expect(rt, "a lobby");
+        let theirs = Arc::try_clone(&lobby).expect(rt, "the lobby again");
+        let (producer, arrivals) = RingBuffer::new(alloc, 64).expect(rt, "a ring");
+        let runtime = rt.clone().expect(rt, "a runtime");
+        let door = start(rt, runtime, alloc, listener, theirs, producer).expect(rt, "a thread");
+        House {
             lobby,
             arrivals,
             address,
             door,
-        })
+        }
     }
 
     // A client that has sent its handshake, and what it was answered.
-    pub fn knock<R: Net<Listener = TcpListener, Stream = TcpStream>>(
+    pub fn knock<R: Net<Listener = TcpListener, Stream = TcpStream> + Abort>(
         &self,
         rt: &R,
         handshake: [u8; 4],
-    ) -> Result<(TcpStream, [u8; 4]), Fail> {
-        let mut client = TcpStream::connect(rt, self.address)?;
-        client.set_read_timeout(Some(Duration::from_secs(10)))?;
-        client.write_all(&handshake)?;
+    ) -> (TcpStream, [u8; 4]) {
+        let mut client = TcpStream::connect(rt, self.address).expect(rt, "a connection");
+        let ten_seconds = Some(Duration::from_secs(10));
+        client
+            .set_read_timeout(ten_seconds)
+            .expect(rt, "a limit to each wait");
+        client
+            .write_all(&handshake)
+            .expect(rt, "the handshake is sent");
         let mut answer = [0; 4];
-        client.read_exact(&mut answer)?;
-        Ok((client, answer))
+        client
+            .read_exact(&mut answer)
+            .expect(rt, "the handshake is answered");
+        (client, answer)
     }
 
     // A client whose handshake is done, as it is and as the node has it.
-    pub fn client<R: Net<Listener = TcpListener, Stream = TcpStream> + Clock>(
+    pub fn client<R: Net<Listener = TcpListener, Stream = TcpStream> + Clock + Abort>(
         &mut self,
         rt: &R,
-    ) -> Result<(TcpStream, Arrival), Fail> {
-        let (client, answer) = self.knock(rt, [0x7F, 0xF1, 0, 0])?;
-        if answer != [0x7F, 0xB1, 0, 0] {
-            return Err(Fail::new("the handshake is not answered"));
-        }
-        Ok((client, self.arrival(rt)?))
+    ) -> (TcpStream, Arrival) {
+        let (client, answer) = self.knock(rt, [0x7F, 0xF1, 0, 0]);
+        assert_eq!(rt; answer, [0x7F, 0xB1, 0, 0]);
+        (client, self.arrival(rt))
     }
 
-    pub fn arrival<R: Clock>(&mut self, rt: &R) -> Result<Arrival, Fail> {
+    pub fn arrival<R: Clock + Abort>(&mut self, rt: &R) -> Arrival {
         for _ in 0..10_000 {
             if let Ok(arrival) = self.arrivals.pop() {
-                return Ok(arrival);
+                return arrival;
             }
             thread::sleep(rt, Duration::from_millis(1));
         }
-        Err(Fail::new("no arrival"))
+        rt.panic("no arrival")
     }
 
     // Whether all places are free, or will be soon.
@@ -96,10 +105,10 @@ impl House {
     }
 
     // Ends the listener's thread: it looks for its node behind each client.
-    pub fn close<R: Net<Listener = TcpListener, Stream = TcpStream> + Threads>(
+    pub fn close<R: Net<Listener = TcpListener, Stream = TcpStream> + Threads + Abort>(
         self,
         rt: &R,
-    ) -> Result<(), Fail> {
+    ) {
         let House {
             lobby,
             arrivals,
@@ -108,10 +117,9 @@ impl House {
         } = self;
         drop(arrivals);
         drop(lobby);
-        let last = TcpStream::connect(rt, address)?;
+        let last = TcpStream::connect(rt, address).expect(rt, "a last connection");
         door.join(rt);
         drop(last);
-        Ok(())
     }
 }
 
@@ -145,24 +153,11 @@ fn count_free(lobby: &Lobby) -> u32 {
     free
 }
 
-// A letter for each kind of item.
-fn letter(item: &FromClient) -> char {
-    match item {
-        FromClient::Connect => 'C',
-        FromClient::Read(ReadResult::Good(_)) => 'R',
-        FromClient::Read(_) => 'B',
-        FromClient::Ping(_) => 'P',
-        FromClient::Hung => 'H',
-    }
-}
-
 // The letter of the next item of a client; 'E' once there is none left and its reader has ended, 'L' where none came in time.
 pub fn next_letter<R: Clock>(rt: &R, arrival: &mut Arrival) -> char {
     for _ in 0..10_000 {
         let is_over = arrival.items.is_abandoned();
-        if let Ok(item) = arrival.items.pop() {
-            let letter = letter(&item);
-            drop(item);
+        if let Some(letter) = reading::next_letter(&mut arrival.items) {
             arrival.line.wake_reader();
             return letter;
         }
@@ -174,33 +169,10 @@ pub fn next_letter<R: Clock>(rt: &R, arrival: &mut Arrival) -> char {
     'L'
 }
 
-// The letters of so many items, one after another.
-pub fn letters<R: Clock>(
-    rt: &R,
-    alloc: Global,
-    arrival: &mut Arrival,
-    count: u32,
-) -> Result<String, Fail> {
-    let mut letters = String::new(alloc);
-    for _ in 0..count {
-        letters.push(next_letter(rt, arrival))?;
-    }
-    Ok(letters)
-}
-
-// The message of a text, to be sent.
-fn message_of(alloc: Global, text: &[u8]) -> Option<ToClient> {
-    match read(alloc, text) {
-        Ok(ReadResult::Good(message)) => Some(ToClient::Send(message)),
-        _ => None,
-    }
-}
-
-// Hands an item over, if there is one. Answers whether there is, and the ring had room.
-fn hand<T: Drop>(replies: &mut Producer<T>, item: Option<T>) -> bool {
-    match item {
-        Some(item) => replies.push(item).is_ok(),
-        None => false,
+// The next items of a client have these letters, one after another.
+pub fn comes<R: Clock + Abort>(rt: &R, arrival: &mut Arrival, letters: &str) {
+    for letter in letters.chars() {
+        assert_eq!(rt; next_letter(rt, arrival), letter, "of {letters}");
     }
 }
 
@@ -212,12 +184,13 @@ pub fn hand_message(alloc: Global, replies: &mut Producer<ToClient>, text: &[u8]
 
 // The same, of a PONG with these octets, and of the end.
 pub fn hand_pong(
+    rt: &impl Abort,
     alloc: Global,
     replies: &mut Producer<ToClient>,
     octets: &[u8],
-) -> Result<bool, AllocError> {
-    let payload = Bytes::copy_from_slice(alloc, octets)?;
-    Ok(hand(replies, Some(ToClient::Pong(payload))))
+) -> bool {
+    let payload = Bytes::copy_from_slice(alloc, octets).expect(rt, "a payload");
+    hand(replies, Some(ToClient::Pong(payload)))
 }
 
 pub fn hand_close(replies: &mut Producer<ToClient>) -> bool {
@@ -225,10 +198,14 @@ pub fn hand_close(replies: &mut Producer<ToClient>) -> bool {
 }
 
 // Whether these are the next octets that a client reads.
-pub fn reads(client: &mut TcpStream, alloc: Global, octets: &[u8]) -> Result<bool, Fail> {
-    let mut came = vec![in alloc; 0; octets.len()]?;
-    client.read_exact(came.as_mut_slice())?;
-    Ok(came.as_slice() == octets)
+pub fn reads(rt: &impl Abort, client: &mut TcpStream, alloc: Global, octets: &[u8]) -> bool {
+    let mut came = vec![in alloc; 0; octets.len()].expect(rt, "room for the octets");
+    client
+        .read_exact(came.as_mut_slice())
+        .expect(rt, "the octets come");
+    let is_same = came.as_slice() == octets;
+    drop(came);
+    is_same
 }
 
 // Whether a client reads the end of its stream.

@@ -7,8 +7,9 @@ use rtrb::{Consumer, RingBuffer};
 use std::alloc::Global;
 use std::io;
 use std::io::Read;
-use std::test::Fail;
-use wamp_messages::{Read as ReadResult, write};
+use std::panic::Expect;
+use std::process::Abort;
+use wamp_messages::{Message, Read as ReadResult, write};
 
 // The client's frames of the stored run, and a PING.
 pub const ASKED: &[u8] = b"\0\0\0\x28[1,\"realm1\",{\"roles\":{\"subscriber\":{}}}]\
@@ -40,118 +41,113 @@ pub fn next_letter(consumer: &mut Consumer<FromClient>) -> Option<char>
     Some(letter)
 }
 
-// The letters of what is in a ring.
-fn letters(alloc: Global, mut consumer: Consumer<FromClient>) -> Result<String, Fail> {
-    let mut letters = String::new(alloc);
-    for _ in 0..16 {
-        let Some(letter) = next_letter(&mut consumer) else {
-            break;
-        };
-        letters.push(letter)?;
+// The next items of a ring have these letters, and none comes behind them.
+fn are_next(rt: &impl Abort, consumer: &mut Consumer<FromClient>, letters: &str) {
+    for letter in letters.chars() {
+        assert_eq!(rt; next_letter(consumer), Some(letter), "of {letters}");
     }
-    Ok(letters)
+    assert_eq!(rt; next_letter(consumer), None, "behind {letters}");
 }
 
-// How the reading of a stream ends, and the letters of what it put into a ring with so many slots, which nobody empties.
-fn put(
-    alloc: Global,
-    wire: &mut Wire<'_>,
-    slots: usize,
-    turns: u64,
-) -> Result<(Result<(), ListenFault>, String), Fail> {
-    let (producer, consumer) = RingBuffer::new(alloc, slots)?;
-    let (outcome, finished) = read_transport(&AtOnce, alloc, wire, producer, turns);
-    if finished.is_none() {
-        return Err(Fail::from("the ring's other end is there"));
-    }
-    Ok((outcome, letters(alloc, consumer)?))
+// The octets of a client, how many of them come at a time, and behind how many calls its stream fails; the slots of a ring that nobody
+// empties, and how often it is tried; how the reading ends then, and the letters of what it put into the ring.
+type Row = (
+    &'static [u8],
+    usize,
+    Option<u32>,
+    usize,
+    u64,
+    Result<(), ListenFault>,
+    &'static str,
+);
+
+const FRAMES: &[Row] = &[
+    (ASKED, 4096, None, 64, 1000, Ok(()), "CRRRRPH"),
+    (ASKED, 1, None, 64, 1000, Ok(()), "CRRRRPH"),
+    (
+        b"\x03\0\0\0",
+        64,
+        None,
+        64,
+        9,
+        Err(ListenFault::Frame),
+        "CH",
+    ),
+    (b"\x02\0\0\0\0", 64, None, 64, 9, Ok(()), "CH"),
+    (b"\0\0\0\0\0\0\0\x02[]\0\0", 64, None, 64, 9, Ok(()), "CBBH"),
+    (b"", 64, None, 64, 9, Ok(()), "CH"),
+    (ASKED, 64, Some(0), 64, 9, Err(ListenFault::Read), "CH"),
+    (ASKED, 64, Some(1), 64, 9, Err(ListenFault::Read), "CRRH"),
+    (ASKED, 4096, None, 1, 3, Err(ListenFault::Turns), "C"),
+    (ASKED, 64, None, 64, 1, Err(ListenFault::Turns), "CRR"),
+];
+
+// What a row's octets put into the ring is what the row says.
+fn puts(rt: &impl Abort, alloc: Global, row: &Row) {
+    let (asked, most, calls, slots, turns, outcome, items) = row;
+    let mut wire = Wire::new(alloc, asked, *most, *calls);
+    let (producer, mut consumer) = RingBuffer::new(alloc, *slots).expect(rt, "a ring");
+    let (ended, finished) = read_transport(&AtOnce, alloc, &mut wire, producer, *turns);
+    assert!(rt; finished.is_some(), "the ring's other end is there");
+    drop(finished);
+    drop(wire);
+    assert_eq!(rt; ended, *outcome, "by {most} of {asked:?}");
+    are_next(rt, &mut consumer, items);
+    drop(consumer);
 }
 
 #[test]
-fn puts_an_item_for_each_frame(rt: HostRuntime) -> Result<(), Fail> {
-    for (asked, most, calls, slots, turns, outcome, items) in [
-        (ASKED, 4096, None, 64, 1000, Ok(()), "CRRRRPH"),
-        (ASKED, 1, None, 64, 1000, Ok(()), "CRRRRPH"),
-        (
-            &b"\x03\0\0\0"[..],
-            64,
-            None,
-            64,
-            9,
-            Err(ListenFault::Frame),
-            "CH",
-        ),
-        (&b"\x02\0\0\0\0"[..], 64, None, 64, 9, Ok(()), "CH"),
-        (
-            &b"\0\0\0\0\0\0\0\x02[]\0\0"[..],
-            64,
-            None,
-            64,
-            9,
-            Ok(()),
-            "CBBH",
-        ),
-        (&b""[..], 64, None, 64, 9, Ok(()), "CH"),
-        (ASKED, 64, Some(0), 64, 9, Err(ListenFault::Read), "CH"),
-        (ASKED, 64, Some(1), 64, 9, Err(ListenFault::Read), "CRRH"),
-        (ASKED, 4096, None, 1, 3, Err(ListenFault::Turns), "C"),
-        (ASKED, 64, None, 64, 1, Err(ListenFault::Turns), "CRR"),
-    ] {
-        let mut wire = Wire::new(rt.alloc(), asked, most, calls);
-        let (ended, put) = put(rt.alloc(), &mut wire, slots, turns)?;
-        assert_eq!(rt; ended, outcome, "by {most} of {asked:?}");
-        assert_eq!(rt; put.as_str(), items, "by {most} of {asked:?}");
+fn puts_an_item_for_each_frame(rt: HostRuntime) {
+    for row in FRAMES {
+        puts(&rt, rt.alloc(), row);
     }
-    Ok(())
+}
+
+// Whether this is the text of the message.
+fn is_text(rt: &impl Abort, alloc: Global, message: &Message, octets: &[u8]) -> bool {
+    let text = write(alloc, message).expect(rt, "room for the text");
+    let is_same = text.as_slice() == octets;
+    drop(text);
+    is_same
 }
 
 // Whether the item holds this: the text of a message, or the octets of a PING.
-fn holds(alloc: Global, item: &FromClient, octets: &[u8]) -> Result<bool, Fail> {
+fn holds(rt: &impl Abort, alloc: Global, item: &FromClient, octets: &[u8]) -> bool {
     match item {
-        FromClient::Read(ReadResult::Good(message)) => {
-            Ok(write(alloc, message)?.as_slice() == octets)
-        }
-        FromClient::Ping(payload) => Ok(payload.as_slice() == octets),
-        _ => Ok(false),
+        FromClient::Read(ReadResult::Good(message)) => is_text(rt, alloc, message, octets),
+        FromClient::Ping(payload) => payload.as_slice() == octets,
+        _ => false,
     }
 }
 
 // Whether the next item of the ring holds this.
 fn next_holds(
+    rt: &impl Abort,
     alloc: Global,
     consumer: &mut Consumer<FromClient>,
     octets: &[u8],
-) -> Result<bool, Fail> {
-    let item = consumer.pop()?;
-    let held = holds(alloc, &item, octets);
+) -> bool {
+    let item = consumer.pop().expect(rt, "an item");
+    let held = holds(rt, alloc, &item, octets);
     drop(item);
     held
 }
 
-// Puts what these octets are due into a ring of eight, and gives how that ended, and the ring's other end.
-fn ring_of(
-    alloc: Global,
-    asked: &[u8],
-) -> Result<(Result<(), ListenFault>, Consumer<FromClient>), Fail> {
-    let (producer, consumer) = RingBuffer::new(alloc, 8)?;
-    let mut asked = asked;
-    let (outcome, _finished) = read_transport(&AtOnce, alloc, &mut asked, producer, 9);
-    Ok((outcome, consumer))
-}
-
 #[test]
-fn puts_what_the_frames_hold(rt: HostRuntime) -> Result<(), Fail> {
-    let asked = &b"\0\0\0\x0F[32,1,{},\"a.b\"]\x01\0\0\x02AB\x02\0\0\x01C"[..];
-    let (outcome, mut consumer) = ring_of(rt.alloc(), asked)?;
+fn puts_what_the_frames_hold(rt: HostRuntime) {
+    let mut asked = &b"\0\0\0\x0F[32,1,{},\"a.b\"]\x01\0\0\x02AB\x02\0\0\x01C"[..];
+    let (producer, mut consumer) = RingBuffer::new(rt.alloc(), 8).expect(&rt, "a ring");
+    let (outcome, finished) = read_transport(&AtOnce, rt.alloc(), &mut asked, producer, 9);
+    drop(finished);
     assert_eq!(rt; outcome, Ok(()));
     assert_eq!(rt; next_letter(&mut consumer), Some('C'));
     for octets in [&b"[32,1,{},\"a.b\"]"[..], b"AB"] {
         assert!(rt;
-            next_holds(rt.alloc(), &mut consumer, octets)?,
+            next_holds(&rt, rt.alloc(), &mut consumer, octets),
             "{octets:?}"
         );
     }
-    Ok(())
+    drop(consumer);
 }
 
 // How many messages are in a ring, which is empty then.
@@ -188,17 +184,19 @@ impl Read for Emptying<'_> {
 }
 
 #[test]
-fn ten_thousand_messages_go_through_a_ring_of_64(rt: HostRuntime) -> Result<(), Fail> {
-    let octets = frames(rt.alloc())?;
-    let (producer, consumer) = RingBuffer::new(rt.alloc(), 64)?;
+fn ten_thousand_messages_go_through_a_ring_of_64(rt: HostRuntime) {
+    let octets = frames(&rt, rt.alloc());
+    let (producer, consumer) = RingBuffer::new(rt.alloc(), 64).expect(&rt, "a ring");
     let mut stream = Emptying {
         asked: octets.as_slice(),
         consumer,
         messages: 0,
     };
-    let (outcome, _finished) = read_transport(&AtOnce, rt.alloc(), &mut stream, producer, u64::MAX);
+    let (outcome, finished) = read_transport(&AtOnce, rt.alloc(), &mut stream, producer, u64::MAX);
+    drop(finished);
     assert_eq!(rt; outcome, Ok(()));
     let last = take_all(&mut stream.consumer);
     assert_eq!(rt; stream.messages.saturating_add(last), COUNT);
-    Ok(())
+    drop(stream);
+    drop(octets);
 }

@@ -2,7 +2,8 @@
 use std::alloc::Global;
 use std::io;
 use std::io::{Read, Write};
-use std::test::Fail;
+use std::panic::Expect;
+use std::process::Abort;
 use std::time::{Clock, Duration};
 
 // A clock that does not wait.
@@ -84,10 +85,12 @@ pub const FRAME: &[u8] = b"\0\0\0\x0F[32,1,{},\"a.b\"]";
 
 pub const COUNT: u32 = 10_000;
 
-pub fn frames(alloc: Global) -> Result<Vec<u8>, Fail> {
+pub fn frames(rt: &impl Abort, alloc: Global) -> Vec<u8> {
     let mut octets = Vec::new(alloc);
     for _ in 0..COUNT {
-        octets.extend_from_slice(FRAME)?;
+        octets
+            .extend_from_slice(FRAME)
+            .expect(rt, "room for a frame");
     }
-    Ok(octets)
+    octets
 }

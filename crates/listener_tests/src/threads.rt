@@ -5,7 +5,7 @@ use crate::writing::message_of;
 use client_listener::{FromClient, ToClient, read_transport, write_transport};
 use rtrb::{Consumer, Producer, PushError, RingBuffer};
 use std::alloc::Global;
-use std::test::Fail;
+use std::panic::Expect;
 use std::thread;
 
 // How many messages come out of a ring, up to the last item.
@@ -24,10 +24,10 @@ fn count_messages(consumer: Consumer<FromClient>) -> u32 {
 }
 
 #[test]
-fn ten_thousand_messages_are_read_for_another_thread(rt: HostRuntime) -> Result<(), Fail> {
-    let octets = frames(rt.alloc())?;
+fn ten_thousand_messages_are_read_for_another_thread(rt: HostRuntime) {
+    let octets = frames(&rt, rt.alloc());
     let mut asked = octets.as_slice();
-    let (producer, consumer) = RingBuffer::new(rt.alloc(), 64)?;
+    let (producer, consumer) = RingBuffer::new(rt.alloc(), 64).expect(&rt, "a ring");
     let (messages, outcome) = thread::join(
         &rt,
         move || count_messages(consumer),
@@ -35,7 +35,7 @@ fn ten_thousand_messages_are_read_for_another_thread(rt: HostRuntime) -> Result<
     );
     assert_eq!(rt; outcome, Ok(()));
     assert_eq!(rt; messages, COUNT);
-    Ok(())
+    drop(octets);
 }
 
 // Hands an item over as soon as the ring has room for it.
@@ -75,10 +75,10 @@ fn hand_all(alloc: Global, producer: Producer<ToClient>) -> u32 {
 }
 
 #[test]
-fn ten_thousand_messages_of_another_thread_are_written(rt: HostRuntime) -> Result<(), Fail> {
+fn ten_thousand_messages_of_another_thread_are_written(rt: HostRuntime) {
     let alloc = rt.alloc();
     let mut written = Vec::new(alloc);
-    let (producer, consumer) = RingBuffer::new(alloc, 64)?;
+    let (producer, consumer) = RingBuffer::new(alloc, 64).expect(&rt, "a ring");
     let (handed, outcome) = thread::join(
         &rt,
         move || hand_all(alloc, producer),
@@ -86,6 +86,8 @@ fn ten_thousand_messages_of_another_thread_are_written(rt: HostRuntime) -> Resul
     );
     assert_eq!(rt; outcome, Ok(()));
     assert_eq!(rt; handed, COUNT);
-    assert!(rt; written.as_slice() == frames(alloc)?.as_slice());
-    Ok(())
+    let wanted = frames(&rt, alloc);
+    assert!(rt; written.as_slice() == wanted.as_slice());
+    drop(wanted);
+    drop(written);
 }

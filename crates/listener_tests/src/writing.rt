@@ -6,7 +6,8 @@ use rtrb::{Producer, RingBuffer};
 use std::alloc::Global;
 use std::io;
 use std::io::Write;
-use std::test::Fail;
+use std::panic::Expect;
+use std::process::Abort;
 use wamp_messages::{Read as ReadResult, read};
 use wamp_rawsocket::FrameKind;
 
@@ -35,105 +36,126 @@ pub fn message_of(alloc: Global, text: &[u8]) -> Option<ToClient> {
     }
 }
 
-fn pong_of(alloc: Global, length: usize) -> Result<ToClient, Fail> {
-    let octets = vec![in alloc; b'x'; length]?;
-    Ok(ToClient::Pong(Bytes::copy_from_slice(alloc, &octets)?))
+fn pong_of(rt: &impl Abort, alloc: Global, length: usize) -> ToClient {
+    let octets = vec![in alloc; b'x'; length].expect(rt, "room for the octets");
+    let payload = Bytes::copy_from_slice(alloc, &octets).expect(rt, "a payload");
+    drop(octets);
+    ToClient::Pong(payload)
 }
 
 // Hands an item to a ring. Answers whether there is one, and the ring had room for it.
-fn hand<T: Drop>(producer: &mut Producer<T>, item: Option<T>) -> bool {
+pub fn hand<T: Drop>(producer: &mut Producer<T>, item: Option<T>) -> bool {
     match item {
         Some(item) => producer.push(item).is_ok(),
         None => false,
     }
 }
 
-#[test]
-fn writes_the_frames_of_the_stored_run(rt: HostRuntime) -> Result<(), Fail> {
-    let (mut producer, consumer) = RingBuffer::new(rt.alloc(), 8)?;
+// Puts the messages of the texts into a ring, and `Close` behind them.
+fn hand_texts(rt: &impl Abort, alloc: Global, producer: &mut Producer<ToClient>) {
     for text in TEXTS {
-        let item = message_of(rt.alloc(), text.as_bytes());
-        assert!(rt; hand(&mut producer, item), "{text}");
+        let item = message_of(alloc, text.as_bytes());
+        assert!(rt; hand(producer, item), "{text}");
     }
-    assert!(rt; hand(&mut producer, Some(ToClient::Close)));
+    assert!(rt; hand(producer, Some(ToClient::Close)));
+}
+
+#[test]
+fn writes_the_frames_of_the_stored_run(rt: HostRuntime) {
+    let (mut producer, consumer) = RingBuffer::new(rt.alloc(), 8).expect(&rt, "a ring");
+    hand_texts(&rt, rt.alloc(), &mut producer);
     let mut wire = Wire::new(rt.alloc(), b"", 64, None);
     let outcome = write_transport(&AtOnce, rt.alloc(), consumer, &mut wire, 1 << 24, 9);
+    drop(producer);
     assert_eq!(rt; outcome, Ok(()));
     assert_eq!(rt; wire.answered.as_slice(), ANSWERED);
-    Ok(())
+    drop(wire);
 }
 
 // Puts PONGs of these lengths into a ring, and `Close` behind them.
 fn hand_pongs(
+    rt: &impl Abort,
     alloc: Global,
     producer: &mut Producer<ToClient>,
     lengths: &[usize],
     closes: bool,
-) -> Result<bool, Fail> {
-    let mut had_room = true;
+) {
     for length in lengths {
-        had_room = hand(producer, Some(pong_of(alloc, *length)?)) && had_room;
+        let item = pong_of(rt, alloc, *length);
+        assert!(rt; hand(producer, Some(item)), "the ring has room");
     }
     if closes {
-        had_room = hand(producer, Some(ToClient::Close)) && had_room;
+        assert!(rt; hand(producer, Some(ToClient::Close)), "the ring has room");
     }
-    Ok(had_room)
 }
 
 // How the writing of PONGs of these lengths ends, for a client that takes 512 octets.
 fn written(
+    rt: &impl Abort,
     alloc: Global,
     lengths: &[usize],
     closes: bool,
     wire: &mut Wire<'_>,
-) -> Result<Result<(), ListenFault>, Fail> {
-    let (mut producer, consumer) = RingBuffer::new(alloc, 8)?;
-    if !hand_pongs(alloc, &mut producer, lengths, closes)? {
-        return Err(Fail::from("the ring has room"));
-    }
-    Ok(write_transport(&AtOnce, alloc, consumer, wire, 512, 3))
+) -> Result<(), ListenFault> {
+    let (mut producer, consumer) = RingBuffer::new(alloc, 8).expect(rt, "a ring");
+    hand_pongs(rt, alloc, &mut producer, lengths, closes);
+    let outcome = write_transport(&AtOnce, alloc, consumer, wire, 512, 3);
+    drop(producer);
+    outcome
+}
+
+// The lengths of PONGs, whether `Close` comes behind them, and behind how many calls the stream fails; how the writing ends then, and which
+// octets are written.
+type Row = (
+    &'static [usize],
+    bool,
+    Option<u32>,
+    Result<(), ListenFault>,
+    &'static [u8],
+);
+
+const ENDS: &[Row] = &[
+    (&[2, 1], true, None, Ok(()), b"\x02\0\0\x02xx\x02\0\0\x01x"),
+    (
+        &[2, 513, 1],
+        true,
+        None,
+        Err(ListenFault::Wide),
+        b"\x02\0\0\x02xx",
+    ),
+    (
+        &[2],
+        false,
+        None,
+        Err(ListenFault::Turns),
+        b"\x02\0\0\x02xx",
+    ),
+    (&[], false, None, Err(ListenFault::Turns), b""),
+    (&[2], true, Some(0), Err(ListenFault::Write), b""),
+    (
+        &[2],
+        true,
+        Some(1),
+        Err(ListenFault::Write),
+        b"\x02\0\0\x02xx",
+    ),
+];
+
+// The writing ends as the row says.
+fn ends(rt: &impl Abort, alloc: Global, row: &Row) {
+    let (lengths, closes, calls, outcome, octets) = row;
+    let mut wire = Wire::new(alloc, b"", 64, *calls);
+    let ended = written(rt, alloc, lengths, *closes, &mut wire);
+    assert_eq!(rt; ended, *outcome, "of {lengths:?}");
+    assert_eq!(rt; wire.answered.as_slice(), *octets, "of {lengths:?}");
+    drop(wire);
 }
 
 #[test]
-fn ends_the_writing_as_its_items_do(rt: HostRuntime) -> Result<(), Fail> {
-    for (lengths, closes, calls, outcome, octets) in [
-        (
-            &[2, 1][..],
-            true,
-            None,
-            Ok(()),
-            &b"\x02\0\0\x02xx\x02\0\0\x01x"[..],
-        ),
-        (
-            &[2, 513, 1],
-            true,
-            None,
-            Err(ListenFault::Wide),
-            b"\x02\0\0\x02xx",
-        ),
-        (
-            &[2],
-            false,
-            None,
-            Err(ListenFault::Turns),
-            b"\x02\0\0\x02xx",
-        ),
-        (&[], false, None, Err(ListenFault::Turns), b""),
-        (&[2], true, Some(0), Err(ListenFault::Write), b""),
-        (
-            &[2],
-            true,
-            Some(1),
-            Err(ListenFault::Write),
-            b"\x02\0\0\x02xx",
-        ),
-    ] {
-        let mut wire = Wire::new(rt.alloc(), b"", 64, calls);
-        let ended = written(rt.alloc(), lengths, closes, &mut wire)?;
-        assert_eq!(rt; ended, outcome, "of {lengths:?}");
-        assert_eq!(rt; wire.answered.as_slice(), octets, "of {lengths:?}");
+fn ends_the_writing_as_its_items_do(rt: HostRuntime) {
+    for row in ENDS {
+        ends(&rt, rt.alloc(), row);
     }
-    Ok(())
 }
 
 // A stream that fills the ring whenever it is flushed, as at each vain try, and closes it at last.
@@ -177,8 +199,8 @@ impl Write for Filling {
 }
 
 #[test]
-fn ten_thousand_messages_are_written_out_of_a_ring_of_64(rt: HostRuntime) -> Result<(), Fail> {
-    let (producer, consumer) = RingBuffer::new(rt.alloc(), 64)?;
+fn ten_thousand_messages_are_written_out_of_a_ring_of_64(rt: HostRuntime) {
+    let (producer, consumer) = RingBuffer::new(rt.alloc(), 64).expect(&rt, "a ring");
     let mut stream = Filling {
         alloc: rt.alloc(),
         producer,
@@ -187,24 +209,31 @@ fn ten_thousand_messages_are_written_out_of_a_ring_of_64(rt: HostRuntime) -> Res
     };
     let outcome = write_transport(&AtOnce, rt.alloc(), consumer, &mut stream, 512, u64::MAX);
     assert_eq!(rt; outcome, Ok(()));
-    assert!(rt; stream.answered.as_slice() == frames(rt.alloc())?.as_slice());
-    Ok(())
+    let wanted = frames(&rt, rt.alloc());
+    assert!(rt; stream.answered.as_slice() == wanted.as_slice());
+    drop(wanted);
+    drop(stream);
+}
+
+// A frame that is kept is written once, whole, and one that is too wide is not kept.
+fn keeps(rt: &impl Abort, outbox: &mut Outbox, wire: &mut Wire<'_>, wide: &[u8]) {
+    assert_eq!(rt; outbox.put(FrameKind::Pong, b"ab".as_slice()), Ok(()));
+    assert_eq!(rt;
+        outbox.put(FrameKind::Message, wide),
+        Err(ListenFault::Wide)
+    );
+    assert_eq!(rt; outbox.write_to(wire), Err(ListenFault::Write));
+    assert_eq!(rt; outbox.len(), 6);
+    assert_eq!(rt; outbox.write_to(wire), Ok(()));
+    assert_eq!(rt; outbox.len(), 0);
+    assert_eq!(rt; wire.answered.as_slice(), b"\x02\0\0\x02ab".as_slice());
 }
 
 #[test]
-fn an_outbox_keeps_frames_until_they_are_written(rt: HostRuntime) -> Result<(), Fail> {
-    let wide = vec![in rt.alloc(); b'x'; 513]?;
+fn an_outbox_keeps_frames_until_they_are_written(rt: HostRuntime) {
     let mut outbox = Outbox::new(rt.alloc(), 512);
     let mut wire = Wire::new(rt.alloc(), b"", 64, Some(0));
-    assert_eq!(rt; outbox.put(FrameKind::Pong, b"ab".as_slice()), Ok(()));
-    assert_eq!(rt;
-        outbox.put(FrameKind::Message, &wide),
-        Err(ListenFault::Wide)
-    );
-    assert_eq!(rt; outbox.write_to(&mut wire), Err(ListenFault::Write));
-    assert_eq!(rt; outbox.len(), 6);
-    assert_eq!(rt; outbox.write_to(&mut wire), Ok(()));
-    assert_eq!(rt; outbox.len(), 0);
-    assert_eq!(rt; wire.answered.as_slice(), b"\x02\0\0\x02ab".as_slice());
-    Ok(())
+    keeps(&rt, &mut outbox, &mut wire, &[b'x'; 513]);
+    drop(wire);
+    drop(outbox);
 }
