@@ -154,7 +154,7 @@ fn count_free(lobby: &Lobby) -> u32 {
 }
 
 // The letter of the next item of a client; 'E' once there is none left and its reader has ended, 'L' where none came in time.
-pub fn next_letter<R: Clock>(rt: &R, arrival: &mut Arrival) -> char {
+fn next_letter<R: Clock>(rt: &R, arrival: &mut Arrival) -> char {
     for _ in 0..10_000 {
         let is_over = arrival.items.is_abandoned();
         if let Some(letter) = reading::next_letter(&mut arrival.items) {

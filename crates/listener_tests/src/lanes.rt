@@ -1,8 +1,7 @@
 // What a connection's two threads do, from the handshake to its end.
-use crate::house::{
-    House, comes, hand_close, hand_message, hand_pong, next_letter, reads, reads_the_end,
-};
+use crate::house::{House, comes, hand_close, hand_message, hand_pong, reads, reads_the_end};
 use serve_lanes::{Arrival, REQUESTS_WAITING};
+use std::alloc::Global;
 use std::io::Write;
 use std::net::{Shutdown, TcpStream};
 use std::panic::Expect;
@@ -25,6 +24,19 @@ fn sends(rt: &impl Abort, client: &mut TcpStream, octets: &[u8], times: u32) {
     }
 }
 
+// A message and a PONG that are handed over reach the client, and then the end.
+fn is_answered(rt: &impl Abort, alloc: Global, client: &mut TcpStream, arrival: &mut Arrival) {
+    assert!(rt; hand_message(alloc, &mut arrival.replies, &REGISTERED[4..]));
+    arrival.line.wake_writer();
+    assert!(rt; reads(rt, client, alloc, REGISTERED));
+    assert!(rt; hand_pong(rt, alloc, &mut arrival.replies, b"hi"));
+    arrival.line.wake_writer();
+    assert!(rt; reads(rt, client, alloc, PONG));
+    assert!(rt; hand_close(&mut arrival.replies));
+    arrival.line.wake_writer();
+    assert!(rt; reads_the_end(client));
+}
+
 #[test]
 fn a_client_is_heard_and_answered(rt: HostRuntime) {
     let mut house = House::open(&rt, rt.alloc());
@@ -33,15 +45,7 @@ fn a_client_is_heard_and_answered(rt: HostRuntime) {
     sends(&rt, &mut client, PING, 1);
     comes(&rt, &mut arrival, "CRP");
     assert!(rt; house.lobby.take_stirred());
-    assert!(rt; hand_message(rt.alloc(), &mut arrival.replies, &REGISTERED[4..]));
-    arrival.line.wake_writer();
-    assert!(rt; reads(&rt, &mut client, rt.alloc(), REGISTERED));
-    assert!(rt; hand_pong(&rt, rt.alloc(), &mut arrival.replies, b"hi"));
-    arrival.line.wake_writer();
-    assert!(rt; reads(&rt, &mut client, rt.alloc(), PONG));
-    assert!(rt; hand_close(&mut arrival.replies));
-    arrival.line.wake_writer();
-    assert!(rt; reads_the_end(&mut client));
+    is_answered(&rt, rt.alloc(), &mut client, &mut arrival);
     drop(client);
     comes(&rt, &mut arrival, "HE");
     drop(arrival);
@@ -75,7 +79,7 @@ fn a_client_that_is_refused_leaves_nothing(rt: HostRuntime) {
     assert!(rt; reads_the_end(&mut client));
     drop(client);
     let mut arrival = house.arrival(&rt);
-    assert_eq!(rt; next_letter(&rt, &mut arrival), 'E');
+    comes(&rt, &mut arrival, "E");
     drop(arrival);
     assert!(rt; house.is_empty_soon(&rt));
     house.close(&rt);
@@ -85,7 +89,7 @@ fn a_client_that_is_refused_leaves_nothing(rt: HostRuntime) {
 fn hanging_up_ends_both_threads(rt: HostRuntime) {
     let mut house = House::open(&rt, rt.alloc());
     let (mut client, mut arrival) = house.client(&rt);
-    assert_eq!(rt; next_letter(&rt, &mut arrival), 'C');
+    comes(&rt, &mut arrival, "C");
     arrival.line.hang_up();
     assert!(rt; reads_the_end(&mut client));
     comes(&rt, &mut arrival, "HE");
@@ -120,9 +124,9 @@ fn a_reader_waits_for_room_and_goes_on(rt: HostRuntime) {
     client
         .shutdown(Shutdown::Write)
         .expect(&rt, "nothing more is sent");
-    assert_eq!(rt; next_letter(&rt, &mut arrival), 'C');
-    for at in 0..1_000 {
-        assert_eq!(rt; next_letter(&rt, &mut arrival), 'P', "{at}");
+    comes(&rt, &mut arrival, "C");
+    for _ in 0..1_000 {
+        comes(&rt, &mut arrival, "P");
     }
     comes(&rt, &mut arrival, "HE");
     drop(arrival);

@@ -3,7 +3,7 @@ ghost use Rattle.rtrb.specs.Ring.{SameConsumer};
 
 use crate::streams::{AtOnce, COUNT, Wire, frames};
 use client_listener::{FromClient, ListenFault, read_transport};
-use rtrb::{Consumer, RingBuffer};
+use rtrb::{Consumer, Producer, RingBuffer};
 use std::alloc::Global;
 use std::io;
 use std::io::Read;
@@ -82,17 +82,39 @@ const FRAMES: &[Row] = &[
     (ASKED, 64, None, 64, 1, Err(ListenFault::Turns), "CRR"),
 ];
 
-// What a row's octets put into the ring is what the row says.
-fn puts(rt: &impl Abort, alloc: Global, row: &Row) {
-    let (asked, most, calls, slots, turns, outcome, items) = row;
-    let mut wire = Wire::new(alloc, asked, *most, *calls);
-    let (producer, mut consumer) = RingBuffer::new(alloc, *slots).expect(rt, "a ring");
-    let (ended, finished) = read_transport(&AtOnce, alloc, &mut wire, producer, *turns);
+// How the reading of a stream ends, whose items nobody takes out of the ring. The ring's other end is there still.
+fn read_all<S: Read>(
+    rt: &impl Abort,
+    alloc: Global,
+    stream: &mut S,
+    producer: Producer<FromClient>,
+    turns: u64,
+) -> Result<(), ListenFault> {
+    let (outcome, finished) = read_transport(&AtOnce, alloc, stream, producer, turns);
     assert!(rt; finished.is_some(), "the ring's other end is there");
     drop(finished);
+    outcome
+}
+
+// How the reading of a row's octets ends.
+fn ended(
+    rt: &impl Abort,
+    alloc: Global,
+    row: &Row,
+    producer: Producer<FromClient>,
+) -> Result<(), ListenFault> {
+    let mut wire = Wire::new(alloc, row.0, row.1, row.2);
+    let outcome = read_all(rt, alloc, &mut wire, producer, row.4);
     drop(wire);
-    assert_eq!(rt; ended, *outcome, "by {most} of {asked:?}");
-    are_next(rt, &mut consumer, items);
+    outcome
+}
+
+// What a row's octets put into the ring is what the row says.
+fn puts(rt: &impl Abort, alloc: Global, row: &Row) {
+    let (producer, mut consumer) = RingBuffer::new(alloc, row.3).expect(rt, "a ring");
+    let outcome = ended(rt, alloc, row, producer);
+    assert!(rt; outcome == row.5, "by {} of {:?}", row.1, row.0);
+    are_next(rt, &mut consumer, row.6);
     drop(consumer);
 }
 
@@ -133,20 +155,20 @@ fn next_holds(
     held
 }
 
+// The items of a ring that are told by what they hold.
+fn hold(rt: &impl Abort, alloc: Global, consumer: &mut Consumer<FromClient>) {
+    assert_eq!(rt; next_letter(consumer), Some('C'));
+    assert!(rt; next_holds(rt, alloc, consumer, b"[32,1,{},\"a.b\"]"));
+    assert!(rt; next_holds(rt, alloc, consumer, b"AB"));
+}
+
 #[test]
 fn puts_what_the_frames_hold(rt: HostRuntime) {
     let mut asked = &b"\0\0\0\x0F[32,1,{},\"a.b\"]\x01\0\0\x02AB\x02\0\0\x01C"[..];
     let (producer, mut consumer) = RingBuffer::new(rt.alloc(), 8).expect(&rt, "a ring");
-    let (outcome, finished) = read_transport(&AtOnce, rt.alloc(), &mut asked, producer, 9);
-    drop(finished);
-    assert_eq!(rt; outcome, Ok(()));
-    assert_eq!(rt; next_letter(&mut consumer), Some('C'));
-    for octets in [&b"[32,1,{},\"a.b\"]"[..], b"AB"] {
-        assert!(rt;
-            next_holds(&rt, rt.alloc(), &mut consumer, octets),
-            "{octets:?}"
-        );
-    }
+    let outcome = read_all(&rt, rt.alloc(), &mut asked, producer, 9);
+    assert!(rt; outcome == Ok(()));
+    hold(&rt, rt.alloc(), &mut consumer);
     drop(consumer);
 }
 
@@ -183,20 +205,26 @@ impl Read for Emptying<'_> {
     }
 }
 
-#[test]
-fn ten_thousand_messages_go_through_a_ring_of_64(rt: HostRuntime) {
-    let octets = frames(&rt, rt.alloc());
-    let (producer, consumer) = RingBuffer::new(rt.alloc(), 64).expect(&rt, "a ring");
+// How many messages such a stream of these octets puts through a ring of 64, to its end.
+fn count_through(rt: &impl Abort, alloc: Global, asked: &[u8]) -> u32 {
+    let (producer, consumer) = RingBuffer::new(alloc, 64).expect(rt, "a ring");
     let mut stream = Emptying {
-        asked: octets.as_slice(),
+        asked,
         consumer,
         messages: 0,
     };
-    let (outcome, finished) = read_transport(&AtOnce, rt.alloc(), &mut stream, producer, u64::MAX);
-    drop(finished);
-    assert_eq!(rt; outcome, Ok(()));
+    let outcome = read_all(rt, alloc, &mut stream, producer, u64::MAX);
+    assert!(rt; outcome == Ok(()));
     let last = take_all(&mut stream.consumer);
-    assert_eq!(rt; stream.messages.saturating_add(last), COUNT);
+    let messages = stream.messages.saturating_add(last);
     drop(stream);
+    messages
+}
+
+#[test]
+fn ten_thousand_messages_go_through_a_ring_of_64(rt: HostRuntime) {
+    let octets = frames(&rt, rt.alloc());
+    let messages = count_through(&rt, rt.alloc(), octets.as_slice());
     drop(octets);
+    assert_eq!(rt; messages, COUNT);
 }

@@ -94,3 +94,8 @@ pub fn frames(rt: &impl Abort, alloc: Global) -> Vec<u8> {
     }
     octets
 }
+
+// Whether both are the same octets.
+pub fn is_same(some: &[u8], other: &[u8]) -> bool {
+    some == other
+}

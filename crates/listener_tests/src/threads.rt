@@ -33,7 +33,7 @@ fn ten_thousand_messages_are_read_for_another_thread(rt: HostRuntime) {
         move || count_messages(consumer),
         || read_transport(&rt, rt.alloc(), &mut asked, producer, u64::MAX).0,
     );
-    assert_eq!(rt; outcome, Ok(()));
+    assert!(rt; outcome == Ok(()));
     assert_eq!(rt; messages, COUNT);
     drop(octets);
 }
@@ -84,7 +84,7 @@ fn ten_thousand_messages_of_another_thread_are_written(rt: HostRuntime) {
         move || hand_all(alloc, producer),
         || write_transport(&rt, alloc, consumer, &mut written, 512, u64::MAX),
     );
-    assert_eq!(rt; outcome, Ok(()));
+    assert!(rt; outcome == Ok(()));
     assert_eq!(rt; handed, COUNT);
     let wanted = frames(&rt, alloc);
     assert!(rt; written.as_slice() == wanted.as_slice());

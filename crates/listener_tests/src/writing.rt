@@ -1,5 +1,5 @@
 // Rows on what is written of what is taken out of a ring, and of what an outbox holds.
-use crate::streams::{AtOnce, COUNT, FRAME, Wire, frames};
+use crate::streams::{AtOnce, COUNT, FRAME, Wire, frames, is_same};
 use bytes::Bytes;
 use client_listener::{ListenFault, Outbox, ToClient, write_transport};
 use rtrb::{Producer, RingBuffer};
@@ -51,13 +51,18 @@ pub fn hand<T: Drop>(producer: &mut Producer<T>, item: Option<T>) -> bool {
     }
 }
 
+// Hands an item to a ring, which has room for it.
+fn put<T: Drop>(rt: &impl Abort, producer: &mut Producer<T>, item: T) {
+    assert!(rt; hand(producer, Some(item)), "the ring has room");
+}
+
 // Puts the messages of the texts into a ring, and `Close` behind them.
 fn hand_texts(rt: &impl Abort, alloc: Global, producer: &mut Producer<ToClient>) {
     for text in TEXTS {
         let item = message_of(alloc, text.as_bytes());
         assert!(rt; hand(producer, item), "{text}");
     }
-    assert!(rt; hand(producer, Some(ToClient::Close)));
+    put(rt, producer, ToClient::Close);
 }
 
 #[test]
@@ -67,8 +72,8 @@ fn writes_the_frames_of_the_stored_run(rt: HostRuntime) {
     let mut wire = Wire::new(rt.alloc(), b"", 64, None);
     let outcome = write_transport(&AtOnce, rt.alloc(), consumer, &mut wire, 1 << 24, 9);
     drop(producer);
-    assert_eq!(rt; outcome, Ok(()));
-    assert_eq!(rt; wire.answered.as_slice(), ANSWERED);
+    assert!(rt; outcome == Ok(()));
+    assert!(rt; wire.answered.as_slice() == ANSWERED);
     drop(wire);
 }
 
@@ -81,11 +86,10 @@ fn hand_pongs(
     closes: bool,
 ) {
     for length in lengths {
-        let item = pong_of(rt, alloc, *length);
-        assert!(rt; hand(producer, Some(item)), "the ring has room");
+        put(rt, producer, pong_of(rt, alloc, *length));
     }
     if closes {
-        assert!(rt; hand(producer, Some(ToClient::Close)), "the ring has room");
+        put(rt, producer, ToClient::Close);
     }
 }
 
@@ -141,13 +145,16 @@ const ENDS: &[Row] = &[
     ),
 ];
 
-// The writing ends as the row says.
+// The writing of a row's PONGs to this stream ends as the row says.
+fn is_ended(rt: &impl Abort, alloc: Global, row: &Row, wire: &mut Wire<'_>) {
+    let outcome = written(rt, alloc, row.0, row.1, wire);
+    let is_so = outcome == row.3 && is_same(wire.answered.as_slice(), row.4);
+    assert!(rt; is_so, "of {:?}: {outcome:?}", row.0);
+}
+
 fn ends(rt: &impl Abort, alloc: Global, row: &Row) {
-    let (lengths, closes, calls, outcome, octets) = row;
-    let mut wire = Wire::new(alloc, b"", 64, *calls);
-    let ended = written(rt, alloc, lengths, *closes, &mut wire);
-    assert_eq!(rt; ended, *outcome, "of {lengths:?}");
-    assert_eq!(rt; wire.answered.as_slice(), *octets, "of {lengths:?}");
+    let mut wire = Wire::new(alloc, b"", 64, row.2);
+    is_ended(rt, alloc, row, &mut wire);
     drop(wire);
 }
 
@@ -208,32 +215,42 @@ fn ten_thousand_messages_are_written_out_of_a_ring_of_64(rt: HostRuntime) {
         answered: Vec::new(rt.alloc()),
     };
     let outcome = write_transport(&AtOnce, rt.alloc(), consumer, &mut stream, 512, u64::MAX);
-    assert_eq!(rt; outcome, Ok(()));
+    assert!(rt; outcome == Ok(()));
     let wanted = frames(&rt, rt.alloc());
     assert!(rt; stream.answered.as_slice() == wanted.as_slice());
     drop(wanted);
     drop(stream);
 }
 
+// What an outbox answers to a frame, to one that is too wide, and to two tries to write what it holds; how much it holds behind each try.
+fn tries(outbox: &mut Outbox, wire: &mut Wire<'_>) -> ([Result<(), ListenFault>; 4], [usize; 2]) {
+    let kept = outbox.put(FrameKind::Pong, b"ab".as_slice());
+    let refused = outbox.put(FrameKind::Message, &[b'x'; 513]);
+    let failed = outbox.write_to(wire);
+    let left = outbox.len();
+    let done = outbox.write_to(wire);
+    ([kept, refused, failed, done], [left, outbox.len()])
+}
+
 // A frame that is kept is written once, whole, and one that is too wide is not kept.
-fn keeps(rt: &impl Abort, outbox: &mut Outbox, wire: &mut Wire<'_>, wide: &[u8]) {
-    assert_eq!(rt; outbox.put(FrameKind::Pong, b"ab".as_slice()), Ok(()));
-    assert_eq!(rt;
-        outbox.put(FrameKind::Message, wide),
-        Err(ListenFault::Wide)
-    );
-    assert_eq!(rt; outbox.write_to(wire), Err(ListenFault::Write));
-    assert_eq!(rt; outbox.len(), 6);
-    assert_eq!(rt; outbox.write_to(wire), Ok(()));
-    assert_eq!(rt; outbox.len(), 0);
-    assert_eq!(rt; wire.answered.as_slice(), b"\x02\0\0\x02ab".as_slice());
+fn keeps(rt: &impl Abort, outbox: &mut Outbox, wire: &mut Wire<'_>) {
+    let (answers, lengths) = tries(outbox, wire);
+    let wanted = [
+        Ok(()),
+        Err(ListenFault::Wide),
+        Err(ListenFault::Write),
+        Ok(()),
+    ];
+    assert!(rt; answers == wanted, "{answers:?}");
+    assert!(rt; lengths == [6, 0], "{lengths:?}");
+    assert!(rt; is_same(wire.answered.as_slice(), b"\x02\0\0\x02ab"));
 }
 
 #[test]
 fn an_outbox_keeps_frames_until_they_are_written(rt: HostRuntime) {
     let mut outbox = Outbox::new(rt.alloc(), 512);
     let mut wire = Wire::new(rt.alloc(), b"", 64, Some(0));
-    keeps(&rt, &mut outbox, &mut wire, &[b'x'; 513]);
+    keeps(&rt, &mut outbox, &mut wire);
     drop(wire);
     drop(outbox);
 }
