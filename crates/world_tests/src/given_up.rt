@@ -6,10 +6,10 @@ use cluster_world::World;
 use core_tests::Refuses;
 use std::alloc::Global;
 use std::process::Abort;
-use std::test::Fail;
 
-fn refusing(alloc: Global) -> Result<World<Refuses>, Fail> {
+fn refusing(rt: &impl Abort, alloc: Global) -> World<Refuses> {
     world_of(
+        rt,
         alloc,
         Refuses::new(alloc, 99),
         Refuses::new(alloc, 99),
@@ -18,40 +18,37 @@ fn refusing(alloc: Global) -> Result<World<Refuses>, Fail> {
 }
 
 // The run ends at the event in which node 3 would apply the second entry, and so does what is left of it.
-fn stops(rt: &impl Abort, alloc: Global, world: &mut World<Refuses>) -> Result<(), Fail> {
-    assert_eq!(rt; run_rows(world, alloc, SESSION)?, Some(20));
-    assert_eq!(rt; run_rows(world, alloc, &SESSION[20..])?, Some(0));
+fn stops(rt: &impl Abort, alloc: Global, world: &mut World<Refuses>) {
+    assert_eq!(rt; run_rows(rt, world, alloc, SESSION), Some(20));
+    assert_eq!(rt; run_rows(rt, world, alloc, &SESSION[20..]), Some(0));
     assert!(rt; has_log(world, 1, &[FIRST]));
     assert!(rt; has_log(world, 2, &[FIRST, SECOND]));
     assert!(rt; has_log(world, 3, &[FIRST]));
-    Ok(())
 }
 
 // One by one all others happen, but for one more that would teach node 3 the second slot.
-fn goes_on(rt: &impl Abort, alloc: Global, world: &mut World<Refuses>) -> Result<(), Fail> {
+fn goes_on(rt: &impl Abort, alloc: Global, world: &mut World<Refuses>) {
     for index in 20..SESSION.len() {
-        let done = turn(world, alloc, &SESSION[index])?;
+        let done = turn(rt, world, alloc, &SESSION[index]);
         assert_eq!(rt; done, index != 20 && index != 30, "{index}");
     }
-    assert!(rt; has_sent(world, alloc, PACKETS)?);
+    assert!(rt; has_sent(rt, world, alloc, PACKETS));
     assert!(rt; has_log(world, 1, LOG));
     assert!(rt; has_log(world, 2, LOG));
     assert!(rt; has_log(world, 3, &[FIRST]));
-    for node in [1, 2, 3] {
+    for node in 1..=3 {
         assert!(rt; world.is_up(node));
     }
-    Ok(())
 }
 
-fn is_given_up(rt: &impl Abort, alloc: Global, world: &mut World<Refuses>) -> Result<(), Fail> {
-    stops(rt, alloc, world)?;
+fn is_given_up(rt: &impl Abort, alloc: Global, world: &mut World<Refuses>) {
+    stops(rt, alloc, world);
     goes_on(rt, alloc, world)
 }
 
 #[test]
-fn a_machine_that_refuses_is_given_up_and_all_else_goes_on(rt: HostRuntime) -> Result<(), Fail> {
-    let mut world = refusing(rt.alloc())?;
-    let done = is_given_up(&rt, rt.alloc(), &mut world);
+fn a_machine_that_refuses_is_given_up_and_all_else_goes_on(rt: HostRuntime) {
+    let mut world = refusing(&rt, rt.alloc());
+    is_given_up(&rt, rt.alloc(), &mut world);
     drop(world);
-    done
 }

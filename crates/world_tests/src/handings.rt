@@ -6,7 +6,6 @@ use cluster_world::World;
 use core_tests::Count;
 use std::alloc::Global;
 use std::process::Abort;
-use std::test::Fail;
 
 // Acts of transports of three nodes; each is delivered to its end before the next.
 const ACTS: &[Turn] = &[
@@ -26,21 +25,19 @@ const TOLD: &[Told] = &[
     (3, 1, 9, &[1]),
 ];
 
-fn tells_in_order(rt: &impl Abort, alloc: Global, world: &mut World<Count>) -> Result<(), Fail> {
+fn tells_in_order(rt: &impl Abort, alloc: Global, world: &mut World<Count>) {
     assert!(rt; hands_out(world, &[]));
     for index in 0..ACTS.len() {
         let done = world.sent();
-        assert!(rt; turn(world, alloc, &ACTS[index])?);
-        assert!(rt; flush(world, alloc, done)?);
+        assert!(rt; turn(rt, world, alloc, &ACTS[index]));
+        assert!(rt; flush(rt, world, alloc, done));
     }
     assert!(rt; hands_out(world, TOLD));
-    Ok(())
 }
 
 #[test]
-fn who_was_told_comes_by_node_boot_and_number(rt: HostRuntime) -> Result<(), Fail> {
-    let mut world = counts(rt.alloc())?;
-    let done = tells_in_order(&rt, rt.alloc(), &mut world);
+fn who_was_told_comes_by_node_boot_and_number(rt: HostRuntime) {
+    let mut world = counts(&rt, rt.alloc());
+    tells_in_order(&rt, rt.alloc(), &mut world);
     drop(world);
-    done
 }

@@ -6,7 +6,6 @@ use cluster_world::World;
 use core_tests::Count;
 use std::alloc::Global;
 use std::process::Abort;
-use std::test::Fail;
 
 // Of nodes that are up, and of what is no member.
 const UP: &[Turn] = &[
@@ -39,40 +38,32 @@ const DOWN: &[Turn] = &[
     ("crash", 3, 0, 0),
 ];
 
-fn stays(
-    rt: &impl Abort,
-    alloc: Global,
-    world: &mut World<Count>,
-    turns: &[Turn],
-) -> Result<(), Fail> {
+fn stays(rt: &impl Abort, alloc: Global, world: &mut World<Count>, turns: &[Turn]) {
     let before = shown(world);
     for row in turns {
-        assert!(rt; turn(world, alloc, row)?, "{} {}", row.0, row.1);
+        assert!(rt; turn(rt, world, alloc, row), "{} {}", row.0, row.1);
         assert!(rt; shown(world) == before, "{} {}", row.0, row.1);
     }
-    Ok(())
 }
 
-fn stays_down(rt: &impl Abort, alloc: Global, world: &mut World<Count>) -> Result<(), Fail> {
-    goes(rt, alloc, world, &[("crash", 3, 0, 0)])?;
+fn stays_down(rt: &impl Abort, alloc: Global, world: &mut World<Count>) {
+    goes(rt, alloc, world, &[("crash", 3, 0, 0)]);
     assert!(rt; shown(world) == (38, [4, 4, 0], [true, true, false], 2));
-    stays(rt, alloc, world, DOWN)?;
-    goes(rt, alloc, world, &[("restart", 3, 0, 0)])?;
+    stays(rt, alloc, world, DOWN);
+    goes(rt, alloc, world, &[("restart", 3, 0, 0)]);
     assert!(rt; shown(world) == (38, [4, 4, 0], [true, true, true], 2));
-    Ok(())
 }
 
-fn stays_up(rt: &impl Abort, alloc: Global, world: &mut World<Count>) -> Result<(), Fail> {
-    goes(rt, alloc, world, SESSION)?;
-    stays(rt, alloc, world, UP)?;
-    is_behind(rt, alloc, world)?;
+fn stays_up(rt: &impl Abort, alloc: Global, world: &mut World<Count>) {
+    goes(rt, alloc, world, SESSION);
+    stays(rt, alloc, world, UP);
+    is_behind(rt, alloc, world);
     stays_down(rt, alloc, world)
 }
 
 #[test]
-fn what_is_not_possible_changes_nothing(rt: HostRuntime) -> Result<(), Fail> {
-    let mut world = counts(rt.alloc())?;
-    let done = stays_up(&rt, rt.alloc(), &mut world);
+fn what_is_not_possible_changes_nothing(rt: HostRuntime) {
+    let mut world = counts(&rt, rt.alloc());
+    stays_up(&rt, rt.alloc(), &mut world);
     drop(world);
-    done
 }

@@ -6,11 +6,11 @@ use cluster_world::World;
 use core_tests::Foretells;
 use std::alloc::Global;
 use std::process::Abort;
-use std::test::Fail;
 
 // Three nodes with such machines.
-fn foretelling(alloc: Global) -> Result<World<Foretells>, Fail> {
+fn foretelling(rt: &impl Abort, alloc: Global) -> World<Foretells> {
     world_of(
+        rt,
         alloc,
         Foretells::new(alloc),
         Foretells::new(alloc),
@@ -24,10 +24,9 @@ fn told(rt: &impl Abort, world: &World<Foretells>, first: &[u64], second: &[u64]
     assert!(rt; was_told(world, 2, 2, 1, second));
 }
 
-fn session(rt: &impl Abort, alloc: Global, world: &mut World<Foretells>) -> Result<(), Fail> {
-    assert_eq!(rt; run_rows(world, alloc, SESSION)?, None);
+fn session(rt: &impl Abort, alloc: Global, world: &mut World<Foretells>) {
+    assert_eq!(rt; run_rows(rt, world, alloc, SESSION), None);
     told(rt, world, &[5, 11], &[]);
-    Ok(())
 }
 
 // The log of each node then: node 2 forwards its next Boot to the leader of its promise.
@@ -37,28 +36,26 @@ const BOTH: &[Told] = &[(2, 1, 1, &[5, 11]), (2, 2, 1, &[5, 11])];
 
 const BACK: &[Turn] = &[("crash", 2, 0, 0), ("restart", 2, 0, 0)];
 
-fn comes_back(rt: &impl Abort, alloc: Global, world: &mut World<Foretells>) -> Result<(), Fail> {
-    session(rt, alloc, world)?;
+fn comes_back(rt: &impl Abort, alloc: Global, world: &mut World<Foretells>) {
+    session(rt, alloc, world);
     for row in BACK {
-        assert!(rt; turn(world, alloc, row)?);
+        assert!(rt; turn(rt, world, alloc, row));
     }
     assert!(rt; world.is_up(2));
     assert!(rt; has_log(world, 2, &[]));
     told(rt, world, &[5, 11], &[]);
-    assert!(rt; turn(world, alloc, &("tick", 2, 0, 0))?);
-    assert!(rt; flush(world, alloc, 38)?);
-    for node in [1, 2, 3] {
+    assert!(rt; turn(rt, world, alloc, &("tick", 2, 0, 0)));
+    assert!(rt; flush(rt, world, alloc, 38));
+    for node in 1..=3 {
         assert!(rt; has_log(world, node, LOG_AFTER), "{node}");
     }
     told(rt, world, &[5, 11], &[5, 11]);
     assert!(rt; hands_out(world, BOTH));
-    Ok(())
 }
 
 #[test]
-fn what_was_said_early_is_told_in_the_next_boot(rt: HostRuntime) -> Result<(), Fail> {
-    let mut world = foretelling(rt.alloc())?;
-    let done = comes_back(&rt, rt.alloc(), &mut world);
+fn what_was_said_early_is_told_in_the_next_boot(rt: HostRuntime) {
+    let mut world = foretelling(&rt, rt.alloc());
+    comes_back(&rt, rt.alloc(), &mut world);
     drop(world);
-    done
 }

@@ -2,7 +2,8 @@
 use core_tests::Number;
 use paxos_packets::{Ballot, Body, Entries, Entry, Kind, Packet, Slot, Vote, Votes};
 use std::alloc::Global;
-use std::test::Fail;
+use std::panic::Expect;
+use std::process::Abort;
 
 // An entry: its word, its node, its boot, and an Item's number, transport and body.
 pub type Held = (&'static str, u8, u64, u64, u32, u32);
@@ -85,71 +86,81 @@ pub fn entry_of(held: &Held) -> Entry<Number> {
 }
 
 // The entries of rows.
-fn entries_of(alloc: Global, rows: &[Held]) -> Result<Entries<Number>, Fail> {
+fn entries_of(rt: &impl Abort, alloc: Global, rows: &[Held]) -> Entries<Number> {
     let mut entries = Entries::new(alloc);
     for held in rows {
-        entries.push(entry_of(held))?;
+        entries
+            .push(entry_of(held))
+            .expect(rt, "memory for an entry");
     }
-    Ok(entries)
+    entries
 }
 
 // The vote for the one entry of a row.
-fn vote_of(mail: &Mail) -> Result<Vote<Number>, Fail> {
+fn vote_of(rt: &impl Abort, mail: &Mail) -> Vote<Number> {
     let (_, _, _, (round, node), slot, held) = *mail;
-    let slot = Slot::new(slot).ok_or("a slot")?;
-    let held = held.first().ok_or("an entry")?;
-    Ok(Vote {
+    let slot = Slot::new(slot).expect(rt, "a slot");
+    let held = held.first().expect(rt, "an entry");
+    Vote {
         slot,
         ballot: Ballot { round, node },
         entry: entry_of(held),
-    })
+    }
 }
 
 // What a packet with a vote says.
-fn kind_of_vote(mail: &Mail) -> Result<Kind<Number>, Fail> {
-    let vote = vote_of(mail)?;
+fn kind_of_vote(rt: &impl Abort, mail: &Mail) -> Kind<Number> {
+    let vote = vote_of(rt, mail);
     if mail.0 == "accept" {
-        return Ok(Kind::Accept { vote });
+        return Kind::Accept { vote };
     }
-    Ok(Kind::Accepted { vote })
+    Kind::Accepted { vote }
 }
 
 // What a packet says.
-fn kind_of(alloc: Global, mail: &Mail) -> Result<Kind<Number>, Fail> {
+fn kind_of(rt: &impl Abort, alloc: Global, mail: &Mail) -> Kind<Number> {
     let (word, _, _, (round, node), first, held) = *mail;
     let ballot = Ballot { round, node };
     if word == "prepare" {
-        return Ok(Kind::Prepare { ballot, first });
+        return Kind::Prepare { ballot, first };
     }
     if word == "promise" {
-        return Ok(Kind::Promise {
+        return Kind::Promise {
             ballot,
             votes: Votes::new(alloc),
-        });
+        };
     }
     if word == "forward" {
-        return Ok(Kind::Forward {
-            entries: entries_of(alloc, held)?,
-        });
+        return Kind::Forward {
+            entries: entries_of(rt, alloc, held),
+        };
     }
-    kind_of_vote(mail)
+    kind_of_vote(rt, mail)
 }
 
 // The packet of a row.
-pub fn packet_of(alloc: Global, mail: &Mail) -> Result<Packet<Number>, Fail> {
-    Ok(Packet {
+pub fn packet_of(rt: &impl Abort, alloc: Global, mail: &Mail) -> Packet<Number> {
+    Packet {
         sender: mail.1,
         addressee: mail.2,
-        kind: kind_of(alloc, mail)?,
-    })
+        kind: kind_of(rt, alloc, mail),
+    }
 }
 
 // Whether the packet is that of a row.
-pub fn is_mail(alloc: Global, packet: &Packet<Number>, mail: &Mail) -> Result<bool, Fail> {
-    let wanted = packet_of(alloc, mail)?;
+pub fn is_mail(rt: &impl Abort, alloc: Global, packet: &Packet<Number>, mail: &Mail) -> bool {
+    let wanted = packet_of(rt, alloc, mail);
     let is_so = packet.same(&wanted);
     drop(wanted);
-    Ok(is_so)
+    is_so
+}
+
+// Whether the entry is that of a row.
+fn is_held(entry: &Entry<Number>, held: &Held) -> bool {
+    let wanted = entry_of(held);
+    let is_so = entry.same(&wanted);
+    drop(wanted);
+    is_so
 }
 
 // Whether a log holds the entries of these rows, in order.
@@ -158,10 +169,7 @@ pub fn is_log(log: &[Entry<Number>], rows: &[Held]) -> bool {
         return false;
     }
     for place in 0..rows.len() {
-        let wanted = entry_of(&rows[place]);
-        let is_so = log[place].same(&wanted);
-        drop(wanted);
-        if !is_so {
+        if !is_held(&log[place], &rows[place]) {
             return false;
         }
     }

@@ -136,8 +136,12 @@ fn flow(
     requires members { members ≡ mail.now.members }
 {
     drop(seats.pop());
-    let mut two = seats.pop().ok_or("a seat of node 2")?;
-    let mut one = seats.pop().ok_or("a seat of node 1")?;
+    let Some(mut two) = seats.pop() else {
+        panic!(rt; "no seat of node 2")
+    };
+    let Some(mut one) = seats.pop() else {
+        panic!(rt; "no seat of node 1")
+    };
     run(rt, alloc, mail, &mut one, &mut two, members)
 }
 
@@ -156,10 +160,31 @@ fn run(
     requires members { members ≡ mail.now.members }
 {
     let mut node = opened(alloc, mail, one, members)?;
-    let asked = stepped(mail, one, &mut node, false)?;
-    let first = for_second(asked).ok_or("an Ask to node 2")?;
-    let begun = stepped(mail, one, &mut node, true)?;
-    let second = for_second(begun).ok_or("a Prepare to node 2")?;
+    let done = steps(rt, mail, one, two, &mut node);
+    drop(node);
+    done
+}
+
+// The steps of node 1, and what node 2 fetches.
+fn steps(
+    rt: &impl Abort,
+    mail: &Mail<Number>,
+    one: &mut NodeSeat<Number>,
+    two: &mut NodeSeat<Number>,
+    node: &mut Node<Number>,
+) -> Result<(), Fail>
+    requires knows { Knows mail.now one.old node.old }
+    requires two { Owns mail.now two.old }
+    requires members { 3 ≤ mail.now.members }
+{
+    let asked = stepped(mail, one, node, false)?;
+    let Some(first) = for_second(asked) else {
+        panic!(rt; "no Ask to node 2")
+    };
+    let begun = stepped(mail, one, node, true)?;
+    let Some(second) = for_second(begun) else {
+        panic!(rt; "no Prepare to node 2")
+    };
     pass(rt, mail, one, two, first, second);
     Ok(())
 }

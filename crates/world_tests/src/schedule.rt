@@ -3,7 +3,8 @@ use crate::packets::{Mail, PACKETS, packet_of};
 use core_tests::Number;
 use paxos_node::Event;
 use std::alloc::Global;
-use std::test::Fail;
+use std::panic::Expect;
+use std::process::Abort;
 
 // An event: its word, its node or the number of the packet of the session that is delivered, and an act's transport and body, or the other node.
 pub type Turn = (&'static str, u8, u32, u32);
@@ -54,48 +55,49 @@ pub const SESSION: &[Turn] = &[
 ];
 
 // The packet of the session with this number, from 1 on.
-fn mail(number: u8) -> Result<&'static Mail, Fail> {
+fn mail(rt: &impl Abort, number: u8) -> &'static Mail {
     let place = usize::from(number).saturating_sub(1);
-    Ok(PACKETS.get(place).ok_or("a packet of the session")?)
+    PACKETS.get(place).expect(rt, "a packet of the session")
 }
 
 // The event of a row: a delivery, where no other has the word.
-pub fn event_of(alloc: Global, turn: &Turn) -> Result<Event<Number>, Fail> {
+pub fn event_of(rt: &impl Abort, alloc: Global, turn: &Turn) -> Event<Number> {
     let (word, node, number, more) = *turn;
     if word == "start" {
-        return Ok(Event::Start { node });
+        return Event::Start { node };
     }
     if word == "tick" {
-        return Ok(Event::Tick { node });
+        return Event::Tick { node };
     }
     if word == "crash" {
-        return Ok(Event::Crash { node });
+        return Event::Crash { node };
     }
     if word == "restart" {
-        return Ok(Event::Restart { node });
+        return Event::Restart { node };
     }
     if word == "suspect" {
-        return Ok(Event::Suspect {
+        return Event::Suspect {
             node,
-            other: u8::try_from(number)?,
-        });
+            other: u8::try_from(number).expect(rt, "a node"),
+        };
     }
     if word == "take" {
-        return Ok(Event::Take {
+        return Event::Take {
             node,
             transport: number,
             body: Number::new(more),
-        });
+        };
     }
-    let packet = packet_of(alloc, mail(node)?)?;
-    Ok(Event::Deliver { packet })
+    let packet = packet_of(rt, alloc, mail(rt, node));
+    Event::Deliver { packet }
 }
 
 // The events of rows.
-pub fn events_of(alloc: Global, turns: &[Turn]) -> Result<Vec<Event<Number>>, Fail> {
+pub fn events_of(rt: &impl Abort, alloc: Global, turns: &[Turn]) -> Vec<Event<Number>> {
     let mut events = Vec::new(alloc);
     for turn in turns {
-        events.push(event_of(alloc, turn)?)?;
+        let event = event_of(rt, alloc, turn);
+        events.push(event).expect(rt, "memory for an event");
     }
-    Ok(events)
+    events
 }

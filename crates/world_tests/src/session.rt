@@ -11,11 +11,11 @@ use paxos_packets::Transport;
 use replica_machine::Machine;
 use std::alloc::Global;
 use std::process::Abort;
-use std::test::Fail;
 
 // Three nodes whose machines add up.
-pub fn counts(alloc: Global) -> Result<World<Count>, Fail> {
+pub fn counts(rt: &impl Abort, alloc: Global) -> World<Count> {
     world_of(
+        rt,
         alloc,
         Count::new(alloc),
         Count::new(alloc),
@@ -38,15 +38,18 @@ const UNTOLD: &[(u8, u64, u32)] = &[
     (4, 1, 1),
 ];
 
+// No nodes of a world of three.
+const STRANGERS: &[u8] = &[0, 4, 255];
+
 // What each world shows behind the session: all nodes are up with its log, and no other is.
 fn has_logs<M: Machine<Body = Number>>(rt: &impl Abort, world: &World<M>) {
-    for node in [1, 2, 3] {
+    for node in 1..=3 {
         assert!(rt; world.is_up(node), "{node}");
         assert!(rt; has_log(world, node, LOG), "{node}");
     }
-    for node in [0, 4, 255] {
-        assert!(rt; !world.is_up(node), "{node}");
-        assert!(rt; has_log(world, node, &[]), "{node}");
+    for node in STRANGERS {
+        assert!(rt; !world.is_up(*node), "{node}");
+        assert!(rt; has_log(world, *node, &[]), "{node}");
     }
 }
 
@@ -60,52 +63,43 @@ fn has_told<M: Machine<Say = (Transport, u64)>>(rt: &impl Abort, world: &World<M
 }
 
 // The world is the one behind the session.
-pub fn is_behind(rt: &impl Abort, alloc: Global, world: &World<Count>) -> Result<(), Fail> {
-    assert!(rt; has_sent(world, alloc, PACKETS)?);
+pub fn is_behind(rt: &impl Abort, alloc: Global, world: &World<Count>) {
+    assert!(rt; has_sent(rt, world, alloc, PACKETS));
     assert!(rt; world.packet(0).is_none());
     assert!(rt; world.packet(39).is_none());
     has_logs(rt, world);
     has_told(rt, world);
-    Ok(())
 }
 
 #[test]
-fn a_session_at_once(rt: HostRuntime) -> Result<(), Fail> {
-    let mut world = counts(rt.alloc())?;
-    let done = at_once(&rt, rt.alloc(), &mut world);
+fn a_session_at_once(rt: HostRuntime) {
+    let mut world = counts(&rt, rt.alloc());
+    at_once(&rt, rt.alloc(), &mut world);
     drop(world);
-    done
 }
 
-fn at_once(rt: &impl Abort, alloc: Global, world: &mut World<Count>) -> Result<(), Fail> {
-    assert_eq!(rt; run_rows(world, alloc, SESSION)?, None);
+fn at_once(rt: &impl Abort, alloc: Global, world: &mut World<Count>) {
+    assert_eq!(rt; run_rows(rt, world, alloc, SESSION), None);
     is_behind(rt, alloc, world)
 }
 
 // The events of rows happen, one by one.
-pub fn goes(
-    rt: &impl Abort,
-    alloc: Global,
-    world: &mut World<Count>,
-    turns: &[Turn],
-) -> Result<(), Fail> {
+pub fn goes(rt: &impl Abort, alloc: Global, world: &mut World<Count>, turns: &[Turn]) {
     for row in turns {
-        assert!(rt; turn(world, alloc, row)?, "{} {}", row.0, row.1);
+        assert!(rt; turn(rt, world, alloc, row), "{} {}", row.0, row.1);
     }
-    Ok(())
 }
 
-fn one_by_one(rt: &impl Abort, alloc: Global, world: &mut World<Count>) -> Result<(), Fail> {
-    goes(rt, alloc, world, SESSION)?;
+fn one_by_one(rt: &impl Abort, alloc: Global, world: &mut World<Count>) {
+    goes(rt, alloc, world, SESSION);
     is_behind(rt, alloc, world)
 }
 
 #[test]
-fn a_session_one_by_one(rt: HostRuntime) -> Result<(), Fail> {
-    let mut world = counts(rt.alloc())?;
-    let done = one_by_one(&rt, rt.alloc(), &mut world);
+fn a_session_one_by_one(rt: HostRuntime) {
+    let mut world = counts(&rt, rt.alloc());
+    one_by_one(&rt, rt.alloc(), &mut world);
     drop(world);
-    done
 }
 
 // Packets that are like one of the session, but for one number, with the number of that one.
@@ -184,57 +178,50 @@ const ALTERED: &[(u8, Mail)] = &[
     ),
 ];
 
+// Delivers the packet of a row. Whether there was memory for it.
+fn takes_mail(rt: &impl Abort, alloc: Global, world: &mut World<Count>, mail: &Mail) -> bool {
+    let packet = packet_of(rt, alloc, mail);
+    happens(world, Event::Deliver { packet })
+}
+
 // Packets that nobody sent change nothing, and are no hindrance to the one that they are like.
-fn alters(
-    rt: &impl Abort,
-    alloc: Global,
-    world: &mut World<Count>,
-    number: u8,
-) -> Result<(), Fail> {
+fn alters(rt: &impl Abort, alloc: Global, world: &mut World<Count>, number: u8) {
     let before = shown(world);
     for (like, mail) in ALTERED {
         if *like == number {
-            let packet = packet_of(alloc, mail)?;
-            assert!(rt; happens(world, Event::Deliver { packet }));
+            assert!(rt; takes_mail(rt, alloc, world, mail));
             assert!(rt; shown(world) == before, "{number}");
         }
     }
-    Ok(())
 }
 
-fn with_altered(rt: &impl Abort, alloc: Global, world: &mut World<Count>) -> Result<(), Fail> {
+fn with_altered(rt: &impl Abort, alloc: Global, world: &mut World<Count>) {
     for row in SESSION {
         if row.0 == "deliver" {
-            alters(rt, alloc, world, row.1)?;
+            alters(rt, alloc, world, row.1);
         }
-        assert!(rt; turn(world, alloc, row)?, "{} {}", row.0, row.1);
+        assert!(rt; turn(rt, world, alloc, row), "{} {}", row.0, row.1);
     }
     is_behind(rt, alloc, world)
 }
 
 #[test]
-fn what_nobody_sent_changes_nothing(rt: HostRuntime) -> Result<(), Fail> {
-    let mut world = counts(rt.alloc())?;
-    let done = with_altered(&rt, rt.alloc(), &mut world);
+fn what_nobody_sent_changes_nothing(rt: HostRuntime) {
+    let mut world = counts(&rt, rt.alloc());
+    with_altered(&rt, rt.alloc(), &mut world);
     drop(world);
-    done
 }
 
 // Delivers each packet behind the first so many twice, those that come meanwhile too. How many were sent then.
-fn flush_twice(
-    rt: &impl Abort,
-    alloc: Global,
-    world: &mut World<Count>,
-    from: usize,
-) -> Result<usize, Fail> {
+fn flush_twice(rt: &impl Abort, alloc: Global, world: &mut World<Count>, from: usize) -> usize {
     for number in from..99 {
         if number >= world.sent() {
             break;
         }
-        assert!(rt; deliver(world, alloc, number + 1)?);
-        assert!(rt; deliver(world, alloc, number + 1)?);
+        assert!(rt; deliver(rt, world, alloc, number + 1));
+        assert!(rt; deliver(rt, world, alloc, number + 1));
     }
-    Ok(world.sent())
+    world.sent()
 }
 
 const BEGINS: &[Turn] = &[("start", 1, 0, 0)];
@@ -242,24 +229,22 @@ const BEGINS: &[Turn] = &[("start", 1, 0, 0)];
 const TAKES: &[Turn] = &[("take", 2, 1, 5), ("take", 2, 1, 6)];
 
 // A second Prepare is answered by a Nack, and a second Accept by the same votes again; nothing else is sent twice.
-fn twice(rt: &impl Abort, alloc: Global, world: &mut World<Count>) -> Result<(), Fail> {
-    goes(rt, alloc, world, BEGINS)?;
-    let begun = flush_twice(rt, alloc, world, 0)?;
+fn twice(rt: &impl Abort, alloc: Global, world: &mut World<Count>) {
+    goes(rt, alloc, world, BEGINS);
+    let begun = flush_twice(rt, alloc, world, 0);
     assert_eq!(rt; begun, 2 + 4 + 4 + 8);
-    goes(rt, alloc, world, TAKES)?;
-    let done = flush_twice(rt, alloc, world, begun)?;
+    goes(rt, alloc, world, TAKES);
+    let done = flush_twice(rt, alloc, world, begun);
     assert_eq!(rt; done, begun + 2 + 3 * 12);
     has_logs(rt, world);
     has_told(rt, world);
-    Ok(())
 }
 
 #[test]
-fn what_is_delivered_twice_takes_effect_once(rt: HostRuntime) -> Result<(), Fail> {
-    let mut world = counts(rt.alloc())?;
-    let done = twice(&rt, rt.alloc(), &mut world);
+fn what_is_delivered_twice_takes_effect_once(rt: HostRuntime) {
+    let mut world = counts(&rt, rt.alloc());
+    twice(&rt, rt.alloc(), &mut world);
     drop(world);
-    done
 }
 
 #[test]

@@ -1,4 +1,4 @@
-ghost use Rattle.std.specs.Prelude.{◌≡◌, ◌≤◌, All, OnOk};
+ghost use Rattle.std.specs.Prelude.{◌≡◌, ◌≤◌, All};
 ghost use Rattle.mail_table.specs.Seats.{Owns};
 
 use core_tests::Number;
@@ -71,37 +71,38 @@ fn count_owned(mail: &Mail<Number>, seats: &[NodeSeat<Number>]) -> u64
 
 // The last seat is one of another table then.
 fn swap_last(
+    rt: &impl Abort,
     mail: &Mail<Number>,
     seats: &mut Vec<NodeSeat<Number>>,
     others: &mut Vec<NodeSeat<Number>>,
-) -> Result<(), Fail>
+)
     requires own { All (λ s. s.office ≡ mail.now.office) seats.old.items }
     requires others { All (λ s. s.office ≡ mail.now.office) others.old.items }
-    ensures { OnOk result (All (λ s. s.office ≡ mail.now.office) seats.new.items) }
+    ensures { All (λ s. s.office ≡ mail.now.office) seats.new.items }
 {
     drop(seats.pop());
-    let foreign = others.pop().ok_or("a seat of the other table")?;
-    seats.push(foreign)?;
-    Ok(())
+    let Some(foreign) = others.pop() else {
+        panic!(rt; "no seat of the other table")
+    };
+    assert!(rt; seats.push(foreign).is_ok());
 }
 
 // A table and its seats, as `found` gives them.
 type Founded = (Mail<Number>, Vec<NodeSeat<Number>>);
 
 // All is handed back, with two seats of the table.
-fn gather_mixed(rt: &impl Abort, mine: Founded, other: Founded) -> Result<(), Fail>
+fn gather_mixed(rt: &impl Abort, mine: Founded, other: Founded)
     requires own { All (λ s. s.office ≡ mine.0.office) mine.1.items }
     requires others { All (λ s. s.office ≡ mine.0.office) other.1.items }
 {
     let (mail, mut seats) = mine;
     let (_other, mut others) = other;
-    swap_last(&mail, &mut seats, &mut others)?;
+    swap_last(rt, &mail, &mut seats, &mut others);
     let Err((mail, seats)) = mail.gather(seats) else {
         panic!(rt; "gathered")
     };
     assert_eq!(rt; seats.len(), 3);
     assert_eq!(rt; count_owned(&mail, seats.as_slice()), 2);
-    Ok(())
 }
 
 #[test]
@@ -110,12 +111,12 @@ fn a_foreign_seat_hands_all_back(rt: HostRuntime) -> Result<(), Fail> {
     let mut office = Office::new();
     let mine = found::<Number>(rt.alloc(), &mut office, members)?;
     let other = found::<Number>(rt.alloc(), &mut office, members)?;
-    gather_mixed(&rt, mine, other)
+    gather_mixed(&rt, mine, other);
+    Ok(())
 }
 
 #[test]
-fn faults_of_a_table_have_numbers(rt: HostRuntime) -> Result<(), Fail> {
+fn faults_of_a_table_have_numbers(rt: HostRuntime) {
     assert_eq!(rt; Memory.number(), 67);
     assert_eq!(rt; Worn.number(), 68);
-    Ok(())
 }

@@ -133,8 +133,12 @@ fn pass_by_threads(
     requires members { (members ≡ mail.now.members) × (3 ≤ mail.now.members) }
 {
     drop(seats.pop());
-    let two = seats.pop().ok_or("a seat of node 2")?;
-    let one = seats.pop().ok_or("a seat of node 1")?;
+    let Some(two) = seats.pop() else {
+        panic!(rt; "no seat of node 2")
+    };
+    let Some(one) = seats.pop() else {
+        panic!(rt; "no seat of node 1")
+    };
     pass_between(rt, alloc, mail, one, two, members)
 }
 

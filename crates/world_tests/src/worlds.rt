@@ -9,22 +9,23 @@ use paxos_node::Event;
 use paxos_packets::{Body, Members, Packet, Transport};
 use replica_machine::Machine;
 use std::alloc::Global;
-use std::test::Fail;
+use std::panic::Expect;
+use std::process::Abort;
 
 // The first world of three nodes with these machines.
-pub fn world_of<M: Machine>(alloc: Global, one: M, two: M, three: M) -> Result<World<M>, Fail>
+pub fn world_of<M: Machine>(rt: &impl Abort, alloc: Global, one: M, two: M, three: M) -> World<M>
     requires one { M.has_failed one ≡ false }
     requires two { M.has_failed two ≡ false }
     requires three { M.has_failed three ≡ false }
     requires alike { M.content one ≡ M.content two }
     requires all_alike { M.content one ≡ M.content three }
 {
-    let members = Members::new(3).ok_or("3 members")?;
+    let members = Members::new(3).expect(rt, "3 members");
     let mut machines = Vec::new(alloc);
-    machines.push(one)?;
-    machines.push(two)?;
-    machines.push(three)?;
-    Ok(World::new(alloc, members, machines)?)
+    machines.push(one).expect(rt, "memory for a machine");
+    machines.push(two).expect(rt, "memory for a machine");
+    machines.push(three).expect(rt, "memory for a machine");
+    World::new(alloc, members, machines).expect(rt, "memory for a world")
 }
 
 // Lets the events happen: the index for which there was no memory, where there was not.
@@ -37,14 +38,15 @@ fn run<M: Machine<Body = Number>>(world: &mut World<M>, events: &[Event<Number>]
 
 // Lets the events of rows happen, at once: the index for which there was no memory, where there was not.
 pub fn run_rows<M: Machine<Body = Number>>(
+    rt: &impl Abort,
     world: &mut World<M>,
     alloc: Global,
     turns: &[Turn],
-) -> Result<Option<usize>, Fail> {
-    let events = events_of(alloc, turns)?;
+) -> Option<usize> {
+    let events = events_of(rt, alloc, turns);
     let done = run(world, &events);
     drop(events);
-    Ok(done)
+    done
 }
 
 // Lets one event happen. Whether there was memory for it.
@@ -57,49 +59,52 @@ pub fn happens<M: Machine<Body = Number>>(world: &mut World<M>, event: Event<Num
 
 // Lets the event of a row happen. Whether there was memory for it.
 pub fn turn<M: Machine<Body = Number>>(
+    rt: &impl Abort,
     world: &mut World<M>,
     alloc: Global,
     turn: &Turn,
-) -> Result<bool, Fail> {
-    let event = event_of(alloc, turn)?;
-    Ok(happens(world, event))
+) -> bool {
+    happens(world, event_of(rt, alloc, turn))
 }
 
 // A copy of the packet that was sent under this number, from 1 on.
 fn sent<M: Machine<Body = Number>>(
+    rt: &impl Abort,
     world: &World<M>,
     alloc: Global,
     number: usize,
-) -> Result<Packet<Number>, Fail> {
-    let packet = world.packet(number).ok_or("a packet")?;
-    Ok(packet.copy(alloc)?)
+) -> Packet<Number> {
+    let packet = world.packet(number).expect(rt, "a packet");
+    packet.copy(alloc).expect(rt, "memory for a packet")
 }
 
 // Delivers the packet that was sent under this number. Whether there was memory for it.
 pub fn deliver<M: Machine<Body = Number>>(
+    rt: &impl Abort,
     world: &mut World<M>,
     alloc: Global,
     number: usize,
-) -> Result<bool, Fail> {
-    let packet = sent(world, alloc, number)?;
-    Ok(happens(world, Event::Deliver { packet }))
+) -> bool {
+    let packet = sent(rt, world, alloc, number);
+    happens(world, Event::Deliver { packet })
 }
 
 // Delivers each packet behind the first so many, those that come meanwhile too. Whether there was memory for all.
 pub fn flush<M: Machine<Body = Number>>(
+    rt: &impl Abort,
     world: &mut World<M>,
     alloc: Global,
     from: usize,
-) -> Result<bool, Fail> {
+) -> bool {
     for number in from..999 {
         if number >= world.sent() {
             break;
         }
-        if !deliver(world, alloc, number + 1)? {
-            return Ok(false);
+        if !deliver(rt, world, alloc, number + 1) {
+            return false;
         }
     }
-    Ok(true)
+    true
 }
 
 // Whether the log of a node holds the entries of these rows.
@@ -109,20 +114,21 @@ pub fn has_log<M: Machine<Body = Number>>(world: &World<M>, node: u8, rows: &[He
 
 // Whether the packets of these rows were sent, in this order, and no others.
 pub fn has_sent<M: Machine<Body = Number>>(
+    rt: &impl Abort,
     world: &World<M>,
     alloc: Global,
     rows: &[Mail],
-) -> Result<bool, Fail> {
+) -> bool {
     if world.sent() != rows.len() {
-        return Ok(false);
+        return false;
     }
     for place in 0..rows.len() {
-        let packet = world.packet(place + 1).ok_or("a packet")?;
-        if !is_mail(alloc, packet, &rows[place])? {
-            return Ok(false);
+        let packet = world.packet(place + 1).expect(rt, "a packet");
+        if !is_mail(rt, alloc, packet, &rows[place]) {
+            return false;
         }
     }
-    Ok(true)
+    true
 }
 
 // Whether these are the sums that a transport was told, in order.
