@@ -13,11 +13,14 @@ fn vote_for<B: Body>(alloc: Global, ballot: Ballot, entry: &Entry<B>) -> Result<
     })
 }
 
-fn votes_of<B: Body>(alloc: Global, vote: Option<Vote<B>>) -> Result<Votes<B>, Fail> {
-    let mut votes = Votes::new(alloc);
-    if let Some(vote) = vote {
-        votes.put(vote)?;
+// A vote in the ballot with this number, none for 0.
+fn votes_of<B: Body>(alloc: Global, entry: &Entry<B>, ballot: u64) -> Result<Votes<B>, Fail> {
+    if ballot == 0 {
+        return Ok(Votes::new(alloc));
     }
+    let vote = vote_for(alloc, ballot_of(ballot), entry)?;
+    let mut votes = Votes::new(alloc);
+    votes.put(vote)?;
     Ok(votes)
 }
 
@@ -59,14 +62,9 @@ fn promise<B: Body>(
     ballot: Ballot,
     voted: u64,
 ) -> Result<Kind<B>, Fail> {
-    let vote = if voted == 0 {
-        None
-    } else {
-        Some(vote_for(alloc, ballot_of(voted), entry)?)
-    };
     Ok(Kind::Promise {
         ballot,
-        votes: votes_of(alloc, vote)?,
+        votes: votes_of(alloc, entry, voted)?,
     })
 }
 
@@ -95,7 +93,9 @@ fn is_same_kind<B: Body>(
     kind: &Kind<B>,
 ) -> Result<bool, Fail> {
     let wanted = answer_of(alloc, entry, row)?;
-    Ok(kind.same(&wanted))
+    let same = kind.same(&wanted);
+    drop(wanted);
+    Ok(same)
 }
 
 // Whether the answer is that of the row: a vote is told to the others, a promise and a refusal to the sender.
@@ -120,7 +120,9 @@ fn are_voted<B: Body>(
     votes: &Votes<B>,
 ) -> Result<bool, Fail> {
     let wanted = vote_for(alloc, ballot, entry)?;
-    Ok(has_voted(votes.as_slice(), &wanted))
+    let voted = has_voted(votes.as_slice(), &wanted);
+    drop(wanted);
+    Ok(voted)
 }
 
 // Whether the change is that of the row: a promise and a vote raise what is promised to their ballot.
@@ -165,9 +167,11 @@ fn takes<B: Body>(
     packet: &Packet<B>,
 ) -> Result<bool, Fail> {
     let verdict = acceptor.plan(alloc, packet)?;
-    let is_so = is_verdict(alloc, entry, row, &verdict)?;
-    acceptor.adopt(verdict.change)?;
-    Ok(is_so)
+    let is_so = is_verdict(alloc, entry, row, &verdict);
+    let Verdict { change, answer } = verdict;
+    drop(answer);
+    let is_adopted = acceptor.adopt(change).is_ok();
+    Ok(is_so? && is_adopted)
 }
 
 fn step<B: Body>(
@@ -177,7 +181,9 @@ fn step<B: Body>(
     row: &Row,
 ) -> Result<bool, Fail> {
     let packet = packet_of(alloc, entry, row)?;
-    takes(alloc, acceptor, entry, row, &packet)
+    let is_so = takes(alloc, acceptor, entry, row, &packet);
+    drop(packet);
+    is_so
 }
 
 const FIRST: Ballot = Ballot { round: 2, node: 1 };
@@ -203,7 +209,6 @@ fn is_asked<B: Body>(
     for row in ROWS {
         assert!(rt; step(alloc, acceptor, entry, row)?, "{} {}", row.0, row.1);
     }
-    acceptor.make_room(1)?;
     Ok(())
 }
 
@@ -223,13 +228,17 @@ fn is_left<B: Body>(acceptor: &Acceptor<B>, vote: &Vote<B>) -> bool {
 // Whether the acceptor's rows have this vote alone.
 fn has_rows<B: Body>(acceptor: Acceptor<B>, vote: &Vote<B>) -> bool {
     let rows = acceptor.into_rows();
-    has_voted(rows.votes.as_slice(), vote)
+    let voted = has_voted(rows.votes.as_slice(), vote);
+    drop(rows);
+    voted
 }
 
 // How many votes it copies from the slot with this number on.
 fn copied<B: Body>(alloc: Global, acceptor: &Acceptor<B>, first: u64) -> Result<usize, Fail> {
     let votes = acceptor.votes_from(alloc, first)?;
-    Ok(votes.as_slice().len())
+    let count = votes.as_slice().len();
+    drop(votes);
+    Ok(count)
 }
 
 // Its one vote is copied from its slot on, and not behind it.
@@ -239,16 +248,19 @@ fn is_copied<B: Body>(rt: &impl Abort, alloc: Global, acceptor: &Acceptor<B>) ->
     Ok(())
 }
 
+// The acceptor is asked and left with this vote.
 fn plays<B: Body>(
     rt: &impl Abort,
     alloc: Global,
     acceptor: &mut Acceptor<B>,
     entry: &Entry<B>,
-) -> Result<bool, Fail> {
+    vote: &Vote<B>,
+) -> Result<(), Fail> {
     is_asked(rt, alloc, acceptor, entry)?;
+    acceptor.make_room(1)?;
     is_copied(rt, alloc, acceptor)?;
-    let vote = vote_for(alloc, FIRST, entry)?;
-    Ok(is_left(acceptor, &vote))
+    assert!(rt; is_left(acceptor, vote));
+    Ok(())
 }
 
 fn acceptor<B>(alloc: Global) -> Acceptor<B> {
@@ -259,16 +271,13 @@ fn acceptor<B>(alloc: Global) -> Acceptor<B> {
     })
 }
 
-fn is_kept<B: Body>(alloc: Global, acceptor: Acceptor<B>, entry: &Entry<B>) -> Result<bool, Fail> {
-    let vote = vote_for(alloc, FIRST, entry)?;
-    Ok(has_rows(acceptor, &vote))
-}
-
 fn is_voted_for<B: Body>(rt: &impl Abort, alloc: Global, entry: &Entry<B>) -> Result<(), Fail> {
+    let vote = vote_for(alloc, FIRST, entry)?;
     let mut acceptor = acceptor(alloc);
-    let is_left = plays(rt, alloc, &mut acceptor, entry)?;
-    let is_kept = is_kept(alloc, acceptor, entry)?;
-    assert!(rt; is_left && is_kept);
+    plays(rt, alloc, &mut acceptor, entry, &vote)?;
+    let is_kept = has_rows(acceptor, &vote);
+    drop(vote);
+    assert!(rt; is_kept);
     Ok(())
 }
 
@@ -297,7 +306,9 @@ fn large(alloc: Global) -> Result<Entry<Entries<Number>>, Fail> {
 #[test]
 fn an_item_with_memory_is_voted_for(rt: HostRuntime) -> Result<(), Fail> {
     let entry = large(rt.alloc())?;
-    is_voted_for(&rt, rt.alloc(), &entry)
+    let done = is_voted_for(&rt, rt.alloc(), &entry);
+    drop(entry);
+    done
 }
 
 #[test]

@@ -44,17 +44,24 @@ fn number(done: Result<(), KeeperFault>) -> u8 {
     }
 }
 
-// A promise of this round of node 1, and votes for Boot (1, 1) in this ballot, in these slots.
-fn change(alloc: Global, round: u64, slots: &[u64]) -> Result<Change<Number>, Fail> {
-    let ballot = Ballot { round, node: 1 };
-    let mut votes = Votes::new(alloc);
+// Puts votes for Boot (1, 1) in this ballot, in these slots.
+fn put_votes(votes: &mut Votes<Number>, ballot: Ballot, slots: &[u64]) -> Result<(), Fail> {
     for slot in slots {
+        let slot = Slot::new(*slot).ok_or("a slot")?;
         votes.put(Vote {
-            slot: Slot::new(*slot).ok_or("a slot")?,
+            slot,
             ballot,
             entry: Entry::Boot { node: 1, boot: 1 },
         })?;
     }
+    Ok(())
+}
+
+// A promise of this round of node 1, and such votes.
+fn change(alloc: Global, round: u64, slots: &[u64]) -> Result<Change<Number>, Fail> {
+    let ballot = Ballot { round, node: 1 };
+    let mut votes = Votes::new(alloc);
+    put_votes(&mut votes, ballot, slots)?;
     Ok(Change {
         promised: Some(ballot),
         votes,
@@ -78,15 +85,28 @@ fn commit(
     slots: &[u64],
 ) -> Result<u8, Fail> {
     let change = change(alloc, round, slots)?;
-    Ok(number(keeper.commit(&change)))
+    let done = number(keeper.commit(&change));
+    drop(change);
+    Ok(done)
+}
+
+// Commits with these rounds in these slots, and what each answers.
+fn commits(
+    rt: &impl Abort,
+    alloc: Global,
+    keeper: &mut MemKeeper<Number>,
+    rows: &[(u64, &[u64], u8)],
+) -> Result<(), Fail> {
+    for (round, slots, wanted) in rows {
+        assert!(rt; commit(alloc, keeper, *round, slots)? == *wanted);
+    }
+    Ok(())
 }
 
 // A boot, the promise of round 1, and a vote in slot 1.
 fn first_run(rt: &impl Abort, alloc: Global, keeper: &mut MemKeeper<Number>) -> Result<(), Fail> {
     assert!(rt; boot(keeper) == (0, 1, 0, [0, 0, 0]));
-    assert!(rt; commit(alloc, keeper, 1, &[])? == 0);
-    assert!(rt; commit(alloc, keeper, 1, &[1])? == 0);
-    Ok(())
+    commits(rt, alloc, keeper, &[(1, &[], 0), (1, &[1], 0)])
 }
 
 fn second_run(rt: &impl Abort, keeper: &mut MemKeeper<Number>) {
@@ -101,13 +121,13 @@ fn what_is_committed_is_loaded(rt: HostRuntime) -> Result<(), Fail> {
     first_run(&rt, rt.alloc(), &mut keeper)?;
     let mut again = keeper.reopen();
     second_run(&rt, &mut again);
+    drop(again);
     Ok(())
 }
 
 fn replaces(rt: &impl Abort, alloc: Global, keeper: &mut MemKeeper<Number>) -> Result<(), Fail> {
-    assert!(rt; commit(alloc, keeper, 1, &[2])? == 0);
-    assert!(rt; commit(alloc, keeper, 2, &[3, 2, 1])? == 0);
-    assert!(rt; commit(alloc, keeper, 3, &[3])? == 0);
+    let rows: [(u64, &[u64], u8); 3] = [(1, &[2], 0), (2, &[3, 2, 1], 0), (3, &[3], 0)];
+    commits(rt, alloc, keeper, &rows)?;
     assert!(rt; load(keeper) == (0, 0, 3, [2, 2, 3]));
     Ok(())
 }
@@ -115,7 +135,9 @@ fn replaces(rt: &impl Abort, alloc: Global, keeper: &mut MemKeeper<Number>) -> R
 #[test]
 fn a_vote_replaces_that_of_its_slot(rt: HostRuntime) -> Result<(), Fail> {
     let mut keeper = MemKeeper::new(rt.alloc());
-    replaces(&rt, rt.alloc(), &mut keeper)
+    let done = replaces(&rt, rt.alloc(), &mut keeper);
+    drop(keeper);
+    done
 }
 
 // Two commits with the rounds 1 and 2 in slots 1 and 2, of which one fails: what these answer.
@@ -126,9 +148,7 @@ fn commits_and_fails(
     wants: (u8, u8),
 ) -> Result<(), Fail> {
     assert!(rt; boot(keeper) == (0, 1, 0, [0, 0, 0]));
-    assert!(rt; commit(alloc, keeper, 1, &[1])? == wants.0);
-    assert!(rt; commit(alloc, keeper, 2, &[2])? == wants.1);
-    Ok(())
+    commits(rt, alloc, keeper, &[(1, &[1], wants.0), (2, &[2], wants.1)])
 }
 
 fn has_failed(rt: &impl Abort, keeper: &mut MemKeeper<Number>) {
@@ -144,8 +164,7 @@ fn goes_on(
     want: Answer,
 ) -> Result<(), Fail> {
     assert!(rt; load(keeper) == want);
-    assert!(rt; commit(alloc, keeper, 3, &[3])? == 0);
-    Ok(())
+    commits(rt, alloc, keeper, &[(3, &[3], 0)])
 }
 
 // A keeper that fails at its kth commit: what it answers, and what is loaded once it is opened again.
@@ -160,7 +179,9 @@ fn fails(
     commits_and_fails(rt, alloc, &mut keeper, (wants.0, wants.1))?;
     has_failed(rt, &mut keeper);
     let mut again = keeper.reopen();
-    goes_on(rt, alloc, &mut again, wants.2)
+    let done = goes_on(rt, alloc, &mut again, wants.2);
+    drop(again);
+    done
 }
 
 #[test]

@@ -21,8 +21,7 @@ const OLDEST_FIRST: &[(&[Told], Told)] = &[
     (&[(1, 9)], (1, 9)),
 ];
 
-fn put(alloc: Global, outboxes: &mut Outboxes<u32>, asks: &[Told]) -> Result<(), Fail> {
-    let mut packets = Vec::new(alloc);
+fn push_asks(packets: &mut Vec<Packet<u32>>, asks: &[Told]) -> Result<(), Fail> {
     for (addressee, first) in asks {
         packets.push(Packet {
             sender: 2,
@@ -30,6 +29,12 @@ fn put(alloc: Global, outboxes: &mut Outboxes<u32>, asks: &[Told]) -> Result<(),
             kind: Kind::Ask { first: *first },
         })?;
     }
+    Ok(())
+}
+
+fn put(alloc: Global, outboxes: &mut Outboxes<u32>, asks: &[Told]) -> Result<(), Fail> {
+    let mut packets = Vec::new(alloc);
+    push_asks(&mut packets, asks)?;
     outboxes.put_all(packets);
     Ok(())
 }
@@ -42,10 +47,12 @@ fn first_in(packet: &Packet<u32>) -> u64 {
 }
 
 fn next(outboxes: &mut Outboxes<u32>) -> Told {
-    match outboxes.take() {
-        Some(packet) => (packet.addressee, first_in(&packet)),
-        None => (0, 0),
-    }
+    let Some(packet) = outboxes.take() else {
+        return (0, 0);
+    };
+    let told = (packet.addressee, first_in(&packet));
+    drop(packet);
+    told
 }
 
 fn outboxes(alloc: Global) -> Result<Outboxes<u32>, Fail> {
@@ -95,36 +102,51 @@ fn next_for(outboxes: &mut Outboxes<u32>, peer: u8, goes: bool) -> u64 {
     first
 }
 
-#[test]
-fn a_packet_that_could_not_go_comes_first_again(rt: HostRuntime) -> Result<(), Fail> {
-    let mut outboxes = outboxes(rt.alloc())?;
-    put(
-        rt.alloc(),
-        &mut outboxes,
-        &[(3, 1), (1, 2), (9, 5), (3, 3), (1, 4)],
-    )?;
+fn comes_back(rt: &impl Abort, alloc: Global, outboxes: &mut Outboxes<u32>) -> Result<(), Fail> {
+    put(alloc, outboxes, &[(3, 1), (1, 2), (9, 5), (3, 3), (1, 4)])?;
     for (peer, goes, first) in FOR_ONE {
-        assert_eq!(rt; next_for(&mut outboxes, *peer, *goes), *first);
+        assert_eq!(rt; next_for(outboxes, *peer, *goes), *first);
     }
     Ok(())
 }
 
 #[test]
+fn a_packet_that_could_not_go_comes_first_again(rt: HostRuntime) -> Result<(), Fail> {
+    let mut outboxes = outboxes(rt.alloc())?;
+    let done = comes_back(&rt, rt.alloc(), &mut outboxes);
+    drop(outboxes);
+    done
+}
+
+#[test]
 fn the_oldest_packet_goes_first(rt: HostRuntime) -> Result<(), Fail> {
     let mut outboxes = outboxes(rt.alloc())?;
-    goes_first(&rt, rt.alloc(), &mut outboxes, OLDEST_FIRST)
+    let done = goes_first(&rt, rt.alloc(), &mut outboxes, OLDEST_FIRST);
+    drop(outboxes);
+    done
+}
+
+// More packets for node 1 than its outbox holds.
+fn fill(alloc: Global, outboxes: &mut Outboxes<u32>) -> Result<(), Fail> {
+    for first in 2..4_099 {
+        put(alloc, outboxes, &[(1, first)])?;
+    }
+    Ok(())
+}
+
+fn loses_its_oldest(
+    rt: &impl Abort,
+    alloc: Global,
+    outboxes: &mut Outboxes<u32>,
+) -> Result<(), Fail> {
+    fill(alloc, outboxes)?;
+    goes_first(rt, alloc, outboxes, &[(&[(3, 1)], (1, 3)), (&[], (1, 4))])
 }
 
 #[test]
 fn a_full_outbox_loses_its_oldest(rt: HostRuntime) -> Result<(), Fail> {
     let mut outboxes = outboxes(rt.alloc())?;
-    for first in 2..4_099 {
-        put(rt.alloc(), &mut outboxes, &[(1, first)])?;
-    }
-    goes_first(
-        &rt,
-        rt.alloc(),
-        &mut outboxes,
-        &[(&[(3, 1)], (1, 3)), (&[], (1, 4))],
-    )
+    let done = loses_its_oldest(&rt, rt.alloc(), &mut outboxes);
+    drop(outboxes);
+    done
 }

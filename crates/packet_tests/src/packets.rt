@@ -130,12 +130,18 @@ fn three_of_four_are_a_majority(rt: HostRuntime) -> Result<(), Fail> {
     Ok(())
 }
 
-// Votes put in this order, each by its slot, its round and the number that its Item holds.
-fn votes_of(alloc: Global, rows: &[(u64, u64, u32)]) -> Result<Votes<Number>, Fail> {
-    let mut votes = Votes::new(alloc);
+// Puts a vote for each row: its slot, its round and the number that its Item holds.
+fn put_rows(votes: &mut Votes<Number>, rows: &[(u64, u64, u32)]) -> Result<(), Fail> {
     for (number, round, body) in rows {
         votes.put(vote(*number, *round, item(Number::new(*body)))?)?;
     }
+    Ok(())
+}
+
+// Votes put in this order.
+fn votes_of(alloc: Global, rows: &[(u64, u64, u32)]) -> Result<Votes<Number>, Fail> {
+    let mut votes = Votes::new(alloc);
+    put_rows(&mut votes, rows)?;
     Ok(votes)
 }
 
@@ -165,12 +171,15 @@ fn finds(votes: &Votes<Number>, slot: Slot, row: Option<(u64, u64, u32)>) -> boo
     }
 }
 
-// The votes from this slot on, put behind one in slot 1.
-fn put_behind_one(alloc: Global, votes: &Votes<Number>, from: u64) -> Result<Votes<Number>, Fail> {
-    let behind = votes.copy_from(alloc, from)?;
-    let mut more = votes_of(alloc, &[(1, 1, 1)])?;
-    more.put_all(behind)?;
-    Ok(more)
+// Puts the others from this slot on behind the votes.
+fn put_from(
+    alloc: Global,
+    votes: &mut Votes<Number>,
+    others: &Votes<Number>,
+    from: u64,
+) -> Result<(), Memory> {
+    let behind = others.copy_from(alloc, from)?;
+    votes.put_all(behind)
 }
 
 fn are_copied_from(
@@ -180,12 +189,18 @@ fn are_copied_from(
     rows: &[(u64, u64, u32)],
 ) -> Result<bool, Fail> {
     let behind = votes.copy_from(alloc, from)?;
-    Ok(are_votes(behind.as_slice(), rows))
+    let same = are_votes(behind.as_slice(), rows);
+    drop(behind);
+    Ok(same)
 }
 
+// Whether the votes are those from this slot on, put behind one in slot 1.
 fn is_put_behind_one(alloc: Global, votes: &Votes<Number>, from: u64) -> Result<bool, Fail> {
-    let more = put_behind_one(alloc, votes, from)?;
-    Ok(more.same(votes))
+    let mut more = votes_of(alloc, &[(1, 1, 1)])?;
+    put_from(alloc, &mut more, votes, from)?;
+    let same = more.same(votes);
+    drop(more);
+    Ok(same)
 }
 
 #[test]
@@ -193,6 +208,7 @@ fn votes_stand_by_slot(rt: HostRuntime) -> Result<(), Fail> {
     // the later vote replaces the first of its slot
     let votes = votes_of(rt.alloc(), &[(5, 1, 1), (1, 1, 1), (3, 1, 1), (3, 2, 2)])?;
     assert!(rt; are_votes(votes.as_slice(), &[(1, 1, 1), (3, 2, 2), (5, 1, 1)]));
+    drop(votes);
     Ok(())
 }
 
@@ -202,15 +218,23 @@ fn votes_are_found_by_slot(rt: HostRuntime) -> Result<(), Fail> {
     let votes = votes_of(rt.alloc(), &[(5, 1, 1), (1, 1, 1), (3, 2, 2)])?;
     assert!(rt; finds(&votes, third, Some((3, 2, 2))));
     assert!(rt; finds(&votes, second, None));
+    drop(votes);
+    Ok(())
+}
+
+fn are_copied(rt: &impl Abort, alloc: Global, votes: &Votes<Number>) -> Result<(), Fail> {
+    assert!(rt; are_copied_from(alloc, votes, 2, &[(3, 2, 2), (5, 1, 1)])?);
+    assert!(rt; is_put_behind_one(alloc, votes, 2)?);
     Ok(())
 }
 
 #[test]
 fn votes_are_copied_from_a_slot_on(rt: HostRuntime) -> Result<(), Fail> {
     let votes = votes_of(rt.alloc(), &[(5, 1, 1), (1, 1, 1), (3, 2, 2)])?;
-    assert!(rt; are_copied_from(rt.alloc(), &votes, 2, &[(3, 2, 2), (5, 1, 1)])?);
-    assert!(rt; is_put_behind_one(rt.alloc(), &votes, 2)?);
-    assert_eq!(rt; votes.into_vec().len(), 3);
+    are_copied(&rt, rt.alloc(), &votes)?;
+    let all = votes.into_vec();
+    assert_eq!(rt; all.len(), 3);
+    drop(all);
     Ok(())
 }
 
@@ -223,22 +247,35 @@ fn kept_of(first: Votes<Number>, more: Votes<Number>) -> Result<KeptVotes<Number
     Ok(kept)
 }
 
+// How many votes are copied from slot 2 on.
+fn copied(alloc: Global, kept: &KeptVotes<Number>) -> Result<usize, Memory> {
+    let behind = kept.copy_from(alloc, 2)?;
+    let count = behind.as_slice().len();
+    drop(behind);
+    Ok(count)
+}
+
 // Whether votes in the slots 1 and 2 are kept, none in 3, and one from 2 on.
 fn are_kept(alloc: Global, kept: &KeptVotes<Number>) -> Result<bool, Fail> {
     let (second, third) = (slot(2)?, slot(3)?);
     let found = kept.find(second).is_some() && kept.find(third).is_none();
-    let behind = kept.copy_from(alloc, 2)?;
-    Ok(found && kept.as_slice().len() == 2 && behind.as_slice().len() == 1)
+    Ok(found && kept.as_slice().len() == 2 && copied(alloc, kept)? == 1)
+}
+
+// A vote in slot 2, and behind it one in slot 1 and another in 2.
+fn kept(alloc: Global) -> Result<KeptVotes<Number>, Fail> {
+    let first = votes_of(alloc, &[(2, 1, 1)])?;
+    let more = votes_of(alloc, &[(1, 1, 2), (2, 2, 3)])?;
+    Ok(kept_of(first, more)?)
 }
 
 #[test]
 fn votes_are_put_where_there_is_room(rt: HostRuntime) -> Result<(), Fail> {
-    let first = votes_of(rt.alloc(), &[(2, 1, 1)])?;
-    let more = votes_of(rt.alloc(), &[(1, 1, 2), (2, 2, 3)])?;
-    let kept = kept_of(first, more)?;
+    let kept = kept(rt.alloc())?;
     assert!(rt; are_kept(rt.alloc(), &kept)?);
     let votes = kept.into_votes();
     assert!(rt; are_votes(votes.as_slice(), &[(1, 1, 2), (2, 2, 3)]));
+    drop(votes);
     Ok(())
 }
 
@@ -257,14 +294,25 @@ fn is_copy_same<B: Body>(
     other: &Packet<B>,
 ) -> Result<bool, Memory> {
     let copy = packet.copy(alloc)?;
-    Ok(copy.same(other))
+    let same = copy.same(other);
+    drop(copy);
+    Ok(same)
+}
+
+// Whether a copy of the packet is the same as a packet of this kind.
+fn is_of_kind<B: Body>(alloc: Global, packet: &Packet<B>, kind: &Kind<B>) -> Result<bool, Memory> {
+    let other = packet_of(alloc, kind)?;
+    let same = is_copy_same(alloc, packet, &other);
+    drop(other);
+    same
 }
 
 // Whether packets of these kinds are the same.
 fn are_same<B: Body>(alloc: Global, kind: &Kind<B>, other: &Kind<B>) -> Result<bool, Memory> {
     let packet = packet_of(alloc, kind)?;
-    let other = packet_of(alloc, other)?;
-    is_copy_same(alloc, &packet, &other)
+    let same = is_of_kind(alloc, &packet, other);
+    drop(packet);
+    same
 }
 
 // Whether the copies of packets of each kind are the same as they, and as no other of them.
@@ -285,8 +333,9 @@ const BALLOT: Ballot = Ballot { round: 1, node: 1 };
 
 // A Promise with a vote for this entry.
 fn promise_with<B: Body>(alloc: Global, entry: Entry<B>) -> Result<Kind<B>, Fail> {
+    let vote = vote(1, 1, entry)?;
     let mut votes = Votes::new(alloc);
-    votes.put(vote(1, 1, entry)?)?;
+    votes.put(vote)?;
     Ok(Kind::Promise {
         ballot: BALLOT,
         votes,
@@ -299,10 +348,19 @@ fn accepted<B: Drop>(entry: Entry<B>) -> Result<Kind<B>, Fail> {
     })
 }
 
-fn forward<B: Body>(alloc: Global, first: Entry<B>, last: Entry<B>) -> Result<Kind<B>, Fail> {
-    let mut entries = Vec::new(alloc);
+fn push_both<B: Drop>(
+    entries: &mut Vec<Entry<B>>,
+    first: Entry<B>,
+    last: Entry<B>,
+) -> Result<(), Fail> {
     entries.push(first)?;
     entries.push(last)?;
+    Ok(())
+}
+
+fn forward<B: Body>(alloc: Global, first: Entry<B>, last: Entry<B>) -> Result<Kind<B>, Fail> {
+    let mut entries = Vec::new(alloc);
+    push_both(&mut entries, first, last)?;
     Ok(Kind::Forward {
         entries: Entries::of(entries),
     })
@@ -352,35 +410,55 @@ fn kind<B: Body>(alloc: Global, number: u8, body: &B, other: &B) -> Result<Kind<
     }
 }
 
-// A packet of each kind, one with each entry, and ones that differ in one part.
-pub fn kinds<B: Body>(alloc: Global, body: &B, other: &B) -> Result<Vec<Kind<B>>, Fail> {
-    let mut kinds = Vec::new(alloc);
+fn push_kinds<B: Body>(
+    alloc: Global,
+    kinds: &mut Vec<Kind<B>>,
+    body: &B,
+    other: &B,
+) -> Result<(), Fail> {
     for number in 0..14 {
         kinds.push(kind(alloc, number, body, other)?)?;
     }
+    Ok(())
+}
+
+// A packet of each kind, one with each entry, and ones that differ in one part.
+pub fn kinds<B: Body>(alloc: Global, body: &B, other: &B) -> Result<Vec<Kind<B>>, Fail> {
+    let mut kinds = Vec::new(alloc);
+    push_kinds(alloc, &mut kinds, body, other)?;
     Ok(kinds)
+}
+
+// Packets with these bodies in them are copied.
+fn bodies_are_copied<B: Body>(
+    rt: &impl Abort,
+    alloc: Global,
+    body: &B,
+    other: &B,
+) -> Result<(), Fail> {
+    let kinds = kinds(alloc, body, other)?;
+    let done = copies_are_told_apart(rt, alloc, kinds.as_slice());
+    drop(kinds);
+    done
 }
 
 #[test]
 fn small_bodies_are_copied(rt: HostRuntime) -> Result<(), Fail> {
-    let kinds = kinds(rt.alloc(), &Number::new(1), &Number::new(2))?;
-    copies_are_told_apart(&rt, rt.alloc(), kinds.as_slice())
+    bodies_are_copied(&rt, rt.alloc(), &Number::new(1), &Number::new(2))
 }
 
 #[test]
 fn large_bodies_are_copied(rt: HostRuntime) -> Result<(), Fail> {
     let body = text_of(rt.alloc(), b"a.b")?;
     let other = text_of(rt.alloc(), b"a.c")?;
-    let kinds = kinds(rt.alloc(), &body, &other)?;
-    copies_are_told_apart(&rt, rt.alloc(), kinds.as_slice())
+    bodies_are_copied(&rt, rt.alloc(), &body, &other)
 }
 
 #[test]
 fn shared_bodies_are_copied(rt: HostRuntime) -> Result<(), Fail> {
     let body = shared_of(rt.alloc(), b"a.b")?;
     let other = shared_of(rt.alloc(), b"a.c")?;
-    let kinds = kinds(rt.alloc(), &body, &other)?;
-    copies_are_told_apart(&rt, rt.alloc(), kinds.as_slice())
+    bodies_are_copied(&rt, rt.alloc(), &body, &other)
 }
 
 // A second holder of these octets, whose first is let go.
@@ -396,17 +474,35 @@ fn a_shared_body_outlives_its_first_holder(rt: HostRuntime) -> Result<(), Fail> 
     Ok(())
 }
 
-#[test]
-fn entries_keep_their_order(rt: HostRuntime) -> Result<(), Fail> {
-    let mut entries = Entries::new(rt.alloc());
-    entries.push(item(Number::new(1)))?;
-    entries.push(Entry::Noop)?;
+fn are_in_order(rt: &impl Abort, entries: &Entries<Number>) {
     assert_eq!(rt; entries.as_slice().len(), 2);
     assert!(rt; entries.as_slice()[0].same(&item(Number::new(1))));
     assert!(rt; !entries.as_slice()[1].same(&item(Number::new(1))));
-    let copy = entries.copy(rt.alloc())?;
-    assert!(rt; copy.same(&entries));
-    assert!(rt; Entries::of(copy.into_vec()).same(&entries));
+}
+
+// Whether a copy is the same, and what is made of its list again.
+fn are_entries_copied(alloc: Global, entries: &Entries<Number>) -> Result<bool, Memory> {
+    let copy = entries.copy(alloc)?;
+    let same = copy.same(entries);
+    let again = Entries::of(copy.into_vec());
+    let both = same && again.same(entries);
+    drop(again);
+    Ok(both)
+}
+
+fn push_in_order(entries: &mut Entries<Number>) -> Result<(), Memory> {
+    entries.push(item(Number::new(1)))?;
+    entries.push(Entry::Noop)
+}
+
+#[test]
+fn entries_keep_their_order(rt: HostRuntime) -> Result<(), Fail> {
+    let mut entries = Entries::new(rt.alloc());
+    push_in_order(&mut entries)?;
+    are_in_order(&rt, &entries);
+    let copied = are_entries_copied(rt.alloc(), &entries)?;
+    drop(entries);
+    assert!(rt; copied);
     Ok(())
 }
 
@@ -416,28 +512,42 @@ fn are_same_rows(rows: &Rows<Number>, others: &Rows<Number>) -> bool {
 
 fn are_rows_copied(alloc: Global, rows: &Rows<Number>) -> Result<bool, Memory> {
     let copy = rows.copy(alloc)?;
-    Ok(are_same_rows(&copy, rows))
+    let same = are_same_rows(&copy, rows);
+    drop(copy);
+    Ok(same)
 }
 
 fn is_change_copied(alloc: Global, change: &Change<Number>) -> Result<bool, Memory> {
     let copy = change.copy(alloc)?;
-    Ok(copy.promised == change.promised && copy.votes.same(&change.votes))
+    let same = copy.promised == change.promised && copy.votes.same(&change.votes);
+    drop(copy);
+    Ok(same)
+}
+
+const PROMISED: Option<Ballot> = Some(Ballot { round: 2, node: 1 });
+
+#[test]
+fn rows_are_copied(rt: HostRuntime) -> Result<(), Fail> {
+    let rows = Rows {
+        boot: 4,
+        promised: PROMISED,
+        votes: votes_of(rt.alloc(), &[(1, 2, 1)])?,
+    };
+    let copied = are_rows_copied(rt.alloc(), &rows)?;
+    drop(rows);
+    assert!(rt; copied);
+    Ok(())
 }
 
 #[test]
-fn rows_and_changes_are_copied(rt: HostRuntime) -> Result<(), Fail> {
-    let promised = Some(Ballot { round: 2, node: 1 });
-    let rows = Rows {
-        boot: 4,
-        promised,
+fn changes_are_copied(rt: HostRuntime) -> Result<(), Fail> {
+    let change = Change {
+        promised: PROMISED,
         votes: votes_of(rt.alloc(), &[(1, 2, 1)])?,
     };
-    assert!(rt; are_rows_copied(rt.alloc(), &rows)?);
-    let change = Change {
-        promised,
-        votes: rows.votes,
-    };
-    assert!(rt; is_change_copied(rt.alloc(), &change)?);
+    let copied = is_change_copied(rt.alloc(), &change)?;
+    drop(change);
+    assert!(rt; copied);
     Ok(())
 }
 
