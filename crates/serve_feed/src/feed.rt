@@ -28,7 +28,9 @@ const MOST_ARRIVALS: u8 = 64;
 /// The events of a node in one boot: what its clients do, ticks, ballots and suspicions; and the way of its sayings to their clients.
 ///
 /// A round in which nobody stirred costs some loads. An item of a client's costs constant time, and a removed connection as many moves as there
-/// are connections; each time that somebody stirred each connection's ring is asked once. Messages are moved, not copied.
+/// are connections; each time that somebody stirred each connection's ring is asked once. Messages are moved, not copied. Behind an idle turn, where
+/// entries or many packets moved since the last tick, it looks for some microseconds whether the node is woken: who waits for a packet has it
+/// sooner than the node could rest and be woken.
 #[derive(Drop)]
 pub struct ClientFeed<'a> {
     node: u8,
@@ -46,6 +48,8 @@ pub struct ClientFeed<'a> {
     round: u64,
     // Whether something happened since.
     is_busy: bool,
+    // Whether a tick while nothing moved was all that happened since.
+    is_ticked: bool,
     // How many acts were given since no entry was pending, and how many may be.
     under_way: u32,
     most: u32,
@@ -91,6 +95,7 @@ impl<'a> ClientFeed<'a> {
             ticks: Ticks::new(node, members),
             round: 0,
             is_busy: true,
+            is_ticked: false,
             under_way: 0,
             most: MOST_FORWARDED,
             applied: 0,
@@ -140,25 +145,43 @@ impl<'a> ClientFeed<'a> {
 
     // Counts the last turn, and wakes whom it concerns. Once a round.
     fn count(&mut self, seen: &Seen) {
+        // What a tick alone has posted waits for the peers' own ticks.
+        let is_quiet = self.is_ticked && self.waiting == [0; 7];
+        self.is_ticked = false;
         self.watch(&seen.waiting);
-        let moved = wake_peers(self.node, self.members, self.lobbies, seen);
+        let moved = wake_peers(self.node, self.members, self.lobbies, seen, is_quiet);
         // Nothing came, and all that was due is posted.
         let is_still = !moved || seen.from.is_none() && seen.waiting == [0; 7];
-        if self.lobby.take_stirred() {
-            self.take_arrivals();
-            self.lanes.stir();
-        }
+        self.take_stirred();
         if seen.pending || seen.applied != self.applied {
             self.pace.moved();
         } else if moved {
             self.pace.stirred();
         }
         self.applied = seen.applied;
-        self.pace
-            .judge(is_still && !self.is_busy && !self.may_act());
+        let is_idle = is_still && !self.is_busy && !self.may_act();
+        self.pace.judge(is_idle && !self.is_woken_soon());
         self.is_busy = false;
         self.ticks
             .count(seen.from, seen.applied, seen.pending, self.pace.is_due());
+    }
+
+    // Where somebody has put something into the node's rings, it is looked for.
+    fn take_stirred(&mut self) {
+        if self.lobby.take_stirred() {
+            self.take_arrivals();
+            self.lanes.stir();
+        }
+    }
+
+    // Whether the node is woken within some microseconds, where that is expected: the turn that follows finds what it was woken for, and no
+    // idle one comes between.
+    fn is_woken_soon(&mut self) -> bool {
+        let is_woken = self.pace.expects_more() && self.lobby.is_woken_soon();
+        if is_woken {
+            self.take_stirred();
+        }
+        is_woken
     }
 
     // So many packets wait for each member: where that has changed, or a tick was given since, says in the node's lobby for whom, and judges who
@@ -176,6 +199,7 @@ impl<'a> ClientFeed<'a> {
     // Something happens in this round: no rest comes before the turn behind it is counted.
     fn stay(&mut self) {
         self.is_busy = true;
+        self.is_ticked = false;
         self.pace.judge(false);
     }
 
@@ -186,13 +210,13 @@ impl<'a> ClientFeed<'a> {
         } else {
             MOST_FORWARDED
         };
+        if !seen.pending {
+            self.under_way = 0;
+        }
         let round = self.pace.round();
         if round != self.round {
             self.round = round;
             self.count(seen);
-        }
-        if !seen.pending {
-            self.under_way = 0;
         }
     }
 
@@ -202,6 +226,7 @@ impl<'a> ClientFeed<'a> {
         let node = self.node;
         match due {
             Due::Tick => {
+                self.is_ticked = !self.pace.is_moving();
                 self.pace.ticked();
                 self.given = self.given.saturating_add(1);
                 Event::Tick { node }
@@ -294,15 +319,22 @@ fn hold_back(keeping: &mut [Keeping; 7], tick: u64, waiting: &[u16; 7]) -> bool 
     is_held
 }
 
-// Wakes those to whom the last turn of this node posted, and the one whose packet it took, if packets of that one wait for room. Answers
-// whether it posted or took any.
-fn wake_peers(node: u8, members: Members, lobbies: &[Arc<Lobby>], seen: &Seen) -> bool {
+// Wakes those to whom the last turn of this node posted, unless what it posted is to wait, and the one whose packet it took, if packets of that
+// one wait for room. Answers whether it posted or took any.
+fn wake_peers(
+    node: u8,
+    members: Members,
+    lobbies: &[Arc<Lobby>],
+    seen: &Seen,
+    may_wait: bool,
+) -> bool {
     if seen.from.is_none() && seen.posted == NodeSet::new() {
         return false;
     }
     for below in 0..members.count() {
         let peer = below + 1;
-        let (posted, took) = (seen.posted.contains(peer), seen.from == Some(peer));
+        let posted = !may_wait && seen.posted.contains(peer);
+        let took = seen.from == Some(peer);
         if let Some(lobby) = lobbies.get(usize::from(below))
             && (posted || took && lobby.waits_for(node))
         {

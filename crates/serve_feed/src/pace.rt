@@ -59,6 +59,12 @@ impl Pace {
         self.is_rested.set(false);
     }
 
+    // Whether the node is likely to be woken before the next tick, which is not due: entries or many packets moved since the last one. The first
+    // turn behind a rest comes before any look.
+    pub(crate) fn expects_more(&self) -> bool {
+        self.is_moving() && !self.is_due.get() && !self.is_rested.get()
+    }
+
     // Whether turns without a packet count towards a tick.
     pub(crate) fn is_due(&self) -> bool {
         self.is_due.get()
@@ -69,6 +75,11 @@ impl Pace {
         self.is_due.set(false);
         self.is_moving.set(false);
         self.stirs.set(0);
+    }
+
+    // Whether entries or many packets moved since the last tick.
+    pub(crate) fn is_moving(&self) -> bool {
+        self.is_moving.get()
     }
 
     // Entries are pending, or were applied.
@@ -88,8 +99,8 @@ impl Pace {
 
 /// The gate of a node's thread: it rests where a turn behind the last rest was idle and no tick is due, until somebody wakes the node or the
 /// next tick is due, 10 ms behind the last; then it asks the caller's gate. One more turn comes between the idle one and the rest; what it may
-/// take was put there behind the idle one, and who put it there wakes the node. Where entries or many packets moved since the last tick it
-/// looks for some microseconds before it rests: who waits for a packet has it sooner than it could rest and be woken.
+/// take was put there behind the idle one, and who put it there wakes the node. Where entries or many packets moved since the last tick the
+/// feed looks first, between the two, whether the node is woken.
 ///
 /// A round costs it some loads, and each 64th one a look at the clock. Where the clock cannot be read a tick is always due.
 #[derive(Drop)]
@@ -141,8 +152,7 @@ impl<'a, R: Wait + Clock, G: Gate> Paced<'a, R, G> {
     // Rests until somebody wakes the node or a tick is due; at least two turns follow.
     fn rest(&self) {
         let left = self.left();
-        let is_woken = self.pace.is_moving.get() && self.lobby.is_woken_soon();
-        if !is_woken && !left.is_zero() {
+        if !left.is_zero() {
             self.lobby.rest(self.rt, left);
         }
         self.pace.is_idle.set(false);
