@@ -1,7 +1,8 @@
 -- The program's command line, as its parser sees it.
-use Rattle.std.specs.Prelude.{true, List, ℕ, codes, Some}
+use Rattle.std.specs.Prelude.{◌≡◌, true, List, ℕ, codes, Some}
 use Rattle.clap.specs.declared.builder.action.ArgAction.TheVariants.{Set}
-use Rattle.clap.specs.Words.{App, Rule, Shape, new_app, new_rule, with_rule, with_subcommand}
+use Rattle.clap.specs.declared.builder.command.Command.{Command}
+use Rattle.clap.specs.Words.{AddsSubcommand, App, Rule, Shape, app_of, new_app, new_rule, with_rule, with_subcommand}
 
 -- `--name VALUE`
 abbrev pub option_rule : List ℕ → Rule
@@ -36,6 +37,13 @@ top_shape = record ((new_app (codes "wampd")).top) {
   subcommand_required = true;
 }
 
+-- the program without its subcommands
+abbrev pub bare : App
+bare = record (new_app (codes "wampd")) { top = top_shape }
+
 unfoldable pub program : App
-program = with_subcommand (with_subcommand (with_subcommand (record (new_app (codes "wampd")) { top = top_shape })
-    stream_shape) script_shape) serve_shape
+program = with_subcommand (with_subcommand (with_subcommand bare stream_shape) script_shape) serve_shape
+
+-- what may be added as a subcommand of this shape
+abbrev pub IsSubcommand : Shape → Command → Type 0
+IsSubcommand shape c = (old new : Command) → AddsSubcommand old c new → app_of new ≡ with_subcommand (app_of old) shape

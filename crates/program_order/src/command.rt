@@ -1,7 +1,7 @@
 // The program's command line, as its parser reads it.
 ghost use Rattle.std.specs.Prelude.{◌≡◌, false, IfOk, codes};
-ghost use Rattle.clap.specs.Words.{app_of, rule_of};
-ghost use Rattle.program_order.specs.Program.{option_rule, required_rule, program};
+ghost use Rattle.clap.specs.Words.{Shape, app_of, rule_of, with_subcommand};
+ghost use Rattle.program_order.specs.Program.{option_rule, required_rule, stream_shape, script_shape, serve_shape, bare, program, IsSubcommand};
 
 use clap::{Arg, ArgAction, Command};
 use std::alloc::{AllocError, Global};
@@ -41,33 +41,74 @@ Exit status:
 pub(crate) fn command<'a>(alloc: Global) -> Result<Command<'a>, AllocError>
     ensures { IfOk result (λ c. app_of c ≡ program) }
 {
-    let stream = Command::new(alloc, "stream")
+    let bare = bare_command(alloc)?;
+    let one = added(bare, stream_command(alloc))?;
+    let two = added(one, script_command(alloc))?;
+    added(two, serve_command(alloc))
+}
+
+// The command with the subcommand; where that could not be made, the command is dropped.
+fn added<'a>(
+    command: Command<'a>,
+    subcommand: Result<Command<'a>, AllocError>,
+) -> Result<Command<'a>, AllocError>
+    ensures { (shape : Shape) → IfOk subcommand.entry (IsSubcommand shape)
+        → IfOk result (λ c. app_of c ≡ with_subcommand (app_of command.entry) shape) }
+{
+    match subcommand {
+        Ok(subcommand) => command.subcommand(subcommand),
+        Err(fault) => {
+            drop(command);
+            Err(fault)
+        },
+    }
+}
+
+// The program's command line without its subcommands.
+fn bare_command<'a>(alloc: Global) -> Result<Command<'a>, AllocError>
+    ensures { IfOk result (λ c. app_of c ≡ bare) }
+{
+    let named = Command::new(alloc, "wampd")
+        .about("A WAMP router (RawSocket, JSON)")
+        .version(VERSION)
+        .after_help(STATUSES)
+        .no_binary_name(true)
+        .bin_name("wampd")?;
+    Ok(
+        named
+            .disable_help_subcommand(true)
+            .subcommand_required(true),
+    )
+}
+
+fn stream_command<'a>(alloc: Global) -> Result<Command<'a>, AllocError>
+    ensures { IfOk result (IsSubcommand stream_shape) }
+{
+    Command::new(alloc, "stream")
         .about(STREAM)
-        .arg(realm_arg(alloc))?;
-    let script = Command::new(alloc, "script")
+        .arg(realm_arg(alloc))
+}
+
+fn script_command<'a>(alloc: Global) -> Result<Command<'a>, AllocError>
+    ensures { IfOk result (IsSubcommand script_shape) }
+{
+    Command::new(alloc, "script")
         .about(SCRIPT)
         .arg(nodes_arg(alloc))?
-        .arg(realm_arg(alloc))?;
-    let serve = Command::new(alloc, "serve")
+        .arg(realm_arg(alloc))
+}
+
+fn serve_command<'a>(alloc: Global) -> Result<Command<'a>, AllocError>
+    ensures { IfOk result (IsSubcommand serve_shape) }
+{
+    Command::new(alloc, "serve")
         .about(SERVE)
         .after_help(EXAMPLE)
         .arg(nodes_arg(alloc))?
         .arg(port_arg(alloc))?
         .arg(key_arg(alloc))?
         .arg(dir_arg(alloc))?
-        .arg(realm_arg(alloc))?;
-    let program = Command::new(alloc, "wampd")
-        .about("A WAMP router (RawSocket, JSON)")
-        .version(VERSION)
-        .after_help(STATUSES)
-        .no_binary_name(true)
-        .bin_name("wampd")?
-        .disable_help_subcommand(true)
-        .subcommand_required(true);
-    program
-        .subcommand(stream)?
-        .subcommand(script)?
-        .subcommand(serve)
+        .arg(realm_arg(alloc))
 }
 
 fn realm_arg<'a>(alloc: Global) -> Arg<'a>

@@ -1,0 +1,12 @@
+use Rattle.std.proofs.Common.{ap, ap₂, refl, ◌≡◌, ◌∙◌, codes}
+use Rattle.std.proofs.lemmas.Result.{IfOk-weaker}
+use Rattle.clap.specs.Words.{App, app_of, new_app, with_rule, with_subcommand}
+use Rattle.program_order.proofs.command.stream_command.Goals as goal
+
+pub returns : goal.returns
+returns c =
+    let new_is : app_of c.about.result ≡ new_app (codes "stream") = rw c.about.ensures c.new.ensures.app in
+    IfOk-weaker c.arg.result _ _
+    (λ r h. λ old new added. added.shape (rw (h.globals, c.about.ensures, c.realm_arg.ensures.local, c.new.ensures.local) refl)
+    ∙ ap (λ (a : App). with_subcommand (app_of old) a.top) (h.shape c.realm_arg.ensures.local ∙ ap₂ with_rule new_is c.realm_arg.ensures.rule))
+    c.arg.ensures
