@@ -16,8 +16,8 @@ use std::thread;
 use std::thread::Threads;
 use std::time::Instant;
 
-// After how many turns in which nothing came a node ticks, and after how many its thread gives way each time, so that each node comes to
-// its turns where processors are wanting.
+// After how many turns in which nothing came a node ticks, in a row or not, and after how many its thread gives way each time, so that each
+// node comes to its turns where processors are wanting.
 const QUIET: u64 = 100_000;
 
 const STRETCH: u64 = 1024;
@@ -93,7 +93,9 @@ impl Asks<'_> {
         })
     }
 
-    // A tick, where nothing came for long.
+    // A tick, after each so many turns in which nothing came. What came between them does not begin the count anew: a tick sends something to
+    // each other node, so the fastest one would keep the others from ever ticking, and an act that was taken before its node knew who leads
+    // would wait for ever.
     fn tick(&mut self) -> Option<Event<Number>> {
         if self.quiet < QUIET {
             return None;
@@ -106,7 +108,6 @@ impl Asks<'_> {
     fn begins(&mut self, came: bool) {
         self.turns.all = self.turns.all.saturating_add(1);
         if came {
-            self.quiet = 0;
             return;
         }
         self.quiet = self.quiet.saturating_add(1);

@@ -20,8 +20,8 @@ use std::thread::{Threads, join};
 // What a node says: to whom, and the sum so far.
 type Sum = (Transport, u64);
 
-// How many acts each node takes, how many of them may wait for their answers, after how many turns in which nothing came it ticks, after
-// how many it lets other threads go first, and how often it turns at most.
+// How many acts each node takes, how many of them may wait for their answers, after how many turns in which nothing came it ticks, in a row or
+// not, after how many it lets other threads go first, and how often it turns at most.
 const ACTS: u32 = 1_000;
 
 const WINDOW: u32 = 16;
@@ -102,13 +102,14 @@ impl<'a> Acts<'a> {
         })
     }
 
-    // A tick, where nothing came for long.
+    // A tick, after each so many turns in which nothing came. What came between them does not begin the count anew: a tick sends something to
+    // each other node, so the fastest one would keep the others from ever ticking, and acts that were taken before their node knew who leads
+    // would wait for ever.
     fn tick(&mut self, came: bool) -> Option<Event<Number>> {
-        self.quiet = if came {
-            0
-        } else {
-            self.quiet.saturating_add(1)
-        };
+        if came {
+            return None;
+        }
+        self.quiet = self.quiet.saturating_add(1);
         if self.quiet < QUIET {
             return None;
         }
