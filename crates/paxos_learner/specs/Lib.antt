@@ -1,3 +1,4 @@
+pub mod Changes
 pub mod Fault
 pub mod Hearing
 pub mod Learned

@@ -8,10 +8,11 @@ ghost use Rattle.paxos_learner.specs.Learned.{Rises};
 ghost use Rattle.paxos_learner.specs.Learner.{learned_at, is_other, disagrees, vote_disagrees, run_from, learned_within};
 ghost use Rattle.paxos_learner.specs.Tallies.{nodes_heard, same_place};
 
+use crate::changes::Changes;
 use crate::fault::LearnerFault;
 use crate::learned::{LearnedEntries, LearnedEntry};
 use crate::learner::Learner;
-use crate::tallies::{Place, Tallies};
+use crate::tallies::Place;
 use paxos_packets::{Body, Entries, Entry, NodeSet, Slot, Vote};
 use std::alloc::Global;
 use std::marker::Model;
@@ -36,7 +37,7 @@ pub struct Hearing<'a, B> {
     learner: &'a Learner<B>,
     news: Vec<News<B>>,
     // The sets of members at the places where one was heard, and the entries that were not learned before.
-    changed: Tallies,
+    changed: Changes,
     gained: LearnedEntries<B>,
 }
 
@@ -62,7 +63,7 @@ impl<'a, B> Hearing<'a, B> {
             alloc,
             learner,
             news: Vec::new(alloc),
-            changed: Tallies::new(alloc),
+            changed: Changes::new(alloc),
             gained: LearnedEntries::new(alloc),
         }
     }
@@ -125,7 +126,7 @@ impl<'a, B: Body> Hearing<'a, B> {
         if self.news.reserve(1).is_err() {
             return Err(LearnerFault::Memory);
         }
-        self.changed.make_room(1)?;
+        self.changed.make_room()?;
         if !self.learner.has_majority(nodes) {
             self.changed.put_in_room(place, nodes);
             self.news.push_reserved(News::Cast { node, vote: copy });
@@ -264,7 +265,7 @@ fn push_copy<B: Body>(
 }
 
 // The members that would have been heard to vote there.
-fn nodes_over<B>(learner: &Learner<B>, changed: &Tallies, place: &Place) -> NodeSet
+fn nodes_over<B>(learner: &Learner<B>, changed: &Changes, place: &Place) -> NodeSet
     ensures { result ≡ unwrap_or (lookup (same_place place.now) changed.now.heard) (nodes_heard place.now learner.now.state.learner.heard) }
 {
     match changed.find(place) {

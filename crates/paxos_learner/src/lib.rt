@@ -2,6 +2,7 @@
 //! 2.3).
 #![tactic(auto)]
 
+mod changes;
 mod fault;
 mod hearing;
 mod learned;
