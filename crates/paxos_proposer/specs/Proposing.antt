@@ -6,6 +6,7 @@ use Rattle.paxos_proposer.specs.declared.phase.Phase.TheVariants as Kept
 use Rattle.paxos_proposer.specs.declared.promises.CountedPromise.{CountedPromise}
 use Rattle.paxos_proposer.specs.declared.proposing.Offer.{Offer}
 use Rattle.paxos_proposer.specs.declared.moves.Move.{Move}
+use Rattle.paxos_proposer.specs.declared.moves.Move.TheVariants.{Saw}
 use Rattle.paxos_proposer.specs.Proposer.{slot_end}
 use Rattle.paxos_proposer.specs.Role.{Role, Idle, Preparing, Leading}
 use Rattle.paxos_proposer.specs.Moves.{after_moves}
@@ -25,6 +26,10 @@ role_then d = (after d).proposer.role
 
 abbrev pub and_move : {B : Type 0} → Move B → Draft B → Draft B
 and_move m d = record { before = d.before; moves = d.moves ++ m ∷ [] }
+
+-- a round is seen, unless it or a later one was
+abbrev pub and_seen : {B : Type 0} → ℕ → Draft B → Draft B
+and_seen round d = if nat_lt (after d).proposer.seen round then and_move (Saw round) d else d
 
 -- where a leader proposes next, if a slot is left
 abbrev pub offer_of : {B : Type 0} → Role B → Option Offer

@@ -1,11 +1,11 @@
 ghost use Rattle.std.specs.Prelude.{◌≡◌, ◌↔◌, ◌≤◌, [], true, false, is_some, Err, IsOk, IfOk, OnOk, OnErr, IsOkUnless};
 ghost use Rattle.paxos_proposer.specs.declared.fault.ProposerFault.TheVariants.{Rounds, Memory};
-ghost use Rattle.paxos_proposer.specs.declared.moves.Move.TheVariants.{Saw, Started, Promised, Nacked, SteppedDown, Submitted};
+ghost use Rattle.paxos_proposer.specs.declared.moves.Move.TheVariants.{Started, Promised, Nacked, SteppedDown, Submitted};
 ghost use Rattle.paxos_proposer.specs.Moves.{ArePossible};
 ghost use Rattle.paxos_proposer.specs.Promises.{called_by};
 ghost use Rattle.paxos_proposer.specs.Proposals.{stands};
 ghost use Rattle.paxos_proposer.specs.Proposer.{own_ballot, is_spent, is_leading, is_below, is_refused};
-ghost use Rattle.paxos_proposer.specs.Proposing.{after, role_then, and_move, offer_of, led};
+ghost use Rattle.paxos_proposer.specs.Proposing.{after, role_then, and_move, and_seen, offer_of, led};
 ghost use Rattle.paxos_proposer.specs.State.{saw, started, after_promise, after_submit, after_nack, stepped_down};
 
 use crate::fault::ProposerFault;
@@ -142,18 +142,22 @@ impl<'a, B: Drop> Proposing<'a, B> {
         moves
     }
 
-    /// A packet with a ballot of this round came.
+    /// A packet with a ballot of this round came. Nothing is to be done where it would have seen that round or a later one.
     pub fn saw(&mut self, round: u64) -> Result<(), ProposerFault>
-        ensures ok { OnOk result (self.new ≡ and_move (Saw round) self.old) }
+        ensures ok { OnOk result (self.new ≡ and_seen round self.old) }
+        ensures before { self.new.before ≡ self.old.before }
         ensures after { OnOk result (after self.new ≡ saw round (after self.old)) }
         ensures err { OnErr result (self.new ≡ self.old) }
         ensures memory { IsOkUnless result Memory }
     {
+        if round <= self.seen {
+            return Ok(());
+        }
         if self.moves.reserve(1).is_err() {
             return Err(ProposerFault::Memory);
         }
         self.moves.push_reserved(Move::Saw { round });
-        self.seen = self.seen.max(round);
+        self.seen = round;
         Ok(())
     }
 

@@ -1,4 +1,4 @@
-use Rattle.std.proofs.Common.{◌≡◌, max, List, [], ◌∷◌, ◌++◌, ◌∙◌, ap, rules}
+use Rattle.std.proofs.Common.{◌≡◌, max, List, [], ◌∷◌, ◌++◌, ◌∙◌, ap, arith}
 use Rattle.paxos_proposer.specs.declared.moves.Move.{Move}
 use Rattle.paxos_proposer.specs.declared.moves.Move.TheVariants.{Saw}
 use Rattle.paxos_proposer.specs.Moves.{after_moves}
@@ -13,7 +13,7 @@ invariant_of-self-2 g c =
     let now : State g.row.B.Denot = after_moves c.self.inside.moves.items s in
     let items : c.push_reserved.new.self.items ≡ c.self.inside.moves.items ++ Saw c.args.round ∷ [] =
     c.push_reserved.ensures.items ∙ ap (λ (ms : List (Move g.row.B.Denot)). ms ++ Saw c.args.round ∷ []) c.reserve.ensures.items in
-    let later : c.max-self-inside.result ≡ max c.self.inside.seen c.args.round = search rules in
+    let later : c.args.round ≡ max c.self.inside.seen c.args.round = omega (arith, c.if-round-self.false) in
     d.told_more _ _ _ _ c.self.inside.moves.items _ (Saw c.args.round) s items c.self.invariant.1 tt
     (d.told_saw c.self.inside.seen c.args.round _ _ _ _ s now c.self.invariant.0 later)
 
