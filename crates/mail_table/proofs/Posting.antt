@@ -17,7 +17,7 @@ use Rattle.paxos_packets.specs.declared.packet.Packet.{Packet}
 use Rattle.mail_table.proofs.Going.{Sends, Takes, Owed, goes, still_covered, still_posted, still_counted, box_sent, owed_sent, owed_none}
 use Rattle.mail_table.proofs.Parcels.{through_more, through_else, was_empty, was_claimed}
 use Rattle.mail_table.proofs.Places.{box_below, box_tells}
-use Rattle.mail_table.specs.Boxes.{Box, claimed, full, Kept, Posted, MayPost, Sat, sits, Claims, Delivers}
+use Rattle.mail_table.specs.Boxes.{Box, claimed, full, Kept, Posted, MayPost, Sat, sits, Claims, Seeks, Delivers}
 use Rattle.mail_table.specs.Views.{box_of, only, through, is_sending, is_taking, claiming, delivering, lost}
 use Rattle.mail_table.specs.declared.part.Doing.{Doing}
 use Rattle.mail_table.specs.declared.part.Doing.TheVariants.{Idle, Sending, Taking}
@@ -57,6 +57,46 @@ module _ {B : Type 0} (same : B → B → Bool) (n : ℕ) (x : Part B) (id i : �
         posted = still_posted same n s kept id x (lost i x) at refl mx;
         counted = still_counted same n s kept id x (lost i x) at refl i (slice_index s.words i) a b ma mb is refl;
       })
+
+  -- a step that changes nothing leaves the table as it was
+  pub rests : (a b : ℕ) → IsMember n a → IsMember n b → i ≡ box_of n a b → IsMember n x.me
+      → Kept same n (stepped s i (slice_index s.words i) id [] (x ∷ []) keeps)
+  rests a b ma mb is mx =
+      goes same n s kept id x x at refl i (slice_index s.words i) s.homes
+      (subst (λ z. z < length s.words) (sym is) (let l = box_below n a b ma mb in let w = kept.wide in let q : ℕ = n * n in let l' :
+      box_of n a b < q = l in let w' : length s.words ≡ q + n = w in omega arith))
+      (record {
+        high = refl;
+        else_home = λ j d. refl;
+        sends = λ j d. record { doing = refl; posted = refl };
+        takes = λ j d. record { doing = refl; received = refl };
+        box = owed_none same n s kept id x x at refl i (slice_index s.words i) (record { doing = refl; posted = refl })
+            (record { doing = refl; received = refl }) refl;
+        covered = still_covered same n s kept id x x at refl refl;
+        posted = still_posted same n s kept id x x at refl mx;
+        counted = still_counted same n s kept id x x at refl i (slice_index s.words i) a b ma mb is refl;
+      })
+
+-- a load at a box between two members finds the word that is wanted, or the try is lost
+seeks_by : {B : Type 0} (same : B → B → Bool) (n wanted : ℕ) (x : Part B) (id i a b : ℕ) → IsMember n a → IsMember n b → i ≡ box_of n a b
+    → IsMember n x.me → (s : State (Option (Packet B)) (List (Part B))) → Kept same n s → get_elem? s.views id ≡ some (x ∷ [])
+    → (found : Bool) → Next same n s id [] i (slice_index s.words i) (λ w. MatchBool found (w ≡ sits x []) (w ≡ sits (lost i x) []))
+seeks_by same n wanted x id i a b ma mb is mx s kept at true =
+    (x ∷ [], keeps, tt, rests same n x id i s kept at a b ma mb is mx, refl)
+seeks_by same n wanted x id i a b ma mb is mx s kept at false =
+    (lost i x ∷ [], keeps, tt, loses same n x id i s kept at a b ma mb is mx, refl)
+
+-- where nothing changed the seat is as it was
+pub seat_stays : (X Y Z : Type 0) (found : Bool) → MatchBool found X Z → (X → Y) → MatchBool found Y Z
+seat_stays X Y Z true h f = f h
+seat_stays X Y Z false h f = h
+
+pub seeks_at : {B : Type 0} (same : B → B → Bool) (n slots wanted id i : ℕ) (me : Sat B) (a b : ℕ) → me ≡ sits (only me.0) [] → IsMember n a
+    → IsMember n b → i ≡ box_of n a b → IsMember n (only me.0).me
+    → Allows (Kept same n) slots id me i (λ m. m) (Seeks wanted (step slots i 0 0 none) me)
+seeks_at same n slots wanted id i me a b e ma mb is mx =
+    subst (λ z. Allows (Kept same n) slots id z i (λ m. m) (Seeks wanted (step slots i 0 0 none) z)) (sym e)
+    (λ s kept len at fits. seeks_by same n wanted (only me.0) id i a b ma mb is mx s kept at (slice_index s.words i == wanted))
 
 module _ {B : Type 0} (same : B → B → Bool) (n : ℕ) (x : Part B) (id i : ℕ) (p : Packet B) (may : MayPost n x i p) where
   low : (s : State (Option (Packet B)) (List (Part B))) → Kept same n s → (i < length s.words) × (i < length s.homes)

@@ -105,6 +105,16 @@ Fetches {B} st m found w =
     ((p : Packet B) × (p.addressee ≡ (only m.0).me) × (w ≡ sits (fetching st.word p (only m.0)) ((st.word, Some p) ∷ [])))
     (w ≡ sits (lost st.word (only m.0)) [])
 
+-- a load that finds the word a step wants changes nothing; any other loses the try
+abbrev pub Seeks : {B : Type 0} → ℕ → Step (Option (Packet B)) → Sat B → ℕ → Sat B → Type 0
+Seeks wanted st m found w = MatchBool (found == wanted) (w ≡ m) (w ≡ sits (lost st.word (only m.0)) [])
+
+abbrev pub SeeksEmpty : {B : Type 0} → Step (Option (Packet B)) → Sat B → ℕ → Sat B → Type 0
+SeeksEmpty st m found w = Seeks 0 st m found w
+
+abbrev pub SeeksFull : {B : Type 0} → Step (Option (Packet B)) → Sat B → ℕ → Sat B → Type 0
+SeeksFull st m found w = Seeks 2 st m found w
+
 abbrev pub Clears : {B : Type 0} → Step (Option (Packet B)) → Sat B → ℕ → Sat B → Type 0
 Clears st m found w = w ≡ sits (clearing (only m.0)) []
 

@@ -1,5 +1,5 @@
 //! The rule of the table, and what each step on it tells.
-ghost use Rattle.mail_table.specs.Boxes.{Kept, rising, behind_first, first_alone, Claims, Delivers, Fetches, Clears, Advances, Renews};
+ghost use Rattle.mail_table.specs.Boxes.{Kept, rising, behind_first, first_alone, Claims, SeeksEmpty, Delivers, Fetches, SeeksFull, Clears, Advances, Renews};
 
 use crate::part::View;
 use atomic_table::{Join, Play, Seat, Split, Table, TableRule};
@@ -29,6 +29,13 @@ impl<B> Play<Option<Packet<B>>, View<B>> for Claim {
     ghost then = { Claims };
 }
 
+// The box is found to be empty, or its sender's try is lost.
+pub(crate) struct SeekEmpty;
+
+impl<B> Play<Option<Packet<B>>, View<B>> for SeekEmpty {
+    ghost then = { SeeksEmpty };
+}
+
 // The packet goes into the claimed box.
 pub(crate) struct Deliver;
 
@@ -41,6 +48,13 @@ pub(crate) struct Fetch;
 
 impl<B> Play<Option<Packet<B>>, View<B>> for Fetch {
     ghost then = { Fetches };
+}
+
+// The box is found to be full, or its addressee's try is lost.
+pub(crate) struct SeekFull;
+
+impl<B> Play<Option<Packet<B>>, View<B>> for SeekFull {
+    ghost then = { SeeksFull };
 }
 
 // The box is empty again.

@@ -1,5 +1,5 @@
 //! The steps of post, fetch, advance and renew, over a table and a seat at it. None waits.
-ghost use Rattle.std.specs.Prelude.{◌≡◌, ◌<◌, ◌≤◌, ◌^◌, [], MatchResult, MatchOption};
+ghost use Rattle.std.specs.Prelude.{◌≡◌, ◌<◌, ◌≤◌, ◌^◌, [], MatchBool, MatchResult, MatchOption};
 ghost use Rattle.paxos_packets.specs.Members.{IsMember};
 ghost use Rattle.mail_table.specs.Boxes.{sits, word_of, MayPost, MayFetch, Follows};
 ghost use Rattle.mail_table.specs.Covered.{MayRenew};
@@ -8,7 +8,8 @@ ghost use Rattle.mail_table.specs.Views.{only, box_of, posting, receiving, lost,
 ghost use Rattle.paxos_node.specs.Adopting.{adopted};
 
 use crate::plays::{
-    Advance, Beginning, Boxes, Claim, Clear, Deliver, Fetch, Renew, Telling, Token,
+    Advance, Beginning, Boxes, Claim, Clear, Deliver, Fetch, Renew, SeekEmpty, SeekFull, Telling,
+    Token,
 };
 use paxos_node::Outcome;
 use paxos_packets::{Body, Packet, Rows};
@@ -33,8 +34,54 @@ pub(crate) fn word_at(nodes: u8, node: u8) -> usize
     nodes as usize * nodes as usize + (node as usize - 1)
 }
 
+// Whether the box is empty, by a load: where it isn't, its word stays with whoever works at the box, and the try is lost.
+fn is_empty<B: Body>(table: &Boxes<B>, seat: &mut Token<B>, at: usize, packet: &Packet<B>) -> bool
+    requires table { seat.old.table_id ≡ table.now.shared.table_id }
+    requires sized { IsSized table.now.shared.key table.now.shared.key table.now.shared.table_id }
+    requires alone { seat.old.me ≡ sits (only seat.old.me.0) [] }
+    requires may { MayPost table.now.shared.key (only seat.old.me.0) at packet.now }
+    ensures found { MatchBool result (seat.new ≡ seat.old) (seat.new.me ≡ sits (lost at (only seat.old.me.0)) []) }
+    ensures same { seat.new.table_id ≡ seat.old.table_id }
+{
+    let _ = packet;
+    table.shared.load::<SeekEmpty>(seat, at) == 0
+}
+
+// Whether the box is full, by a load: where it isn't, its word stays with whoever works at the box, and the try is lost.
+fn is_full<B: Body>(table: &Boxes<B>, seat: &mut Token<B>, at: usize) -> bool
+    requires table { seat.old.table_id ≡ table.now.shared.table_id }
+    requires sized { IsSized table.now.shared.key table.now.shared.key table.now.shared.table_id }
+    requires alone { seat.old.me ≡ sits (only seat.old.me.0) [] }
+    requires may { MayFetch table.now.shared.key (only seat.old.me.0) at }
+    ensures found { MatchBool result (seat.new ≡ seat.old) (seat.new.me ≡ sits (lost at (only seat.old.me.0)) []) }
+    ensures same { seat.new.table_id ≡ seat.old.table_id }
+{
+    table.shared.load::<SeekFull>(seat, at) == 2
+}
+
 // Puts the packet into the box, in one try; gives it back where the box isn't empty.
 pub(crate) fn post_in<B: Body>(
+    table: &Boxes<B>,
+    seat: &mut Token<B>,
+    at: usize,
+    packet: Packet<B>,
+) -> Result<(), Packet<B>>
+    requires table { seat.old.table_id ≡ table.now.shared.table_id }
+    requires sized { IsSized table.now.shared.key table.now.shared.key table.now.shared.table_id }
+    requires alone { seat.old.me ≡ sits (only seat.old.me.0) [] }
+    requires may { MayPost table.now.shared.key (only seat.old.me.0) at packet }
+    ensures posted { MatchResult result (λ _. seat.new.me ≡ sits (posting at packet (only seat.old.me.0)) [])
+        (λ p. (p ≡ packet) × (seat.new.me ≡ sits (lost at (only seat.old.me.0)) [])) }
+    ensures same { seat.new.table_id ≡ seat.old.table_id }
+{
+    if is_empty(table, seat, at, &packet) {
+        return claim_in(table, seat, at, packet);
+    }
+    Err(packet)
+}
+
+// The box is claimed, if it is still empty, and the packet goes in.
+fn claim_in<B: Body>(
     table: &Boxes<B>,
     seat: &mut Token<B>,
     at: usize,
@@ -65,6 +112,22 @@ pub(crate) fn fetch_from<B: Body>(
     seat: &mut Token<B>,
     at: usize,
 ) -> Option<Packet<B>>
+    requires table { seat.old.table_id ≡ table.now.shared.table_id }
+    requires sized { IsSized table.now.shared.key table.now.shared.key table.now.shared.table_id }
+    requires alone { seat.old.me ≡ sits (only seat.old.me.0) [] }
+    requires may { MayFetch table.now.shared.key (only seat.old.me.0) at }
+    ensures fetched { MatchOption result (seat.new.me ≡ sits (lost at (only seat.old.me.0)) [])
+        (λ p. (p.addressee ≡ (only seat.old.me.0).me) × (seat.new.me ≡ sits (receiving at p (only seat.old.me.0)) [])) }
+    ensures same { seat.new.table_id ≡ seat.old.table_id }
+{
+    if is_full(table, seat, at) {
+        return empty_out(table, seat, at);
+    }
+    None
+}
+
+// The packet comes out of the box, if it is still full.
+fn empty_out<B: Body>(table: &Boxes<B>, seat: &mut Token<B>, at: usize) -> Option<Packet<B>>
     requires table { seat.old.table_id ≡ table.now.shared.table_id }
     requires sized { IsSized table.now.shared.key table.now.shared.key table.now.shared.table_id }
     requires alone { seat.old.me ≡ sits (only seat.old.me.0) [] }

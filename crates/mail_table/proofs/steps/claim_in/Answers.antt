@@ -3,7 +3,7 @@ use Rattle.mail_table.proofs.Places.{box_below}
 use Rattle.mail_table.proofs.Posting.{claims_at, delivers_at, post_low}
 use Rattle.mail_table.specs.Views.{only, claiming}
 use Rattle.mail_table.specs.Boxes.{sits}
-use Rattle.mail_table.proofs.steps.post_in.Goals as goal
+use Rattle.mail_table.proofs.steps.claim_in.Goals as goal
 
 pub compare_exchange-found-requires : goal.compare_exchange-found-requires
 compare_exchange-found-requires g c = (

@@ -2,7 +2,7 @@ use Rattle.std.proofs.Common.{◌≡◌, ◌<◌, ◌+◌, ◌*◌, ◌∙◌, �
 use Rattle.mail_table.proofs.Fetching.{fetches_at, clears_at, fetch_low, fetched_here, carried, emptied_hand}
 use Rattle.mail_table.specs.Views.{only, fetching}
 use Rattle.mail_table.specs.Boxes.{sits}
-use Rattle.mail_table.proofs.steps.fetch_from.Goals as goal
+use Rattle.mail_table.proofs.steps.empty_out.Goals as goal
 
 pub compare_exchange-found-requires : goal.compare_exchange-found-requires
 compare_exchange-found-requires g c = (
