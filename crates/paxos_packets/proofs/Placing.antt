@@ -1,5 +1,5 @@
 -- Where a vote stands among votes whose slots ascend.
-use Rattle.std.proofs.Common.{◌≡◌, ℕ, zero, suc, ◌<◌, ◌≤◌, Bool, true, false, cond, Option, Some, None, is_some, List, [], ◌∷◌, ◌++◌}
+use Rattle.std.proofs.Common.{◌≡◌, ℕ, zero, suc, ◌-◌, ◌<◌, ◌≤◌, Bool, true, false, cond, Option, Some, None, is_some, List, [], ◌∷◌, ◌++◌}
 use Rattle.std.proofs.Common.{length, get_or, set, take, drop, ltb, leb, eqb, refl, ap, sym, ◌∙◌, subst, lt-ltb, eq-eqb, arith}
 use Rattle.std.proofs.lemmas.Bool.{ltb-true, eqb-true}
 use Rattle.std.proofs.lemmas.Bool.Decides.{nat_tests}
@@ -81,6 +81,15 @@ place_below slot (suc k) (v ∷ vs) d l g = go (ltb v.slot slot) (place slot vs)
     go : (b : Bool) (m : ℕ) → m ≤ k → cond b (suc m) 0 ≤ suc k
     go true m h = omega arith
     go false m h = omega arith
+
+-- behind the last vote is the last place
+pub place_last : {B : Type 0} (slot : ℕ) (last : Vote B) (vs : List (Vote B)) → Ascends vs → 0 < length vs
+    → last ≡ get_or vs (length vs - 1) last → last.slot < slot → length vs ≡ place slot vs
+place_last {B = B} slot last vs h l e g =
+    let m : (get_or vs (length vs - 1) last).slot < slot = subst (λ (v : Vote B). v.slot < slot) e g in
+    let a : length vs - 1 < place slot vs = place_above slot (length vs - 1) vs last h (omega arith) m in
+    let b : place slot vs ≤ length vs = place_le slot vs in
+    omega arith
 
 -- what stands in front of the place is lower
 pub place_reaches : {B : Type 0} (slot k : ℕ) (vs : List (Vote B)) (d : Vote B) → k < length vs → k < place slot vs

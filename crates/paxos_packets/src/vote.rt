@@ -1,5 +1,5 @@
 ghost use Rattle.std.specs.Prelude.{◌≡◌, ◌+◌, ◌<◌, ◌≤◌, ℕ, [], ◌∷◌, ◌++◌, length, None, option_copied, is_some, is_ok};
-ghost use Rattle.std.specs.Prelude.{IsOk, vec_len, vec_capacity, IfOk, IfErr, OnOk, OnErr};
+ghost use Rattle.std.specs.Prelude.{IsOk, IsTrue, vec_len, vec_capacity, IfOk, IfErr, OnOk, OnErr};
 ghost use Rattle.std.specs.Cmp.Lexicographic.{pointwise};
 ghost use Rattle.paxos_packets.specs.Vote.{same_vote, vote_equality, votes_equality, IsAscending, place, vote_in};
 ghost use Rattle.paxos_packets.specs.Vote.{put_vote, put_votes, votes_from};
@@ -86,9 +86,9 @@ impl<B> Votes<B> {
 }
 
 impl<B: Drop> Votes<B> {
-    /// Puts the vote into its slot, in the place of the one that stands there. It is found in a number of steps that is logarithmic in
-    /// the number of votes; only a vote for a new slot takes memory, and moves the votes of later slots. With `Memory`, which only
-    /// comes where the slot had no vote, the votes are as they were.
+    /// Puts the vote into its slot, in the place of the one that stands there. Behind all others that takes a constant number of steps; else
+    /// its place is found in a number that is logarithmic in the number of votes. Only a vote for a new slot takes memory, and moves the votes
+    /// of later slots. With `Memory`, which only comes where the slot had no vote, the votes are as they were.
     pub fn put(&mut self, vote: Vote<B>) -> Result<(), Memory>
         ensures ok { OnOk result (self.new ≡ put_vote vote self.old) }
         ensures err { OnErr result (self.new ≡ self.old) }
@@ -157,13 +157,28 @@ impl<B: Body> Body for Vote<B> {
     ghost sound = { (vote_equality B.same (record { reflexive = B.reflexive; sound = B.sound })).sound };
 }
 
-// How many of the votes stand in front of the slot with this number. Takes a number of steps that is logarithmic in their number.
+// How many of the votes stand in front of the slot with this number. Takes a constant number of steps where all do, as in front of the slot
+// that is voted for next, and else a number that is logarithmic in theirs.
 fn place_of<B>(votes: &[Vote<B>], slot: u64) -> usize
     requires { IsAscending votes.now }
     ensures place { result ≡ place slot votes.now }
     ensures within { result ≤ length votes.now }
 {
+    if is_behind(votes, slot) {
+        return votes.len();
+    }
     votes.partition_point(|vote| vote.slot.get() < slot)
+}
+
+// Whether the slot with this number stands behind the last of the votes.
+fn is_behind<B>(votes: &[Vote<B>], slot: u64) -> bool
+    requires { IsAscending votes.now }
+    ensures { IsTrue result → length votes.now ≡ place slot votes.now }
+{
+    match votes.last() {
+        Some(last) => last.slot.get() < slot,
+        None => false,
+    }
 }
 
 // Where the vote of the slot stands, or else where it would.
