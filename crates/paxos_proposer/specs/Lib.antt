@@ -3,6 +3,7 @@ pub mod Identity
 pub mod Moves
 pub mod Promises
 pub mod Proposals
+pub mod Proposed
 pub mod Proposer
 pub mod Proposing
 pub mod Reports

@@ -9,6 +9,7 @@ mod moves;
 mod phase;
 mod promises;
 mod proposals;
+mod proposed;
 mod proposer;
 mod proposing;
 mod reports;

@@ -11,7 +11,7 @@ ghost use Rattle.paxos_proposer.specs.State.{saw, started, after_promise, after_
 use crate::fault::ProposerFault;
 use crate::moves::Move;
 use crate::phase::Phase;
-use crate::proposals::Proposals;
+use crate::proposed::Proposed;
 use crate::proposer::{LAST_ROUND, Proposer};
 use paxos_packets::{Ballot, Body, Entries, Entry, Slot, Vote, Votes};
 use std::alloc::Global;
@@ -37,7 +37,7 @@ pub struct Proposing<'a, B> {
     phase: Phase,
     // Whether what was proposed before still stands in the ballot under way, and what more is proposed in it.
     goes_on: bool,
-    proposed: Proposals<B>,
+    proposed: Proposed<B>,
 }
 
 impl<'a, B> Model for Proposing<'a, B> {
@@ -65,7 +65,7 @@ impl<'a, B> Proposing<'a, B> {
             seen: proposer.seen(),
             phase: proposer.phase(),
             goes_on: true,
-            proposed: Proposals::new(alloc),
+            proposed: Proposed::new(alloc),
         }
     }
 
@@ -290,7 +290,7 @@ impl<'a, B: Body> Proposing<'a, B> {
         let (Ok(kept), Ok(copy)) = (entry.copy(self.alloc), entry.copy(self.alloc)) else {
             return Err(ProposerFault::Memory);
         };
-        if self.moves.reserve(1).is_err() || self.proposed.reserve(1).is_err() {
+        if self.moves.reserve(1).is_err() || self.proposed.make_room().is_err() {
             return Err(ProposerFault::Memory);
         }
         self.moves.push_reserved(Move::Submitted { entry: copy });

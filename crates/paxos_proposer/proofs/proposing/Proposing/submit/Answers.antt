@@ -25,7 +25,7 @@ invariant_of-self-2 g c =
     let slot : c.in-Some.slot ≡ c.in-Leading.next = search rules in
     let votes : c.push_reserved-2.new.self.votes ≡ c.self.inside.proposed.votes ++ next_vote c.in-Leading.ballot c.in-Leading.next c.args.entry.now ∷ [] =
     c.push_reserved-2.ensures.votes
-    ∙ ap (λ (vs : List (Vote g.row.B.Denot)). vs ++ record { slot = c.in-Some.slot; ballot = c.in-Leading.ballot; entry = c.in-Ok-Ok.kept } ∷ []) c.reserve-else-is_err.ensures.votes
+    ∙ ap (λ (vs : List (Vote g.row.B.Denot)). vs ++ record { slot = c.in-Some.slot; ballot = c.in-Leading.ballot; entry = c.in-Ok-Ok.kept } ∷ []) c.make_room.ensures.votes
     ∙ (λ i. c.self.inside.proposed.votes ++ record { slot = slot i; ballot = c.in-Leading.ballot; entry = kept i } ∷ []) in
     let phase : c.self.inside.phase ≡ Kept.Leading c.in-Leading.ballot c.in-Leading.next = c.in-Leading.is in
     let told : IsTold c.self.inside.seen (Kept.Leading c.in-Leading.ballot c.in-Leading.next) c.self.inside.goes_on c.self.inside.proposed.votes s now =
