@@ -10,7 +10,8 @@ ghost use Rattle.paxos_learner.specs.Tallies.{nodes_heard, same_place};
 
 use crate::changes::Changes;
 use crate::fault::LearnerFault;
-use crate::learned::{LearnedEntries, LearnedEntry};
+use crate::gained::Gained;
+use crate::learned::LearnedEntry;
 use crate::learner::Learner;
 use crate::tallies::Place;
 use paxos_packets::{Body, Entries, Entry, NodeSet, Slot, Vote};
@@ -38,7 +39,7 @@ pub struct Hearing<'a, B> {
     news: Vec<News<B>>,
     // The sets of members at the places where one was heard, and the entries that were not learned before.
     changed: Changes,
-    gained: LearnedEntries<B>,
+    gained: Gained<B>,
 }
 
 impl<'a, B> Model for Hearing<'a, B> {
@@ -64,7 +65,7 @@ impl<'a, B> Hearing<'a, B> {
             learner,
             news: Vec::new(alloc),
             changed: Changes::new(alloc),
-            gained: LearnedEntries::new(alloc),
+            gained: Gained::new(alloc),
         }
     }
 
@@ -277,7 +278,7 @@ fn nodes_over<B>(learner: &Learner<B>, changed: &Changes, place: &Place) -> Node
 // The entry that would be learned in the slot.
 fn find_over<'a, B>(
     learner: &'a Learner<B>,
-    gained: &'a LearnedEntries<B>,
+    gained: &'a Gained<B>,
     slot: Slot,
 ) -> Option<&'a Entry<B>>
     ensures { option_copied result ≡ over slot gained.now.learned learner.now.state.learner.learned }
@@ -292,7 +293,7 @@ fn find_over<'a, B>(
 fn gain<B: Body>(
     alloc: Global,
     learner: &Learner<B>,
-    gained: &mut LearnedEntries<B>,
+    gained: &mut Gained<B>,
     slot: Slot,
     entry: &Entry<B>,
 ) -> Result<bool, LearnerFault>

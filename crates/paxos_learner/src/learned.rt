@@ -1,4 +1,4 @@
-ghost use Rattle.std.specs.Prelude.{◌≡◌, ℕ, true, [], None, OnOk, OnErr, IsOkUnless, option_copied};
+ghost use Rattle.std.specs.Prelude.{◌≡◌, ℕ, true, [], None, IsTrue, OnOk, OnErr, IsOkUnless, option_copied};
 ghost use Rattle.paxos_learner.specs.declared.fault.LearnerFault.TheVariants.{Memory};
 ghost use Rattle.paxos_learner.specs.Learned.{has_place, placed, AreRising, KeepsPlaces, Rises};
 ghost use Rattle.paxos_learner.specs.Learner.{learned_at, put_learned};
@@ -44,6 +44,13 @@ impl<B> LearnedEntries<B> {
             run: Vec::new(alloc),
             ahead: BTreeMap::new(alloc),
         }
+    }
+
+    // Whether nothing was learned, and no place is kept.
+    pub(crate) fn is_empty(&self) -> bool
+        ensures { IsTrue result → self.now.learned ≡ [] }
+    {
+        self.run.is_empty() && self.ahead.is_empty()
     }
 
     // The entries stand by ascending slot.

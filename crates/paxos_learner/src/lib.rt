@@ -4,6 +4,7 @@
 
 mod changes;
 mod fault;
+mod gained;
 mod hearing;
 mod learned;
 mod learner;
