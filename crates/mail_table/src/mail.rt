@@ -55,7 +55,7 @@ impl<B: Body> Mail<B> {
     }
 
     /// Puts the packet into the box to another node, in one try: the packet is one that the seat's node sent to it. Gives it back where the
-    /// box isn't empty. Two atomic steps and one move of the packet.
+    /// box isn't empty. A load of the box's word; where that finds it empty, two atomic steps and one move of the packet.
     pub fn post(&self, seat: &mut NodeSeat<B>, to: u8, packet: Packet<B>) -> Result<(), Packet<B>>
         requires owned { Owns self.now seat.old }
         requires member { IsMember self.now.members to }
@@ -71,8 +71,8 @@ impl<B: Body> Mail<B> {
         post_in(&self.table, &mut seat.seat, at, packet)
     }
 
-    /// Takes the packet out of the box from another node, in one try; `None` where the box isn't full. Two atomic steps and one move of the
-    /// packet.
+    /// Takes the packet out of the box from another node, in one try; `None` where the box isn't full. A load of the box's word; where that
+    /// finds it full, two atomic steps and one move of the packet.
     pub fn fetch(&self, seat: &mut NodeSeat<B>, from: u8) -> Option<Packet<B>>
         requires owned { Owns self.now seat.old }
         requires member { IsMember self.now.members from }
