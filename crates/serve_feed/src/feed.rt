@@ -19,8 +19,8 @@ use std::sync::Arc;
 const MOST_UNDER_WAY: u32 = 1000;
 
 /// The same at a node that does not lead. It forwards all its pending entries with each act, and a leader that has applied one by then proposes
-/// it again, in vain: with many under way nearly all slots would go so.
-const MOST_FORWARDED: u32 = 2;
+/// it again, in vain: with many under way nearly all slots would go so, with these one in a hundred.
+const MOST_FORWARDED: u32 = 4;
 
 /// How many arrivals are taken in a round at the most; their ring has room for so many.
 const MOST_ARRIVALS: u8 = 64;
