@@ -327,7 +327,7 @@ fn acts<F: Feed<Act, Say>, G: Gate>(
     holds_back(rt, alloc, gate, feed, lobby, one)
 }
 
-// While entries are pending a node that does not lead gives two acts, and one that leads goes on, but while too many packets wait for another.
+// While entries are pending a node that does not lead gives four acts, and one that leads goes on, but while too many packets wait for another.
 fn holds_back<F: Feed<Act, Say>, G: Gate>(
     rt: &impl Abort,
     alloc: Global,
@@ -336,12 +336,12 @@ fn holds_back<F: Feed<Act, Say>, G: Gate>(
     lobby: &Lobby,
     client: &mut Client,
 ) -> Result<(), Fail> {
-    let sent = send(alloc, client, "SSSSS")?;
+    let sent = send(alloc, client, "SSSSSSS")?;
     lobby.stir();
     let mut seen = quiet();
     seen.pending = true;
     assert!(rt; sent);
-    assert_eq!(rt; round(alloc, gate, feed, &seen)?.as_str(), "1S1S");
+    assert_eq!(rt; round(alloc, gate, feed, &seen)?.as_str(), "1S1S1S1S");
     assert_eq!(rt; round(alloc, gate, feed, &seen)?.as_str(), "");
     seen.leads = true;
     seen.waiting[2] = 257;
