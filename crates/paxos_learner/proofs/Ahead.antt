@@ -1,17 +1,17 @@
--- What was learned as a run and what stands ahead of it, with free places: where an entry is found, and where one is put.
+-- The places of a run and those ahead of it: where an entry is found, where one is put, and which slots have a place.
 use Rattle.std.proofs.Common.{◌≡◌, ℕ, zero, suc, ◌+◌, ◌<◌, ◌≤◌, Bool, true, false, cond, ◌||◌, Option, Some, None, List, [], ◌∷◌, ◌++◌}
-use Rattle.std.proofs.Common.{Ordering, Less, Equal, Greater, length, get_or, ltb, eqb, refl, ap, sym, ◌∙◌, subst, lt-ltb, eq-eqb, arith, is_some, option_copied, Bor}
+use Rattle.std.proofs.Common.{Ordering, Less, Equal, Greater, length, get_or, set, ltb, eqb, refl, ap, sym, ◌∙◌, subst, lt-ltb, eq-eqb, arith, is_some}
 use Rattle.std.proofs.lemmas.Bool.{ltb-true, eqb-true}
 use Rattle.std.proofs.lemmas.Bool.Decides.{nat_tests}
 use Rattle.std.specs.Ordering.{nat_cmp, is_eq, match_ordering}
 use Rattle.std.specs.Prelude.{option_map, ◌==◌, ◌^◌}
 use Rattle.std.specs.Option.{option_flatten}
-use Rattle.std.specs.List.{find, list_any, slice_get}
+use Rattle.std.specs.List.{find, list_any}
 use Rattle.std.specs.Map.{lookup, keys_of}
 use Rattle.std.specs.BTreeMap.{insert_entry, is_at}
 use Rattle.paxos_packets.specs.declared.entry.Entry.{Entry}
 use Rattle.paxos_learner.specs.declared.learned.LearnedEntry.{LearnedEntry}
-use Rattle.paxos_learner.specs.Learned.{numbered, placed, placed_in, run_then, shelf_of, AreRising, is_learned, has_place, KeepsPlaces}
+use Rattle.paxos_learner.specs.Learned.{placed, placed_in, places_from, all_places, shelf_with, shelf_of, starts_at, AreRising, is_learned, has_place, KeepsPlaces}
 use Rattle.paxos_learner.specs.Learner.{learned_at, put_learned}
 
 abbrev Places : Type 0 → Type 0
@@ -22,16 +22,6 @@ not_eq a b h = grind (arith, nat_tests)
 
 not_lt : (a b : ℕ) → b ≤ a → ltb a b ≡ false
 not_lt a b h = grind (arith, nat_tests)
-
-apart : (a b : ℕ) → eqb a b ≡ false → b ≤ a → b < a
-apart a b e l = grind (arith, nat_tests)
-
-differ : {a b : ℕ} → a ≡ b → eqb a b ≡ false → ⊥
-differ {a} {b} p e = let k = eq-eqb a b p in cc
-
-pub longer : {X : Type 0} (xs : List X) (x : X) → length (xs ++ x ∷ []) ≡ length xs + 1
-longer [] x = refl
-longer (y ∷ ys) x = let h = longer ys x in omega arith
 
 -- places that rise
 
@@ -52,21 +42,6 @@ rising_put {X} n slot x (p ∷ ps) l m a = go (ltb slot p.0) (eqb slot p.0) refl
     go false false b c more = (a.0, more (grind (arith, nat_tests)) a.1)
 
 -- an entry is found
-
-pub in_run : {B : Type 0} (n slot i : ℕ) (run : List (Entry B)) (rest : List (LearnedEntry B)) (e : Entry B) → slot ≡ n + i
-    → i < length run → e ≡ get_or run i e → Some e ≡ learned_at slot (numbered n run ++ rest)
-in_run n slot i [] rest e p l q = absurd (omega arith)
-in_run n slot zero (x ∷ xs) rest e p l q = rw (eq-eqb n slot (omega arith)) (ap Some q)
-in_run n slot (suc i) (x ∷ xs) rest e p l q =
-    let f : eqb n slot ≡ false = not_eq n slot (λ h. omega arith) in
-    rw f (in_run (suc n) slot i xs rest e (omega arith) (omega arith) q)
-
-pub behind_run : {B : Type 0} (n slot : ℕ) (run : List (Entry B)) (rest : List (LearnedEntry B)) → n + length run ≤ slot
-    → learned_at slot rest ≡ learned_at slot (numbered n run ++ rest)
-behind_run n slot [] rest l = refl
-behind_run n slot (x ∷ xs) rest l =
-    let f : eqb n slot ≡ false = not_eq n slot (λ h. omega arith) in
-    rw f (behind_run (suc n) slot xs rest (omega arith))
 
 is_eq_cmp : (a b : ℕ) → is_eq (nat_cmp a b) ≡ eqb b a
 is_eq_cmp a b = go (ltb a b) (eqb a b) (eqb b a) refl refl refl
@@ -111,22 +86,6 @@ learned_is {B} slot (l ∷ ls) = go (eqb l.slot slot) (learned_is slot ls)
     go true h = refl
     go false h = h
 
-pub unlearned : {B : Type 0} (n slot : ℕ) (run : List (Entry B)) (rest : List (LearnedEntry B)) → n ≤ slot
-    → learned_at slot (numbered n run ++ rest) ≡ None → (n + length run ≤ slot) × (learned_at slot rest ≡ None)
-unlearned n slot [] rest l h = (omega arith, h)
-unlearned {B} n slot (x ∷ xs) rest l h = go (eqb n slot) refl (λ m k. unlearned (suc n) slot xs rest m k)
-  where
-    go : (b : Bool) → eqb n slot ≡ b
-        → (suc n ≤ slot → learned_at slot (numbered (suc n) xs ++ rest) ≡ None → (suc n + length xs ≤ slot) × (learned_at slot rest ≡ None))
-        → (n + suc (length xs) ≤ slot) × (learned_at slot rest ≡ None)
-    go true e more = let k = rw e at h in absurd (cc)
-    go false e more =
-        let k = rw e at h in
-        let m : n < slot = apart slot n (not_eq slot n (λ q. differ (sym q) e)) l in
-        let r = more (omega arith) k in
-        let s : suc n + length xs ≤ slot = r.0 in
-        (omega arith, r.1)
-
 -- an entry is put
 
 put_first : {B : Type 0} (slot n : ℕ) (e : Entry B) (ps : Places B) → slot ≤ n → AreRising n ps
@@ -142,7 +101,7 @@ put_first {B} slot n e (p ∷ ps) l a = go p.1 (put_first slot p.0 e ps (let k :
     go None h = h
     go (Some y) h = let k : n < p.0 = a.0 in rw (not_lt p.0 slot (omega arith)) refl
 
-put_among : {B : Type 0} (slot n : ℕ) (e : Entry B) (ps : Places B) → AreRising n ps → learned_at slot (placed ps) ≡ None
+pub put_among : {B : Type 0} (slot n : ℕ) (e : Entry B) (ps : Places B) → AreRising n ps → learned_at slot (placed ps) ≡ None
     → placed (insert_entry nat_cmp ps slot (Some e)) ≡ put_learned (record { slot = slot; entry = e }) (placed ps)
 put_among slot n e [] a h = refl
 put_among {B} slot n e (p ∷ ps) a h = go (ltb slot p.0) (eqb slot p.0) refl refl p.1 h (put_among slot p.0 e ps a.1)
@@ -168,17 +127,9 @@ put_among {B} slot n e (p ∷ ps) a h = go (ltb slot p.0) (eqb slot p.0) refl re
         let k = rw n at f in
         rw (lt-ltb p.0 slot j) (ap (λ (ls : List (LearnedEntry B)). record { slot = p.0; entry = d } ∷ ls) (more k))
 
-pub put_ahead : {B : Type 0} (n slot : ℕ) (e : Entry B) (run : List (Entry B)) (ps : Places B) → n + length run ≤ slot → AreRising (length run) ps
-    → learned_at slot (placed ps) ≡ None
-    → numbered n run ++ placed (insert_entry nat_cmp ps slot (Some e)) ≡ put_learned (record { slot = slot; entry = e }) (numbered n run ++ placed ps)
-put_ahead n slot e [] ps l a h = put_among slot 0 e ps a h
-put_ahead {B} n slot e (x ∷ xs) ps l a h =
-    rw (lt-ltb n slot (omega arith)) (ap (λ (ls : List (LearnedEntry B)). record { slot = n; entry = x } ∷ ls)
-    (put_ahead (suc n) slot e xs ps (omega arith) (lower (length xs) (suc (length xs)) ps (omega arith) a) h))
-
 -- a place is kept
 
-kept_among : {B : Type 0} (slot : ℕ) (ps : Places B) → lookup (is_at (nat_cmp slot)) ps ≡ None
+pub kept_among : {B : Type 0} (slot : ℕ) (ps : Places B) → lookup (is_at (nat_cmp slot)) ps ≡ None
     → placed (insert_entry nat_cmp ps slot None) ≡ placed ps
 kept_among slot [] h = refl
 kept_among {B} slot (p ∷ ps) h = go (nat_cmp slot p.0) h (kept_among slot ps)
@@ -190,25 +141,71 @@ kept_among {B} slot (p ∷ ps) h = go (nat_cmp slot p.0) h (kept_among slot ps)
     go Equal f more = absurd (cc)
     go Greater f more = ap (λ ls. placed_in p.0 p.1 ls) (more f)
 
-pub kept_ahead : {B : Type 0} (slot : ℕ) (run : List (Entry B)) (ps : Places B) → lookup (is_at (nat_cmp slot)) ps ≡ None
-    → run_then run (insert_entry nat_cmp ps slot None) ≡ run_then run ps
-kept_ahead slot run ps h = ap (λ ls. numbered 1 run ++ ls) (kept_among slot ps h)
+-- the places of a run, in front of others
 
--- the first entry ahead moves to the run's end
+pub all_rise : {B : Type 0} (n : ℕ) (run : List (Option (Entry B))) (ps : Places B) → AreRising (n + length run) ps
+    → AreRising n (places_from (suc n) run ++ ps)
+all_rise n [] ps a = lower n (n + 0) ps (omega arith) a
+all_rise n (o ∷ os) ps a = (omega arith, all_rise (suc n) os ps (lower (suc n + length os) (n + suc (length os)) ps (omega arith) a))
 
-pub moved : {B : Type 0} (n k : ℕ) (e : Entry B) (run : List (Entry B)) (ps : Places B) → k ≡ n + length run
-    → numbered n (run ++ e ∷ []) ++ placed ps ≡ numbered n run ++ placed ((k, Some e) ∷ ps)
-moved {B} n k e [] ps p =
-    let q : n ≡ k = omega arith in
-    ap (λ (s : ℕ). record { slot = s; entry = e } ∷ placed ps) q
-moved {B} n k e (x ∷ xs) ps p =
-    ap (λ (ls : List (LearnedEntry B)). record { slot = n; entry = x } ∷ ls) (moved (suc n) k e xs ps (omega arith))
+pub whole_rises : {B : Type 0} (run : List (Option (Entry B))) (ps : Places B) → AreRising (length run) ps → AreRising 0 (all_places run ps)
+whole_rises run ps a = all_rise 0 run ps (lower (0 + length run) (length run) ps (omega arith) a)
 
-pub moved_above : {B : Type 0} (k : ℕ) (e : Entry B) (run : List (Entry B)) (ps : Places B) → k ≡ length run + 1
-    → AreRising (length run) ((k, Some e) ∷ ps) → AreRising (length (run ++ e ∷ [])) ps
-moved_above {B} k e run ps p a =
-    let m : k ≡ length (run ++ e ∷ []) = (let n = longer run e in omega arith) in
-    subst (λ (s : ℕ). AreRising s ps) m a.1
+pub look_run : {B : Type 0} (n slot i : ℕ) (run : List (Option (Entry B))) (rest : Places B) (d : Option (Entry B)) → slot ≡ n + i
+    → i < length run → lookup (is_at (nat_cmp slot)) (places_from n run ++ rest) ≡ Some (get_or run i d)
+look_run n slot i [] rest d p l = absurd (omega arith)
+look_run n slot zero (o ∷ os) rest d p l = rw (is_eq_cmp slot n, eq-eqb n slot (omega arith)) refl
+look_run n slot (suc i) (o ∷ os) rest d p l =
+    let f : eqb n slot ≡ false = not_eq n slot (λ h. omega arith) in
+    rw (is_eq_cmp slot n, f) (look_run (suc n) slot i os rest d (omega arith) (omega arith))
+
+pub look_behind : {B : Type 0} (n slot : ℕ) (run : List (Option (Entry B))) (rest : Places B) → n + length run ≤ slot
+    → lookup (is_at (nat_cmp slot)) (places_from n run ++ rest) ≡ lookup (is_at (nat_cmp slot)) rest
+look_behind n slot [] rest l = refl
+look_behind n slot (o ∷ os) rest l =
+    let f : eqb n slot ≡ false = not_eq n slot (λ h. omega arith) in
+    rw (is_eq_cmp slot n, f) (look_behind (suc n) slot os rest (omega arith))
+
+pub set_run : {B : Type 0} (n slot i : ℕ) (x : Option (Entry B)) (run : List (Option (Entry B))) (rest : Places B) → slot ≡ n + i
+    → i < length run → places_from n (set run i x) ++ rest ≡ insert_entry nat_cmp (places_from n run ++ rest) slot x
+set_run n slot i x [] rest p l = absurd (omega arith)
+set_run n slot zero x (o ∷ os) rest p l = rw (not_lt slot n (omega arith), eq-eqb slot n (omega arith)) refl
+set_run {B} n slot (suc i) x (o ∷ os) rest p l =
+    let f : eqb slot n ≡ false = not_eq slot n (λ h. omega arith) in
+    rw (not_lt slot n (omega arith), f)
+    (ap (λ (ps : Places B). (n, o) ∷ ps) (set_run (suc n) slot i x os rest (omega arith) (omega arith)))
+
+pub put_behind : {B : Type 0} (n slot : ℕ) (x : Option (Entry B)) (run : List (Option (Entry B))) (rest : Places B) → n + length run ≤ slot
+    → places_from n run ++ insert_entry nat_cmp rest slot x ≡ insert_entry nat_cmp (places_from n run ++ rest) slot x
+put_behind n slot x [] rest l = refl
+put_behind {B} n slot x (o ∷ os) rest l =
+    let f : eqb slot n ≡ false = not_eq slot n (λ h. omega arith) in
+    rw (not_lt slot n (omega arith), f)
+    (ap (λ (ps : Places B). (n, o) ∷ ps) (put_behind (suc n) slot x os rest (omega arith)))
+
+-- an entry is found in the run, or behind it
+
+pub in_run : {B : Type 0} (slot i : ℕ) (run : List (Option (Entry B))) (ps : Places B) (o : Option (Entry B)) → slot ≡ 1 + i → i < length run
+    → o ≡ get_or run i o → AreRising (length run) ps → o ≡ learned_at slot (placed (all_places run ps))
+in_run slot i run ps o p l q a =
+    ap option_flatten (ap Some q ∙ sym (look_run 1 slot i run ps o p l)) ∙ in_ahead slot 0 (all_places run ps) (whole_rises run ps a)
+
+pub past_run : {B : Type 0} (slot : ℕ) (run : List (Option (Entry B))) (ps : Places B) → 1 + length run ≤ slot → AreRising (length run) ps
+    → learned_at slot (placed ps) ≡ learned_at slot (placed (all_places run ps))
+past_run slot run ps l a =
+    sym (in_ahead slot 0 ps (lower 0 (length run) ps (omega arith) a)) ∙ ap option_flatten (sym (look_behind 1 slot run ps l))
+    ∙ in_ahead slot 0 (all_places run ps) (whole_rises run ps a)
+
+-- the run goes on by a place
+
+pub moved : {B : Type 0} (n k : ℕ) (o : Option (Entry B)) (run : List (Option (Entry B))) (ps : Places B) → k ≡ n + length run
+    → places_from n (run ++ o ∷ []) ++ ps ≡ places_from n run ++ (k, o) ∷ ps
+moved {B} n k o [] ps p = let q : n ≡ k = omega arith in ap (λ (s : ℕ). (s, o) ∷ ps) q
+moved {B} n k o (x ∷ xs) ps p = ap (λ (qs : Places B). (n, x) ∷ qs) (moved (suc n) k o xs ps (omega arith))
+
+pub free_placed : {B : Type 0} (k : ℕ) (xs ys : Places B) → placed (xs ++ (k, None) ∷ ys) ≡ placed (xs ++ ys)
+free_placed k [] ys = refl
+free_placed k (x ∷ xs) ys = ap (λ ls. placed_in x.0 x.1 ls) (free_placed k xs ys)
 
 -- slots with a place
 
@@ -247,11 +244,6 @@ or_both : (a b c d : Bool) → (a ≡ true → c ≡ true) → (b ≡ true → d
 or_both true b c d f g h = or_left c d (f refl)
 or_both false b c d f g h = or_right c d (g h)
 
-or_gone : (a b c : Bool) → (b ≡ true → a ≡ true) → (a || (b || c)) ≡ true → (a || c) ≡ true
-or_gone true b c f h = refl
-or_gone false true c f h = absurd (let k = f refl in cc)
-or_gone false false c f h = h
-
 key_stays : {X : Type 0} (other slot : ℕ) (x : X) (ps : List (ℕ × X)) → list_any (λ k. k == other) (keys_of ps) ≡ true
     → list_any (λ k. k == other) (keys_of (insert_entry nat_cmp ps slot x)) ≡ true
 key_stays other slot x [] h = absurd (cc)
@@ -274,38 +266,96 @@ learned_stays {B} other l (m ∷ ms) h = go (ltb m.slot l.slot) (learned_stays o
     go true more = or_then (eqb m.slot other) _ _ h more
     go false more = or_right (eqb l.slot other) _ h
 
-learned_in : {B : Type 0} (k : ℕ) (e : Entry B) (xs ys : List (LearnedEntry B)) → is_learned k (xs ++ record { slot = k; entry = e } ∷ ys) ≡ true
-learned_in k e [] ys = or_left (eqb k k) _ (eq-eqb k k refl)
-learned_in k e (x ∷ xs) ys = or_right (eqb x.slot k) _ (learned_in k e xs ys)
-
 -- the slot has its place after it was kept, and no other loses its own
 
-pub place_kept : {B : Type 0} (slot : ℕ) (run : List (Entry B)) (ps : Places B)
-    → has_place slot (run_then run (insert_entry nat_cmp ps slot None)) (keys_of (insert_entry nat_cmp ps slot None)) ≡ true
-place_kept slot run ps = or_right (is_learned slot (run_then run (insert_entry nat_cmp ps slot None))) _ (key_put slot None ps)
+pub place_kept : {B : Type 0} (slot : ℕ) (ps : Places B)
+    → has_place slot (placed (insert_entry nat_cmp ps slot None)) (keys_of (insert_entry nat_cmp ps slot None)) ≡ true
+place_kept slot ps = or_right (is_learned slot (placed (insert_entry nat_cmp ps slot None))) _ (key_put slot None ps)
 
-pub keeps_kept : {B : Type 0} (slot : ℕ) (run : List (Entry B)) (ps : Places B) → lookup (is_at (nat_cmp slot)) ps ≡ None
-    → KeepsPlaces (shelf_of run ps) (shelf_of run (insert_entry nat_cmp ps slot None))
-keeps_kept {B} slot run ps h other =
-    or_both (is_learned other (run_then run ps)) _ _ _
-    (λ g. subst (λ (ls : List (LearnedEntry B)). is_learned other ls ≡ true) (sym (kept_ahead slot run ps h)) g)
+pub keeps_kept : {B : Type 0} (slot : ℕ) (ps : Places B) → lookup (is_at (nat_cmp slot)) ps ≡ None
+    → KeepsPlaces (shelf_with ps) (shelf_with (insert_entry nat_cmp ps slot None))
+keeps_kept {B} slot ps h other =
+    or_both (is_learned other (placed ps)) _ _ _
+    (λ g. subst (λ (ls : List (LearnedEntry B)). is_learned other ls ≡ true) (sym (kept_among slot ps h)) g)
     (λ g. key_stays other slot None ps g)
 
-pub keeps_put : {B : Type 0} (slot : ℕ) (e : Entry B) (run : List (Entry B)) (ps : Places B)
-    → run_then run (insert_entry nat_cmp ps slot (Some e)) ≡ put_learned (record { slot = slot; entry = e }) (run_then run ps)
-    → KeepsPlaces (shelf_of run ps) (shelf_of run (insert_entry nat_cmp ps slot (Some e)))
-keeps_put {B} slot e run ps q other =
-    or_both (is_learned other (run_then run ps)) _ _ _
+pub keeps_put : {B : Type 0} (slot : ℕ) (e : Entry B) (ps : Places B)
+    → placed (insert_entry nat_cmp ps slot (Some e)) ≡ put_learned (record { slot = slot; entry = e }) (placed ps)
+    → KeepsPlaces (shelf_with ps) (shelf_with (insert_entry nat_cmp ps slot (Some e)))
+keeps_put {B} slot e ps q other =
+    or_both (is_learned other (placed ps)) _ _ _
     (λ g. subst (λ (ls : List (LearnedEntry B)). is_learned other ls ≡ true) (sym q) (learned_stays other (record { slot = slot; entry = e }) _ g))
     (λ g. key_stays other slot (Some e) ps g)
 
-pub keeps_moved : {B : Type 0} (k : ℕ) (e : Entry B) (run : List (Entry B)) (ps : Places B) → k ≡ length run + 1
-    → KeepsPlaces (shelf_of run ((k, Some e) ∷ ps)) (shelf_of (run ++ e ∷ []) ps)
-keeps_moved {B} k e run ps p other h =
-    subst (λ (ls : List (LearnedEntry B)). (is_learned other ls || list_any (λ k. k == other) (keys_of ps)) ≡ true)
-    (sym (moved 1 k e run ps (omega arith)))
-    (or_gone (is_learned other (run_then run ((k, Some e) ∷ ps))) (eqb k other) _
-    (λ g. subst (λ (s : ℕ). is_learned s (run_then run ((k, Some e) ∷ ps)) ≡ true) (eqb-true k other g) (learned_in k e (numbered 1 run) (placed ps))) h)
+key_beside : {X : Type 0} (other : ℕ) (p : ℕ × X) (xs ys : List (ℕ × X)) → list_any (λ k. k == other) (keys_of (xs ++ ys)) ≡ true
+    → list_any (λ k. k == other) (keys_of (xs ++ p ∷ ys)) ≡ true
+key_beside other p [] ys h = or_right (eqb p.0 other) _ h
+key_beside other p (x ∷ xs) ys h = or_then (eqb x.0 other) _ _ h (key_beside other p xs ys)
+
+pub keeps_free : {B : Type 0} (k : ℕ) (xs ys : Places B) → KeepsPlaces (shelf_with (xs ++ ys)) (shelf_with (xs ++ (k, None) ∷ ys))
+keeps_free {B} k xs ys other =
+    or_both (is_learned other (placed (xs ++ ys))) _ _ _
+    (λ g. subst (λ (ls : List (LearnedEntry B)). is_learned other ls ≡ true) (sym (free_placed k xs ys)) g)
+    (key_beside other (k, None) xs ys)
+
+pub has_kept : {B : Type 0} (slot : ℕ) (ls : List (LearnedEntry B)) (ps : Places B) → is_some (lookup (is_at (nat_cmp slot)) ps) ≡ true
+    → has_place slot ls (keys_of ps) ≡ true
+has_kept slot ls ps h = or_right (is_learned slot ls) _ (sym (key_is slot ps) ∙ h)
+
+-- a place is kept behind the run
+
+pub kept_behind : {B : Type 0} (slot : ℕ) (run : List (Option (Entry B))) (ps : Places B) → 1 + length run ≤ slot
+    → lookup (is_at (nat_cmp slot)) ps ≡ None → placed (all_places run (insert_entry nat_cmp ps slot None)) ≡ placed (all_places run ps)
+kept_behind slot run ps l h = ap placed (put_behind 1 slot None run ps l) ∙ kept_among slot (all_places run ps) (look_behind 1 slot run ps l ∙ h)
+
+pub keeps_behind : {B : Type 0} (slot : ℕ) (run : List (Option (Entry B))) (ps : Places B) → 1 + length run ≤ slot
+    → lookup (is_at (nat_cmp slot)) ps ≡ None → KeepsPlaces (shelf_of run ps) (shelf_of run (insert_entry nat_cmp ps slot None))
+keeps_behind {B} slot run ps l h =
+    subst (λ (qs : Places B). KeepsPlaces (shelf_of run ps) (shelf_with qs)) (sym (put_behind 1 slot None run ps l))
+    (keeps_kept slot (all_places run ps) (look_behind 1 slot run ps l ∙ h))
+
+pub has_behind : {B : Type 0} (slot : ℕ) (run : List (Option (Entry B))) (ps : Places B) → 1 + length run ≤ slot
+    → is_some (lookup (is_at (nat_cmp slot)) ps) ≡ true → has_place slot (placed (all_places run ps)) (keys_of (all_places run ps)) ≡ true
+has_behind slot run ps l h = has_kept slot (placed (all_places run ps)) (all_places run ps) (ap is_some (look_behind 1 slot run ps l) ∙ h)
+
+pub has_put : {B : Type 0} (slot : ℕ) (run : List (Option (Entry B))) (ps : Places B) → 1 + length run ≤ slot
+    → has_place slot (placed (all_places run (insert_entry nat_cmp ps slot None))) (keys_of (all_places run (insert_entry nat_cmp ps slot None))) ≡ true
+has_put {B} slot run ps l =
+    subst (λ (qs : Places B). has_place slot (placed qs) (keys_of qs) ≡ true) (sym (put_behind 1 slot None run ps l))
+    (place_kept slot (all_places run ps))
+
+pub has_near : {B : Type 0} (slot i : ℕ) (run : List (Option (Entry B))) (ps : Places B) → slot ≡ 1 + i → i < length run
+    → has_place slot (placed (all_places run ps)) (keys_of (all_places run ps)) ≡ true
+has_near slot i run ps p l =
+    has_kept slot (placed (all_places run ps)) (all_places run ps) (ap is_some (look_run 1 slot i run ps None p l))
+
+-- an entry is put into its place, in the run or behind it
+
+pub put_near : {B : Type 0} (slot i : ℕ) (e : Entry B) (run : List (Option (Entry B))) (ps : Places B) → slot ≡ 1 + i → i < length run
+    → AreRising (length run) ps → learned_at slot (placed (all_places run ps)) ≡ None
+    → placed (all_places (set run i (Some e)) ps) ≡ put_learned (record { slot = slot; entry = e }) (placed (all_places run ps))
+put_near slot i e run ps p l a h =
+    ap placed (set_run 1 slot i (Some e) run ps p l) ∙ put_among slot 0 e (all_places run ps) (whole_rises run ps a) h
+
+pub keeps_near : {B : Type 0} (slot i : ℕ) (e : Entry B) (run : List (Option (Entry B))) (ps : Places B) → slot ≡ 1 + i → i < length run
+    → AreRising (length run) ps → learned_at slot (placed (all_places run ps)) ≡ None
+    → KeepsPlaces (shelf_of run ps) (shelf_of (set run i (Some e)) ps)
+keeps_near {B} slot i e run ps p l a h =
+    subst (λ (qs : Places B). KeepsPlaces (shelf_of run ps) (shelf_with qs)) (sym (set_run 1 slot i (Some e) run ps p l))
+    (keeps_put slot e (all_places run ps) (put_among slot 0 e (all_places run ps) (whole_rises run ps a) h))
+
+pub put_far : {B : Type 0} (slot : ℕ) (e : Entry B) (run : List (Option (Entry B))) (ps : Places B) → 1 + length run ≤ slot
+    → AreRising (length run) ps → learned_at slot (placed (all_places run ps)) ≡ None
+    → placed (all_places run (insert_entry nat_cmp ps slot (Some e))) ≡ put_learned (record { slot = slot; entry = e }) (placed (all_places run ps))
+put_far slot e run ps l a h =
+    ap placed (put_behind 1 slot (Some e) run ps l) ∙ put_among slot 0 e (all_places run ps) (whole_rises run ps a) h
+
+pub keeps_far : {B : Type 0} (slot : ℕ) (e : Entry B) (run : List (Option (Entry B))) (ps : Places B) → 1 + length run ≤ slot
+    → AreRising (length run) ps → learned_at slot (placed (all_places run ps)) ≡ None
+    → KeepsPlaces (shelf_of run ps) (shelf_of run (insert_entry nat_cmp ps slot (Some e)))
+keeps_far {B} slot e run ps l a h =
+    subst (λ (qs : Places B). KeepsPlaces (shelf_of run ps) (shelf_with qs)) (sym (put_behind 1 slot (Some e) run ps l))
+    (keeps_put slot e (all_places run ps) (put_among slot 0 e (all_places run ps) (whole_rises run ps a) h))
 
 -- a slot that was not learned and has a place stands ahead
 pub has_key : {B : Type 0} (slot : ℕ) (learned : List (LearnedEntry B)) (ps : Places B) → learned_at slot learned ≡ None
@@ -315,28 +365,9 @@ has_key slot learned ps n h l =
     let m : list_any (λ k. k == slot) (keys_of ps) ≡ false = sym (key_is slot ps) ∙ ap is_some l in
     let o = rw (k, m) at h in cc
 
-pub has_learned : {B : Type 0} (slot : ℕ) (ls : List (LearnedEntry B)) (places : List ℕ) (o : Option (Entry B)) → o ≡ learned_at slot ls
-    → is_some o ≡ true → has_place slot ls places ≡ true
-has_learned slot ls places o p h = or_left (is_learned slot ls) _ (learned_is slot ls ∙ ap is_some (sym p) ∙ h)
-
-pub has_kept : {B : Type 0} (slot : ℕ) (ls : List (LearnedEntry B)) (ps : Places B) → is_some (lookup (is_at (nat_cmp slot)) ps) ≡ true
-    → has_place slot ls (keys_of ps) ≡ true
-has_kept slot ls ps h = or_right (is_learned slot ls) _ (sym (key_is slot ps) ∙ h)
-
 pub none_of : {X : Type 0} (o : Option X) → is_some o ≡ false → o ≡ None
 none_of None h = refl
 none_of (Some x) h = absurd (cc)
 
-pub same_first : {X : Type 0} (es rest : List (ℕ × X)) (k j : ℕ) (x y : X) → slice_get es 0 ≡ Some (k, x) → es ≡ (j, y) ∷ rest → j ≡ k
-same_first {X} es rest k j x y p q =
-    let h : Some (j, y) ≡ Some (k, x) = rw q at p in
-    let z : (j, y) ≡ (k, x) = cc in
-    ap (λ (u : ℕ × X). u.0) z
-
-pub some_copied : {X : Type 0} (o : Option (Bor X)) → is_some o ≡ true → is_some (option_copied o) ≡ true
-some_copied None h = absurd (cc)
-some_copied (Some x) h = refl
-
-pub none_copied : {X : Type 0} (o : Option (Bor X)) → is_some o ≡ false → option_copied o ≡ None
-none_copied None h = refl
-none_copied (Some x) h = absurd (cc)
+pub starts_first : {X : Type 0} (slot j : ℕ) (x : X) (ps rest : List (ℕ × X)) → starts_at slot ps → ps ≡ (j, x) ∷ rest → j ≡ slot
+starts_first {X} slot j x ps rest s p = subst (λ (qs : List (ℕ × X)). starts_at slot qs) p s

@@ -1,5 +1,5 @@
 -- What was learned stands by ascending slot, each slot from 1 to 2^40 - 1.
-use Rattle.std.proofs.Common.{◌≡◌, ℕ, suc, ◌+◌, ◌<◌, ◌≤◌, Bool, true, false, cond, ◌||◌, Option, Some, None, List, [], ◌∷◌, ◌++◌, length, ltb, eqb}
+use Rattle.std.proofs.Common.{◌≡◌, ℕ, ◌<◌, ◌≤◌, Bool, true, false, cond, ◌||◌, Option, Some, None, List, [], ◌∷◌, length, ltb, eqb}
 use Rattle.std.proofs.Common.{refl, arith}
 use Rattle.std.proofs.lemmas.Bool.{ltb-true, eqb-true}
 use Rattle.std.proofs.lemmas.Bool.Decides.{nat_tests}
@@ -7,9 +7,9 @@ use Rattle.std.specs.Prelude.{option_map, ◌==◌, ◌^◌}
 use Rattle.std.specs.List.{find}
 use Rattle.paxos_packets.specs.declared.entry.Entry.{Entry}
 use Rattle.paxos_learner.specs.declared.learned.LearnedEntry.{LearnedEntry}
-use Rattle.paxos_learner.specs.Learned.{numbered, placed, placed_in, run_then, AreRising, Rises, is_learned}
+use Rattle.paxos_learner.specs.Learned.{placed, placed_in, all_places, AreRising, Rises, is_learned}
 use Rattle.paxos_learner.specs.Learner.{learned_at, put_learned, learn_among}
-use Rattle.paxos_learner.proofs.Ahead.{lower}
+use Rattle.paxos_learner.proofs.Ahead.{whole_rises}
 
 pub rises_lower : {B : Type 0} (m n : ℕ) (ls : List (LearnedEntry B)) → m ≤ n → Rises n ls → Rises m ls
 rises_lower m n [] l r = let k : n < 2 ^ 40 = r in omega arith
@@ -29,13 +29,9 @@ placed_rises {B} n (p ∷ ps) a = go p.1 (placed_rises p.0 ps a.1)
     go None r = let k : n < p.0 = a.0 in rises_lower n p.0 (placed ps) (omega arith) r
     go (Some e) r = (a.0, r)
 
-run_rises : {B : Type 0} (n k : ℕ) (run : List (Entry B)) (ps : List (ℕ × Option (Entry B))) → n + length run ≤ k → AreRising k ps
-    → Rises n (numbered (suc n) run ++ placed ps)
-run_rises n k [] ps l a = placed_rises n ps (lower n k ps (omega arith) a)
-run_rises n k (e ∷ es) ps l a = (omega arith, run_rises (suc n) k es ps (omega arith) a)
-
-pub shelf_rises : {B : Type 0} (run : List (Entry B)) (ps : List (ℕ × Option (Entry B))) → AreRising (length run) ps → Rises 0 (run_then run ps)
-shelf_rises run ps a = run_rises 0 (length run) run ps (omega arith) a
+pub shelf_rises : {B : Type 0} (run : List (Option (Entry B))) (ps : List (ℕ × Option (Entry B))) → AreRising (length run) ps
+    → Rises 0 (placed (all_places run ps))
+shelf_rises run ps a = placed_rises 0 (all_places run ps) (whole_rises run ps a)
 
 -- where an entry was learned
 

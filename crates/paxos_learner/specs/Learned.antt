@@ -1,12 +1,11 @@
--- How what was learned is kept: a run of entries from slot 1 on without a gap, and those that stand ahead of it, in places of
--- which some are still free.
+-- How what was learned is kept: the places of a run of slots from 1 on, and those that stand further ahead, of which some are still free.
 use Rattle.std.specs.Prelude.{ℕ, suc, Bool, true, ◌||◌, ◌==◌, Option, Some, None, List, [], ◌∷◌, ◌++◌, ◌≡◌, ◌<◌, ◌^◌, length, take}
 use Rattle.std.specs.List.{list_any}
 use Rattle.std.specs.Map.{keys_of}
 use Rattle.paxos_packets.specs.declared.entry.Entry.{Entry}
 use Rattle.paxos_learner.specs.declared.learned.LearnedEntry.{LearnedEntry}
 
--- what callers see: the entries, by ascending slot, and the slots ahead that have a place
+-- what callers see: the entries, by ascending slot, and the slots that have a place
 pub record Shelf (B : Type 0) : Type 0 where
   pub learned : List (LearnedEntry B)
   pub places : List ℕ
@@ -25,12 +24,25 @@ abbrev pub placed : {B : Type 0} → List (ℕ × Option (Entry B)) → List (Le
 placed [] = []
 placed (p ∷ ps) = placed_in p.0 p.1 (placed ps)
 
--- the run, then what stands ahead of it
-abbrev pub run_then : {B : Type 0} → List (Entry B) → List (ℕ × Option (Entry B)) → List (LearnedEntry B)
-run_then run ahead = numbered 1 run ++ placed ahead
+-- the places of a run of slots from this one on
+abbrev pub places_from : {B : Type 0} → ℕ → List (Option (Entry B)) → List (ℕ × Option (Entry B))
+places_from slot [] = []
+places_from slot (o ∷ os) = (slot, o) ∷ places_from (suc slot) os
 
-abbrev pub shelf_of : {B : Type 0} → List (Entry B) → List (ℕ × Option (Entry B)) → Shelf B
-shelf_of run ahead = record { learned = run_then run ahead; places = keys_of ahead }
+-- the run's, then those ahead of it
+abbrev pub all_places : {B : Type 0} → List (Option (Entry B)) → List (ℕ × Option (Entry B)) → List (ℕ × Option (Entry B))
+all_places run ahead = places_from 1 run ++ ahead
+
+abbrev pub shelf_with : {B : Type 0} → List (ℕ × Option (Entry B)) → Shelf B
+shelf_with places = record { learned = placed places; places = keys_of places }
+
+abbrev pub shelf_of : {B : Type 0} → List (Option (Entry B)) → List (ℕ × Option (Entry B)) → Shelf B
+shelf_of run ahead = shelf_with (all_places run ahead)
+
+-- the first of these places is that of the slot
+abbrev pub starts_at : {X : Type 0} → ℕ → List (ℕ × X) → Type 0
+starts_at slot [] = ⊥
+starts_at slot (p ∷ ps) = p.0 ≡ slot
 
 -- these slots rise from above this one, and all are below 2^40
 abbrev pub AreRising : {X : Type 0} → ℕ → List (ℕ × X) → Type 0

@@ -1,6 +1,6 @@
-ghost use Rattle.std.specs.Prelude.{◌≡◌, ℕ, true, [], None, IsTrue, OnOk, OnErr, IsOkUnless, option_copied};
+ghost use Rattle.std.specs.Prelude.{◌≡◌, ◌<◌, ◌≤◌, ◌^◌, ℕ, suc, true, [], None, length, IsTrue, MatchBool, OnOk, OnErr, IsOkUnless, option_copied};
 ghost use Rattle.paxos_learner.specs.declared.fault.LearnerFault.TheVariants.{Memory};
-ghost use Rattle.paxos_learner.specs.Learned.{has_place, placed, AreRising, KeepsPlaces, Rises};
+ghost use Rattle.paxos_learner.specs.Learned.{has_place, placed, shelf_of, starts_at, AreRising, KeepsPlaces, Rises};
 ghost use Rattle.paxos_learner.specs.Learner.{learned_at, put_learned};
 
 use crate::fault::LearnerFault;
@@ -16,13 +16,16 @@ pub struct LearnedEntry<B> {
     pub entry: Entry<B>,
 }
 
-/// What was learned, by ascending slot: a run from slot 1 on without a gap, and what stands ahead of it. A slot ahead may have a place
-/// that is kept free for its entry, so that putting it there takes no memory.
+/// What was learned, by ascending slot: the places of a run of slots from 1 on, and those that stand further ahead. A place may be kept free
+/// for the entry of its slot, so that putting it there takes no memory.
 #[derive(Drop)]
 pub struct LearnedEntries<B> {
-    run: Vec<Entry<B>>,
+    run: Vec<Option<Entry<B>>>,
     ahead: BTreeMap<u64, Option<Entry<B>>>,
 }
+
+// How far behind the run a slot may stand for the run to go on up to it.
+const NEAR: u64 = 256;
 
 impl<B> Model for LearnedEntries<B> {
     ghost use Rattle.std.specs.Prelude.{length};
@@ -61,13 +64,13 @@ impl<B> LearnedEntries<B> {
     }
 
     /// The entry that was learned in the slot. Takes no memory, and a constant number of steps in the run; ahead of it, a number that
-    /// is logarithmic in the number of entries there.
+    /// is logarithmic in the number of places there.
     pub fn find(&self, slot: Slot) -> Option<&Entry<B>>
         ensures { option_copied result ≡ learned_at slot self.now.learned }
     {
         let number = slot.get();
         match self.run.get(number as usize - 1) {
-            Some(entry) => Some(entry),
+            Some(place) => place.as_ref(),
             None => find_ahead(&self.ahead, number),
         }
     }
@@ -87,70 +90,121 @@ impl<B: Drop> LearnedEntries<B> {
         Ok(())
     }
 
-    /// Keeps a place for the entry of the slot, unless it was learned. It takes a number of steps that is logarithmic in the number of
-    /// places ahead of the run.
+    /// Keeps a place for the entry of the slot, unless it has one. It takes as many steps as the run grows, and further ahead a number that is
+    /// logarithmic in the number of places there.
     pub fn keep_place(&mut self, slot: Slot) -> Result<(), LearnerFault>
         ensures ok { OnOk result (has_place slot self.new.learned self.new.places ≡ true) }
         ensures learned { self.new.learned ≡ self.old.learned }
         ensures places { KeepsPlaces self.old self.new }
         ensures memory { IsOkUnless result Memory }
     {
-        if self.find(slot).is_some() {
-            return Ok(());
-        }
         let number = slot.get();
-        if self.ahead.contains_key(&number) {
-            return Ok(());
+        if number > self.run.len() as u64 + NEAR {
+            return keep_ahead(&self.run, &mut self.ahead, number);
         }
-        let Ok(_) = self.ahead.insert(number, None) else {
-            return Err(LearnerFault::Memory);
-        };
-        Ok(())
+        keep_near(&mut self.run, &mut self.ahead, number)
     }
 
-    /// Puts the entry into its place, where none was learned in the slot. Takes no memory that is wanted: the run grows as far as there
-    /// is some.
+    /// Puts the entry into its place, where none was learned in the slot. Takes no memory.
     pub fn put_in_place(&mut self, slot: Slot, entry: Entry<B>)
         requires free { learned_at slot self.old.learned ≡ None }
         requires place { has_place slot self.old.learned self.old.places ≡ true }
         ensures learned { self.new.learned ≡ put_learned (record { slot = slot; entry = entry }) self.old.learned }
         ensures places { KeepsPlaces self.old self.new }
     {
-        let Ok(_) = self.ahead.insert(slot.get(), Some(entry)) else {
+        let number = slot.get();
+        if number <= self.run.len() as u64 {
+            self.run[number as usize - 1] = Some(entry);
+            return;
+        }
+        let Ok(_) = self.ahead.insert(number, Some(entry)) else {
             unreachable!()
         };
-        self.close_ranks();
     }
+}
 
-    // What stands ahead without a gap behind the run moves into it, as far as there is memory.
-    fn close_ranks(&mut self)
-        ensures learned { self.new.learned ≡ self.old.learned }
-        ensures places { KeepsPlaces self.old self.new }
-    {
-        for _ in 0..self.ahead.len() {
-            if !self.move_first() {
-                return;
-            }
-        }
+// A place that stands ahead of the run is kept for the slot.
+fn keep_ahead<B: Drop>(
+    run: &[Option<Entry<B>>],
+    ahead: &mut BTreeMap<u64, Option<Entry<B>>>,
+    slot: u64,
+) -> Result<(), LearnerFault>
+    requires rising { AreRising (length run.now) ahead.old.entries }
+    requires behind { length run.now < slot }
+    requires most { slot < 2 ^ 40 }
+    ensures ok { OnOk result (has_place slot (shelf_of run.now ahead.new.entries).learned (shelf_of run.now ahead.new.entries).places ≡ true) }
+    ensures rising { AreRising (length run.now) ahead.new.entries }
+    ensures learned { (shelf_of run.now ahead.new.entries).learned ≡ (shelf_of run.now ahead.old.entries).learned }
+    ensures places { KeepsPlaces (shelf_of run.now ahead.old.entries) (shelf_of run.now ahead.new.entries) }
+    ensures memory { IsOkUnless result Memory }
+{
+    let _ = run;
+    if ahead.contains_key(&slot) {
+        return Ok(());
     }
+    let Ok(_) = ahead.insert(slot, None) else {
+        return Err(LearnerFault::Memory);
+    };
+    Ok(())
+}
 
-    // The first entry ahead moves to the run's end, if it is the next one and there is memory. Whether it did.
-    fn move_first(&mut self) -> bool
-        ensures learned { self.new.learned ≡ self.old.learned }
-        ensures places { KeepsPlaces self.old self.new }
-    {
-        let next = self.run.len() as u64 + 1;
-        let Some((first, place)) = self.ahead.first_key_value() else {
-            return false;
-        };
-        if *first != next || place.is_none() || self.run.reserve(1).is_err() {
-            return false;
-        }
-        let Some((_, Some(entry))) = self.ahead.pop_first() else {
-            unreachable!()
-        };
-        self.run.push_reserved(entry);
-        true
+// The run goes on up to the slot.
+fn keep_near<B: Drop>(
+    run: &mut Vec<Option<Entry<B>>>,
+    ahead: &mut BTreeMap<u64, Option<Entry<B>>>,
+    slot: u64,
+) -> Result<(), LearnerFault>
+    requires rising { AreRising (length run.old.items) ahead.old.entries }
+    requires least { 1 ≤ slot }
+    requires most { slot < 2 ^ 40 }
+    ensures ok { OnOk result (has_place slot (shelf_of run.new.items ahead.new.entries).learned (shelf_of run.new.items ahead.new.entries).places ≡ true) }
+    ensures rising { AreRising (length run.new.items) ahead.new.entries }
+    ensures learned { (shelf_of run.new.items ahead.new.entries).learned ≡ (shelf_of run.old.items ahead.old.entries).learned }
+    ensures places { KeepsPlaces (shelf_of run.old.items ahead.old.entries) (shelf_of run.new.items ahead.new.entries) }
+    ensures memory { IsOkUnless result Memory }
+{
+    for last in run.len() as u64..slot {
+        extend(run, ahead, last)?;
+    }
+    Ok(())
+}
+
+// The run goes on behind its last slot: by the place that stands there, or by a free one.
+fn extend<B: Drop>(
+    run: &mut Vec<Option<Entry<B>>>,
+    ahead: &mut BTreeMap<u64, Option<Entry<B>>>,
+    last: u64,
+) -> Result<(), LearnerFault>
+    requires rising { AreRising (length run.old.items) ahead.old.entries }
+    requires last { last ≡ length run.old.items }
+    requires most { suc last < 2 ^ 40 }
+    ensures ok { OnOk result (length run.new.items ≡ suc last) }
+    ensures rising { AreRising (length run.new.items) ahead.new.entries }
+    ensures learned { (shelf_of run.new.items ahead.new.entries).learned ≡ (shelf_of run.old.items ahead.old.entries).learned }
+    ensures places { KeepsPlaces (shelf_of run.old.items ahead.old.entries) (shelf_of run.new.items ahead.new.entries) }
+    ensures memory { IsOkUnless result Memory }
+{
+    if run.reserve(1).is_err() {
+        return Err(LearnerFault::Memory);
+    }
+    if !stands_first(ahead, last + 1) {
+        run.push_reserved(None);
+        return Ok(());
+    }
+    let Some((_, place)) = ahead.pop_first() else {
+        unreachable!()
+    };
+    run.push_reserved(place);
+    Ok(())
+}
+
+// Whether the first place ahead is that of the slot.
+fn stands_first<B>(ahead: &BTreeMap<u64, Option<Entry<B>>>, slot: u64) -> bool
+    ensures { MatchBool result (starts_at slot ahead.now.entries) (starts_at slot ahead.now.entries → ⊥) }
+{
+    match ahead.first_key_value() {
+        Some((first, _)) => *first == slot,
+        None => false,
     }
 }
 
