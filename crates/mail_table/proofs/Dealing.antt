@@ -38,19 +38,19 @@ home_first (suc m) zero a l = refl
 home_first (suc m) (suc i) a l = home_first m i a (omega arith)
 
 module _ {B : Type 0} (same : B → B → Bool) (n : ℕ) where
-  pub begins : (words : List ℕ) → length words ≡ n * n + n → ((i : ℕ) → slice_index words i ≡ 0)
-      → Kept {B = B} same n (opening words (replicate (n * n) None) (rising 0 n))
+  pub begins : (words : List ℕ) → length words ≡ 8 * (n * n + n) → ((i : ℕ) → slice_index words i ≡ 0)
+      → Kept {B = B} same n (opening words (replicate (8 * (n * n)) None) (rising 0 n))
   begins words long zeros =
       record {
         part = unopened;
         seat = λ _. 0;
         wide = long;
-        high = length-map (replicate (n * n) None) some ∙ length-replicate (n * n) None;
+        high = length-map (replicate (8 * (n * n)) None) some ∙ length-replicate (8 * (n * n)) None;
         fits = one;
         covered = covered_first same n (λ k. (unopened k).seen) (λ k. refl) (λ k. refl);
         posted = λ k m b p mb h. absurd (has_nil h);
         counted = λ k m. zeros _;
-        boxes = λ a b ma mb. empty (zeros _) (home_first (n * n) (box_of n a b) None (box_below n a b ma mb)) refl refl refl;
+        boxes = λ a b ma mb. empty (zeros _) (home_first (8 * (n * n)) (box_of n a b) None (box_below n a b ma mb)) refl refl refl;
       }
     where
       one : (j : ℕ) (v : List (Part B)) → get_elem? (rising 0 n ∷ []) j ≡ some v → Fits unopened (λ _. 0) j v
@@ -160,15 +160,15 @@ length_zeros zero m l = refl
 length_zeros (suc k) zero l = absurd (omega arith)
 length_zeros (suc k) (suc m) l = ap suc (length_zeros k m (omega arith))
 
-pub all_zero : (k : ℕ) → k ≤ 56 → (length (take k (zero_row 56)) ≡ k) × ((i : ℕ) → slice_index (take k (zero_row 56)) i ≡ 0)
-all_zero k l = (length_zeros k 56 l, zeros_at k 56)
+pub all_zero : (k : ℕ) → k ≤ 448 → (length (take k (zero_row 448)) ≡ k) × ((i : ℕ) → slice_index (take k (zero_row 448)) i ≡ 0)
+all_zero k l = (length_zeros k 448 l, zeros_at k 448)
 
-pub square_small : (n : ℕ) → n ≤ 7 → n * n + n ≤ 56
+pub square_small : (n : ℕ) → n ≤ 7 → 8 * (n * n + n) ≤ 448
 square_small n l =
     let a : n * n ≤ 7 * n = mul-le-mul_right n l in
     let p : ℕ = n * n in
     let b : p ≤ 7 * n = a in
-    let c : p + n ≤ 56 = omega arith in
+    let c : 8 * (p + n) ≤ 448 = omega arith in
     c
 
 all_one : {A : Type 0} (P : A → Type 0) (x : A) → P x → All P (x ∷ [])

@@ -26,9 +26,9 @@ module _ {B : Type 0} (same : B → B → Bool) (n : ℕ) (x : Part B) (id i : �
   low s kept =
       let l = box_below n may.from x.me may.other may.to in
       let q : ℕ = n * n in
-      let l' : box_of n may.from x.me < q = l in
-      let w' : length s.words ≡ q + n = kept.wide in
-      let h' : length s.homes ≡ q = kept.high in
+      let l' : box_of n may.from x.me < 8 * q = l in
+      let w' : length s.words ≡ 8 * (q + n) = kept.wide in
+      let h' : length s.homes ≡ 8 * q = kept.high in
       let e : i ≡ box_of n may.from x.me = may.box in
       (omega arith, omega arith)
 
@@ -122,12 +122,12 @@ module _ {B : Type 0} (same : B → B → Bool) (n slots id i : ℕ) where
       subst (λ z. Allows (Kept same n) slots id z i (λ _. 0) (λ _. Clears (step slots i 0 0 none) z 0)) (sym e)
       (clears same n x id i may p slots)
 
-pub fetch_low : {B : Type 0} (n words : ℕ) (x : Part B) (i : ℕ) → words ≡ n * n + n → MayFetch n x i → i < words
+pub fetch_low : {B : Type 0} (n words : ℕ) (x : Part B) (i : ℕ) → words ≡ 8 * (n * n + n) → MayFetch n x i → i < words
 fetch_low n words x i w may =
     let l = box_below n may.from x.me may.other may.to in
     let q : ℕ = n * n in
-    let l' : box_of n may.from x.me < q = l in
-    let w' : words ≡ q + n = w in
+    let l' : box_of n may.from x.me < 8 * q = l in
+    let w' : words ≡ 8 * (q + n) = w in
     let e : i ≡ box_of n may.from x.me = may.box in
     omega arith
 

@@ -52,30 +52,34 @@ one_place n j k a b e = sym (place_is n j a) ∙ (ap suc e ∙ place_is n k b)
 pub box_tells : (n a b c d : ℕ) → IsMember n a → IsMember n b → IsMember n c → IsMember n d → box_of n a b ≡ box_of n c d
     → (a ≡ c) × (b ≡ d)
 box_tells n a b c d ma mb mc md e =
-    let g = grid n (place a) (place b) (place c) (place d) (place_below n b mb) (place_below n d md) e in
+    let p : ℕ = place a * n in
+    let q : ℕ = place c * n in
+    let e' : 8 * (p + place b) ≡ 8 * (q + place d) = e in
+    let one : p + place b ≡ q + place d = omega arith in
+    let g = grid n (place a) (place b) (place c) (place d) (place_below n b mb) (place_below n d md) one in
     (one_place n a c ma mc g.0, one_place n b d mb md g.1)
 
-pub box_below : (n a b : ℕ) → IsMember n a → IsMember n b → box_of n a b < n * n
+pub box_below : (n a b : ℕ) → IsMember n a → IsMember n b → box_of n a b < 8 * (n * n)
 box_below n a b ma mb =
     let f = further (place a) n n (place_below n a ma) in
     let l = place_below n b mb in
     let p : ℕ = place a * n in
     let q : ℕ = n * n in
     let f' : p + n ≤ q = f in
-    let r : p + place b < q = omega arith in
+    let r : 8 * (p + place b) < 8 * q = omega arith in
     r
 
 pub word_tells : (n j k : ℕ) → IsMember n j → IsMember n k → word_of n j ≡ word_of n k → j ≡ k
 word_tells n j k a b e =
     let q : ℕ = n * n in
-    let e' : q + place j ≡ q + place k = e in
+    let e' : 8 * (q + place j) ≡ 8 * (q + place k) = e in
     one_place n j k a b (omega arith)
 
-pub word_below : (n k : ℕ) → IsMember n k → word_of n k < n * n + n
+pub word_below : (n k : ℕ) → IsMember n k → word_of n k < 8 * (n * n + n)
 word_below n k m =
     let l = place_below n k m in
     let q : ℕ = n * n in
-    let r : q + place k < q + n = omega arith in
+    let r : 8 * (q + place k) < 8 * (q + n) = omega arith in
     r
 
 -- no word is that of a box and of a node
@@ -84,28 +88,9 @@ apart n a b k ma mb e =
     let l = box_below n a b ma mb in
     let p : ℕ = box_of n a b in
     let q : ℕ = n * n in
-    let l' : p < q = l in
-    let e' : p ≡ q + place k = e in
+    let l' : p < 8 * q = l in
+    let e' : p ≡ 8 * (q + place k) = e in
     omega arith
-
--- the number of nodes is told by that of the boxes
-pub square_tells : (m n : ℕ) → m * m ≡ n * n → m ≡ n
-square_tells m n e =
-    ⊎_elim (λ l. absurd (less m n l e)) (λ h. ⊎_elim (λ l. absurd (less n m l (sym e))) (λ k. omega arith) (cases_lt n m)) (cases_lt m n)
-  where
-    less : (m n : ℕ) → m < n → m * m ≡ n * n → ⊥
-    less m n l e =
-        let a : m * n ≤ n * n = mul-le-mul_right n (omega arith) in
-        let f = further m n n l in
-        let b : m * m ≤ n * m = mul-le-mul_right m (omega arith) in
-        let p : ℕ = m * n in
-        let q : ℕ = n * n in
-        let f' : p + n ≤ q = f in
-        let c : n * m ≡ m * n = omega arith in
-        let r : ℕ = m * m in
-        let b' : r ≤ p = subst (λ z. r ≤ z) c b in
-        let e' : r ≡ q = e in
-        omega arith
 
 -- a function that changes at one place
 
@@ -123,5 +108,5 @@ at_both f k y P mine others j =
     (λ d. subst (P j) (sym (at_other f k y j d)) (others j d))
     (cases_eq j k)
 
-pub word_low : (n words k i : ℕ) → words ≡ n * n + n → IsMember n k → i ≡ word_of n k → i < words
+pub word_low : (n words k i : ℕ) → words ≡ 8 * (n * n + n) → IsMember n k → i ≡ word_of n k → i < words
 word_low n words k i w m e = subst (λ z. z < words) (sym e) (subst (λ z. word_of n k < z) (sym w) (word_below n k m))

@@ -45,7 +45,7 @@ module _ {B : Type 0} (same : B → B → Bool) (n : ℕ) (x : Part B) (id i : �
   loses a b ma mb is mx =
       goes same n s kept id x (lost i x) at refl i (slice_index s.words i) s.homes
       (subst (λ z. z < length s.words) (sym is) (let l = box_below n a b ma mb in let w = kept.wide in let q : ℕ = n * n in let l' :
-      box_of n a b < q = l in let w' : length s.words ≡ q + n = w in omega arith))
+      box_of n a b < 8 * q = l in let w' : length s.words ≡ 8 * (q + n) = w in omega arith))
       (record {
         high = refl;
         else_home = λ j d. refl;
@@ -64,7 +64,7 @@ module _ {B : Type 0} (same : B → B → Bool) (n : ℕ) (x : Part B) (id i : �
   rests a b ma mb is mx =
       goes same n s kept id x x at refl i (slice_index s.words i) s.homes
       (subst (λ z. z < length s.words) (sym is) (let l = box_below n a b ma mb in let w = kept.wide in let q : ℕ = n * n in let l' :
-      box_of n a b < q = l in let w' : length s.words ≡ q + n = w in omega arith))
+      box_of n a b < 8 * q = l in let w' : length s.words ≡ 8 * (q + n) = w in omega arith))
       (record {
         high = refl;
         else_home = λ j d. refl;
@@ -103,9 +103,9 @@ module _ {B : Type 0} (same : B → B → Bool) (n : ℕ) (x : Part B) (id i : �
   low s kept =
       let l = box_below n x.me p.addressee may.from may.to in
       let q : ℕ = n * n in
-      let l' : box_of n x.me p.addressee < q = l in
-      let w' : length s.words ≡ q + n = kept.wide in
-      let h' : length s.homes ≡ q = kept.high in
+      let l' : box_of n x.me p.addressee < 8 * q = l in
+      let w' : length s.words ≡ 8 * (q + n) = kept.wide in
+      let h' : length s.homes ≡ 8 * q = kept.high in
       let e : i ≡ box_of n x.me p.addressee = may.box in
       (omega arith, omega arith)
 
@@ -233,11 +233,11 @@ module _ {B : Type 0} (same : B → B → Bool) (n slots id i : ℕ) where
       subst (λ z. Allows (Kept same n) slots id z i (λ _. 2) (λ _. Delivers (step slots i 2 0 none) z 2)) (sym e)
       (delivers same n x id i p may slots)
 
-pub post_low : {B : Type 0} (n words : ℕ) (x : Part B) (i : ℕ) (p : Packet B) → words ≡ n * n + n → MayPost n x i p → i < words
+pub post_low : {B : Type 0} (n words : ℕ) (x : Part B) (i : ℕ) (p : Packet B) → words ≡ 8 * (n * n + n) → MayPost n x i p → i < words
 post_low n words x i p w may =
     let l = box_below n x.me p.addressee may.from may.to in
     let q : ℕ = n * n in
-    let l' : box_of n x.me p.addressee < q = l in
-    let w' : words ≡ q + n = w in
+    let l' : box_of n x.me p.addressee < 8 * q = l in
+    let w' : words ≡ 8 * (q + n) = w in
     let e : i ≡ box_of n x.me p.addressee = may.box in
     omega arith

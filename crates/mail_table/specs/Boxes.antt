@@ -23,9 +23,9 @@ use Rattle.mail_table.specs.Covered.{Covered, MayRenew}
 use Rattle.mail_table.specs.Views.{box_of, place, through, is_sending, is_taking, unopened, only}
 use Rattle.mail_table.specs.Views.{claiming, delivering, fetching, clearing, lost, moving, renewing}
 
--- the word of a node, behind those of the boxes
+-- the word of a node, behind those of the boxes, and as far from others
 abbrev pub word_of : ℕ → ℕ → ℕ
-word_of n k = n * n + place k
+word_of n k = 8 * (n * n + place k)
 
 -- the most events that a word counts
 unfoldable pub most_events : ℕ
@@ -60,8 +60,8 @@ Posted {B} n k x =
 pub record Kept {B : Type 0} (same : B → B → Bool) (n : ℕ) (s : State (Option (Packet B)) (List (Part B))) : Type 0 where
   pub part : ℕ → Part B
   pub seat : ℕ → ℕ
-  pub wide : length s.words ≡ n * n + n
-  pub high : length s.homes ≡ n * n
+  pub wide : length s.words ≡ 8 * (n * n + n)
+  pub high : length s.homes ≡ 8 * (n * n)
   pub fits : (j : ℕ) (v : List (Part B)) → get_elem? s.views j ≡ some v → Fits part seat j v
   pub covered : Covered same n (λ k. (part k).seen)
   pub posted : (k : ℕ) → IsMember n k → Posted n k (part k)

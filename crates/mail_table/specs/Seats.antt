@@ -56,11 +56,11 @@ with_length lengths s = slice_set lengths (place s.part.me) (length (log_in s.pa
 abbrev pub lengths_of : {B : Type 0} → List (Seated B) → List ℕ
 lengths_of seats = fold with_length (replicate 7 0) seats
 
--- a table of n nodes has a word and a slot for each ordered pair, and a word for each node
+-- a table of n nodes has eight words and slots for each ordered pair, and eight words for each node: the first of each is used
 pub record IsSized (n of : ℕ) (t : TableId) : Type 0 where
   pub key : of ≡ n
-  pub words : t.words ≡ n * n + n
-  pub slots : t.slots ≡ n * n
+  pub words : t.words ≡ 8 * (n * n + n)
+  pub slots : t.slots ≡ 8 * (n * n)
   pub least : 3 ≤ n
   pub most : n ≤ 7
 
@@ -72,5 +72,5 @@ pub record IsAlone {B : Type 0} (n me_is count length_is : ℕ) (t : TableId) (m
   pub events : (only me.0).events ≡ count
   pub log : length (log_in (only me.0).seen) ≡ length_is
   pub member : IsMember n me_is
-  pub slots : t.slots ≡ n * n
+  pub slots : t.slots ≡ 8 * (n * n)
   pub most : n ≤ 7

@@ -15,14 +15,15 @@ use Rattle.mail_table.specs.declared.part.Parcel.{Parcel}
 use Rattle.mail_table.specs.declared.part.Part.{Part}
 use Rattle.mail_table.specs.declared.part.Try.{Try}
 
--- the place of a node, from 0, and the number of the box from one node of n to another
+-- the place of a node, from 0, and the number of the box from one node of n to another; the seven behind it are at no box, so that no two
+-- boxes have words within 64 octets, which a processor takes and hands on together
 
 abbrev pub place : ℕ → ℕ
 place zero = zero
 place (suc k) = k
 
 abbrev pub box_of : ℕ → ℕ → ℕ → ℕ
-box_of n from to = place from * n + place to
+box_of n from to = 8 * (place from * n + place to)
 
 -- the packets that went through a box, oldest first
 abbrev pub through : {B : Type 0} → ℕ → List (Parcel B) → List (Packet B)

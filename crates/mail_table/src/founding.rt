@@ -46,11 +46,11 @@ fn boxes<B: Body>(alloc: Global, nodes: u8) -> Result<(Boxes<B>, Token<B>), Memo
     ensures knows { IfOk result (λ t. t.1.me ≡ (rising 0 nodes, [])) }
 {
     let count = nodes as usize;
-    let words = [0; 56];
+    let words = [0; 448];
     let made = Table::vacant(
         alloc,
-        &words[..count * count + count],
-        count * count,
+        &words[..8 * (count * count + count)],
+        8 * (count * count),
         &(nodes as u64),
     )?;
     Ok(made)

@@ -89,7 +89,7 @@ impl<B: Body> NodeSeat<B> {
         requires fresh { seat.me ≡ sits (unopened node) [] }
         requires member { IsMember nodes node }
         requires most { nodes ≤ 7 }
-        requires slots { seat.table_id.slots ≡ nodes * nodes }
+        requires slots { seat.table_id.slots ≡ 8 * (nodes * nodes) }
         requires marked { slice_get mark.seen.log mark.number ≡ Some (name_of seat.table_id) }
         ensures { result ≡ record { office = mark.seen.book; table = mark.number; members = nodes; part = unopened node } }
     {

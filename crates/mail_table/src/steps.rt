@@ -15,14 +15,14 @@ use paxos_node::Outcome;
 use paxos_packets::{Body, Packet, Rows};
 use std::marker::Brand;
 
-// The number of the box from one node to another.
+// The number of the box from one node to another: no two are within 64 octets, so that a step at one takes no other from its processor.
 pub(crate) fn box_at(nodes: u8, from: u8, to: u8) -> usize
     requires most { nodes ≤ 7 }
     requires from { IsMember nodes from }
     requires to { IsMember nodes to }
     ensures value { result ≡ box_of nodes from to }
 {
-    (from as usize - 1) * nodes as usize + (to as usize - 1)
+    8 * ((from as usize - 1) * nodes as usize + (to as usize - 1))
 }
 
 // The number of a node's word.
@@ -31,7 +31,7 @@ pub(crate) fn word_at(nodes: u8, node: u8) -> usize
     requires node { IsMember nodes node }
     ensures value { result ≡ word_of nodes node }
 {
-    nodes as usize * nodes as usize + (node as usize - 1)
+    8 * (nodes as usize * nodes as usize + (node as usize - 1))
 }
 
 // Whether the box is empty, by a load: where it isn't, its word stays with whoever works at the box, and the try is lost.
