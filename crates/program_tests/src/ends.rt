@@ -1,5 +1,6 @@
 // A reader and a writer that tests see into.
 
+use std::alloc::Global;
 use std::io;
 use std::io::{Read, Write};
 
@@ -74,5 +75,14 @@ pub(crate) fn reader_of(octets: &[u8], most: usize) -> Pieces<'_> {
         octets,
         most,
         reads_before_failure: None,
+    }
+}
+
+// A writer with nothing in it, which fails behind so many calls.
+pub(crate) fn new_paper(alloc: Global, calls_before_failure: Option<u32>) -> Paper {
+    Paper {
+        octets: Vec::new(alloc),
+        longest: 0,
+        calls_before_failure,
     }
 }

@@ -1,6 +1,6 @@
 //! Tests of the program's calls, and below them of a script's lines, of the packets that its flushes deliver, of a script that is played
-//! and of the text of a world, over the public surfaces of `cluster_program`, `script_lines`, `waiting_packets`, `script_player` and
-//! `script_text`. A crate with tests is proved twice, so they stand here.
+//! and of the text of a world, over the public surfaces of `cluster_program`, `script_lines`, `waiting_packets` and `script_text`.
+//! A crate with tests is proved twice, so they stand here.
 #![tactic(auto)]
 
 #[cfg(test)]

@@ -1,7 +1,7 @@
 use script_lines::{Act, Id, Line, LinesFault, Members, NodeSet, Parser, lines_of, read_line};
 use std::alloc::{AllocError, Global};
 use std::fmt::Write;
-use std::test::Fail;
+use std::process::Abort;
 
 // Texts of scripts in a cluster of three nodes, and what is told of each: its lines as short words, or the number of the first bad one.
 const SCRIPTS: &[(&[u8], &str)] = &[
@@ -87,29 +87,31 @@ fn tell_flush(among: NodeSet, out: &mut String) -> Result<(), AllocError> {
 }
 
 // What is told of the lines of a text.
-fn told(alloc: Global, text: &[u8]) -> Result<String, Fail> {
-    match lines_of(alloc, Members::new(3).unwrap(), text) {
-        Ok(lines) => {
-            let told = tell_all(alloc, lines.as_slice());
-            drop(lines);
-            Ok(told?)
-        }
-        Err(fault) => Ok(format!(in alloc; "{fault}")?),
+fn tell_all(lines: &Result<Vec<Line>, LinesFault>, out: &mut String) -> Result<(), AllocError> {
+    match lines {
+        Ok(lines) => tell_each(lines.as_slice(), out),
+        Err(fault) => write!(out, "{fault}").or(Err(AllocError)),
     }
 }
 
-fn tell_all(alloc: Global, lines: &[Line]) -> Result<String, AllocError> {
-    let mut out = String::new(alloc);
+fn tell_each(lines: &[Line], out: &mut String) -> Result<(), AllocError> {
     for line in lines {
-        tell(line, &mut out)?;
+        tell(line, out)?;
     }
-    Ok(out)
+    Ok(())
+}
+
+fn is_told(rt: &impl Abort, alloc: Global, text: &[u8], expected: &str) {
+    let mut told = String::new(alloc);
+    let lines = lines_of(alloc, Members::new(3).unwrap(), text);
+    tell_all(&lines, &mut told).expect(rt, "room for what is told");
+    drop(lines);
+    assert_eq!(rt; told.as_str(), expected);
 }
 
 #[test]
-fn lines_are_told(rt: HostRuntime) -> Result<(), Fail> {
+fn lines_are_told(rt: HostRuntime) {
     for (text, expected) in SCRIPTS {
-        assert_eq!(rt; told(rt.alloc(), text)?.as_str(), *expected);
+        is_told(&rt, rt.alloc(), text, expected);
     }
-    Ok(())
 }

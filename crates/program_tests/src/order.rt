@@ -1,29 +1,57 @@
-use cluster_program::{Order, help_of, order_of, unreadable_words};
+use cluster_program::{Order, UsageFault, help_of, order_of, unreadable_words};
 use std::alloc::{AllocError, Global};
-use std::test::Fail;
+use std::process::Abort;
 
 // The words of a command line.
-fn words_of(alloc: Global, line: &str) -> Result<Vec<String>, AllocError> {
+fn words_of(rt: &impl Abort, alloc: Global, line: &str) -> Vec<String> {
     let mut words = Vec::new(alloc);
     for word in line.split_whitespace() {
-        words.push(String::from_str(alloc, word)?)?;
+        put_word(alloc, &mut words, word).expect(rt, "room for a word");
     }
-    Ok(words)
+    words
+}
+
+fn put_word(alloc: Global, words: &mut Vec<String>, word: &str) -> Result<(), AllocError> {
+    words.push(String::from_str(alloc, word)?)?;
+    Ok(())
+}
+
+// What a command line asks for.
+fn asked(rt: &impl Abort, alloc: Global, line: &str) -> Result<Order, UsageFault> {
+    let words = words_of(rt, alloc, line);
+    let asked = order_of(alloc, &words);
+    drop(words);
+    asked
 }
 
 // The order in words, or the status of the fault.
-pub(crate) fn read(alloc: Global, line: &str) -> Result<String, Fail> {
-    match order_of(alloc, &words_of(alloc, line)?) {
-        Ok(order) => told(alloc, &order),
-        Err(fault) => Ok(format!(in alloc; "{}", fault.status())?),
+fn read(rt: &impl Abort, alloc: Global, line: &str) -> String {
+    let asked = asked(rt, alloc, line);
+    let read = match &asked {
+        Ok(order) => told(alloc, order),
+        Err(fault) => format!(in alloc; "{}", fault.status()),
+    };
+    drop(asked);
+    read.expect(rt, "room for the order or the status")
+}
+
+// Asserts that these are the orders of these command lines, or the status of their faults.
+pub(crate) fn are_read(rt: &impl Abort, alloc: Global, lines: &[(&str, &str)]) {
+    for (line, answer) in lines {
+        is_read(rt, alloc, line, answer);
     }
 }
 
-fn told(alloc: Global, order: &Order) -> Result<String, Fail> {
+fn is_read(rt: &impl Abort, alloc: Global, line: &str, answer: &str) {
+    let read = read(rt, alloc, line);
+    assert_eq!(rt; read.as_str(), answer, "{line}");
+}
+
+fn told(alloc: Global, order: &Order) -> Result<String, AllocError> {
     match order {
-        Order::Stream { realm } => Ok(format!(in alloc; "stream {realm}")?),
+        Order::Stream { realm } => format!(in alloc; "stream {realm}"),
         Order::Script { members, realm } => {
-            Ok(format!(in alloc; "script {} {realm}", members.count())?)
+            format!(in alloc; "script {} {realm}", members.count())
         }
         Order::Serve {
             members,
@@ -36,17 +64,28 @@ fn told(alloc: Global, order: &Order) -> Result<String, Fail> {
                 Some(name) => name.as_str(),
                 None => "-",
             };
-            Ok(format!(in alloc; "serve {} {port} {key} {dir} {realm}", members.count())?)
+            format!(in alloc; "serve {} {port} {key} {dir} {realm}", members.count())
         }
     }
 }
 
 // What is wrong with the command line.
-fn cause(alloc: Global, line: &str) -> Result<String, Fail> {
-    match order_of(alloc, &words_of(alloc, line)?) {
-        Ok(order) => told(alloc, &order),
-        Err(fault) => Ok(format!(in alloc; "{fault}")?),
-    }
+fn cause(rt: &impl Abort, alloc: Global, line: &str) -> String {
+    let asked = asked(rt, alloc, line);
+    let cause = match &asked {
+        Ok(order) => told(alloc, order),
+        Err(fault) => format!(in alloc; "{fault}"),
+    };
+    drop(asked);
+    cause.expect(rt, "room for the cause")
+}
+
+// The text that a command line asks for, if it asks for one.
+fn help(rt: &impl Abort, alloc: Global, line: &str) -> Option<String> {
+    let words = words_of(rt, alloc, line);
+    let told = help_of(alloc, &words);
+    drop(words);
+    told.expect(rt, "a text or none")
 }
 
 // Command lines, and what they ask for or the status of their fault.
@@ -92,76 +131,84 @@ const LINES: &[(&str, &str)] = &[
 ];
 
 #[test]
-fn reads_command_lines(rt: HostRuntime) -> Result<(), Fail> {
-    for (line, answer) in LINES {
-        assert_eq!(rt; read(rt.alloc(), line)?.as_str(), *answer, "{line}");
-    }
-    Ok(())
+fn reads_command_lines(rt: HostRuntime) {
+    are_read(&rt, rt.alloc(), LINES);
+}
+
+// Command lines, and what tells what may have been meant.
+const HINTS: &[(&str, &str)] = &[
+    ("steam", "tip: a similar subcommand exists: 'stream'"),
+    (
+        "stream --relam a",
+        "tip: a similar argument exists: '--realm'",
+    ),
+    (
+        "help",
+        "error: unrecognized subcommand 'help'\n\nUsage: wampd stream [--realm NAME]\n",
+    ),
+    ("script --nodes 8", "error: a cluster has 3 to 7 nodes"),
+    (
+        "serve --nodes 8 --port 9000 --key 7",
+        "error: a cluster has 3 to 7 nodes",
+    ),
+    (
+        "serve --nodes 3 --port 1023 --key 7",
+        "error: a port is a number from 1024 to 65529",
+    ),
+    (
+        "serve --nodes 3 --port 9000 --key seven",
+        "error: a key is a number from 0 to 18446744073709551615",
+    ),
+    (
+        "serve --nodes 3 --port 9000 --key 7 --dir=",
+        "error: the name of a folder is not empty and does not begin with '-'",
+    ),
+    (
+        "serve --nodes 3 --prot 9000 --key 7",
+        "tip: a similar argument exists: '--port'",
+    ),
+];
+
+fn is_hinted(rt: &impl Abort, alloc: Global, line: &str, hint: &str) {
+    let cause = cause(rt, alloc, line);
+    assert!(rt; cause.contains(hint), "{line}");
 }
 
 #[test]
-fn says_what_may_have_been_meant(rt: HostRuntime) -> Result<(), Fail> {
-    for (line, hint) in [
-        ("steam", "tip: a similar subcommand exists: 'stream'"),
-        (
-            "stream --relam a",
-            "tip: a similar argument exists: '--realm'",
-        ),
-        (
-            "help",
-            "error: unrecognized subcommand 'help'\n\nUsage: wampd stream [--realm NAME]\n",
-        ),
-        ("script --nodes 8", "error: a cluster has 3 to 7 nodes"),
-        (
-            "serve --nodes 8 --port 9000 --key 7",
-            "error: a cluster has 3 to 7 nodes",
-        ),
-        (
-            "serve --nodes 3 --port 1023 --key 7",
-            "error: a port is a number from 1024 to 65529",
-        ),
-        (
-            "serve --nodes 3 --port 9000 --key seven",
-            "error: a key is a number from 0 to 18446744073709551615",
-        ),
-        (
-            "serve --nodes 3 --port 9000 --key 7 --dir=",
-            "error: the name of a folder is not empty and does not begin with '-'",
-        ),
-        (
-            "serve --nodes 3 --prot 9000 --key 7",
-            "tip: a similar argument exists: '--port'",
-        ),
-    ] {
-        assert!(rt; cause(rt.alloc(), line)?.contains(hint), "{line}");
+fn says_what_may_have_been_meant(rt: HostRuntime) {
+    for (line, hint) in HINTS {
+        is_hinted(&rt, rt.alloc(), line, hint);
     }
-    assert_eq!(rt; unreadable_words(rt.alloc()).status(), 2);
-    Ok(())
+    let unreadable = unreadable_words(rt.alloc());
+    assert_eq!(rt; unreadable.status(), 2);
+}
+
+// Command lines that ask for a text, and a part of it.
+const TEXTS: &[(&str, &str)] = &[
+    ("--version", "wampd 0.1.0\n"),
+    ("--help", "Usage: wampd <COMMAND>\n"),
+    ("stream --help", "Usage: wampd stream [OPTIONS]\n"),
+    (
+        "script --help",
+        "Usage: wampd script [OPTIONS] --nodes <N>\n",
+    ),
+    (
+        "serve --help",
+        "wampd serve --nodes 3 --port 9000 --key 7 --dir data",
+    ),
+    ("--help", "\n  serve "),
+];
+
+fn is_helped(rt: &impl Abort, alloc: Global, line: &str, text: &str) {
+    let told = help(rt, alloc, line).expect(rt, "the text is told");
+    assert!(rt; told.contains(text), "{line}");
 }
 
 #[test]
-fn tells_what_is_asked_for(rt: HostRuntime) -> Result<(), Fail> {
-    for (line, text) in [
-        ("--version", "wampd 0.1.0\n"),
-        ("--help", "Usage: wampd <COMMAND>\n"),
-        ("stream --help", "Usage: wampd stream [OPTIONS]\n"),
-        (
-            "script --help",
-            "Usage: wampd script [OPTIONS] --nodes <N>\n",
-        ),
-        (
-            "serve --help",
-            "wampd serve --nodes 3 --port 9000 --key 7 --dir data",
-        ),
-        ("--help", "\n  serve "),
-    ] {
-        let words = words_of(rt.alloc(), line)?;
-        let Ok(Some(told)) = help_of(rt.alloc(), &words) else {
-            return Err(Fail::from("the text is told"));
-        };
-        assert!(rt; told.contains(text), "{line}");
+fn tells_what_is_asked_for(rt: HostRuntime) {
+    for (line, text) in TEXTS {
+        is_helped(&rt, rt.alloc(), line, text);
     }
-    let words = words_of(rt.alloc(), "stream")?;
-    assert!(rt; matches!(help_of(rt.alloc(), &words), Ok(None)));
-    Ok(())
+    let told = help(&rt, rt.alloc(), "stream");
+    assert!(rt; told.is_none());
 }

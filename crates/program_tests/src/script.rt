@@ -1,7 +1,8 @@
-use crate::ends::{Paper, reader_of};
+use crate::ends::{Paper, Pieces, new_paper, reader_of};
 use cluster_program::{Members, RunFault, script_run};
 use std::alloc::{AllocError, Global};
-use std::test::Fail;
+use std::fmt::Write;
+use std::process::Abort;
 
 // What WELCOME announces; a row says W in its place.
 const FEATURES: &str =
@@ -9,11 +10,11 @@ const FEATURES: &str =
 \"dealer\":{\"features\":{\"call_canceling\":true,\"pattern_based_registration\":true,\"shared_registration\":true}}}}";
 
 // A script in a cluster of so many nodes, and the text that it writes: each node's, and what transports were told.
-struct Row {
-    nodes: u8,
-    script: &'static str,
-    logs: &'static [&'static str],
-    told: &'static str,
+pub(crate) struct Row {
+    pub(crate) nodes: u8,
+    pub(crate) script: &'static str,
+    pub(crate) logs: &'static [&'static str],
+    pub(crate) told: &'static str,
 }
 
 const SESSION: &str =
@@ -108,73 +109,86 @@ to 3 1 1 [6,{},\"wamp.close.system_shutdown\"]\nto 3 1 1 close\n",
     },
 ];
 
-// The text of a row.
-fn text_of(alloc: Global, row: &Row) -> Result<String, AllocError> {
-    let mut text = String::new(alloc);
+// Puts the text of a row.
+fn put_row(row: &Row, text: &mut String) -> Result<(), AllocError> {
+    put_logs(row.logs, text)?;
+    for line in row.told.lines() {
+        put_told(line, text)?;
+    }
+    Ok(())
+}
+
+// Puts the nodes' logs, each node's first line behind its number.
+fn put_logs(logs: &[&str], text: &mut String) -> Result<(), AllocError> {
     let mut node = 0_u8;
-    for log in row.logs {
+    for log in logs {
         if log.starts_with("up") || log.starts_with("down") {
             node = node.wrapping_add(1);
-            text.push_str(format!(in alloc; "node {node} ")?.as_str())?;
+            write!(text, "node {node} ").or(Err(AllocError))?;
         }
         text.push_str(log)?;
     }
-    for line in row.told.lines() {
-        match line.strip_suffix("W]") {
-            Some(front) => text.push_str(format!(in alloc; "{front}{FEATURES}]\n")?.as_str())?,
-            None => text.push_str(format!(in alloc; "{line}\n")?.as_str())?,
-        }
-    }
-    Ok(text)
+    Ok(())
+}
+
+// Puts a line of what transports were told.
+fn put_told(line: &str, text: &mut String) -> Result<(), AllocError> {
+    let written = match line.strip_suffix("W]") {
+        Some(front) => writeln!(text, "{front}{FEATURES}]"),
+        None => writeln!(text, "{line}"),
+    };
+    written.or(Err(AllocError))
+}
+
+// A run from the one to the other.
+fn run(
+    alloc: Global,
+    reader: &mut Pieces<'_>,
+    paper: &mut Paper,
+    members: Members,
+) -> Result<(), RunFault> {
+    script_run(alloc, reader, paper, members, "realm1")
 }
 
 // What a script writes that is read by so many octets at a time, and how it ends.
 fn play(
+    rt: &impl Abort,
     alloc: Global,
     nodes: u8,
     script: &[u8],
     most: usize,
-) -> Result<(Vec<u8>, Result<(), RunFault>), Fail> {
-    let Some(members) = Members::new(nodes) else {
-        return Err(Fail::from("a number of nodes"));
-    };
-    let mut written = Vec::new(alloc);
-    let outcome = script_run(
-        alloc,
-        &mut reader_of(script, most),
-        &mut written,
-        members,
-        "realm1",
-    );
-    Ok((written, outcome))
+) -> (Vec<u8>, Result<(), RunFault>) {
+    let members = Members::new(nodes).expect(rt, "a number of nodes");
+    let mut paper = new_paper(alloc, None);
+    let outcome = run(alloc, &mut reader_of(script, most), &mut paper, members);
+    (paper.octets, outcome)
+}
+
+pub(crate) fn is_played(rt: &impl Abort, alloc: Global, row: &Row, most: usize) {
+    let (written, outcome) = play(rt, alloc, row.nodes, row.script.as_bytes(), most);
+    let mut text = String::new(alloc);
+    put_row(row, &mut text).expect(rt, "room for a text");
+    assert_eq!(rt; outcome, Ok(()), "{}", row.script);
+    assert_eq!(rt; written.as_slice(), text.as_bytes(), "{}", row.script);
 }
 
 #[test]
-fn plays_scripts(rt: HostRuntime) -> Result<(), Fail> {
+fn plays_scripts(rt: HostRuntime) {
     for row in ROWS {
-        for most in [7, 65536] {
-            let (written, outcome) = play(rt.alloc(), row.nodes, row.script.as_bytes(), most)?;
-            assert_eq!(rt; outcome, Ok(()), "{}", row.script);
-            assert_eq!(rt;
-                written.as_slice(),
-                text_of(rt.alloc(), row)?.as_bytes(),
-                "{}",
-                row.script
-            );
-        }
+        is_played(&rt, rt.alloc(), row, 7);
+        is_played(&rt, rt.alloc(), row, 65536);
     }
-    Ok(())
 }
 
 #[test]
-fn counts_draws_by_what_is_said(rt: HostRuntime) -> Result<(), Fail> {
+fn counts_draws_by_what_is_said(rt: HostRuntime) {
     let script =
         "crash 3\ntake 3 1 say {\nstart 1\nflush\ntake 1 1 connect\ntake 1 1 say [1,\"realm1\",{}]\nflush\n";
-    let (written, outcome) = play(rt.alloc(), 3, script.as_bytes(), 64)?;
+    let (written, outcome) = play(&rt, rt.alloc(), 3, script.as_bytes(), 64);
     assert_eq!(rt; outcome, Ok(()));
-    let end = format!(in rt.alloc(); "node 3 down\nto 1 1 1 [2,2,{FEATURES}]\n")?;
+    let mut end = String::from_str(rt.alloc(), "node 3 down\n").expect(&rt, "room for a text");
+    put_told("to 1 1 1 [2,2,W]", &mut end).expect(&rt, "room for a line");
     assert!(rt; written.as_slice().ends_with(end.as_bytes()));
-    Ok(())
 }
 
 // Scripts of which a line is no event, and its number.
@@ -187,88 +201,86 @@ const BAD: &[(&[u8], u64)] = &[
     (b"tick 1\r\n", 1),
 ];
 
+fn is_bad(rt: &impl Abort, alloc: Global, script: &[u8], number: u64) {
+    let (written, outcome) = play(rt, alloc, 3, script, 5);
+    assert_eq!(rt; outcome, Err(RunFault::Line(number)), "{script:?}");
+    assert!(rt; written.is_empty(), "{script:?}");
+}
+
 #[test]
-fn writes_nothing_where_a_line_is_bad(rt: HostRuntime) -> Result<(), Fail> {
+fn writes_nothing_where_a_line_is_bad(rt: HostRuntime) {
     for (script, number) in BAD {
-        let (written, outcome) = play(rt.alloc(), 3, script, 5)?;
-        assert_eq!(rt; outcome, Err(RunFault::Line(*number)), "{script:?}");
-        assert!(rt; written.is_empty(), "{script:?}");
+        is_bad(&rt, rt.alloc(), script, *number);
     }
-    Ok(())
 }
 
 // A script that fails in a read or a write.
 const SCRIPT: &[u8] =
     b"start 1\nflush\ntake 2 1 connect\ntake 2 1 say [1,\"realm1\",{}]\nflush\ncrash 3\n";
 
+fn stops_behind_reads(rt: &impl Abort, alloc: Global, members: Members, reads: u32) {
+    let mut reader = reader_of(SCRIPT, 16);
+    reader.reads_before_failure = Some(reads);
+    let mut paper = new_paper(alloc, None);
+    let outcome = run(alloc, &mut reader, &mut paper, members);
+    if reader.reads_before_failure.is_none() {
+        assert_eq!(rt; outcome, Err(RunFault::Transport(83)), "after {reads}");
+        assert!(rt; paper.octets.is_empty(), "after {reads}");
+    } else {
+        assert_eq!(rt; outcome, Ok(()), "after {reads}");
+    }
+}
+
 #[test]
-fn stops_at_a_failed_read_of_a_script(rt: HostRuntime) -> Result<(), Fail> {
-    let Some(members) = Members::new(3) else {
-        return Err(Fail::from("a number of nodes"));
-    };
+fn stops_at_a_failed_read_of_a_script(rt: HostRuntime) {
+    let members = Members::new(3).expect(&rt, "a number of nodes");
     for reads in 0..10 {
-        let mut reader = reader_of(SCRIPT, 16);
-        reader.reads_before_failure = Some(reads);
-        let mut written = Vec::new(rt.alloc());
-        let outcome = script_run(rt.alloc(), &mut reader, &mut written, members, "realm1");
-        if reader.reads_before_failure.is_none() {
-            assert_eq!(rt; outcome, Err(RunFault::Transport(83)), "after {reads}");
-            assert!(rt; written.is_empty(), "after {reads}");
-        } else {
-            assert_eq!(rt; outcome, Ok(()), "after {reads}");
-        }
+        stops_behind_reads(&rt, rt.alloc(), members, reads);
     }
-    Ok(())
+}
+
+fn ends_behind_writes(
+    rt: &impl Abort,
+    alloc: Global,
+    members: Members,
+    calls: u32,
+    outcome: Result<(), RunFault>,
+) {
+    let mut paper = new_paper(alloc, Some(calls));
+    let mut reader = reader_of(SCRIPT, 64);
+    let ended = run(alloc, &mut reader, &mut paper, members);
+    assert_eq!(rt; ended, outcome, "after {calls}");
 }
 
 #[test]
-fn stops_at_a_failed_write_of_a_script(rt: HostRuntime) -> Result<(), Fail> {
-    let Some(members) = Members::new(3) else {
-        return Err(Fail::from("a number of nodes"));
-    };
-    for (calls, outcome) in [
-        (0, Err(RunFault::Transport(84))),
-        (1, Err(RunFault::Transport(84))),
-        (2, Ok(())),
-    ] {
-        let mut paper = Paper {
-            octets: Vec::new(rt.alloc()),
-            longest: 0,
-            calls_before_failure: Some(calls),
-        };
-        let mut reader = reader_of(SCRIPT, 64);
-        let ended = script_run(rt.alloc(), &mut reader, &mut paper, members, "realm1");
-        assert_eq!(rt; ended, outcome, "after {calls}");
-    }
-    Ok(())
+fn stops_at_a_failed_write_of_a_script(rt: HostRuntime) {
+    let members = Members::new(3).expect(&rt, "a number of nodes");
+    let failed = Err(RunFault::Transport(84));
+    ends_behind_writes(&rt, rt.alloc(), members, 0, failed);
+    ends_behind_writes(&rt, rt.alloc(), members, 1, failed);
+    ends_behind_writes(&rt, rt.alloc(), members, 2, Ok(()));
 }
 
-// A script of so many turns of a client that opens a session and leaves.
-fn long_script(alloc: Global, turns: u16) -> Result<Vec<u8>, AllocError> {
-    let mut script = Vec::from_slice(alloc, b"start 1\nflush\ntake 2 1 connect\n")?;
+// Puts a script of so many turns of a client that opens a session and leaves.
+fn put_turns(script: &mut Vec<u8>, turns: u16) -> Result<(), AllocError> {
+    script.extend_from_slice(b"start 1\nflush\ntake 2 1 connect\n")?;
     for _ in 0..turns {
         script.extend_from_slice(
             b"take 2 1 say [1,\"realm1\",{}]\ntake 2 1 say [6,{},\"x\"]\nflush\n",
         )?;
     }
-    Ok(script)
+    Ok(())
 }
 
 #[test]
-fn writes_before_much_text_waits(rt: HostRuntime) -> Result<(), Fail> {
-    let Some(members) = Members::new(3) else {
-        return Err(Fail::from("a number of nodes"));
-    };
-    let script = long_script(rt.alloc(), 400)?;
-    let mut paper = Paper {
-        octets: Vec::new(rt.alloc()),
-        longest: 0,
-        calls_before_failure: None,
-    };
+fn writes_before_much_text_waits(rt: HostRuntime) {
+    let members = Members::new(3).expect(&rt, "a number of nodes");
+    let mut script = Vec::new(rt.alloc());
+    put_turns(&mut script, 400).expect(&rt, "room for a script");
+    let mut paper = new_paper(rt.alloc(), None);
     let mut reader = reader_of(script.as_slice(), 1 << 20);
-    let outcome = script_run(rt.alloc(), &mut reader, &mut paper, members, "realm1");
+    let outcome = run(rt.alloc(), &mut reader, &mut paper, members);
     assert_eq!(rt; outcome, Ok(()));
     assert!(rt; paper.longest >= 65536 && paper.longest < 65536 + 256);
     assert!(rt; paper.octets.len() > 400 * (213 + 39));
-    Ok(())
 }

@@ -5,7 +5,6 @@ use std::io::{Read, Write};
 use std::net::{Ipv4Addr, Net, TcpStream};
 use std::sync::Arc;
 use std::sync::atomic::{AtomicBool, Ordering};
-use std::test::Fail;
 use std::time::{Clock, Duration};
 use std::{io, thread};
 
@@ -68,6 +67,17 @@ impl<R: Clock> Read for Input<R> {
     }
 }
 
+// A stream to this port, as soon as it is listened on.
+fn connected<R: Net<Stream = TcpStream> + Clock>(rt: &R, port: u16) -> io::Result<TcpStream> {
+    for _ in 0..POLLS {
+        if let Ok(stream) = TcpStream::connect(rt, (Ipv4Addr::LOCALHOST, port)) {
+            return Ok(stream);
+        }
+        thread::sleep(rt, Duration::from_millis(1));
+    }
+    Err(io::ErrorKind::TimedOut.into())
+}
+
 // A client, which has done the handshake.
 #[derive(Drop)]
 struct Client {
@@ -77,15 +87,16 @@ struct Client {
 impl Client {
     // Connects as soon as the port is listened on.
     fn open<R: Net<Stream = TcpStream> + Clock>(rt: &R, port: u16) -> io::Result<Client> {
-        for _ in 0..POLLS {
-            if let Ok(stream) = TcpStream::connect(rt, (Ipv4Addr::LOCALHOST, port)) {
-                let mut client = Client { stream };
-                client.greet()?;
-                return Ok(client);
+        let mut client = Client {
+            stream: connected(rt, port)?,
+        };
+        match client.greet() {
+            Ok(()) => Ok(client),
+            Err(error) => {
+                drop(client);
+                Err(error)
             }
-            thread::sleep(rt, Duration::from_millis(1));
         }
-        Err(io::ErrorKind::TimedOut.into())
     }
 
     fn greet(&mut self) -> io::Result<()> {
@@ -102,6 +113,13 @@ impl Client {
         };
         self.stream.write_all(&[0, 0, 0, length])?;
         self.stream.write_all(text.as_bytes())
+    }
+
+    // Sends a message, and takes its answer.
+    fn ask(&mut self, alloc: Global, text: &str) -> io::Result<()> {
+        self.say(text)?;
+        drop(self.hear(alloc)?);
+        Ok(())
     }
 
     // The next message; empty where it has 256 octets or more.
@@ -124,25 +142,38 @@ impl Client {
 // A client of node 1 subscribes, and once it is answered one of node 2 publishes: what the first one is told.
 fn event_of<R: Net<Stream = TcpStream> + Clock>(rt: &R, alloc: Global) -> io::Result<String> {
     let mut first = Client::open(rt, PORT)?;
-    first.say(HELLO)?;
-    let _welcome = first.hear(alloc)?;
-    first.say(r#"[32,1,{},"a.b"]"#)?;
-    let _subscribed = first.hear(alloc)?;
+    let heard = event_at(rt, alloc, &mut first);
+    drop(first);
+    heard
+}
+
+fn event_at<R: Net<Stream = TcpStream> + Clock>(
+    rt: &R,
+    alloc: Global,
+    first: &mut Client,
+) -> io::Result<String> {
+    first.ask(alloc, HELLO)?;
+    first.ask(alloc, r#"[32,1,{},"a.b"]"#)?;
     let mut second = Client::open(rt, PORT + 1)?;
-    second.say(HELLO)?;
-    let _welcome = second.hear(alloc)?;
+    let heard = event_between(alloc, first, &mut second);
+    drop(second);
+    heard
+}
+
+fn event_between(alloc: Global, first: &mut Client, second: &mut Client) -> io::Result<String> {
+    second.ask(alloc, HELLO)?;
     second.say(r#"[16,2,{},"a.b",["hi"]]"#)?;
     first.hear(alloc)
 }
 
 #[test]
-fn an_event_crosses_nodes_that_step_on_threads_of_their_own(rt: HostRuntime) -> Result<(), Fail> {
+fn an_event_crosses_nodes_that_step_on_threads_of_their_own(rt: HostRuntime) {
     let alloc = rt.alloc();
     let members = Members::new(3).expect(&rt, "three nodes");
-    let over = Arc::new(alloc, AtomicBool::new(false))?;
+    let over = Arc::new(alloc, AtomicBool::new(false)).expect(&rt, "room for a flag");
     let input = Input {
-        rt: rt.clone()?,
-        over: Arc::try_clone(&over)?,
+        rt: rt.clone().expect(&rt, "the same handle"),
+        over: Arc::try_clone(&over).expect(&rt, "the same flag"),
     };
     let gate = InTurn {
         rt: &rt,
@@ -162,7 +193,7 @@ fn an_event_crosses_nodes_that_step_on_threads_of_their_own(rt: HostRuntime) -> 
     );
     assert!(rt; served.is_ok());
     assert!(rt; gate.second.load(Ordering::SeqCst));
-    let heard = heard?;
+    let heard = heard.expect(&rt, "an event");
     assert!(rt; heard.as_str().starts_with("[36,1,"));
     assert!(rt; heard.as_str().ends_with(r#",{},["hi"]]"#));
     let told = str::from_utf8(told.as_slice()).expect(&rt, "text");
@@ -170,5 +201,4 @@ fn an_event_crosses_nodes_that_step_on_threads_of_their_own(rt: HostRuntime) -> 
         told,
         "node 1 listens on 127.0.0.1:24871\nnode 2 listens on 127.0.0.1:24872\nnode 3 listens on 127.0.0.1:24873\n"
     );
-    Ok(())
 }

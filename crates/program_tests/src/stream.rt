@@ -1,6 +1,7 @@
-use crate::ends::{Paper, reader_of};
+use crate::ends::{Paper, Pieces, new_paper, reader_of};
 use cluster_program::{RunFault, stream_run};
-use std::alloc::AllocError;
+use std::alloc::{AllocError, Global};
+use std::process::Abort;
 
 // The client's octets of the stored run.
 const ASKED: &[u8] = b"\x7F\xF1\0\0\
@@ -36,127 +37,154 @@ const CALLED: &[u8] = b"\
 \0\0\0\x1C[69,2,{\"mode\":\"killnowait\"}]\
 \0\0\0\x21[8,48,3,{},\"wamp.error.canceled\"]";
 
+// A run from the one to the other.
+fn run(alloc: Global, reader: &mut Pieces<'_>, paper: &mut Paper) -> Result<(), RunFault> {
+    stream_run(alloc, reader, paper, "realm1")
+}
+
 // What a run over these octets writes, and how it ends.
-fn answers(rt: &impl AllocGlobal, octets: &[u8], most: usize) -> (Vec<u8>, Result<(), RunFault>) {
-    let mut written = Vec::new(rt.alloc());
-    let outcome = stream_run(
-        rt.alloc(),
-        &mut reader_of(octets, most),
-        &mut written,
-        "realm1",
-    );
-    (written, outcome)
+fn answers(alloc: Global, octets: &[u8], most: usize) -> (Vec<u8>, Result<(), RunFault>) {
+    let mut paper = new_paper(alloc, None);
+    let outcome = run(alloc, &mut reader_of(octets, most), &mut paper);
+    (paper.octets, outcome)
+}
+
+fn answers_by(rt: &impl Abort, alloc: Global, most: usize) {
+    let (written, outcome) = answers(alloc, ASKED, most);
+    assert_eq!(rt; outcome, Ok(()), "by {most}");
+    assert_eq!(rt; written.as_slice(), ANSWERED, "by {most}");
 }
 
 #[test]
 fn answers_the_stored_run_in_any_pieces(rt: HostRuntime) {
-    for most in [1, 7, ASKED.len()] {
-        let (written, outcome) = answers(&rt, ASKED, most);
-        assert_eq!(rt; outcome, Ok(()), "by {most}");
-        assert_eq!(rt; written.as_slice(), ANSWERED, "by {most}");
-    }
+    answers_by(&rt, rt.alloc(), 1);
+    answers_by(&rt, rt.alloc(), 7);
+    answers_by(&rt, rt.alloc(), ASKED.len());
+}
+
+fn answers_calls_by(rt: &impl Abort, alloc: Global, most: usize) {
+    let (written, outcome) = answers(alloc, CALLING, most);
+    assert_eq!(rt; outcome, Ok(()), "by {most}");
+    assert!(rt; written.as_slice().ends_with(CALLED), "by {most}");
+    // The handshake's answer and WELCOME stand before.
+    assert_eq!(rt; written.len(), CALLED.len().wrapping_add(217), "by {most}");
 }
 
 #[test]
 fn answers_a_client_that_calls_itself(rt: HostRuntime) {
-    for most in [1, 7, CALLING.len()] {
-        let (written, outcome) = answers(&rt, CALLING, most);
-        assert_eq!(rt; outcome, Ok(()), "by {most}");
-        assert!(rt; written.as_slice().ends_with(CALLED), "by {most}");
-        // The handshake's answer and WELCOME stand before.
-        assert_eq!(rt; written.len(), CALLED.len().wrapping_add(217), "by {most}");
-    }
+    answers_calls_by(&rt, rt.alloc(), 1);
+    answers_calls_by(&rt, rt.alloc(), 7);
+    answers_calls_by(&rt, rt.alloc(), CALLING.len());
 }
 
 #[test]
 fn reads_nothing_behind_the_handshake_before_it_is_answered(rt: HostRuntime) {
     let mut reader = reader_of(b"\x7F\xF2\0\0rest", 8);
-    let mut written = Vec::new(rt.alloc());
-    let outcome = stream_run(rt.alloc(), &mut reader, &mut written, "realm1");
+    let mut paper = new_paper(rt.alloc(), None);
+    let outcome = run(rt.alloc(), &mut reader, &mut paper);
     assert_eq!(rt; outcome, Err(RunFault::Transport(81)));
-    assert_eq!(rt; written.as_slice(), b"\x7F\x10\0\0".as_slice());
+    assert_eq!(rt; paper.octets.as_slice(), b"\x7F\x10\0\0".as_slice());
     assert_eq!(rt; reader.octets, b"rest".as_slice());
+}
+
+// What faulty clients send, what they are answered, and the number of the fault.
+const FAULTS: &[(&[u8], &[u8], u8)] = &[
+    (b"", b"", 81),
+    (b"\x7F\xF1\0", b"", 81),
+    (b"\x7E\xF1\0\0", b"", 81),
+    (b"\x7F\xF1\0\x01", b"\x7F\x30\0\0", 81),
+    (b"\x7F\xF1\0\0\x03\0\0\0", b"\x7F\xB1\0\0", 82),
+    (b"\x7F\xF1\0\0\x08\0\0\0", b"\x7F\xB1\0\0", 82),
+    (b"\x7F\xF1\0\0\0\x10\0\x01", b"\x7F\xB1\0\0", 82),
+];
+
+fn ends_by_fault(rt: &impl Abort, alloc: Global, asked: &[u8], answered: &[u8], fault: u8) {
+    let (written, outcome) = answers(alloc, asked, 64);
+    assert_eq!(rt; outcome, Err(RunFault::Transport(fault)), "to {asked:?}");
+    assert_eq!(rt; written.as_slice(), answered, "to {asked:?}");
 }
 
 #[test]
 fn ends_by_faults_of_the_client(rt: HostRuntime) {
-    for (asked, answered, fault) in [
-        (&b""[..], &b""[..], 81),
-        (b"\x7F\xF1\0", b"", 81),
-        (b"\x7E\xF1\0\0", b"", 81),
-        (b"\x7F\xF1\0\x01", b"\x7F\x30\0\0", 81),
-        (b"\x7F\xF1\0\0\x03\0\0\0", b"\x7F\xB1\0\0", 82),
-        (b"\x7F\xF1\0\0\x08\0\0\0", b"\x7F\xB1\0\0", 82),
-        (b"\x7F\xF1\0\0\0\x10\0\x01", b"\x7F\xB1\0\0", 82),
-    ] {
-        let (written, outcome) = answers(&rt, asked, 64);
-        assert_eq!(rt; outcome, Err(RunFault::Transport(fault)), "to {asked:?}");
-        assert_eq!(rt; written.as_slice(), answered, "to {asked:?}");
+    for (asked, answered, fault) in FAULTS {
+        ends_by_fault(&rt, rt.alloc(), asked, answered, *fault);
     }
 }
 
+fn is_told(rt: &impl Abort, alloc: Global, fault: RunFault, text: &str, status: u8) {
+    let told = format!(in alloc; "{fault}").expect(rt, "room for a text");
+    assert_eq!(rt; told.as_str(), text);
+    assert_eq!(rt; fault.status(), status, "of {text}");
+}
+
 #[test]
-fn tells_faults(rt: HostRuntime) -> Result<(), AllocError> {
-    for (fault, text, status) in [
-        (RunFault::Line(7), "line 7: not an event", 3),
-        (RunFault::Store(61), "store: 61", 4),
-        (RunFault::Memory, "memory", 5),
-        (RunFault::Transport(81), "transport: 81", 6),
-    ] {
-        assert_eq!(rt; format!(in rt.alloc(); "{fault}")?.as_str(), text);
-        assert_eq!(rt; fault.status(), status, "of {text}");
-    }
-    Ok(())
+fn tells_faults(rt: HostRuntime) {
+    let alloc = rt.alloc();
+    is_told(&rt, alloc, RunFault::Line(7), "line 7: not an event", 3);
+    is_told(&rt, alloc, RunFault::Store(61), "store: 61", 4);
+    is_told(&rt, alloc, RunFault::Memory, "memory", 5);
+    is_told(&rt, alloc, RunFault::Transport(81), "transport: 81", 6);
+}
+
+fn ends_at(rt: &impl Abort, alloc: Global, end: usize, asked: &[u8]) {
+    let (written, outcome) = answers(alloc, asked, 64);
+    let due = if end < 4 {
+        Err(RunFault::Transport(81))
+    } else {
+        Ok(())
+    };
+    assert_eq!(rt; outcome, due, "at {end}");
+    assert!(rt; ANSWERED.starts_with(written.as_slice()), "at {end}");
 }
 
 #[test]
 fn answers_what_came_before_the_end(rt: HostRuntime) {
     for end in 0..ASKED.len() {
-        let (written, outcome) = answers(&rt, &ASKED[..end], 64);
-        let due = if end < 4 {
-            Err(RunFault::Transport(81))
-        } else {
-            Ok(())
-        };
-        assert_eq!(rt; outcome, due, "at {end}");
-        assert!(rt; ANSWERED.starts_with(written.as_slice()), "at {end}");
+        ends_at(&rt, rt.alloc(), end, &ASKED[..end]);
     }
+}
+
+fn stops_behind_reads(rt: &impl Abort, alloc: Global, reads: u32) {
+    let mut reader = reader_of(ASKED, 16);
+    reader.reads_before_failure = Some(reads);
+    let mut paper = new_paper(alloc, None);
+    let outcome = run(alloc, &mut reader, &mut paper);
+    if reader.reads_before_failure.is_none() {
+        assert_eq!(rt; outcome, Err(RunFault::Transport(83)), "after {reads}");
+    } else {
+        assert_eq!(rt; outcome, Ok(()), "after {reads}");
+    }
+    assert!(rt;
+        ANSWERED.starts_with(paper.octets.as_slice()),
+        "after {reads}"
+    );
 }
 
 #[test]
 fn stops_at_a_failed_read(rt: HostRuntime) {
     for reads in 0..16 {
-        let mut reader = reader_of(ASKED, 16);
-        reader.reads_before_failure = Some(reads);
-        let mut written = Vec::new(rt.alloc());
-        let outcome = stream_run(rt.alloc(), &mut reader, &mut written, "realm1");
-        if reader.reads_before_failure.is_none() {
-            assert_eq!(rt; outcome, Err(RunFault::Transport(83)), "after {reads}");
-        } else {
-            assert_eq!(rt; outcome, Ok(()), "after {reads}");
-        }
-        assert!(rt; ANSWERED.starts_with(written.as_slice()), "after {reads}");
+        stops_behind_reads(&rt, rt.alloc(), reads);
     }
+}
+
+fn stops_behind_writes(rt: &impl Abort, alloc: Global, calls: u32) {
+    let mut paper = new_paper(alloc, Some(calls));
+    let outcome = run(alloc, &mut reader_of(ASKED, 64), &mut paper);
+    if paper.calls_before_failure.is_none() {
+        assert_eq!(rt; outcome, Err(RunFault::Transport(84)), "after {calls}");
+    } else {
+        assert_eq!(rt; outcome, Ok(()), "after {calls}");
+    }
+    assert!(rt;
+        ANSWERED.starts_with(paper.octets.as_slice()),
+        "after {calls}"
+    );
 }
 
 #[test]
 fn stops_at_a_failed_write(rt: HostRuntime) {
     for calls in 0..12 {
-        let mut paper = Paper {
-            octets: Vec::new(rt.alloc()),
-            longest: 0,
-            calls_before_failure: Some(calls),
-        };
-        let outcome = stream_run(rt.alloc(), &mut reader_of(ASKED, 64), &mut paper, "realm1");
-        if paper.calls_before_failure.is_none() {
-            assert_eq!(rt; outcome, Err(RunFault::Transport(84)), "after {calls}");
-        } else {
-            assert_eq!(rt; outcome, Ok(()), "after {calls}");
-        }
-        assert!(rt;
-            ANSWERED.starts_with(paper.octets.as_slice()),
-            "after {calls}"
-        );
+        stops_behind_writes(&rt, rt.alloc(), calls);
     }
 }
 
@@ -188,56 +216,97 @@ fn put_long(
     out.extend_from_slice(back)
 }
 
-#[test]
-fn ends_at_an_event_that_is_too_wide(rt: HostRuntime) -> Result<(), AllocError> {
-    for (times, outcome) in [(496, Ok(())), (497, Err(RunFault::Transport(87)))] {
-        let mut asked = Vec::from_slice(rt.alloc(), SMALL.0)?;
-        let front = b"[16,2,{\"acknowledge\":true,\"exclude_me\":false},\"a\",[\"";
-        put_long(&mut asked, 0, front, times, b"\"]]")?;
-        let mut due = Vec::from_slice(rt.alloc(), SMALL.1)?;
-        due.extend_from_slice(b"\0\0\0\x08[17,2,3]")?;
-        if outcome.is_ok() {
-            put_long(&mut due, 0, b"[36,1,3,{},[\"", times, b"\"]]")?;
-        }
-        let (written, ending) = answers(&rt, asked.as_slice(), 65536);
-        assert_eq!(rt; ending, outcome, "at {times}");
-        assert_eq!(rt; written.as_slice(), due.as_slice(), "at {times}");
+// Asserts how a run over these octets ends, and what it writes.
+fn is_answered(
+    rt: &impl Abort,
+    alloc: Global,
+    asked: &[u8],
+    due: &[u8],
+    outcome: Result<(), RunFault>,
+) {
+    let (written, ending) = answers(alloc, asked, 65536);
+    assert_eq!(rt; ending, outcome);
+    assert_eq!(rt; written.as_slice(), due);
+}
+
+// What the client sends that publishes so wide an event, and what it is answered, the event with it where that fits.
+fn put_event(
+    asked: &mut Vec<u8>,
+    due: &mut Vec<u8>,
+    times: u16,
+    fits: bool,
+) -> Result<(), AllocError> {
+    asked.extend_from_slice(SMALL.0)?;
+    let front = b"[16,2,{\"acknowledge\":true,\"exclude_me\":false},\"a\",[\"";
+    put_long(asked, 0, front, times, b"\"]]")?;
+    due.extend_from_slice(SMALL.1)?;
+    due.extend_from_slice(b"\0\0\0\x08[17,2,3]")?;
+    if fits {
+        put_long(due, 0, b"[36,1,3,{},[\"", times, b"\"]]")?;
     }
     Ok(())
 }
 
+fn publishes(rt: &impl Abort, alloc: Global, times: u16, outcome: Result<(), RunFault>) {
+    let mut asked = Vec::new(alloc);
+    let mut due = Vec::new(alloc);
+    put_event(&mut asked, &mut due, times, outcome.is_ok()).expect(rt, "room for an event");
+    is_answered(rt, alloc, asked.as_slice(), due.as_slice(), outcome);
+}
+
 #[test]
-fn ends_at_a_pong_that_is_too_wide(rt: HostRuntime) -> Result<(), AllocError> {
-    for (times, outcome) in [(512, Ok(())), (513, Err(RunFault::Transport(87)))] {
-        let mut asked = Vec::from_slice(rt.alloc(), SMALL.0)?;
-        asked.extend_from_slice(b"\x02\0\0\0")?;
-        put_long(&mut asked, 1, b"", times, b"")?;
-        let mut due = Vec::from_slice(rt.alloc(), SMALL.1)?;
-        if outcome.is_ok() {
-            put_long(&mut due, 2, b"", times, b"")?;
-        }
-        let (written, ending) = answers(&rt, asked.as_slice(), 65536);
-        assert_eq!(rt; ending, outcome, "at {times}");
-        assert_eq!(rt; written.as_slice(), due.as_slice(), "at {times}");
+fn ends_at_an_event_that_is_too_wide(rt: HostRuntime) {
+    publishes(&rt, rt.alloc(), 496, Ok(()));
+    publishes(&rt, rt.alloc(), 497, Err(RunFault::Transport(87)));
+}
+
+// What the client sends with so wide a ping, and what it is answered, the pong with it where that fits.
+fn put_pong(
+    asked: &mut Vec<u8>,
+    due: &mut Vec<u8>,
+    times: u16,
+    fits: bool,
+) -> Result<(), AllocError> {
+    asked.extend_from_slice(SMALL.0)?;
+    asked.extend_from_slice(b"\x02\0\0\0")?;
+    put_long(asked, 1, b"", times, b"")?;
+    due.extend_from_slice(SMALL.1)?;
+    if fits {
+        put_long(due, 2, b"", times, b"")?;
     }
     Ok(())
 }
 
+fn pings(rt: &impl Abort, alloc: Global, times: u16, outcome: Result<(), RunFault>) {
+    let mut asked = Vec::new(alloc);
+    let mut due = Vec::new(alloc);
+    put_pong(&mut asked, &mut due, times, outcome.is_ok()).expect(rt, "room for a ping");
+    is_answered(rt, alloc, asked.as_slice(), due.as_slice(), outcome);
+}
+
 #[test]
-fn writes_before_many_replies_wait(rt: HostRuntime) -> Result<(), AllocError> {
-    let mut asked = Vec::from_slice(rt.alloc(), b"\x7F\xF1\0\0")?;
+fn ends_at_a_pong_that_is_too_wide(rt: HostRuntime) {
+    pings(&rt, rt.alloc(), 512, Ok(()));
+    pings(&rt, rt.alloc(), 513, Err(RunFault::Transport(87)));
+}
+
+// Puts a client's handshake, and many sessions that it opens and leaves.
+fn put_sessions(asked: &mut Vec<u8>) -> Result<(), AllocError> {
+    asked.extend_from_slice(b"\x7F\xF1\0\0")?;
     for _ in 0..1500 {
         asked.extend_from_slice(b"\0\0\0\x0F[1,\"realm1\",{}]\0\0\0\x0A[6,{},\"x\"]")?;
     }
-    let mut paper = Paper {
-        octets: Vec::new(rt.alloc()),
-        longest: 0,
-        calls_before_failure: None,
-    };
+    Ok(())
+}
+
+#[test]
+fn writes_before_many_replies_wait(rt: HostRuntime) {
+    let mut asked = Vec::new(rt.alloc());
+    put_sessions(&mut asked).expect(&rt, "room for sessions");
+    let mut paper = new_paper(rt.alloc(), None);
     let mut reader = reader_of(asked.as_slice(), 1 << 20);
-    let outcome = stream_run(rt.alloc(), &mut reader, &mut paper, "realm1");
+    let outcome = run(rt.alloc(), &mut reader, &mut paper);
     assert_eq!(rt; outcome, Ok(()));
     assert!(rt; paper.longest > 65536 && paper.longest < 65536 + 256);
     assert!(rt; paper.octets.len() > 1500 * (213 + 39));
-    Ok(())
 }

@@ -1,6 +1,4 @@
 use script_text::{Entry, Memory, Out, Transport, put_log, put_node, put_said};
-use std::alloc::Global;
-use std::test::Fail;
 
 // A log in which an Item comes before the one that its node took before it, and a boot is lost twice.
 const LOG: &[Entry<u8>] = &[
@@ -40,23 +38,18 @@ fn put_all(out: &mut Vec<u8>) -> Result<(), Memory> {
     put_said(out, transport, &Out::Close)
 }
 
-fn text(alloc: Global) -> Result<Vec<u8>, Memory> {
-    let mut out = Vec::new(alloc);
-    put_all(&mut out)?;
-    Ok(out)
-}
-
-fn expected(alloc: Global) -> Result<Vec<u8>, Memory> {
-    let mut out = Vec::from_slice(alloc, b"node 1 up\n")?;
+fn put_expected(out: &mut Vec<u8>) -> Result<(), Memory> {
+    out.extend_from_slice(b"node 1 up\n")?;
     out.extend_from_slice(LOG_TEXT)?;
     out.extend_from_slice(b"node 7 down\nto 2 281474976710655 1 close\n")?;
-    Ok(out)
+    Ok(())
 }
 
 #[test]
-fn logs_and_sayings_are_told(rt: HostRuntime) -> Result<(), Fail> {
-    let told = text(rt.alloc())?;
-    let wanted = expected(rt.alloc())?;
-    assert_eq!(rt; told.as_slice(), wanted.as_slice());
-    Ok(())
+fn logs_and_sayings_are_told(rt: HostRuntime) {
+    let mut told = Vec::new(rt.alloc());
+    put_all(&mut told).expect(&rt, "room for a text");
+    let mut expected = Vec::new(rt.alloc());
+    put_expected(&mut expected).expect(&rt, "room for a text");
+    assert_eq!(rt; told.as_slice(), expected.as_slice());
 }

@@ -1,6 +1,4 @@
-use std::alloc::Global;
 use std::process::Abort;
-use std::test::Fail;
 use waiting_packets::{Members, Memory, NodeSet, Waiting};
 
 // What is done, and what is told.
@@ -78,16 +76,16 @@ fn is_right(waiting: &mut Waiting, step: &Step) -> Result<bool, Memory> {
     }
 }
 
-fn play(rt: &impl Abort, waiting: &mut Waiting) -> Result<(), Fail> {
+fn play(rt: &impl Abort, waiting: &mut Waiting) {
     for step in STEPS {
-        assert!(rt; is_right(waiting, step)?);
+        let is_right = is_right(waiting, step).expect(rt, "room for a packet");
+        assert!(rt; is_right);
     }
-    Ok(())
 }
 
 #[test]
-fn the_first_packet_that_is_due_is_found(rt: HostRuntime) -> Result<(), Fail> {
-    let alloc: Global = rt.alloc();
-    let mut waiting = Waiting::new(alloc, Members::new(3).unwrap())?;
-    play(&rt, &mut waiting)
+fn the_first_packet_that_is_due_is_found(rt: HostRuntime) {
+    let members = Members::new(3).unwrap();
+    let mut waiting = Waiting::new(rt.alloc(), members).expect(&rt, "room for three nodes");
+    play(&rt, &mut waiting);
 }
