@@ -17,7 +17,7 @@ use Rattle.script_lines.specs.declared.line.Line.{Line}
 use Rattle.script_lines.specs.declared.lines.LinesFault.{LinesFault}
 use Rattle.script_lines.specs.declared.lines.LinesFault.TheVariants as lines
 use Rattle.script_lines.specs.Lines.{script_of, FailsBy}
-use Rattle.script_player.specs.Playing.{HandsOutAsRealm, events_of}
+use Rattle.script_program.specs.Playing.{HandsOutAsRealm, events_of}
 use Rattle.script_program.specs.declared.fault.ScriptFault.{ScriptFault}
 use Rattle.script_program.specs.declared.fault.ScriptFault.TheVariants as fault
 use Rattle.script_program.specs.Reading.{WereRead, StopsBy}

@@ -1,3 +1,8 @@
+mod Waits
+mod Dues
+mod Steps
+mod Turns
+mod Handing
 mod Intake
 mod Pages
 mod Texts

@@ -1,3 +1,5 @@
+pub mod Playing
+pub mod Player
 pub mod Reading
 pub mod Printing
 pub mod Text

@@ -10,7 +10,7 @@ use Rattle.realm_machine.specs.Machine.{realm_of}
 use Rattle.cluster_world.specs.Told.{WereHanded}
 use Rattle.cluster_world.specs.World.{World, node_at, played}
 use Rattle.script_lines.specs.declared.line.Line.{Line}
-use Rattle.script_player.specs.Playing.{events_of}
+use Rattle.script_program.specs.Playing.{events_of}
 use Rattle.script_text.specs.Text.{node_text, handed_text}
 
 -- so many nodes, from this one on: each with its log, slot 1 first

@@ -1,12 +1,12 @@
 ghost use Rattle.script_program.specs.Run.{Ends, ReadsLines};
 
 use crate::fault::ScriptFault;
+use crate::player::play;
 use crate::reading::read_all;
 use crate::world::write_world;
 use paxos_packets::Members;
 use realm_machine::Limits;
 use script_lines::{Line, lines_of};
-use script_player::play;
 use std::alloc::Global;
 use std::io::{Read, Write};
 

@@ -9,18 +9,18 @@ ghost use Rattle.realm_machine.specs.Machine.{live_of};
 ghost use Rattle.realm_machine.specs.Laws.{live_realm};
 ghost use Rattle.realm_machine.specs.Config.{Config};
 ghost use Rattle.script_lines.specs.declared.line.Line as lines;
-ghost use Rattle.script_player.specs.Playing.{IsPlayed};
+ghost use Rattle.script_program.specs.Playing.{IsPlayed};
 ghost use Rattle.script_program.specs.Printing.{Prints, PrintsSome, WritesSome};
 ghost use Rattle.script_program.specs.Text.{nodes_text, told_text, IsTextOf};
 
 use crate::fault::ScriptFault;
+use crate::laws::realms_are_handed_out;
 use crate::page::write_rest;
 use crate::text::{print_handed, print_node};
 use cluster_world::{Handings, World};
 use paxos_packets::Members;
 use realm_machine::Realm;
 use replica_machine::Machine;
-use script_player::laws::realms_are_handed_out;
 use std::alloc::Global;
 use std::io::Write;
 

@@ -1,5 +1,5 @@
 use Rattle.std.proofs.lemmas.Result.{err_from_is_err_and}
-use Rattle.script_player.specs.Playing.{events_of}
+use Rattle.script_program.specs.Playing.{events_of}
 use Rattle.realm_machine.specs.Machine.{begun}
 use Rattle.script_program.proofs.Ending.{world_wrong, world_printed}
 use Rattle.script_program.proofs.world.print_world.Goals as goal

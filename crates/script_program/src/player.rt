@@ -1,0 +1,244 @@
+ghost use Rattle.std.specs.Prelude.{◌≡◌, ◌+◌, ℕ, IfOk, OnOk, List, [], slice_get, length, drop, option_copied};
+ghost use Rattle.paxos_node.specs.declared.event.Event as occurred;
+ghost use Rattle.paxos_node.specs.declared.event.Event.TheVariants as happens;
+ghost use Rattle.realm_acts.specs.declared.act.Act as acted;
+ghost use Rattle.realm_acts.specs.Act.{same_act};
+ghost use Rattle.realm_machine.specs.Config.{Config};
+ghost use Rattle.realm_machine.specs.Laws.{live_realm};
+ghost use Rattle.realm_machine.specs.Machine.{live_of};
+ghost use Rattle.script_lines.specs.declared.line.Line.TheVariants as line;
+ghost use Rattle.cluster_world.specs.Scripts.{Stage, first_stage, happen, deliver_no, flush, most_deliveries, stage_behind};
+ghost use Rattle.cluster_world.specs.StandsAt.{StandsAt};
+ghost use Rattle.cluster_world.specs.World.{played};
+ghost use Rattle.script_program.specs.Playing.{IsPlayed, in_script, script_of};
+ghost use Rattle.script_program.specs.Player.{IsAt, DeliversFirst, send_all, send_if};
+
+use crate::realms::realms_of;
+use cluster_world::{Memory, World};
+use paxos_node::Event;
+use paxos_packets::{Body, Members, NodeSet, Packet};
+use realm_acts::Act;
+use realm_machine::{Limits, Realm};
+use script_lines::Line;
+use std::alloc::Global;
+use waiting_packets::Waiting;
+
+// How many packets one flush delivers at the most.
+const MOST_DELIVERIES: u32 = 100_000;
+
+/// The world that the lines of a script lead to, in a cluster of these members each of which has a realm of this name.
+///
+/// `Memory` comes where there was none for the world. A line takes the time of its events; a delivery beyond that a constant.
+pub fn play(
+    alloc: Global,
+    members: Members,
+    realm: &str,
+    limits: Limits,
+    lines: &[Line],
+) -> Result<World<Realm>, Memory>
+    ensures members { IfOk result (λ w. w.members ≡ members) }
+    ensures stands { IfOk result (λ w. IsPlayed (record { name = realm.now; limits = limits }) members lines.now w) }
+{
+    let mut player = Player::new(alloc, members, realm, limits)?;
+    match player.take_all(lines) {
+        Ok(()) => Ok(player.into_world()),
+        Err(fault) => {
+            drop(player);
+            Err(fault)
+        }
+    }
+}
+
+// A world, and its packets as flushes find them.
+#[derive(Drop)]
+pub(crate) struct Player {
+    alloc: Global,
+    world: World<Realm>,
+    waiting: Waiting,
+}
+
+impl Player {
+    // Before the first line.
+    fn new(alloc: Global, members: Members, realm: &str, limits: Limits) -> Result<Player, Memory>
+        ensures { IfOk result (λ player. IsAt (record { name = realm.now; limits = limits }) members player (first_stage members)) }
+    {
+        let Ok(waiting) = Waiting::new(alloc, members) else {
+            return Err(Memory);
+        };
+        let world = first_world(alloc, members, realm, limits)?;
+        Ok(Player {
+            alloc,
+            world,
+            waiting,
+        })
+    }
+
+    fn into_world(self) -> World<Realm>
+        ensures { result ≡ self.world }
+    {
+        self.world
+    }
+
+    // All lines, in order.
+    fn take_all(&mut self, lines: &[Line]) -> Result<(), Memory>
+        ensures { (config : Config) (members : ℕ) (s : Stage acted.Act) → IsAt config members self.old s →
+            OnOk result (IsAt config members self.new (stage_behind same_act members (script_of lines.now) s)) }
+    {
+        for line in lines {
+            self.take(line)?;
+        }
+        Ok(())
+    }
+
+    // What the line says.
+    fn take(&mut self, line: &Line) -> Result<(), Memory>
+        ensures { (config : Config) (members : ℕ) (s : Stage acted.Act) → IsAt config members self.old s →
+            OnOk result (IsAt config members self.new (stage_behind same_act members (in_script line.now) s)) }
+    {
+        match line {
+            Line::Take { node, number, act } => self.take_act(*node, *number, act),
+            Line::Tick { node } => self.happen(Event::Tick { node: *node }),
+            Line::Start { node } => self.happen(Event::Start { node: *node }),
+            Line::Suspect { node, other } => self.happen(Event::Suspect {
+                node: *node,
+                other: *other,
+            }),
+            Line::Deliver { packet } => self.deliver_no(*packet),
+            Line::Crash { node } => self.happen(Event::Crash { node: *node }),
+            Line::Restart { node } => self.happen(Event::Restart { node: *node }),
+            Line::Flush { among } => self.flush(*among),
+        }
+    }
+
+    // The node takes a copy of the act.
+    fn take_act(&mut self, node: u8, number: u32, act: &Act) -> Result<(), Memory>
+        ensures { (config : Config) (members : ℕ) (s : Stage acted.Act) → IsAt config members self.old s →
+            OnOk result (IsAt config members self.new (happen same_act members (happens.Take node number act.now) s)) }
+    {
+        let Ok(body) = act.copy(self.alloc) else {
+            return Err(Memory);
+        };
+        self.happen(Event::Take {
+            node,
+            transport: number,
+            body,
+        })
+    }
+
+    // One event happens, and what it sends waits.
+    fn happen(&mut self, event: Event<Act>) -> Result<(), Memory>
+        ensures { (config : Config) (members : ℕ) (s : Stage acted.Act) → IsAt config members self.old s →
+            OnOk result (IsAt config members self.new (happen same_act members event s)) }
+    {
+        let events = [event];
+        let ran = self.world.run(&events);
+        drop(events);
+        let Ok(()) = ran else {
+            return Err(Memory);
+        };
+        send_new(&self.world, &mut self.waiting)
+    }
+
+    // The packet with this number, from 1, reaches its addressee, if it was sent.
+    fn deliver_no(&mut self, number: u64) -> Result<(), Memory>
+        ensures { (config : Config) (members : ℕ) (s : Stage acted.Act) → IsAt config members self.old s →
+            OnOk result (IsAt config members self.new (stage_behind same_act members (in_script (line.Deliver number)) s)) }
+    {
+        match number.checked_sub(1) {
+            Some(place) => self.deliver_at(place as usize),
+            None => Ok(()),
+        }
+    }
+
+    // The packet at this place, from 0, reaches its addressee, if it was sent.
+    fn deliver_at(&mut self, place: usize) -> Result<(), Memory>
+        ensures { (config : Config) (members : ℕ) (s : Stage acted.Act) → IsAt config members self.old s →
+            OnOk result (IsAt config members self.new (deliver_no same_act members (place + 1) (slice_get s.world.sent place) s)) }
+    {
+        let Some(packet) = packet_at(&self.world, place) else {
+            return Ok(());
+        };
+        let Ok(packet) = packet.copy(self.alloc) else {
+            return Err(Memory);
+        };
+        self.happen(Event::Deliver { packet })?;
+        self.waiting.deliver(place);
+        Ok(())
+    }
+
+    // The first packet that is due between these nodes reaches its addressee, if one is; and whether one was.
+    fn deliver_first(&mut self, among: NodeSet) -> Result<bool, Memory>
+        ensures { (config : Config) (members : ℕ) (s : Stage acted.Act) → IsAt config members self.old s →
+            IfOk result (λ was_due. DeliversFirst config members among was_due s self.new) }
+    {
+        let Some(place) = self.waiting.first_due(among) else {
+            return Ok(false);
+        };
+        self.deliver_at(place)?;
+        Ok(true)
+    }
+
+    // Each packet that is due between these nodes reaches its addressee, until none is, or so many were delivered.
+    fn flush(&mut self, among: NodeSet) -> Result<(), Memory>
+        ensures { (config : Config) (members : ℕ) (s : Stage acted.Act) → IsAt config members self.old s →
+            OnOk result (IsAt config members self.new (flush same_act members among most_deliveries s)) }
+    {
+        for _turn in 0..MOST_DELIVERIES {
+            if !self.deliver_first(among)? {
+                return Ok(());
+            }
+        }
+        Ok(())
+    }
+}
+
+// The first world of these members.
+fn first_world(
+    alloc: Global,
+    members: Members,
+    realm: &str,
+    limits: Limits,
+) -> Result<World<Realm>, Memory>
+    ensures members { IfOk result (λ w. w.members ≡ members) }
+    ensures stands { IfOk result (λ w. StandsAt same_act live_of (live_realm (record { name = realm.now; limits = limits })) w []) }
+{
+    let realms = realms_of(alloc, members, realm, limits)?;
+    World::new(alloc, members, realms)
+}
+
+// Puts the packets that the world has sent since to those that wait.
+fn send_new(world: &World<Realm>, waiting: &mut Waiting) -> Result<(), Memory>
+    ensures { (config : Config) (es : List (occurred.Event acted.Act)) →
+        StandsAt same_act live_of (live_realm config) world.now es →
+        OnOk result (waiting.new ≡ send_all (drop (length waiting.old.sent) (played same_act world.now.members es).sent) waiting.old) }
+{
+    for place in waiting.count()..world.sent() {
+        send(packet_at(world, place), waiting)?;
+    }
+    Ok(())
+}
+
+// The packet at this place, from 0, of those that were ever sent.
+fn packet_at(world: &World<Realm>, place: usize) -> Option<&Packet<Act>>
+    ensures { (config : Config) (es : List (occurred.Event acted.Act)) →
+        StandsAt same_act live_of (live_realm config) world.now es →
+        option_copied result ≡ slice_get (played same_act world.now.members es).sent place }
+{
+    if place < world.sent() {
+        world.packet(place + 1)
+    } else {
+        None
+    }
+}
+
+fn send(packet: Option<&Packet<Act>>, waiting: &mut Waiting) -> Result<(), Memory>
+    ensures { OnOk result (waiting.new ≡ send_if (option_copied packet.entry) waiting.old) }
+{
+    let Some(packet) = packet else {
+        return Ok(());
+    };
+    let Ok(()) = waiting.send(packet.sender, packet.addressee) else {
+        return Err(Memory);
+    };
+    Ok(())
+}
