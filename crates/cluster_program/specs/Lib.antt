@@ -1,6 +1,2 @@
 pub mod Fault
-pub mod Replies
 pub mod Script
-pub mod Service
-pub mod Stream
-pub mod Turns

@@ -2,9 +2,9 @@
 use Rattle.std.specs.Prelude.{◌≡◌, ℕ, List, Option, Result, Ok, Err}
 use Rattle.script_program.specs.declared.fault.ScriptFault.{ScriptFault}
 use Rattle.script_program.specs.Run.{Ends}
-use Rattle.cluster_program.specs.declared.fault.RunFault.{RunFault}
+use Rattle.stream_program.specs.declared.fault.RunFault.{RunFault}
 use Rattle.cluster_program.specs.Fault.{script_fault_of}
-use Rattle.cluster_program.specs.Stream.{config_of}
+use Rattle.stream_program.specs.Stream.{config_of}
 
 abbrev pub answer_to : Result (Unit {0}) ScriptFault → Result (Unit {0}) RunFault
 answer_to (Ok x) = Ok x

@@ -1,140 +1,33 @@
+// How the faults of the parts below are told by the program.
 ghost use Rattle.std.specs.Prelude.{◌≡◌};
-ghost use Rattle.cluster_program.specs.Fault.{status_of};
+ghost use Rattle.cluster_program.specs.Fault.{script_fault_of, serve_fault_of};
 
 use client_listener::ListenFault;
-use realm_machine::Failed;
 use script_program::ScriptFault;
 use serve_program::ServeFault;
-use std::alloc::{AllocError, AllocFailed};
-use std::error::Error;
-use std::fmt;
-use wamp_messages::Memory;
+use stream_program::RunFault;
 
-/// Why a run of the program failed. It shows as the text that the program writes on standard error.
-#[derive(Clone, Copy, Debug, PartialEq, Eq, Hash)]
-pub enum RunFault {
-    /// The line of this number, from 1, is no event of a script.
-    Line(u64),
-    /// The store failed, with the number of its fault.
-    Store(u8),
-    /// Memory ran out.
-    Memory,
-    /// The transport failed, with the number of its fault.
-    Transport(u8),
-}
-
-impl RunFault {
-    /// The status with which the program ends: 3 to 6, in the order of the variants.
-    pub fn status(self) -> u8
-        ensures { result ≡ status_of self }
-    {
-        match self {
-            RunFault::Line(_) => 3,
-            RunFault::Store(_) => 4,
-            RunFault::Memory => 5,
-            RunFault::Transport(_) => 6,
-        }
+// The fault of a run whose script was not run to its end.
+pub(crate) fn of_script(fault: ScriptFault) -> RunFault
+    ensures { result ≡ script_fault_of fault }
+{
+    match fault {
+        ScriptFault::Line(number) => RunFault::Line(number),
+        ScriptFault::Memory => RunFault::Memory,
+        ScriptFault::Read => RunFault::from(ListenFault::Read),
+        ScriptFault::Write => RunFault::from(ListenFault::Write),
+        ScriptFault::Reads => RunFault::from(ListenFault::Turns),
     }
 }
 
-impl fmt::Display for RunFault {
-    fn fmt<W: fmt::Write>(&self, f: &mut fmt::Formatter<W>) -> fmt::Result {
-        match self {
-            RunFault::Line(number) => write!(f, "line {number}: not an event"),
-            RunFault::Store(fault) => write!(f, "store: {fault}"),
-            RunFault::Memory => write!(f, "memory"),
-            RunFault::Transport(fault) => write!(f, "transport: {fault}"),
-        }
-    }
-}
-
-impl Error for RunFault {}
-
-impl From<AllocError> for RunFault {
-    ghost use Rattle.cluster_program.specs.declared.fault.RunFault.TheVariants.{Memory};
-
-    ghost from_gives = { λ _ fault. fault ≡ Memory };
-
-    fn from(_error: AllocError) -> RunFault {
-        RunFault::Memory
-    }
-}
-
-impl<T: Drop> From<AllocFailed<T>> for RunFault {
-    ghost use Rattle.cluster_program.specs.declared.fault.RunFault.TheVariants.{Memory};
-
-    ghost from_gives = { λ _ fault. fault ≡ Memory };
-
-    fn from(_error: AllocFailed<T>) -> RunFault {
-        RunFault::Memory
-    }
-}
-
-impl From<Memory> for RunFault {
-    ghost use Rattle.cluster_program.specs.declared.fault.RunFault.TheVariants.{Memory};
-
-    ghost from_gives = { λ _ fault. fault ≡ Memory };
-
-    fn from(_error: Memory) -> RunFault {
-        RunFault::Memory
-    }
-}
-
-impl From<Failed> for RunFault {
-    ghost use Rattle.cluster_program.specs.declared.fault.RunFault.TheVariants.{Memory};
-
-    ghost from_gives = { λ _ fault. fault ≡ Memory };
-
-    fn from(_error: Failed) -> RunFault {
-        RunFault::Memory
-    }
-}
-
-impl From<ListenFault> for RunFault {
-    ghost use Rattle.cluster_program.specs.Fault.{run_fault_of};
-
-    ghost from_gives = { λ fault made. made ≡ run_fault_of fault };
-
-    fn from(fault: ListenFault) -> RunFault {
-        match fault {
-            ListenFault::Memory => RunFault::Memory,
-            ListenFault::Handshake
-            | ListenFault::Frame
-            | ListenFault::Read
-            | ListenFault::Write
-            | ListenFault::Turns
-            | ListenFault::Wide => RunFault::Transport(fault.number()),
-        }
-    }
-}
-
-impl From<ScriptFault> for RunFault {
-    ghost use Rattle.cluster_program.specs.Fault.{script_fault_of};
-
-    ghost from_gives = { λ fault made. made ≡ script_fault_of fault };
-
-    fn from(fault: ScriptFault) -> RunFault {
-        match fault {
-            ScriptFault::Line(number) => RunFault::Line(number),
-            ScriptFault::Memory => RunFault::Memory,
-            ScriptFault::Read => RunFault::from(ListenFault::Read),
-            ScriptFault::Write => RunFault::from(ListenFault::Write),
-            ScriptFault::Reads => RunFault::from(ListenFault::Turns),
-        }
-    }
-}
-
-impl From<ServeFault> for RunFault {
-    ghost use Rattle.cluster_program.specs.Fault.{serve_fault_of};
-
-    ghost from_gives = { λ fault made. made ≡ serve_fault_of fault };
-
-    fn from(fault: ServeFault) -> RunFault {
-        match fault {
-            ServeFault::Node { fault, .. } => RunFault::Store(fault),
-            ServeFault::Memory => RunFault::Memory,
-            ServeFault::Port => RunFault::from(ListenFault::Read),
-            ServeFault::Write => RunFault::from(ListenFault::Write),
-        }
+// The fault of a run whose cluster was not served to its end.
+pub(crate) fn of_serve(fault: ServeFault) -> RunFault
+    ensures { result ≡ serve_fault_of fault }
+{
+    match fault {
+        ServeFault::Node { fault, .. } => RunFault::Store(fault),
+        ServeFault::Memory => RunFault::Memory,
+        ServeFault::Port => RunFault::from(ListenFault::Read),
+        ServeFault::Write => RunFault::from(ListenFault::Write),
     }
 }

@@ -1,10 +1,10 @@
 ghost use Rattle.cluster_program.specs.Script.{Plays};
 
-use crate::fault::RunFault;
-use crate::service::LIMITS;
+use crate::fault::of_script;
 use program_order::Members;
 use std::alloc::Global;
 use std::io::{Read, Write};
+use stream_program::{LIMITS, RunFault};
 
 /// Plays a script in a cluster of these members, in the realm of this name: reads it whole, plays its lines, and writes the
 /// logs of all nodes and all that transports were told.
@@ -25,6 +25,8 @@ pub fn script_run<R: Read, W: Write>(
     ensures { Plays realm.now members result (R.remaining reader.old) (R.remaining reader.new)
         (W.contents writer.old) (W.contents writer.new) }
 {
-    script_program::script_run(alloc, reader, writer, members, realm, LIMITS)?;
-    Ok(())
+    match script_program::script_run(alloc, reader, writer, members, realm, LIMITS) {
+        Ok(()) => Ok(()),
+        Err(fault) => Err(of_script(fault)),
+    }
 }

@@ -1,4 +1,4 @@
-use crate::fault::RunFault;
+use crate::fault::of_serve;
 use program_order::Members;
 use serve_program::Gate;
 use std::io::{Eprint, Read, Write};
@@ -6,6 +6,7 @@ use std::net::{Net, TcpListener, TcpStream};
 use std::sync::Wait;
 use std::thread::Threads;
 use std::time::Clock;
+use stream_program::RunFault;
 
 /// Runs a cluster of these members, in the realm of this name, each node on a thread of its own under this gate, and serves clients: node I
 /// at port `port + I - 1` of 127.0.0.1, with draws by this key. Rows are kept in `dir/node-I.db`, without a folder in memory. Where each
@@ -42,8 +43,10 @@ where
     W: Write,
     G: Gate + Sync,
 {
-    serve_program::serve_run(
+    match serve_program::serve_run(
         rt, host, reader, writer, members, port, key, dir, realm, gate,
-    )?;
-    Ok(())
+    ) {
+        Ok(()) => Ok(()),
+        Err(fault) => Err(of_serve(fault)),
+    }
 }

@@ -1,0 +1,5 @@
+pub mod Fault
+pub mod Replies
+pub mod Service
+pub mod Stream
+pub mod Turns

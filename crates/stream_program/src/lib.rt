@@ -1,0 +1,15 @@
+//! What the program serves one client over a reader and a writer, from octets to octets (docs/PROTOCOL.md, "A stream"); the faults and limits of the
+//! program's runs.
+#![tactic(auto)]
+
+mod fault;
+mod progress;
+mod replies;
+mod service;
+mod stream;
+mod turns;
+
+pub use fault::RunFault;
+pub use realm_machine::Limits;
+pub use service::LIMITS;
+pub use stream::stream_run;
