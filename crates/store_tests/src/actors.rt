@@ -1,101 +1,116 @@
 // An actor over a table, whose store is in SQLite, in memory.
-ghost use Rattle.std.specs.Prelude.{◌≡◌, All};
+ghost use Rattle.std.specs.Prelude.{◌≡◌, All, IfSome};
 ghost use Rattle.mail_table.specs.Seats.{Owns};
 ghost use Rattle.paxos_node.specs.declared.view.Opened.TheVariants.{Never};
 
-use crate::sql::{Sql, new_keeper, open_again, run};
+use crate::sql::{Reopens, new_store};
 use crate::station::{Left, Station, again, number_of, opened};
 use core_tests::{Count, Number};
 use mail_table::{Mail, NodeSeat, Office, found};
-use node_actor::Members;
-use sqlite::MemStore;
+use node_actor::{Keeper, Machine, Members};
 use std::alloc::Global;
-use std::test::Fail;
+use std::process::Abort;
 
-type Storing<'a> = Station<'a, Count, Sql<MemStore>>;
-
-// An actor of node 2, one of three, over an empty store.
-fn open<'a>(
-    alloc: Global,
-    mail: &'a Mail<Number>,
-    seats: &mut Vec<NodeSeat<Number>>,
-    members: Members,
-) -> Result<Storing<'a>, Fail>
-    requires fresh { All (λ s. Owns mail.now s × (s.part.seen.opened ≡ Never)) seats.old.items }
-    requires members { members ≡ mail.now.members }
+// The seat of node 2, one of three.
+fn second(mail: &Mail<Number>, seats: &mut Vec<NodeSeat<Number>>) -> Option<NodeSeat<Number>>
+    requires { All (λ s. Owns mail.now s × (s.part.seen.opened ≡ Never)) seats.old.items }
+    ensures { IfSome result (λ s. Owns mail.now s × (s.part.seen.opened ≡ Never)) }
 {
-    let keeper = new_keeper(alloc)?;
     drop(seats.pop());
-    let Some(seat) = seats.pop() else {
-        drop(keeper);
-        return Err(Fail::from("a seat of node 2"));
-    };
-    opened(alloc, mail, seat, members, Count::new(alloc), keeper)
+    seats.pop()
 }
 
-// The store opened again, once the text was run in it.
-fn reopened(alloc: Global, keeper: Sql<MemStore>, sql: &str) -> Result<Sql<MemStore>, Fail> {
-    let mut conn = keeper.close();
-    run(&mut conn, sql)?;
-    open_again(alloc, conn)
-}
+// What goes over an actor is over any store, since each call at the types of a database is dear.
 
-// What is left of the actor.
-fn crashed<'a>(
+// What is left of the actor, and its store, opened again once the text was run in it.
+fn crashed<'a, K: Keeper<Number> + Reopens>(
+    rt: &impl Abort,
     alloc: Global,
-    station: Storing<'a>,
+    station: Station<'a, Count, K>,
     sql: &str,
-) -> Result<(Left<'a, Count>, Sql<MemStore>), Fail> {
+) -> (Left<'a, Count>, K) {
     let (left, keeper) = station.crash();
-    match reopened(alloc, keeper, sql) {
-        Ok(keeper) => Ok((left, keeper)),
-        Err(fail) => {
-            drop(left);
-            Err(fail)
-        },
-    }
+    (left, keeper.behind(rt, alloc, sql))
 }
 
 // The actor that goes on from this one.
-fn restarted<'a>(alloc: Global, station: Storing<'a>) -> Result<Storing<'a>, Fail> {
-    let (left, keeper) = crashed(alloc, station, "UPDATE meta SET boot = boot")?;
-    again(left.restart(alloc, Count::new(alloc), keeper))
+fn restarted<'a, K: Keeper<Number> + Reopens>(
+    rt: &impl Abort,
+    alloc: Global,
+    station: Station<'a, Count, K>,
+) -> Station<'a, Count, K> {
+    let (left, keeper) = crashed(rt, alloc, station, "UPDATE meta SET boot = boot");
+    again(rt, left.restart(alloc, Count::new(alloc), keeper))
 }
 
 const LAST: &str = "UPDATE meta SET boot = 281474976710655";
 
 // The round that the actor promised, and the fault of a restart where its store has the last boot number.
-fn ended(alloc: Global, station: Storing<'_>) -> Result<(u64, u8), Fail> {
-    let (left, keeper) = crashed(alloc, station, LAST)?;
+fn ended<K: Keeper<Number> + Reopens + Drop>(
+    rt: &impl Abort,
+    alloc: Global,
+    station: Station<'_, Count, K>,
+) -> (u64, u8) {
+    let (left, keeper) = crashed(rt, alloc, station, LAST);
     let round = left.promised();
-    let fault = number_of(left.restart(alloc, Count::new(alloc), keeper));
-    Ok((round, fault))
+    let fault = number_of(rt, left.restart(alloc, Count::new(alloc), keeper));
+    (round, fault)
 }
 
 // It begins five ballots, and promises each to itself.
-fn begin_five(station: &mut Storing<'_>) {
+fn begin_five<M: Machine, K: Keeper<M::Body>>(station: &mut Station<'_, M, K>) {
     for _ in 0..5 {
-        drop(station.start());
+        station.start();
     }
 }
 
-fn runs(alloc: Global, station: Storing<'_>) -> Result<(u64, u8), Fail> {
+fn lives<K: Keeper<Number> + Reopens + Drop>(
+    rt: &impl Abort,
+    alloc: Global,
+    station: Station<'_, Count, K>,
+) -> (u64, u8) {
     let mut station = station;
     begin_five(&mut station);
-    let again = restarted(alloc, station)?;
-    ended(alloc, again)
+    let again = restarted(rt, alloc, station);
+    ended(rt, alloc, again)
 }
 
-fn outlives(alloc: Global) -> Result<(u64, u8), Fail> {
-    let members = Members::new(3).ok_or("three members")?;
+// The same of an actor of node 2 at this table.
+fn at_table<K: Keeper<Number> + Reopens + Drop>(
+    rt: &impl Abort,
+    alloc: Global,
+    mail: &Mail<Number>,
+    seats: &mut Vec<NodeSeat<Number>>,
+    members: Members,
+    keeper: K,
+) -> (u64, u8)
+    requires fresh { All (λ s. Owns mail.now s × (s.part.seen.opened ≡ Never)) seats.old.items }
+    requires members { members ≡ mail.now.members }
+{
+    let Some(seat) = second(mail, seats) else {
+        panic!(rt; "no seat of node 2");
+    };
+    let station = opened(rt, alloc, mail, seat, members, Count::new(alloc), keeper);
+    lives(rt, alloc, station)
+}
+
+// The same over a new table.
+fn outlives<K: Keeper<Number> + Reopens + Drop>(
+    rt: &impl Abort,
+    alloc: Global,
+    keeper: K,
+) -> (u64, u8) {
+    let members = Members::new(3).expect(rt, "three members");
     let mut office = Office::new();
-    let (mail, mut seats) = found::<Number>(alloc, &mut office, members)?;
-    let station = open(alloc, &mail, &mut seats, members)?;
-    runs(alloc, station)
+    let Ok((mail, mut seats)) = found::<Number>(alloc, &mut office, members) else {
+        panic!(rt; "no room for a table");
+    };
+    at_table(rt, alloc, &mail, &mut seats, members, keeper)
 }
 
 #[test]
-fn a_promise_outlives_its_actor(rt: HostRuntime) -> Result<(), Fail> {
-    assert!(rt; outlives(rt.alloc())? == (5, 66));
-    Ok(())
+fn a_promise_outlives_its_actor(rt: HostRuntime) {
+    let alloc = rt.alloc();
+    let (round, fault) = outlives(&rt, alloc, new_store(&rt, alloc));
+    assert_eq!(rt; (round, fault), (5, 66));
 }

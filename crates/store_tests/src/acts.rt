@@ -1,63 +1,105 @@
+use crate::sql::{in_memory, opened};
 use acceptor_keeper::{Keeper, KeeperFault};
 use acceptor_store::SqlKeeper;
 use act_codec::ActCoder;
 use paxos_packets::{Ballot, Body, Change, Entry, Rows, Shared, Slot, Vote, Votes};
 use realm_acts::{Act, Id, Read};
-use sqlite::{Connection, MemStore};
+use sqlite::{Alter, Connection};
 use std::alloc::Global;
 use std::process::Abort;
-use std::test::Fail;
 use wamp_messages::{UnfitKind, read};
 
-type Sql = SqlKeeper<Act, ActCoder, MemStore>;
+type Sql<S> = SqlKeeper<Act, ActCoder, S>;
 
 // What a keeper answered: its fault's number or 0, the boot number, the round promised, and whether the votes are those that were asked
 // for, with equal acts.
 type Answer = (u8, u64, u64, bool);
 
-// What is read of a text.
-fn good(alloc: Global, text: &str) -> Option<Shared<Read>> {
-    let read = read(alloc, text.as_bytes()).ok()?;
-    Shared::new(alloc, read).ok()
+// What is committed, or what votes are compared with: nothing but the promise, votes besides, or votes for other acts.
+enum Part {
+    Promise,
+    Votes,
+    Others,
+}
+
+// What is asked of a store.
+enum Ask {
+    Load(Part),
+    Boot(Part),
+    Commit(Part),
+}
+
+// A call, and what it answers; a commit answers its fault alone.
+type Row = (Ask, Answer);
+
+// What is asked of a new store with votes for these acts and others, and what of it opened again.
+struct Case<'a> {
+    words: &'a [&'a str],
+    others: &'a [&'a str],
+    first: &'a [Row],
+    again: &'a [Row],
+}
+
+// The parts.
+#[derive(Drop)]
+struct Changes {
+    promise: Change<Act>,
+    votes: Change<Act>,
+    others: Change<Act>,
+}
+
+impl Changes {
+    fn part(&self, part: &Part) -> &Change<Act> {
+        match part {
+            Part::Promise => &self.promise,
+            Part::Votes => &self.votes,
+            Part::Others => &self.others,
+        }
+    }
 }
 
 // A SUBSCRIBE that is unfit and quiet, which only a PUBLISH may be: it has no spelling.
-fn quiet(alloc: Global) -> Option<Shared<Read>> {
-    let read = Read::Unfit {
+fn quiet(request: Id) -> Read {
+    Read::Unfit {
         kind: UnfitKind::Subscribe,
-        request: Id::new(1)?,
+        request,
         quiet: true,
-    };
-    Shared::new(alloc, read).ok()
+    }
 }
 
-// What is said, with draw 5.
-fn said(alloc: Global, word: &str) -> Option<Act> {
-    let draw = Id::new(5)?;
-    let read = if word == "quiet" {
-        quiet(alloc)?
-    } else {
-        good(alloc, word)?
-    };
-    Some(Act::Said { draw, read })
+// `quiet`, or what is read of the text of a message.
+fn read_in(rt: &impl Abort, alloc: Global, word: &str) -> Read {
+    if word == "quiet" {
+        return quiet(Id::new(1).expect(rt, "an id"));
+    }
+    read(alloc, word.as_bytes()).expect(rt, "room for a message")
 }
 
-// `connect`, `hang up`, `quiet`, or the text of a message.
-fn act(alloc: Global, word: &str) -> Option<Act> {
+fn shared(rt: &impl Abort, alloc: Global, read: Read) -> Shared<Read> {
+    match Shared::new(alloc, read) {
+        Ok(shared) => shared,
+        Err(_) => panic!(rt; "no room for a message"),
+    }
+}
+
+// `connect`, `hang up`, or what is said with draw 5.
+fn act(rt: &impl Abort, alloc: Global, word: &str) -> Act {
     if word == "connect" {
-        return Some(Act::Connect);
+        return Act::Connect;
     }
     if word == "hang up" {
-        return Some(Act::Hung);
+        return Act::Hung;
     }
-    said(alloc, word)
+    let draw = Id::new(5).expect(rt, "an id");
+    Act::Said {
+        draw,
+        read: shared(rt, alloc, read_in(rt, alloc, word)),
+    }
 }
 
 // A vote in this slot and the ballot (1, 1) for an Item with this act.
-fn vote(alloc: Global, slot: u64, word: &str) -> Option<Vote<Act>> {
-    let slot = Slot::new(slot)?;
-    let body = act(alloc, word)?;
-    Some(Vote {
+fn vote(slot: Slot, body: Act) -> Vote<Act> {
+    Vote {
         slot,
         ballot: Ballot { round: 1, node: 1 },
         entry: Entry::Item {
@@ -67,33 +109,33 @@ fn vote(alloc: Global, slot: u64, word: &str) -> Option<Vote<Act>> {
             transport: 1,
             body,
         },
-    })
+    }
 }
 
-fn put(alloc: Global, votes: &mut Votes<Act>, slot: u64, word: &str) -> Result<(), Fail> {
-    votes.put(vote(alloc, slot, word).ok_or("a vote")?)?;
-    Ok(())
+fn put(rt: &impl Abort, alloc: Global, votes: &mut Votes<Act>, slot: u64, word: &str) {
+    let slot = Slot::new(slot).expect(rt, "a slot");
+    let vote = vote(slot, act(rt, alloc, word));
+    votes.put(vote).expect(rt, "room for a vote");
 }
 
-// The promise (1, 1), and votes for these acts in the slots 1 and on.
-fn change(alloc: Global, words: &[&str]) -> Result<Change<Act>, Fail> {
-    let mut votes = Votes::new(alloc);
+// Votes for these acts in the slots 1 and on.
+fn put_all(rt: &impl Abort, alloc: Global, votes: &mut Votes<Act>, words: &[&str]) {
     let mut slot = 1u64;
     for word in words {
-        put(alloc, &mut votes, slot, word)?;
+        put(rt, alloc, votes, slot, word);
         slot = slot.saturating_add(1);
     }
-    Ok(Change {
-        promised: Some(Ballot { round: 1, node: 1 }),
-        votes,
-    })
 }
 
-fn answer(loaded: &Result<Rows<Act>, KeeperFault>, votes: &Votes<Act>) -> Answer {
-    let rows = match loaded {
-        Ok(rows) => rows,
-        Err(fault) => return (fault.number(), 0, 0, false),
-    };
+// The promise (1, 1) alone.
+fn promise(alloc: Global) -> Change<Act> {
+    Change {
+        promised: Some(Ballot { round: 1, node: 1 }),
+        votes: Votes::new(alloc),
+    }
+}
+
+fn answer(rows: &Rows<Act>, votes: &Votes<Act>) -> Answer {
     let promised = match rows.promised {
         Some(ballot) => ballot.round,
         None => 0,
@@ -101,137 +143,154 @@ fn answer(loaded: &Result<Rows<Act>, KeeperFault>, votes: &Votes<Act>) -> Answer
     (0, rows.boot, promised, rows.votes.same(votes))
 }
 
-fn opened(alloc: Global, conn: Connection<MemStore>) -> Result<Sql, Fail> {
-    if !conn.is_autocommit() {
-        return Err(Fail::from("a transaction"));
+fn answered(loaded: Result<Rows<Act>, KeeperFault>, votes: &Votes<Act>) -> Answer {
+    match loaded {
+        Ok(rows) => {
+            let answer = answer(&rows, votes);
+            drop(rows);
+            answer
+        }
+        Err(fault) => (fault.number(), 0, 0, false),
     }
-    match SqlKeeper::open(alloc, conn) {
-        Ok(keeper) => Ok(keeper),
-        Err((fault, _)) => Err(Fail::from(fault)),
-    }
 }
 
-fn new_keeper(alloc: Global) -> Result<Sql, Fail> {
-    opened(alloc, Connection::open_in_memory(alloc)?)
+// A store over any storage: one call each, without contracts.
+
+fn load<S: Alter>(keeper: &mut Sql<S>, votes: &Votes<Act>) -> Answer {
+    answered(keeper.load(), votes)
 }
 
-fn closed(alloc: Global, keeper: Sql) -> Result<Sql, Fail> {
-    opened(alloc, keeper.close())
+fn boot<S: Alter>(keeper: &mut Sql<S>, votes: &Votes<Act>) -> Answer {
+    answered(keeper.boot(), votes)
 }
 
-// One call each, without contracts.
-
-fn load(keeper: &mut Sql, votes: &Votes<Act>) -> Answer {
-    answer(&keeper.load(), votes)
-}
-
-fn boot(keeper: &mut Sql, votes: &Votes<Act>) -> Answer {
-    answer(&keeper.boot(), votes)
-}
-
-fn commit(keeper: &mut Sql, change: &Change<Act>) -> u8 {
+fn commit<S: Alter>(keeper: &mut Sql<S>, change: &Change<Act>) -> Answer {
     match keeper.commit(change) {
-        Ok(()) => 0,
-        Err(fault) => fault.number(),
+        Ok(()) => (0, 0, 0, false),
+        Err(fault) => (fault.number(), 0, 0, false),
     }
 }
 
-// What is committed: nothing but the promise, votes besides, and votes for other acts.
-#[derive(Drop)]
-struct Changes {
-    promise: Change<Act>,
-    votes: Change<Act>,
-    others: Change<Act>,
+fn asked<S: Alter>(keeper: &mut Sql<S>, changes: &Changes, ask: &Ask) -> Answer {
+    match ask {
+        Ask::Load(part) => load(keeper, &changes.part(part).votes),
+        Ask::Boot(part) => boot(keeper, &changes.part(part).votes),
+        Ask::Commit(part) => commit(keeper, changes.part(part)),
+    }
 }
 
-fn changes_of(alloc: Global, words: &[&str], others: &[&str]) -> Result<Changes, Fail> {
-    let promise = change(alloc, &[])?;
-    let votes = change(alloc, words)?;
-    let others = change(alloc, others)?;
-    Ok(Changes {
-        promise,
-        votes,
-        others,
-    })
+// Asks for each row.
+fn answers<S: Alter>(rt: &impl Abort, keeper: &mut Sql<S>, changes: &Changes, rows: &[Row]) {
+    for (ask, expected) in rows {
+        let found = asked(keeper, changes, ask);
+        assert_eq!(rt; found, *expected);
+    }
+}
+
+// The connection behind a store that was opened, asked for each row and closed.
+fn life<S: Alter>(
+    rt: &impl Abort,
+    alloc: Global,
+    conn: Connection<S>,
+    changes: &Changes,
+    rows: &[Row],
+) -> Connection<S> {
+    let mut keeper: Sql<S> = opened(rt, alloc, conn);
+    answers(rt, &mut keeper, changes, rows);
+    keeper.close()
+}
+
+fn two_lives<S: Alter + Drop>(
+    rt: &impl Abort,
+    alloc: Global,
+    conn: Connection<S>,
+    changes: &Changes,
+    case: &Case<'_>,
+) {
+    let conn = life(rt, alloc, conn, changes, case.first);
+    drop(life(rt, alloc, conn, changes, case.again));
+}
+
+// Goes over the case in memory, with these changes, which have no votes yet.
+fn run_with(rt: &impl Abort, alloc: Global, changes: &mut Changes, case: &Case<'_>) {
+    put_all(rt, alloc, &mut changes.votes.votes, case.words);
+    put_all(rt, alloc, &mut changes.others.votes, case.others);
+    two_lives(rt, alloc, in_memory(rt, alloc), changes, case);
+}
+
+fn run(rt: &impl Abort, alloc: Global, case: &Case<'_>) {
+    let mut changes = Changes {
+        promise: promise(alloc),
+        votes: promise(alloc),
+        others: promise(alloc),
+    };
+    run_with(rt, alloc, &mut changes, case);
+    drop(changes);
 }
 
 // A boot, a commit of the promise, one of the votes, and a load.
-fn first_run(keeper: &mut Sql, changes: &Changes) -> (Answer, u8, u8, Answer) {
-    (
-        boot(keeper, &changes.promise.votes),
-        commit(keeper, &changes.promise),
-        commit(keeper, &changes.votes),
-        load(keeper, &changes.votes.votes),
-    )
-}
+const FIRST: &[Row] = &[
+    (Ask::Boot(Part::Promise), (0, 1, 0, true)),
+    (Ask::Commit(Part::Promise), (0, 0, 0, false)),
+    (Ask::Commit(Part::Votes), (0, 0, 0, false)),
+    (Ask::Load(Part::Votes), (0, 1, 1, true)),
+];
 
 // Two loads, beside the votes and beside the others, and a boot.
-fn second_run(keeper: &mut Sql, changes: &Changes) -> (Answer, Answer, Answer) {
-    (
-        load(keeper, &changes.votes.votes),
-        load(keeper, &changes.others.votes),
-        boot(keeper, &changes.votes.votes),
-    )
-}
+const SECOND: &[Row] = &[
+    (Ask::Load(Part::Votes), (0, 1, 1, true)),
+    (Ask::Load(Part::Others), (0, 1, 1, false)),
+    (Ask::Boot(Part::Votes), (0, 2, 1, true)),
+];
 
-type Runs = ((Answer, u8, u8, Answer), (Answer, Answer, Answer));
-
-// Both runs, on a new store and on the same one opened again.
-fn runs(alloc: Global, changes: &Changes) -> Result<Runs, Fail> {
-    let mut keeper = new_keeper(alloc)?;
-    let first = first_run(&mut keeper, changes);
-    let mut again = closed(alloc, keeper)?;
-    Ok((first, second_run(&mut again, changes)))
-}
-
-fn runs_with(alloc: Global, word: &str, other: &str) -> Result<Runs, Fail> {
-    let changes = changes_of(alloc, &[word], &[other])?;
-    runs(alloc, &changes)
-}
+const FOUND: &[Case<'static>] = &[
+    Case {
+        words: &["[16,1,{\"acknowledge\":true},\"a.b\",[7]]"],
+        others: &["[16,1,{\"acknowledge\":true},\"a.b\",[8]]"],
+        first: FIRST,
+        again: SECOND,
+    },
+    Case {
+        words: &["[32,1,{},\"a.b\"]"],
+        others: &["[32,1,{},\"a.c\"]"],
+        first: FIRST,
+        again: SECOND,
+    },
+    Case {
+        words: &["connect"],
+        others: &["hang up"],
+        first: FIRST,
+        again: SECOND,
+    },
+];
 
 #[test]
-fn acts_are_found_again(rt: HostRuntime) -> Result<(), Fail> {
-    let rows = [
-        (
-            "[16,1,{\"acknowledge\":true},\"a.b\",[7]]",
-            "[16,1,{\"acknowledge\":true},\"a.b\",[8]]",
-        ),
-        ("[32,1,{},\"a.b\"]", "[32,1,{},\"a.c\"]"),
-        ("connect", "hang up"),
-    ];
-    let first = ((0, 1, 0, true), 0, 0, (0, 1, 1, true));
-    let second = ((0, 1, 1, true), (0, 1, 1, false), (0, 2, 1, true));
-    for (word, other) in rows {
-        let found = runs_with(rt.alloc(), word, other)?;
-
-        assert_eq!(rt; found, (first, second));
+fn acts_are_found_again(rt: HostRuntime) {
+    for case in FOUND {
+        run(&rt, rt.alloc(), case);
     }
-    Ok(())
 }
 
 // Commits of the votes, of the others, and of the promise; then a load.
-fn refused_run(keeper: &mut Sql, changes: &Changes) -> (u8, u8, u8, Answer) {
-    (
-        commit(keeper, &changes.votes),
-        commit(keeper, &changes.others),
-        commit(keeper, &changes.promise),
-        load(keeper, &changes.votes.votes),
-    )
-}
+const REFUSED: &[Row] = &[
+    (Ask::Commit(Part::Votes), (0, 0, 0, false)),
+    (Ask::Commit(Part::Others), (62, 0, 0, false)),
+    (Ask::Commit(Part::Promise), (65, 0, 0, false)),
+    (Ask::Load(Part::Votes), (65, 0, 0, false)),
+];
 
-// What that run answers, and a load of the store opened again.
-fn refused(alloc: Global, changes: &Changes) -> Result<((u8, u8, u8, Answer), Answer), Fail> {
-    let mut keeper = new_keeper(alloc)?;
-    let first = refused_run(&mut keeper, changes);
-    let mut again = closed(alloc, keeper)?;
-    Ok((first, load(&mut again, &changes.votes.votes)))
-}
+const REFUSED_AGAIN: &[Row] = &[(Ask::Load(Part::Votes), (0, 0, 1, true))];
+
+const UNSPELLED: &[Case<'static>] = &[Case {
+    words: &["connect"],
+    others: &["[32,1,{},\"a.b\"]", "quiet"],
+    first: REFUSED,
+    again: REFUSED_AGAIN,
+}];
 
 #[test]
-fn an_act_without_a_spelling_is_refused(rt: HostRuntime) -> Result<(), Fail> {
-    let alloc = rt.alloc();
-    let changes = changes_of(alloc, &["connect"], &["[32,1,{},\"a.b\"]", "quiet"])?;
-    let found = refused(alloc, &changes)?;
-    assert_eq!(rt; found, ((0, 62, 65, (65, 0, 0, false)), (0, 0, 1, true)));
-    Ok(())
+fn an_act_without_a_spelling_is_refused(rt: HostRuntime) {
+    for case in UNSPELLED {
+        run(&rt, rt.alloc(), case);
+    }
 }

@@ -4,12 +4,11 @@ ghost use Rattle.mail_table.specs.Seats.{Owns};
 ghost use Rattle.paxos_node.specs.declared.view.Opened.TheVariants.{Never};
 
 use mail_table::{Mail, NodeSeat};
-use node_actor::{Actor, ActorFault, Keeper, Machine, Members, Post};
+use node_actor::{Actor, Keeper, Machine, Members, Post};
 use std::alloc::Global;
-use std::test::Fail;
+use std::process::Abort;
 
 /// An actor, and the table that owns its seat.
-#[derive(Drop)]
 pub struct Station<'a, M: Machine, K: Keeper<M::Body>> {
     mail: &'a Mail<M::Body>,
     actor: Actor<M, K>,
@@ -17,7 +16,6 @@ pub struct Station<'a, M: Machine, K: Keeper<M::Body>> {
 }
 
 /// What is left of an actor, and the table that owns its seat.
-#[derive(Drop)]
 pub struct Left<'a, M: Machine> {
     mail: &'a Mail<M::Body>,
     post: Post<M::Body>,
@@ -30,15 +28,16 @@ pub enum Begun<'a, M: Machine, K: Keeper<M::Body>> {
     Not(u8, Left<'a, M>, K),
 }
 
-/// The actor of a node that was never opened; what is left where it can't be is let go.
-pub fn opened<'a, M: Machine, K: Keeper<M::Body> + Drop>(
+/// The actor of a node that was never opened.
+pub fn opened<'a, M: Machine, K: Keeper<M::Body>>(
+    rt: &impl Abort,
     alloc: Global,
     mail: &'a Mail<M::Body>,
     seat: NodeSeat<M::Body>,
     members: Members,
     machine: M,
     keeper: K,
-) -> Result<Station<'a, M, K>, Fail>
+) -> Station<'a, M, K>
     requires owned { Owns mail.now seat }
     requires members { members ≡ mail.now.members }
     requires fresh { seat.part.seen.opened ≡ Never }
@@ -46,22 +45,21 @@ pub fn opened<'a, M: Machine, K: Keeper<M::Body> + Drop>(
 {
     let me = seat.node();
     if me < 1 || members.count() < me {
-        drop((seat, machine, keeper));
-        return Err(Fail::from("no member"));
+        panic!(rt; "no member");
     }
     match Actor::open(alloc, mail, seat, me, members, machine, keeper) {
-        Ok(actor) => Ok(Station { mail, actor }),
-        Err(left) => {
-            drop(left);
-            Err(Fail::from("no actor"))
-        },
+        Ok(actor) => Station { mail, actor },
+        Err(_left) => panic!(rt; "no actor"),
     }
 }
 
 impl<'a, M: Machine, K: Keeper<M::Body>> Station<'a, M, K> {
     /// The node begins a ballot.
-    pub fn start(&mut self) -> Result<Vec<M::Say>, ActorFault<M::Say>> {
-        self.actor.start(self.mail)
+    pub fn start(&mut self) {
+        match self.actor.start(self.mail) {
+            Ok(said) => drop(said),
+            Err(fault) => drop(fault),
+        }
     }
 
     /// What is left once the node has gone down.
@@ -103,31 +101,34 @@ impl<'a, M: Machine> Left<'a, M> {
             },
         }
     }
-}
 
-/// The actor that goes on; what is left where none does is let go.
-pub fn again<'a, M: Machine, K: Keeper<M::Body> + Drop>(
-    begun: Begun<'a, M, K>,
-) -> Result<Station<'a, M, K>, Fail> {
-    match begun {
-        Begun::Again(station) => Ok(station),
-        Begun::Not(_, left, keeper) => {
-            drop(left);
-            drop(keeper);
-            Err(Fail::from("no actor"))
-        },
+    /// The seat.
+    pub fn seat(self) -> NodeSeat<M::Body> {
+        let Left { mail: _, post } = self;
+        post.seat()
     }
 }
 
-/// The number of the fault, 0 where an actor began.
-pub fn number_of<M: Machine, K: Keeper<M::Body> + Drop>(begun: Begun<'_, M, K>) -> u8 {
+/// The actor that goes on.
+pub fn again<'a, M: Machine, K: Keeper<M::Body>>(
+    rt: &impl Abort,
+    begun: Begun<'a, M, K>,
+) -> Station<'a, M, K> {
     match begun {
-        Begun::Again(station) => {
-            drop(station);
-            0
-        },
+        Begun::Again(station) => station,
+        Begun::Not(number, _left, _keeper) => panic!(rt; "no actor: {number}"),
+    }
+}
+
+/// The number of the fault; what is left is let go.
+pub fn number_of<M: Machine, K: Keeper<M::Body> + Drop>(
+    rt: &impl Abort,
+    begun: Begun<'_, M, K>,
+) -> u8 {
+    match begun {
+        Begun::Again(_station) => panic!(rt; "an actor"),
         Begun::Not(number, left, keeper) => {
-            drop(left);
+            drop(left.seat());
             drop(keeper);
             number
         },
