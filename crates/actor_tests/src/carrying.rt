@@ -1,6 +1,6 @@
 // What actors answer, and turns in rotation.
-use crate::station::{Answer, Station};
-use node_actor::{ActorFault, Entry, Keeper, Machine};
+use core_stands::{Answer, Station, count_of, told_of};
+use node_actor::{Entry, Keeper, Machine};
 use std::alloc::Global;
 use std::process::Abort;
 use std::test::Fail;
@@ -26,7 +26,10 @@ impl<Y> Heard<Y> {
     }
 }
 
-fn put_all<Y: Drop>(says: &mut Vec<Y>, more: Vec<Y>) -> Result<(), Fail> {
+fn put_all<Y: Drop>(says: &mut Vec<Y>, more: Option<Vec<Y>>) -> Result<(), Fail> {
+    let Some(more) = more else {
+        return Ok(());
+    };
     for say in more {
         says.push(say)?;
     }
@@ -35,25 +38,21 @@ fn put_all<Y: Drop>(says: &mut Vec<Y>, more: Vec<Y>) -> Result<(), Fail> {
 
 /// Keeps what a call of a node answered.
 pub fn hear<Y: Drop>(heard: &mut Heard<Y>, node: u8, done: Answer<Y>) -> Result<(), Fail> {
-    let fault = match done {
-        Ok(says) => return put_all(&mut heard.says, says),
-        Err(fault) => fault,
-    };
-    heard.faults.push((node, fault.number()))?;
-    match fault {
-        ActorFault::LostHere(says) => put_all(&mut heard.lost, says),
-        _ => Ok(()),
+    let (says, number) = told_of(done);
+    if number == 0 {
+        return put_all(&mut heard.says, says);
     }
+    put_all(&mut heard.lost, says)?;
+    heard.faults.push((node, number))?;
+    Ok(())
 }
 
 /// The fault of a call, 0 where there is none.
 pub fn number<Y: Drop>(done: Answer<Y>) -> u8 {
-    let number = match &done {
+    match count_of(done) {
         Ok(_) => 0,
-        Err(fault) => fault.number(),
-    };
-    drop(done);
-    number
+        Err(number) => number,
+    }
 }
 
 /// The station of a node among those of the last node, the one before, and so on.
@@ -64,27 +63,6 @@ pub fn at<'t, 'a, M: Machine, K: Keeper<M::Body>>(
     let place = stations.len().saturating_sub(usize::from(node));
     let station = stations.get_mut(place).ok_or("no such node")?;
     Ok(station)
-}
-
-/// The last of these, and the one before it.
-pub fn last_two<T: Drop>(list: &mut Vec<T>) -> Option<(T, T)> {
-    let last = list.pop()?;
-    let before = list.pop()?;
-    Some((last, before))
-}
-
-/// They stand there again.
-pub fn put_two<T: Drop>(list: &mut Vec<T>, last: T, before: Result<T, Fail>) -> Result<(), Fail> {
-    let before = match before {
-        Ok(before) => before,
-        Err(fail) => {
-            drop(last);
-            return Err(fail);
-        },
-    };
-    list.push(before)?;
-    list.push(last)?;
-    Ok(())
 }
 
 // A turn of one node; whether a packet moved.

@@ -1,14 +1,9 @@
 // Three actors with a machine that adds up.
-ghost use Rattle.std.specs.Prelude.{◌≡◌, ◌≤◌, All};
-ghost use Rattle.mail_table.specs.Seats.{Owns};
-ghost use Rattle.actor_tests.specs.Fresh.{IsFresh};
-
 use crate::carrying::{Heard, Told, all_turns, at, have_log, hear};
-use crate::station::{Station, opened};
+use crate::trial::{Trial, tried};
 use acceptor_keeper::MemKeeper;
+use core_stands::{Source, Station, close_log};
 use core_tests::{Count, Number};
-use mail_table::{Mail, NodeSeat, Office, found};
-use node_actor::Members;
 use paxos_packets::Transport;
 use std::alloc::Global;
 use std::process::Abort;
@@ -35,32 +30,15 @@ pub const NONE_FAILS: Failing = Failing {
     after: false,
 };
 
-// The keeper of this node.
-fn keeper_of(alloc: Global, node: u8, failing: Failing) -> MemKeeper<Number> {
-    let k = if node == failing.node { failing.k } else { 0 };
-    MemKeeper::failing(alloc, k, failing.after)
-}
-
-/// The actors of these seats, that of the last node first; of one the kth commit fails.
-pub fn all_of<'a>(
-    alloc: Global,
-    mail: &'a Mail<Number>,
-    seats: &mut Vec<NodeSeat<Number>>,
-    members: Members,
-    failing: Failing,
-) -> Result<Vec<Counting<'a>>, Fail>
-    requires fresh { All (IsFresh mail.now) seats.old.items }
-    requires members { members ≡ mail.now.members }
-{
-    let mut stations = Vec::new(alloc);
-    for _ in 0..7 {
-        let Some(seat) = seats.pop() else {
-            return Ok(stations);
-        };
-        let keeper = keeper_of(alloc, seat.node(), failing);
-        stations.push(opened(alloc, mail, seat, members, Count::new(alloc), keeper)?)?;
+impl Source<Count, MemKeeper<Number>> for Failing {
+    fn machine(&self, alloc: Global) -> Count {
+        Count::new(alloc)
     }
-    Ok(stations)
+
+    fn keeper(&self, alloc: Global, node: u8) -> MemKeeper<Number> {
+        let k = if node == self.node { self.k } else { 0 };
+        MemKeeper::failing(alloc, k, self.after)
+    }
 }
 
 /// The node begins a ballot.
@@ -122,56 +100,66 @@ fn serves(
     Ok(())
 }
 
-// The logs that actors leave, and what their machines have added up.
-fn leave_all(rt: &impl Abort, stations: Vec<Counting<'_>>) {
-    for station in stations {
-        let (seat, log) = station.leave();
-        assert_eq!(rt; (log.applied().len(), log.machine().sum()), (4, 11));
-        drop(seat);
-    }
+// How long the log is that an actor leaves, and what its machine has added up.
+fn left_of(station: Counting<'_>) -> (usize, u64) {
+    let log = station.leave();
+    let left = (log.applied().len(), log.machine().sum());
+    close_log(log);
+    left
 }
 
-fn serve_and_leave(rt: &impl Abort, stations: Vec<Counting<'_>>) -> Result<(), Fail> {
-    let mut stations = stations;
-    let mut heard = Heard::nothing(*stations.allocator());
+fn leave_all(rt: &impl Abort, stations: &mut Vec<Counting<'_>>) -> Result<(), Fail> {
+    for _ in 0..3u8 {
+        let Some(station) = stations.pop() else {
+            return Err(Fail::from("no such node"));
+        };
+        assert_eq!(rt; left_of(station), (4, 11));
+    }
+    Ok(())
+}
+
+/// The session goes through all three, which leave.
+pub fn serve_and_leave(
+    rt: &impl Abort,
+    alloc: Global,
+    stations: &mut Vec<Counting<'_>>,
+) -> Result<(), Fail> {
+    let mut heard = Heard::nothing(alloc);
     let done = serves(rt, stations.as_mut_slice(), &mut heard);
-    leave_all(rt, stations);
     drop(heard);
-    done
+    done?;
+    leave_all(rt, stations)
 }
 
 #[test]
 fn one_session_goes_through_three_nodes(rt: HostRuntime) -> Result<(), Fail> {
-    let members = Members::new(3).ok_or("3 members")?;
-    let mut office = Office::new();
-    let (mail, mut seats) = found::<Number>(rt.alloc(), &mut office, members)?;
-    let stations = all_of(rt.alloc(), &mail, &mut seats, members, NONE_FAILS)?;
-    serve_and_leave(&rt, stations)
+    tried(&rt, rt.alloc(), &NONE_FAILS, Trial::Serves)
 }
 
-// Whether a call of the node answers that its store failed.
-fn fails(alloc: Global, stations: Vec<Counting<'_>>, node: u8) -> Result<bool, Fail> {
-    let mut stations = stations;
+/// Whether a call of the node answers that its store failed, as is wanted.
+pub fn fails(
+    rt: &impl Abort,
+    alloc: Global,
+    stations: &mut [Counting<'_>],
+    node: u8,
+    wanted: bool,
+) -> Result<(), Fail> {
     let mut heard = Heard::nothing(alloc);
-    let done = session(stations.as_mut_slice(), &mut heard);
-    drop(stations);
+    let done = session(stations, &mut heard);
     let failed = heard.faults.first() == Some(&(node, 61));
     drop(heard);
     done?;
-    Ok(failed)
+    assert!(rt; failed == wanted);
+    Ok(())
 }
 
-fn fails_at(alloc: Global, node: u8, k: u64) -> Result<bool, Fail> {
-    let members = Members::new(3).ok_or("3 members")?;
-    let mut office = Office::new();
-    let (mail, mut seats) = found::<Number>(alloc, &mut office, members)?;
+fn fails_at(rt: &impl Abort, alloc: Global, node: u8, k: u64, wanted: bool) -> Result<(), Fail> {
     let failing = Failing {
         node,
         k,
         after: false,
     };
-    let stations = all_of(alloc, &mail, &mut seats, members, failing)?;
-    fails(alloc, stations, node)
+    tried(rt, alloc, &failing, Trial::Fails { node, wanted })
 }
 
 // How many commits each node makes in the session.
@@ -180,8 +168,8 @@ const COMMITS: &[(u8, u64)] = &[(1, 4), (2, 5), (3, 5)];
 #[test]
 fn the_last_commit_is_known(rt: HostRuntime) -> Result<(), Fail> {
     for (node, count) in COMMITS {
-        assert!(rt; fails_at(rt.alloc(), *node, *count)?);
-        assert!(rt; !fails_at(rt.alloc(), *node, count + 1)?);
+        fails_at(&rt, rt.alloc(), *node, *count, true)?;
+        fails_at(&rt, rt.alloc(), *node, count + 1, false)?;
     }
     Ok(())
 }

@@ -1,10 +1,9 @@
 // An actor whose store fails, and which is restarted.
-use crate::carrying::{Heard, Told, all_turns, at, have_log, last_two, number, put_two};
-use crate::counting::{Counting, Failing, Sum, all_of, start, tick};
-use crate::station::again;
-use core_tests::{Count, Number};
-use mail_table::{Office, found};
-use node_actor::Members;
+use crate::carrying::{Heard, Told, all_turns, at, have_log, number};
+use crate::counting::{Counting, Failing, Sum, start, tick};
+use crate::trial::{Trial, tried};
+use core_stands::{again, pop_two, push_two};
+use core_tests::Count;
 use std::alloc::Global;
 use std::process::Abort;
 use std::test::Fail;
@@ -20,15 +19,17 @@ fn ends(rt: &impl Abort, stations: &mut [Counting<'_>]) -> Result<(), Fail> {
 }
 
 /// The actor that goes on from this one, its store opened again.
-pub fn restarted<'a>(alloc: Global, station: Counting<'a>) -> Result<Counting<'a>, Fail> {
+pub fn restarted<'a>(alloc: Global, station: Counting<'a>) -> Option<Counting<'a>> {
     let (left, keeper) = station.crash();
     again(left.restart(alloc, Count::new(alloc), keeper.reopen()))
 }
 
-// The second actor goes on, between the others.
-fn restart_second(alloc: Global, stations: &mut Vec<Counting<'_>>) -> Result<(), Fail> {
-    let (first, second) = last_two(stations).ok_or("two actors")?;
-    put_two(stations, first, restarted(alloc, second))
+// The second actor goes on, between the others. Whether it does.
+fn restart_second(alloc: Global, stations: &mut Vec<Counting<'_>>) -> bool {
+    let Some((first, second)) = pop_two(stations) else {
+        return false;
+    };
+    push_two(stations, first, restarted(alloc, second))
 }
 
 const BOTH: &[Told] = &[('b', 1, 1, 0), ('b', 2, 2, 0)];
@@ -57,38 +58,37 @@ fn runs(
     heard: &mut Heard<Sum>,
 ) -> Result<(), Fail> {
     ends(rt, stations.as_mut_slice())?;
-    restart_second(alloc, stations)?;
+    assert!(rt; restart_second(alloc, stations));
     goes_on(rt, stations.as_mut_slice(), heard)
 }
 
-fn runs_all(rt: &impl Abort, alloc: Global, stations: Vec<Counting<'_>>) -> Result<(), Fail> {
-    let mut stations = stations;
+/// An actor whose store fails goes on.
+pub fn outlives(
+    rt: &impl Abort,
+    alloc: Global,
+    stations: &mut Vec<Counting<'_>>,
+) -> Result<(), Fail> {
     let mut heard = Heard::nothing(alloc);
-    let done = runs(rt, alloc, &mut stations, &mut heard);
+    let done = runs(rt, alloc, stations, &mut heard);
     drop(heard);
-    drop(stations);
     done
 }
 
-fn outlives(rt: &impl Abort, alloc: Global, after: bool) -> Result<(), Fail> {
-    let members = Members::new(3).ok_or("3 members")?;
-    let mut office = Office::new();
-    let (mail, mut seats) = found::<Number>(alloc, &mut office, members)?;
-    let failing = Failing {
+// The first commit of the second actor fails, and leaves the old rows or the new ones.
+fn failing(after: bool) -> Failing {
+    Failing {
         node: 2,
         k: 1,
         after,
-    };
-    let stations = all_of(alloc, &mail, &mut seats, members, failing)?;
-    runs_all(rt, alloc, stations)
+    }
 }
 
 #[test]
 fn an_actor_outlives_a_commit_that_left_the_old_rows(rt: HostRuntime) -> Result<(), Fail> {
-    outlives(&rt, rt.alloc(), false)
+    tried(&rt, rt.alloc(), &failing(false), Trial::Outlives)
 }
 
 #[test]
 fn an_actor_outlives_a_commit_that_left_the_new_rows(rt: HostRuntime) -> Result<(), Fail> {
-    outlives(&rt, rt.alloc(), true)
+    tried(&rt, rt.alloc(), &failing(true), Trial::Outlives)
 }

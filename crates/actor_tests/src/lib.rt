@@ -11,4 +11,4 @@ mod crashing;
 #[cfg(test)]
 mod refusing;
 #[cfg(test)]
-mod station;
+mod trial;

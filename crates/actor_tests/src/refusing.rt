@@ -1,68 +1,16 @@
 // What actors refuse, what is no event, and how many acts wait.
-ghost use Rattle.std.specs.Prelude.{◌≡◌, All};
-ghost use Rattle.actor_tests.specs.Fresh.{IsFresh};
-
 use crate::carrying::{has_log, number};
-use crate::counting::{Counting, Sum};
+use crate::counting::{Counting, NONE_FAILS, Sum};
 use crate::crashing::restarted;
-use crate::station::{Begun, Left, opened};
+use crate::trial::{Trial, tried};
 use acceptor_keeper::{Keeper, KeeperFault, MemKeeper};
+use core_stands::{Begun, Left, close, close_left};
 use core_tests::{Count, Number};
-use mail_table::{Mail, NodeSeat, Office, found};
-use node_actor::{ActorFault, Members};
+use node_actor::ActorFault;
 use paxos_packets::{Ballot, Change, Votes};
 use std::alloc::Global;
 use std::process::Abort;
 use std::test::Fail;
-
-// The actor of the first seat.
-fn first_of<'a>(
-    alloc: Global,
-    mail: &'a Mail<Number>,
-    seats: &mut Vec<NodeSeat<Number>>,
-    members: Members,
-) -> Result<Counting<'a>, Fail>
-    requires fresh { All (IsFresh mail.now) seats.old.items }
-    requires members { members ≡ mail.now.members }
-{
-    drop(seats.pop());
-    drop(seats.pop());
-    let seat = seats.pop().ok_or("a seat of node 1")?;
-    opened(
-        alloc,
-        mail,
-        seat,
-        members,
-        Count::new(alloc),
-        MemKeeper::new(alloc),
-    )
-}
-
-// What is done with the first of three actors.
-#[derive(Clone, Copy)]
-enum Row {
-    Fills,
-    Rests,
-    Restarts,
-    Refuses,
-}
-
-fn done_at_first(rt: &impl Abort, alloc: Global, row: Row) -> Result<(), Fail> {
-    let members = Members::new(3).ok_or("3 members")?;
-    let mut office = Office::new();
-    let (mail, mut seats) = found::<Number>(alloc, &mut office, members)?;
-    let first = first_of(alloc, &mail, &mut seats, members)?;
-    does(rt, alloc, first, row)
-}
-
-fn does(rt: &impl Abort, alloc: Global, first: Counting<'_>, row: Row) -> Result<(), Fail> {
-    match row {
-        Row::Fills => fills(rt, first),
-        Row::Rests => rests(rt, first),
-        Row::Restarts => begins_again(rt, restarted(alloc, first)?),
-        Row::Refuses => refuses(rt, alloc, first),
-    }
-}
 
 // Acts that are pending.
 
@@ -76,22 +24,17 @@ fn takes(actor: &mut Counting<'_>, count: u32) -> u32 {
     done
 }
 
-fn fills(rt: &impl Abort, actor: Counting<'_>) -> Result<(), Fail> {
-    let mut actor = actor;
-    fills_up(rt, &mut actor);
-    drop(actor);
-    Ok(())
-}
-
-fn fills_up(rt: &impl Abort, actor: &mut Counting<'_>) {
+/// The actor takes as many acts as can wait, and goes on.
+pub fn fills_up(rt: &impl Abort, actor: &mut Counting<'_>) -> Result<(), Fail> {
     assert_eq!(rt; takes(actor, 1_023), 1_023);
     assert_eq!(rt; number(actor.take(1, Number::new(1))), 74);
     assert_eq!(rt; number(actor.tick()), 0);
+    Ok(())
 }
 
 #[test]
 fn a_full_actor_goes_on(rt: HostRuntime) -> Result<(), Fail> {
-    done_at_first(&rt, rt.alloc(), Row::Fills)
+    tried(&rt, rt.alloc(), &NONE_FAILS, Trial::Fills)
 }
 
 // What is no event.
@@ -101,37 +44,35 @@ fn is_still(rt: &impl Abort, actor: &Counting<'_>) {
     has_log(rt, actor, &[]);
 }
 
-fn rests(rt: &impl Abort, actor: Counting<'_>) -> Result<(), Fail> {
-    let mut actor = actor;
-    passes(rt, &mut actor);
-    drop(actor);
-    Ok(())
-}
-
-fn passes(rt: &impl Abort, actor: &mut Counting<'_>) {
+/// What is no event changes nothing.
+pub fn passes(rt: &impl Abort, actor: &mut Counting<'_>) -> Result<(), Fail> {
     is_still(rt, actor);
     assert_eq!(rt; number(actor.turn()), 0);
     is_still(rt, actor);
     assert_eq!(rt; number(actor.take(0, Number::new(5))), 0);
     assert_eq!(rt; number(actor.turn()), 0);
     is_still(rt, actor);
+    Ok(())
 }
 
 #[test]
 fn no_event_changes_nothing(rt: HostRuntime) -> Result<(), Fail> {
-    done_at_first(&rt, rt.alloc(), Row::Rests)
+    tried(&rt, rt.alloc(), &NONE_FAILS, Trial::Rests)
 }
 
 #[test]
 fn an_actor_begins_again(rt: HostRuntime) -> Result<(), Fail> {
-    done_at_first(&rt, rt.alloc(), Row::Restarts)
+    tried(&rt, rt.alloc(), &NONE_FAILS, Trial::Restarts)
 }
 
-fn begins_again(rt: &impl Abort, actor: Counting<'_>) -> Result<(), Fail> {
-    let mut actor = actor;
+/// The actor, which has gone down, has begun again.
+pub fn begins_again(rt: &impl Abort, alloc: Global, actor: Counting<'_>) -> Result<(), Fail> {
+    let Some(mut actor) = restarted(alloc, actor) else {
+        return Err(Fail::from("no actor"));
+    };
     is_still(rt, &actor);
     let number = number(actor.tick());
-    drop(actor);
+    close(actor);
     assert_eq!(rt; number, 0);
     Ok(())
 }
@@ -178,7 +119,7 @@ fn refused<'a>(
 ) -> Result<(Left<'a, Count>, bool), Fail> {
     match left.restart(alloc, Count::new(alloc), keeper) {
         Begun::Again(station) => {
-            drop(station);
+            close(station);
             Err(Fail::from("an actor"))
         },
         Begun::Not(number, left, mut keeper) => {
@@ -192,66 +133,55 @@ fn refused<'a>(
 // How often the node of another store was started, and the round that it promised then.
 const OTHERS: &[(u64, u64)] = &[(0, 0), (1, 0), (1, 2), (2, 2), (0, 1)];
 
-// Their stores.
-fn others(alloc: Global) -> Result<Vec<(u64, MemKeeper<Number>)>, Fail> {
-    let mut keepers = Vec::new(alloc);
-    for (boots, round) in OTHERS {
-        keepers.push((*boots, keeper_with(alloc, *boots, *round)?))?;
-    }
-    Ok(keepers)
-}
-
-// Whether all of them are refused.
-fn refuses_all(
+// The same with the store that is made in this row, if it could be.
+fn refused_in<'a>(
     alloc: Global,
-    left: Left<'_, Count>,
-    keepers: Vec<(u64, MemKeeper<Number>)>,
-) -> Result<bool, Fail> {
-    let mut left = left;
-    let mut all = true;
-    for (boots, keeper) in keepers {
-        let (next, is_one) = refused(alloc, left, keeper, boots)?;
-        left = next;
-        all = all && is_one;
-    }
-    let is_first = left.me() == 1;
-    drop(left);
-    Ok(all && is_first)
-}
-
-// An actor that has promised the round 1 of its own goes down, and is not restarted on other stores.
-fn refuses(rt: &impl Abort, alloc: Global, actor: Counting<'_>) -> Result<(), Fail> {
-    let left = ended(actor);
-    let all = refuses_with(alloc, left, others(alloc))?;
-    assert!(rt; all);
-    Ok(())
-}
-
-fn refuses_with(
-    alloc: Global,
-    left: Left<'_, Count>,
-    keepers: Result<Vec<(u64, MemKeeper<Number>)>, Fail>,
-) -> Result<bool, Fail> {
-    match keepers {
-        Ok(keepers) => refuses_all(alloc, left, keepers),
+    left: Left<'a, Count>,
+    boots: u64,
+    keeper: Result<MemKeeper<Number>, Fail>,
+) -> Result<(Left<'a, Count>, bool), Fail> {
+    match keeper {
+        Ok(keeper) => refused(alloc, left, keeper, boots),
         Err(fail) => {
-            drop(left);
+            close_left(left);
             Err(fail)
         },
     }
 }
 
+// Whether all of them are refused.
+fn refuses_all(alloc: Global, left: Left<'_, Count>) -> Result<bool, Fail> {
+    let mut left = left;
+    let mut all = true;
+    for (boots, round) in OTHERS {
+        let keeper = keeper_with(alloc, *boots, *round);
+        let (next, is_one) = refused_in(alloc, left, *boots, keeper)?;
+        left = next;
+        all = all && is_one;
+    }
+    let is_first = left.me() == 1;
+    close_left(left);
+    Ok(all && is_first)
+}
+
 fn ended<'a>(actor: Counting<'a>) -> Left<'a, Count> {
     let mut actor = actor;
-    drop(actor.start());
+    let _ = number(actor.start());
     let (left, keeper) = actor.crash();
     drop(keeper);
     left
 }
 
+/// An actor that has promised the round 1 of its own goes down, and is not restarted on other stores.
+pub fn refuses(rt: &impl Abort, alloc: Global, actor: Counting<'_>) -> Result<(), Fail> {
+    let all = refuses_all(alloc, ended(actor))?;
+    assert!(rt; all);
+    Ok(())
+}
+
 #[test]
 fn other_stores_are_refused(rt: HostRuntime) -> Result<(), Fail> {
-    done_at_first(&rt, rt.alloc(), Row::Refuses)
+    tried(&rt, rt.alloc(), &NONE_FAILS, Trial::Refuses)
 }
 
 // The texts of faults.

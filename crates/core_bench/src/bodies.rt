@@ -49,8 +49,7 @@ pub fn text_of(alloc: Global) -> Result<Vec<u8>, AllocError> {
 
 /// The act that says the message of this text.
 pub fn act_of(alloc: Global, text: &[u8]) -> Result<Act, BenchFault> {
-    let read = read(alloc, text)?;
-    let read = Shared::new(alloc, read)?;
     let draw = Id::new(1).ok_or(BenchFault::Text)?;
+    let read = Shared::new(alloc, read(alloc, text)?)?;
     Ok(Act::Said { draw, read })
 }

@@ -71,7 +71,8 @@ fn written(alloc: Global, message: &Message) -> Result<usize, BenchFault> {
 }
 
 fn taken(alloc: Global, octets: &[u8]) -> Result<usize, BenchFault> {
-    let (_act, rest) = ActCoder::take(alloc, octets)?;
+    let (act, rest) = ActCoder::take(alloc, octets)?;
+    drop(act);
     Ok(octets.len().saturating_sub(rest.len()))
 }
 
@@ -174,5 +175,7 @@ fn run_on(rt: &HostRuntime, act: &Act, text: &[u8], times: u64) -> Result<(), Be
 pub fn run(rt: &HostRuntime, times: u64) -> Result<(), BenchFault> {
     let text = text_of(rt.alloc())?;
     let act = act_of(rt.alloc(), text.as_slice())?;
-    run_on(rt, &act, text.as_slice(), times)
+    let done = run_on(rt, &act, text.as_slice(), times);
+    drop(act);
+    done
 }

@@ -1,4 +1,5 @@
 use act_codec::CodecFault;
+use core_stands::Missed;
 use paxos_node::NodeFault;
 use replica_machine::{Failed, LearnFault};
 use std::alloc::{AllocError, AllocFailed};
@@ -20,7 +21,7 @@ pub enum BenchFault {
     #[error("the text is no message")]
     Text,
     #[error("an event was not planned or not adopted: {0}")]
-    Node(#[from] NodeFault),
+    Node(NodeFault),
     #[error("an actor did not begin, or did not take an event")]
     Actor,
     #[error("no node has this number")]
@@ -39,9 +40,13 @@ impl From<Failed> for BenchFault {
     }
 }
 
-impl From<mail_table::Memory> for BenchFault {
-    fn from(_memory: mail_table::Memory) -> BenchFault {
-        BenchFault::Memory
+impl From<Missed> for BenchFault {
+    fn from(missed: Missed) -> BenchFault {
+        match missed {
+            Missed::Nobody => BenchFault::Nobody,
+            Missed::Node(fault) => BenchFault::Node(fault),
+            Missed::Memory => BenchFault::Memory,
+        }
     }
 }
 

@@ -1,5 +1,7 @@
 // The applied log: what learning and applying an entry takes, behind a gap of one slot and of many.
+use crate::cluster::Load;
 use crate::fault::BenchFault;
+use core_stands::close_log;
 use core_tests::{Count, Number};
 use replica_machine::{AppliedLog, Entry, Slot};
 use std::time::Instant;
@@ -34,24 +36,12 @@ fn step(log: &mut AppliedLog<Count>, from: u64, to: u64) -> Result<u64, BenchFau
     Ok(applied)
 }
 
-/// Learns `entries` entries in windows of `window` slots, each from its last slot to its first, and applies them; prints how many were
-/// applied and the machine's sum, and on standard error the nanoseconds an entry.
-pub fn run(rt: &HostRuntime, entries: u64, window: u64) -> Result<(), BenchFault> {
-    let mut log = AppliedLog::new(rt.alloc(), Count::new(rt.alloc()));
-    run_over(rt, &mut log, entries, window)
-}
-
-fn run_over(
-    rt: &HostRuntime,
-    log: &mut AppliedLog<Count>,
-    entries: u64,
-    window: u64,
-) -> Result<(), BenchFault> {
+fn run_over(rt: &HostRuntime, log: &mut AppliedLog<Count>, load: Load) -> Result<(), BenchFault> {
     let start = Instant::now(rt)?;
     let mut applied = 0u64;
-    for turn in 0..entries.div_ceil(window.max(1)) {
-        let learned = turn.saturating_mul(window);
-        let next = entries.min(learned.saturating_add(window));
+    for turn in 0..load.acts.div_ceil(load.width.max(1)) {
+        let learned = turn.saturating_mul(load.width);
+        let next = load.acts.min(learned.saturating_add(load.width));
         applied = applied.saturating_add(step(log, learned, next)?);
     }
     let taken = start.elapsed(rt)?;
@@ -61,7 +51,16 @@ fn run_over(
     )?;
     let _ = eprintln!(rt;
         "{} ns an entry",
-        taken.as_nanos() / u128::from(entries.max(1))
+        taken.as_nanos() / u128::from(load.acts.max(1))
     );
     Ok(())
+}
+
+/// Learns so many entries in windows of so many slots, each from its last slot to its first, and applies them; prints how many were
+/// applied and the machine's sum, and on standard error the nanoseconds an entry.
+pub fn run(rt: &HostRuntime, load: Load) -> Result<(), BenchFault> {
+    let mut log = AppliedLog::new(rt.alloc(), Count::new(rt.alloc()));
+    let done = run_over(rt, &mut log, load);
+    close_log(log);
+    done
 }

@@ -4,12 +4,14 @@
 
 mod actors;
 mod bodies;
+mod cluster;
 mod codec;
 mod fault;
 mod log;
 mod nodes;
 mod threads;
 
+use crate::cluster::Load;
 use crate::fault::BenchFault;
 use std::env;
 use std::io::Error;
@@ -65,79 +67,101 @@ fn ended(rt: &HostRuntime, done: Result<(), BenchFault>) -> ExitCode {
     }
 }
 
-// Each measure, one after the other.
-fn run_all(
+// What is measured.
+#[derive(Clone, Copy)]
+enum Measure {
+    Log,
+    Codec,
+    Numbers,
+    Acts,
+    Actors,
+    Threads,
+}
+
+// A measure's name, the body that is named behind its numbers, how many words there are with these, and what is measured.
+type Row = (&'static str, &'static str, usize, &'static [Measure]);
+
+const MEASURES: &[Row] = &[
+    ("log", "", 3, &[Measure::Log]),
+    ("codec", "", 2, &[Measure::Codec]),
+    ("nodes", "number", 4, &[Measure::Numbers]),
+    ("nodes", "act", 4, &[Measure::Acts]),
+    ("actors", "", 3, &[Measure::Actors]),
+    ("threads", "", 3, &[Measure::Threads]),
+    ("all", "", 3, EACH),
+];
+
+const EACH: &[Measure] = &[
+    Measure::Log,
+    Measure::Codec,
+    Measure::Numbers,
+    Measure::Acts,
+    Measure::Actors,
+    Measure::Threads,
+];
+
+// The word at this place, empty where there is none.
+fn word(words: &[String], place: usize) -> &str {
+    match words.get(place) {
+        Some(word) => word.as_str(),
+        None => "",
+    }
+}
+
+// What the words name.
+fn measures_of(words: &[String]) -> Option<&'static [Measure]> {
+    for (name, body, count, measures) in MEASURES {
+        if *count == words.len() && *name == word(words, 0) && *body == word(words, 3) {
+            return Some(*measures);
+        }
+    }
+    None
+}
+
+// How many acts the words name, and how many at a time.
+fn load_of(words: &[String]) -> Option<Load> {
+    let acts = number_of(word(words, 1))?;
+    let width = if words.len() < 3 {
+        1
+    } else {
+        number_of(word(words, 2))?
+    };
+    Some(Load { acts, width })
+}
+
+fn run_one(
     rt: &HostRuntime,
     threads: &impl Threads,
-    number: u64,
-    window: u64,
+    measure: Measure,
+    load: Load,
 ) -> Result<(), BenchFault> {
-    log::run(rt, number, window)?;
-    codec::run(rt, number)?;
-    nodes::run_numbers(rt, number, window)?;
-    nodes::run_acts(rt, number, window)?;
-    actors::run(rt, number, window)?;
-    threads::run(rt, threads, number, window)
+    match measure {
+        Measure::Log => log::run(rt, load),
+        Measure::Codec => codec::run(rt, load.acts),
+        Measure::Numbers => nodes::run_numbers(rt, load),
+        Measure::Acts => nodes::run_acts(rt, load),
+        Measure::Actors => actors::run(rt, load),
+        Measure::Threads => threads::run(rt, threads, load),
+    }
 }
 
-// The measure of two numbers that is so named.
-fn by_two(
+// One after the other.
+fn run_each(
     rt: &HostRuntime,
     threads: &impl Threads,
-    kind: &str,
-    number: u64,
-    window: u64,
-) -> ExitCode {
-    match kind {
-        "log" => ended(rt, log::run(rt, number, window)),
-        "actors" => ended(rt, actors::run(rt, number, window)),
-        "threads" => ended(rt, threads::run(rt, threads, number, window)),
-        "all" => ended(rt, run_all(rt, threads, number, window)),
-        _ => misuse(rt),
+    measures: &[Measure],
+    load: Load,
+) -> Result<(), BenchFault> {
+    for measure in measures {
+        run_one(rt, threads, *measure, load)?;
     }
-}
-
-// The measure of one number that is so named.
-fn by_one(rt: &HostRuntime, kind: &str, number: u64) -> ExitCode {
-    match kind {
-        "codec" => ended(rt, codec::run(rt, number)),
-        _ => misuse(rt),
-    }
-}
-
-// The measure of nodes over bodies that are so named.
-fn by_body(rt: &HostRuntime, kind: &str, number: u64, window: u64, body: &str) -> ExitCode {
-    match (kind, body) {
-        ("nodes", "number") => ended(rt, nodes::run_numbers(rt, number, window)),
-        ("nodes", "act") => ended(rt, nodes::run_acts(rt, number, window)),
-        _ => misuse(rt),
-    }
+    Ok(())
 }
 
 // What the words of the command line ask for.
 fn ordered(rt: &HostRuntime, threads: &impl Threads, words: &[String]) -> ExitCode {
-    match words {
-        [kind, number] => match number_of(number.as_str()) {
-            Some(number) => by_one(rt, kind.as_str(), number),
-            None => misuse(rt),
-        },
-        [kind, number, window] => match (number_of(number.as_str()), number_of(window.as_str())) {
-            (Some(number), Some(window)) => by_two(rt, threads, kind.as_str(), number, window),
-            _ => misuse(rt),
-        },
-        [kind, number, window, body] => match (
-            number_of(number.as_str()),
-            number_of(window.as_str()),
-        ) {
-            (Some(number), Some(window)) => by_body(
-                rt,
-                kind.as_str(),
-                number,
-                window,
-                body.as_str(),
-            ),
-            _ => misuse(rt),
-        },
+    match (measures_of(words), load_of(words)) {
+        (Some(measures), Some(load)) => ended(rt, run_each(rt, threads, measures, load)),
         _ => misuse(rt),
     }
 }

@@ -1,15 +1,12 @@
 // Three actors, each on a thread of its own, over a mail table and stores in memory: acts are taken at the second one.
-ghost use Rattle.std.specs.Prelude.{◌≡◌, All};
-ghost use Rattle.mail_table.specs.Seats.{Owns};
-ghost use Rattle.paxos_node.specs.declared.view.Opened.TheVariants.{Never};
-
-use crate::actors::{Station, put_all};
+use crate::actors::{Adding, Fresh};
+use crate::cluster::Load;
 use crate::fault::BenchFault;
-use crate::nodes::NODES;
-use actor_run::{Feed, Gate, Seen, run_node};
-use core_tests::Number;
-use mail_table::{Mail, NodeSeat, Office, found};
-use node_actor::{Event, Members};
+use acceptor_keeper::MemKeeper;
+use actor_run::{Feed, Gate, Seen};
+use core_stands::{NODES, Plays, with_stations};
+use core_tests::{Count, Number};
+use paxos_node::Event;
 use paxos_packets::Transport;
 use std::sync::atomic::{AtomicBool, Ordering};
 use std::thread;
@@ -32,10 +29,9 @@ type Sum = (Transport, u64);
 
 // What a run is to do: whether the first node starts, how many acts there are, and how many may be under way.
 #[derive(Clone, Copy)]
-struct Load {
+struct Part {
     starts: bool,
-    acts: u64,
-    width: u64,
+    load: Load,
 }
 
 // How many turns there were, and in how many no packet came.
@@ -62,46 +58,41 @@ impl Gate for Until<'_> {
 struct Asks<'a> {
     open: &'a AtomicBool,
     node: u8,
-    load: Load,
+    part: Part,
     taken: u64,
     answered: u64,
     quiet: u64,
     turns: Turns,
 }
 
+// What is due at a node.
+#[derive(Clone, Copy)]
+enum Due {
+    Start,
+    Act,
+    Tick,
+    Nothing,
+}
+
 impl Asks<'_> {
-    // A start, once.
-    fn start(&mut self) -> Option<Event<Number>> {
-        if !self.load.starts {
-            return None;
+    // A start, once; then an act, if one more may be under way; then a tick, after each so many turns in which nothing came. What came between
+    // them does not begin the count anew: a tick sends something to each other node, so the fastest one would keep the others from ever
+    // ticking, and an act that was taken before its node knew who leads would wait for ever.
+    fn due(&mut self) -> Due {
+        if self.part.starts {
+            self.part.starts = false;
+            return Due::Start;
         }
-        self.load.starts = false;
-        Some(Event::Start { node: self.node })
-    }
-
-    // An act, if one more may be under way.
-    fn act(&mut self) -> Option<Event<Number>> {
         let under_way = self.taken.saturating_sub(self.answered);
-        if self.load.acts <= self.taken || self.load.width <= under_way {
-            return None;
+        if self.taken < self.part.load.acts && under_way < self.part.load.width {
+            self.taken += 1;
+            return Due::Act;
         }
-        self.taken += 1;
-        Some(Event::Take {
-            node: self.node,
-            transport: 1,
-            body: Number::new(1),
-        })
-    }
-
-    // A tick, after each so many turns in which nothing came. What came between them does not begin the count anew: a tick sends something to
-    // each other node, so the fastest one would keep the others from ever ticking, and an act that was taken before its node knew who leads
-    // would wait for ever.
-    fn tick(&mut self) -> Option<Event<Number>> {
-        if self.quiet < QUIET {
-            return None;
+        if QUIET <= self.quiet {
+            self.quiet = 0;
+            return Due::Tick;
         }
-        self.quiet = 0;
-        Some(Event::Tick { node: self.node })
+        Due::Nothing
     }
 
     // A turn begins; whether a packet came in the last one.
@@ -124,17 +115,19 @@ impl Feed<Number, Sum> for Asks<'_> {
     fn next(&mut self, seen: Seen) -> Option<Event<Number>>
         ensures { Unit {0} }
     {
-        if let Some(event) = self.start() {
-            return Some(event);
+        match self.due() {
+            Due::Start => Some(Event::Start { node: self.node }),
+            Due::Act => Some(Event::Take {
+                node: self.node,
+                transport: 1,
+                body: Number::new(1),
+            }),
+            Due::Tick => Some(Event::Tick { node: self.node }),
+            Due::Nothing => {
+                self.begins(seen.from.is_some());
+                None
+            }
         }
-        if let Some(event) = self.act() {
-            return Some(event);
-        }
-        if let Some(event) = self.tick() {
-            return Some(event);
-        }
-        self.begins(seen.from.is_some());
-        None
     }
 
     fn hand(&mut self, says: Vec<Sum>)
@@ -142,21 +135,23 @@ impl Feed<Number, Sum> for Asks<'_> {
     {
         self.answered = self.answered.saturating_add(says.len() as u64);
         drop(says);
-        if 0 < self.load.acts && self.load.acts <= self.answered {
+        if 0 < self.part.load.acts && self.part.load.acts <= self.answered {
             self.open.store(false, Ordering::Relaxed);
         }
     }
 }
 
-// What a node is asked for of this load: the first one starts, and one takes the acts.
-fn asks_of<'a>(open: &'a AtomicBool, node: u8, load: Load) -> Asks<'a> {
+// What a node is asked for of this part: the first one starts, and one takes the acts.
+fn asks_of<'a>(open: &'a AtomicBool, node: u8, part: Part) -> Asks<'a> {
     Asks {
         open,
         node,
-        load: Load {
-            starts: load.starts && node == 1,
-            acts: if node == TAKER { load.acts } else { 0 },
-            width: load.width,
+        part: Part {
+            starts: part.starts && node == 1,
+            load: Load {
+                acts: if node == TAKER { part.load.acts } else { 0 },
+                width: part.load.width,
+            },
         },
         taken: 0,
         answered: 0,
@@ -166,12 +161,10 @@ fn asks_of<'a>(open: &'a AtomicBool, node: u8, load: Load) -> Asks<'a> {
 }
 
 // The node runs until the gate is shut; it is shut then. Whether no fault ended it.
-fn run_one(station: &mut Station<'_>, asks: &mut Asks<'_>) -> bool {
+fn run_one(station: &mut Adding<'_>, asks: &mut Asks<'_>) -> bool {
     let gate = Until { open: asks.open };
-    let done = run_node(station.mail, &mut station.actor, &gate, asks);
+    let good = station.run(&gate, asks);
     asks.open.store(false, Ordering::Relaxed);
-    let good = done.is_ok();
-    drop(done);
     good
 }
 
@@ -194,15 +187,15 @@ fn turns_of(one: &Asks<'_>, two: &Asks<'_>, three: &Asks<'_>) -> Turns {
 // Each node on a thread of its own, until each act is answered. None where a fault ended a node, or one act was answered twice.
 fn run_three(
     threads: &impl Threads,
-    one: &mut Station<'_>,
-    two: &mut Station<'_>,
-    three: &mut Station<'_>,
-    load: Load,
+    one: &mut Adding<'_>,
+    two: &mut Adding<'_>,
+    three: &mut Adding<'_>,
+    part: Part,
 ) -> Option<Turns> {
     let open = AtomicBool::new(true);
-    let mut first = asks_of(&open, 1, load);
-    let mut second = asks_of(&open, TAKER, load);
-    let mut third = asks_of(&open, 3, load);
+    let mut first = asks_of(&open, 1, part);
+    let mut second = asks_of(&open, TAKER, part);
+    let mut third = asks_of(&open, 3, part);
     let (one_ran, (two_ran, three_ran)) = thread::join(
         threads,
         || run_one(one, &mut first),
@@ -214,7 +207,7 @@ fn run_three(
             )
         },
     );
-    if !one_ran || !two_ran || !three_ran || second.answered != load.acts {
+    if !one_ran || !two_ran || !three_ran || second.answered != part.load.acts {
         return None;
     }
     Some(turns_of(&first, &second, &third))
@@ -223,13 +216,13 @@ fn run_three(
 // The three stations, the first node's last.
 fn run_stations(
     threads: &impl Threads,
-    stations: &mut [Station<'_>],
-    load: Load,
+    stations: &mut [Adding<'_>],
+    part: Part,
 ) -> Result<Turns, BenchFault> {
     let (three, rest) = stations.split_first_mut().ok_or(BenchFault::Nobody)?;
     let (two, rest) = rest.split_first_mut().ok_or(BenchFault::Nobody)?;
     let one = rest.first_mut().ok_or(BenchFault::Nobody)?;
-    run_three(threads, one, two, three, load).ok_or(BenchFault::Stuck)
+    run_three(threads, one, two, three, part).ok_or(BenchFault::Stuck)
 }
 
 // Tells on standard error how many acts were answered in a second, what one took, and how many turns found no packet.
@@ -243,62 +236,57 @@ fn tell(rt: &HostRuntime, turns: Turns, acts: u64, nanos: u128) {
     );
 }
 
-// The first node leads, and one act is answered; then the run is made and told.
+// The first node leads, and one act is answered, before the time begins.
+const FIRST: Part = Part {
+    starts: true,
+    load: Load { acts: 1, width: 1 },
+};
+
+// The run is made and told.
 fn run_over(
     rt: &HostRuntime,
     threads: &impl Threads,
-    stations: &mut [Station<'_>],
-    acts: u64,
-    width: u64,
+    stations: &mut [Adding<'_>],
+    load: Load,
 ) -> Result<(), BenchFault> {
-    let begin = Load {
-        starts: true,
-        acts: 1,
-        width: 1,
-    };
-    run_stations(threads, stations, begin)?;
-    let load = Load {
-        starts: false,
-        acts,
-        width,
-    };
+    run_stations(threads, stations, FIRST)?;
     let start = Instant::now(rt)?;
-    let turns = run_stations(threads, stations, load)?;
+    let turns = run_stations(
+        threads,
+        stations,
+        Part {
+            starts: false,
+            load,
+        },
+    )?;
     let nanos = start.elapsed(rt)?.as_nanos();
+    let acts = load.acts;
     println!(rt; "{acts} acts answered at one of {NODES} actors on threads")?;
     tell(rt, turns, acts, nanos);
     Ok(())
 }
 
-// The actors at these seats.
-fn run_at(
-    rt: &HostRuntime,
-    threads: &impl Threads,
-    mail: &Mail<Number>,
-    seats: &mut Vec<NodeSeat<Number>>,
-    members: Members,
-    acts: u64,
-    width: u64,
-) -> Result<(), BenchFault>
-    requires fresh { All (λ s. Owns mail.now s × (s.part.seen.opened ≡ Never)) seats.old.items }
-    requires members { members ≡ mail.now.members }
-{
-    let mut stations = Vec::new(rt.alloc());
-    put_all(rt.alloc(), mail, seats, members, &mut stations)?;
-    run_over(rt, threads, stations.as_mut_slice(), acts, width)
+// A run.
+struct Run<'r, T> {
+    rt: &'r HostRuntime,
+    threads: &'r T,
+    load: Load,
 }
 
-/// Takes `acts` acts, of which `width` are under way at most, at the second of three actors, each of which runs on a thread of its own;
+impl<T: Threads> Plays<Count, MemKeeper<Number>> for Run<'_, T> {
+    type End = Result<(), BenchFault>;
+
+    fn play(&mut self, stations: &mut Vec<Adding<'_>>) -> Result<(), BenchFault> {
+        run_over(self.rt, self.threads, stations.as_mut_slice(), self.load)
+    }
+}
+
+/// Takes these acts, of which `width` are under way at most, at the second of three actors, each of which runs on a thread of its own;
 /// prints how many were answered, and on standard error what they took by the clock, and how many turns found no packet. Each body is a
 /// number, each store is in memory.
-pub fn run(
-    rt: &HostRuntime,
-    threads: &impl Threads,
-    acts: u64,
-    width: u64,
-) -> Result<(), BenchFault> {
-    let members = Members::new(NODES).ok_or(BenchFault::Nobody)?;
-    let mut office = Office::new();
-    let (mail, mut seats) = found(rt.alloc(), &mut office, members)?;
-    run_at(rt, threads, &mail, &mut seats, members, acts, width)
+pub fn run(rt: &HostRuntime, threads: &impl Threads, load: Load) -> Result<(), BenchFault> {
+    let mut run = Run { rt, threads, load };
+    with_stations::<Count, MemKeeper<Number>, _, _>(rt.alloc(), &Fresh, &mut run).ok_or(
+        BenchFault::Nobody,
+    )?
 }

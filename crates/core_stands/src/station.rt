@@ -4,11 +4,17 @@ ghost use Rattle.mail_table.specs.Seats.{Owns};
 ghost use Rattle.paxos_node.specs.declared.view.Opened.TheVariants.{Never};
 ghost use Rattle.paxos_packets.specs.Members.{IsMember};
 
+use actor_run::{Feed, Gate, run_node};
 use mail_table::{Mail, NodeSeat};
 use node_actor::{Actor, ActorFault, Entry, Keeper, Machine, Members, Post};
 use replica_machine::AppliedLog;
 use std::alloc::Global;
-use std::test::Fail;
+
+// The most nodes that a table has.
+const MOST_NODES: u8 = 7;
+
+// The number of the fault of a node that is lost in its present boot.
+const LOST: u8 = 73;
 
 /// What a call of an actor answers.
 pub type Answer<Y> = Result<Vec<Y>, ActorFault<Y>>;
@@ -29,15 +35,15 @@ pub struct Left<'a, M: Machine> {
     ghost owned: { Owns mail.now post.seat },
 }
 
-/// The actor of a node that was never opened; what is left where it can't be is let go.
-pub fn opened<'a, M: Machine, K: Keeper<M::Body> + Drop>(
+// The actor of a node that was never opened, or none; what is left then is let go.
+pub(crate) fn opened<'a, M: Machine, K: Keeper<M::Body> + Drop>(
     alloc: Global,
     mail: &'a Mail<M::Body>,
     seat: NodeSeat<M::Body>,
     members: Members,
     machine: M,
     keeper: K,
-) -> Result<Station<'a, M, K>, Fail>
+) -> Option<Station<'a, M, K>>
     requires owned { Owns mail.now seat }
     requires members { members ≡ mail.now.members }
     requires member { IsMember mail.now.members seat.part.me }
@@ -46,12 +52,35 @@ pub fn opened<'a, M: Machine, K: Keeper<M::Body> + Drop>(
 {
     let me = seat.node();
     match Actor::open(alloc, mail, seat, me, members, machine, keeper) {
-        Ok(actor) => Ok(Station { mail, actor }),
+        Ok(actor) => Some(Station { mail, actor }),
         Err(left) => {
             drop(left);
-            Err(Fail::from("no actor"))
+            None
         },
     }
+}
+
+/// What a call answered, and the number of its fault, 0 where there is none. With a fault only that of a lost node has sayings.
+pub fn told_of<Y: Drop>(done: Answer<Y>) -> (Option<Vec<Y>>, u8) {
+    match done {
+        Ok(says) => (Some(says), 0),
+        Err(ActorFault::LostHere(says)) => (Some(says), LOST),
+        Err(fault) => {
+            let number = fault.number();
+            drop(fault);
+            (None, number)
+        },
+    }
+}
+
+/// How many sayings a call answered, or the number of its fault.
+pub fn count_of<Y: Drop>(done: Answer<Y>) -> Result<u64, u8> {
+    let count = match &done {
+        Ok(says) => Ok(says.len() as u64),
+        Err(fault) => Err(fault.number()),
+    };
+    drop(done);
+    count
 }
 
 impl<'a, M: Machine, K: Keeper<M::Body>> Station<'a, M, K> {
@@ -75,9 +104,12 @@ impl<'a, M: Machine, K: Keeper<M::Body>> Station<'a, M, K> {
         self.actor.start(self.mail)
     }
 
-    /// The node takes another to be lost.
-    pub fn suspect(&mut self, node: u8) -> Answer<M::Say> {
-        self.actor.suspect(self.mail, node)
+    /// The actor turns for as long as the gate lets pass. Whether no fault ended it.
+    pub fn run<G: Gate, F: Feed<M::Body, M::Say>>(&mut self, gate: &G, feed: &mut F) -> bool {
+        let done = run_node(self.mail, &mut self.actor, gate, feed);
+        let good = done.is_ok();
+        drop(done);
+        good
     }
 
     /// The node's log.
@@ -85,11 +117,26 @@ impl<'a, M: Machine, K: Keeper<M::Body>> Station<'a, M, K> {
         self.actor.log()
     }
 
+    /// How many entries the node has applied.
+    pub fn applied(&self) -> u64 {
+        self.actor.applied()
+    }
+
+    /// Whether entries of the node wait for a slot.
+    pub fn has_pending(&self) -> bool {
+        self.actor.has_pending()
+    }
+
+    /// Whether its last turn treated a packet.
+    pub fn has_treated(&self) -> bool {
+        self.actor.from().is_some()
+    }
+
     /// Whether its last turn posted a packet, or treated one.
     pub fn has_moved(&self) -> bool {
         let posted = self.actor.posted();
-        let mut moved = self.actor.from().is_some();
-        for node in 1..=7 {
+        let mut moved = self.has_treated();
+        for node in 1..=MOST_NODES {
             moved = moved || posted.contains(node);
         }
         moved
@@ -104,10 +151,12 @@ impl<'a, M: Machine, K: Keeper<M::Body>> Station<'a, M, K> {
 }
 
 impl<'a, M: Machine, K: Keeper<M::Body> + Drop> Station<'a, M, K> {
-    /// The seat, and the log that the machine has followed.
-    pub fn leave(self) -> (NodeSeat<M::Body>, AppliedLog<M>) {
+    /// The log that the machine has followed; the seat is let go.
+    pub fn leave(self) -> AppliedLog<M> {
         let Station { actor, .. } = self;
-        actor.leave()
+        let (seat, log) = actor.leave();
+        drop(seat);
+        log
     }
 }
 
@@ -147,13 +196,13 @@ impl<'a, M: Machine> Left<'a, M> {
 /// The actor that goes on; what is left where none does is let go.
 pub fn again<'a, M: Machine, K: Keeper<M::Body> + Drop>(
     begun: Begun<'a, M, K>,
-) -> Result<Station<'a, M, K>, Fail> {
+) -> Option<Station<'a, M, K>> {
     match begun {
-        Begun::Again(station) => Ok(station),
+        Begun::Again(station) => Some(station),
         Begun::Not(_, left, keeper) => {
             drop(left);
             drop(keeper);
-            Err(Fail::from("no actor"))
+            None
         },
     }
 }

@@ -1,0 +1,78 @@
+// What is tried with three actors.
+use crate::carrying::at;
+use crate::counting::{Counting, Failing, fails, serve_and_leave};
+use crate::crashing::outlives;
+use crate::refusing::{begins_again, fills_up, passes, refuses};
+use acceptor_keeper::MemKeeper;
+use core_stands::{Plays, with_stations};
+use core_tests::{Count, Number};
+use std::alloc::Global;
+use std::process::Abort;
+use std::test::Fail;
+
+/// What is tried: with all three, or with that of node 1.
+#[derive(Clone, Copy)]
+pub enum Trial {
+    Serves,
+    Fails { node: u8, wanted: bool },
+    Outlives,
+    Fills,
+    Rests,
+    Restarts,
+    Refuses,
+}
+
+struct Trying<'r, R> {
+    rt: &'r R,
+    alloc: Global,
+    trial: Trial,
+}
+
+// What is tried with the actor of node 1 alone, which ends there.
+fn try_first(
+    rt: &impl Abort,
+    alloc: Global,
+    stations: &mut Vec<Counting<'_>>,
+    restarts: bool,
+) -> Result<(), Fail> {
+    let Some(first) = stations.pop() else {
+        return Err(Fail::from("no such node"));
+    };
+    if restarts {
+        begins_again(rt, alloc, first)
+    } else {
+        refuses(rt, alloc, first)
+    }
+}
+
+impl<R: Abort> Plays<Count, MemKeeper<Number>> for Trying<'_, R> {
+    type End = Result<(), Fail>;
+
+    fn play(&mut self, stations: &mut Vec<Counting<'_>>) -> Result<(), Fail> {
+        let (rt, alloc) = (self.rt, self.alloc);
+        match self.trial {
+            Trial::Serves => serve_and_leave(rt, alloc, stations),
+            Trial::Fails { node, wanted } => fails(
+                rt,
+                alloc,
+                stations.as_mut_slice(),
+                node,
+                wanted,
+            ),
+            Trial::Outlives => outlives(rt, alloc, stations),
+            Trial::Fills => fills_up(rt, at(stations.as_mut_slice(), 1)?),
+            Trial::Rests => passes(rt, at(stations.as_mut_slice(), 1)?),
+            Trial::Restarts => try_first(rt, alloc, stations, true),
+            Trial::Refuses => try_first(rt, alloc, stations, false),
+        }
+    }
+}
+
+/// Tries it with three actors over stores in memory, of which one may fail.
+pub fn tried(rt: &impl Abort, alloc: Global, failing: &Failing, trial: Trial) -> Result<(), Fail> {
+    let mut trying = Trying { rt, alloc, trial };
+    match with_stations::<Count, MemKeeper<Number>, _, _>(alloc, failing, &mut trying) {
+        Some(done) => done,
+        None => Err(Fail::from("no actors")),
+    }
+}

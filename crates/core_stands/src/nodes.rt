@@ -1,0 +1,210 @@
+// Nodes in one process, and the packets that are under way between them, in the order in which they were sent.
+use crate::closing::push;
+use crate::standing::NODES;
+use paxos_node::{Event, Node, NodeFault, Packets};
+use paxos_packets::{Body, Entries, Entry, Members, Packet, Rows, Votes};
+use std::alloc::Global;
+use std::collections::VecDeque;
+
+// A node, and how many acts it has applied.
+#[derive(Drop)]
+struct Member<B> {
+    node: Node<B>,
+    acts: u64,
+}
+
+/// Nodes, and the packets that are under way.
+#[derive(Drop)]
+pub struct Nodes<B> {
+    members: Vec<Member<B>>,
+    sent: VecDeque<Packet<B>>,
+}
+
+/// Why an event did not happen.
+#[derive(Clone, Copy, Drop)]
+pub enum Missed {
+    /// No node has this number.
+    Nobody,
+    /// The node did not plan it, or did not adopt what was planned.
+    Node(NodeFault),
+    /// There was no memory for the packets.
+    Memory,
+}
+
+/// What is done with nodes.
+pub trait Passes<B: Body> {
+    /// What comes of it.
+    type End;
+
+    /// Goes over the nodes.
+    fn pass(&mut self, nodes: &mut Nodes<B>) -> Self::End;
+}
+
+// The nodes begin.
+
+fn node_of<B: Drop>(alloc: Global, number: u8, members: Members) -> Result<Node<B>, NodeFault> {
+    let rows = Rows {
+        boot: 1,
+        promised: None,
+        votes: Votes::new(alloc),
+    };
+    Node::of(alloc, number, members, rows)
+}
+
+// Nodes 1 to so many. Whether there was memory for them.
+fn put_members<B: Drop>(alloc: Global, members: &mut Vec<Member<B>>, count: Members) -> bool {
+    for number in 1..=count.count() {
+        let Ok(node) = node_of(alloc, number, count) else {
+            return false;
+        };
+        if !push(members, Member { node, acts: 0 }) {
+            return false;
+        }
+    }
+    true
+}
+
+/// Lends three nodes, each in its first boot, to what is done with them. Gives what comes of it; none where there is no memory for them.
+pub fn with_nodes<B: Body, P: Passes<B>>(alloc: Global, passes: &mut P) -> Option<P::End> {
+    let count = Members::new(NODES)?;
+    let mut nodes = Nodes {
+        members: Vec::new(alloc),
+        sent: VecDeque::new(alloc),
+    };
+    let end = if put_members(alloc, &mut nodes.members, count) {
+        Some(passes.pass(&mut nodes))
+    } else {
+        None
+    };
+    drop(nodes);
+    end
+}
+
+// One event, and the packets that it sends.
+
+// The event is planned and adopted.
+fn turn<B: Body>(
+    node: &mut Node<B>,
+    event: &Event<B>,
+) -> Result<(Packets<B>, Entries<B>), NodeFault> {
+    let outcome = node.plan(event)?;
+    if let Err(fault) = node.make_room(&outcome) {
+        drop(outcome);
+        return Err(fault);
+    }
+    Ok(node.adopt_in_room(outcome))
+}
+
+fn acts_in<B>(entries: &[Entry<B>]) -> u64 {
+    let mut acts = 0u64;
+    for entry in entries {
+        if is_act(entry) {
+            acts = acts.saturating_add(1);
+        }
+    }
+    acts
+}
+
+fn is_act<B>(entry: &Entry<B>) -> bool {
+    match entry {
+        Entry::Item { .. } => true,
+        Entry::Noop | Entry::Boot { .. } | Entry::Lost { .. } => false,
+    }
+}
+
+// The event happens at the member; what it applies is counted.
+fn step<B: Body>(member: &mut Member<B>, event: &Event<B>) -> Result<Packets<B>, NodeFault> {
+    let (packets, applied) = turn(&mut member.node, event)?;
+    member.acts = member.acts.saturating_add(acts_in(applied.as_slice()));
+    drop(applied);
+    Ok(packets)
+}
+
+// These packets are under way. Whether there was memory for them.
+fn send<B: Drop>(sent: &mut VecDeque<Packet<B>>, packets: Packets<B>) -> bool {
+    for packet in packets.into_vec() {
+        if let Err(left) = sent.push_back(packet) {
+            drop(left);
+            return false;
+        }
+    }
+    true
+}
+
+fn place_of(number: u8) -> usize {
+    usize::from(number.saturating_sub(1))
+}
+
+// The event happens at the node of this number; what it sends is under way.
+fn happen<B: Body>(nodes: &mut Nodes<B>, number: u8, event: &Event<B>) -> Result<(), Missed> {
+    let Some(member) = nodes.members.get_mut(place_of(number)) else {
+        return Err(Missed::Nobody);
+    };
+    let packets = match step(member, event) {
+        Ok(packets) => packets,
+        Err(fault) => return Err(Missed::Node(fault)),
+    };
+    if send(&mut nodes.sent, packets) {
+        Ok(())
+    } else {
+        Err(Missed::Memory)
+    }
+}
+
+impl<B: Body> Nodes<B> {
+    // The event happens at the node of this number, and is let go.
+    fn event(&mut self, number: u8, event: Event<B>) -> Result<(), Missed> {
+        let done = happen(self, number, &event);
+        drop(event);
+        done
+    }
+
+    /// The node begins a ballot.
+    pub fn start(&mut self, node: u8) -> Result<(), Missed> {
+        self.event(node, Event::Start { node })
+    }
+
+    /// Time has passed at the node.
+    pub fn tick(&mut self, node: u8) -> Result<(), Missed> {
+        self.event(node, Event::Tick { node })
+    }
+
+    /// The node takes an act of its transport 1 with this body.
+    pub fn take(&mut self, node: u8, body: B) -> Result<(), Missed> {
+        self.event(
+            node,
+            Event::Take {
+                node,
+                transport: 1,
+                body,
+            },
+        )
+    }
+
+    /// The oldest packet that is under way reaches its addressee. Whether there was one.
+    pub fn deliver(&mut self) -> Result<bool, Missed> {
+        let Some(packet) = self.sent.pop_front() else {
+            return Ok(false);
+        };
+        self.event(packet.addressee, Event::Deliver { packet })?;
+        Ok(true)
+    }
+
+    /// Whether entries of the node wait for a slot.
+    pub fn has_pending(&self, node: u8) -> bool {
+        match self.members.get(place_of(node)) {
+            Some(member) => member.node.has_pending(),
+            None => false,
+        }
+    }
+
+    /// Whether each node has applied so many acts.
+    pub fn have_applied(&self, acts: u64) -> bool {
+        for member in self.members.as_slice() {
+            if member.acts != acts {
+                return false;
+            }
+        }
+        true
+    }
+}
