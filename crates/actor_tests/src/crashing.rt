@@ -75,7 +75,7 @@ pub fn outlives(
 }
 
 // The first commit of the second actor fails, and leaves the old rows or the new ones.
-fn failing(after: bool) -> Failing {
+fn fails_once(after: bool) -> Failing {
     Failing {
         node: 2,
         k: 1,
@@ -85,10 +85,10 @@ fn failing(after: bool) -> Failing {
 
 #[test]
 fn an_actor_outlives_a_commit_that_left_the_old_rows(rt: HostRuntime) -> Result<(), Fail> {
-    tried(&rt, rt.alloc(), &failing(false), Trial::Outlives)
+    tried(&rt, rt.alloc(), &fails_once(false), Trial::Outlives)
 }
 
 #[test]
 fn an_actor_outlives_a_commit_that_left_the_new_rows(rt: HostRuntime) -> Result<(), Fail> {
-    tried(&rt, rt.alloc(), &failing(true), Trial::Outlives)
+    tried(&rt, rt.alloc(), &fails_once(true), Trial::Outlives)
 }

@@ -22,8 +22,9 @@ pub enum Trial {
     Refuses,
 }
 
-struct Trying<'r, R> {
-    rt: &'r R,
+#[derive(Drop)]
+struct Trying<R> {
+    rt: R,
     alloc: Global,
     trial: Trial,
 }
@@ -45,7 +46,7 @@ fn try_first(
     }
 }
 
-impl<R: Abort> Plays<Count, MemKeeper<Number>> for Trying<'_, R> {
+impl<R: Abort> Plays<Count, MemKeeper<Number>> for Trying<&R> {
     type End = Result<(), Fail>;
 
     fn play(&mut self, stations: &mut Vec<Counting<'_>>) -> Result<(), Fail> {

@@ -23,38 +23,86 @@ impl Source<Count, MemKeeper<Number>> for Fresh {
     }
 }
 
+// What an actor is asked for.
+#[derive(Clone, Copy)]
+enum Asked {
+    Start,
+    Tick,
+    Take(Number),
+    Turn,
+}
+
+fn at<'s, 'a>(stations: &'s mut [Adding<'a>], node: u8) -> Result<&'s mut Adding<'a>, BenchFault> {
+    let index = usize::from(NODES.saturating_sub(node));
+    stations.get_mut(index).ok_or(BenchFault::Nobody)
+}
+
+// How much was said to transports.
+fn ask(station: &mut Adding<'_>, asked: Asked) -> Result<u64, BenchFault> {
+    let done = match asked {
+        Asked::Start => station.start(),
+        Asked::Tick => station.tick(),
+        Asked::Take(body) => station.take(1, body),
+        Asked::Turn => station.turn(),
+    };
+    match count_of(done) {
+        Ok(said) => Ok(said),
+        Err(_) => Err(BenchFault::Actor),
+    }
+}
+
+fn ask_at(stations: &mut [Adding<'_>], node: u8, asked: Asked) -> Result<u64, BenchFault> {
+    ask(at(stations, node)?, asked)
+}
+
+// How much was said in a turn, whether a packet was treated in it, and whether one was treated or posted.
+fn turn_at(stations: &mut [Adding<'_>], node: u8) -> Result<(u64, bool, bool), BenchFault> {
+    let station = at(stations, node)?;
+    let said = ask(station, Asked::Turn)?;
+    Ok((said, station.has_treated(), station.has_moved()))
+}
+
+fn has_pending_at(stations: &mut [Adding<'_>], node: u8) -> Result<bool, BenchFault> {
+    Ok(at(stations, node)?.has_pending())
+}
+
+// Whether all logs have one length.
+fn have_one_length(stations: &[Adding<'_>]) -> bool {
+    let Some(first) = stations.first() else {
+        return false;
+    };
+    let length = first.applied();
+    for station in stations {
+        if station.applied() != length {
+            return false;
+        }
+    }
+    true
+}
+
 // The actors, the last one first, and how much their machines said to transports: one sum for each act, at its own node.
+#[derive(Drop)]
 struct Standing<'s, 'a> {
     stations: &'s mut [Adding<'a>],
     said: u64,
     counts: Counts,
 }
 
-impl<'a> Standing<'_, 'a> {
-    fn at(&mut self, node: u8) -> Result<&mut Adding<'a>, BenchFault> {
-        let index = usize::from(NODES.saturating_sub(node));
-        self.stations.get_mut(index).ok_or(BenchFault::Nobody)
-    }
-
-    // So much was said, or the actor did not take the event.
-    fn hear(&mut self, said: Result<u64, u8>) -> Result<(), BenchFault> {
-        match said {
-            Ok(said) => {
-                self.said = self.said.saturating_add(said);
-                Ok(())
-            }
-            Err(_) => Err(BenchFault::Actor),
-        }
+impl Standing<'_, '_> {
+    // One event of the node.
+    fn event(&mut self, node: u8, asked: Asked) -> Result<(), BenchFault> {
+        let said = ask_at(self.stations, node, asked)?;
+        self.counts.event();
+        self.said = self.said.saturating_add(said);
+        Ok(())
     }
 
     // One turn of the node; whether a packet was posted or treated in it. One that was treated is counted.
     fn turn(&mut self, node: u8) -> Result<bool, BenchFault> {
-        let station = self.at(node)?;
-        let said = count_of(station.turn());
-        let (treated, moved) = (station.has_treated(), station.has_moved());
-        self.hear(said)?;
+        let (said, treated, moved) = turn_at(self.stations, node)?;
         if treated {
             self.counts.packet();
+            self.said = self.said.saturating_add(said);
         }
         Ok(moved)
     }
@@ -73,21 +121,15 @@ impl Cluster for Standing<'_, '_> {
     type Body = Number;
 
     fn start(&mut self, node: u8) -> Result<(), BenchFault> {
-        self.counts.event();
-        let said = count_of(self.at(node)?.start());
-        self.hear(said)
+        self.event(node, Asked::Start)
     }
 
     fn tick(&mut self, node: u8) -> Result<(), BenchFault> {
-        self.counts.event();
-        let said = count_of(self.at(node)?.tick());
-        self.hear(said)
+        self.event(node, Asked::Tick)
     }
 
     fn take(&mut self, node: u8, body: Number) -> Result<(), BenchFault> {
-        self.counts.event();
-        let said = count_of(self.at(node)?.take(1, body));
-        self.hear(said)
+        self.event(node, Asked::Take(body))
     }
 
     // The nodes take turns until no packet moves.
@@ -101,21 +143,12 @@ impl Cluster for Standing<'_, '_> {
     }
 
     fn has_pending(&mut self, node: u8) -> Result<bool, BenchFault> {
-        Ok(self.at(node)?.has_pending())
+        has_pending_at(self.stations, node)
     }
 
     // Whether one sum was heard for each act, and all logs have one length.
-    fn has_all(&self, acts: u64) -> bool {
-        let Some(first) = self.stations.first() else {
-            return false;
-        };
-        let length = first.applied();
-        for station in self.stations.iter() {
-            if station.applied() != length {
-                return false;
-            }
-        }
-        self.said == acts
+    fn has_all(&mut self, acts: u64) -> bool {
+        self.said == acts && have_one_length(self.stations)
     }
 
     fn counts(&mut self) -> &mut Counts {
@@ -124,12 +157,13 @@ impl Cluster for Standing<'_, '_> {
 }
 
 // A run.
-struct Run<'r> {
+#[derive(Drop)]
+struct Measuring<'r> {
     rt: &'r HostRuntime,
     load: Load,
 }
 
-impl Plays<Count, MemKeeper<Number>> for Run<'_> {
+impl Plays<Count, MemKeeper<Number>> for Measuring<'_> {
     type End = Result<(), BenchFault>;
 
     fn play(&mut self, stations: &mut Vec<Adding<'_>>) -> Result<(), BenchFault> {
@@ -145,8 +179,8 @@ impl Plays<Count, MemKeeper<Number>> for Run<'_> {
 /// Takes the acts, a window at a time, at two of three actors by turns, which pass their packets over a mail table, a turn each in rotation;
 /// prints how many were applied, events and packets, and on standard error what they took. Each body is a number, each store is in memory.
 pub fn run(rt: &HostRuntime, load: Load) -> Result<(), BenchFault> {
-    let mut run = Run { rt, load };
-    with_stations::<Count, MemKeeper<Number>, _, _>(rt.alloc(), &Fresh, &mut run).ok_or(
+    let mut measuring = Measuring { rt, load };
+    with_stations::<Count, MemKeeper<Number>, _, _>(rt.alloc(), &Fresh, &mut measuring).ok_or(
         BenchFault::Nobody,
     )?
 }

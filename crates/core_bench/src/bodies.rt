@@ -19,6 +19,7 @@ pub trait Source<B> {
 }
 
 /// Makes numbers.
+#[derive(Clone, Copy)]
 pub struct Numbers;
 
 impl Source<Number> for Numbers {
@@ -47,9 +48,20 @@ pub fn text_of(alloc: Global) -> Result<Vec<u8>, AllocError> {
     Ok(text)
 }
 
+// It is held once from here on.
+fn shared<T: Drop>(alloc: Global, value: T) -> Result<Shared<T>, BenchFault> {
+    match Shared::new(alloc, value) {
+        Ok(shared) => Ok(shared),
+        Err(left) => {
+            drop(left);
+            Err(BenchFault::Memory)
+        }
+    }
+}
+
 /// The act that says the message of this text.
 pub fn act_of(alloc: Global, text: &[u8]) -> Result<Act, BenchFault> {
     let draw = Id::new(1).ok_or(BenchFault::Text)?;
-    let read = Shared::new(alloc, read(alloc, text)?)?;
+    let read = shared(alloc, read(alloc, text)?)?;
     Ok(Act::Said { draw, read })
 }

@@ -64,7 +64,7 @@ pub trait Cluster {
     fn has_pending(&mut self, node: u8) -> Result<bool, BenchFault>;
 
     /// Whether so many acts, and no other, took effect at each of them.
-    fn has_all(&self, acts: u64) -> bool;
+    fn has_all(&mut self, acts: u64) -> bool;
 
     /// What there was since the cluster began.
     fn counts(&mut self) -> &mut Counts;

@@ -8,6 +8,7 @@ use paxos_packets::Body;
 use realm_acts::Act;
 
 // The nodes, which belong to the stand.
+#[derive(Drop)]
 struct Standing<'n, B> {
     nodes: &'n mut Nodes<B>,
     counts: Counts,
@@ -45,7 +46,7 @@ impl<B: Body> Cluster for Standing<'_, B> {
         Ok(self.nodes.has_pending(node))
     }
 
-    fn has_all(&self, acts: u64) -> bool {
+    fn has_all(&mut self, acts: u64) -> bool {
         self.nodes.have_applied(acts)
     }
 
@@ -55,13 +56,14 @@ impl<B: Body> Cluster for Standing<'_, B> {
 }
 
 // A run over bodies of this source.
-struct Run<'r, S> {
+#[derive(Drop)]
+struct Measuring<'r, S> {
     rt: &'r HostRuntime,
     source: S,
     load: Load,
 }
 
-impl<B: Body, S: Source<B>> Passes<B> for Run<'_, S> {
+impl<B: Body, S: Source<B>> Passes<B> for Measuring<'_, S> {
     type End = Result<(), BenchFault>;
 
     fn pass(&mut self, nodes: &mut Nodes<B>) -> Result<(), BenchFault> {
@@ -76,23 +78,23 @@ impl<B: Body, S: Source<B>> Passes<B> for Run<'_, S> {
 /// Takes the acts, a window at a time, at two of three nodes by turns, and passes their packets by hand; prints how many were applied, events
 /// and packets, and on standard error what they took. Each body is a number.
 pub fn run_numbers(rt: &HostRuntime, load: Load) -> Result<(), BenchFault> {
-    let mut run = Run {
+    let mut measuring = Measuring {
         rt,
         source: Numbers,
         load,
     };
-    with_nodes::<Number, _>(rt.alloc(), &mut run).ok_or(BenchFault::Nobody)?
+    with_nodes::<Number, _>(rt.alloc(), &mut measuring).ok_or(BenchFault::Nobody)?
 }
 
 /// The same, where each body is a realm's act, a PUBLISH whose text has 200 octets.
 pub fn run_acts(rt: &HostRuntime, load: Load) -> Result<(), BenchFault> {
     let text = text_of(rt.alloc())?;
-    let mut run = Run {
+    let mut measuring = Measuring {
         rt,
         source: Acts {
             text: text.as_slice(),
         },
         load,
     };
-    with_nodes::<Act, _>(rt.alloc(), &mut run).ok_or(BenchFault::Nobody)?
+    with_nodes::<Act, _>(rt.alloc(), &mut measuring).ok_or(BenchFault::Nobody)?
 }

@@ -267,13 +267,14 @@ fn run_over(
 }
 
 // A run.
-struct Run<'r, T> {
+#[derive(Drop)]
+struct Measuring<'r, T> {
     rt: &'r HostRuntime,
-    threads: &'r T,
+    threads: T,
     load: Load,
 }
 
-impl<T: Threads> Plays<Count, MemKeeper<Number>> for Run<'_, T> {
+impl<T: Threads> Plays<Count, MemKeeper<Number>> for Measuring<'_, &T> {
     type End = Result<(), BenchFault>;
 
     fn play(&mut self, stations: &mut Vec<Adding<'_>>) -> Result<(), BenchFault> {
@@ -285,8 +286,8 @@ impl<T: Threads> Plays<Count, MemKeeper<Number>> for Run<'_, T> {
 /// prints how many were answered, and on standard error what they took by the clock, and how many turns found no packet. Each body is a
 /// number, each store is in memory.
 pub fn run(rt: &HostRuntime, threads: &impl Threads, load: Load) -> Result<(), BenchFault> {
-    let mut run = Run { rt, threads, load };
-    with_stations::<Count, MemKeeper<Number>, _, _>(rt.alloc(), &Fresh, &mut run).ok_or(
+    let mut measuring = Measuring { rt, threads, load };
+    with_stations::<Count, MemKeeper<Number>, _, _>(rt.alloc(), &Fresh, &mut measuring).ok_or(
         BenchFault::Nobody,
     )?
 }

@@ -88,11 +88,7 @@ fn turn<B: Body>(
     event: &Event<B>,
 ) -> Result<(Packets<B>, Entries<B>), NodeFault> {
     let outcome = node.plan(event)?;
-    if let Err(fault) = node.make_room(&outcome) {
-        drop(outcome);
-        return Err(fault);
-    }
-    Ok(node.adopt_in_room(outcome))
+    node.adopt(outcome)
 }
 
 fn acts_in<B>(entries: &[Entry<B>]) -> u64 {
