@@ -5,19 +5,22 @@ ghost use Rattle.realm_sessions.specs.Links.{has_number};
 ghost use Rattle.realm_sessions.specs.Sessions.{next_invocation};
 ghost use Rattle.realm_machine.specs.Content.{Does};
 ghost use Rattle.realm_machine.specs.Calling.{refuse_call, invocation, procedure_for, invoke_under, invoke, call_chosen, call_open, call_uri};
-ghost use Rattle.realm_machine.specs.Calling.{call_text, on_call, interrupted, told_canceled, on_cancel, on_yield, on_failure, unfit_yield};
+ghost use Rattle.realm_machine.specs.Calling.{call_text, on_call, interrupted, told_canceled, on_cancel, on_yield, failure, on_failure, unfit_yield};
 
 use crate::act::Say;
 use crate::content::Content;
 use crate::leaving::interrupt;
 use crate::memory::Memory;
 use crate::requester::Requester;
-use crate::sayings::{CANCELED, INVALID_ARGUMENT, INVALID_URI, LIMIT, NO_SUCH_PROCEDURE, refusal};
+use crate::sayings::{
+    CANCELED, INVALID_ARGUMENT, INVALID_URI, LIMIT, NO_SUCH_PROCEDURE, add_message, add_refusal,
+};
 use paxos_packets::Transport;
 use realm_calls::Cancelled;
 use realm_registrations::Chosen;
 use realm_sessions::Sessions;
 use realm_sessions::laws::invocation_ids_are_found;
+use std::alloc::Global;
 use wamp_elements::RequestKind;
 use wamp_ids::{Id, Match, Text, Uri};
 use wamp_kinds::{Call, Cancel, Error, Invocation, Message, Reply, Yield};
@@ -200,10 +203,7 @@ impl Content {
     {
         let mut says = Vec::new(self.alloc);
         add_interrupt(&mut says, &self.sessions, it)?;
-        if it.is_ended {
-            let message = refusal(self.alloc, RequestKind::Call, it.call.request, CANCELED)?;
-            says.push(Say::send(transport, message))?;
-        }
+        add_told_canceled(self.alloc, &mut says, transport, it)?;
         Ok(says)
     }
 
@@ -236,12 +236,7 @@ impl Content {
             return Ok(Vec::new(self.alloc));
         };
         let place = self.sessions.by_id(call.caller);
-        let message = Message::Error(Error {
-            kind: RequestKind::Call,
-            request: call.request,
-            error: Text::new(self.alloc, error)?,
-            args: args.copy()?,
-        });
+        let message = failure(self.alloc, call.request, error, args)?;
         self.say_to(&place, message)
     }
 
@@ -253,15 +248,37 @@ impl Content {
     }
 }
 
+// The ERROR that says to a caller that its call failed.
+fn failure(alloc: Global, request: Id, error: &str, args: &Args) -> Result<Message, Memory>
+    ensures { IfOk result (λ message. message ≡ failure error.now args.now request) }
+{
+    let error = Text::new(alloc, error)?;
+    let Ok(args) = args.copy() else {
+        drop(error);
+        return Err(Memory);
+    };
+    Ok(Message::Error(Error {
+        kind: RequestKind::Call,
+        request,
+        error,
+        args,
+    }))
+}
+
 // The INVOCATION of the callee that is chosen.
 fn invocation(id: Id, chosen: &Chosen, call: &Call) -> Result<Message, Memory>
     ensures { IfOk result (λ message. message ≡ invocation id chosen.now call.now) }
 {
+    let procedure = procedure_for(chosen.matching, &call.procedure)?;
+    let Ok(args) = call.args.copy() else {
+        drop(procedure);
+        return Err(Memory);
+    };
     Ok(Message::Invocation(Invocation {
         request: id,
         registration: chosen.registration,
-        procedure: procedure_for(chosen.matching, &call.procedure)?,
-        args: call.args.copy()?,
+        procedure,
+        args,
     }))
 }
 
@@ -271,8 +288,7 @@ fn procedure_for(matching: Match, procedure: &Text) -> Result<Option<Text>, Memo
 {
     match matching {
         Match::Exact => Ok(None),
-        Match::Prefix => Ok(Some(procedure.copy()?)),
-        Match::Wildcard => Ok(Some(procedure.copy()?)),
+        Match::Prefix | Match::Wildcard => Ok(Some(procedure.copy()?)),
     }
 }
 
@@ -283,8 +299,31 @@ fn add_interrupt(says: &mut Vec<Say>, sessions: &Sessions, it: &Cancelled) -> Re
     let Some(mode) = it.interrupt else {
         return Ok(());
     };
-    if let Some(transport) = sessions.by_id(it.call.callee) {
-        says.push(Say::send(transport, interrupt(&it.call, mode)))?;
+    match sessions.by_id(it.call.callee) {
+        Some(transport) => add_message(says, transport, interrupt(&it.call, mode)),
+        None => Ok(()),
     }
-    Ok(())
+}
+
+// The caller is told, if its call ended.
+fn add_told_canceled(
+    alloc: Global,
+    says: &mut Vec<Say>,
+    transport: Transport,
+    it: &Cancelled,
+) -> Result<(), Memory>
+    ensures { OnOk result (says.new.items ≡ says.old.items ++ told_canceled transport it.now) }
+{
+    if it.is_ended {
+        add_refusal(
+            alloc,
+            says,
+            transport,
+            RequestKind::Call,
+            it.call.request,
+            CANCELED,
+        )
+    } else {
+        Ok(())
+    }
 }

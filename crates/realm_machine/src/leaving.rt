@@ -1,17 +1,19 @@
 // How a client leaves, why it is made to, and how a node's transports go.
-ghost use Rattle.std.specs.Prelude.{◌≡◌, ◌++◌, IfOk, OnOk, Some, Option};
+ghost use Rattle.std.specs.Prelude.{◌≡◌, ◌∷◌, ◌++◌, [], IfOk, OnOk, Some, Option};
 ghost use Rattle.std.specs.List.{flat_map};
 ghost use Rattle.realm_sessions.specs.Links.{of_origin};
 ghost use Rattle.realm_machine.specs.Content.{Does};
 ghost use Rattle.realm_machine.specs.Leaving.{end_for_caller, end_for_callee, interrupt, end_calls_to, end_calls_by, end_session, leave};
 ghost use Rattle.realm_machine.specs.Leaving.{leave_session};
+ghost use Rattle.realm_machine.specs.Sayings.{say, shut, abort};
 ghost use Rattle.realm_machine.specs.Leaving.{remove, stop, violation, aborted, goodbye, told_shutdown, farewell, one_gone, all_gone, gone};
 
 use crate::act::Say;
 use crate::content::Content;
 use crate::memory::Memory;
 use crate::sayings::{
-    CANCELED, GOODBYE_AND_OUT, PROTOCOL_VIOLATION, SYSTEM_SHUTDOWN, abort, goodbye, refusal,
+    CANCELED, GOODBYE_AND_OUT, PROTOCOL_VIOLATION, SYSTEM_SHUTDOWN, abort, add_close, add_goodbye,
+    add_message, add_refusal,
 };
 use paxos_packets::Transport;
 use realm_calls::Open;
@@ -61,9 +63,11 @@ impl Content {
     {
         let mut says = self.end_calls_to(session)?;
         let mut interrupts = self.end_calls_by(session)?;
-        says.append(&mut interrupts)?;
+        let done = says.append(&mut interrupts);
+        drop(interrupts);
         self.registry.leave(session);
         self.topics.leave(session);
+        done?;
         Ok(says)
     }
 
@@ -81,9 +85,7 @@ impl Content {
         ensures { Does result self.new (stop self.old transport reason.now) }
     {
         let mut says = self.remove(transport)?;
-        let message = abort(self.alloc, reason)?;
-        says.push(Say::send(transport, message))?;
-        says.push(Say::close(transport))?;
+        add_end(self.alloc, &mut says, transport, reason)?;
         Ok(says)
     }
 
@@ -99,7 +101,7 @@ impl Content {
         ensures { Does result self.new (aborted self.old transport) }
     {
         let mut says = self.remove(transport)?;
-        says.push(Say::close(transport))?;
+        add_close(&mut says, transport)?;
         Ok(says)
     }
 
@@ -108,8 +110,7 @@ impl Content {
         ensures { Does result self.new (goodbye self.old transport) }
     {
         let mut says = self.leave(transport)?;
-        let message = goodbye(self.alloc, GOODBYE_AND_OUT)?;
-        says.push(Say::send(transport, message))?;
+        add_goodbye(self.alloc, &mut says, transport, GOODBYE_AND_OUT)?;
         Ok(says)
     }
 
@@ -144,6 +145,21 @@ impl Content {
     }
 }
 
+// The transport is sent why, and closed, behind what is said.
+fn add_end(
+    alloc: Global,
+    says: &mut Vec<Say>,
+    transport: Transport,
+    reason: &str,
+) -> Result<(), Memory>
+    ensures { OnOk result
+        (says.new.items ≡ says.old.items ++ (say transport (abort reason.now) ∷ (shut transport ∷ []))) }
+{
+    let message = abort(alloc, reason)?;
+    add_message(says, transport, message)?;
+    add_close(says, transport)
+}
+
 // What a transport of a node that is gone is told.
 fn add_farewell(
     alloc: Global,
@@ -157,8 +173,7 @@ fn add_farewell(
         return Ok(());
     };
     add_shutdown(alloc, says, transport, session)?;
-    says.push(Say::close(transport))?;
-    Ok(())
+    add_close(says, transport)
 }
 
 // A session that ends with its node is told why.
@@ -170,11 +185,10 @@ fn add_shutdown(
 ) -> Result<(), Memory>
     ensures { OnOk result (says.new.items ≡ says.old.items ++ told_shutdown transport session.now) }
 {
-    if session.is_some() {
-        let message = goodbye(alloc, SYSTEM_SHUTDOWN)?;
-        says.push(Say::send(transport, message))?;
+    match session {
+        Some(_) => add_goodbye(alloc, says, transport, SYSTEM_SHUTDOWN),
+        None => Ok(()),
     }
-    Ok(())
 }
 
 // The callers of calls that ended are told so.
@@ -196,11 +210,19 @@ fn add_end_for_caller(
 ) -> Result<(), Memory>
     ensures { OnOk result (says.new.items ≡ says.old.items ++ end_for_caller sessions.now.list call.now) }
 {
-    if let Some(transport) = sessions.by_id(call.caller) {
-        let message = refusal(alloc, RequestKind::Call, call.request, CANCELED)?;
-        says.push(Say::send(transport, message))?;
+    match sessions.by_id(call.caller) {
+        Some(transport) => {
+            add_refusal(
+                alloc,
+                says,
+                transport,
+                RequestKind::Call,
+                call.request,
+                CANCELED,
+            )
+        }
+        None => Ok(()),
     }
-    Ok(())
 }
 
 // The callees of calls that ended are interrupted, if they announced canceling.
@@ -220,10 +242,10 @@ fn add_end_for_callee(says: &mut Vec<Say>, sessions: &Sessions, call: &Open) -> 
     if !sessions.announces(call.callee) {
         return Ok(());
     }
-    if let Some(transport) = sessions.by_id(call.callee) {
-        says.push(Say::send(transport, interrupt(call, Mode::KillNoWait)))?;
+    match sessions.by_id(call.callee) {
+        Some(transport) => add_message(says, transport, interrupt(call, Mode::KillNoWait)),
+        None => Ok(()),
     }
-    Ok(())
 }
 
 // The INTERRUPT for a call.

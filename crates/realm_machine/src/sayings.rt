@@ -1,4 +1,4 @@
-ghost use Rattle.std.specs.Prelude.{◌≡◌, IfOk};
+ghost use Rattle.std.specs.Prelude.{◌≡◌, ◌∷◌, ◌++◌, [], IfOk, OnOk};
 ghost use Rattle.realm_machine.specs.Sayings.{say, shut, refusal, abort, goodbye};
 
 use crate::act::{Out, Say};
@@ -87,4 +87,54 @@ pub fn goodbye(alloc: Global, reason: &str) -> Result<Message, Memory>
     Ok(Message::Goodbye(Goodbye {
         reason: Text::new(alloc, reason)?,
     }))
+}
+
+// The transport is sent the message, behind what is said.
+pub fn add_message(
+    says: &mut Vec<Say>,
+    transport: Transport,
+    message: Message,
+) -> Result<(), Memory>
+    ensures { OnOk result (says.new.items ≡ says.old.items ++ say transport message ∷ []) }
+{
+    says.push(Say::send(transport, message))?;
+    Ok(())
+}
+
+// The transport is closed, behind what is said.
+pub fn add_close(says: &mut Vec<Say>, transport: Transport) -> Result<(), Memory>
+    ensures { OnOk result (says.new.items ≡ says.old.items ++ shut transport ∷ []) }
+{
+    says.push(Say::close(transport))?;
+    Ok(())
+}
+
+// A request is refused, behind what is said.
+pub fn add_refusal(
+    alloc: Global,
+    says: &mut Vec<Say>,
+    transport: Transport,
+    kind: RequestKind,
+    request: Id,
+    error: &str,
+) -> Result<(), Memory>
+    ensures { OnOk result
+        (says.new.items ≡ says.old.items ++ say transport (refusal kind request error.now) ∷ []) }
+{
+    let message = refusal(alloc, kind, request, error)?;
+    add_message(says, transport, message)
+}
+
+// The session is said goodbye to for this reason, behind what is said.
+pub fn add_goodbye(
+    alloc: Global,
+    says: &mut Vec<Say>,
+    transport: Transport,
+    reason: &str,
+) -> Result<(), Memory>
+    ensures { OnOk result
+        (says.new.items ≡ says.old.items ++ say transport (goodbye reason.now) ∷ []) }
+{
+    let message = goodbye(alloc, reason)?;
+    add_message(says, transport, message)
 }
