@@ -9,14 +9,14 @@ ghost use Rattle.wamp_messages.specs.Call.{call_in, call_read, call_value, cance
 ghost use Rattle.wamp_messages.specs.Call.{reply_in, reply_value, invocation_in, invocation_value, interrupt_in, interrupt_value};
 ghost use Rattle.wamp_messages.specs.Call.{mode_name, mode_options, yield_in, yield_read, yield_value};
 
+use crate::shared::{begin_with_id, begin_with_ids, end_with_args, put_answer};
 use json::Writer;
 use serde_json::Value;
 use std::alloc::AllocError;
 use std::vec::IntoIter;
 use wamp_elements::{
-    Answered, UriRequest, begin, codes, end, id_dictionary, id_dictionary_args,
-    id_dictionary_text_args, id_mode, mode_in, put_label, put_nothing, put_text_option,
-    two_ids_label_args,
+    Answered, UriRequest, codes, end, id_dictionary, id_dictionary_args, id_dictionary_text_args,
+    id_mode, mode_in, put_label, put_nothing, put_text_option, two_ids_label_args,
 };
 use wamp_ids::{Id, Mode};
 use wamp_kinds::{Call, Cancel, Interrupt, Invocation, Message, Read, Reply, UnfitKind, Yield};
@@ -37,33 +37,33 @@ fn call_of(asked: UriRequest) -> Read
 {
     let UriRequest {
         request,
-        options: _options,
+        options,
         uri,
         args,
     } = asked;
-    match args {
-        Some(args) => Read::Good(Message::Call(Call {
-            request,
-            procedure: uri,
-            args,
-        })),
-        None => Read::Unfit {
+    drop(options);
+    let Some(args) = args else {
+        drop(uri);
+        return Read::Unfit {
             kind: UnfitKind::Call,
             request,
             quiet: false,
-        },
-    }
+        };
+    };
+    Read::Good(Message::Call(Call {
+        request,
+        procedure: uri,
+        args,
+    }))
 }
 
 pub(crate) fn put_call(call: &Call, out: &mut Writer) -> Result<(), AllocError>
     ensures tokens { Appends result out.old out.new (data_tokens (call_value call.now)) }
     ensures parts { OnOk result (IsId call.now.request × IsArgs call.now.args) }
 {
-    begin(codes::CALL, out)?;
-    out.u64(call.request.get())?;
+    begin_with_id(codes::CALL, call.request, out)?;
     put_nothing(out)?;
-    out.string(call.procedure.as_str())?;
-    end(&call.args, out)
+    end_with_args(&call.procedure, &call.args, out)
 }
 
 // What the elements behind the code of CANCEL are read as.
@@ -93,8 +93,7 @@ pub(crate) fn put_cancel(cancel: Cancel, out: &mut Writer) -> Result<(), AllocEr
     ensures tokens { Appends result out.old out.new (data_tokens (cancel_value cancel)) }
     ensures parts { OnOk result (IsId cancel.request) }
 {
-    begin(codes::CANCEL, out)?;
-    out.u64(cancel.request.get())?;
+    begin_with_id(codes::CANCEL, cancel.request, out)?;
     put_cancel_options(cancel.mode, out)?;
     out.end_array()
 }
@@ -116,10 +115,7 @@ pub(crate) fn put_reply(reply: &Reply, out: &mut Writer) -> Result<(), AllocErro
     ensures tokens { Appends result out.old out.new (data_tokens (reply_value reply.now)) }
     ensures parts { OnOk result (IsId reply.now.request × IsArgs reply.now.args) }
 {
-    begin(codes::RESULT, out)?;
-    out.u64(reply.request.get())?;
-    put_nothing(out)?;
-    end(&reply.args, out)
+    put_answer(codes::RESULT, reply.request, &reply.args, out)
 }
 
 // What the elements behind the code of INVOCATION are read as.
@@ -142,9 +138,12 @@ pub(crate) fn put_invocation(invocation: &Invocation, out: &mut Writer) -> Resul
     ensures parts { OnOk result
         (IsId invocation.now.request × (IsId invocation.now.registration × IsArgs invocation.now.args)) }
 {
-    begin(codes::INVOCATION, out)?;
-    out.u64(invocation.request.get())?;
-    out.u64(invocation.registration.get())?;
+    begin_with_ids(
+        codes::INVOCATION,
+        invocation.request,
+        invocation.registration,
+        out,
+    )?;
     put_label("procedure", &invocation.procedure, out)?;
     end(&invocation.args, out)
 }
@@ -166,8 +165,7 @@ pub(crate) fn put_interrupt(interrupt: Interrupt, out: &mut Writer) -> Result<()
     ensures tokens { Appends result out.old out.new (data_tokens (interrupt_value interrupt)) }
     ensures parts { OnOk result (IsId interrupt.request) }
 {
-    begin(codes::INTERRUPT, out)?;
-    out.u64(interrupt.request.get())?;
+    begin_with_id(codes::INTERRUPT, interrupt.request, out)?;
     put_mode(interrupt.mode, out)?;
     out.end_array()
 }
@@ -200,10 +198,7 @@ pub(crate) fn put_yield(yielded: &Yield, out: &mut Writer) -> Result<(), AllocEr
     ensures tokens { Appends result out.old out.new (data_tokens (yield_value yielded.now)) }
     ensures parts { OnOk result (IsId yielded.now.request × IsArgs yielded.now.args) }
 {
-    begin(codes::YIELD, out)?;
-    out.u64(yielded.request.get())?;
-    put_nothing(out)?;
-    end(&yielded.args, out)
+    put_answer(codes::YIELD, yielded.request, &yielded.args, out)
 }
 
 fn put_cancel_options(mode: Mode, out: &mut Writer) -> Result<(), AllocError>

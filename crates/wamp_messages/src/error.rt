@@ -6,11 +6,12 @@ ghost use Rattle.wamp_elements.specs.Elements.{elements};
 ghost use Rattle.wamp_messages.specs.Message.{IsId};
 ghost use Rattle.wamp_messages.specs.Error.{error_in, error_read, error_value};
 
+use crate::shared::end_with_args;
 use json::Writer;
 use serde_json::Value;
 use std::alloc::AllocError;
 use std::vec::IntoIter;
-use wamp_elements::{Refusal, RequestKind, begin, codes, end, put_nothing, refused};
+use wamp_elements::{Refusal, RequestKind, begin, codes, put_nothing, refused};
 use wamp_kinds::{Error, Message, Read, UnfitKind};
 
 // What the elements behind the code of ERROR are read as.
@@ -56,6 +57,5 @@ pub(crate) fn put_error(error: &Error, out: &mut Writer) -> Result<(), AllocErro
     out.u64(error.kind.code())?;
     out.u64(error.request.get())?;
     put_nothing(out)?;
-    out.string(error.error.as_str())?;
-    end(&error.args, out)
+    end_with_args(&error.error, &error.args, out)
 }

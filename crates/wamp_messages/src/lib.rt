@@ -11,6 +11,7 @@ mod publish;
 mod reading;
 mod register;
 mod session;
+mod shared;
 mod subscribe;
 mod writing;
 

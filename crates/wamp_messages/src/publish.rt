@@ -4,19 +4,22 @@ ghost use Rattle.wamp_values.specs.Args.{IsArgs};
 ghost use Rattle.wamp_values.specs.Tokens.{data_tokens, Appends};
 ghost use Rattle.wamp_elements.specs.Elements.{elements};
 ghost use Rattle.wamp_elements.specs.Layouts.{seen_asked};
+ghost use Rattle.wamp_kinds.specs.declared.read_result.Read.TheVariants.{Unfit};
+ghost use Rattle.wamp_kinds.specs.declared.read_result.UnfitKind.TheVariants as unfit;
 ghost use Rattle.wamp_messages.specs.Message.{IsId};
 ghost use Rattle.wamp_messages.specs.Flags.{flagged_in, flagged_read};
 ghost use Rattle.wamp_messages.specs.Publish.{publish_in, publish_with, publish_read, publish_value, publish_options, published_in, published_value};
 ghost use Rattle.wamp_messages.specs.Publish.{event_in, event_value};
 
 use crate::flags::{Flags, flag_of};
+use crate::shared::{begin_with_id, begin_with_ids, end_with_args, put_ids};
 use json::Writer;
 use serde_json::Value;
 use std::alloc::AllocError;
 use std::vec::IntoIter;
 use wamp_elements::{
-    UriRequest, begin, codes, end, flag_in, id_dictionary_text_args, open, put_flag_option,
-    put_label, put_nothing, two_ids, two_ids_label_args,
+    UriRequest, codes, end, flag_in, id_dictionary_text_args, open, put_flag_option, put_label,
+    put_nothing, two_ids, two_ids_label_args,
 };
 use wamp_ids::{Id, Text};
 use wamp_kinds::{Event, Message, Publish, Published, Read, UnfitKind};
@@ -57,21 +60,34 @@ fn publish_with(
 ) -> Read
     ensures { result ≡ publish_with request acknowledge exclude_me topic args }
 {
-    match (acknowledge, exclude_me, args) {
-        (Some(acknowledge), Some(exclude_me), Some(args)) => {
-            Read::Good(Message::Publish(Publish {
-                request,
-                acknowledge,
-                exclude_me,
-                topic,
-                args,
-            }))
-        }
-        (acknowledge, _, _) => Read::Unfit {
-            kind: UnfitKind::Publish,
-            request,
-            quiet: !acknowledge.unwrap_or(false),
-        },
+    let quiet = !acknowledge.unwrap_or(false);
+    let flags = (acknowledge, exclude_me);
+    let (Some(acknowledge), Some(exclude_me)) = flags else {
+        drop(topic);
+        drop(args);
+        return unfit(request, quiet);
+    };
+    let Some(args) = args else {
+        drop(topic);
+        return unfit(request, quiet);
+    };
+    Read::Good(Message::Publish(Publish {
+        request,
+        acknowledge,
+        exclude_me,
+        topic,
+        args,
+    }))
+}
+
+#[inline(always)]
+fn unfit(request: Id, quiet: bool) -> Read
+    ensures { result ≡ Unfit unfit.Publish request quiet }
+{
+    Read::Unfit {
+        kind: UnfitKind::Publish,
+        request,
+        quiet,
     }
 }
 
@@ -106,11 +122,9 @@ pub(crate) fn put_publish(publish: &Publish, out: &mut Writer) -> Result<(), All
     ensures tokens { Appends result out.old out.new (data_tokens (publish_value publish.now)) }
     ensures parts { OnOk result (IsId publish.now.request × IsArgs publish.now.args) }
 {
-    begin(codes::PUBLISH, out)?;
-    out.u64(publish.request.get())?;
+    begin_with_id(codes::PUBLISH, publish.request, out)?;
     put_publish_options(publish.acknowledge, publish.exclude_me, out)?;
-    out.string(publish.topic.as_str())?;
-    end(&publish.args, out)
+    end_with_args(&publish.topic, &publish.args, out)
 }
 
 // What the elements behind the code of PUBLISHED are read as.
@@ -130,10 +144,12 @@ pub(crate) fn put_published(published: Published, out: &mut Writer) -> Result<()
     ensures tokens { Appends result out.old out.new (data_tokens (published_value published)) }
     ensures parts { OnOk result (IsId published.request × IsId published.publication) }
 {
-    begin(codes::PUBLISHED, out)?;
-    out.u64(published.request.get())?;
-    out.u64(published.publication.get())?;
-    out.end_array()
+    put_ids(
+        codes::PUBLISHED,
+        published.request,
+        published.publication,
+        out,
+    )
 }
 
 // What the elements behind the code of EVENT are read as.
@@ -156,9 +172,7 @@ pub(crate) fn put_event(event: &Event, out: &mut Writer) -> Result<(), AllocErro
     ensures parts { OnOk result
         (IsId event.now.subscription × (IsId event.now.publication × IsArgs event.now.args)) }
 {
-    begin(codes::EVENT, out)?;
-    out.u64(event.subscription.get())?;
-    out.u64(event.publication.get())?;
+    begin_with_ids(codes::EVENT, event.subscription, event.publication, out)?;
     put_label("topic", &event.topic, out)?;
     end(&event.args, out)
 }

@@ -8,14 +8,15 @@ ghost use Rattle.wamp_messages.specs.Register.{register_in, register_read, regis
 ghost use Rattle.wamp_messages.specs.Register.{told_match, shared_options, invoke_and_match, registered_in, registered_value, unregister_in, unregister_value};
 ghost use Rattle.wamp_messages.specs.Register.{unregistered_in, unregistered_value};
 
+use crate::shared::{begin_with_id, end_with_text, put_id, put_ids};
 use crate::subscribe::put_match_options;
 use json::Writer;
 use serde_json::Value;
 use std::alloc::AllocError;
 use std::vec::IntoIter;
 use wamp_elements::{
-    UriRequest, begin, codes, id_dictionary_text, invoke_in, match_in, one_id, open,
-    put_text_option, two_ids,
+    UriRequest, codes, id_dictionary_text, invoke_in, match_in, one_id, open, put_text_option,
+    two_ids,
 };
 use wamp_ids::{Id, Invoke, Match};
 use wamp_kinds::{Message, Read, Register, Registered, UnfitKind, Unregister, Unregistered};
@@ -57,11 +58,9 @@ pub(crate) fn put_register(register: &Register, out: &mut Writer) -> Result<(), 
     ensures tokens { Appends result out.old out.new (data_tokens (register_value register.now)) }
     ensures parts { OnOk result (IsId register.now.request) }
 {
-    begin(codes::REGISTER, out)?;
-    out.u64(register.request.get())?;
+    begin_with_id(codes::REGISTER, register.request, out)?;
     put_register_options(register.invoke, register.matching, out)?;
-    out.string(register.procedure.as_str())?;
-    out.end_array()
+    end_with_text(&register.procedure, out)
 }
 
 // What the elements behind the code of REGISTERED are read as.
@@ -81,10 +80,12 @@ pub(crate) fn put_registered(registered: Registered, out: &mut Writer) -> Result
     ensures tokens { Appends result out.old out.new (data_tokens (registered_value registered)) }
     ensures parts { OnOk result (IsId registered.request × IsId registered.registration) }
 {
-    begin(codes::REGISTERED, out)?;
-    out.u64(registered.request.get())?;
-    out.u64(registered.registration.get())?;
-    out.end_array()
+    put_ids(
+        codes::REGISTERED,
+        registered.request,
+        registered.registration,
+        out,
+    )
 }
 
 // What the elements behind the code of UNREGISTER are read as.
@@ -104,10 +105,12 @@ pub(crate) fn put_unregister(unregister: Unregister, out: &mut Writer) -> Result
     ensures tokens { Appends result out.old out.new (data_tokens (unregister_value unregister)) }
     ensures parts { OnOk result (IsId unregister.request × IsId unregister.registration) }
 {
-    begin(codes::UNREGISTER, out)?;
-    out.u64(unregister.request.get())?;
-    out.u64(unregister.registration.get())?;
-    out.end_array()
+    put_ids(
+        codes::UNREGISTER,
+        unregister.request,
+        unregister.registration,
+        out,
+    )
 }
 
 // What the elements behind the code of UNREGISTERED are read as.
@@ -127,9 +130,7 @@ pub(crate) fn put_unregistered(
     ensures tokens { Appends result out.old out.new (data_tokens (unregistered_value unregistered)) }
     ensures parts { OnOk result (IsId unregistered.request) }
 {
-    begin(codes::UNREGISTERED, out)?;
-    out.u64(unregistered.request.get())?;
-    out.end_array()
+    put_id(codes::UNREGISTERED, unregistered.request, out)
 }
 
 fn unfit(request: Id) -> Read

@@ -1,6 +1,6 @@
 // The messages that open and end a session.
-ghost use Rattle.std.specs.Prelude.{◌≡◌, ◌∷◌, true, codes, OnOk};
-ghost use Rattle.json.specs.Token.{key};
+ghost use Rattle.std.specs.Prelude.{◌≡◌, ◌∷◌, [], true, codes, OnOk};
+ghost use Rattle.json.specs.Token.{key, begin_object};
 ghost use Rattle.wamp_values.specs.Args.{IsArgs};
 ghost use Rattle.wamp_values.specs.Tokens.{data_tokens, Appends};
 ghost use Rattle.wamp_elements.specs.Elements.{elements};
@@ -8,12 +8,13 @@ ghost use Rattle.wamp_messages.specs.Message.{IsId};
 ghost use Rattle.wamp_messages.specs.Session.{hello_in, hello_value, hello_details, callee, welcome_in, welcome_value};
 ghost use Rattle.wamp_messages.specs.Session.{welcome_details, broker, dealer, abort_in, abort_value, goodbye_in, goodbye_value};
 
+use crate::shared::{begin_with_id, end_with_args, end_with_text};
 use json::Writer;
 use serde_json::Value;
 use std::alloc::AllocError;
 use std::vec::IntoIter;
 use wamp_elements::{
-    begin, close_two, codes, dictionary_text, dictionary_text_args, end, id_dictionary,
+    Reason, begin, close_two, codes, dictionary_text, dictionary_text_args, id_dictionary,
     is_canceling, open, open_within, put_feature, put_nothing, text_dictionary,
 };
 use wamp_kinds::{Abort, Goodbye, Hello, Message, Read, Welcome};
@@ -56,8 +57,7 @@ pub(crate) fn put_welcome(welcome: Welcome, out: &mut Writer) -> Result<(), Allo
     ensures tokens { Appends result out.old out.new (data_tokens (welcome_value welcome)) }
     ensures parts { OnOk result (IsId welcome.session) }
 {
-    begin(codes::WELCOME, out)?;
-    out.u64(welcome.session.get())?;
+    begin_with_id(codes::WELCOME, welcome.session, out)?;
     put_welcome_details(out)?;
     out.end_array()
 }
@@ -81,8 +81,7 @@ pub(crate) fn put_abort(abort: &Abort, out: &mut Writer) -> Result<(), AllocErro
 {
     begin(codes::ABORT, out)?;
     put_nothing(out)?;
-    out.string(abort.reason.as_str())?;
-    end(&abort.args, out)
+    end_with_args(&abort.reason, &abort.args, out)
 }
 
 // What the elements behind the code of GOODBYE are read as.
@@ -90,9 +89,10 @@ pub(crate) fn read_goodbye(rest: IntoIter<Value>) -> Read
     ensures { result ≡ goodbye_in (elements rest) }
 {
     match dictionary_text(rest) {
-        Ok(taken) => Read::Good(Message::Goodbye(Goodbye {
-            reason: taken.reason,
-        })),
+        Ok(Reason { reason, args }) => {
+            drop(args);
+            Read::Good(Message::Goodbye(Goodbye { reason }))
+        }
         Err(fault) => Read::Bad(fault),
     }
 }
@@ -102,8 +102,7 @@ pub(crate) fn put_goodbye(goodbye: &Goodbye, out: &mut Writer) -> Result<(), All
 {
     begin(codes::GOODBYE, out)?;
     put_nothing(out)?;
-    out.string(goodbye.reason.as_str())?;
-    out.end_array()
+    end_with_text(&goodbye.reason, out)
 }
 
 fn put_hello_details(canceling: bool, out: &mut Writer) -> Result<(), AllocError>
@@ -142,11 +141,19 @@ fn put_welcome_details(out: &mut Writer) -> Result<(), AllocError>
     close_two(out)
 }
 
+// A role up to its first feature.
+fn open_role(name: &str, out: &mut Writer) -> Result<(), AllocError>
+    ensures { Appends result out.old out.new
+        (key name.now ∷ begin_object ∷ key (codes "features") ∷ begin_object ∷ []) }
+{
+    out.key(name)?;
+    open_within("features", out)
+}
+
 fn put_broker(out: &mut Writer) -> Result<(), AllocError>
     ensures { Appends result out.old out.new (key (codes "broker") ∷ data_tokens broker) }
 {
-    out.key("broker")?;
-    open_within("features", out)?;
+    open_role("broker", out)?;
     put_feature("pattern_based_subscription", out)?;
     put_feature("publisher_exclusion", out)?;
     close_two(out)
@@ -155,8 +162,7 @@ fn put_broker(out: &mut Writer) -> Result<(), AllocError>
 fn put_dealer(out: &mut Writer) -> Result<(), AllocError>
     ensures { Appends result out.old out.new (key (codes "dealer") ∷ data_tokens dealer) }
 {
-    out.key("dealer")?;
-    open_within("features", out)?;
+    open_role("dealer", out)?;
     put_feature("call_canceling", out)?;
     put_feature("pattern_based_registration", out)?;
     put_feature("shared_registration", out)?;

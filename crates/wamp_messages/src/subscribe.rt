@@ -8,13 +8,13 @@ ghost use Rattle.wamp_messages.specs.Subscribe.{subscribe_in, subscribe_read, su
 ghost use Rattle.wamp_messages.specs.Subscribe.{subscribed_in, subscribed_value, unsubscribe_in, unsubscribe_value};
 ghost use Rattle.wamp_messages.specs.Subscribe.{unsubscribed_in, unsubscribed_value};
 
+use crate::shared::{begin_with_id, end_with_text, put_id, put_ids};
 use json::Writer;
 use serde_json::Value;
 use std::alloc::AllocError;
 use std::vec::IntoIter;
 use wamp_elements::{
-    UriRequest, begin, codes, id_dictionary_text, match_in, one_id, put_nothing, put_text_option,
-    two_ids,
+    UriRequest, codes, id_dictionary_text, match_in, one_id, put_nothing, put_text_option, two_ids,
 };
 use wamp_ids::Match;
 use wamp_kinds::{Message, Read, Subscribe, Subscribed, UnfitKind, Unsubscribe, Unsubscribed};
@@ -59,11 +59,9 @@ pub(crate) fn put_subscribe(subscribe: &Subscribe, out: &mut Writer) -> Result<(
     ensures tokens { Appends result out.old out.new (data_tokens (subscribe_value subscribe.now)) }
     ensures parts { OnOk result (IsId subscribe.now.request) }
 {
-    begin(codes::SUBSCRIBE, out)?;
-    out.u64(subscribe.request.get())?;
+    begin_with_id(codes::SUBSCRIBE, subscribe.request, out)?;
     put_match_options(subscribe.matching, out)?;
-    out.string(subscribe.topic.as_str())?;
-    out.end_array()
+    end_with_text(&subscribe.topic, out)
 }
 
 // What the elements behind the code of SUBSCRIBED are read as.
@@ -83,10 +81,12 @@ pub(crate) fn put_subscribed(subscribed: Subscribed, out: &mut Writer) -> Result
     ensures tokens { Appends result out.old out.new (data_tokens (subscribed_value subscribed)) }
     ensures parts { OnOk result (IsId subscribed.request × IsId subscribed.subscription) }
 {
-    begin(codes::SUBSCRIBED, out)?;
-    out.u64(subscribed.request.get())?;
-    out.u64(subscribed.subscription.get())?;
-    out.end_array()
+    put_ids(
+        codes::SUBSCRIBED,
+        subscribed.request,
+        subscribed.subscription,
+        out,
+    )
 }
 
 // What the elements behind the code of UNSUBSCRIBE are read as.
@@ -106,10 +106,12 @@ pub(crate) fn put_unsubscribe(unsubscribe: Unsubscribe, out: &mut Writer) -> Res
     ensures tokens { Appends result out.old out.new (data_tokens (unsubscribe_value unsubscribe)) }
     ensures parts { OnOk result (IsId unsubscribe.request × IsId unsubscribe.subscription) }
 {
-    begin(codes::UNSUBSCRIBE, out)?;
-    out.u64(unsubscribe.request.get())?;
-    out.u64(unsubscribe.subscription.get())?;
-    out.end_array()
+    put_ids(
+        codes::UNSUBSCRIBE,
+        unsubscribe.request,
+        unsubscribe.subscription,
+        out,
+    )
 }
 
 // What the elements behind the code of UNSUBSCRIBED are read as.
@@ -129,9 +131,7 @@ pub(crate) fn put_unsubscribed(
     ensures tokens { Appends result out.old out.new (data_tokens (unsubscribed_value unsubscribed)) }
     ensures parts { OnOk result (IsId unsubscribed.request) }
 {
-    begin(codes::UNSUBSCRIBED, out)?;
-    out.u64(unsubscribed.request.get())?;
-    out.end_array()
+    put_id(codes::UNSUBSCRIBED, unsubscribed.request, out)
 }
 
 pub(crate) fn put_match_options(matching: Match, out: &mut Writer) -> Result<(), AllocError>

@@ -1,9 +1,8 @@
-use Rattle.wamp_values.proofs.Texts.{appended, appended_one}
+use Rattle.wamp_values.proofs.Texts.{appended}
 use Rattle.wamp_messages.proofs.session.put_dealer.Goals as goal
 
 pub returns : goal.returns
 returns c =
-    let opened = appended (appended_one c.in_ok-key.ensures) c.in_ok-open_within.ensures in
     let two_features = appended c.in_ok-put_feature.ensures c.in_ok-put_feature-2.ensures in
     let features = appended two_features c.in_ok-put_feature-3.ensures in
-    appended (appended opened features) c.close_two.ensures
+    appended (appended c.in_ok-open_role.ensures features) c.close_two.ensures
