@@ -1,10 +1,11 @@
 -- An array of too few or too many elements has that fault.
 use Rattle.std.proofs.Common.{◌≡◌, ℕ, Bool, false, refl, List}
 use Rattle.std.specs.Prelude.{Err}
-use Rattle.serde_json.specs.Data.{Items, no_items, item}
+use Rattle.serde_json.specs.Data.{Data, Items, no_items, item}
+use Rattle.wamp_elements.specs.declared.elements.Given.{Given}
 use Rattle.wamp_elements.specs.declared.fault.MessageFault.TheVariants.{Length}
-use Rattle.wamp_elements.specs.Elements.{is_one, is_two, is_three, has_two, has_three, has_four}
-use Rattle.wamp_elements.specs.Layouts.{taken, two_ids, two_ids_of, text_dictionary, named_of, id_dictionary, numbered_of}
+use Rattle.wamp_elements.specs.Elements.{is_one, is_two, is_three, has_two, has_three, has_four, args_given}
+use Rattle.wamp_elements.specs.Layouts.{taken, checked_with, args_taken, two_ids, two_ids_of, text_dictionary, named_of, id_dictionary, numbered_of}
 use Rattle.wamp_elements.specs.Layouts.{dictionary_text, dictionary_text_args, reason_of, id_dictionary_text, id_dictionary_text_args}
 use Rattle.wamp_elements.specs.Layouts.{asked_of, two_ids_label_args, labelled_of, refusal, refusal_of}
 use Rattle.wamp_elements.specs.Layouts.{one_id, one_id_of, id_mode, stopped_of, id_dictionary_args, answer_of}
@@ -80,3 +81,11 @@ pub id_dictionary_args_length : (may_be_inexact : Bool) (ds : Items) → has_two
 id_dictionary_args_length may_be_inexact no_items h = refl
 id_dictionary_args_length may_be_inexact (item a no_items) h = refl
 id_dictionary_args_length may_be_inexact (item a (item b ds)) h = cc
+
+-- the first two elements and what is given behind them are all that is taken
+pub id_dictionary_args_taken : (may_be_inexact : Bool) (ds es : Items) (a b : Data) (given : Given)
+    → ds ≡ item a (item b es) → given ≡ args_given es
+    → checked_with (id_dictionary_args may_be_inexact).kinds (answer_of (item a (item b no_items))) (item a (item b no_items))
+    (args_taken may_be_inexact given)
+    ≡ taken (id_dictionary_args may_be_inexact) answer_of ds
+id_dictionary_args_taken may_be_inexact ds es a b given all behind = rw (all, behind) refl

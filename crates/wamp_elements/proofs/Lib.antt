@@ -1,3 +1,4 @@
 mod Lengths
+mod Pairs
 pub mod FirstFault
 pub mod ArgsAgain

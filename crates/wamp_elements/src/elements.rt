@@ -1,9 +1,11 @@
 // The elements of a message's array are taken out of it one after another; none is copied.
-ghost use Rattle.std.specs.Prelude.{◌≡◌, MatchOption, false};
+ghost use Rattle.std.specs.Prelude.{◌≡◌, ◌&&◌, MatchOption, false, if◌then◌else◌};
 ghost use Rattle.serde_json.specs.Data.{no_items, item};
 ghost use Rattle.serde_json.specs.View.{view};
 ghost use Rattle.wamp_elements.specs.Elements.{elements, is_one, is_two, is_three, has_two, has_three, has_four};
-ghost use Rattle.wamp_elements.specs.Elements.{args_given, is_whole, id_in};
+ghost use Rattle.wamp_elements.specs.Elements.{args_given, is_list, is_dictionary, is_whole, id_in};
+ghost use Rattle.wamp_elements.specs.declared.elements.Given.TheVariants.{Misshapen, Fit};
+ghost use Rattle.wamp_values.specs.declared.args.Args.TheVariants.{Both};
 
 use serde_json::Value;
 use std::vec::IntoIter;
@@ -28,7 +30,8 @@ pub(crate) fn exactly_one(mut rest: IntoIter<Value>) -> Option<Value>
         (λ only. elements rest ≡ item (view only) no_items) }
 {
     let first = rest.next()?;
-    if rest.next().is_some() {
+    if let Some(more) = rest.next() {
+        drop((first, more));
         return None;
     }
     Some(first)
@@ -40,8 +43,12 @@ pub(crate) fn exactly_two(mut rest: IntoIter<Value>) -> Option<(Value, Value)>
         (λ all. elements rest ≡ item (view all.0) (item (view all.1) no_items)) }
 {
     let first = rest.next()?;
-    let second = rest.next()?;
-    if rest.next().is_some() {
+    let Some(second) = rest.next() else {
+        drop(first);
+        return None;
+    };
+    if let Some(more) = rest.next() {
+        drop((first, second, more));
         return None;
     }
     Some((first, second))
@@ -53,9 +60,17 @@ pub(crate) fn exactly_three(mut rest: IntoIter<Value>) -> Option<(Value, Value, 
         (λ all. elements rest ≡ item (view all.0) (item (view all.1) (item (view all.2) no_items))) }
 {
     let first = rest.next()?;
-    let second = rest.next()?;
-    let third = rest.next()?;
-    if rest.next().is_some() {
+    let Some(second) = rest.next() else {
+        drop(first);
+        return None;
+    };
+    let Some(third) = rest.next() else {
+        drop((first, second));
+        return None;
+    };
+    if let Some(more) = rest.next() {
+        drop(more);
+        drop((first, second, third));
         return None;
     }
     Some((first, second, third))
@@ -91,9 +106,18 @@ pub(crate) fn four(rest: &mut IntoIter<Value>) -> Option<(Value, Value, Value, V
         (item (view some.1) (item (view some.2) (item (view some.3) (elements rest.new))))) }
 {
     let first = rest.next()?;
-    let second = rest.next()?;
-    let third = rest.next()?;
-    let fourth = rest.next()?;
+    let Some(second) = rest.next() else {
+        drop(first);
+        return None;
+    };
+    let Some(third) = rest.next() else {
+        drop((first, second));
+        return None;
+    };
+    let Some(fourth) = rest.next() else {
+        drop((first, second, third));
+        return None;
+    };
     Some((first, second, third, fourth))
 }
 
@@ -107,7 +131,8 @@ pub(crate) fn arguments(mut rest: IntoIter<Value>) -> Given
     let Some(dictionary) = rest.next() else {
         return listed(list);
     };
-    if rest.next().is_some() {
+    if let Some(more) = rest.next() {
+        drop((list, dictionary, more));
         return Given::TooMany;
     }
     both(list, dictionary)
@@ -117,6 +142,7 @@ fn listed(list: Value) -> Given
     ensures { result ≡ args_given (item (view list) no_items) }
 {
     if !list.is_array() {
+        drop(list);
         return Given::Misshapen;
     }
     let Ok(payload) = Payload::check(list) else {
@@ -132,21 +158,33 @@ fn both(list: Value, dictionary: Value) -> Given
     ensures { result ≡ args_given (item (view list) (item (view dictionary) no_items)) }
 {
     if !list.is_array() || !dictionary.is_object() {
+        drop((list, dictionary));
         return Given::Misshapen;
     }
     let Ok(list) = Payload::check(list) else {
+        drop(dictionary);
         return Given::Inexact;
     };
     let Ok(dictionary) = Payload::check(dictionary) else {
+        drop(list);
         return Given::Inexact;
     };
+    both_fit(list, dictionary)
+}
+
+// Two payloads, as arguments where they have the shape of these.
+fn both_fit(list: Payload, dictionary: Payload) -> Given
+    ensures { result ≡ (if is_list list && is_dictionary dictionary then Fit (Both list dictionary) else Misshapen) }
+{
     let Some(list) = Arguments::of(list) else {
+        drop(dictionary);
         return Given::Misshapen;
     };
-    match ArgumentsKw::of(dictionary) {
-        Some(dictionary) => Given::Fit(Args::Both(list, dictionary)),
-        None => Given::Misshapen,
-    }
+    let Some(dictionary) = ArgumentsKw::of(dictionary) else {
+        drop(list);
+        return Given::Misshapen;
+    };
+    Given::Fit(Args::Both(list, dictionary))
 }
 
 pub(crate) fn is_whole(value: &Value) -> bool

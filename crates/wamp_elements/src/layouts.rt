@@ -88,7 +88,9 @@ pub fn two_ids(rest: IntoIter<Value>) -> Result<TwoIds, MessageFault>
     let Some((first, second)) = exactly_two(rest) else {
         return Err(MessageFault::Length);
     };
-    two_ids_with(&first, &second)
+    let ids = two_ids_with(&first, &second);
+    drop((first, second));
+    ids
 }
 
 fn two_ids_with(first: &Value, second: &Value) -> Result<TwoIds, MessageFault>
@@ -116,7 +118,9 @@ pub fn one_id(rest: IntoIter<Value>) -> Result<Id, MessageFault>
     let Some(id) = exactly_one(rest) else {
         return Err(MessageFault::Length);
     };
-    one_id_with(&id)
+    let done = one_id_with(&id);
+    drop(id);
+    done
 }
 
 fn one_id_with(id: &Value) -> Result<Id, MessageFault>
@@ -149,9 +153,12 @@ fn named_with(name: Value, details: Value) -> Result<NamedDetails, MessageFault>
         (item (view name) (item (view details) no_items)) }
 {
     let Value::String(name) = name else {
+        drop((name, details));
         return Err(MessageFault::Shape);
     };
     if !details.is_object() {
+        drop(name);
+        drop(details);
         return Err(MessageFault::Shape);
     }
     Ok(NamedDetails {
@@ -168,7 +175,9 @@ pub fn id_dictionary(rest: IntoIter<Value>) -> Result<NumberedDetails, MessageFa
     let Some((id, details)) = exactly_two(rest) else {
         return Err(MessageFault::Length);
     };
-    numbered_with(&id, details)
+    let numbered = numbered_with(&id, details);
+    drop(id);
+    numbered
 }
 
 fn numbered_with(id: &Value, details: Value) -> Result<NumberedDetails, MessageFault>
@@ -177,12 +186,14 @@ fn numbered_with(id: &Value, details: Value) -> Result<NumberedDetails, MessageF
         (item (view id.now) (item (view details) no_items)) }
 {
     if !is_whole(id) || !details.is_object() {
+        drop(details);
         return Err(MessageFault::Shape);
     }
-    match id_in(id) {
-        Some(id) => Ok(NumberedDetails { id, details }),
-        None => Err(MessageFault::IdRange),
-    }
+    let Some(id) = id_in(id) else {
+        drop(details);
+        return Err(MessageFault::IdRange);
+    };
+    Ok(NumberedDetails { id, details })
 }
 
 /// An id and a dictionary that names a mode.
@@ -193,7 +204,9 @@ pub fn id_mode(rest: IntoIter<Value>) -> Result<Stopped, MessageFault>
     let Some((request, options)) = exactly_two(rest) else {
         return Err(MessageFault::Length);
     };
-    stopped_with(&request, &options)
+    let stopped = stopped_with(&request, &options);
+    drop((request, options));
+    stopped
 }
 
 fn stopped_with(request: &Value, options: &Value) -> Result<Stopped, MessageFault>
@@ -214,7 +227,6 @@ fn stopped_with(request: &Value, options: &Value) -> Result<Stopped, MessageFaul
 }
 
 /// An id, a dictionary, and arguments. A number that is not kept exactly may stand among them, or counts as another type.
-#[tactic(auto, using(crate::proofs::Lengths::id_dictionary_args_length))]
 pub fn id_dictionary_args(
     mut rest: IntoIter<Value>,
     may_be_inexact: bool,
@@ -225,7 +237,9 @@ pub fn id_dictionary_args(
     let Some((request, details)) = two(&mut rest) else {
         return Err(MessageFault::Length);
     };
-    answer_given(&request, &details, arguments(rest), may_be_inexact)
+    let answered = answer_given(&request, &details, arguments(rest), may_be_inexact);
+    drop((request, details));
+    answered
 }
 
 fn answer_given(
@@ -279,7 +293,9 @@ pub fn dictionary_text(rest: IntoIter<Value>) -> Result<Reason, MessageFault>
     let Some((details, reason)) = exactly_two(rest) else {
         return Err(MessageFault::Length);
     };
-    reason_with(&details, reason, Args::Nothing)
+    let given = reason_with(&details, reason, Args::Nothing);
+    drop(details);
+    given
 }
 
 /// A dictionary, a text, and arguments.
@@ -290,7 +306,9 @@ pub fn dictionary_text_args(mut rest: IntoIter<Value>) -> Result<Reason, Message
     let Some((details, reason)) = two(&mut rest) else {
         return Err(MessageFault::Length);
     };
-    reason_given(&details, reason, arguments(rest))
+    let given = reason_given(&details, reason, arguments(rest));
+    drop(details);
+    given
 }
 
 fn reason_given(details: &Value, reason: Value, given: Given) -> Result<Reason, MessageFault>
@@ -299,9 +317,18 @@ fn reason_given(details: &Value, reason: Value, given: Given) -> Result<Reason, 
         (item (view details.now) (item (view reason) no_items)) (args_taken false given) }
 {
     match given {
-        Given::TooMany => Err(MessageFault::Length),
-        Given::Misshapen => Err(MessageFault::Shape),
-        Given::Inexact => Err(MessageFault::Shape),
+        Given::TooMany => {
+            drop(reason);
+            Err(MessageFault::Length)
+        }
+        Given::Misshapen => {
+            drop(reason);
+            Err(MessageFault::Shape)
+        }
+        Given::Inexact => {
+            drop(reason);
+            Err(MessageFault::Shape)
+        }
         Given::Fit(args) => reason_with(details, reason, args),
     }
 }
@@ -333,7 +360,9 @@ pub fn id_dictionary_text(rest: IntoIter<Value>) -> Result<UriRequest, MessageFa
     let Some((request, options, uri)) = exactly_three(rest) else {
         return Err(MessageFault::Length);
     };
-    request_with(&request, options, uri, None)
+    let asked = request_with(&request, options, uri, None);
+    drop(request);
+    asked
 }
 
 /// An id, a dictionary, a text, and arguments.
@@ -344,7 +373,9 @@ pub fn id_dictionary_text_args(mut rest: IntoIter<Value>) -> Result<UriRequest, 
     let Some((request, options, uri)) = three(&mut rest) else {
         return Err(MessageFault::Length);
     };
-    request_given(&request, options, uri, arguments(rest))
+    let asked = request_given(&request, options, uri, arguments(rest));
+    drop(request);
+    asked
 }
 
 fn request_given(
@@ -359,8 +390,14 @@ fn request_given(
         (args_taken true given) }
 {
     match given {
-        Given::TooMany => Err(MessageFault::Length),
-        Given::Misshapen => Err(MessageFault::Shape),
+        Given::TooMany => {
+            drop((options, uri));
+            Err(MessageFault::Length)
+        }
+        Given::Misshapen => {
+            drop((options, uri));
+            Err(MessageFault::Shape)
+        }
         Given::Inexact => request_with(request, options, uri, None),
         Given::Fit(args) => request_with(request, options, uri, Some(args)),
     }
@@ -405,7 +442,9 @@ pub fn two_ids_label_args(mut rest: IntoIter<Value>, key: &str) -> Result<Labell
     let Some((first, second, details)) = three(&mut rest) else {
         return Err(MessageFault::Length);
     };
-    labelled_given(&first, &second, details, key, arguments(rest))
+    let labelled = labelled_given(&first, &second, details, key, arguments(rest));
+    drop((first, second));
+    labelled
 }
 
 fn labelled_given(
@@ -422,9 +461,18 @@ fn labelled_given(
         (args_taken false given) }
 {
     match given {
-        Given::TooMany => Err(MessageFault::Length),
-        Given::Misshapen => Err(MessageFault::Shape),
-        Given::Inexact => Err(MessageFault::Shape),
+        Given::TooMany => {
+            drop(details);
+            Err(MessageFault::Length)
+        }
+        Given::Misshapen => {
+            drop(details);
+            Err(MessageFault::Shape)
+        }
+        Given::Inexact => {
+            drop(details);
+            Err(MessageFault::Shape)
+        }
         Given::Fit(args) => labelled_with(first, second, details, key, args),
     }
 }

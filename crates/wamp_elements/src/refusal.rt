@@ -33,7 +33,9 @@ pub fn refused(mut rest: IntoIter<Value>) -> Result<Refusal, MessageFault>
     let Some((kind, request, details, error)) = four(&mut rest) else {
         return Err(MessageFault::Length);
     };
-    refusal_given(&kind, &request, &details, error, arguments(rest))
+    let refusal = refusal_given(&kind, &request, &details, error, arguments(rest));
+    drop((kind, request, details));
+    refusal
 }
 
 fn refusal_given(
@@ -51,11 +53,18 @@ fn refusal_given(
         (args_taken (answers_invocation (kind_in (view kind.now))) given) }
 {
     match given {
-        Given::TooMany => Err(MessageFault::Length),
-        Given::Misshapen => Err(MessageFault::Shape),
+        Given::TooMany => {
+            drop(error);
+            Err(MessageFault::Length)
+        }
+        Given::Misshapen => {
+            drop(error);
+            Err(MessageFault::Shape)
+        }
         Given::Inexact => if answers_invocation(kind) {
             refusal_with(kind, request, details, error, None)
         } else {
+            drop(error);
             Err(MessageFault::Shape)
         },
         Given::Fit(args) => refusal_with(kind, request, details, error, Some(args)),
