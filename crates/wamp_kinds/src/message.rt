@@ -70,33 +70,95 @@ impl Message {
     pub fn same(&self, other: &Message) -> bool
         ensures { IsTrue result ↔ (self.now ≡ other.now) }
     {
-        match (self, other) {
-            (Message::Hello(hello), Message::Hello(other)) => hello.same(other),
-            (Message::Welcome(welcome), Message::Welcome(other)) => *welcome == *other,
-            (Message::Abort(abort), Message::Abort(other)) => abort.same(other),
-            (Message::Goodbye(goodbye), Message::Goodbye(other)) => goodbye.same(other),
-            (Message::Error(error), Message::Error(other)) => error.same(other),
-            (Message::Publish(publish), Message::Publish(other)) => publish.same(other),
-            (Message::Published(published), Message::Published(other)) => *published == *other,
-            (Message::Subscribe(subscribe), Message::Subscribe(other)) => subscribe.same(other),
-            (Message::Subscribed(subscribed), Message::Subscribed(other)) => *subscribed == *other,
-            (Message::Event(event), Message::Event(other)) => event.same(other),
-            (Message::Unsubscribe(unsubscribe), Message::Unsubscribe(other)) => *unsubscribe
-                == *other,
-            (Message::Unsubscribed(unsubscribed), Message::Unsubscribed(other)) => *unsubscribed
-                == *other,
-            (Message::Register(register), Message::Register(other)) => register.same(other),
-            (Message::Registered(registered), Message::Registered(other)) => *registered == *other,
-            (Message::Unregister(unregister), Message::Unregister(other)) => *unregister == *other,
-            (Message::Unregistered(unregistered), Message::Unregistered(other)) => *unregistered
-                == *other,
-            (Message::Call(call), Message::Call(other)) => call.same(other),
-            (Message::Cancel(cancel), Message::Cancel(other)) => *cancel == *other,
-            (Message::Reply(reply), Message::Reply(other)) => reply.same(other),
-            (Message::Invocation(invocation), Message::Invocation(other)) => invocation.same(other),
-            (Message::Interrupt(interrupt), Message::Interrupt(other)) => *interrupt == *other,
-            (Message::Yield(yielded), Message::Yield(other)) => yielded.same(other),
-            _ => false,
+        match self {
+            Message::Hello(hello) => match other {
+                Message::Hello(other) => hello.same(other),
+                _ => false,
+            },
+            Message::Welcome(welcome) => match other {
+                Message::Welcome(other) => *welcome == *other,
+                _ => false,
+            },
+            Message::Abort(abort) => match other {
+                Message::Abort(other) => abort.same(other),
+                _ => false,
+            },
+            Message::Goodbye(goodbye) => match other {
+                Message::Goodbye(other) => goodbye.same(other),
+                _ => false,
+            },
+            Message::Error(error) => match other {
+                Message::Error(other) => error.same(other),
+                _ => false,
+            },
+            Message::Publish(publish) => match other {
+                Message::Publish(other) => publish.same(other),
+                _ => false,
+            },
+            Message::Published(published) => match other {
+                Message::Published(other) => *published == *other,
+                _ => false,
+            },
+            Message::Subscribe(subscribe) => match other {
+                Message::Subscribe(other) => subscribe.same(other),
+                _ => false,
+            },
+            Message::Subscribed(subscribed) => match other {
+                Message::Subscribed(other) => *subscribed == *other,
+                _ => false,
+            },
+            Message::Event(event) => match other {
+                Message::Event(other) => event.same(other),
+                _ => false,
+            },
+            Message::Unsubscribe(unsubscribe) => match other {
+                Message::Unsubscribe(other) => *unsubscribe == *other,
+                _ => false,
+            },
+            Message::Unsubscribed(unsubscribed) => match other {
+                Message::Unsubscribed(other) => *unsubscribed == *other,
+                _ => false,
+            },
+            Message::Register(register) => match other {
+                Message::Register(other) => register.same(other),
+                _ => false,
+            },
+            Message::Registered(registered) => match other {
+                Message::Registered(other) => *registered == *other,
+                _ => false,
+            },
+            Message::Unregister(unregister) => match other {
+                Message::Unregister(other) => *unregister == *other,
+                _ => false,
+            },
+            Message::Unregistered(unregistered) => match other {
+                Message::Unregistered(other) => *unregistered == *other,
+                _ => false,
+            },
+            Message::Call(call) => match other {
+                Message::Call(other) => call.same(other),
+                _ => false,
+            },
+            Message::Cancel(cancel) => match other {
+                Message::Cancel(other) => *cancel == *other,
+                _ => false,
+            },
+            Message::Reply(reply) => match other {
+                Message::Reply(other) => reply.same(other),
+                _ => false,
+            },
+            Message::Invocation(invocation) => match other {
+                Message::Invocation(other) => invocation.same(other),
+                _ => false,
+            },
+            Message::Interrupt(interrupt) => match other {
+                Message::Interrupt(other) => *interrupt == *other,
+                _ => false,
+            },
+            Message::Yield(yielded) => match other {
+                Message::Yield(other) => yielded.same(other),
+                _ => false,
+            },
         }
     }
 }

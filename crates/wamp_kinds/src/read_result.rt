@@ -57,22 +57,27 @@ impl Read {
     pub fn same(&self, other: &Read) -> bool
         ensures { IsTrue result ↔ (self.now ≡ other.now) }
     {
-        match (self, other) {
-            (Read::Good(message), Read::Good(other)) => message.same(other),
-            (
-                Read::Unfit {
-                    kind,
-                    request,
-                    quiet,
-                },
+        match self {
+            Read::Good(message) => match other {
+                Read::Good(other) => message.same(other),
+                _ => false,
+            },
+            Read::Unfit {
+                kind,
+                request,
+                quiet,
+            } => match other {
                 Read::Unfit {
                     kind: other_kind,
                     request: other_request,
                     quiet: other_quiet,
-                },
-            ) => *kind == *other_kind && *request == *other_request && *quiet == *other_quiet,
-            (Read::Bad(fault), Read::Bad(other)) => *fault == *other,
-            _ => false,
+                } => *kind == *other_kind && *request == *other_request && *quiet == *other_quiet,
+                _ => false,
+            },
+            Read::Bad(fault) => match other {
+                Read::Bad(other) => *fault == *other,
+                _ => false,
+            },
         }
     }
 }
