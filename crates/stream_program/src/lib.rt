@@ -1,4 +1,4 @@
-//! What the program serves one client over a reader and a writer, from octets to octets (docs/PROTOCOL.md, "A stream"); the faults and limits of the
+//! One client over a reader and a writer, from octets to octets (docs/PROTOCOL.md, "A stream"), and the faults and limits of the
 //! program's runs.
 #![tactic(auto)]
 
