@@ -4,7 +4,7 @@ use crate::fault::BenchFault;
 use acceptor_keeper::Keeper;
 use acceptor_store::SqlKeeper;
 use paxos_packets::{Ballot, Change, Entry, Rows, Slot, Vote, Votes};
-use sqlite::{Alter, Connection};
+use sqlite::{Alter, Connection, File, FileStore};
 use std::alloc::Global;
 use std::time::{Duration, Instant};
 
@@ -71,15 +71,19 @@ fn change(
     Ok(Change { promised, votes })
 }
 
-// One call each, without contracts, so that no function above carries those of the keeper.
+// One call each, without contracts, so that no function above carries those of the keeper. A connection is handed back with each fault, so
+// that nothing here drops what a database is made of.
 
-fn open<S: Alter + Drop>(alloc: Global, conn: Connection<S>) -> Result<Store<S>, BenchFault> {
+fn open<S: Alter>(
+    alloc: Global,
+    conn: Connection<S>,
+) -> Result<Store<S>, (BenchFault, Connection<S>)> {
     if !conn.is_autocommit() {
-        return Err(BenchFault::Slots);
+        return Err((BenchFault::Slots, conn));
     }
     match SqlKeeper::open(alloc, conn) {
         Ok(store) => Ok(store),
-        Err((fault, _)) => Err(BenchFault::Keeper(fault)),
+        Err((fault, conn)) => Err((BenchFault::Keeper(fault), conn)),
     }
 }
 
@@ -145,11 +149,17 @@ fn tell(rt: &HostRuntime, what: &str, taken: Duration, times: u64) {
     let _ = eprintln!(rt; "{what}: {each} ns");
 }
 
+// Tells on standard error what one of so many steps took since the start.
+fn tell_since(rt: &HostRuntime, what: &str, start: Instant, times: u64) -> Result<(), BenchFault> {
+    tell(rt, what, start.elapsed(rt)?, times);
+    Ok(())
+}
+
 // Begins a boot, and makes a first promise where there is none.
 fn begin<S: Alter>(rt: &HostRuntime, store: &mut Store<S>) -> Result<Found, BenchFault> {
     let start = Instant::now(rt)?;
     let mut begun = boot(store)?;
-    tell(rt, "loading and a boot", start.elapsed(rt)?, 1);
+    tell_since(rt, "loading and a boot", start, 1)?;
     if begun.round == 0 {
         promise(rt.alloc(), store, 1)?;
         begun.round = 1;
@@ -166,20 +176,14 @@ fn measure<S: Alter>(
 ) -> Result<(), BenchFault> {
     let start = Instant::now(rt)?;
     commits(rt.alloc(), store, from, times, false)?;
-    tell(rt, "a commit of a vote", start.elapsed(rt)?, times);
+    tell_since(rt, "a commit of a vote", start, times)?;
     let behind = Found {
         votes: from.votes.saturating_add(times),
         ..from
     };
     let start = Instant::now(rt)?;
     commits(rt.alloc(), store, behind, times, true)?;
-    tell(
-        rt,
-        "a commit of a promise and a vote",
-        start.elapsed(rt)?,
-        times,
-    );
-    Ok(())
+    tell_since(rt, "a commit of a promise and a vote", start, times)
 }
 
 // Begins a boot, measures commits behind what the store has, and prints what it holds then.
@@ -199,20 +203,43 @@ fn run_over<S: Alter>(
 }
 
 // The whole run over a connection, which is given back.
-fn run<S: Alter + Drop>(
+fn run<S: Alter>(
     rt: &HostRuntime,
     conn: Connection<S>,
     times: u64,
-) -> Result<Connection<S>, BenchFault> {
-    let mut store = open(rt.alloc(), conn)?;
-    run_over(rt, &mut store, times)?;
-    Ok(store.close())
+) -> (Connection<S>, Result<(), BenchFault>) {
+    match open(rt.alloc(), conn) {
+        Ok(store) => {
+            let mut store = store;
+            let done = run_over(rt, &mut store, times);
+            (store.close(), done)
+        }
+        Err((fault, conn)) => (conn, Err(fault)),
+    }
 }
 
 /// Commits to a store in memory.
 pub fn in_memory(rt: &HostRuntime, times: u64) -> Result<(), BenchFault> {
     let conn = Connection::open_in_memory(rt.alloc())?;
-    let _conn = run(rt, conn, times)?;
+    let (conn, done) = run(rt, conn, times);
+    drop(conn);
+    done
+}
+
+// The run over a file that took so long to open, which is closed behind it.
+fn run_on(
+    rt: &HostRuntime,
+    conn: Connection<FileStore<File>>,
+    start: Instant,
+    times: u64,
+) -> Result<(), BenchFault> {
+    let (conn, done) = match tell_since(rt, "opening", start, 1) {
+        Ok(()) => run(rt, conn, times),
+        Err(fault) => (conn, Err(fault)),
+    };
+    let closed = conn.close();
+    done?;
+    closed?;
     Ok(())
 }
 
@@ -220,8 +247,5 @@ pub fn in_memory(rt: &HostRuntime, times: u64) -> Result<(), BenchFault> {
 pub fn on_file(rt: &HostRuntime, path: &str, times: u64) -> Result<(), BenchFault> {
     let start = Instant::now(rt)?;
     let conn = Connection::open(rt, path)?;
-    tell(rt, "opening", start.elapsed(rt)?, 1);
-    let conn = run(rt, conn, times)?;
-    conn.close()?;
-    Ok(())
+    run_on(rt, conn, start, times)
 }
