@@ -165,7 +165,14 @@ impl Args {
         match self {
             Args::Nothing => Ok(Args::Nothing),
             Args::List(list) => Ok(Args::List(list.copy()?)),
-            Args::Both(list, dict) => Ok(Args::Both(list.copy()?, dict.copy()?)),
+            Args::Both(list, dict) => {
+                let list = list.copy()?;
+                let Ok(dict) = dict.copy() else {
+                    drop(list);
+                    return Err(Memory);
+                };
+                Ok(Args::Both(list, dict))
+            }
         }
     }
 

@@ -9,14 +9,31 @@ use serde_json::{Map, Number, Value};
 pub(crate) fn same_values(first: &Value, second: &Value) -> bool
     ensures { result ≡ same_data (view first.now) (view second.now) }
 {
-    match (first, second) {
-        (Value::Null, Value::Null) => true,
-        (Value::Bool(a), Value::Bool(b)) => *a == *b,
-        (Value::Number(a), Value::Number(b)) => same_numbers(a, b),
-        (Value::String(a), Value::String(b)) => a.as_str() == b.as_str(),
-        (Value::Array(a), Value::Array(b)) => same_lists(a, b),
-        (Value::Object(a), Value::Object(b)) => same_maps(a, b),
-        _ => false,
+    match first {
+        Value::Null => match second {
+            Value::Null => true,
+            _ => false,
+        },
+        Value::Bool(a) => match second {
+            Value::Bool(b) => *a == *b,
+            _ => false,
+        },
+        Value::Number(a) => match second {
+            Value::Number(b) => same_numbers(a, b),
+            _ => false,
+        },
+        Value::String(a) => match second {
+            Value::String(b) => a.as_str() == b.as_str(),
+            _ => false,
+        },
+        Value::Array(a) => match second {
+            Value::Array(b) => same_lists(a, b),
+            _ => false,
+        },
+        Value::Object(a) => match second {
+            Value::Object(b) => same_maps(a, b),
+            _ => false,
+        },
     }
 }
 
