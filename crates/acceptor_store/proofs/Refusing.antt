@@ -1,6 +1,6 @@
 -- Which changes a commit refuses.
 use Rattle.std.proofs.Common.{◌≡◌, ◌⊎◌, inl, inr, ℕ, List, ◌∷◌, map, true, false, Option, Some, None, Result, Ok, Err, refl, ap, sym, subst, ◌∙◌}
-use Rattle.std.specs.Prelude.{IfErr, is_some}
+use Rattle.std.specs.Prelude.{IfErr, OnOk, is_some}
 use Rattle.std.proofs.lemmas.List.Sorted.{IsPermutation-refl}
 use Rattle.sqlite.specs.Effect.{Database}
 use Rattle.paxos_packets.specs.declared.vote.Vote.{Vote}
@@ -15,6 +15,7 @@ use Rattle.store_rows.specs.declared.rows.Numbers.{Numbers}
 use Rattle.acceptor_store.specs.Tables.{meta_columns, vote_columns}
 use Rattle.acceptor_store.specs.Store.{Reads}
 use Rattle.store_rows.specs.Changes.{numbers_after}
+use Rattle.store_rows.specs.Faults.{LiesBelow}
 use Rattle.acceptor_store.specs.Answers.{stored_in, Tells, Refuses, are_spelled, has_place}
 use Rattle.acceptor_store.proofs.Meaning.{loads}
 
@@ -54,6 +55,31 @@ told_damaged fault e (inr failed) h = let both : Failed ≡ Damaged = sym failed
 pub conn_whole : {A P : Type 0} (e : KeeperFault) → (e ≡ Memory) ⊎ (e ≡ Store) → ◌≡◌ {A = Result A KeeperFault} (Err e) (Err Damaged) → P
 conn_whole e (inl m) h = let both : Memory ≡ Damaged = sym m ∙ same_fault h in absurd cc
 conn_whole e (inr s) h = let both : Store ≡ Damaged = sym s ∙ same_fault h in absurd cc
+
+pub conn_whole_err : {A P : Type 0} (r : Result A KeeperFault) → IfErr r (λ e. (e ≡ Memory) ⊎ (e ≡ Store)) → r ≡ Err Damaged → P
+conn_whole_err (Ok x) h damaged = absurd cc
+conn_whole_err (Err e) h damaged = conn_whole e h damaged
+
+pub below_conn : (e : KeeperFault) → (e ≡ Memory) ⊎ (e ≡ Store) → LiesBelow e
+below_conn e (inl m) = (λ is. let both : Memory ≡ Failed = sym m ∙ is in absurd cc, λ is. let both : Memory ≡ Boots = sym m ∙ is in absurd cc)
+below_conn e (inr s) = (λ is. let both : Store ≡ Failed = sym s ∙ is in absurd cc, λ is. let both : Store ≡ Boots = sym s ∙ is in absurd cc)
+
+pub below_unspelled : {P : Type 0} (e : KeeperFault) → (e ≡ Memory) ⊎ ((e ≡ Damaged) × P) → LiesBelow e
+below_unspelled e (inl m) = below_conn e (inl m)
+below_unspelled e (inr d) =
+    (λ is. let both : Damaged ≡ Failed = sym d.0 ∙ is in absurd cc, λ is. let both : Damaged ≡ Boots = sym d.0 ∙ is in absurd cc)
+
+pub below_damage : (e : KeeperFault) → (e ≡ Damaged) ⊎ ((e ≡ Memory) ⊎ (e ≡ Store)) → LiesBelow e
+below_damage e (inl d) = below_unspelled {P = Unit {0}} e (inr (d, tt))
+below_damage e (inr conn) = below_conn e conn
+
+pub below_conn_err : {A : Type 0} (r : Result A KeeperFault) → IfErr r (λ e. (e ≡ Memory) ⊎ (e ≡ Store)) → IfErr r LiesBelow
+below_conn_err (Ok x) h = tt
+below_conn_err (Err e) h = below_conn e h
+
+pub where_ok : {A E P : Type 0} (r : Result A E) → P → OnOk r P
+where_ok (Ok x) p = p
+where_ok (Err e) p = tt
 
 pub puts_some : (o : Option (List ℕ)) (old new : List ℕ) → Puts (Ok tt) o old new → is_some o ≡ true
 puts_some None old new h = absurd h

@@ -230,8 +230,7 @@ pub(crate) fn found<S: Alter>(tx: &mut Transaction<'_, S>) -> Result<(), KeeperF
 {
     create_meta(tx)?;
     create_vote(tx)?;
-    put_meta(tx, 0, &None)?;
-    Ok(())
+    put_meta(tx, 0, &None)
 }
 
 fn query_meta<S: Alter>(conn: &mut Connection<S>) -> Result<Vec<Row>, Error>

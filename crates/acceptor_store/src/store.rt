@@ -195,8 +195,7 @@ pub(crate) fn commit<B, C: Coder<B>, S: Alter>(
 {
     let mut tx = conn.transaction();
     write::<B, C, S>(&mut tx, puts, numbers, votes, octets)?;
-    end(tx)?;
-    Ok(())
+    end(tx)
 }
 
 // Makes the tables of an empty database, in one transaction.
@@ -211,8 +210,7 @@ pub(crate) fn found_store<S: Alter>(conn: &mut Connection<S>) -> Result<(), Keep
 {
     let mut tx = conn.transaction();
     found(&mut tx)?;
-    end(tx)?;
-    Ok(())
+    end(tx)
 }
 
 // What tables are told as that are not the store's: damage, where the connection is open, since what a shut one shows says nothing.

@@ -7,6 +7,7 @@ use Rattle.paxos_packets.specs.Vote.{put_vote}
 use Rattle.acceptor_store.specs.Tables.{put_vote_text, vote_row}
 use Rattle.acceptor_store.specs.Store.{AreVotes}
 use Rattle.acceptor_store.proofs.Putting.{puts_vote, vote_params, votes_put}
+use Rattle.acceptor_store.proofs.Refusing.{below_conn}
 use Rattle.acceptor_store.proofs.statements.put_vote.Goals as goal
 
 pub returns-in-Ok-clause-put : goal.returns-in-Ok-clause-put
@@ -27,3 +28,6 @@ returns-in-Ok-clause-put g c clean inside has promised votes v are is under =
       subst (λ tree. AreVotes g.C.Coder.reading promised tree (put_vote v votes)) (sym put.votes)
           (votes_put g.C.Coder.reading promised (old.now.trees 1) votes are (vote_row c.args.slot round node entry) v is under put.found put.conflict put.free),
     )
+
+pub returns-in-Err-clause-below : goal.returns-in-Err-clause-below
+returns-in-Err-clause-below g c = below_conn c.fault_of.result c.fault_of.ensures

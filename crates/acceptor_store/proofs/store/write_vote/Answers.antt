@@ -10,7 +10,8 @@ use Rattle.acceptor_store.specs.Store.{IsVote}
 use Rattle.acceptor_store.proofs.Writing.{vote_read, vote_reads}
 use Rattle.command_codec.specs.Entry.{entry_spelling}
 use Rattle.acceptor_store.specs.Answers.{Refuses}
-use Rattle.acceptor_store.proofs.Refusing.{refuses_conn_err, refuses_unspelled}
+use Rattle.store_rows.specs.Faults.{LiesBelow}
+use Rattle.acceptor_store.proofs.Refusing.{refuses_conn_err, refuses_unspelled, below_unspelled}
 use Rattle.acceptor_store.proofs.store.write_vote.Goals as goal
 
 pub returns-clause-put : goal.returns-clause-put
@@ -34,3 +35,8 @@ returns-in_err-spell-clause-refused g c =
     let spelled = entry_spelling g.C.Coder.spelling c.args.vote.now.entry in
     let given : c.from_residual.result ≡ Err c.in_err-spell.field-0.0 = search rules in
     subst (λ r. IfErr r (Refuses (is_some spelled ≡ false))) (sym given) (refuses_unspelled spelled c.in_err-spell.field-0.0 c.in_err-spell.ensures.fault)
+
+pub returns-in_err-spell-clause-below : goal.returns-in_err-spell-clause-below
+returns-in_err-spell-clause-below g c =
+    let given : c.from_residual.result ≡ Err c.in_err-spell.field-0.0 = search rules in
+    subst (λ r. IfErr r LiesBelow) (sym given) (below_unspelled c.in_err-spell.field-0.0 c.in_err-spell.ensures.fault)
