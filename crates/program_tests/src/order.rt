@@ -44,7 +44,11 @@ pub(crate) fn are_read(rt: &impl Abort, alloc: Global, lines: &[(&str, &str)]) {
 
 fn is_read(rt: &impl Abort, alloc: Global, line: &str, answer: &str) {
     let read = read(rt, alloc, line);
-    assert_eq!(rt; read.as_str(), answer, "{line}");
+    is_answer(rt, read.as_str(), answer, line);
+}
+
+fn is_answer(rt: &impl Abort, read: &str, answer: &str, line: &str) {
+    assert_eq!(rt; read, answer, "{line}");
 }
 
 fn told(alloc: Global, order: &Order) -> Result<String, AllocError> {

@@ -168,8 +168,18 @@ pub(crate) fn is_played(rt: &impl Abort, alloc: Global, row: &Row, most: usize) 
     let (written, outcome) = play(rt, alloc, row.nodes, row.script.as_bytes(), most);
     let mut text = String::new(alloc);
     put_row(row, &mut text).expect(rt, "room for a text");
-    assert_eq!(rt; outcome, Ok(()), "{}", row.script);
-    assert_eq!(rt; written.as_slice(), text.as_bytes(), "{}", row.script);
+    is_due(rt, outcome, written.as_slice(), text.as_bytes(), row.script);
+}
+
+fn is_due(
+    rt: &impl Abort,
+    outcome: Result<(), RunFault>,
+    written: &[u8],
+    due: &[u8],
+    script: &str,
+) {
+    assert_eq!(rt; outcome, Ok(()), "{script}");
+    assert_eq!(rt; written, due, "{script}");
 }
 
 #[test]

@@ -49,10 +49,34 @@ fn answers(alloc: Global, octets: &[u8], most: usize) -> (Vec<u8>, Result<(), Ru
     (paper.octets, outcome)
 }
 
+// Asserts how a run ended, and that it wrote these octets.
+fn is_due(
+    rt: &impl Abort,
+    outcome: Result<(), RunFault>,
+    written: &[u8],
+    ending: Result<(), RunFault>,
+    due: &[u8],
+    at: usize,
+) {
+    assert_eq!(rt; outcome, ending, "at {at}");
+    assert_eq!(rt; written, due, "at {at}");
+}
+
+// Asserts how a run ended, and that it wrote a front of what the stored run writes.
+fn is_front(
+    rt: &impl Abort,
+    outcome: Result<(), RunFault>,
+    written: &[u8],
+    ending: Result<(), RunFault>,
+    at: usize,
+) {
+    assert_eq!(rt; outcome, ending, "at {at}");
+    assert!(rt; ANSWERED.starts_with(written), "at {at}");
+}
+
 fn answers_by(rt: &impl Abort, alloc: Global, most: usize) {
     let (written, outcome) = answers(alloc, ASKED, most);
-    assert_eq!(rt; outcome, Ok(()), "by {most}");
-    assert_eq!(rt; written.as_slice(), ANSWERED, "by {most}");
+    is_due(rt, outcome, written.as_slice(), Ok(()), ANSWERED, most);
 }
 
 #[test]
@@ -64,8 +88,12 @@ fn answers_the_stored_run_in_any_pieces(rt: HostRuntime) {
 
 fn answers_calls_by(rt: &impl Abort, alloc: Global, most: usize) {
     let (written, outcome) = answers(alloc, CALLING, most);
+    is_called(rt, outcome, written.as_slice(), most);
+}
+
+fn is_called(rt: &impl Abort, outcome: Result<(), RunFault>, written: &[u8], most: usize) {
     assert_eq!(rt; outcome, Ok(()), "by {most}");
-    assert!(rt; written.as_slice().ends_with(CALLED), "by {most}");
+    assert!(rt; written.ends_with(CALLED), "by {most}");
     // The handshake's answer and WELCOME stand before.
     assert_eq!(rt; written.len(), CALLED.len().wrapping_add(217), "by {most}");
 }
@@ -82,9 +110,13 @@ fn reads_nothing_behind_the_handshake_before_it_is_answered(rt: HostRuntime) {
     let mut reader = reader_of(b"\x7F\xF2\0\0rest", 8);
     let mut paper = new_paper(rt.alloc(), None);
     let outcome = run(rt.alloc(), &mut reader, &mut paper);
+    is_refused(&rt, outcome, paper.octets.as_slice(), reader.octets);
+}
+
+fn is_refused(rt: &impl Abort, outcome: Result<(), RunFault>, written: &[u8], rest: &[u8]) {
     assert_eq!(rt; outcome, Err(RunFault::Transport(81)));
-    assert_eq!(rt; paper.octets.as_slice(), b"\x7F\x10\0\0".as_slice());
-    assert_eq!(rt; reader.octets, b"rest".as_slice());
+    assert_eq!(rt; written, b"\x7F\x10\0\0".as_slice());
+    assert_eq!(rt; rest, b"rest".as_slice());
 }
 
 // What faulty clients send, what they are answered, and the number of the fault.
@@ -100,8 +132,15 @@ const FAULTS: &[(&[u8], &[u8], u8)] = &[
 
 fn ends_by_fault(rt: &impl Abort, alloc: Global, asked: &[u8], answered: &[u8], fault: u8) {
     let (written, outcome) = answers(alloc, asked, 64);
-    assert_eq!(rt; outcome, Err(RunFault::Transport(fault)), "to {asked:?}");
-    assert_eq!(rt; written.as_slice(), answered, "to {asked:?}");
+    let ending = Err(RunFault::Transport(fault));
+    is_due(
+        rt,
+        outcome,
+        written.as_slice(),
+        ending,
+        answered,
+        asked.len(),
+    );
 }
 
 #[test]
@@ -113,8 +152,12 @@ fn ends_by_faults_of_the_client(rt: HostRuntime) {
 
 fn is_told(rt: &impl Abort, alloc: Global, fault: RunFault, text: &str, status: u8) {
     let told = format!(in alloc; "{fault}").expect(rt, "room for a text");
-    assert_eq!(rt; told.as_str(), text);
+    is_text(rt, told.as_str(), text);
     assert_eq!(rt; fault.status(), status, "of {text}");
+}
+
+fn is_text(rt: &impl Abort, told: &str, text: &str) {
+    assert_eq!(rt; told, text);
 }
 
 #[test]
@@ -133,8 +176,7 @@ fn ends_at(rt: &impl Abort, alloc: Global, end: usize, asked: &[u8]) {
     } else {
         Ok(())
     };
-    assert_eq!(rt; outcome, due, "at {end}");
-    assert!(rt; ANSWERED.starts_with(written.as_slice()), "at {end}");
+    is_front(rt, outcome, written.as_slice(), due, end);
 }
 
 #[test]
@@ -149,15 +191,17 @@ fn stops_behind_reads(rt: &impl Abort, alloc: Global, reads: u32) {
     reader.reads_before_failure = Some(reads);
     let mut paper = new_paper(alloc, None);
     let outcome = run(alloc, &mut reader, &mut paper);
-    if reader.reads_before_failure.is_none() {
-        assert_eq!(rt; outcome, Err(RunFault::Transport(83)), "after {reads}");
+    let ending = ending_behind(reader.reads_before_failure.is_none(), 83);
+    is_front(rt, outcome, paper.octets.as_slice(), ending, reads as usize);
+}
+
+// How a run ends in which a call has failed, or none.
+fn ending_behind(has_failed: bool, fault: u8) -> Result<(), RunFault> {
+    if has_failed {
+        Err(RunFault::Transport(fault))
     } else {
-        assert_eq!(rt; outcome, Ok(()), "after {reads}");
+        Ok(())
     }
-    assert!(rt;
-        ANSWERED.starts_with(paper.octets.as_slice()),
-        "after {reads}"
-    );
 }
 
 #[test]
@@ -170,15 +214,8 @@ fn stops_at_a_failed_read(rt: HostRuntime) {
 fn stops_behind_writes(rt: &impl Abort, alloc: Global, calls: u32) {
     let mut paper = new_paper(alloc, Some(calls));
     let outcome = run(alloc, &mut reader_of(ASKED, 64), &mut paper);
-    if paper.calls_before_failure.is_none() {
-        assert_eq!(rt; outcome, Err(RunFault::Transport(84)), "after {calls}");
-    } else {
-        assert_eq!(rt; outcome, Ok(()), "after {calls}");
-    }
-    assert!(rt;
-        ANSWERED.starts_with(paper.octets.as_slice()),
-        "after {calls}"
-    );
+    let ending = ending_behind(paper.calls_before_failure.is_none(), 84);
+    is_front(rt, outcome, paper.octets.as_slice(), ending, calls as usize);
 }
 
 #[test]
@@ -225,8 +262,7 @@ fn is_answered(
     outcome: Result<(), RunFault>,
 ) {
     let (written, ending) = answers(alloc, asked, 65536);
-    assert_eq!(rt; ending, outcome);
-    assert_eq!(rt; written.as_slice(), due);
+    is_due(rt, ending, written.as_slice(), outcome, due, asked.len());
 }
 
 // What the client sends that publishes so wide an event, and what it is answered, the event with it where that fits.
