@@ -67,7 +67,11 @@ fn has_pending_at(stations: &mut [Adding<'_>], node: u8) -> Result<bool, BenchFa
 }
 
 // Whether all logs have one length.
-fn have_one_length(stations: &[Adding<'_>]) -> bool {
+fn have_one_length(stations: &mut [Adding<'_>]) -> bool {
+    are_of_one_length(stations)
+}
+
+fn are_of_one_length(stations: &[Adding<'_>]) -> bool {
     let Some(first) = stations.first() else {
         return false;
     };
