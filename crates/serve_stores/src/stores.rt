@@ -2,7 +2,7 @@ use acceptor_keeper::{KeeperFault, MemKeeper};
 use acceptor_store::SqlKeeper;
 use act_codec::ActCoder;
 use realm_machine::Act;
-use sqlite::{Connection, File, FileStore};
+use sqlite::{Alter, Connection, File, FileStore};
 use std::alloc::Global;
 
 /// Where the nodes' rows are kept.
@@ -31,7 +31,9 @@ pub fn open_in(host: &HostRuntime, folder: &str, node: u8) -> Result<Filed, Keep
     let Ok(path) = format!(in alloc; "{folder}/node-{node}.db") else {
         return Err(KeeperFault::Memory);
     };
-    open_store(alloc, open_database(host, path.as_str())?)
+    let opened = open_database(host, path.as_str());
+    drop(path);
+    open_filed(alloc, opened?)
 }
 
 // The database at this path, which is made where there is none.
@@ -42,13 +44,25 @@ fn open_database(host: &HostRuntime, path: &str) -> Result<Database, KeeperFault
     }
 }
 
-// The store over this database.
-fn open_store(alloc: Global, conn: Database) -> Result<Filed, KeeperFault> {
-    if !conn.is_autocommit() {
-        return Err(KeeperFault::Store);
-    }
-    match SqlKeeper::open(alloc, conn) {
+// The store over this database, which is closed where that does not open.
+fn open_filed(alloc: Global, conn: Database) -> Result<Filed, KeeperFault> {
+    match open_store(alloc, conn) {
         Ok(store) => Ok(store),
-        Err((fault, _)) => Err(fault),
+        Err((fault, conn)) => {
+            let _ = conn.close();
+            Err(fault)
+        }
     }
+}
+
+// The store over this connection, or the connection with the fault. It is over any storage, has no clauses and drops no connection: at the
+// types of a file the clauses of `open` are dear, and so is each part that is dropped.
+fn open_store<S: Alter>(
+    alloc: Global,
+    conn: Connection<S>,
+) -> Result<SqlKeeper<Act, ActCoder, S>, (KeeperFault, Connection<S>)> {
+    if !conn.is_autocommit() {
+        return Err((KeeperFault::Store, conn));
+    }
+    SqlKeeper::open(alloc, conn)
 }
