@@ -1,109 +1,122 @@
-// Three actors at a table, from the opening of their nodes to the gathering of their seats.
-ghost use Rattle.std.specs.Prelude.{◌≡◌, All, IfSome, Some, false};
+// Three actors at a table, from the opening of their nodes to the gathering of their seats. One function owns them, and lends them to what
+// they live through. What cannot be had, as memory or a boot, ends the test at once, so that no way out drops an actor.
+ghost use Rattle.std.specs.Prelude.{◌≡◌, All, false};
 ghost use Rattle.mail_table.specs.Seats.{Owns};
 ghost use Rattle.run_tests.specs.Fresh.{IsFresh};
 
 use crate::hearing::{Heard, hear};
-use acceptor_keeper::MemKeeper;
-use core_tests::{Count, Number};
-use mail_table::{Mail, NodeSeat};
+use mail_table::{Mail, NodeSeat, Office, found};
 use node_actor::{Actor, Body, Keeper, Machine, Members};
 use std::alloc::Global;
-use std::test::Fail;
-
-/// An actor that adds up, over a keeper in memory.
-pub type Adding = Actor<Count, MemKeeper<Number>>;
+use std::panic::Expect;
+use std::process::Abort;
 
 // How often each node turns at most.
 const MOST_ROUNDS: u32 = 1_000;
 
-/// The actor of the last of these seats, whose node was never opened, if it can be opened.
-pub fn opened<M: Machine, K: Keeper<M::Body> + Drop>(
+/// What three nodes live through.
+pub trait Life<M: Machine, K: Keeper<M::Body>> {
+    /// The machine of a node that begins.
+    fn machine(&self) -> M
+        ensures { M.has_failed result ≡ false };
+
+    /// The store of a node that was never opened.
+    fn keeper(&self) -> K;
+
+    /// The store of a node that has gone down, opened again.
+    fn reopened(&self, keeper: K) -> K;
+
+    /// What they do. Answers whether node 2 is to begin again.
+    fn live(
+        &mut self,
+        mail: &Mail<M::Body>,
+        one: &mut Actor<M, K>,
+        two: &mut Actor<M, K>,
+        three: &mut Actor<M, K>,
+        heard: &mut Heard<M::Say>,
+    ) -> bool
+        requires one { Owns mail.now one.old.seat }
+        requires two { Owns mail.now two.old.seat }
+        requires three { Owns mail.now three.old.seat }
+        ensures one { Owns mail.now one.new.seat }
+        ensures two { Owns mail.now two.new.seat }
+        ensures three { Owns mail.now three.new.seat };
+
+    /// What they do once node 2 has begun again.
+    fn live_on(
+        &mut self,
+        mail: &Mail<M::Body>,
+        one: &mut Actor<M, K>,
+        two: &mut Actor<M, K>,
+        three: &mut Actor<M, K>,
+        heard: &mut Heard<M::Say>,
+    )
+        requires one { Owns mail.now one.old.seat }
+        requires two { Owns mail.now two.old.seat }
+        requires three { Owns mail.now three.old.seat }
+        ensures one { Owns mail.now one.new.seat }
+        ensures two { Owns mail.now two.new.seat }
+        ensures three { Owns mail.now three.new.seat };
+
+    /// Judges what was heard, and the lengths of the logs, by node.
+    fn end(&self, heard: &Heard<M::Say>, lengths: &[u64; 7]);
+}
+
+/// The last of these seats, whose node was never opened.
+pub fn last_seat<B: Body>(
+    rt: &impl Abort,
+    mail: &Mail<B>,
+    seats: &mut Vec<NodeSeat<B>>,
+) -> NodeSeat<B>
+    requires fresh { All (IsFresh mail.now) seats.old.items }
+    ensures fresh { All (IsFresh mail.now) seats.new.items }
+    ensures seat { IsFresh mail.now result }
+{
+    let _ = mail;
+    match seats.pop() {
+        Some(seat) => seat,
+        None => panic!(rt; "no seat"),
+    }
+}
+
+/// The actor of the last of these seats.
+pub fn opened<M: Machine, K: Keeper<M::Body>>(
+    rt: &impl Abort,
     alloc: Global,
     mail: &Mail<M::Body>,
     seats: &mut Vec<NodeSeat<M::Body>>,
     members: Members,
     machine: M,
     keeper: K,
-) -> Option<Actor<M, K>>
+) -> Actor<M, K>
     requires fresh { All (IsFresh mail.now) seats.old.items }
     requires members { members ≡ mail.now.members }
     requires machine { M.has_failed machine ≡ false }
     ensures fresh { All (IsFresh mail.now) seats.new.items }
-    ensures owned { IfSome result (λ actor. Owns mail.now actor.seat) }
+    ensures owned { Owns mail.now result.seat }
 {
-    let Some(seat) = seats.pop() else {
-        drop(machine);
-        drop(keeper);
-        return None;
-    };
+    let seat = last_seat(rt, mail, seats);
     let me = seat.node();
     match Actor::open(alloc, mail, seat, me, members, machine, keeper) {
-        Ok(actor) => Some(actor),
-        Err(left) => {
-            drop(left);
-            None
-        },
+        Ok(actor) => actor,
+        Err(_) => panic!(rt; "node {me} was not opened"),
     }
-}
-
-/// The actor of the last of these seats, which adds up.
-pub fn adding(
-    alloc: Global,
-    mail: &Mail<Number>,
-    seats: &mut Vec<NodeSeat<Number>>,
-    members: Members,
-) -> Option<Adding>
-    requires fresh { All (IsFresh mail.now) seats.old.items }
-    requires members { members ≡ mail.now.members }
-    ensures fresh { All (IsFresh mail.now) seats.new.items }
-    ensures owned { IfSome result (λ actor. Owns mail.now actor.seat) }
-{
-    opened(
-        alloc,
-        mail,
-        seats,
-        members,
-        Count::new(alloc),
-        MemKeeper::new(alloc),
-    )
-}
-
-/// All three, or none.
-pub fn all_three<T: Drop>(one: Option<T>, two: Option<T>, three: Option<T>) -> Option<(T, T, T)>
-    ensures { IfSome result (λ all. (one ≡ Some all.0) × (two ≡ Some all.1) × (three ≡ Some all.2)) }
-{
-    let Some(one) = one else {
-        drop(two);
-        drop(three);
-        return None;
-    };
-    let Some(two) = two else {
-        drop(one);
-        drop(three);
-        return None;
-    };
-    let Some(three) = three else {
-        drop(one);
-        drop(two);
-        return None;
-    };
-    Some((one, two, three))
 }
 
 /// A turn; whether a packet moved.
 pub fn turn<M: Machine, K: Keeper<M::Body>>(
+    rt: &impl Abort,
     mail: &Mail<M::Body>,
     actor: &mut Actor<M, K>,
     heard: &mut Heard<M::Say>,
-) -> Result<bool, Fail>
+) -> bool
     requires { Owns mail.now actor.old.seat }
     ensures { Owns mail.now actor.new.seat }
 {
     let done = actor.turn(mail);
     let moved = done.is_ok() && has_moved(actor);
-    hear(heard, actor.me(), done)?;
-    Ok(moved)
+    hear(rt, heard, actor.me(), done);
+    moved
 }
 
 // Whether the actor's last turn posted a packet, or treated one.
@@ -118,12 +131,13 @@ fn has_moved<M: Machine, K: Keeper<M::Body>>(actor: &Actor<M, K>) -> bool {
 
 /// All nodes turn, one after another, until no packet is left that can go.
 pub fn all_turns<M: Machine, K: Keeper<M::Body>>(
+    rt: &impl Abort,
     mail: &Mail<M::Body>,
     one: &mut Actor<M, K>,
     two: &mut Actor<M, K>,
     three: &mut Actor<M, K>,
     heard: &mut Heard<M::Say>,
-) -> Result<(), Fail>
+)
     requires one { Owns mail.now one.old.seat }
     requires two { Owns mail.now two.old.seat }
     requires three { Owns mail.now three.old.seat }
@@ -132,17 +146,32 @@ pub fn all_turns<M: Machine, K: Keeper<M::Body>>(
     ensures three { Owns mail.now three.new.seat }
 {
     for _ in 0..MOST_ROUNDS {
-        let first = turn(mail, one, heard)?;
-        let second = turn(mail, two, heard)?;
-        let third = turn(mail, three, heard)?;
+        let first = turn(rt, mail, one, heard);
+        let second = turn(rt, mail, two, heard);
+        let third = turn(rt, mail, three, heard);
         if !first && !second && !third {
-            return Ok(());
+            return;
         }
     }
-    Err(Fail::from("packets without end"))
+    panic!(rt; "packets without end")
 }
 
-/// The actor's seat.
+/// Puts a seat behind these.
+pub fn put_seat<B: Body>(
+    rt: &impl Abort,
+    mail: &Mail<B>,
+    seats: &mut Vec<NodeSeat<B>>,
+    seat: NodeSeat<B>,
+)
+    requires seats { All (Owns mail.now) seats.old.items }
+    requires seat { Owns mail.now seat }
+    ensures { All (Owns mail.now) seats.new.items }
+{
+    let _ = mail;
+    seats.push(seat).expect(rt, "room for a seat");
+}
+
+/// The actor's seat; its log is let go.
 pub fn seat_of<M: Machine, K: Keeper<M::Body> + Drop>(actor: Actor<M, K>) -> NodeSeat<M::Body>
     ensures { result ≡ actor.seat }
 {
@@ -151,29 +180,122 @@ pub fn seat_of<M: Machine, K: Keeper<M::Body> + Drop>(actor: Actor<M, K>) -> Nod
     seat
 }
 
-/// The lengths of the logs, by node, where there are these seats.
-pub fn gathered<B: Body>(
-    alloc: Global,
-    mail: Mail<B>,
-    seats: Option<(NodeSeat<B>, NodeSeat<B>, NodeSeat<B>)>,
-) -> Option<[u64; 7]>
-    requires one { IfSome seats (λ seats. Owns mail seats.0) }
-    requires two { IfSome seats (λ seats. Owns mail seats.1) }
-    requires three { IfSome seats (λ seats. Owns mail seats.2) }
+/// The lengths of the logs, by node.
+pub fn gathered<B: Body>(rt: &impl Abort, mail: Mail<B>, seats: Vec<NodeSeat<B>>) -> [u64; 7]
+    requires { All (Owns mail) seats.items }
 {
-    let Some((one, two, three)) = seats else {
-        drop(mail);
-        return None;
-    };
-    let mut all = Vec::new(alloc);
-    all.push(one).ok()?;
-    all.push(two).ok()?;
-    all.push(three).ok()?;
-    match mail.gather(all) {
-        Ok(lengths) => Some(lengths),
-        Err(back) => {
-            drop(back);
-            None
-        },
+    match mail.gather(seats) {
+        Ok(lengths) => lengths,
+        Err(_) => panic!(rt; "no seats of all nodes"),
     }
+}
+
+// Node 2; if it is to, it has begun again, over what is left of it.
+fn again<M: Machine, K: Keeper<M::Body>, L: Life<M, K>>(
+    rt: &impl Abort,
+    alloc: Global,
+    mail: &Mail<M::Body>,
+    two: Actor<M, K>,
+    life: &L,
+    begins: bool,
+) -> Actor<M, K>
+    requires { Owns mail.now two.seat }
+    ensures { Owns mail.now result.seat }
+{
+    if !begins {
+        return two;
+    }
+    let (post, keeper) = two.crash();
+    match Actor::restart(alloc, mail, post, life.machine(), life.reopened(keeper)) {
+        Ok(actor) => actor,
+        Err(_) => panic!(rt; "node 2 did not begin again"),
+    }
+}
+
+// What the nodes do once node 2 has begun again, if it has.
+fn live_on<M: Machine, K: Keeper<M::Body>, L: Life<M, K>>(
+    mail: &Mail<M::Body>,
+    one: &mut Actor<M, K>,
+    two: &mut Actor<M, K>,
+    three: &mut Actor<M, K>,
+    life: &mut L,
+    heard: &mut Heard<M::Say>,
+    begins: bool,
+)
+    requires one { Owns mail.now one.old.seat }
+    requires two { Owns mail.now two.old.seat }
+    requires three { Owns mail.now three.old.seat }
+    ensures one { Owns mail.now one.new.seat }
+    ensures two { Owns mail.now two.new.seat }
+    ensures three { Owns mail.now three.new.seat }
+{
+    if !begins {
+        return;
+    }
+    life.live_on(mail, one, two, three, heard);
+}
+
+// The actors of these seats live so, and leave their seats.
+fn live_at<M: Machine, K: Keeper<M::Body> + Drop, L: Life<M, K>>(
+    rt: &impl Abort,
+    alloc: Global,
+    mail: &Mail<M::Body>,
+    seats: &mut Vec<NodeSeat<M::Body>>,
+    members: Members,
+    life: &mut L,
+    heard: &mut Heard<M::Say>,
+)
+    requires fresh { All (IsFresh mail.now) seats.old.items }
+    requires members { members ≡ mail.now.members }
+    ensures { All (Owns mail.now) seats.new.items }
+{
+    let mut three = opened(
+        rt,
+        alloc,
+        mail,
+        seats,
+        members,
+        life.machine(),
+        life.keeper(),
+    );
+    let mut two = opened(
+        rt,
+        alloc,
+        mail,
+        seats,
+        members,
+        life.machine(),
+        life.keeper(),
+    );
+    let mut one = opened(
+        rt,
+        alloc,
+        mail,
+        seats,
+        members,
+        life.machine(),
+        life.keeper(),
+    );
+    let begins = life.live(mail, &mut one, &mut two, &mut three, heard);
+    let mut two = again(rt, alloc, mail, two, life, begins);
+    live_on(mail, &mut one, &mut two, &mut three, life, heard, begins);
+    put_seat(rt, mail, seats, seat_of(one));
+    put_seat(rt, mail, seats, seat_of(two));
+    put_seat(rt, mail, seats, seat_of(three));
+}
+
+/// Three nodes are opened at a table of their own, live so, and are gathered.
+pub fn live<M: Machine, K: Keeper<M::Body> + Drop, L: Life<M, K>>(
+    rt: &impl Abort,
+    alloc: Global,
+    life: &mut L,
+) {
+    let members = Members::new(3).expect(rt, "3 members");
+    let mut office = Office::new();
+    let (mail, mut seats) = found::<M::Body>(alloc, &mut office, members).expect(rt, "a table");
+    let mut heard = Heard::nothing(alloc);
+    live_at(rt, alloc, &mail, &mut seats, members, life, &mut heard);
+    let lengths = gathered(rt, mail, seats);
+    life.end(&heard, &lengths);
+    drop(heard);
 }

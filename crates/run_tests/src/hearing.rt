@@ -1,8 +1,8 @@
 // What calls of actors answer.
 use node_actor::{ActorFault, Entry};
 use std::alloc::Global;
+use std::panic::Expect;
 use std::process::Abort;
-use std::test::Fail;
 
 /// What a call of an actor answers.
 pub type Answer<Y> = Result<Vec<Y>, ActorFault<Y>>;
@@ -25,24 +25,26 @@ impl<Y> Heard<Y> {
     }
 }
 
-fn put_all<Y: Drop>(says: &mut Vec<Y>, more: Vec<Y>) -> Result<(), Fail> {
-    for say in more {
-        says.push(say)?;
+// Takes what a call of a node answered out of the answer.
+fn take_out<Y>(rt: &impl Abort, heard: &mut Heard<Y>, node: u8, done: &mut Answer<Y>) {
+    let fault = match done {
+        Ok(says) => return heard.says.append(says).expect(rt, "room for what is said"),
+        Err(fault) => fault,
+    };
+    heard
+        .faults
+        .push((node, fault.number()))
+        .expect(rt, "room for a fault");
+    if let ActorFault::LostHere(says) = fault {
+        heard.lost.append(says).expect(rt, "room for what is said");
     }
-    Ok(())
 }
 
 /// Keeps what a call of a node answered.
-pub fn hear<Y: Drop>(heard: &mut Heard<Y>, node: u8, done: Answer<Y>) -> Result<(), Fail> {
-    let fault = match done {
-        Ok(says) => return put_all(&mut heard.says, says),
-        Err(fault) => fault,
-    };
-    heard.faults.push((node, fault.number()))?;
-    match fault {
-        ActorFault::LostHere(says) => put_all(&mut heard.lost, says),
-        _ => Ok(()),
-    }
+pub fn hear<Y: Drop>(rt: &impl Abort, heard: &mut Heard<Y>, node: u8, done: Answer<Y>) {
+    let mut done = done;
+    take_out(rt, heard, node, &mut done);
+    drop(done);
 }
 
 /// The fault of a call, 0 where there is none.
@@ -75,8 +77,8 @@ pub fn told<B>(entry: &Entry<B>) -> Told {
 
 /// Asserts what a log is.
 pub fn is_log<B>(rt: &impl Abort, log: &[Entry<B>], wants: &[Told]) {
-    assert_eq!(rt; log.len(), wants.len());
+    assert!(rt; log.len() == wants.len());
     for (entry, want) in log.iter().zip(wants) {
-        assert_eq!(rt; told(entry), *want);
+        assert!(rt; told(entry) == *want);
     }
 }

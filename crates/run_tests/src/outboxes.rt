@@ -1,22 +1,27 @@
 // Outboxes that are full.
-ghost use Rattle.std.specs.Prelude.{◌≡◌, ◌≤◌, All};
+ghost use Rattle.std.specs.Prelude.{◌≡◌, ◌≤◌, All, false};
 ghost use Rattle.mail_table.specs.Seats.{Owns};
 ghost use Rattle.run_tests.specs.Fresh.{IsFresh};
 
-use crate::actors::{Adding, adding};
+use crate::actors::{gathered, last_seat, opened, put_seat, seat_of};
 use crate::hearing::number;
-use core_tests::Number;
+use acceptor_keeper::MemKeeper;
+use core_tests::{Count, Number};
 use mail_table::{Mail, NodeSeat, Office, found};
-use node_actor::{Members, Packet};
+use node_actor::{Actor, Body, Keeper, Machine, Members, Packet};
 use paxos_packets::Kind;
 use std::alloc::Global;
+use std::panic::Expect;
 use std::process::Abort;
-use std::test::Fail;
 
 // How often the first node turns at most.
 const MOST_TURNS: u32 = 10_000;
 
-fn ticks(mail: &Mail<Number>, actor: &mut Adding, count: u32) -> u32
+fn ticks<M: Machine, K: Keeper<M::Body>>(
+    mail: &Mail<M::Body>,
+    actor: &mut Actor<M, K>,
+    count: u32,
+) -> u32
     requires { Owns mail.now actor.old.seat }
     ensures { Owns mail.now actor.new.seat }
 {
@@ -41,7 +46,7 @@ const NONE_CAME: Came = Came {
     prepares: false,
 };
 
-fn is_prepare(packet: Packet<Number>) -> bool {
+fn is_prepare<B: Body>(packet: Packet<B>) -> bool {
     let prepares = if let Kind::Prepare { .. } = &packet.kind {
         true
     } else {
@@ -52,7 +57,7 @@ fn is_prepare(packet: Packet<Number>) -> bool {
 }
 
 // The node fetches from node 1; what came by then.
-fn fetched(mail: &Mail<Number>, seat: &mut NodeSeat<Number>, came: Came) -> Came
+fn fetched<B: Body>(mail: &Mail<B>, seat: &mut NodeSeat<B>, came: Came) -> Came
     requires owned { Owns mail.now seat.old }
     requires members { 3 ≤ mail.now.members }
     ensures { Owns mail.now seat.new }
@@ -67,16 +72,19 @@ fn fetched(mail: &Mail<Number>, seat: &mut NodeSeat<Number>, came: Came) -> Came
 }
 
 // What comes to nodes 2 and 3 by as many turns of node 1 as bring any.
-fn drained(
-    mail: &Mail<Number>,
-    actor: &mut Adding,
-    two: &mut NodeSeat<Number>,
-    three: &mut NodeSeat<Number>,
+fn drained<M: Machine, K: Keeper<M::Body>>(
+    mail: &Mail<M::Body>,
+    actor: &mut Actor<M, K>,
+    two: &mut NodeSeat<M::Body>,
+    three: &mut NodeSeat<M::Body>,
 ) -> (Came, Came)
     requires actor { Owns mail.now actor.old.seat }
     requires two { Owns mail.now two.old }
     requires three { Owns mail.now three.old }
     requires members { 3 ≤ mail.now.members }
+    ensures actor { Owns mail.now actor.new.seat }
+    ensures two { Owns mail.now two.new }
+    ensures three { Owns mail.now three.new }
 {
     let (mut second, mut third) = (NONE_CAME, NONE_CAME);
     for _ in 0..MOST_TURNS {
@@ -91,17 +99,20 @@ fn drained(
     (second, third)
 }
 
-fn keeps_the_newest(
+fn keeps_the_newest<M: Machine, K: Keeper<M::Body>>(
     rt: &impl Abort,
-    mail: &Mail<Number>,
-    actor: &mut Adding,
-    two: &mut NodeSeat<Number>,
-    three: &mut NodeSeat<Number>,
+    mail: &Mail<M::Body>,
+    actor: &mut Actor<M, K>,
+    two: &mut NodeSeat<M::Body>,
+    three: &mut NodeSeat<M::Body>,
 )
     requires actor { Owns mail.now actor.old.seat }
     requires two { Owns mail.now two.old }
     requires three { Owns mail.now three.old }
     requires members { 3 ≤ mail.now.members }
+    ensures actor { Owns mail.now actor.new.seat }
+    ensures two { Owns mail.now two.new }
+    ensures three { Owns mail.now three.new }
 {
     assert_eq!(rt; ticks(mail, actor, 4_096), 4_096);
     assert_eq!(rt; number(actor.start(mail)), 0);
@@ -110,54 +121,48 @@ fn keeps_the_newest(
     assert_eq!(rt; (third.count, third.prepares), (4_096, true));
 }
 
-// Nodes 2 and 3 fetch what the actor of the last of these seats posts.
-fn hears(
+// Nodes 2 and 3 fetch what the actor of the first of these seats posts.
+fn hear<M: Machine, K: Keeper<M::Body> + Drop>(
     rt: &impl Abort,
     alloc: Global,
-    mail: &Mail<Number>,
-    two: NodeSeat<Number>,
-    three: NodeSeat<Number>,
-    seats: &mut Vec<NodeSeat<Number>>,
+    mail: &Mail<M::Body>,
+    seats: &mut Vec<NodeSeat<M::Body>>,
     members: Members,
-) -> Result<(), Fail>
-    requires two { Owns mail.now two }
-    requires three { Owns mail.now three }
+    machine: M,
+    keeper: K,
+)
     requires fresh { All (IsFresh mail.now) seats.old.items }
     requires members { (members ≡ mail.now.members) × (3 ≤ mail.now.members) }
+    requires machine { M.has_failed machine ≡ false }
+    ensures { All (Owns mail.now) seats.new.items }
 {
-    let (mut two, mut three) = (two, three);
-    let Some(mut actor) = adding(alloc, mail, seats, members) else {
-        return Err(Fail::from("no actor of node 1"));
-    };
-    keeps_the_newest(rt, mail, &mut actor, &mut two, &mut three);
-    drop(actor);
-    Ok(())
+    let mut three = last_seat(rt, mail, seats);
+    let mut two = last_seat(rt, mail, seats);
+    let mut one = opened(rt, alloc, mail, seats, members, machine, keeper);
+    keeps_the_newest(rt, mail, &mut one, &mut two, &mut three);
+    put_seat(rt, mail, seats, seat_of(one));
+    put_seat(rt, mail, seats, two);
+    put_seat(rt, mail, seats, three);
 }
 
-// The last two seats fetch what the first node posts.
-fn listens(
+// Node 1 of three posts, with this machine and this store.
+fn listen<M: Machine, K: Keeper<M::Body> + Drop>(
     rt: &impl Abort,
     alloc: Global,
-    mail: &Mail<Number>,
-    seats: &mut Vec<NodeSeat<Number>>,
-    members: Members,
-) -> Result<(), Fail>
-    requires fresh { All (IsFresh mail.now) seats.old.items }
-    requires members { (members ≡ mail.now.members) × (3 ≤ mail.now.members) }
+    machine: M,
+    keeper: K,
+)
+    requires { M.has_failed machine ≡ false }
 {
-    let Some(three) = seats.pop() else {
-        return Err(Fail::from("no seat of node 3"));
-    };
-    let Some(two) = seats.pop() else {
-        return Err(Fail::from("no seat of node 2"));
-    };
-    hears(rt, alloc, mail, two, three, seats, members)
+    let members = Members::new(3).expect(rt, "3 members");
+    let mut office = Office::new();
+    let (mail, mut seats) = found::<M::Body>(alloc, &mut office, members).expect(rt, "a table");
+    hear(rt, alloc, &mail, &mut seats, members, machine, keeper);
+    assert!(rt; gathered(rt, mail, seats) == [0; 7]);
 }
 
 #[test]
-fn full_outboxes_lose_their_oldest_packets(rt: HostRuntime) -> Result<(), Fail> {
-    let members = Members::new(3).ok_or("3 members")?;
-    let mut office = Office::new();
-    let (mail, mut seats) = found::<Number>(rt.alloc(), &mut office, members)?;
-    listens(&rt, rt.alloc(), &mail, &mut seats, members)
+fn full_outboxes_lose_their_oldest_packets(rt: HostRuntime) {
+    let keeper = MemKeeper::<Number>::new(rt.alloc());
+    listen(&rt, rt.alloc(), Count::new(rt.alloc()), keeper);
 }

@@ -1,12 +1,12 @@
 // A realm, what its clients say, and what it says to them.
-ghost use Rattle.std.specs.Prelude.{◌≡◌, IfSome, false};
+ghost use Rattle.std.specs.Prelude.{◌≡◌, false};
 ghost use Rattle.realm_machine.specs.Machine.{has_failed};
 
 use realm_machine::{Act, Id, Limits, Out, Realm, Say, Shared, Transport};
 use std::alloc::Global;
+use std::panic::Expect;
 use std::process::Abort;
-use std::test::Fail;
-use wamp_messages::{Memory, Read, read, write};
+use wamp_messages::{Memory, read, write};
 
 const LIMITS: Limits = Limits {
     sessions: 4,
@@ -16,27 +16,23 @@ const LIMITS: Limits = Limits {
 };
 
 /// A new realm.
-pub fn realm(alloc: Global) -> Option<Realm>
-    ensures { IfSome result (λ realm. has_failed realm ≡ false) }
+pub fn realm(rt: &impl Abort, alloc: Global) -> Realm
+    ensures { has_failed result ≡ false }
 {
-    let name = String::from_str(alloc, "realm1").ok()?;
-    Some(Realm::new(alloc, name, LIMITS))
+    let name = String::from_str(alloc, "realm1").expect(rt, "memory for a name");
+    Realm::new(alloc, name, LIMITS)
 }
 
-// What is read of a text; want of memory is let go by std's call, so that no exit here drops what was read.
-fn shared(alloc: Global, text: &str) -> Option<Shared<Read>> {
-    let read = read(alloc, text.as_bytes()).ok()?;
-    Shared::new(alloc, read).ok()
-}
-
-/// A client connects, or says this; the draw for it is 7.
-pub fn act_of(alloc: Global, text: &str) -> Option<Act> {
-    if text == "connect" {
-        return Some(Act::Connect);
+/// A client says this; the draw for it is 7.
+pub fn said(rt: &impl Abort, alloc: Global, text: &str) -> Act {
+    let draw = Id::new(7).expect(rt, "an id");
+    let Ok(read) = read(alloc, text.as_bytes()) else {
+        panic!(rt; "no memory for what is read")
+    };
+    match Shared::new(alloc, read) {
+        Ok(read) => Act::Said { draw, read },
+        Err(_) => panic!(rt; "no memory for what is said"),
     }
-    let draw = Id::new(7)?;
-    let read = shared(alloc, text)?;
-    Some(Act::Said { draw, read })
 }
 
 fn spelled(alloc: Global, out: &Out) -> Result<Vec<u8>, Memory> {
@@ -52,13 +48,20 @@ const AT_TWO: Transport = Transport {
     number: 1,
 };
 
+// Whether this was said to the transport 1 of node 2 in its boot 1: how it begins.
+fn is_said(rt: &impl Abort, alloc: Global, say: &Say, want: &str) -> bool {
+    let Ok(text) = spelled(alloc, &say.out) else {
+        panic!(rt; "no memory for what is said")
+    };
+    let begins = text.as_slice().starts_with(want.as_bytes());
+    drop(text);
+    begins && say.transport == AT_TWO
+}
+
 /// Asserts that these texts were said to the transport 1 of node 2 in its boot 1, and nothing else: how they begin.
-pub fn are_said(rt: &impl Abort, alloc: Global, says: &[Say], wants: &[&str]) -> Result<(), Fail> {
-    assert_eq!(rt; says.len(), wants.len());
+pub fn are_said(rt: &impl Abort, alloc: Global, says: &[Say], wants: &[&str]) {
+    assert!(rt; says.len() == wants.len());
     for (say, want) in says.iter().zip(wants) {
-        assert_eq!(rt; say.transport, AT_TWO);
-        let text = spelled(alloc, &say.out)?;
-        assert!(rt; text.as_slice().starts_with(want.as_bytes()));
+        assert!(rt; is_said(rt, alloc, say, want));
     }
-    Ok(())
 }

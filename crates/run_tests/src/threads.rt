@@ -1,21 +1,21 @@
 // Three nodes, each run on a thread of its own.
-ghost use Rattle.std.specs.Prelude.{◌≡◌, All, IfSome};
-ghost use Rattle.std.specs.Thread.{IsSync};
 ghost use Rattle.mail_table.specs.Seats.{Owns};
-ghost use Rattle.run_tests.specs.Fresh.{IsFresh};
 
-use crate::actors::{Adding, adding, all_three, gathered};
+use crate::actors::{Life, live};
+use crate::hearing::Heard;
+use acceptor_keeper::MemKeeper;
 use actor_run::{Feed, Gate, Seen, run_node};
-use core_tests::Number;
-use mail_table::{Mail, NodeSeat, Office, found};
-use node_actor::{Event, Members};
+use core_tests::{Count, Number};
+use mail_table::Mail;
+use node_actor::{Actor, Event};
 use paxos_packets::Transport;
 use std::alloc::Global;
 use std::process::Abort;
 use std::sync::atomic::{AtomicU64, Ordering};
-use std::test::Fail;
 use std::thread;
-use std::thread::{Threads, join};
+use std::thread::{Threads, join_mut};
+
+type Adding = Actor<Count, MemKeeper<Number>>;
 
 // What a node says: to whom, and the sum so far.
 type Sum = (Transport, u64);
@@ -143,152 +143,136 @@ impl<'a> Feed<Number, Sum> for Acts<'a> {
     }
 }
 
-// What came of the run of a node: its seat, how many answers came in order, whether anything else came, and how long its log was.
-#[derive(Drop)]
+// What came of the run of a node: how many answers came in order, whether anything else came, and how long its log was.
+#[derive(Clone, Copy)]
 struct Ran {
-    seat: NodeSeat<Number>,
     answered: u32,
     strange: bool,
     length: usize,
 }
 
 // The run of a node.
-fn run(mail: &Mail<Number>, actor: Adding, node: u8, served: &AtomicU64) -> Ran
-    requires { Owns mail.now actor.seat }
-    ensures { Owns mail.now result.seat }
+fn run(mail: &Mail<Number>, actor: &mut Adding, node: u8, served: &AtomicU64) -> Ran
+    requires { Owns mail.now actor.old.seat }
+    ensures { Owns mail.now actor.new.seat }
 {
-    let mut actor = actor;
     let mut feed = Acts::of(node, served);
     let gate = Until { served };
-    let done = run_node(mail, &mut actor, &gate, &mut feed);
+    let done = run_node(mail, actor, &gate, &mut feed);
     let strange = feed.strange || done.is_err();
     drop(done);
-    let (seat, log) = actor.leave();
-    let length = log.applied().len();
-    drop(log);
     Ran {
-        seat,
         answered: feed.answered,
         strange,
-        length,
+        length: actor.log().len(),
     }
 }
 
 // Three runs side by side.
-fn run_all<R: Threads + Sync>(
+fn run_all<R: Threads>(
     rt: &R,
     mail: &Mail<Number>,
-    one: Adding,
-    two: Adding,
-    three: Adding,
+    one: &mut Adding,
+    two: &mut Adding,
+    three: &mut Adding,
 ) -> (Ran, (Ran, Ran))
-    requires one { Owns mail.now one.seat }
-    requires two { Owns mail.now two.seat }
-    requires three { Owns mail.now three.seat }
-    ensures one { Owns mail.entry.now result.0.seat }
-    ensures two { Owns mail.entry.now result.1.0.seat }
-    ensures three { Owns mail.entry.now result.1.1.seat }
+    requires one { Owns mail.now one.old.seat }
+    requires two { Owns mail.now two.old.seat }
+    requires three { Owns mail.now three.old.seat }
+    ensures one { Owns mail.now one.new.seat }
+    ensures two { Owns mail.now two.new.seat }
+    ensures three { Owns mail.now three.new.seat }
 {
     let served = AtomicU64::new(0);
-    join(
+    join_mut(
         rt,
-        || -> Ran
-            requires { Owns mail.now one.seat }
-            ensures { Owns mail.entry.now result.seat }
+        &mut || -> Ran
+            requires { Owns mail.now one.now.seat }
+            ensures { Owns mail.entry.now one.exit.now.seat }
         { run(mail, one, 1, &served) },
-        || -> (Ran, Ran)
-            requires sync { IsSync R.row }
-            requires two { Owns mail.now two.seat }
-            requires three { Owns mail.now three.seat }
-            ensures { Owns mail.entry.now result.0.seat × Owns mail.entry.now result.1.seat }
+        &mut || -> (Ran, Ran)
+            requires two { Owns mail.now two.now.seat }
+            requires three { Owns mail.now three.now.seat }
+            ensures { Owns mail.entry.now two.exit.now.seat × Owns mail.entry.now three.exit.now.seat }
         {
-            join(
+            join_mut(
                 rt,
-                || -> Ran
-                    requires { Owns mail.now two.seat }
-                    ensures { Owns mail.entry.now result.seat }
+                &mut || -> Ran
+                    requires { Owns mail.now two.now.seat }
+                    ensures { Owns mail.entry.now two.exit.now.seat }
                 { run(mail, two, 2, &served) },
-                || -> Ran
-                    requires { Owns mail.now three.seat }
-                    ensures { Owns mail.entry.now result.seat }
+                &mut || -> Ran
+                    requires { Owns mail.now three.now.seat }
+                    ensures { Owns mail.entry.now three.exit.now.seat }
                 { run(mail, three, 3, &served) },
             )
         },
     )
 }
 
-// The runs of the actors of these seats, if they can be opened.
-fn run_opened<R: Threads + Sync>(
-    rt: &R,
+// Asserts that a node answered all its acts, in order, and that its log has them; gives how long the log was.
+fn ended(rt: &impl Abort, ran: Ran) -> u64 {
+    assert_eq!(rt; ran.answered, ACTS);
+    assert!(rt; !ran.strange);
+    assert!(rt; ACTS as usize <= ran.length);
+    ran.length as u64
+}
+
+// Three nodes that run side by side, and how long their logs are then.
+#[derive(Drop)]
+struct Side<'a, R> {
+    rt: &'a R,
     alloc: Global,
-    mail: &Mail<Number>,
-    seats: &mut Vec<NodeSeat<Number>>,
-    members: Members,
-) -> Option<(Ran, (Ran, Ran))>
-    requires fresh { All (IsFresh mail.now) seats.old.items }
-    requires members { members ≡ mail.now.members }
-    ensures one { IfSome result (λ all. Owns mail.now all.0.seat) }
-    ensures two { IfSome result (λ all. Owns mail.now all.1.0.seat) }
-    ensures three { IfSome result (λ all. Owns mail.now all.1.1.seat) }
-{
-    let three = adding(alloc, mail, seats, members);
-    let two = adding(alloc, mail, seats, members);
-    let one = adding(alloc, mail, seats, members);
-    let (one, two, three) = all_three(one, two, three)?;
-    Some(run_all(rt, mail, one, two, three))
+    lengths: [u64; 7],
 }
 
-// Asserts that a node answered all its acts, in order, and that its log has them; gives its seat, and how long the log was.
-fn ended(rt: &impl Abort, ran: Ran) -> (NodeSeat<Number>, u64)
-    ensures { result.0 ≡ ran.seat }
-{
-    let Ran {
-        seat,
-        answered,
-        strange,
-        length,
-    } = ran;
-    assert_eq!(rt; answered, ACTS);
-    assert!(rt; !strange);
-    assert!(rt; ACTS as usize <= length);
-    (seat, length as u64)
-}
+impl<R: Abort + Threads> Life<Count, MemKeeper<Number>> for Side<'_, R> {
+    fn machine(&self) -> Count {
+        Count::new(self.alloc)
+    }
 
-// Asserts that all nodes answered their acts, and that the lengths of their logs are those gathered.
-fn end(rt: &impl Abort, alloc: Global, mail: Mail<Number>, one: Ran, two: Ran, three: Ran)
-    requires one { Owns mail one.seat }
-    requires two { Owns mail two.seat }
-    requires three { Owns mail three.seat }
-{
-    let (one, first) = ended(rt, one);
-    let (two, second) = ended(rt, two);
-    let (three, third) = ended(rt, three);
-    let lengths = gathered(alloc, mail, Some((one, two, three)));
-    assert!(rt; lengths == Some([first, second, third, 0, 0, 0, 0]));
-}
+    fn keeper(&self) -> MemKeeper<Number> {
+        MemKeeper::new(self.alloc)
+    }
 
-fn each_answers<R: Abort + Threads + Sync>(
-    rt: &R,
-    alloc: Global,
-    mail: Mail<Number>,
-    seats: &mut Vec<NodeSeat<Number>>,
-    members: Members,
-) -> Result<(), Fail>
-    requires fresh { All (IsFresh mail) seats.old.items }
-    requires members { members ≡ mail.members }
-{
-    let Some((one, (two, three))) = run_opened(rt, alloc, &mail, seats, members) else {
-        drop(mail);
-        return Err(Fail::from("no three actors"));
-    };
-    end(rt, alloc, mail, one, two, three);
-    Ok(())
+    fn reopened(&self, keeper: MemKeeper<Number>) -> MemKeeper<Number> {
+        keeper.reopen()
+    }
+
+    fn live(
+        &mut self,
+        mail: &Mail<Number>,
+        one: &mut Adding,
+        two: &mut Adding,
+        three: &mut Adding,
+        _heard: &mut Heard<Sum>,
+    ) -> bool {
+        let (first, (second, third)) = run_all(self.rt, mail, one, two, three);
+        let (first, second) = (ended(self.rt, first), ended(self.rt, second));
+        self.lengths = [first, second, ended(self.rt, third), 0, 0, 0, 0];
+        false
+    }
+
+    fn live_on(
+        &mut self,
+        _mail: &Mail<Number>,
+        _one: &mut Adding,
+        _two: &mut Adding,
+        _three: &mut Adding,
+        _heard: &mut Heard<Sum>,
+    ) {}
+
+    fn end(&self, _heard: &Heard<Sum>, lengths: &[u64; 7]) {
+        assert!(self.rt; *lengths == self.lengths);
+    }
 }
 
 #[test]
-fn each_node_answers_its_acts_in_order(rt: HostRuntime) -> Result<(), Fail> {
-    let members = Members::new(3).ok_or("3 members")?;
-    let mut office = Office::new();
-    let (mail, mut seats) = found::<Number>(rt.alloc(), &mut office, members)?;
-    each_answers(&rt, rt.alloc(), mail, &mut seats, members)
+fn each_node_answers_its_acts_in_order(rt: HostRuntime) {
+    let mut side = Side {
+        rt: &rt,
+        alloc: rt.alloc(),
+        lengths: [0; 7],
+    };
+    live::<Count, MemKeeper<Number>, _>(&rt, rt.alloc(), &mut side);
 }

@@ -2,4 +2,4 @@ use Rattle.mail_table.specs.Seats.{Owns}
 use Rattle.run_tests.proofs.outboxes.ticks.Given as goal
 
 abbrev pub invariant-loop : goal.invariant-loop
-invariant-loop l = Owns l.mail l.actor.seat
+invariant-loop g l = Owns l.mail l.actor.seat
