@@ -1,8 +1,8 @@
 // When a node ticks, begins a ballot and suspects another.
 use paxos_packets::Members;
 use serve_ticks::{Due, Ticks};
+use std::panic::Expect;
 use std::process::Abort;
-use std::test::Fail;
 
 // So many turns without a packet.
 fn rest(ticks: &mut Ticks, turns: u64, is_pending: bool) {
@@ -64,9 +64,8 @@ fn suspects(rt: &impl Abort, members: Members) {
 }
 
 #[test]
-fn ticks_starts_and_suspects_when_it_is_time(rt: HostRuntime) -> Result<(), Fail> {
-    let members = Members::new(3).ok_or("three members")?;
+fn ticks_starts_and_suspects_when_it_is_time(rt: HostRuntime) {
+    let members = Members::new(3).expect(&rt, "three members");
     starts(&rt, members);
     suspects(&rt, members);
-    Ok(())
 }

@@ -1,4 +1,6 @@
-// A feed over rings that are made by hand: which events come out, what it answers itself, and where it puts what the node says.
+// A feed over rings that are made by hand: which events come out, what it answers itself, and where it puts what the node says. One function
+// owns the gate and the feed, and lends them to what happens there. What cannot be had, as memory or a socket, ends the test at once, so that
+// no other way out drops what a test has.
 use actor_run::{Feed, Gate, Seen};
 use bytes::Bytes;
 use client_listener::{FromClient, ToClient};
@@ -9,12 +11,12 @@ use realm_machine::{Out, Say};
 use rtrb::{Consumer, Producer, RingBuffer};
 use serve_feed::{ClientFeed, Home, Pace, Paced};
 use serve_lanes::{Arrival, Line, Lobby, REQUESTS_WAITING, SAYINGS_WAITING};
-use std::alloc::{AllocError, Global};
+use std::alloc::Global;
 use std::io::Read;
 use std::net::{Net, TcpListener, TcpStream};
+use std::panic::Expect;
 use std::process::Abort;
 use std::sync::{Arc, Wait};
-use std::test::Fail;
 use std::time::Clock;
 use wamp_messages::{Read as ReadResult, read};
 
@@ -54,61 +56,60 @@ struct Client {
 }
 
 // A stream over loopback, from both sides.
-fn streams<R: Net<Listener = TcpListener, Stream = TcpStream>>(
+fn streams<R: Abort + Net<Listener = TcpListener, Stream = TcpStream>>(
     rt: &R,
-) -> Result<(TcpStream, TcpStream), Fail> {
-    let listener = TcpListener::bind(rt, "127.0.0.1:0")?;
-    let ours = TcpStream::connect(rt, listener.local_addr()?)?;
-    let (theirs, _address) = listener.accept()?;
-    Ok((ours, theirs))
+) -> (TcpStream, TcpStream) {
+    let listener = TcpListener::bind(rt, "127.0.0.1:0").expect(rt, "a port");
+    let address = listener.local_addr().expect(rt, "an address");
+    let ours = TcpStream::connect(rt, address).expect(rt, "a connection");
+    let (theirs, _address) = listener.accept().expect(rt, "its other end");
+    drop(listener);
+    (ours, theirs)
+}
+
+// Puts an item into a ring, which has room for it.
+fn put<T>(rt: &impl Abort, ring: &mut Producer<T>, item: T) {
+    ring.push(item).expect(rt, "room in a ring");
 }
 
 // A connection that arrives.
-fn connect<R: Net<Listener = TcpListener, Stream = TcpStream>>(
+fn connect<R: Abort + Net<Listener = TcpListener, Stream = TcpStream>>(
     rt: &R,
     alloc: Global,
     arrivals: &mut Producer<Arrival>,
-) -> Result<Client, Fail> {
-    let (ours, theirs) = streams(rt)?;
-    let line = Line::over(alloc, theirs)?;
-    let (items, node_items) = RingBuffer::new(alloc, REQUESTS_WAITING)?;
-    let (node_replies, replies) = RingBuffer::new(alloc, SAYINGS_WAITING)?;
-    let pushed = arrivals.push(Arrival {
+) -> Client {
+    let (stream, theirs) = streams(rt);
+    let line = Line::over(alloc, theirs).expect(rt, "a line");
+    let (items, node_items) = RingBuffer::new(alloc, REQUESTS_WAITING).expect(rt, "a ring");
+    let (node_replies, replies) = RingBuffer::new(alloc, SAYINGS_WAITING).expect(rt, "a ring");
+    let arrival = Arrival {
         items: node_items,
         replies: node_replies,
         line,
-    });
-    if pushed.is_err() {
-        return Err(Fail::from("no room for an arrival"));
-    }
-    Ok(Client {
+    };
+    put(rt, arrivals, arrival);
+    Client {
         items,
         replies,
-        stream: ours,
-    })
+        stream,
+    }
 }
 
 // An item, by its letter.
-fn item_of(alloc: Global, letter: char) -> Result<FromClient, AllocError> {
-    Ok(match letter {
+fn item_of(rt: &impl Abort, alloc: Global, letter: char) -> FromClient {
+    match letter {
         'C' => FromClient::Connect,
-        'P' => FromClient::Ping(Bytes::copy_from_slice(alloc, b"hi")?),
-        'S' => match read(alloc, b"[48,1,{},\"a\"]") {
-            Ok(read) => FromClient::Read(read),
-            Err(_) => FromClient::Hung,
-        },
+        'P' => FromClient::Ping(Bytes::copy_from_slice(alloc, b"hi").expect(rt, "a payload")),
+        'S' => FromClient::Read(read(alloc, b"[48,1,{},\"a\"]").expect(rt, "a message")),
         _ => FromClient::Hung,
-    })
+    }
 }
 
 // Puts items into the client's ring, by their letters.
-fn send(alloc: Global, client: &mut Client, letters: &str) -> Result<bool, Fail> {
-    let mut had_room = true;
+fn send(rt: &impl Abort, alloc: Global, client: &mut Client, letters: &str) {
     for letter in letters.chars() {
-        let item = item_of(alloc, letter)?;
-        had_room = client.items.push(item).is_ok() && had_room;
+        put(rt, &mut client.items, item_of(rt, alloc, letter));
     }
-    Ok(had_room)
 }
 
 // The letter of what a client is told.
@@ -124,102 +125,134 @@ fn letter_of(saying: &ToClient) -> char {
     }
 }
 
-// The letters of what a client was told.
-fn told(alloc: Global, client: &mut Client) -> Result<String, Fail> {
-    let mut letters = String::new(alloc);
-    for _ in 0..2 * SAYINGS_WAITING {
-        let Ok(saying) = client.replies.pop() else {
-            break;
-        };
-        let letter = letter_of(&saying);
-        drop(saying);
-        letters.push(letter)?;
-    }
-    Ok(letters)
+// The letter of the next saying in a ring, which is taken out.
+fn next_letter(replies: &mut Consumer<ToClient>) -> Option<char> {
+    let Ok(saying) = replies.pop() else {
+        return None;
+    };
+    let letter = letter_of(&saying);
+    drop(saying);
+    Some(letter)
 }
 
-// The letters of an event: an act by its transport.
-fn put_event(letters: &mut String, event: &Event<Act>) -> Result<(), AllocError> {
+// A client was told what these letters say, and nothing more.
+fn is_told(rt: &impl Abort, client: &mut Client, letters: &str) {
+    for letter in letters.chars() {
+        assert_eq!(rt; next_letter(&mut client.replies), Some(letter));
+    }
+    assert_eq!(rt; next_letter(&mut client.replies), None);
+}
+
+// The letters of an event: an act's, with its transport's number before it; another event's, with none.
+fn letters_of(event: &Event<Act>) -> (Option<char>, char) {
     match event {
         Event::Take {
             transport,
             body,
             ..
         } => {
-            letters.push(char::from_digit(*transport, 10).unwrap_or('?'))?;
-            letters.push(match body {
+            let letter = match body {
                 Act::Connect => 'C',
                 Act::Said { .. } => 'S',
                 Act::Hung => 'H',
-            })
+            };
+            let number = char::from_digit(*transport, 10).unwrap_or('?');
+            (Some(number), letter)
         },
-        Event::Tick { .. } => letters.push('t'),
-        Event::Start { .. } => letters.push('b'),
-        Event::Suspect { .. } => letters.push('s'),
-        _ => letters.push('?'),
+        Event::Tick { .. } => (None, 't'),
+        Event::Start { .. } => (None, 'b'),
+        Event::Suspect { .. } => (None, 's'),
+        _ => (None, '?'),
     }
 }
 
-// The letters of a round's events.
-fn round<F: Feed<Act, Say>, G: Gate>(
+// The letters of the feed's next event.
+fn next_event<F: Feed<Act, Say>>(feed: &mut F, seen: &Seen) -> Option<(Option<char>, char)> {
+    let Some(event) = feed.next(*seen) else {
+        return None;
+    };
+    let letters = letters_of(&event);
+    drop(event);
+    Some(letters)
+}
+
+// Appends the letters of a round's events.
+fn put_round<F: Feed<Act, Say>, G: Gate>(
+    rt: &impl Abort,
+    gate: &G,
+    feed: &mut F,
+    seen: &Seen,
+    letters: &mut String,
+) {
+    if !gate.pass(NODE, 1) {
+        return;
+    }
+    for _ in 0..64 {
+        let Some((number, letter)) = next_event(feed, seen) else {
+            return;
+        };
+        if let Some(number) = number {
+            letters.push(number).expect(rt, "room for a number");
+        }
+        letters.push(letter).expect(rt, "room for a letter");
+    }
+}
+
+// The events of a round have these letters.
+fn gives<F: Feed<Act, Say>, G: Gate>(
+    rt: &impl Abort,
     alloc: Global,
     gate: &G,
     feed: &mut F,
     seen: &Seen,
-) -> Result<String, Fail> {
+    wanted: &str,
+) {
     let mut letters = String::new(alloc);
-    if !gate.pass(NODE, 1) {
-        return Ok(letters);
-    }
-    for _ in 0..64 {
-        let Some(event) = feed.next(*seen) else {
-            break;
-        };
-        let put = put_event(&mut letters, &event);
-        drop(event);
-        put?;
-    }
-    Ok(letters)
+    put_round(rt, gate, feed, seen, &mut letters);
+    assert_eq!(rt; letters.as_str(), wanted);
+    drop(letters);
 }
 
 // A saying for the transport with this number, in this boot.
-fn say(alloc: Global, boot: u64, number: u32) -> Option<Say> {
-    let Ok(ReadResult::Good(message)) = read(alloc, b"[33,1,1]") else {
-        return None;
+fn say(rt: &impl Abort, alloc: Global, boot: u64, number: u32) -> Say {
+    let read = read(alloc, b"[33,1,1]").expect(rt, "room for a message");
+    let ReadResult::Good(message) = read else {
+        panic!(rt; "no message")
     };
-    Some(Say {
+    Say {
         transport: Transport {
             node: NODE,
             boot,
             number,
         },
         out: Out::Send(message),
-    })
+    }
 }
 
 // Hands sayings to the transports with these numbers.
 fn hand<F: Feed<Act, Say>>(
+    rt: &impl Abort,
     alloc: Global,
     feed: &mut F,
     boot: u64,
     numbers: &[u32],
-) -> Result<(), Fail> {
+) {
     let mut says = Vec::new(alloc);
     for number in numbers {
-        let say = say(alloc, boot, *number).ok_or("a message")?;
-        says.push(say)?;
+        says.push(say(rt, alloc, boot, *number))
+            .expect(rt, "room for a saying");
     }
     feed.hand(says);
-    Ok(())
 }
 
 // Where three nodes rest.
-fn lobbies(alloc: Global) -> Result<Vec<Arc<Lobby>>, Fail> {
+fn lobbies(rt: &impl Abort, alloc: Global) -> Vec<Arc<Lobby>> {
     let mut lobbies = Vec::new(alloc);
     for _ in 0..3 {
-        lobbies.push(Arc::new(alloc, Lobby::new())?)?;
+        let lobby = Arc::new(alloc, Lobby::new()).expect(rt, "a lobby");
+        lobbies.push(lobby).expect(rt, "room for a lobby");
     }
-    Ok(lobbies)
+    lobbies
 }
 
 // What two clients send, by its letters; whether somebody stirs then; and the letters of the round's events.
@@ -296,17 +329,17 @@ fn play<F: Feed<Act, Say>, G: Gate>(
     one: &mut Client,
     two: &mut Client,
     rows: &[Row],
-) -> Result<(), Fail> {
+) {
     for row in rows {
-        let sent = send(alloc, one, row.one)? && send(alloc, two, row.two)?;
+        send(rt, alloc, one, row.one);
+        send(rt, alloc, two, row.two);
         if row.stirs {
             lobby.stir();
         }
-        let letters = round(alloc, gate, feed, &quiet())?;
-        assert!(rt; sent && letters.as_str() == row.events);
+        gives(rt, alloc, gate, feed, &quiet(), row.events);
     }
-    Ok(())
 }
+
 // What two clients do comes out; a PING is answered behind what was said before, and what is said in another boot goes nowhere.
 fn acts<F: Feed<Act, Say>, G: Gate>(
     rt: &impl Abort,
@@ -316,15 +349,14 @@ fn acts<F: Feed<Act, Say>, G: Gate>(
     lobby: &Lobby,
     one: &mut Client,
     two: &mut Client,
-) -> Result<(), Fail> {
-    play(rt, alloc, gate, feed, lobby, one, two, ACTS)?;
-    hand(alloc, feed, BOOT, &[1, 2, 1])?;
-    hand(alloc, feed, BOOT - 1, &[1])?;
-    play(rt, alloc, gate, feed, lobby, one, two, PING)?;
-    hand(alloc, feed, BOOT, &[1])?;
-    assert_eq!(rt; told(alloc, one)?.as_str(), "pmmpm");
-    assert_eq!(rt; told(alloc, two)?.as_str(), "");
-    holds_back(rt, alloc, gate, feed, lobby, one)
+) {
+    play(rt, alloc, gate, feed, lobby, one, two, ACTS);
+    hand(rt, alloc, feed, BOOT, &[1, 2, 1]);
+    hand(rt, alloc, feed, BOOT - 1, &[1]);
+    play(rt, alloc, gate, feed, lobby, one, two, PING);
+    hand(rt, alloc, feed, BOOT, &[1]);
+    is_told(rt, one, "pmmpm");
+    is_told(rt, two, "");
 }
 
 // While entries are pending a node that does not lead gives four acts, and one that leads goes on, but while too many packets wait for another.
@@ -335,26 +367,25 @@ fn holds_back<F: Feed<Act, Say>, G: Gate>(
     feed: &mut F,
     lobby: &Lobby,
     client: &mut Client,
-) -> Result<(), Fail> {
-    let sent = send(alloc, client, "SSSSSSS")?;
+) {
+    send(rt, alloc, client, "SSSSSSS");
     lobby.stir();
     let mut seen = quiet();
     seen.pending = true;
-    assert!(rt; sent);
-    assert_eq!(rt; round(alloc, gate, feed, &seen)?.as_str(), "1S1S1S1S");
-    assert_eq!(rt; round(alloc, gate, feed, &seen)?.as_str(), "");
+    gives(rt, alloc, gate, feed, &seen, "1S1S1S1S");
+    gives(rt, alloc, gate, feed, &seen, "");
     seen.leads = true;
     seen.waiting[2] = 257;
-    assert_eq!(rt; round(alloc, gate, feed, &seen)?.as_str(), "");
+    gives(rt, alloc, gate, feed, &seen, "");
     seen.waiting[2] = 256;
-    assert_eq!(rt; round(alloc, gate, feed, &seen)?.as_str(), "1S1S1S");
-    Ok(())
+    gives(rt, alloc, gate, feed, &seen, "1S1S1S");
 }
 
 // Whether the stream has ended.
-fn has_ended(client: &mut Client) -> Result<bool, Fail> {
+fn has_ended(rt: &impl Abort, client: &mut Client) -> bool {
     let mut buffer = [0; 4];
-    Ok(client.stream.read(&mut buffer)? == 0)
+    let count = client.stream.read(&mut buffer).expect(rt, "a read");
+    count == 0
 }
 
 // A client for whom more than 1,024 sayings wait is closed, and nobody else; in another boot all are.
@@ -366,19 +397,18 @@ fn closes(
     lobby: &Lobby,
     one: &mut Client,
     two: &mut Client,
-) -> Result<(), Fail> {
-    play(rt, alloc, gate, feed, lobby, one, two, BOTH)?;
+) {
+    play(rt, alloc, gate, feed, lobby, one, two, BOTH);
     for _ in 0..SAYINGS_WAITING {
-        hand(alloc, feed, BOOT, &[1])?;
+        hand(rt, alloc, feed, BOOT, &[1]);
     }
-    play(rt, alloc, gate, feed, lobby, one, two, NOTHING)?;
-    hand(alloc, feed, BOOT, &[1, 2])?;
-    play(rt, alloc, gate, feed, lobby, one, two, HUNG)?;
-    assert!(rt; has_ended(one)?);
-    assert_eq!(rt; told(alloc, two)?.as_str(), "m");
+    play(rt, alloc, gate, feed, lobby, one, two, NOTHING);
+    hand(rt, alloc, feed, BOOT, &[1, 2]);
+    play(rt, alloc, gate, feed, lobby, one, two, HUNG);
+    assert!(rt; has_ended(rt, one));
+    is_told(rt, two, "m");
     feed.restart(BOOT + 1);
-    assert!(rt; has_ended(two)?);
-    Ok(())
+    assert!(rt; has_ended(rt, two));
 }
 
 // In the next boot transports are numbered from 1.
@@ -389,22 +419,126 @@ fn begins_anew(
     feed: &mut ClientFeed<'_>,
     lobby: &Lobby,
     three: &mut Client,
-) -> Result<(), Fail> {
-    assert!(rt; send(alloc, three, "C")?);
+) {
+    send(rt, alloc, three, "C");
     lobby.stir();
-    assert_eq!(rt; round(alloc, gate, feed, &quiet())?.as_str(), "1C");
-    Ok(())
+    gives(rt, alloc, gate, feed, &quiet(), "1C");
 }
 
-// Two clients that arrive.
-fn two_clients<R: Net<Listener = TcpListener, Stream = TcpStream>>(
+// Appends the letters of the first round with events; which round that was.
+fn first_event<F: Feed<Act, Say>, G: Gate>(
+    rt: &impl Abort,
+    gate: &G,
+    feed: &mut F,
+    letters: &mut String,
+) -> u32 {
+    for count in 1..1000 {
+        put_round(rt, gate, feed, &quiet(), letters);
+        if letters.len() > 0 {
+            return count;
+        }
+    }
+    panic!(rt; "no event came")
+}
+
+// The first event has this letter; in which round it came.
+fn comes<F: Feed<Act, Say>, G: Gate>(
+    rt: &impl Abort,
+    alloc: Global,
+    gate: &G,
+    feed: &mut F,
+    letter: &str,
+) -> u32 {
+    let mut letters = String::new(alloc);
+    let count = first_event(rt, gate, feed, &mut letters);
+    assert_eq!(rt; letters.as_str(), letter);
+    drop(letters);
+    count
+}
+
+// Node 1 begins a ballot at once; each node ticks after 64 rounds, and again once it has rested.
+fn ticks<F: Feed<Act, Say>, G: Gate>(
+    rt: &impl Abort,
+    alloc: Global,
+    gate: &G,
+    feed: &mut F,
+    is_first: bool,
+) {
+    if is_first {
+        assert_eq!(rt; comes(rt, alloc, gate, feed, "b"), 1);
+        assert_eq!(rt; comes(rt, alloc, gate, feed, "t"), 63);
+    } else {
+        assert_eq!(rt; comes(rt, alloc, gate, feed, "t"), 64);
+    }
+    assert!(rt; comes(rt, alloc, gate, feed, "t") >= 64);
+}
+
+// What happens at a node.
+#[derive(Clone, Copy)]
+enum Happens {
+    // Two clients do what they do, and are answered.
+    Acts,
+    // A client takes nothing and is closed; then the node begins its next boot, and one more comes.
+    Closes,
+    // Time passes.
+    Ticks,
+}
+
+// Two clients arrive, and do so.
+fn two_come<R: Abort + Net<Listener = TcpListener, Stream = TcpStream>>(
     rt: &R,
     alloc: Global,
+    gate: &impl Gate,
+    feed: &mut ClientFeed<'_>,
+    lobby: &Lobby,
     arrivals: &mut Producer<Arrival>,
-) -> Result<(Client, Client), Fail> {
-    let one = connect(rt, alloc, arrivals)?;
-    let two = connect(rt, alloc, arrivals)?;
-    Ok((one, two))
+    closes_one: bool,
+) {
+    let mut one = connect(rt, alloc, arrivals);
+    let mut two = connect(rt, alloc, arrivals);
+    if closes_one {
+        closes(rt, alloc, gate, feed, lobby, &mut one, &mut two);
+    } else {
+        acts(rt, alloc, gate, feed, lobby, &mut one, &mut two);
+        holds_back(rt, alloc, gate, feed, lobby, &mut one);
+    }
+    drop::<Client>(one);
+    drop::<Client>(two);
+}
+
+// One more client arrives, in the next boot.
+fn one_more_comes<R: Abort + Net<Listener = TcpListener, Stream = TcpStream>>(
+    rt: &R,
+    alloc: Global,
+    gate: &impl Gate,
+    feed: &mut ClientFeed<'_>,
+    lobby: &Lobby,
+    arrivals: &mut Producer<Arrival>,
+) {
+    let mut three = connect(rt, alloc, arrivals);
+    begins_anew(rt, alloc, gate, feed, lobby, &mut three);
+    drop::<Client>(three);
+}
+
+// This happens at a node.
+fn happen<R: Abort + Net<Listener = TcpListener, Stream = TcpStream>>(
+    rt: &R,
+    alloc: Global,
+    gate: &impl Gate,
+    feed: &mut ClientFeed<'_>,
+    lobby: &Lobby,
+    arrivals: &mut Producer<Arrival>,
+    node: u8,
+    happens: Happens,
+) {
+    match happens {
+        Happens::Acts => two_come(rt, alloc, gate, feed, lobby, arrivals, false),
+        Happens::Closes => {
+            two_come(rt, alloc, gate, feed, lobby, arrivals, true);
+            one_more_comes(rt, alloc, gate, feed, lobby, arrivals);
+        }
+        Happens::Ticks => ticks(rt, alloc, gate, feed, node == 1),
+    }
 }
 
 // Where the node of this number is at home.
@@ -426,8 +560,8 @@ fn home_of<'a>(
     }
 }
 
-// A gate and a feed, and what two clients do there.
-fn gives_at<'a, R: Wait + Clock + Abort + Net<Listener = TcpListener, Stream = TcpStream>>(
+// A gate and a feed at a node, and what happens there.
+fn at_home<'a, R: Wait + Clock + Abort + Net<Listener = TcpListener, Stream = TcpStream>>(
     rt: &'a R,
     alloc: Global,
     open: &'a Open,
@@ -436,157 +570,56 @@ fn gives_at<'a, R: Wait + Clock + Abort + Net<Listener = TcpListener, Stream = T
     lobby: &'a Lobby,
     lobbies: &'a [Arc<Lobby>],
     pace: &'a Pace,
-) -> Result<(), Fail> {
-    let (mut arrivals, arrived) = RingBuffer::new(alloc, 64)?;
-    let home = home_of(node, members, lobby, lobbies, pace);
-    let gate = Paced::new(rt, home, open);
+    happens: Happens,
+) {
+    let (mut arrivals, arrived) = RingBuffer::new(alloc, 64).expect(rt, "a ring");
+    let gate = Paced::new(rt, home_of(node, members, lobby, lobbies, pace), open);
     let home = home_of(node, members, lobby, lobbies, pace);
     let mut feed = ClientFeed::new(alloc, home, BOOT, arrived);
-    let (mut one, mut two) = two_clients(rt, alloc, &mut arrivals)?;
-    let done = acts(rt, alloc, &gate, &mut feed, lobby, &mut one, &mut two);
-    drop::<Client>(one);
-    drop::<Client>(two);
-    done
-}
-
-#[test]
-fn gives_what_clients_do_and_answers_a_ping_in_its_place(rt: HostRuntime) -> Result<(), Fail> {
-    let lobbies = lobbies(rt.alloc())?;
-    let lobby = lobbies.get(1).ok_or("a lobby")?;
-    let members = Members::new(3).ok_or("three members")?;
-    let pace = Pace::new();
-    gives_at(
-        &rt,
-        rt.alloc(),
-        &Open,
-        NODE,
-        members,
+    happen(
+        rt,
+        alloc,
+        &gate,
+        &mut feed,
         lobby,
-        &lobbies,
-        &pace,
-    )
-}
-
-// A gate and a feed, and a client for whom there is no room.
-fn closes_at<'a, R: Wait + Clock + Abort + Net<Listener = TcpListener, Stream = TcpStream>>(
-    rt: &'a R,
-    alloc: Global,
-    open: &'a Open,
-    node: u8,
-    members: Members,
-    lobby: &'a Lobby,
-    lobbies: &'a [Arc<Lobby>],
-    pace: &'a Pace,
-) -> Result<(), Fail> {
-    let (mut arrivals, arrived) = RingBuffer::new(alloc, 64)?;
-    let home = home_of(node, members, lobby, lobbies, pace);
-    let gate = Paced::new(rt, home, open);
-    let home = home_of(node, members, lobby, lobbies, pace);
-    let mut feed = ClientFeed::new(alloc, home, BOOT, arrived);
-    let (mut one, mut two) = two_clients(rt, alloc, &mut arrivals)?;
-    let done = closes(rt, alloc, &gate, &mut feed, lobby, &mut one, &mut two);
-    drop::<Client>(one);
-    drop::<Client>(two);
-    done?;
-    let mut three = connect(rt, alloc, &mut arrivals)?;
-    let done = begins_anew(rt, alloc, &gate, &mut feed, lobby, &mut three);
-    drop::<Client>(three);
-    done
-}
-
-#[test]
-fn closes_a_client_that_takes_nothing_and_begins_anew(rt: HostRuntime) -> Result<(), Fail> {
-    let lobbies = lobbies(rt.alloc())?;
-    let lobby = lobbies.get(1).ok_or("a lobby")?;
-    let members = Members::new(3).ok_or("three members")?;
-    let pace = Pace::new();
-    closes_at(
-        &rt,
-        rt.alloc(),
-        &Open,
-        NODE,
-        members,
-        lobby,
-        &lobbies,
-        &pace,
-    )
-}
-
-// In which round the first event comes, and its letter.
-fn first_event<F: Feed<Act, Say>, G: Gate>(
-    alloc: Global,
-    gate: &G,
-    feed: &mut F,
-) -> Result<(u32, String), Fail> {
-    for count in 1..1000 {
-        let letters = round(alloc, gate, feed, &quiet())?;
-        if letters.len() > 0 {
-            return Ok((count, letters));
-        }
-    }
-    Err(Fail::from("no event came"))
-}
-
-// Node 1 begins a ballot at once; each node ticks after 64 rounds, and again once it has rested.
-fn ticks<G: Gate>(
-    rt: &impl Abort,
-    alloc: Global,
-    gate: &G,
-    feed: &mut ClientFeed<'_>,
-    is_first: bool,
-) -> Result<(), Fail> {
-    if is_first {
-        let (count, letters) = first_event(alloc, gate, feed)?;
-        assert!(rt; count == 1 && letters.as_str() == "b");
-        let (count, letters) = first_event(alloc, gate, feed)?;
-        assert!(rt; count == 63 && letters.as_str() == "t");
-    } else {
-        let (count, letters) = first_event(alloc, gate, feed)?;
-        assert!(rt; count == 64 && letters.as_str() == "t");
-    }
-    let (count, letters) = first_event(alloc, gate, feed)?;
-    assert!(rt; count >= 64 && letters.as_str() == "t");
-    Ok(())
-}
-
-// A gate and a feed at a node, and what time brings there.
-fn ticks_at<'a, R: Wait + Clock + Abort>(
-    rt: &'a R,
-    alloc: Global,
-    open: &'a Open,
-    node: u8,
-    members: Members,
-    lobby: &'a Lobby,
-    lobbies: &'a [Arc<Lobby>],
-    pace: &'a Pace,
-) -> Result<(), Fail> {
-    let (arrivals, arrived) = RingBuffer::new(alloc, 64)?;
-    let home = home_of(node, members, lobby, lobbies, pace);
-    let gate = Paced::new(rt, home, open);
-    let home = home_of(node, members, lobby, lobbies, pace);
-    let mut feed = ClientFeed::new(alloc, home, BOOT, arrived);
-    let done = ticks(rt, alloc, &gate, &mut feed, node == 1);
+        &mut arrivals,
+        node,
+        happens,
+    );
+    drop(feed);
     drop::<Producer<Arrival>>(arrivals);
-    done
+}
+
+// This happens at a node of three.
+fn at_node<R: Wait + Clock + Abort + Net<Listener = TcpListener, Stream = TcpStream>>(
+    rt: &R,
+    alloc: Global,
+    node: u8,
+    happens: Happens,
+) {
+    let members = Members::new(3).expect(rt, "three members");
+    let lobbies = lobbies(rt, alloc);
+    let lobby = lobbies.get(1).expect(rt, "a lobby");
+    let pace = Pace::new();
+    at_home(
+        rt, alloc, &Open, node, members, lobby, &lobbies, &pace, happens,
+    );
+    drop(lobbies);
 }
 
 #[test]
-fn ticks_after_64_rounds_and_starts_at_once_at_node_1(rt: HostRuntime) -> Result<(), Fail> {
-    let lobbies = lobbies(rt.alloc())?;
-    let lobby = lobbies.get(1).ok_or("a lobby")?;
-    let members = Members::new(3).ok_or("three members")?;
+fn gives_what_clients_do_and_answers_a_ping_in_its_place(rt: HostRuntime) {
+    at_node(&rt, rt.alloc(), NODE, Happens::Acts);
+}
+
+#[test]
+fn closes_a_client_that_takes_nothing_and_begins_anew(rt: HostRuntime) {
+    at_node(&rt, rt.alloc(), NODE, Happens::Closes);
+}
+
+#[test]
+fn ticks_after_64_rounds_and_starts_at_once_at_node_1(rt: HostRuntime) {
     for node in 1..3 {
-        let pace = Pace::new();
-        ticks_at(
-            &rt,
-            rt.alloc(),
-            &Open,
-            node,
-            members,
-            lobby,
-            &lobbies,
-            &pace,
-        )?;
+        at_node(&rt, rt.alloc(), node, Happens::Ticks);
     }
-    Ok(())
 }
