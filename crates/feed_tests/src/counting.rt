@@ -35,37 +35,56 @@ fn over(ticks: &mut Ticks, times: u64, is_pending: bool, hears: Option<u8>) -> (
     due
 }
 
-// When ticks and ballots are due.
-fn starts(rt: &impl Abort, members: Members) {
-    let mut first = Ticks::new(1, members);
-    assert_eq!(rt; first.next(), Some(Due::Start));
-    assert_eq!(rt; first.next(), None);
-    let mut ticks = Ticks::new(2, members);
-    rest(&mut ticks, 63, false);
-    assert_eq!(rt; ticks.next(), None);
-    rest(&mut ticks, 1, false);
-    assert_eq!(rt; ticks.next(), Some(Due::Tick));
-    assert_eq!(rt; ticks.next(), None);
-    assert_eq!(rt; over(&mut ticks, 600, false, None), (600, 0, 0));
-    assert_eq!(rt; over(&mut ticks, 510, true, None), (510, 0, 0));
-    assert_eq!(rt; over(&mut ticks, 1, true, None), (1, 1, 0));
-    assert_eq!(rt; over(&mut ticks, 511, true, None), (511, 0, 0));
-    assert_eq!(rt; over(&mut ticks, 1, true, None), (1, 1, 0));
+// So many times, whether entries are pending, whom a packet of is heard each time; and what is due behind them.
+type Row = (u64, bool, Option<u8>, (u64, u64, u64));
+
+fn go_over(rt: &impl Abort, ticks: &mut Ticks, rows: &[Row]) {
+    for (times, is_pending, hears, due) in rows {
+        assert!(rt; over(ticks, *times, *is_pending, *hears) == *due);
+    }
 }
 
-// Who is suspected, and when.
-fn suspects(rt: &impl Abort, members: Members) {
-    let mut ticks = Ticks::new(2, members);
-    assert_eq!(rt; over(&mut ticks, 4095, false, Some(1)), (4095, 0, 0));
-    assert_eq!(rt; over(&mut ticks, 1, false, Some(1)), (1, 0, 3));
-    assert_eq!(rt; over(&mut ticks, 4094, false, None), (4094, 0, 0));
-    assert_eq!(rt; over(&mut ticks, 1, false, None), (1, 0, 1));
-    assert_eq!(rt; over(&mut ticks, 1, false, None), (1, 0, 3));
+// Node 1 begins a ballot at once.
+fn starts_at_once(rt: &impl Abort, members: Members) {
+    let mut first = Ticks::new(1, members);
+    assert!(rt; first.next() == Some(Due::Start));
+    assert!(rt; first.next().is_none());
 }
+
+// The first tick.
+fn ticks_first(rt: &impl Abort, ticks: &mut Ticks) {
+    rest(ticks, 63, false);
+    assert!(rt; ticks.next().is_none());
+    rest(ticks, 1, false);
+    assert!(rt; ticks.next() == Some(Due::Tick));
+    assert!(rt; ticks.next().is_none());
+}
+
+// When ticks and ballots are due.
+const STARTS: &[Row] = &[
+    (600, false, None, (600, 0, 0)),
+    (510, true, None, (510, 0, 0)),
+    (1, true, None, (1, 1, 0)),
+    (511, true, None, (511, 0, 0)),
+    (1, true, None, (1, 1, 0)),
+];
+
+// Who is suspected, and when.
+const SUSPECTS: &[Row] = &[
+    (4095, false, Some(1), (4095, 0, 0)),
+    (1, false, Some(1), (1, 0, 3)),
+    (4094, false, None, (4094, 0, 0)),
+    (1, false, None, (1, 0, 1)),
+    (1, false, None, (1, 0, 3)),
+];
 
 #[test]
 fn ticks_starts_and_suspects_when_it_is_time(rt: HostRuntime) {
     let members = Members::new(3).expect(&rt, "three members");
-    starts(&rt, members);
-    suspects(&rt, members);
+    starts_at_once(&rt, members);
+    let mut ticks = Ticks::new(2, members);
+    ticks_first(&rt, &mut ticks);
+    go_over(&rt, &mut ticks, STARTS);
+    let mut ticks = Ticks::new(2, members);
+    go_over(&rt, &mut ticks, SUSPECTS);
 }
