@@ -56,10 +56,7 @@ pub fn opened<'a, M: Machine, K: Keeper<M::Body>>(
 impl<'a, M: Machine, K: Keeper<M::Body>> Station<'a, M, K> {
     /// The node begins a ballot.
     pub fn start(&mut self) {
-        match self.actor.start(self.mail) {
-            Ok(said) => drop(said),
-            Err(fault) => drop(fault),
-        }
+        drop(self.actor.start(self.mail));
     }
 
     /// What is left once the node has gone down.
