@@ -36,15 +36,24 @@ fn put_all<Y: Drop>(says: &mut Vec<Y>, more: Option<Vec<Y>>) -> Result<(), Fail>
     Ok(())
 }
 
+fn hear_fault<Y: Drop>(
+    heard: &mut Heard<Y>,
+    fault: (u8, u8),
+    says: Option<Vec<Y>>,
+) -> Result<(), Fail> {
+    put_all(&mut heard.lost, says)?;
+    heard.faults.push(fault)?;
+    Ok(())
+}
+
 /// Keeps what a call of a node answered.
 pub fn hear<Y: Drop>(heard: &mut Heard<Y>, node: u8, done: Answer<Y>) -> Result<(), Fail> {
     let (says, number) = told_of(done);
     if number == 0 {
-        return put_all(&mut heard.says, says);
+        put_all(&mut heard.says, says)
+    } else {
+        hear_fault(heard, (node, number), says)
     }
-    put_all(&mut heard.lost, says)?;
-    heard.faults.push((node, number))?;
-    Ok(())
 }
 
 /// The fault of a call, 0 where there is none.
@@ -119,17 +128,23 @@ fn told<B>(entry: &Entry<B>) -> Told {
     }
 }
 
+// Whether these are the entries.
+fn are_told<B>(log: &[Entry<B>], wants: &[Told]) -> bool {
+    for (entry, want) in log.iter().zip(wants) {
+        if told(entry) != *want {
+            return false;
+        }
+    }
+    log.len() == wants.len()
+}
+
 /// Asserts what the log of a node is.
 pub fn has_log<M: Machine, K: Keeper<M::Body>>(
     rt: &impl Abort,
     station: &Station<'_, M, K>,
     wants: &[Told],
 ) {
-    let log = station.log();
-    assert_eq!(rt; log.len(), wants.len());
-    for (entry, want) in log.iter().zip(wants) {
-        assert_eq!(rt; told(entry), *want);
-    }
+    assert!(rt; are_told(station.log(), wants));
 }
 
 /// Asserts what the logs of all nodes are.

@@ -1,8 +1,8 @@
 // Three actors with a machine that adds up.
-use crate::carrying::{Heard, Told, all_turns, at, have_log, hear};
+use crate::carrying::{Heard, Told, all_turns, at, have_log, hear, number};
 use crate::trial::{Trial, tried};
 use acceptor_keeper::MemKeeper;
-use core_stands::{Source, Station, close_log};
+use core_stands::{Answer, Source, Station, close_log};
 use core_tests::{Count, Number};
 use paxos_packets::Transport;
 use std::alloc::Global;
@@ -41,36 +41,96 @@ impl Source<Count, MemKeeper<Number>> for Failing {
     }
 }
 
-/// The node begins a ballot.
-pub fn start(stations: &mut [Counting<'_>], heard: &mut Heard<Sum>, node: u8) -> Result<(), Fail> {
-    let done = at(stations, node)?.start();
-    hear(heard, node, done)
+/// What an actor is asked for.
+#[derive(Clone, Copy)]
+pub enum Asked {
+    /// It begins a ballot.
+    Start,
+    /// Time has passed.
+    Tick,
+    /// A turn.
+    Turn,
+    /// It takes this number of this transport.
+    Take { transport: u32, number: u32 },
 }
 
-/// Time has passed at the node.
-pub fn tick(stations: &mut [Counting<'_>], heard: &mut Heard<Sum>, node: u8) -> Result<(), Fail> {
-    let done = at(stations, node)?.tick();
-    hear(heard, node, done)
+/// What the actor answers.
+pub fn ask(station: &mut Counting<'_>, asked: Asked) -> Answer<Sum> {
+    match asked {
+        Asked::Start => station.start(),
+        Asked::Tick => station.tick(),
+        Asked::Turn => station.turn(),
+        Asked::Take { transport, number } => station.take(transport, Number::new(number)),
+    }
 }
 
-fn take(
+/// The fault of what the node is asked for, 0 where there is none.
+pub fn fault_at(stations: &mut [Counting<'_>], node: u8, asked: Asked) -> Result<u8, Fail> {
+    let station = at(stations, node)?;
+    Ok(number(ask(station, asked)))
+}
+
+fn hear_at(
     stations: &mut [Counting<'_>],
     heard: &mut Heard<Sum>,
     node: u8,
-    number: u32,
+    asked: Asked,
 ) -> Result<(), Fail> {
-    let done = at(stations, node)?.take(1, Number::new(number));
-    hear(heard, node, done)
+    let station = at(stations, node)?;
+    hear(heard, node, ask(station, asked))
+}
+
+/// What nodes are asked for, one after the other; with node 0 all turn in rotation, whatever is asked.
+pub type Script = &'static [(u8, Asked)];
+
+/// All nodes turn until no packet is left.
+pub const ALL: (u8, Asked) = (0, Asked::Turn);
+
+fn step(
+    stations: &mut [Counting<'_>],
+    heard: &mut Heard<Sum>,
+    node: u8,
+    asked: Asked,
+) -> Result<(), Fail> {
+    if node == 0 {
+        all_turns(stations, heard)
+    } else {
+        hear_at(stations, heard, node, asked)
+    }
+}
+
+/// They are asked for it.
+pub fn goes(
+    stations: &mut [Counting<'_>],
+    heard: &mut Heard<Sum>,
+    script: Script,
+) -> Result<(), Fail> {
+    for (node, asked) in script {
+        step(stations, heard, *node, *asked)?;
+    }
+    Ok(())
 }
 
 // Node 1 leads, and node 2 takes 5 and 6 of its transport 1.
-fn session(stations: &mut [Counting<'_>], heard: &mut Heard<Sum>) -> Result<(), Fail> {
-    start(stations, heard, 1)?;
-    all_turns(stations, heard)?;
-    take(stations, heard, 2, 5)?;
-    take(stations, heard, 2, 6)?;
-    all_turns(stations, heard)
-}
+const SESSION: Script = &[
+    (1, Asked::Start),
+    ALL,
+    (
+        2,
+        Asked::Take {
+            transport: 1,
+            number: 5,
+        },
+    ),
+    (
+        2,
+        Asked::Take {
+            transport: 1,
+            number: 6,
+        },
+    ),
+    ALL,
+];
 
 const FOUR: &[Told] = &[
     ('b', 1, 1, 0),
@@ -85,18 +145,16 @@ const AT_TWO: Transport = Transport {
     number: 1,
 };
 
+const SUMS: &[Sum] = &[(AT_TWO, 5), (AT_TWO, 11)];
+
 fn serves(
     rt: &impl Abort,
     stations: &mut [Counting<'_>],
     heard: &mut Heard<Sum>,
 ) -> Result<(), Fail> {
-    session(stations, heard)?;
+    goes(stations, heard, SESSION)?;
     have_log(rt, stations, FOUR);
-    assert_eq!(rt;
-        heard.says.as_slice(),
-        [(AT_TWO, 5), (AT_TWO, 11)].as_slice()
-    );
-    assert!(rt; heard.faults.is_empty());
+    assert!(rt; heard.says.as_slice() == SUMS && heard.faults.is_empty());
     Ok(())
 }
 
@@ -145,7 +203,7 @@ pub fn fails(
     wanted: bool,
 ) -> Result<(), Fail> {
     let mut heard = Heard::nothing(alloc);
-    let done = session(stations, &mut heard);
+    let done = goes(stations, &mut heard, SESSION);
     let failed = heard.faults.first() == Some(&(node, 61));
     drop(heard);
     done?;

@@ -1,6 +1,6 @@
 // An actor whose store fails, and which is restarted.
-use crate::carrying::{Heard, Told, all_turns, at, have_log, number};
-use crate::counting::{Counting, Failing, Sum, start, tick};
+use crate::carrying::{Heard, Told, have_log};
+use crate::counting::{ALL, Asked, Counting, Failing, Script, Sum, fault_at, goes};
 use crate::trial::{Trial, tried};
 use core_stands::{again, pop_two, push_two};
 use core_tests::Count;
@@ -8,13 +8,23 @@ use std::alloc::Global;
 use std::process::Abort;
 use std::test::Fail;
 
+// A node, what it is asked for, and the number of its fault.
+type Row = (u8, Asked, u8);
+
 // The turn of the second actor on the Prepare of the first one fails, and the actor has ended.
+const ENDING: &[Row] = &[
+    (1, Asked::Start, 0),
+    (1, Asked::Turn, 0),
+    (2, Asked::Turn, 61),
+    (2, Asked::Turn, 71),
+    (2, Asked::Tick, 71),
+];
+
 fn ends(rt: &impl Abort, stations: &mut [Counting<'_>]) -> Result<(), Fail> {
-    assert_eq!(rt; number(at(stations, 1)?.start()), 0);
-    assert_eq!(rt; number(at(stations, 1)?.turn()), 0);
-    assert_eq!(rt; number(at(stations, 2)?.turn()), 61);
-    assert_eq!(rt; number(at(stations, 2)?.turn()), 71);
-    assert_eq!(rt; number(at(stations, 2)?.tick()), 71);
+    for (node, asked, number) in ENDING {
+        let found = fault_at(stations, *node, *asked)?;
+        assert_eq!(rt; found, *number);
+    }
     Ok(())
 }
 
@@ -35,17 +45,21 @@ fn restart_second(alloc: Global, stations: &mut Vec<Counting<'_>>) -> bool {
 const BOTH: &[Told] = &[('b', 1, 1, 0), ('b', 2, 2, 0)];
 
 // The first actor leads in its next ballot, and what the second one has pending is applied.
+const GOING_ON: Script = &[
+    (2, Asked::Tick),
+    ALL,
+    (1, Asked::Start),
+    ALL,
+    (2, Asked::Tick),
+    ALL,
+];
+
 fn goes_on(
     rt: &impl Abort,
     stations: &mut [Counting<'_>],
     heard: &mut Heard<Sum>,
 ) -> Result<(), Fail> {
-    tick(stations, heard, 2)?;
-    all_turns(stations, heard)?;
-    start(stations, heard, 1)?;
-    all_turns(stations, heard)?;
-    tick(stations, heard, 2)?;
-    all_turns(stations, heard)?;
+    goes(stations, heard, GOING_ON)?;
     have_log(rt, stations, BOTH);
     assert!(rt; heard.faults.is_empty());
     Ok(())

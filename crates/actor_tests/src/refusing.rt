@@ -1,6 +1,6 @@
 // What actors refuse, what is no event, and how many acts wait.
-use crate::carrying::{has_log, number};
-use crate::counting::{Counting, NONE_FAILS, Sum};
+use crate::carrying::{at, has_log, number};
+use crate::counting::{Asked, Counting, NONE_FAILS, Sum, ask};
 use crate::crashing::restarted;
 use crate::trial::{Trial, tried};
 use acceptor_keeper::{Keeper, KeeperFault, MemKeeper};
@@ -14,22 +14,27 @@ use std::test::Fail;
 
 // Acts that are pending.
 
+const ONE: Asked = Asked::Take {
+    transport: 1,
+    number: 1,
+};
+
+// How many acts the actor takes of so many.
 fn takes(actor: &mut Counting<'_>, count: u32) -> u32 {
     let mut done = 0u32;
     for _ in 0..count {
-        if number(actor.take(1, Number::new(1))) == 0 {
+        if number(ask(actor, ONE)) == 0 {
             done = done.saturating_add(1);
         }
     }
     done
 }
 
-/// The actor takes as many acts as can wait, and goes on.
-pub fn fills_up(rt: &impl Abort, actor: &mut Counting<'_>) -> Result<(), Fail> {
-    assert_eq!(rt; takes(actor, 1_023), 1_023);
-    assert_eq!(rt; number(actor.take(1, Number::new(1))), 74);
-    assert_eq!(rt; number(actor.tick()), 0);
-    Ok(())
+// The actor takes as many acts as can wait, and goes on.
+fn fills_up(rt: &impl Abort, actor: &mut Counting<'_>) {
+    let taken = takes(actor, 1_023);
+    let faults = (number(ask(actor, ONE)), number(ask(actor, Asked::Tick)));
+    assert_eq!(rt; (taken, faults.0, faults.1), (1_023, 74, 0));
 }
 
 #[test]
@@ -37,21 +42,39 @@ fn a_full_actor_goes_on(rt: HostRuntime) -> Result<(), Fail> {
     tried(&rt, rt.alloc(), &NONE_FAILS, Trial::Fills)
 }
 
-// What is no event.
-
+// Nothing has moved, and nothing is applied.
 fn is_still(rt: &impl Abort, actor: &Counting<'_>) {
     assert!(rt; !actor.has_moved());
     has_log(rt, actor, &[]);
 }
 
-/// What is no event changes nothing.
-pub fn passes(rt: &impl Abort, actor: &mut Counting<'_>) -> Result<(), Fail> {
+// What is no event.
+const NO_EVENTS: &[Asked] = &[
+    Asked::Turn,
+    Asked::Take {
+        transport: 0,
+        number: 5,
+    },
+    Asked::Turn,
+];
+
+// It changes nothing.
+fn passes(rt: &impl Abort, actor: &mut Counting<'_>) {
     is_still(rt, actor);
-    assert_eq!(rt; number(actor.turn()), 0);
-    is_still(rt, actor);
-    assert_eq!(rt; number(actor.take(0, Number::new(5))), 0);
-    assert_eq!(rt; number(actor.turn()), 0);
-    is_still(rt, actor);
+    for asked in NO_EVENTS {
+        assert_eq!(rt; number(ask(actor, *asked)), 0);
+        is_still(rt, actor);
+    }
+}
+
+/// What the actor of node 1 does where it stands: it fills up, or what is no event passes it.
+pub fn first_does(rt: &impl Abort, stations: &mut [Counting<'_>], fills: bool) -> Result<(), Fail> {
+    let actor = at(stations, 1)?;
+    if fills {
+        fills_up(rt, actor);
+    } else {
+        passes(rt, actor);
+    }
     Ok(())
 }
 
@@ -210,6 +233,12 @@ const TEXTS: &[(u8, &str)] = &[
     (76, "no memory for the actor"),
 ];
 
+// Whether the fault's text is this.
+fn has_text(alloc: Global, fault: &ActorFault<Sum>, text: &str) -> Result<bool, Fail> {
+    let told = format!(in alloc; "{fault}")?;
+    Ok(told.as_str() == text)
+}
+
 fn is_told(
     rt: &impl Abort,
     alloc: Global,
@@ -217,9 +246,8 @@ fn is_told(
     number: u8,
     text: &str,
 ) -> Result<(), Fail> {
-    assert_eq!(rt; fault.number(), number);
-    let told = format!(in alloc; "{fault}")?;
-    assert!(rt; told.as_str() == text);
+    let same = has_text(alloc, fault, text)?;
+    assert_eq!(rt; (fault.number(), same), (number, true));
     Ok(())
 }
 

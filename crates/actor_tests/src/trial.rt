@@ -1,8 +1,7 @@
 // What is tried with three actors.
-use crate::carrying::at;
 use crate::counting::{Counting, Failing, fails, serve_and_leave};
 use crate::crashing::outlives;
-use crate::refusing::{begins_again, fills_up, passes, refuses};
+use crate::refusing::{begins_again, first_does, refuses};
 use acceptor_keeper::MemKeeper;
 use core_stands::{Plays, with_stations};
 use core_tests::{Count, Number};
@@ -61,8 +60,8 @@ impl<R: Abort> Plays<Count, MemKeeper<Number>> for Trying<&R> {
                 wanted,
             ),
             Trial::Outlives => outlives(rt, alloc, stations),
-            Trial::Fills => fills_up(rt, at(stations.as_mut_slice(), 1)?),
-            Trial::Rests => passes(rt, at(stations.as_mut_slice(), 1)?),
+            Trial::Fills => first_does(rt, stations.as_mut_slice(), true),
+            Trial::Rests => first_does(rt, stations.as_mut_slice(), false),
             Trial::Restarts => try_first(rt, alloc, stations, true),
             Trial::Refuses => try_first(rt, alloc, stations, false),
         }
