@@ -1,8 +1,11 @@
 use acceptor_keeper::{KeeperFault, MemKeeper};
 use acceptor_store::SqlKeeper;
 use act_codec::ActCoder;
+use command_codec::Coder;
+use paxos_packets::Body;
 use realm_machine::Act;
 use sqlite::{Alter, Connection, File, FileStore};
+use sqlite_disk::Disk;
 use std::alloc::Global;
 
 /// Where the nodes' rows are kept.
@@ -45,7 +48,10 @@ fn open_database(host: &HostRuntime, path: &str) -> Result<Database, KeeperFault
 }
 
 // The store over this database, which is closed where that does not open.
-fn open_filed(alloc: Global, conn: Database) -> Result<Filed, KeeperFault> {
+fn open_filed<B: Body, C: Coder<B>, D: Disk + Drop>(
+    alloc: Global,
+    conn: Connection<FileStore<D>>,
+) -> Result<SqlKeeper<B, C, FileStore<D>>, KeeperFault> {
     match open_store(alloc, conn) {
         Ok(store) => Ok(store),
         Err((fault, conn)) => {
@@ -57,10 +63,10 @@ fn open_filed(alloc: Global, conn: Database) -> Result<Filed, KeeperFault> {
 
 // The store over this connection, or the connection with the fault. It is over any storage, has no clauses and drops no connection: at the
 // types of a file the clauses of `open` are dear, and so is each part that is dropped.
-fn open_store<S: Alter>(
+fn open_store<B: Body, C: Coder<B>, S: Alter>(
     alloc: Global,
     conn: Connection<S>,
-) -> Result<SqlKeeper<Act, ActCoder, S>, (KeeperFault, Connection<S>)> {
+) -> Result<SqlKeeper<B, C, S>, (KeeperFault, Connection<S>)> {
     if !conn.is_autocommit() {
         return Err((KeeperFault::Store, conn));
     }
