@@ -3,7 +3,7 @@ use crate::fault::BenchFault;
 use core_tests::Number;
 use realm_acts::{Act, Id, Shared};
 use std::alloc::{AllocError, Global};
-use wamp_messages::read;
+use wamp_messages::{Memory, read};
 
 // A PUBLISH whose text has 200 octets, but for its one argument.
 const FRONT: &str = "[16,1,{\"acknowledge\":true},\"com.example.topic\",[\"";
@@ -48,8 +48,11 @@ pub fn text_of(alloc: Global) -> Result<Vec<u8>, AllocError> {
     Ok(text)
 }
 
-// It is held once from here on.
-fn shared<T: Drop>(alloc: Global, value: T) -> Result<Shared<T>, BenchFault> {
+// What was read is held once from here on. It is of any type here: a function that knows of a message's kinds would follow each of them.
+fn held<T: Drop>(alloc: Global, read: Result<T, Memory>) -> Result<Shared<T>, BenchFault> {
+    let Ok(value) = read else {
+        return Err(BenchFault::Memory);
+    };
     match Shared::new(alloc, value) {
         Ok(shared) => Ok(shared),
         Err(left) => {
@@ -62,6 +65,6 @@ fn shared<T: Drop>(alloc: Global, value: T) -> Result<Shared<T>, BenchFault> {
 /// The act that says the message of this text.
 pub fn act_of(alloc: Global, text: &[u8]) -> Result<Act, BenchFault> {
     let draw = Id::new(1).ok_or(BenchFault::Text)?;
-    let read = shared(alloc, read(alloc, text)?)?;
+    let read = held(alloc, read(alloc, text))?;
     Ok(Act::Said { draw, read })
 }
