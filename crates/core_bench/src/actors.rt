@@ -185,6 +185,6 @@ impl Plays<Count, MemKeeper<Number>> for Measuring<'_> {
 pub fn run(rt: &HostRuntime, load: Load) -> Result<(), BenchFault> {
     let mut measuring = Measuring { rt, load };
     with_stations::<Count, MemKeeper<Number>, _, _>(rt.alloc(), &Fresh, &mut measuring).ok_or(
-        BenchFault::Nobody,
+        BenchFault::Actor,
     )?
 }

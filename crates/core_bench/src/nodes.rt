@@ -83,7 +83,7 @@ pub fn run_numbers(rt: &HostRuntime, load: Load) -> Result<(), BenchFault> {
         source: Numbers,
         load,
     };
-    with_nodes::<Number, _>(rt.alloc(), &mut measuring).ok_or(BenchFault::Nobody)?
+    with_nodes::<Number, _>(rt.alloc(), &mut measuring).ok_or(BenchFault::Memory)?
 }
 
 /// The same, where each body is a realm's act, a PUBLISH whose text has 200 octets.
@@ -96,5 +96,5 @@ pub fn run_acts(rt: &HostRuntime, load: Load) -> Result<(), BenchFault> {
         },
         load,
     };
-    with_nodes::<Act, _>(rt.alloc(), &mut measuring).ok_or(BenchFault::Nobody)?
+    with_nodes::<Act, _>(rt.alloc(), &mut measuring).ok_or(BenchFault::Memory)?
 }

@@ -288,6 +288,6 @@ impl<T: Threads> Plays<Count, MemKeeper<Number>> for Measuring<'_, &T> {
 pub fn run(rt: &HostRuntime, threads: &impl Threads, load: Load) -> Result<(), BenchFault> {
     let mut measuring = Measuring { rt, threads, load };
     with_stations::<Count, MemKeeper<Number>, _, _>(rt.alloc(), &Fresh, &mut measuring).ok_or(
-        BenchFault::Nobody,
+        BenchFault::Actor,
     )?
 }
