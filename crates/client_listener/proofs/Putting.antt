@@ -77,7 +77,7 @@ pub filled : (more : Bool) (start now later : Option (List ℕ)) (before after :
 filled true start now later before after held new e f u = fed start now later before after held new f.0 u f.1 f.2
 filled false start now later before after held new e f u = absurd cc
 
-never_taken : (a : Result (Option Frame) ListenFault) (given : Option Frame) (other : ListenFault) → a ≡ Ok given → a ≡ Err other → ⊥
+pub never_taken : (a : Result (Option Frame) ListenFault) (given : Option Frame) (other : ListenFault) → a ≡ Ok given → a ≡ Err other → ⊥
 never_taken a given other p q = cc
 
 -- a frame was taken, and its item put
@@ -145,7 +145,7 @@ faulty_stop start now before after held shown u e = record {
 }
 
 -- nothing more of the frames, or memory ran out
-other_fault : (a b : ListenFault) (given : Result (Option Frame) ListenFault) → given ≡ Err a → given ≡ Err b → a ≡ b
+pub other_fault : (a b : ListenFault) (given : Result (Option Frame) ListenFault) → given ≡ Err a → given ≡ Err b → a ≡ b
 other_fault a b given p q = cc
 
 pub taken_stops : (other : ListenFault) (start now : Option (List ℕ)) (before after : List FromClient) (held new : Option (List ℕ))

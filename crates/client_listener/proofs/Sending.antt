@@ -28,7 +28,7 @@ appends_nothing (Some a) = sym (append-nil a)
 
 -- ---- one item more
 
-written_more : (items : List ToClient) (item : ToClient) → written_of (items ++ item ∷ []) ≡ written_of items ++ frame_of item
+pub written_more : (items : List ToClient) (item : ToClient) → written_of (items ++ item ∷ []) ≡ written_of items ++ frame_of item
 written_more [] item = append-nil (frame_of item)
 written_more (first ∷ items) item =
     ap (λ (o : List ℕ). frame_of first ++ o) (written_more items item)
@@ -39,13 +39,13 @@ both_true true true p q = refl
 both_true true false p q = q
 both_true false b p q = p
 
-all_go_more : (limit : ℕ) (items : List ToClient) (item : ToClient) → list_all (goes limit) items ≡ true → goes limit item ≡ true
+pub all_go_more : (limit : ℕ) (items : List ToClient) (item : ToClient) → list_all (goes limit) items ≡ true → goes limit item ≡ true
     → list_all (goes limit) (items ++ item ∷ []) ≡ true
 all_go_more limit items item all one = list_all-append (goes limit) items (item ∷ [])
     ∙ both_true (list_all (goes limit) items) (goes limit item) all one
 
 module _ (allows : List ToClient → ToClient → Type 0) where
-  allowed_more : (before took : List ToClient) (item : ToClient) → Allowed allows before took → allows (before ++ took) item
+  pub allowed_more : (before took : List ToClient) (item : ToClient) → Allowed allows before took → allows (before ++ took) item
       → Allowed allows before (took ++ item ∷ [])
   allowed_more before [] item all one = (subst (λ (b : List ToClient). allows b item) (append-nil before) one, tt)
   allowed_more before (first ∷ took) item all one = (

@@ -1,7 +1,10 @@
 pub mod Fault
+pub mod Gathering
 pub mod Handshake
+pub mod Inlet
 pub mod Intake
 pub mod Outbox
+pub mod Pending
 pub mod Reading
 pub mod Turns
 pub mod Waiting

@@ -1,4 +1,4 @@
-ghost use Rattle.std.specs.Prelude.{◌≡◌, [], Some, IfOk, IfErr};
+ghost use Rattle.std.specs.Prelude.{◌≡◌, [], None, Some, Err, IfOk, IfErr};
 ghost use Rattle.client_listener.specs.Intake.{item_of, Feeds, Fills, Takes, Makes};
 
 use crate::fault::ListenFault;
@@ -61,11 +61,7 @@ impl Intake {
     pub fn next(&mut self) -> Result<Option<Frame>, ListenFault>
         ensures { Takes result self.old self.new }
     {
-        match self.splitter.next() {
-            Ok(next) => Ok(next),
-            Err(FrameFault::Memory) => Err(ListenFault::Memory),
-            Err(_) => Err(ListenFault::Frame),
-        }
+        next_frame(&mut self.splitter)
     }
 
     // The item that is put for a frame, if one is.
@@ -73,23 +69,42 @@ impl Intake {
         ensures item { Makes result (item_of frame.kind frame.payload) }
         ensures same { self.new ≡ self.old }
     {
-        match frame.kind {
-            FrameKind::Message => Ok(Some(FromClient::Read(read_by(
-                &mut self.parser,
-                frame.payload.as_slice(),
-            )?))),
-            FrameKind::Ping => Ok(Some(FromClient::Ping(frame.payload))),
-            FrameKind::Pong => Ok(None),
-        }
+        item_for(&mut self.parser, frame)
     }
 }
 
 // Hands what was read to the splitter.
-fn feed(splitter: &mut Splitter, octets: &[u8]) -> Result<bool, ListenFault>
+pub(crate) fn feed(splitter: &mut Splitter, octets: &[u8]) -> Result<bool, ListenFault>
     ensures { Feeds result octets.now splitter.old splitter.new }
 {
     match splitter.feed(octets) {
         Ok(()) => Ok(true),
         Err(_) => Err(ListenFault::Memory),
+    }
+}
+
+// The next whole frame that a splitter holds, if one is there.
+pub(crate) fn next_frame(splitter: &mut Splitter) -> Result<Option<Frame>, ListenFault>
+    ensures takes { Takes result splitter.old splitter.new }
+    ensures spoils { result ≡ Err ListenFault.Frame → splitter.new ≡ None }
+{
+    match splitter.next() {
+        Ok(next) => Ok(next),
+        Err(FrameFault::Memory) => Err(ListenFault::Memory),
+        Err(_) => Err(ListenFault::Frame),
+    }
+}
+
+// The item that is put for a frame, if one is.
+pub(crate) fn item_for(parser: &mut Parser, frame: Frame) -> Result<Option<FromClient>, ListenFault>
+    ensures { Makes result (item_of frame.kind frame.payload) }
+{
+    match frame.kind {
+        FrameKind::Message => Ok(Some(FromClient::Read(read_by(
+            parser,
+            frame.payload.as_slice(),
+        )?))),
+        FrameKind::Ping => Ok(Some(FromClient::Ping(frame.payload))),
+        FrameKind::Pong => Ok(None),
     }
 }

@@ -5,6 +5,7 @@
 mod draining;
 mod fault;
 mod handshake;
+mod inlet;
 mod intake;
 mod items;
 mod outbox;
@@ -16,7 +17,9 @@ mod writing;
 pub use draining::drain;
 pub use fault::ListenFault;
 pub use handshake::{answer_handshake, greet, read_handshake};
+pub use inlet::Inlet;
 pub use items::{FromClient, ToClient};
 pub use outbox::Outbox;
 pub use reading::{put_transport, read_transport};
+pub use wamp_messages::Parser;
 pub use writing::{take_transport, write_transport};

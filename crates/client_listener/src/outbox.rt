@@ -1,12 +1,17 @@
-ghost use Rattle.std.specs.Prelude.{◌≡◌, [], length, Ok, true, OnErr};
+ghost use Rattle.std.specs.Prelude.{◌≡◌, ◌++◌, [], length, ℕ, List, Ok, true, OnOk, OnErr};
 ghost use Rattle.std.specs.Bool.{OnTrue};
 ghost use Rattle.wamp_messages.specs.Writing.{text_of};
+ghost use Rattle.std.specs.Io.KnownBytes.{Appends, Keeps};
+ghost use Rattle.rtrb.specs.Ring.{received, SameConsumer};
 ghost use Rattle.client_listener.specs.Outbox.{Frames, Hears, Empties};
+ghost use Rattle.client_listener.specs.Gathering.{Gathers};
 
 use crate::fault::ListenFault;
 use crate::handshake::write_out;
 use crate::items::ToClient;
+use rtrb::{Consumer, Protocol};
 use std::alloc::Global;
+use std::io;
 use std::io::Write;
 use std::marker::Model;
 use wamp_messages::{Message, write_into};
@@ -14,6 +19,9 @@ use wamp_rawsocket::{FrameFault, FrameKind, append_frame};
 
 /// How many octets of frames may wait while further items are taken.
 const FULL: usize = 1 << 16;
+
+/// How many items are gathered at a time at the most.
+const MOST_GATHERED: u32 = 1 << 16;
 
 /// The frames that wait to be written to one client. A clause sees the longest payload that the client takes, and the octets
 /// of the frames.
@@ -102,6 +110,53 @@ impl Outbox {
             self.text.as_slice(),
             self.limit,
         )
+    }
+
+    /// Takes items out of a ring, as far as some are at hand, and puts their frames behind the others, up to one behind which more than
+    /// 64 KiB wait. Answers whether the transport stays open; it does not once a `Close` is taken.
+    ///
+    /// `Wide` at a message or PONG that is longer than the client takes, and `Memory`: what was taken before waits. It waits for nothing,
+    /// and takes at most 2^16 items. (WAMP specification, "RawSocket Transport", "Framing".)
+    pub fn gather<P: Protocol<ToClient>>(
+        &mut self,
+        consumer: &mut Consumer<ToClient, Global, P>,
+    ) -> Result<bool, ListenFault>
+        ensures gathers { Gathers P.allows self.old.limit result (received consumer.old) (received consumer.new)
+            self.old.octets self.new.octets }
+        ensures limit { self.new.limit ≡ self.old.limit }
+        ensures ring { SameConsumer consumer.old consumer.new }
+    {
+        for _step in 0..MOST_GATHERED {
+            let Ok(item) = consumer.pop() else {
+                return Ok(true);
+            };
+            let heard = self.hear(&item);
+            drop(item);
+            if !self.may_wait(&heard) {
+                return heard;
+            }
+        }
+        Ok(true)
+    }
+
+    /// Writes once what waits, if anything does, and drops what was written. An error leaves all as it was. What the writer left is moved
+    /// to the front, 64 KiB at the most behind frames that [`Outbox::gather`] put.
+    pub fn write_some<W: Write>(&mut self, writer: &mut W) -> io::Result<()>
+        ensures wrote { OnOk result ((written : List ℕ) × (self.old.octets ≡ written ++ self.new.octets)
+            × Appends (W.contents writer.old) (W.contents writer.new) written) }
+        ensures err { OnErr result ((self.new ≡ self.old) × Keeps (W.contents writer.old) (W.contents writer.new)) }
+        ensures limit { self.new.limit ≡ self.old.limit }
+    {
+        if self.frames.is_empty() {
+            return Ok(());
+        }
+        let count = writer.write(self.frames.as_slice())?;
+        if count == self.frames.len() {
+            self.frames.clear();
+        } else {
+            drop(self.frames.drain(..count));
+        }
+        Ok(())
     }
 
     /// Writes all that waits, and flushes the writer, also where nothing waits. `Write` where the writer failed.

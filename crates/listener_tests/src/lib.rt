@@ -13,6 +13,8 @@ mod lanes;
 #[cfg(test)]
 mod reading;
 #[cfg(test)]
+mod steps;
+#[cfg(test)]
 mod streams;
 #[cfg(test)]
 mod threads;

@@ -78,7 +78,7 @@ fn writes_the_frames_of_the_stored_run(rt: HostRuntime) {
 }
 
 // Puts PONGs of these lengths into a ring, and `Close` behind them.
-fn hand_pongs(
+pub fn hand_pongs(
     rt: &impl Abort,
     alloc: Global,
     producer: &mut Producer<ToClient>,

@@ -1,0 +1,24 @@
+use Rattle.std.proofs.Common.{rules, refl, sym, subst}
+use Rattle.rtrb.specs.Ring.{sent}
+use Rattle.client_listener.specs.Inlet.{Inflow}
+use Rattle.client_listener.proofs.Inflow.{pushed}
+use Rattle.client_listener.proofs.inlet.Inlet.put.Goals as goal
+
+pub items-preserved : goal.items-preserved
+items-preserved c =
+    let arm = c.in-Ok-true in
+    let push = c.if-not-push.ensures in
+    record {
+      inflow = λ read before u. rw arm.field-0-test at (arm.ensures.cuts read before _ push.none
+          (pushed read before _ _ _ _ push.put push.none refl (subst (Inflow read before (sent c.items.producer)) (sym c.self.view_is)
+          (c.items.invariant.inflow read before u))));
+      same = search rules;
+    }
+
+pub returns-in-Ok-false-clause-puts : goal.returns-in-Ok-false-clause-puts
+returns-in-Ok-false-clause-puts c read before u =
+    let arm = c.in-Ok-false in
+    let push = c.if-not-push.ensures in
+    rw arm.field-0-test at (arm.ensures.cuts read before _ push.none
+    (pushed read before _ _ _ _ push.put push.none refl (subst (Inflow read before (sent c.items.producer)) (sym c.self.view_is)
+    (c.items.invariant.inflow read before u))))
