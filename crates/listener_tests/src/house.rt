@@ -5,7 +5,7 @@ use crate::writing::{hand, message_of};
 use bytes::Bytes;
 use client_listener::ToClient;
 use rtrb::{Consumer, Producer, RingBuffer};
-use serve_lanes::{Arrival, Lobby, keep_door};
+use serve_lanes::{Arrival, Door, Lobby, keep_door};
 use std::alloc::{AllocError, Global};
 use std::io::{Read, Write};
 use std::net::{Net, SocketAddr, TcpListener, TcpStream};
@@ -43,7 +43,8 @@ impl House {
         let theirs = Arc::try_clone(&lobby).expect(rt, "the lobby again");
         let (producer, arrivals) = RingBuffer::new(alloc, 64).expect(rt, "a ring");
         let runtime = rt.clone().expect(rt, "a runtime");
-        let door = start(rt, runtime, alloc, listener, theirs, producer).expect(rt, "a thread");
+        let door = Door::over(rt, listener).expect(rt, "a door");
+        let door = start(rt, runtime, alloc, door, theirs, producer).expect(rt, "a thread");
         House {
             lobby,
             arrivals,
@@ -128,14 +129,14 @@ fn start<R: Wait + Clock + Threads + Eprint + Clone + Drop + Send + 'static>(
     rt: &R,
     runtime: R,
     alloc: Global,
-    listener: TcpListener,
+    door: Door,
     lobby: Arc<Lobby, Global>,
     arrivals: Producer<Arrival>,
 ) -> Result<JoinHandle<()>, AllocError> {
-    let door = thread::spawn(rt, move || {
-        keep_door(runtime, alloc, listener, lobby, arrivals, 1)
+    let porter = thread::spawn(rt, move || {
+        keep_door(runtime, alloc, door, lobby, arrivals, 1)
     })?;
-    Ok(door)
+    Ok(porter)
 }
 
 // How many places are free.
@@ -158,7 +159,7 @@ fn next_letter<R: Clock>(rt: &R, arrival: &mut Arrival) -> char {
     for _ in 0..10_000 {
         let is_over = arrival.items.is_abandoned();
         if let Some(letter) = reading::next_letter(&mut arrival.items) {
-            arrival.line.wake_reader();
+            arrival.line.tell_room();
             return letter;
         }
         if is_over {
@@ -176,7 +177,7 @@ pub fn comes<R: Clock + Abort>(rt: &R, arrival: &mut Arrival, letters: &str) {
     }
 }
 
-// Hands a message to a client's writer, and does not wake it. Answers whether its ring had room.
+// Hands a message to a client's porter, and does not tell it. Answers whether its ring had room.
 pub fn hand_message(alloc: Global, replies: &mut Producer<ToClient>, text: &[u8]) -> bool {
     let message = message_of(alloc, text);
     hand(replies, message)

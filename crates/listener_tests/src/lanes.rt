@@ -1,4 +1,4 @@
-// What a connection's two threads do, from the handshake to its end.
+// What a porter does for its connections, from the handshake to the end.
 use crate::house::{House, comes, hand_close, hand_message, hand_pong, reads, reads_the_end};
 use serve_lanes::{Arrival, REQUESTS_WAITING};
 use std::alloc::Global;
@@ -27,13 +27,13 @@ fn sends(rt: &impl Abort, client: &mut TcpStream, octets: &[u8], times: u32) {
 // A message and a PONG that are handed over reach the client, and then the end.
 fn is_answered(rt: &impl Abort, alloc: Global, client: &mut TcpStream, arrival: &mut Arrival) {
     assert!(rt; hand_message(alloc, &mut arrival.replies, &REGISTERED[4..]));
-    arrival.line.wake_writer();
+    arrival.line.tell_said();
     assert!(rt; reads(rt, client, alloc, REGISTERED));
     assert!(rt; hand_pong(rt, alloc, &mut arrival.replies, b"hi"));
-    arrival.line.wake_writer();
+    arrival.line.tell_said();
     assert!(rt; reads(rt, client, alloc, PONG));
     assert!(rt; hand_close(&mut arrival.replies));
-    arrival.line.wake_writer();
+    arrival.line.tell_said();
     assert!(rt; reads_the_end(client));
 }
 
@@ -86,7 +86,7 @@ fn a_client_that_is_refused_leaves_nothing(rt: HostRuntime) {
 }
 
 #[test]
-fn hanging_up_ends_both_threads(rt: HostRuntime) {
+fn hanging_up_ends_a_connection(rt: HostRuntime) {
     let mut house = House::open(&rt, rt.alloc());
     let (mut client, mut arrival) = house.client(&rt);
     comes(&rt, &mut arrival, "C");

@@ -344,7 +344,7 @@ fn wake_peers(
     true
 }
 
-// What a transport is told, as its writer takes it.
+// What a transport is told, as its porter takes it.
 fn saying_of(out: Out) -> ToClient {
     match out {
         Out::Send(message) => ToClient::Send(message),

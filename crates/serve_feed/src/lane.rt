@@ -18,7 +18,7 @@ pub(crate) enum Found {
     End,
 }
 
-// A connection at its node: the number of its transport, and whether its writer is to be woken.
+// A connection at its node: the number of its transport, and whether its porter is to be told of sayings.
 #[derive(Drop)]
 pub(crate) struct Lane {
     number: u32,
@@ -53,7 +53,7 @@ impl Lane {
         self.stage = Stage::Open;
     }
 
-    // The next item, or that none will come: the node has ended it, or its reader is gone and nothing is left.
+    // The next item, or that none will come: the node has ended it, or its porter puts none any more and nothing is left.
     pub fn find(&mut self) -> Found {
         if self.stage == Stage::Ended {
             return Found::End;
@@ -74,22 +74,22 @@ impl Lane {
         false
     }
 
-    // Marks that its writer is to be woken; answers whether it was marked before.
+    // Marks that its porter is to be told of sayings; answers whether it was marked before.
     pub fn tell(&mut self) -> bool {
         let was = self.is_told;
         self.is_told = true;
         was
     }
 
-    // Wakes its writer.
-    pub fn wake_writer(&mut self) {
+    // Its porter has sayings to write.
+    pub fn tell_said(&mut self) {
         self.is_told = false;
-        self.arrival.line.wake_writer();
+        self.arrival.line.tell_said();
     }
 
-    // Its reader may have waited for room.
-    pub fn wake_reader(&self) {
-        self.arrival.line.wake_reader();
+    // Its porter may have waited for room.
+    pub fn tell_room(&self) {
+        self.arrival.line.tell_room();
     }
 
     // The node ends the connection at once.

@@ -19,7 +19,7 @@ pub(crate) struct Lanes {
     // The last number that was given.
     last: u32,
     look: Look,
-    // Those whose writers are to be woken.
+    // Those of which the porter is to be told.
     told: Vec<u32>,
 }
 
@@ -95,12 +95,12 @@ impl Lanes {
         }
     }
 
-    // The lane is left; its reader may have waited for the room of what was taken.
+    // The lane is left; its porter may have waited for the room of what was taken.
     fn leave(&mut self, place: usize) {
         if self.look.leave()
             && let Some(lane) = self.lanes.get(place)
         {
-            lane.wake_reader();
+            lane.tell_room();
         }
     }
 
@@ -175,7 +175,7 @@ impl Lanes {
         if self.look.took()
             && let Some(lane) = self.lanes.get(place)
         {
-            lane.wake_reader();
+            lane.tell_room();
         }
     }
 
@@ -187,11 +187,11 @@ impl Lanes {
         }
     }
 
-    // Wakes the writers of all lanes into which something was put since the last call.
+    // Tells the porter of all lanes into which something was put since the last call.
     pub fn wake_told(&mut self) {
         for number in &self.told {
             if let Some(lane) = lane_of(&mut self.lanes, *number) {
-                lane.wake_writer();
+                lane.tell_said();
             }
         }
         self.told.clear();
@@ -236,13 +236,13 @@ fn lane_of(lanes: &mut Vec<Lane>, number: u32) -> Option<&mut Lane> {
     lanes.get_mut(place)
 }
 
-// Puts a saying behind the others for the lane, whose writer is to be woken then. Where there is no room it ends, which is found at a look.
+// Puts a saying behind the others for the lane, whose porter is to be told then. Where there is no room it ends, which is found at a look.
 fn put(lane: &mut Lane, told: &mut Vec<u32>, look: &mut Look, saying: ToClient) {
     if !lane.reply(saying) {
         look.stir();
         return;
     }
     if !lane.tell() && told.push(lane.number()).is_err() {
-        lane.wake_writer();
+        lane.tell_said();
     }
 }

@@ -1,7 +1,7 @@
 //! What a node's thread stands on in a served cluster: a gate that rests while nothing happens, and a feed out of the rings of the node's
 //! clients (docs/CONSENSUS.md, "Threads").
 //!
-//! **No wake-up is lost.** Who puts something where a node looks for it, wakes the node behind that: a client's threads behind a push, a peer
+//! **No wake-up is lost.** Who puts something where a node looks for it, wakes the node behind that: its porter behind a push, a peer
 //! behind the turn that posted to it, or that took a packet of it, so that a box is free again, where the node has said that packets wait for
 //! the peer. It says so a turn before it rests: so the peer sees it, or the turn finds the box free. A wake-up that comes while the node does
 //! not rest ends its next rest at once. So before it rests a turn behind its last rest has found every box empty, and left nothing to post but

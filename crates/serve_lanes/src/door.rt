@@ -1,132 +1,79 @@
-use crate::lane::{Lane, keep_lane, turn_away};
-use crate::line::{Arrival, Line, REQUESTS_WAITING, SAYINGS_WAITING};
-use crate::lobby::{Lobby, Place};
-use rtrb::{Producer, PushError, RingBuffer};
-use std::alloc::{AllocError, Global};
-use std::net::{TcpListener, TcpStream};
+use crate::hall::Hall;
+use crate::line::Arrival;
+use crate::lobby::Lobby;
+use crate::porter::Porter;
+use mio::Poll;
+use rtrb::Producer;
+use std::alloc::Global;
+use std::io;
+use std::net::{Net, TcpListener};
 use std::sync::{Arc, Wait};
-use std::thread;
-use std::thread::Threads;
-use std::time::{Clock, Duration};
+use std::time::Clock;
 
-/// How long a listener's thread rests where it cannot go on, in milliseconds: where the node takes no arrivals, and where no connection
-/// can be accepted.
-const ARRIVALS_REST: u64 = 1;
+/// A node's port, and what its porter will rest at.
+#[derive(Drop)]
+pub struct Door {
+    pub(crate) listener: TcpListener,
+    pub(crate) poll: Poll,
+}
 
-const ACCEPT_REST: u64 = 100;
+impl Door {
+    /// A door behind which nobody stands yet. An error is the system's.
+    pub fn over<R: Net>(rt: &R, listener: TcpListener) -> io::Result<Door> {
+        let poll = Poll::new(rt)?;
+        Ok(Door { listener, poll })
+    }
+}
 
-/// How often in a row an accept may fail before the listener counts as failed.
-const MOST_FAILURES: u32 = 600;
-
-/// A node's listener thread: takes each client that connects, hands its arrival to the node, and serves it on threads of its own.
+/// A node's porter, the one thread of all of its clients: takes each client in that connects, hands its arrival to the node, reads what it
+/// sends and writes what it is sent. It waits for none of them, but for all at once.
 ///
-/// Where 256 connections are open a client is refused by `7F 40 00 00`, on a thread of its own. It ends where the node's end of the arrivals
-/// was dropped, seen at the next client, or where the listener has failed for a minute. Connections go on then. A client that is refused or
-/// closed for its own fault or for want of memory is told of in one line on standard error.
-pub fn keep_door<R: Wait + Clock + Threads + Eprint + Clone + Drop + Send + 'static>(
+/// Where 256 connections are open a client is refused by `7F 40 00 00`; more than 64 of those at a time are let go without a word. A client that
+/// is refused, or closed for its own fault or for want of memory, is told of in one line on standard error. It ends once the node's end of the
+/// arrivals was dropped and all connections have ended, seen at the next client.
+///
+/// A turn costs an event for each stream to which something has happened, and where the node has rung some loads for each connection.
+pub fn keep_door<R: Wait + Clock + Eprint + Drop>(
     rt: R,
     alloc: Global,
-    listener: TcpListener,
+    door: Door,
     lobby: Arc<Lobby, Global>,
     arrivals: Producer<Arrival>,
     node: u8,
 ) {
-    let mut arrivals = arrivals;
-    let mut failures: u32 = 0;
-    for _ in rt.forever() {
-        let Ok((stream, _address)) = listener.accept() else {
-            failures = failures.saturating_add(1);
-            if failures >= MOST_FAILURES {
-                break;
-            }
-            thread::sleep(&rt, Duration::from_millis(ACCEPT_REST));
-            continue;
-        };
-        if arrivals.is_abandoned() {
-            break;
-        }
-        failures = 0;
-        if admit(&rt, alloc, stream, &lobby, &mut arrivals, node).is_err() {
-            let _told = eprintln!(rt; "node {node}: a client was refused: out of memory");
+    match open(alloc, door, lobby, arrivals, node) {
+        Ok(porter) => keep(&rt, porter),
+        Err(error) => {
+            let _told = eprintln!(rt; "node {node}: no client can be served: {error}");
         }
     }
 }
 
-// Takes a client that has connected, if there is a place.
-fn admit<R: Wait + Clock + Threads + Eprint + Clone + Drop + Send + 'static>(
-    rt: &R,
+// A porter at this door.
+fn open(
     alloc: Global,
-    stream: TcpStream,
-    lobby: &Arc<Lobby, Global>,
-    arrivals: &mut Producer<Arrival>,
+    door: Door,
+    lobby: Arc<Lobby, Global>,
+    arrivals: Producer<Arrival>,
     node: u8,
-) -> Result<(), AllocError> {
-    let _at_once = stream.set_nodelay(true);
-    let runtime = rt.clone()?;
-    let Some(place) = Place::take(lobby)? else {
-        thread::spawn(rt, move || turn_away(&runtime, &stream, node))?;
-        return Ok(());
-    };
-    let (arrival, lane) = lay(alloc, stream, place, node)?;
-    announce(rt, arrivals, arrival, lobby);
-    start(rt, runtime, alloc, lane)
-}
-
-// Serves a client on a thread of its own. Its place is free again where there is no such thread.
-fn start<R: Wait + Clock + Threads + Eprint + Clone + Drop + Send + 'static>(
-    rt: &R,
-    runtime: R,
-    alloc: Global,
-    lane: Lane,
-) -> Result<(), AllocError> {
-    thread::spawn(rt, move || keep_lane(runtime, alloc, lane))?;
-    Ok(())
-}
-
-// Both ends of a connection: the node's, and its threads'.
-fn lay(
-    alloc: Global,
-    stream: TcpStream,
-    place: Place,
-    node: u8,
-) -> Result<(Arrival, Lane), AllocError> {
-    let line = Line::over(alloc, stream)?;
-    let ties = line.ties()?;
-    let (into_items, items) = RingBuffer::new(alloc, REQUESTS_WAITING)?;
-    let (replies, from_replies) = RingBuffer::new(alloc, SAYINGS_WAITING)?;
-    let arrival = Arrival {
-        items,
-        replies,
-        line,
-    };
-    let lane = Lane {
-        place,
-        ties,
-        items: into_items,
-        replies: from_replies,
-        node,
-    };
-    Ok((arrival, lane))
-}
-
-// Hands an arrival to the node, as soon as its ring has room. It is dropped where the node is gone.
-fn announce<R: Wait + Clock>(
-    rt: &R,
-    arrivals: &mut Producer<Arrival>,
-    arrival: Arrival,
-    lobby: &Lobby,
-) {
-    let mut arrival = arrival;
-    for _ in rt.forever() {
-        match arrivals.push(arrival) {
-            Ok(()) => break,
-            Err(PushError::Full(back)) => arrival = back,
+) -> io::Result<Porter> {
+    match Hall::new(alloc, lobby) {
+        Ok(hall) => Porter::new(door, arrivals, hall, node),
+        Err(_) => {
+            drop(door);
+            drop(arrivals);
+            Err(io::ErrorKind::OutOfMemory.into())
         }
-        if arrivals.is_abandoned() {
+    }
+}
+
+// Turns a porter to its end.
+fn keep<R: Wait + Clock + Eprint>(rt: &R, porter: Porter) {
+    let mut porter = porter;
+    for _ in rt.forever() {
+        porter.turn(rt);
+        if porter.is_done() {
             break;
         }
-        lobby.stir();
-        thread::sleep(rt, Duration::from_millis(ARRIVALS_REST));
     }
-    lobby.stir();
 }

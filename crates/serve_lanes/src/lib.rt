@@ -1,13 +1,18 @@
-//! What stands between a client's TCP connection and its node's thread: the listener's thread, two threads a connection, two rings.
+//! What stands between a client's TCP connection and its node's thread: a
+//! thread a node, the porter of all of its connections, and two rings a connection.
 #![tactic(auto)]
 
+mod bell;
+mod desk;
 mod door;
-mod lane;
+mod hall;
+mod incoming;
 mod line;
 mod lobby;
-mod streams;
+mod outgoing;
+mod porter;
 mod ties;
 
-pub use door::keep_door;
+pub use door::{Door, keep_door};
 pub use line::{Arrival, Line, REQUESTS_WAITING, SAYINGS_WAITING};
 pub use lobby::{Lobby, MOST_CONNECTIONS};

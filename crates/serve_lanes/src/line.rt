@@ -31,28 +31,33 @@ pub struct Line {
 }
 
 impl Line {
-    /// A hold on a connection that nobody reads or writes yet.
+    /// A hold on a connection that nobody reads or writes.
     pub fn over(alloc: Global, stream: TcpStream) -> Result<Line, AllocError> {
-        let ties = Arc::new(alloc, Ties::new(stream))?;
+        Line::tied(alloc, Ties::new(stream, None))
+    }
+
+    // A hold on a connection whose porter has these ties.
+    pub(crate) fn tied(alloc: Global, ties: Ties) -> Result<Line, AllocError> {
+        let ties = Arc::new(alloc, ties)?;
         Ok(Line { ties })
     }
 
-    // What the connection's threads share with the line.
+    // What the connection's porter shares with the line.
     pub(crate) fn ties(&self) -> Result<Arc<Ties, Global>, AllocError> {
         Arc::try_clone(&self.ties)
     }
 
-    /// Lets the writer go on, which rests where its ring is empty. For a node that has put sayings into the ring: once behind all of a turn.
-    pub fn wake_writer(&self) {
-        self.ties.wake_writer();
+    /// Lets the porter go on, which rests where nothing happens. For a node that has put sayings into the ring: once behind all of a turn.
+    pub fn tell_said(&self) {
+        self.ties.ring();
     }
 
-    /// Lets the reader go on, which rests for a moment where its ring is full. For a node that has taken items.
-    pub fn wake_reader(&self) {
-        self.ties.wake_reader();
+    /// Lets the porter go on, if it waits for room in the ring of items. For a node that has taken some.
+    pub fn tell_room(&self) {
+        self.ties.tell_room();
     }
 
-    /// Ends the connection at once: nothing more is read or written, and both of its threads end.
+    /// Ends the connection at once: nothing more is read or written.
     pub fn hang_up(&self) {
         self.ties.let_go();
         self.ties.shut();

@@ -1,36 +1,26 @@
+use crate::bell::Bell;
+use std::alloc::Global;
 use std::net::{Shutdown, TcpStream};
-use std::sync::Wait;
+use std::sync::Arc;
 use std::sync::atomic::{AtomicBool, Ordering};
-use std::thread::Parker;
-use std::time::Duration;
 
-/// How long a reader rests at a full ring before it looks again, if nobody wakes it, in milliseconds.
-const ROOM_REST: u64 = 1;
-
-/// How often, and how long each time, a writer that has closed a connection waits for the client to end it too, in milliseconds.
-const CLOSE_RESTS: u32 = 20;
-
-const CLOSE_REST: u64 = 100;
-
-// What a connection's two threads and its node share: the stream, where each thread rests, whether the node has let the connection go,
-// and whether its reader has ended.
+// What a connection's node and its porter share: the stream, the porter's bell, whether the node has let the connection go, and whether the
+// porter waits for room in the ring of items.
 #[derive(Drop)]
 pub(crate) struct Ties {
     stream: TcpStream,
-    reader: Parker,
-    writer: Parker,
+    bell: Option<Arc<Bell, Global>>,
     is_let_go: AtomicBool,
-    is_read: AtomicBool,
+    wants_room: AtomicBool,
 }
 
 impl Ties {
-    pub fn new(stream: TcpStream) -> Ties {
+    pub fn new(stream: TcpStream, bell: Option<Arc<Bell, Global>>) -> Ties {
         Ties {
             stream,
-            reader: Parker::new(),
-            writer: Parker::new(),
+            bell,
             is_let_go: AtomicBool::new(false),
-            is_read: AtomicBool::new(false),
+            wants_room: AtomicBool::new(false),
         }
     }
 
@@ -39,20 +29,30 @@ impl Ties {
         &self.stream
     }
 
-    pub fn wake_writer(&self) {
-        self.writer.unpark();
+    // Lets the porter go on.
+    pub fn ring(&self) {
+        if let Some(bell) = &self.bell {
+            bell.ring();
+        }
     }
 
-    pub fn wake_reader(&self) {
-        self.reader.unpark();
+    // Lets the porter go on, if it waits for room.
+    pub fn tell_room(&self) {
+        if self.wants_room.load(Ordering::SeqCst) {
+            self.wants_room.store(false, Ordering::SeqCst);
+            self.ring();
+        }
     }
 
-    // Lets both threads know that the node will neither take nor put anything more.
+    // The porter waits for room from now on.
+    pub fn want_room(&self) {
+        self.wants_room.store(true, Ordering::SeqCst);
+    }
+
+    // Lets the porter know that the node will neither take nor put anything more.
     pub fn let_go(&self) {
         self.is_let_go.store(true, Ordering::SeqCst);
-        let _ended = self.stream.shutdown(Shutdown::Read);
-        self.wake_reader();
-        self.wake_writer();
+        self.ring();
     }
 
     pub fn is_let_go(&self) -> bool {
@@ -64,33 +64,8 @@ impl Ties {
         let _ended = self.stream.shutdown(Shutdown::Both);
     }
 
-    // Lets the writer know that nothing more is read.
-    pub fn end_reading(&self) {
-        self.is_read.store(true, Ordering::SeqCst);
-        self.wake_writer();
-    }
-
-    // Rests for a moment, or until the node has taken items.
-    pub fn rest_reader<R: Wait>(&self, rt: &R) {
-        self.reader
-            .park_timeout(rt, Duration::from_millis(ROOM_REST));
-    }
-
-    // Rests until the node has put sayings into the ring, or has let the connection go.
-    pub fn rest_writer<R: Wait>(&self, rt: &R) {
-        self.writer.park(rt);
-    }
-
-    // Ends the stream behind the last octet that was written, and once the client has ended it too, or has not for two seconds, the other
-    // way. A stream that is ended with octets unread would take back what was written.
-    pub fn close<R: Wait>(&self, rt: &R) {
+    // Ends the stream behind the last octet that was written.
+    pub fn end_writing(&self) {
         let _ended = self.stream.shutdown(Shutdown::Write);
-        for _ in 0..CLOSE_RESTS {
-            if self.is_read.load(Ordering::SeqCst) {
-                return;
-            }
-            self.writer
-                .park_timeout(rt, Duration::from_millis(CLOSE_REST));
-        }
     }
 }

@@ -11,7 +11,7 @@ use mail_table::{Mail, NodeSeat, Office, found};
 use node_actor::Members;
 use realm_machine::Act;
 use rtrb::{Consumer, Producer, RingBuffer};
-use serve_lanes::{Arrival, Lobby, keep_door};
+use serve_lanes::{Arrival, Door, Lobby, keep_door};
 use serve_stores::Stores;
 use std::alloc::Global;
 use std::io::{Eprint, ErrorKind, Read, Write};
@@ -57,24 +57,35 @@ fn lobbies_of(alloc: Global, members: Members) -> Result<Vec<Arc<Lobby>>, ServeF
     Ok(lobbies)
 }
 
-// A listener for each node, the first one's at this port and each further one's at the next.
-fn listeners_of<R: Net<Listener = TcpListener, Stream = TcpStream>>(
+// A door for each node, the first one's at this port and each further one's at the next.
+fn doors_of<R: Net<Listener = TcpListener, Stream = TcpStream>>(
     rt: &R,
     alloc: Global,
     members: Members,
     port: u16,
-) -> Result<Vec<TcpListener>, ServeFault> {
-    let mut listeners = Vec::new(alloc);
+) -> Result<Vec<Door>, ServeFault> {
+    let mut doors = Vec::new(alloc);
     for below in 0..members.count() {
         let Some(port) = port.checked_add(u16::from(below)) else {
             return Err(ServeFault::Port);
         };
-        match TcpListener::bind(rt, (Ipv4Addr::LOCALHOST, port)) {
-            Ok(listener) => listeners.push(listener)?,
-            Err(_) => return Err(ServeFault::Port),
-        }
+        doors.push(door_at(rt, port)?)?;
     }
-    Ok(listeners)
+    Ok(doors)
+}
+
+// A door at this port.
+fn door_at<R: Net<Listener = TcpListener, Stream = TcpStream>>(
+    rt: &R,
+    port: u16,
+) -> Result<Door, ServeFault> {
+    let Ok(listener) = TcpListener::bind(rt, (Ipv4Addr::LOCALHOST, port)) else {
+        return Err(ServeFault::Port);
+    };
+    match Door::over(rt, listener) {
+        Ok(door) => Ok(door),
+        Err(_) => Err(ServeFault::Port),
+    }
 }
 
 // Says where each node listens.
@@ -92,7 +103,7 @@ fn tell<W: Write>(writer: &mut W, members: Members, port: u16) -> Result<(), Ser
     }
 }
 
-// The station of the last of these seats, and where its door puts what arrives.
+// The station of the last of these seats, and where its porter puts what arrives.
 fn station_of<'a>(
     alloc: Global,
     mail: &'a Mail<Act>,
@@ -112,13 +123,13 @@ fn station_of<'a>(
     Ok((Station::of(mail, members, seat, taken), arrivals))
 }
 
-// The stations of all these seats, the last one's first, and where their doors put what arrives.
+// The stations of all these seats, the last one's first, and where their porters put what arrives.
 fn stations_of<'a>(
     alloc: Global,
     mail: &'a Mail<Act>,
     members: Members,
     seats: &mut Vec<NodeSeat<Act>>,
-    doors: &mut Vec<Producer<Arrival>>,
+    porters: &mut Vec<Producer<Arrival>>,
 ) -> Result<Vec<Station<'a>>, ServeFault>
     requires fresh { All (λ s. Owns mail.now s × (s.part.seen.opened ≡ Never)) seats.old.items }
     requires members { members ≡ mail.now.members }
@@ -127,18 +138,18 @@ fn stations_of<'a>(
     for _ in 0..members.count() {
         let (station, arrivals) = station_of(alloc, mail, members, seats)?;
         stations.push(station)?;
-        doors.push(arrivals)?;
+        porters.push(arrivals)?;
     }
     Ok(stations)
 }
 
 // ---- threads that nobody joins
 
-// The thread of a node's door.
-fn open_door<R: Threads + Wait + Clock + Eprint + Clone + Drop + Send + 'static>(
+// The thread of a node's porter.
+fn start_porter<R: Threads + Wait + Clock + Eprint + Clone + Drop + Send + 'static>(
     rt: &R,
     alloc: Global,
-    listener: TcpListener,
+    door: Door,
     lobby: &Arc<Lobby>,
     arrivals: Producer<Arrival>,
     node: u8,
@@ -147,30 +158,30 @@ fn open_door<R: Threads + Wait + Clock + Eprint + Clone + Drop + Send + 'static>
     let lobby = Arc::try_clone(lobby)?;
     match thread::spawn(
         rt,
-        move || keep_door(theirs, alloc, listener, lobby, arrivals, node),
+        move || keep_door(theirs, alloc, door, lobby, arrivals, node),
     ) {
         Ok(_) => Ok(()),
         Err(_) => Err(ServeFault::Memory),
     }
 }
 
-// The doors of all nodes, the last one first.
-fn open_doors<R: Threads + Wait + Clock + Eprint + Clone + Drop + Send + 'static>(
+// The porters of all nodes, the last one first.
+fn start_porters<R: Threads + Wait + Clock + Eprint + Clone + Drop + Send + 'static>(
     rt: &R,
     alloc: Global,
     lobbies: &[Arc<Lobby>],
-    listeners: &mut Vec<TcpListener>,
-    doors: Vec<Producer<Arrival>>,
+    doors: &mut Vec<Door>,
+    porters: Vec<Producer<Arrival>>,
 ) -> Result<(), ServeFault> {
-    let mut node = listeners.len().min(7) as u8;
-    for arrivals in doors {
-        let Some(listener) = listeners.pop() else {
+    let mut node = doors.len().min(7) as u8;
+    for arrivals in porters {
+        let Some(door) = doors.pop() else {
             return Err(ServeFault::Memory);
         };
         let Some(lobby) = lobbies.get(usize::from(node).saturating_sub(1)) else {
             return Err(ServeFault::Memory);
         };
-        open_door(rt, alloc, listener, lobby, arrivals, node)?;
+        start_porter(rt, alloc, door, lobby, arrivals, node)?;
         node = node.saturating_sub(1);
     }
     Ok(())
@@ -338,7 +349,7 @@ where
     G: Gate + Sync,
 {
     let members = plan.members;
-    let mut listeners = listeners_of(rt, alloc, members, plan.port)?;
+    let mut doors = doors_of(rt, alloc, members, plan.port)?;
     tell(writer, members, plan.port)?;
     let lobbies = lobbies_of(alloc, members)?;
     let (sender, receiver) = bounded(alloc, ENDS)?;
@@ -346,9 +357,9 @@ where
     let Ok((mail, mut seats)) = found(alloc, &mut office, members) else {
         return Err(ServeFault::Memory);
     };
-    let mut doors = Vec::new(alloc);
-    let stations = stations_of(alloc, &mail, members, &mut seats, &mut doors)?;
-    open_doors(rt, alloc, &lobbies, &mut listeners, doors)?;
+    let mut porters = Vec::new(alloc);
+    let stations = stations_of(alloc, &mail, members, &mut seats, &mut porters)?;
+    start_porters(rt, alloc, &lobbies, &mut doors, porters)?;
     watch(rt, reader, &sender)?;
     let open = AtomicBool::new(true);
     let site = Site {

@@ -1,8 +1,0 @@
-use denote.Param.Send.{sendable}
-use Rattle.std.proofs.Crossing as heap
-use Rattle.rtrb.proofs.end.End.TheSendSync as end
-use Rattle.serve_lanes.proofs.Crossing.{arrival_send}
-use Rattle.serve_program.proofs.serve.open_door.Goals as goal
-
-pub spawn-requires-send-F : goal.spawn-requires-send-F
-spawn-requires-send-F g c κs within = let a = arrival_send in let r = c.type_bounds.send-R in search (sendable, heap.crosses, end.the_send) depth 20
