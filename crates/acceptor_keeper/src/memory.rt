@@ -14,7 +14,6 @@ use std::marker::Model;
 const LAST_BOOT: u64 = (1 << 48) - 1;
 
 /// A keeper whose rows are in memory, and which fails where it is told to: for tests, and for a node that needs no crash.
-#[derive(Drop)]
 pub struct MemKeeper<B> {
     alloc: Global,
     rows: Rows<B>,
@@ -22,6 +21,19 @@ pub struct MemKeeper<B> {
     keeps: bool,
     failed: bool,
     failures: u64,
+}
+
+impl<B: Drop> Drop for MemKeeper<B> {
+    fn drop(self) {
+        let MemKeeper {
+            alloc: _,
+            rows: _rows,
+            left: _,
+            keeps: _,
+            failed: _,
+            failures: _,
+        } = self;
+    }
 }
 
 impl<B> Model for MemKeeper<B> {

@@ -26,7 +26,6 @@ use std::marker::Model;
 
 /// What an actor is made of: a node, its store, the packets that wait to go out, the machine behind its log. What holds of an actor need not
 /// hold between the steps of an event, so it is asked for by the calls.
-#[derive(Drop)]
 pub struct Parts<M: Machine, K> {
     alloc: Global,
     node: Node<M::Body>,
@@ -36,6 +35,20 @@ pub struct Parts<M: Machine, K> {
     // The outcome whose commit failed.
     failed: Option<Outcome<M::Body>>,
     spoiled: bool,
+}
+
+impl<M: Machine, K: Drop> Drop for Parts<M, K> {
+    fn drop(self) {
+        let Parts {
+            alloc: _,
+            node: _node,
+            keeper: _keeper,
+            outboxes: _outboxes,
+            log: _log,
+            failed: _failed,
+            spoiled: _,
+        } = self;
+    }
 }
 
 impl<M: Machine, K> Model for Parts<M, K> {
@@ -268,10 +281,13 @@ impl<M: Machine, K: Keeper<M::Body>> Parts<M, K> {
         ensures keeper { result.2 ≡ self.keeper }
     {
         let Parts {
+            alloc: _,
             node,
             keeper,
+            outboxes: _outboxes,
+            log: _log,
             failed,
-            ..
+            spoiled: _,
         } = self;
         (node.into_rows(), failed, keeper)
     }
@@ -283,12 +299,13 @@ impl<M: Machine, K: Keeper<M::Body> + Drop> Parts<M, K> {
         ensures { result ≡ self.log }
     {
         let Parts {
+            alloc: _,
             node,
             keeper,
             outboxes,
             log,
             failed,
-            ..
+            spoiled: _,
         } = self;
         drop(node);
         drop(keeper);

@@ -9,13 +9,24 @@ use std::marker::Model;
 
 /// What is left of an actor that was crashed, or that could not begin: the node's number, the members, its last rows if it was ever
 /// opened, the outcome whose commit failed, if one did, and the node's seat at the table. An actor goes on from there.
-#[derive(Drop)]
 pub struct Post<B: Body> {
     me: u8,
     members: Members,
     rows: Option<Rows<B>>,
     failed: Option<Outcome<B>>,
     seat: NodeSeat<B>,
+}
+
+impl<B: Body> Drop for Post<B> {
+    fn drop(self) {
+        let Post {
+            me: _,
+            members: _,
+            rows: _rows,
+            failed: _failed,
+            seat: _seat,
+        } = self;
+    }
 }
 
 impl<B: Body> Model for Post<B> {

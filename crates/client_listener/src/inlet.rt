@@ -20,11 +20,19 @@ use wamp_rawsocket::Splitter;
 /// octets that are no whole frame, and an item that found the ring full. A clause sees both.
 ///
 /// Whatever is fed and put in whatever order, what is put are the items of [`put_transport`](crate::put_transport), each once and in order.
-#[derive(Drop)]
 pub struct Inlet {
     splitter: Splitter,
     // What is put next.
     next: Option<FromClient>,
+}
+
+impl Drop for Inlet {
+    fn drop(self) {
+        let Inlet {
+            splitter: _splitter,
+            next: _next,
+        } = self;
+    }
 }
 
 impl Model for Inlet {

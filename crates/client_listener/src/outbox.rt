@@ -25,12 +25,21 @@ const MOST_GATHERED: u32 = 1 << 16;
 
 /// The frames that wait to be written to one client. A clause sees the longest payload that the client takes, and the octets
 /// of the frames.
-#[derive(Drop)]
 pub struct Outbox {
     limit: u32,
     frames: Vec<u8>,
     // The text of one message, kept for its room.
     text: Vec<u8>,
+}
+
+impl Drop for Outbox {
+    fn drop(self) {
+        let Outbox {
+            limit: _,
+            frames: _frames,
+            text: _text,
+        } = self;
+    }
 }
 
 impl Model for Outbox {

@@ -32,11 +32,20 @@ use world_seats::Seat;
 const LAST_BOOT: u64 = (1 << 48) - 1;
 
 /// A member of the cluster: its node, and the machine that attends the node.
-#[derive(Drop)]
 pub struct Member<M: Machine> {
     me: u8,
     seat: Seat<M::Body>,
     follower: Follower<M>,
+}
+
+impl<M: Machine> Drop for Member<M> {
+    fn drop(self) {
+        let Member {
+            me: _,
+            seat: _seat,
+            follower: _follower,
+        } = self;
+    }
 }
 
 impl<M: Machine> Model for Member<M> {

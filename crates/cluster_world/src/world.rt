@@ -18,12 +18,22 @@ use std::alloc::Global;
 use std::marker::Model;
 
 /// A whole cluster under any schedule: all nodes with their machines, and every packet that they ever sent.
-#[derive(Drop)]
 pub struct World<M: Machine> {
     pub(crate) members: Members,
     pub(crate) list: Vec<Member<M>>,
     pub(crate) sent: SentPackets<M::Body>,
     pub(crate) made: Vec<Entry<M::Body>>,
+}
+
+impl<M: Machine> Drop for World<M> {
+    fn drop(self) {
+        let World {
+            members: _,
+            list: _list,
+            sent: _sent,
+            made: _made,
+        } = self;
+    }
 }
 
 impl<M: Machine> Model for World<M> {

@@ -14,10 +14,18 @@ struct Member<B> {
 }
 
 /// Nodes, and the packets that are under way.
-#[derive(Drop)]
 pub struct Nodes<B> {
     members: Vec<Member<B>>,
     sent: VecDeque<Packet<B>>,
+}
+
+impl<B: Drop> Drop for Nodes<B> {
+    fn drop(self) {
+        let Nodes {
+            members: _members,
+            sent: _sent,
+        } = self;
+    }
 }
 
 /// Why an event did not happen.

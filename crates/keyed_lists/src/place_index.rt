@@ -8,9 +8,14 @@ use std::marker::Model;
 /// Places by keys.
 ///
 /// Cost: each call takes a number of steps that is logarithmic in the number of keys; `places_under` one more for each place.
-#[derive(Drop)]
 pub struct PlaceIndex<K: Ord> {
     places: BTreeMap<K, u64>,
+}
+
+impl<K: Ord + Drop> Drop for PlaceIndex<K> {
+    fn drop(self) {
+        let PlaceIndex { places: _places } = self;
+    }
 }
 
 impl<K: Ord> Model for PlaceIndex<K> {

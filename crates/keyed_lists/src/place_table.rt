@@ -9,9 +9,14 @@ use std::marker::Model;
 /// Places by keys, which are found by hash and are in no order: `PlaceIndex` is for those that are asked for by a part of them.
 ///
 /// Cost: each call takes a number of steps that is the same for any number of keys, as a rule; `put` at times one for each key.
-#[derive(Drop)]
 pub struct PlaceTable<K: Ord + Hash> {
     places: IndexMap<K, u64>,
+}
+
+impl<K: Ord + Hash + Drop> Drop for PlaceTable<K> {
+    fn drop(self) {
+        let PlaceTable { places: _places } = self;
+    }
 }
 
 impl<K: Ord + Hash> Model for PlaceTable<K> {

@@ -13,9 +13,14 @@ use std::marker::Model;
 /// Members in the order in which they came, each at a place: a number, which rises from each member to the next.
 ///
 /// Cost: each call takes a number of steps that is logarithmic in the number of members, `len` one.
-#[derive(Drop)]
 pub struct Rows<T> {
     rows: BTreeMap<u64, T>,
+}
+
+impl<T: Drop> Drop for Rows<T> {
+    fn drop(self) {
+        let Rows { rows: _rows } = self;
+    }
 }
 
 impl<T> Model for Rows<T> {

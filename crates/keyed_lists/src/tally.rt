@@ -8,9 +8,14 @@ use std::marker::Model;
 /// How many there are of each number.
 ///
 /// Cost: each call takes a number of steps that is logarithmic in the number of numbers that are counted.
-#[derive(Drop)]
 pub struct Tally {
     counts: BTreeMap<u64, u64>,
+}
+
+impl Drop for Tally {
+    fn drop(self) {
+        let Tally { counts: _counts } = self;
+    }
 }
 
 impl Model for Tally {

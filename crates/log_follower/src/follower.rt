@@ -20,7 +20,6 @@ use std::marker::Model;
 /// The machine stands at the longest log that the node has had. After a crash the node applies that log again, in a later boot; the machine
 /// is not told it again. What it said there to transports that the node had not had yet was kept, and is handed out then. What it says to
 /// transports of other nodes, or of earlier boots of this one, is dropped.
-#[derive(Drop)]
 pub struct Follower<M: Machine> {
     alloc: Global,
     node: u8,
@@ -30,6 +29,20 @@ pub struct Follower<M: Machine> {
     kept: Kept<M::Say>,
     handed: Handed<M::Say>,
     given_up: bool,
+}
+
+impl<M: Machine> Drop for Follower<M> {
+    fn drop(self) {
+        let Follower {
+            alloc: _,
+            node: _,
+            applied: _applied,
+            stands: _,
+            kept: _kept,
+            handed: _handed,
+            given_up: _,
+        } = self;
+    }
 }
 
 impl<M: Machine> Model for Follower<M> {

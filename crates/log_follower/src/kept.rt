@@ -14,10 +14,18 @@ pub struct Place {
 }
 
 // What the machine said at places of the log to transports of a boot, until the node passes the place in that boot.
-#[derive(Drop)]
 pub struct Kept<Y> {
     alloc: Global,
     by_place: IndexMap<Place, Vec<Y>>,
+}
+
+impl<Y: Drop> Drop for Kept<Y> {
+    fn drop(self) {
+        let Kept {
+            alloc: _,
+            by_place: _by_place,
+        } = self;
+    }
 }
 
 impl<Y> Model for Kept<Y> {

@@ -63,11 +63,20 @@ impl<B> Plain<Token<B>, Name, u64> for Add {
 }
 
 /// An office. A program makes one, and founds all its tables in it: seats of two offices cannot be compared.
-#[derive(Drop)]
 pub struct Office {
     head: Word<Name, u64, Law>,
     seen: Seen<Name, u64, Law>,
     founded: u64,
+}
+
+impl Drop for Office {
+    fn drop(self) {
+        let Office {
+            head: _head,
+            seen: _seen,
+            founded: _,
+        } = self;
+    }
 }
 
 impl Model for Office {

@@ -28,11 +28,20 @@ use std::marker::Model;
 ///
 /// The calls that take an event answer what the machine says, at what the event applies, to the transports of this node in its present
 /// boot. They ask for the table of the actor's seat. None of them waits.
-#[derive(Drop)]
 pub struct Actor<M: Machine, K: Keeper<M::Body>> {
     parts: Parts<M, K>,
     seat: NodeSeat<M::Body>,
     round: Round,
+}
+
+impl<M: Machine, K: Keeper<M::Body> + Drop> Drop for Actor<M, K> {
+    fn drop(self) {
+        let Actor {
+            parts: _parts,
+            seat: _seat,
+            round: _round,
+        } = self;
+    }
 }
 
 impl<M: Machine, K: Keeper<M::Body>> Model for Actor<M, K> {
@@ -258,7 +267,11 @@ impl<M: Machine, K: Keeper<M::Body>> Actor<M, K> {
         ensures seat { result.0.seat ≡ self.seat }
         ensures keeper { result.1 ≡ self.keeper }
     {
-        let Actor { parts, seat, .. } = self;
+        let Actor {
+            parts,
+            seat,
+            round: _round,
+        } = self;
         let (me, members) = (parts.me(), parts.members());
         let (rows, failed, keeper) = parts.leave_rows();
         (Post::of(me, members, Some(rows), failed, seat), keeper)
@@ -273,7 +286,11 @@ impl<M: Machine, K: Keeper<M::Body> + Drop> Actor<M, K> {
         ensures machine { (first : M.Content) → Follows (machine_from M.next M.says M.to) M.content first self.log
             → Follows (machine_from M.next M.says M.to) M.content first result.1 }
     {
-        let Actor { parts, seat, .. } = self;
+        let Actor {
+            parts,
+            seat,
+            round: _round,
+        } = self;
         (seat, parts.leave())
     }
 }

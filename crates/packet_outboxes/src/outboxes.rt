@@ -18,13 +18,23 @@ struct Stamped<B> {
 }
 
 /// The packets of a node that wait to be sent: for each other member the last 4,096, in the order in which they were sent.
-#[derive(Drop)]
 pub struct Outboxes<B> {
     me: u8,
     members: Members,
     // One for each number from 0 up to that of the last member; those of 0 and of the node itself hold nothing.
     boxes: Vec<HeapCircularBuffer<Stamped<B>>>,
     next: u64,
+}
+
+impl<B: Drop> Drop for Outboxes<B> {
+    fn drop(self) {
+        let Outboxes {
+            me: _,
+            members: _,
+            boxes: _boxes,
+            next: _,
+        } = self;
+    }
 }
 
 impl<B> Model for Outboxes<B> {

@@ -9,12 +9,23 @@ use std::alloc::Global;
 use std::marker::Model;
 
 /// The rows of one member, and what they allow it to promise and to vote for.
-#[derive(Debug, Drop)]
+#[derive(Debug)]
 pub struct Acceptor<B> {
     boot: u64,
     promised: Option<Ballot>,
     votes: KeptVotes<B>,
     failed: bool,
+}
+
+impl<B: Drop> Drop for Acceptor<B> {
+    fn drop(self) {
+        let Acceptor {
+            boot: _,
+            promised: _,
+            votes: _votes,
+            failed: _,
+        } = self;
+    }
 }
 
 impl<B> Model for Acceptor<B> {
@@ -51,7 +62,7 @@ impl<B> Acceptor<B> {
             boot,
             promised,
             votes,
-            ..
+            failed: _,
         } = self;
         Rows {
             boot,

@@ -18,10 +18,18 @@ pub struct LearnedEntry<B> {
 
 /// What was learned, by ascending slot: the places of a run of slots from 1 on, and those that stand further ahead. A place may be kept free
 /// for the entry of its slot, so that putting it there takes no memory.
-#[derive(Drop)]
 pub struct LearnedEntries<B> {
     run: Vec<Option<Entry<B>>>,
     ahead: BTreeMap<u64, Option<Entry<B>>>,
+}
+
+impl<B: Drop> Drop for LearnedEntries<B> {
+    fn drop(self) {
+        let LearnedEntries {
+            run: _run,
+            ahead: _ahead,
+        } = self;
+    }
 }
 
 // How far behind the run a slot may stand for the run to go on up to it.

@@ -14,12 +14,22 @@ use std::alloc::Global;
 use std::marker::Model;
 
 /// One member as a learner: what it heard of the members' votes, and the entries that it learned (Lamport 2001, section 2.3).
-#[derive(Drop)]
 pub struct Learner<B> {
     alloc: Global,
     members: Members,
     heard: Tallies,
     learned: LearnedEntries<B>,
+}
+
+impl<B: Drop> Drop for Learner<B> {
+    fn drop(self) {
+        let Learner {
+            alloc: _,
+            members: _,
+            heard: _heard,
+            learned: _learned,
+        } = self;
+    }
 }
 
 impl<B> Model for Learner<B> {

@@ -17,9 +17,14 @@ pub struct Place {
 }
 
 /// Which members were heard to have voted, for each place, in the order in which the places were first heard.
-#[derive(Drop)]
 pub struct Tallies {
     table: IndexMap<Place, NodeSet>,
+}
+
+impl Drop for Tallies {
+    fn drop(self) {
+        let Tallies { table: _table } = self;
+    }
 }
 
 impl Model for Tallies {

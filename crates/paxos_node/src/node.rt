@@ -29,7 +29,6 @@ use std::alloc::Global;
 use std::marker::Model;
 
 /// One node of the cluster: acceptor, proposer and learner, with the log that it applies and the entries that wait for a slot.
-#[derive(Drop)]
 pub struct Node<B> {
     alloc: Global,
     me: u8,
@@ -47,6 +46,26 @@ pub struct Node<B> {
     taken: u64,
     // Whether `adopt` has answered `Memory`.
     failed: bool,
+}
+
+impl<B: Drop> Drop for Node<B> {
+    fn drop(self) {
+        let Node {
+            alloc: _,
+            me: _,
+            members: _,
+            acceptor: _acceptor,
+            is_up: _,
+            proposer: _proposer,
+            learner: _learner,
+            applied: _,
+            roll: _roll,
+            pending: _pending,
+            front: _,
+            taken: _,
+            failed: _,
+        } = self;
+    }
 }
 
 impl<B> Model for Node<B> {
@@ -220,7 +239,21 @@ impl<B: Drop> Node<B> {
     pub fn into_rows(self) -> Rows<B>
         ensures { result ≡ self.state.rows }
     {
-        let Node { acceptor, .. } = self;
+        let Node {
+            alloc: _,
+            me: _,
+            members: _,
+            acceptor,
+            is_up: _,
+            proposer: _proposer,
+            learner: _learner,
+            applied: _,
+            roll: _roll,
+            pending: _pending,
+            front: _,
+            taken: _,
+            failed: _,
+        } = self;
         acceptor.into_rows()
     }
 

@@ -4,9 +4,15 @@ use paxos_packets::Packet;
 use std::marker::Model;
 
 /// Packets in the order in which they were sent.
-#[derive(Debug, Drop)]
+#[derive(Debug)]
 pub struct Packets<B> {
     list: Vec<Packet<B>>,
+}
+
+impl<B: Drop> Drop for Packets<B> {
+    fn drop(self) {
+        let Packets { list: _list } = self;
+    }
 }
 
 impl<B> Model for Packets<B> {

@@ -33,9 +33,15 @@ pub enum Entry<B> {
 }
 
 /// Entries in an order.
-#[derive(Debug, Drop)]
+#[derive(Debug)]
 pub struct Entries<B> {
     list: Vec<Entry<B>>,
+}
+
+impl<B: Drop> Drop for Entries<B> {
+    fn drop(self) {
+        let Entries { list: _list } = self;
+    }
 }
 
 impl<B> Model for Entries<B> {

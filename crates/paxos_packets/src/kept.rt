@@ -8,9 +8,15 @@ use std::alloc::Global;
 use std::marker::Model;
 
 /// Votes by ascending slot, at most one in each, which can make room for more before they are put.
-#[derive(Debug, Drop)]
+#[derive(Debug)]
 pub struct KeptVotes<B> {
     list: Vec<Vote<B>>,
+}
+
+impl<B: Drop> Drop for KeptVotes<B> {
+    fn drop(self) {
+        let KeptVotes { list: _list } = self;
+    }
 }
 
 impl<B> Model for KeptVotes<B> {

@@ -29,7 +29,7 @@ pub enum Kind<B> {
 }
 
 /// What one member sends to another. It may be lost, repeated or overtaken, and is never altered.
-#[derive(Debug, Drop)]
+#[derive(Debug)]
 pub struct Packet<B> {
     /// The member that sends it.
     pub sender: u8,
@@ -37,6 +37,16 @@ pub struct Packet<B> {
     pub addressee: u8,
     /// What it says.
     pub kind: Kind<B>,
+}
+
+impl<B: Drop> Drop for Packet<B> {
+    fn drop(self) {
+        let Packet {
+            sender: _,
+            addressee: _,
+            kind: _kind,
+        } = self;
+    }
 }
 
 impl<B: Body> Body for Kind<B> {

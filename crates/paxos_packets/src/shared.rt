@@ -7,9 +7,15 @@ use std::sync::Arc;
 
 /// A body that is held once, however many votes, packets and logs have it: a copy is one holder more, not a body more.
 /// In contracts it is the body itself.
-#[derive(Debug, Drop)]
+#[derive(Debug)]
 pub struct Shared<T> {
     held: Arc<T>,
+}
+
+impl<T: Drop> Drop for Shared<T> {
+    fn drop(self) {
+        let Shared { held: _held } = self;
+    }
 }
 
 impl<T> Model for Shared<T> {

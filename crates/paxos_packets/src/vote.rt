@@ -24,9 +24,15 @@ pub struct Vote<B> {
 }
 
 /// Votes by ascending slot, at most one in each.
-#[derive(Debug, Drop)]
+#[derive(Debug)]
 pub struct Votes<B> {
     list: Vec<Vote<B>>,
+}
+
+impl<B: Drop> Drop for Votes<B> {
+    fn drop(self) {
+        let Votes { list: _list } = self;
+    }
 }
 
 impl<B> Model for Votes<B> {
@@ -103,7 +109,8 @@ impl<B: Drop> Votes<B> {
         ensures ok { OnOk result (self.new ≡ put_votes votes self.old) }
         ensures err { OnErr result (self.new ≡ self.old) }
     {
-        put_all_in(&mut self.list, votes.list)
+        let Votes { list } = votes;
+        put_all_in(&mut self.list, list)
     }
 }
 

@@ -10,11 +10,19 @@ use std::alloc::Global;
 use std::marker::Model;
 
 /// What was proposed in one ballot, in the order in which it was proposed.
-#[derive(Drop)]
 pub struct Proposals<B> {
     list: Vec<Vote<B>>,
     // the greatest slot in which an entry of this identity was proposed
     latest: IndexMap<Identity, u64>,
+}
+
+impl<B: Drop> Drop for Proposals<B> {
+    fn drop(self) {
+        let Proposals {
+            list: _list,
+            latest: _latest,
+        } = self;
+    }
 }
 
 impl<B> Model for Proposals<B> {

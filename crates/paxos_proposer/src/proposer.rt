@@ -24,7 +24,6 @@ pub(crate) const LAST_ROUND: u64 = (1 << 48) - 1;
 
 /// One member as a proposer: its ballot under way with the promises of it, or, once a majority promised, with what it proposed in it;
 /// and the greatest round that it saw. It is lost in a crash.
-#[derive(Drop)]
 pub struct Proposer<B> {
     alloc: Global,
     me: u8,
@@ -33,6 +32,20 @@ pub struct Proposer<B> {
     phase: Phase,
     promises: Vec<CountedPromise<B>>,
     proposed: Proposals<B>,
+}
+
+impl<B: Drop> Drop for Proposer<B> {
+    fn drop(self) {
+        let Proposer {
+            alloc: _,
+            me: _,
+            members: _,
+            seen: _,
+            phase: _phase,
+            promises: _promises,
+            proposed: _proposed,
+        } = self;
+    }
 }
 
 impl<B> Model for Proposer<B> {

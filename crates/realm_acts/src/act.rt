@@ -7,7 +7,6 @@ use wamp_ids::Id;
 use wamp_kinds::Read;
 
 /// What happens at one client's transport.
-#[derive(Drop)]
 pub enum Act {
     /// The transport is open.
     Connect,
@@ -16,6 +15,19 @@ pub enum Act {
     Said { draw: Id, read: Shared<Read> },
     /// The transport is closed.
     Hung,
+}
+
+impl Drop for Act {
+    fn drop(self) {
+        match self {
+            Act::Connect => {},
+            Act::Said {
+                draw: _,
+                read: _read,
+            } => {},
+            Act::Hung => {},
+        }
+    }
 }
 
 impl Body for Act {

@@ -46,10 +46,18 @@ impl Open {
 ///
 /// Cost: a number of steps that is logarithmic in the number of open calls. Calls that tell of a session's calls, and those by which it
 /// leaves, take so many for each of its calls; `to_vec` takes a step for each open call.
-#[derive(Drop)]
 pub struct Calls {
     limit: u32,
     held: OpenCalls,
+}
+
+impl Drop for Calls {
+    fn drop(self) {
+        let Calls {
+            limit: _,
+            held: _held,
+        } = self;
+    }
 }
 
 impl Model for Calls {

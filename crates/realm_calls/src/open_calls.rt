@@ -18,13 +18,24 @@ use wamp_ids::Id;
 
 // The open calls. Each stands at a place, under which its caller and request are kept, and its callee and invocation; and how many calls
 // each caller has is counted.
-#[derive(Drop)]
 pub struct OpenCalls {
     alloc: Global,
     rows: Rows<Open>,
     requests: PlaceIndex<(u64, u64)>,
     invocations: PlaceIndex<(u64, u64)>,
     counts: Tally,
+}
+
+impl Drop for OpenCalls {
+    fn drop(self) {
+        let OpenCalls {
+            alloc: _,
+            rows: _rows,
+            requests: _requests,
+            invocations: _invocations,
+            counts: _counts,
+        } = self;
+    }
 }
 
 impl Model for OpenCalls {

@@ -17,10 +17,18 @@ pub struct Limits {
 }
 
 // What a realm is made with.
-#[derive(Drop)]
 pub struct Config {
     pub name: Text,
     pub limits: Limits,
+}
+
+impl Drop for Config {
+    fn drop(self) {
+        let Config {
+            name: _name,
+            limits: _limits,
+        } = self;
+    }
 }
 
 impl Model for Config {

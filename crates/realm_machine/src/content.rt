@@ -19,13 +19,24 @@ use wamp_kinds::Message;
 
 // The content of a realm. What it does for an act comes in parts, each a case of the step. An error, for want of memory alone,
 // may leave a part undone.
-#[derive(Drop)]
 pub struct Content {
     pub alloc: Global,
     pub sessions: Sessions,
     pub registry: Registrations,
     pub topics: Subscriptions,
     pub calls: Calls,
+}
+
+impl Drop for Content {
+    fn drop(self) {
+        let Content {
+            alloc: _,
+            sessions: _sessions,
+            registry: _registry,
+            topics: _topics,
+            calls: _calls,
+        } = self;
+    }
 }
 
 impl Model for Content {

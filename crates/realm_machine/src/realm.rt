@@ -14,11 +14,19 @@ use wamp_ids::Text;
 
 /// One realm of a router: its sessions, its registrations with their callees, its subscriptions with their members, and its open
 /// calls.
-#[derive(Drop)]
 pub struct Realm {
     config: Config,
     // Nothing once the realm failed.
     content: Option<Content>,
+}
+
+impl Drop for Realm {
+    fn drop(self) {
+        let Realm {
+            config: _config,
+            content: _content,
+        } = self;
+    }
 }
 
 impl Model for Realm {

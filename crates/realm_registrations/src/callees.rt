@@ -12,10 +12,18 @@ use wamp_ids::Id;
 /// The sessions that are called under a registration, in the order of their turns. One who is alone takes no memory.
 ///
 /// Cost: `turn` and who is called take one step, `has`, `join` and `leave` go over the callees of this registration.
-#[derive(Drop)]
 pub struct Callees {
     alone: Option<Id>,
     turns: Turns,
+}
+
+impl Drop for Callees {
+    fn drop(self) {
+        let Callees {
+            alone: _,
+            turns: _turns,
+        } = self;
+    }
 }
 
 impl Model for Callees {

@@ -7,13 +7,23 @@ use session_groups::{Group, Turning};
 use wamp_ids::{Id, Invoke, Match, Pattern};
 
 /// A registration: which procedures it serves, and the sessions that are called for them.
-#[derive(Drop)]
 pub struct Registration {
     pub id: Id,
     pub pattern: Pattern<'static>,
     pub invoke: Invoke,
     /// In the order of joining; under `RoundRobin` the one that is called next comes first.
     pub callees: Callees,
+}
+
+impl Drop for Registration {
+    fn drop(self) {
+        let Registration {
+            id: _,
+            pattern: _pattern,
+            invoke: _,
+            callees: _callees,
+        } = self;
+    }
 }
 
 /// Who is called for a procedure.

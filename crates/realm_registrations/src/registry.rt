@@ -18,11 +18,20 @@ use wamp_ids::{Id, Invoke, LAST_ID, Pattern, Uri};
 /// Cost: each call takes a number of steps that is logarithmic in the number of registrations and of sessions; `choose` what a table
 /// of patterns takes to find who serves. `register` and `unregister` also go over the callees of the one registration, `leave` over
 /// those of the registrations that the session has.
-#[derive(Drop)]
 pub struct Registrations {
     limit: u32,
     alloc: Global,
     groups: Groups<Registration>,
+}
+
+impl Drop for Registrations {
+    fn drop(self) {
+        let Registrations {
+            limit: _,
+            alloc: _,
+            groups: _groups,
+        } = self;
+    }
 }
 
 impl Model for Registrations {

@@ -17,13 +17,24 @@ use wamp_ids::Id;
 
 // The connected transports. Each stands at a place, under which its transport is kept, and its session's id if it has one; and how
 // many sessions there are is counted.
-#[derive(Drop)]
 pub struct Connected {
     alloc: Global,
     rows: Rows<Link>,
     transports: PlaceTable<Transport>,
     ids: SessionIndex,
     count: u64,
+}
+
+impl Drop for Connected {
+    fn drop(self) {
+        let Connected {
+            alloc: _,
+            rows: _rows,
+            transports: _transports,
+            ids: _ids,
+            count: _,
+        } = self;
+    }
 }
 
 impl Model for Connected {

@@ -10,9 +10,14 @@ use std::alloc::Global;
 use wamp_ids::Id;
 
 // The places of sessions. Nothing is kept any more once there was no memory for one of them: each is found by a walk then.
-#[derive(Drop)]
 pub struct SessionIndex {
     places: Option<PlaceTable<u64>>,
+}
+
+impl Drop for SessionIndex {
+    fn drop(self) {
+        let SessionIndex { places: _places } = self;
+    }
 }
 
 impl SessionIndex {

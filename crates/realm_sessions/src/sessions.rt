@@ -18,10 +18,18 @@ use wamp_ids::Id;
 /// Cost: a number of steps that is logarithmic in the number of transports, `open` so many more for each id that it finds taken.
 /// `of_origin` and `to_vec` take a step for each transport. Where memory wanted for a session's id in `open`, each call that asks for a
 /// session by its id goes over the transports from then on.
-#[derive(Drop)]
 pub struct Sessions {
     limit: u32,
     held: Connected,
+}
+
+impl Drop for Sessions {
+    fn drop(self) {
+        let Sessions {
+            limit: _,
+            held: _held,
+        } = self;
+    }
 }
 
 impl Model for Sessions {

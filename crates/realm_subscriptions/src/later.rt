@@ -11,10 +11,18 @@ use wamp_ids::Id;
 // The members of a subscription who joined while it had others, in the order of joining, each once.
 //
 // Cost: each call takes a number of steps that is logarithmic in the number of members, `to_vec` one for each.
-#[derive(Drop)]
 pub struct Later {
     rows: Rows<Id>,
     places: PlaceIndex<u64>,
+}
+
+impl Drop for Later {
+    fn drop(self) {
+        let Later {
+            rows: _rows,
+            places: _places,
+        } = self;
+    }
 }
 
 impl Model for Later {

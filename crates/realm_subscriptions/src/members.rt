@@ -13,10 +13,18 @@ use wamp_ids::Id;
 /// his own.
 ///
 /// Cost: each call takes a number of steps that is logarithmic in the number of members, `to_vec` one for each.
-#[derive(Drop)]
 pub struct Members {
     first: Option<Id>,
     later: Later,
+}
+
+impl Drop for Members {
+    fn drop(self) {
+        let Members {
+            first: _,
+            later: _later,
+        } = self;
+    }
 }
 
 impl Model for Members {

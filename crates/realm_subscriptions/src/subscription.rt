@@ -7,11 +7,20 @@ use session_groups::Group;
 use wamp_ids::{Id, Pattern};
 
 /// A subscription, with the sessions that are its members in the order of joining.
-#[derive(Drop)]
 pub struct Subscription {
     pub id: Id,
     pub pattern: Pattern<'static>,
     pub members: Members,
+}
+
+impl Drop for Subscription {
+    fn drop(self) {
+        let Subscription {
+            id: _,
+            pattern: _pattern,
+            members: _members,
+        } = self;
+    }
 }
 
 impl Subscription {

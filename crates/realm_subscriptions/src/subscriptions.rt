@@ -17,11 +17,20 @@ use wamp_ids::{Id, Pattern, Uri};
 /// The subscriptions of a realm by ascending id, of which a session may have only so many.
 ///
 /// Cost: each call takes a number of steps that is logarithmic in the number of subscriptions and of sessions, and what is said beside it.
-#[derive(Drop)]
 pub struct Subscriptions {
     pub(crate) limit: u32,
     pub(crate) alloc: Global,
     pub(crate) groups: Groups<Subscription>,
+}
+
+impl Drop for Subscriptions {
+    fn drop(self) {
+        let Subscriptions {
+            limit: _,
+            alloc: _,
+            groups: _groups,
+        } = self;
+    }
 }
 
 impl Model for Subscriptions {

@@ -64,13 +64,24 @@ pub struct Step<Y> {
 /// A log that is learned slot by slot in any order, and the machine that follows it.
 ///
 /// Entries that are learned ahead of the next slot are kept in a hash table, by their slots. An entry is never copied.
-#[derive(Drop)]
 pub struct AppliedLog<M: Machine> {
     applied: Vec<Entry<M::Body>>,
     ahead: IndexMap<Slot, Entry<M::Body>>,
     roll: Roll,
     machine: M,
     failed: bool,
+}
+
+impl<M: Machine> Drop for AppliedLog<M> {
+    fn drop(self) {
+        let AppliedLog {
+            applied: _applied,
+            ahead: _ahead,
+            roll: _roll,
+            machine: _machine,
+            failed: _,
+        } = self;
+    }
 }
 
 impl<M: Machine> Model for AppliedLog<M> {

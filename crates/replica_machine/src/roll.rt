@@ -117,9 +117,17 @@ impl Standing {
 
 /// Where each node stands behind a log, for every number that a node may have. It tells in constant time, whatever the log's
 /// length, whether one more entry takes effect.
-#[derive(Debug, Drop)]
+#[derive(Debug)]
 pub struct Roll {
     standings: [Standing; 256],
+}
+
+impl Drop for Roll {
+    fn drop(self) {
+        let Roll {
+            standings: _standings,
+        } = self;
+    }
 }
 
 impl Model for Roll {

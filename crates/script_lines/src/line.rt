@@ -13,7 +13,6 @@ use std::alloc::Global;
 use wamp_messages::{Parser, read_by};
 
 /// What happens next in a cluster, as a line of a script says it.
-#[derive(Drop)]
 pub enum Line {
     /// The node takes an act of its transport with this number.
     Take { node: u8, number: u32, act: Act },
@@ -31,6 +30,25 @@ pub enum Line {
     Restart { node: u8 },
     /// Each packet that no line has delivered and whose both ends are among these nodes reaches its addressee.
     Flush { among: NodeSet },
+}
+
+impl Drop for Line {
+    fn drop(self) {
+        match self {
+            Line::Take {
+                node: _,
+                number: _,
+                act: _act,
+            } => {},
+            Line::Tick { node: _ } => {},
+            Line::Start { node: _ } => {},
+            Line::Suspect { node: _, other: _ } => {},
+            Line::Deliver { packet: _ } => {},
+            Line::Crash { node: _ } => {},
+            Line::Restart { node: _ } => {},
+            Line::Flush { among: _ } => {},
+        }
+    }
 }
 
 /// The line that these octets spell, in their whole length and without a line feed, or `None` where they spell none.

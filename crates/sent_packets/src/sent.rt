@@ -9,11 +9,19 @@ use std::alloc::Global;
 use std::marker::Model;
 
 /// Every packet ever sent, in order. No packet is ever taken out.
-#[derive(Drop)]
 pub struct SentPackets<B> {
     packets: Vec<Packet<B>>,
     // The places of the different packets.
     places: IndexMap<Key, usize>,
+}
+
+impl<B: Drop> Drop for SentPackets<B> {
+    fn drop(self) {
+        let SentPackets {
+            packets: _packets,
+            places: _places,
+        } = self;
+    }
 }
 
 impl<B> Model for SentPackets<B> {

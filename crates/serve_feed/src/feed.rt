@@ -31,7 +31,6 @@ const MOST_ARRIVALS: u8 = 64;
 /// are connections; each time that somebody stirred each connection's ring is asked once. Messages are moved, not copied. Behind an idle turn, where
 /// entries or many packets moved since the last tick, it looks for some microseconds whether the node is woken: who waits for a packet has it
 /// sooner than the node could rest and be woken.
-#[derive(Drop)]
 pub struct ClientFeed<'a> {
     node: u8,
     members: Members,
@@ -62,6 +61,35 @@ pub struct ClientFeed<'a> {
     judged: u64,
     keeping: [Keeping; 7],
     is_held: bool,
+}
+
+impl Drop for ClientFeed<'_> {
+    fn drop(self) {
+        let ClientFeed {
+            node: _,
+            members: _,
+            key: _,
+            lobby: _lobby,
+            lobbies: _lobbies,
+            pace: _pace,
+            boot: _,
+            arrivals: _arrivals,
+            lanes: _lanes,
+            draws: _draws,
+            ticks: _ticks,
+            round: _,
+            is_busy: _,
+            is_ticked: _,
+            under_way: _,
+            most: _,
+            applied: _,
+            waiting: _waiting,
+            given: _,
+            judged: _,
+            keeping: _keeping,
+            is_held: _,
+        } = self;
+    }
 }
 
 impl<'a> ClientFeed<'a> {

@@ -12,7 +12,6 @@ const LOOKS: u32 = 10_000;
 
 /// What a node's thread shares with the threads of its clients and with those of its peers: where it rests, who wakes it, for whom its
 /// packets wait, and how many connections there are. One thread alone rests in it. No call takes memory, and but for [`Lobby::rest`] none waits.
-#[derive(Drop)]
 pub struct Lobby {
     bell: Parker,
     is_woken: AtomicBool,
@@ -21,6 +20,19 @@ pub struct Lobby {
     taken: AtomicU64,
     // For whom its packets wait: a bit for each node.
     waits: AtomicU64,
+}
+
+impl Drop for Lobby {
+    fn drop(self) {
+        let Lobby {
+            bell: _bell,
+            is_woken: _is_woken,
+            is_resting: _is_resting,
+            is_stirred: _is_stirred,
+            taken: _taken,
+            waits: _waits,
+        } = self;
+    }
 }
 
 // The bit of a node; those above 7 have none.

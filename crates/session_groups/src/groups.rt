@@ -23,13 +23,24 @@ use wamp_patterns::PatternTable;
 /// Cost: each call takes a number of steps that is logarithmic in the number of groups and of sessions, beside what the group's own
 /// calls take; `best` and `all` what a table of patterns takes to find what matches; `leave_all` goes over the groups that the session
 /// is in, and `all` over those that match.
-#[derive(Drop)]
 pub struct Groups<G: Group> {
     alloc: Global,
     rows: BTreeMap<u64, G>,
     patterns: PatternTable<u64>,
     sets: IdSets,
     last: u64,
+}
+
+impl<G: Group> Drop for Groups<G> {
+    fn drop(self) {
+        let Groups {
+            alloc: _,
+            rows: _rows,
+            patterns: _patterns,
+            sets: _sets,
+            last: _,
+        } = self;
+    }
 }
 
 impl<G: Group> Model for Groups<G> {

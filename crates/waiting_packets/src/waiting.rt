@@ -18,11 +18,20 @@ pub(crate) struct Sent {
 ///
 /// For each ordered pair of members it keeps the places of the packets between them, so the next one between given nodes is found
 /// without passing over those of others.
-#[derive(Drop)]
 pub struct Waiting {
     members: Members,
     sent: Vec<Sent>,
     queues: Vec<Queue>,
+}
+
+impl Drop for Waiting {
+    fn drop(self) {
+        let Waiting {
+            members: _,
+            sent: _sent,
+            queues: _queues,
+        } = self;
+    }
 }
 
 impl Model for Waiting {

@@ -9,7 +9,6 @@ use crate::session::{Abort, Goodbye, Hello, Welcome};
 use crate::subscribe::{Subscribe, Subscribed, Unsubscribe, Unsubscribed};
 
 /// A message of WAMP, with what this router reads of its options and details; docs/PROTOCOL.md has the layouts.
-#[derive(Drop)]
 pub enum Message {
     Hello(Hello),
     Welcome(Welcome),
@@ -33,6 +32,35 @@ pub enum Message {
     Invocation(Invocation),
     Interrupt(Interrupt),
     Yield(Yield),
+}
+
+impl Drop for Message {
+    fn drop(self) {
+        match self {
+            Message::Hello(_hello) => {},
+            Message::Welcome(_welcome) => {},
+            Message::Abort(_abort) => {},
+            Message::Goodbye(_goodbye) => {},
+            Message::Error(_error) => {},
+            Message::Publish(_publish) => {},
+            Message::Published(_published) => {},
+            Message::Subscribe(_subscribe) => {},
+            Message::Subscribed(_subscribed) => {},
+            Message::Event(_event) => {},
+            Message::Unsubscribe(_unsubscribe) => {},
+            Message::Unsubscribed(_unsubscribed) => {},
+            Message::Register(_register) => {},
+            Message::Registered(_registered) => {},
+            Message::Unregister(_unregister) => {},
+            Message::Unregistered(_unregistered) => {},
+            Message::Call(_call) => {},
+            Message::Cancel(_cancel) => {},
+            Message::Reply(_reply) => {},
+            Message::Invocation(_invocation) => {},
+            Message::Interrupt(_interrupt) => {},
+            Message::Yield(_yield) => {},
+        }
+    }
 }
 
 impl Message {

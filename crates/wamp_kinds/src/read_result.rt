@@ -18,7 +18,6 @@ pub enum UnfitKind {
 }
 
 /// What was read of the octets of one message.
-#[derive(Drop)]
 pub enum Read {
     /// The message.
     Good(Message),
@@ -31,6 +30,20 @@ pub enum Read {
     },
     /// No message: its sender breaks the protocol.
     Bad(MessageFault),
+}
+
+impl Drop for Read {
+    fn drop(self) {
+        match self {
+            Read::Good(_good) => {},
+            Read::Unfit {
+                kind: _,
+                request: _,
+                quiet: _,
+            } => {},
+            Read::Bad(_) => {},
+        }
+    }
 }
 
 impl Read {

@@ -22,10 +22,18 @@ pub(crate) const DEPTH: usize = 127;
 pub(crate) const ROOM: usize = 8;
 
 /// What reading needs: the allocator, and room that is kept from message to message.
-#[derive(Drop)]
 pub struct Parser {
     pub(crate) alloc: Global,
     scratch: Scratch,
+}
+
+impl Drop for Parser {
+    fn drop(self) {
+        let Parser {
+            alloc: _,
+            scratch: _scratch,
+        } = self;
+    }
 }
 
 // The text is not taken here: it is no JSON, has a number that is no integer of 64 bits, or memory is missing.

@@ -14,12 +14,23 @@ use wamp_ids::{Match, Pattern, Uri};
 
 /// Values by patterns, one at most for each text and match. Contracts see the entries in one order: exact, then prefix, then
 /// wildcard, each by text in byte order.
-#[derive(Debug, Drop)]
+#[derive(Debug)]
 pub struct PatternTable<V> {
     exact: Index<V>,
     prefix: Index<V>,
     wildcard: Index<V>,
     alloc: Global,
+}
+
+impl<V: Drop> Drop for PatternTable<V> {
+    fn drop(self) {
+        let PatternTable {
+            exact: _exact,
+            prefix: _prefix,
+            wildcard: _wildcard,
+            alloc: _,
+        } = self;
+    }
 }
 
 impl<V> Model for PatternTable<V> {

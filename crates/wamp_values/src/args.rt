@@ -12,9 +12,15 @@ use serde_json::Value;
 use std::marker::Model;
 
 /// A payload that is an array (WAMP specification, "Protocol Messages": Arguments|list).
-#[derive(Debug, Drop)]
+#[derive(Debug)]
 pub struct Arguments {
     list: HeldPayload,
+}
+
+impl Drop for Arguments {
+    fn drop(self) {
+        let Arguments { list: _list } = self;
+    }
 }
 
 impl Model for Arguments {
@@ -82,9 +88,15 @@ impl Arguments {
 }
 
 /// A payload that is an object (WAMP specification, "Protocol Messages": ArgumentsKw|dict).
-#[derive(Debug, Drop)]
+#[derive(Debug)]
 pub struct ArgumentsKw {
     dict: HeldPayload,
+}
+
+impl Drop for ArgumentsKw {
+    fn drop(self) {
+        let ArgumentsKw { dict: _dict } = self;
+    }
 }
 
 impl Model for ArgumentsKw {
@@ -150,11 +162,21 @@ impl ArgumentsKw {
 }
 
 /// What stands in the place of arguments in a message.
-#[derive(Debug, Drop)]
+#[derive(Debug)]
 pub enum Args {
     Nothing,
     List(Arguments),
     Both(Arguments, ArgumentsKw),
+}
+
+impl Drop for Args {
+    fn drop(self) {
+        match self {
+            Args::Nothing => {},
+            Args::List(_list) => {},
+            Args::Both(_list, _dict) => {},
+        }
+    }
 }
 
 impl Args {

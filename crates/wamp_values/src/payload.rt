@@ -19,9 +19,15 @@ const DEEPEST: usize = 126;
 
 /// A JSON value that a message may carry: each of its numbers is held as an i64 or a u64, and its arrays and objects
 /// nest at most 126 deep.
-#[derive(Debug, Drop)]
+#[derive(Debug)]
 pub struct Payload {
     value: Value,
+}
+
+impl Drop for Payload {
+    fn drop(self) {
+        let Payload { value: _value } = self;
+    }
 }
 
 impl Model for Payload {

@@ -22,12 +22,22 @@ pub enum Place<B> {
 }
 
 /// A member of the cluster, and its node.
-#[derive(Drop)]
 pub struct Seat<B> {
     alloc: Global,
     me: u8,
     members: Members,
     place: Place<B>,
+}
+
+impl<B: Drop> Drop for Seat<B> {
+    fn drop(self) {
+        let Seat {
+            alloc: _,
+            me: _,
+            members: _,
+            place: _place,
+        } = self;
+    }
 }
 
 impl<B> Model for Seat<B> {
