@@ -25,7 +25,7 @@ pub(crate) struct Outgoing {
 }
 
 impl Outgoing {
-    // Nothing is sent yet, to a client that takes payloads of up to `limit` octets. Takes no memory.
+    // Nothing is sent yet, to a client that has not said what payloads it takes. Takes no memory.
     pub fn new(alloc: Global, replies: Consumer<ToClient>) -> Outgoing {
         Outgoing {
             outbox: Outbox::new(alloc, 0),
