@@ -30,10 +30,13 @@ const TEXTS: [&str; 5] = [
 
 // The message of a text, to be sent.
 pub fn message_of(alloc: Global, text: &[u8]) -> Option<ToClient> {
-    match read(alloc, text) {
-        Ok(ReadResult::Good(message)) => Some(ToClient::Send(message)),
+    let read = read(alloc, text).ok()?;
+    let message = match &read {
+        ReadResult::Good(message) => message.copy().ok(),
         _ => None,
-    }
+    };
+    drop(read);
+    message.map(ToClient::Send)
 }
 
 fn pong_of(rt: &impl Abort, alloc: Global, length: usize) -> ToClient {
