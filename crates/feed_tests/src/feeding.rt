@@ -216,9 +216,11 @@ fn gives<F: Feed<Act, Say>, G: Gate>(
 // A saying for the transport with this number, in this boot.
 fn say(rt: &impl Abort, alloc: Global, boot: u64, number: u32) -> Say {
     let read = read(alloc, b"[33,1,1]").expect(rt, "room for a message");
-    let ReadResult::Good(message) = read else {
+    let ReadResult::Good(message) = &read else {
         panic!(rt; "no message")
     };
+    let message = message.copy().expect(rt, "room for its copy");
+    drop(read);
     Say {
         transport: Transport {
             node: NODE,
