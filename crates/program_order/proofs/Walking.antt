@@ -13,7 +13,7 @@ use Rattle.clap.specs.Simple.{App, Shape, filled, names_of, label_of, entered}
 use Rattle.clap.specs.Takes.{turn_passes, walk_passes, settle_passes, default_passes, is_valid, is_given as is_used, level_passes}
 use Rattle.clap.specs.Takes.{built_takes}
 use Rattle.clap.specs.declared.parser.matches.ValueSource.TheVariants.{CommandLine}
-use Rattle.program_order.specs.Program.{option_rule}
+use Rattle.option_args.specs.Args.{option_rule}
 use Rattle.program_order.specs.Order.{Options, option_words, given_in, is_given, is_name}
 
 -- an option as it is once the parser has built it

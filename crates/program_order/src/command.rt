@@ -1,9 +1,11 @@
 // The program's command line, as its parser reads it.
 ghost use Rattle.std.specs.Prelude.{◌≡◌, false, IfOk, codes};
 ghost use Rattle.clap.specs.Words.{Shape, app_of, rule_of, with_subcommand};
-ghost use Rattle.program_order.specs.Program.{option_rule, required_rule, stream_shape, script_shape, serve_shape, bare, program, IsSubcommand};
+ghost use Rattle.option_args.specs.Args.{option_rule};
+ghost use Rattle.program_order.specs.Program.{required_rule, stream_shape, script_shape, serve_shape, bare, program, IsSubcommand};
 
-use clap::{Arg, ArgAction, Command};
+use clap::{Arg, Command};
+use option_args::option_arg;
 use std::alloc::{AllocError, Global};
 
 // The program's version.
@@ -172,16 +174,4 @@ fn dir_arg<'a>(alloc: Global) -> Arg<'a>
         "FOLDER",
         "The folder that keeps the nodes' rows, which has to be there [default: they are kept in memory]",
     )
-}
-
-// An option with a value.
-fn option_arg<'a>(alloc: Global, name: &'a str, value: &'a str, help: &'a str) -> Arg<'a>
-    ensures rule { rule_of result ≡ option_rule name.entry.now }
-    ensures local { result.global ≡ false }
-{
-    Arg::new(alloc, name)
-        .long(name)
-        .value_name(value)
-        .help(help)
-        .action(ArgAction::Set)
 }

@@ -25,7 +25,7 @@ use Rattle.wamp_elements.specs.declared.layouts.UriRequest.{UriRequest}
 use Rattle.wamp_elements.specs.declared.layouts.Labelled.{Labelled}
 use Rattle.wamp_elements.specs.declared.refusal.Refusal.{Refusal}
 use Rattle.wamp_elements.specs.RequestKind.{kind_in, is_invocation}
-use Rattle.wamp_elements.specs.Options.{mode_named}
+use Rattle.wamp_options.specs.Options.{mode_named}
 use Rattle.wamp_elements.specs.Elements.{nth, is_whole, id_in, id_of, is_text, text_of, is_dictionary, args_given}
 
 -- what stands in one place

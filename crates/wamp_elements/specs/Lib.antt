@@ -3,5 +3,4 @@ pub mod Fault
 pub mod RequestKind
 pub mod Elements
 pub mod Layouts
-pub mod Options
 pub mod Parts

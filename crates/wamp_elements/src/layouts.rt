@@ -1,6 +1,7 @@
 // What is taken of an array of one layout: the parts that its messages are made of.
-ghost use Rattle.std.specs.Prelude.{◌≡◌, true, false, Some, None};
+ghost use Rattle.std.specs.Prelude.{◌≡◌, true, false, Some, None, option_map};
 ghost use Rattle.serde_json.specs.Data.{no_items, item};
+ghost use Rattle.serde_json.specs.Find.{get};
 ghost use Rattle.serde_json.specs.View.{view};
 ghost use Rattle.wamp_elements.specs.Elements.{elements};
 ghost use Rattle.wamp_elements.specs.Layouts as layout;
@@ -12,10 +13,10 @@ use crate::elements::{
     Given, arguments, exactly_one, exactly_three, exactly_two, id_in, is_whole, three, two,
 };
 use crate::fault::MessageFault;
-use crate::options::{mode_named, take_label};
 use serde_json::Value;
 use std::vec::IntoIter;
 use wamp_ids::{Id, Mode, Text};
+use wamp_options::mode_named;
 use wamp_values::Args;
 
 /// Two ids.
@@ -514,4 +515,14 @@ fn labelled_with(
         label,
         args,
     })
+}
+
+// What stands at this key of a dictionary, taken out of it.
+fn take_label(details: &mut Value, key: &str) -> Option<Value>
+    ensures { option_map (λ label. view label) result ≡ get key.now (view details.old) }
+{
+    match details.get_mut(key) {
+        Some(label) => Some(label.take()),
+        None => None,
+    }
 }

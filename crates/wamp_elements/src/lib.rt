@@ -6,7 +6,6 @@ pub mod codes;
 mod elements;
 mod fault;
 mod layouts;
-mod options;
 mod parts;
 mod refusal;
 mod request_kind;
@@ -17,7 +16,6 @@ pub use layouts::{
     dictionary_text, dictionary_text_args, id_dictionary, id_dictionary_args, id_dictionary_text,
     id_dictionary_text_args, id_mode, one_id, text_dictionary, two_ids, two_ids_label_args,
 };
-pub use options::{flag_in, invoke_in, is_canceling, match_in, mode_in};
 pub use parts::{
     begin, close_two, end, open, open_within, put_feature, put_flag_option, put_label, put_nothing,
     put_text_option,

@@ -13,7 +13,7 @@ use Rattle.wamp_elements.specs.Layouts.{dictionary_text, dictionary_text_args, r
 use Rattle.wamp_elements.specs.Layouts.{id_dictionary_text, id_dictionary_text_args, two_ids, two_ids_of, two_ids_label_args, labelled_of}
 use Rattle.wamp_elements.specs.Layouts.{one_id, one_id_of, id_dictionary_args, answer_of, id_mode, stopped_of, Numbered}
 use Rattle.wamp_elements.specs.declared.layouts.Answered.{Answered}
-use Rattle.wamp_elements.specs.Options.{flag_in, match_in, invoke_in, mode_in}
+use Rattle.wamp_options.specs.Options.{flag_in, match_in, invoke_in, mode_in}
 use Rattle.wamp_elements.proofs.FirstFault.{fault_in, taken_first}
 use Rattle.wamp_ids.specs.declared.policy.Match.{Match}
 use Rattle.wamp_ids.specs.declared.policy.Invoke.{Invoke}

@@ -7,7 +7,7 @@ use Rattle.wamp_values.specs.Options.{bool_at}
 use Rattle.wamp_values.specs.declared.args.Args.{Args}
 use Rattle.wamp_elements.specs.Elements.{args_given, id_of, text_of}
 use Rattle.wamp_elements.specs.Layouts.{checked_with, id_dictionary_text_args, Asked, asked_of, args_taken}
-use Rattle.wamp_elements.specs.Options.{flag_in}
+use Rattle.wamp_options.specs.Options.{flag_in}
 use Rattle.wamp_elements.specs.declared.fault.MessageFault.{MessageFault}
 use Rattle.wamp_elements.specs.declared.fault.MessageFault.TheVariants.{Shape, IdRange}
 use Rattle.wamp_messages.specs.Flags.{Tells, flag_of, flagged_read, flagged_in}

@@ -9,7 +9,7 @@ use Rattle.wamp_values.specs.declared.args.Args.{Args}
 use Rattle.wamp_values.specs.declared.args.Args.TheVariants.{Nothing}
 use Rattle.wamp_elements.specs.Codes as code
 use Rattle.wamp_elements.specs.Parts.{whole, only, nothing, label_details}
-use Rattle.wamp_elements.specs.Options.{mode_in}
+use Rattle.wamp_options.specs.Options.{mode_in}
 use Rattle.wamp_elements.specs.declared.layouts.Labelled.{Labelled}
 use Rattle.wamp_elements.specs.declared.layouts.Stopped.{Stopped}
 use Rattle.wamp_elements.specs.declared.layouts.Answered.{Answered}

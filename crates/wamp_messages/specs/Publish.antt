@@ -6,7 +6,7 @@ use Rattle.wamp_values.specs.Args.{args_items}
 use Rattle.wamp_values.specs.declared.args.Args.{Args}
 use Rattle.wamp_elements.specs.Codes as code
 use Rattle.wamp_elements.specs.Parts.{whole, only, nothing, label_details}
-use Rattle.wamp_elements.specs.Options.{flag_in}
+use Rattle.wamp_options.specs.Options.{flag_in}
 use Rattle.wamp_elements.specs.declared.layouts.TwoIds.{TwoIds}
 use Rattle.wamp_elements.specs.declared.layouts.Labelled.{Labelled}
 use Rattle.wamp_elements.specs.Layouts.{taken, two_ids, two_ids_of, id_dictionary_text_args, Asked, asked_of, two_ids_label_args, labelled_of}

@@ -5,7 +5,7 @@ use Rattle.serde_json.specs.Data.{Data, string, boolean, array, object, Items, n
 use Rattle.wamp_values.specs.Args.{args_items}
 use Rattle.wamp_elements.specs.Codes as code
 use Rattle.wamp_elements.specs.Parts.{whole, only, nothing}
-use Rattle.wamp_elements.specs.Options.{is_canceling}
+use Rattle.wamp_options.specs.Options.{is_canceling}
 use Rattle.wamp_elements.specs.declared.layouts.Reason.{Reason}
 use Rattle.wamp_elements.specs.Layouts.{taken, text_dictionary, Named, named_of, id_dictionary, Numbered, numbered_of}
 use Rattle.wamp_elements.specs.Layouts.{dictionary_text, dictionary_text_args, reason_of}

@@ -6,7 +6,7 @@ use Rattle.wamp_ids.specs.declared.policy.Match.{Match}
 use Rattle.wamp_ids.specs.declared.policy.Match.TheVariants.{Exact, Prefix, Wildcard}
 use Rattle.wamp_elements.specs.Codes as code
 use Rattle.wamp_elements.specs.Parts.{whole, only, nothing}
-use Rattle.wamp_elements.specs.Options.{match_in}
+use Rattle.wamp_options.specs.Options.{match_in}
 use Rattle.wamp_elements.specs.declared.layouts.TwoIds.{TwoIds}
 use Rattle.wamp_elements.specs.Layouts.{taken, one_id, one_id_of, two_ids, two_ids_of, id_dictionary_text, Asked, asked_of}
 use Rattle.wamp_kinds.specs.declared.subscribe.Subscribe.{Subscribe}

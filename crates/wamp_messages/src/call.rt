@@ -16,10 +16,11 @@ use std::alloc::AllocError;
 use std::vec::IntoIter;
 use wamp_elements::{
     Answered, UriRequest, codes, end, id_dictionary, id_dictionary_args, id_dictionary_text_args,
-    id_mode, mode_in, put_label, put_nothing, put_text_option, two_ids_label_args,
+    id_mode, put_label, put_nothing, put_text_option, two_ids_label_args,
 };
 use wamp_ids::{Id, Mode};
 use wamp_kinds::{Call, Cancel, Interrupt, Invocation, Message, Read, Reply, UnfitKind, Yield};
+use wamp_options::mode_in;
 use wamp_values::Args;
 
 // What the elements behind the code of CALL are read as.

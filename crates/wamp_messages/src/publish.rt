@@ -18,11 +18,12 @@ use serde_json::Value;
 use std::alloc::AllocError;
 use std::vec::IntoIter;
 use wamp_elements::{
-    UriRequest, codes, end, flag_in, id_dictionary_text_args, open, put_flag_option, put_label,
-    put_nothing, two_ids, two_ids_label_args,
+    UriRequest, codes, end, id_dictionary_text_args, open, put_flag_option, put_label, put_nothing,
+    two_ids, two_ids_label_args,
 };
 use wamp_ids::{Id, Text};
 use wamp_kinds::{Event, Message, Publish, Published, Read, UnfitKind};
+use wamp_options::flag_in;
 use wamp_values::Args;
 
 // What the elements behind the code of PUBLISH are read as.

@@ -15,11 +15,11 @@ use serde_json::Value;
 use std::alloc::AllocError;
 use std::vec::IntoIter;
 use wamp_elements::{
-    UriRequest, codes, id_dictionary_text, invoke_in, match_in, one_id, open, put_text_option,
-    two_ids,
+    UriRequest, codes, id_dictionary_text, one_id, open, put_text_option, two_ids,
 };
 use wamp_ids::{Id, Invoke, Match};
 use wamp_kinds::{Message, Read, Register, Registered, UnfitKind, Unregister, Unregistered};
+use wamp_options::{invoke_in, match_in};
 
 // What the elements behind the code of REGISTER are read as.
 pub(crate) fn read_register(rest: IntoIter<Value>) -> Read

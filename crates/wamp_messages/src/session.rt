@@ -14,10 +14,11 @@ use serde_json::Value;
 use std::alloc::AllocError;
 use std::vec::IntoIter;
 use wamp_elements::{
-    Reason, begin, close_two, codes, dictionary_text, dictionary_text_args, id_dictionary,
-    is_canceling, open, open_within, put_feature, put_nothing, text_dictionary,
+    Reason, begin, close_two, codes, dictionary_text, dictionary_text_args, id_dictionary, open,
+    open_within, put_feature, put_nothing, text_dictionary,
 };
 use wamp_kinds::{Abort, Goodbye, Hello, Message, Read, Welcome};
+use wamp_options::is_canceling;
 
 // What the elements behind the code of HELLO are read as.
 pub(crate) fn read_hello(rest: IntoIter<Value>) -> Read

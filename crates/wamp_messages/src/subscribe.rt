@@ -14,10 +14,11 @@ use serde_json::Value;
 use std::alloc::AllocError;
 use std::vec::IntoIter;
 use wamp_elements::{
-    UriRequest, codes, id_dictionary_text, match_in, one_id, put_nothing, put_text_option, two_ids,
+    UriRequest, codes, id_dictionary_text, one_id, put_nothing, put_text_option, two_ids,
 };
 use wamp_ids::Match;
 use wamp_kinds::{Message, Read, Subscribe, Subscribed, UnfitKind, Unsubscribe, Unsubscribed};
+use wamp_options::match_in;
 
 // What the elements behind the code of SUBSCRIBE are read as.
 pub(crate) fn read_subscribe(rest: IntoIter<Value>) -> Read

@@ -1,9 +1,8 @@
 // What this router reads of the options and details of messages. None of it takes memory.
 ghost use Rattle.std.specs.Prelude.{◌≡◌, option_map};
-ghost use Rattle.serde_json.specs.Find.{get};
 ghost use Rattle.serde_json.specs.View.{view};
-ghost use Rattle.wamp_elements.specs.Options.{flag_in, match_of, match_in, callee_features, is_canceling};
-ghost use Rattle.wamp_elements.specs.Options.{invoke_of, invoke_in, mode_of, mode_in, mode_named};
+ghost use Rattle.wamp_options.specs.Options.{flag_in, match_of, match_in, callee_features, is_canceling};
+ghost use Rattle.wamp_options.specs.Options.{invoke_of, invoke_in, mode_of, mode_in, mode_named};
 
 use serde_json::Value;
 use wamp_ids::{Invoke, Match, Mode};
@@ -76,8 +75,8 @@ pub fn mode_in(options: &Value) -> Option<Mode>
     }
 }
 
-// The mode that the options name.
-pub(crate) fn mode_named(options: &Value) -> Option<Mode>
+/// The mode that the options name; `None` where they name none.
+pub fn mode_named(options: &Value) -> Option<Mode>
     ensures { result ≡ mode_named (view options.now) }
 {
     match text_at(options, "mode") {
@@ -118,14 +117,4 @@ fn callee_features(details: &Value) -> Option<&Value>
     let roles = details.get("roles")?;
     let callee = roles.get("callee")?;
     callee.get("features")
-}
-
-// What stands at this key of a dictionary, taken out of it.
-pub(crate) fn take_label(details: &mut Value, key: &str) -> Option<Value>
-    ensures { option_map (λ label. view label) result ≡ get key.now (view details.old) }
-{
-    match details.get_mut(key) {
-        Some(label) => Some(label.take()),
-        None => None,
-    }
 }
