@@ -1,9 +1,10 @@
 // What actors answer, and turns in rotation.
+use crate::check::Check;
 use core_stands::{Answer, Station, count_of, told_of};
 use node_actor::{Entry, Keeper, Machine};
 use std::alloc::Global;
 use std::process::Abort;
-use std::test::Fail;
+use test_checks::check;
 
 // How often each node turns at most.
 const MOST_ROUNDS: u32 = 1_000;
@@ -26,33 +27,32 @@ impl<Y> Heard<Y> {
     }
 }
 
-fn put_all<Y: Drop>(says: &mut Vec<Y>, more: Option<Vec<Y>>) -> Result<(), Fail> {
+fn put_all<Y: Drop>(rt: &impl Abort, says: &mut Vec<Y>, more: Option<Vec<Y>>) {
     let Some(more) = more else {
-        return Ok(());
+        return;
     };
     for say in more {
-        says.push(say)?;
+        says.push(say).expect(rt, "room for what is said");
     }
-    Ok(())
 }
 
 fn hear_fault<Y: Drop>(
+    rt: &impl Abort,
     heard: &mut Heard<Y>,
     fault: (u8, u8),
     says: Option<Vec<Y>>,
-) -> Result<(), Fail> {
-    put_all(&mut heard.lost, says)?;
-    heard.faults.push(fault)?;
-    Ok(())
+) {
+    put_all(rt, &mut heard.lost, says);
+    heard.faults.push(fault).expect(rt, "room for a fault");
 }
 
 /// Keeps what a call of a node answered.
-pub fn hear<Y: Drop>(heard: &mut Heard<Y>, node: u8, done: Answer<Y>) -> Result<(), Fail> {
+pub fn hear<Y: Drop>(rt: &impl Abort, heard: &mut Heard<Y>, node: u8, done: Answer<Y>) {
     let (says, number) = told_of(done);
     if number == 0 {
-        put_all(&mut heard.says, says)
+        put_all(rt, &mut heard.says, says);
     } else {
-        hear_fault(heard, (node, number), says)
+        hear_fault(rt, heard, (node, number), says);
     }
 }
 
@@ -66,49 +66,52 @@ pub fn number<Y: Drop>(done: Answer<Y>) -> u8 {
 
 /// The station of a node among those of the last node, the one before, and so on.
 pub fn at<'t, 'a, M: Machine, K: Keeper<M::Body>>(
+    rt: &impl Abort,
     stations: &'t mut [Station<'a, M, K>],
     node: u8,
-) -> Result<&'t mut Station<'a, M, K>, Fail> {
+) -> &'t mut Station<'a, M, K> {
     let place = stations.len().saturating_sub(usize::from(node));
-    let station = stations.get_mut(place).ok_or("no such node")?;
-    Ok(station)
+    stations.get_mut(place).expect(rt, "a node")
 }
 
 // A turn of one node; whether a packet moved.
 fn turn<M: Machine, K: Keeper<M::Body>>(
+    rt: &impl Abort,
     station: &mut Station<'_, M, K>,
     heard: &mut Heard<M::Say>,
     node: u8,
-) -> Result<bool, Fail> {
+) -> bool {
     let done = station.turn();
     let moved = done.is_ok() && station.has_moved();
-    hear(heard, node, done)?;
-    Ok(moved)
+    hear(rt, heard, node, done);
+    moved
 }
 
 // A turn of each node, of node 1 first; whether a packet moved.
 fn round<M: Machine, K: Keeper<M::Body>>(
+    rt: &impl Abort,
     stations: &mut [Station<'_, M, K>],
     heard: &mut Heard<M::Say>,
-) -> Result<bool, Fail> {
+) -> bool {
     let mut moved = false;
     for node in 1..=3 {
-        moved = turn(at(stations, node)?, heard, node)? || moved;
+        moved = turn(rt, at(rt, stations, node), heard, node) || moved;
     }
-    Ok(moved)
+    moved
 }
 
 /// All nodes turn, one after another, until no packet is left that can go.
 pub fn all_turns<M: Machine, K: Keeper<M::Body>>(
+    rt: &impl Abort,
     stations: &mut [Station<'_, M, K>],
     heard: &mut Heard<M::Say>,
-) -> Result<(), Fail> {
+) {
     for _ in 0..MOST_ROUNDS {
-        if !round(stations, heard)? {
-            return Ok(());
+        if !round(rt, stations, heard) {
+            return;
         }
     }
-    Err(Fail::from("packets without end"))
+    panic!(rt; "packets without end")
 }
 
 /// An entry without its body: the letter of its kind, its node, its boot, and its number.
@@ -144,7 +147,7 @@ pub fn has_log<M: Machine, K: Keeper<M::Body>>(
     station: &Station<'_, M, K>,
     wants: &[Told],
 ) {
-    assert!(rt; are_told(station.log(), wants));
+    check!(rt; are_told(station.log(), wants));
 }
 
 /// Asserts what the logs of all nodes are.

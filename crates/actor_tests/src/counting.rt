@@ -1,5 +1,6 @@
 // Three actors with a machine that adds up.
 use crate::carrying::{Heard, Told, all_turns, at, have_log, hear, number};
+use crate::check::Check;
 use crate::trial::{Trial, tried};
 use acceptor_keeper::MemKeeper;
 use core_stands::{Answer, Source, Station, close_log};
@@ -7,7 +8,7 @@ use core_tests::{Count, Number};
 use paxos_packets::Transport;
 use std::alloc::Global;
 use std::process::Abort;
-use std::test::Fail;
+use test_checks::{check, check_eq};
 
 /// An actor that adds up, over a keeper in memory.
 pub type Counting<'a> = Station<'a, Count, MemKeeper<Number>>;
@@ -65,19 +66,20 @@ pub fn ask(station: &mut Counting<'_>, asked: Asked) -> Answer<Sum> {
 }
 
 /// The fault of what the node is asked for, 0 where there is none.
-pub fn fault_at(stations: &mut [Counting<'_>], node: u8, asked: Asked) -> Result<u8, Fail> {
-    let station = at(stations, node)?;
-    Ok(number(ask(station, asked)))
+pub fn fault_at(rt: &impl Abort, stations: &mut [Counting<'_>], node: u8, asked: Asked) -> u8 {
+    let station = at(rt, stations, node);
+    number(ask(station, asked))
 }
 
 fn hear_at(
+    rt: &impl Abort,
     stations: &mut [Counting<'_>],
     heard: &mut Heard<Sum>,
     node: u8,
     asked: Asked,
-) -> Result<(), Fail> {
-    let station = at(stations, node)?;
-    hear(heard, node, ask(station, asked))
+) {
+    let station = at(rt, stations, node);
+    hear(rt, heard, node, ask(station, asked));
 }
 
 /// What nodes are asked for, one after the other; with node 0 all turn in rotation, whatever is asked.
@@ -87,28 +89,29 @@ pub type Script = &'static [(u8, Asked)];
 pub const ALL: (u8, Asked) = (0, Asked::Turn);
 
 fn step(
+    rt: &impl Abort,
     stations: &mut [Counting<'_>],
     heard: &mut Heard<Sum>,
     node: u8,
     asked: Asked,
-) -> Result<(), Fail> {
+) {
     if node == 0 {
-        all_turns(stations, heard)
+        all_turns(rt, stations, heard);
     } else {
-        hear_at(stations, heard, node, asked)
+        hear_at(rt, stations, heard, node, asked);
     }
 }
 
 /// They are asked for it.
 pub fn goes(
+    rt: &impl Abort,
     stations: &mut [Counting<'_>],
     heard: &mut Heard<Sum>,
     script: Script,
-) -> Result<(), Fail> {
+) {
     for (node, asked) in script {
-        step(stations, heard, *node, *asked)?;
+        step(rt, stations, heard, *node, *asked);
     }
-    Ok(())
 }
 
 // Node 1 leads, and node 2 takes 5 and 6 of its transport 1.
@@ -147,15 +150,10 @@ const AT_TWO: Transport = Transport {
 
 const SUMS: &[Sum] = &[(AT_TWO, 5), (AT_TWO, 11)];
 
-fn serves(
-    rt: &impl Abort,
-    stations: &mut [Counting<'_>],
-    heard: &mut Heard<Sum>,
-) -> Result<(), Fail> {
-    goes(stations, heard, SESSION)?;
+fn serves(rt: &impl Abort, stations: &mut [Counting<'_>], heard: &mut Heard<Sum>) {
+    goes(rt, stations, heard, SESSION);
     have_log(rt, stations, FOUR);
-    assert!(rt; heard.says.as_slice() == SUMS && heard.faults.is_empty());
-    Ok(())
+    check!(rt; heard.says.as_slice() == SUMS && heard.faults.is_empty());
 }
 
 // How long the log is that an actor leaves, and what its machine has added up.
@@ -166,32 +164,24 @@ fn left_of(station: Counting<'_>) -> (usize, u64) {
     left
 }
 
-fn leave_all(rt: &impl Abort, stations: &mut Vec<Counting<'_>>) -> Result<(), Fail> {
+fn leave_all(rt: &impl Abort, stations: &mut Vec<Counting<'_>>) {
     for _ in 0..3u8 {
-        let Some(station) = stations.pop() else {
-            return Err(Fail::from("no such node"));
-        };
-        assert_eq!(rt; left_of(station), (4, 11));
+        let station = stations.pop().expect(rt, "a node");
+        check_eq!(rt; left_of(station), (4, 11));
     }
-    Ok(())
 }
 
 /// The session goes through all three, which leave.
-pub fn serve_and_leave(
-    rt: &impl Abort,
-    alloc: Global,
-    stations: &mut Vec<Counting<'_>>,
-) -> Result<(), Fail> {
+pub fn serve_and_leave(rt: &impl Abort, alloc: Global, stations: &mut Vec<Counting<'_>>) {
     let mut heard = Heard::nothing(alloc);
-    let done = serves(rt, stations.as_mut_slice(), &mut heard);
+    serves(rt, stations.as_mut_slice(), &mut heard);
     drop(heard);
-    done?;
-    leave_all(rt, stations)
+    leave_all(rt, stations);
 }
 
 #[test]
-fn one_session_goes_through_three_nodes(rt: HostRuntime) -> Result<(), Fail> {
-    tried(&rt, rt.alloc(), &NONE_FAILS, Trial::Serves)
+fn one_session_goes_through_three_nodes(rt: HostRuntime) {
+    tried(&rt, rt.alloc(), &NONE_FAILS, Trial::Serves);
 }
 
 /// Whether a call of the node answers that its store failed, as is wanted.
@@ -201,33 +191,30 @@ pub fn fails(
     stations: &mut [Counting<'_>],
     node: u8,
     wanted: bool,
-) -> Result<(), Fail> {
+) {
     let mut heard = Heard::nothing(alloc);
-    let done = goes(stations, &mut heard, SESSION);
+    goes(rt, stations, &mut heard, SESSION);
     let failed = heard.faults.first() == Some(&(node, 61));
     drop(heard);
-    done?;
-    assert!(rt; failed == wanted);
-    Ok(())
+    check!(rt; failed == wanted);
 }
 
-fn fails_at(rt: &impl Abort, alloc: Global, node: u8, k: u64, wanted: bool) -> Result<(), Fail> {
+fn fails_at(rt: &impl Abort, alloc: Global, node: u8, k: u64, wanted: bool) {
     let failing = Failing {
         node,
         k,
         after: false,
     };
-    tried(rt, alloc, &failing, Trial::Fails { node, wanted })
+    tried(rt, alloc, &failing, Trial::Fails { node, wanted });
 }
 
 // How many commits each node makes in the session.
 const COMMITS: &[(u8, u64)] = &[(1, 4), (2, 5), (3, 5)];
 
 #[test]
-fn the_last_commit_is_known(rt: HostRuntime) -> Result<(), Fail> {
+fn the_last_commit_is_known(rt: HostRuntime) {
     for (node, count) in COMMITS {
-        fails_at(&rt, rt.alloc(), *node, *count, true)?;
-        fails_at(&rt, rt.alloc(), *node, count + 1, false)?;
+        fails_at(&rt, rt.alloc(), *node, *count, true);
+        fails_at(&rt, rt.alloc(), *node, count + 1, false);
     }
-    Ok(())
 }

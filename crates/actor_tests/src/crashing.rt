@@ -1,12 +1,13 @@
 // An actor whose store fails, and which is restarted.
 use crate::carrying::{Heard, Told, have_log};
+use crate::check::Check;
 use crate::counting::{ALL, Asked, Counting, Failing, Script, Sum, fault_at, goes};
 use crate::trial::{Trial, tried};
 use core_stands::{again, pop_two, push_two};
 use core_tests::Count;
 use std::alloc::Global;
 use std::process::Abort;
-use std::test::Fail;
+use test_checks::{check, check_eq};
 
 // A node, what it is asked for, and the number of its fault.
 type Row = (u8, Asked, u8);
@@ -20,12 +21,11 @@ const ENDING: &[Row] = &[
     (2, Asked::Tick, 71),
 ];
 
-fn ends(rt: &impl Abort, stations: &mut [Counting<'_>]) -> Result<(), Fail> {
+fn ends(rt: &impl Abort, stations: &mut [Counting<'_>]) {
     for (node, asked, number) in ENDING {
-        let found = fault_at(stations, *node, *asked)?;
-        assert_eq!(rt; found, *number);
+        let found = fault_at(rt, stations, *node, *asked);
+        check_eq!(rt; found, *number);
     }
-    Ok(())
 }
 
 /// The actor that goes on from this one, its store opened again.
@@ -54,38 +54,23 @@ const GOING_ON: Script = &[
     ALL,
 ];
 
-fn goes_on(
-    rt: &impl Abort,
-    stations: &mut [Counting<'_>],
-    heard: &mut Heard<Sum>,
-) -> Result<(), Fail> {
-    goes(stations, heard, GOING_ON)?;
+fn goes_on(rt: &impl Abort, stations: &mut [Counting<'_>], heard: &mut Heard<Sum>) {
+    goes(rt, stations, heard, GOING_ON);
     have_log(rt, stations, BOTH);
-    assert!(rt; heard.faults.is_empty());
-    Ok(())
+    check!(rt; heard.faults.is_empty());
 }
 
-fn runs(
-    rt: &impl Abort,
-    alloc: Global,
-    stations: &mut Vec<Counting<'_>>,
-    heard: &mut Heard<Sum>,
-) -> Result<(), Fail> {
-    ends(rt, stations.as_mut_slice())?;
-    assert!(rt; restart_second(alloc, stations));
-    goes_on(rt, stations.as_mut_slice(), heard)
+fn runs(rt: &impl Abort, alloc: Global, stations: &mut Vec<Counting<'_>>, heard: &mut Heard<Sum>) {
+    ends(rt, stations.as_mut_slice());
+    check!(rt; restart_second(alloc, stations));
+    goes_on(rt, stations.as_mut_slice(), heard);
 }
 
 /// An actor whose store fails goes on.
-pub fn outlives(
-    rt: &impl Abort,
-    alloc: Global,
-    stations: &mut Vec<Counting<'_>>,
-) -> Result<(), Fail> {
+pub fn outlives(rt: &impl Abort, alloc: Global, stations: &mut Vec<Counting<'_>>) {
     let mut heard = Heard::nothing(alloc);
-    let done = runs(rt, alloc, stations, &mut heard);
+    runs(rt, alloc, stations, &mut heard);
     drop(heard);
-    done
 }
 
 // The first commit of the second actor fails, and leaves the old rows or the new ones.
@@ -98,11 +83,11 @@ fn fails_once(after: bool) -> Failing {
 }
 
 #[test]
-fn an_actor_outlives_a_commit_that_left_the_old_rows(rt: HostRuntime) -> Result<(), Fail> {
-    tried(&rt, rt.alloc(), &fails_once(false), Trial::Outlives)
+fn an_actor_outlives_a_commit_that_left_the_old_rows(rt: HostRuntime) {
+    tried(&rt, rt.alloc(), &fails_once(false), Trial::Outlives);
 }
 
 #[test]
-fn an_actor_outlives_a_commit_that_left_the_new_rows(rt: HostRuntime) -> Result<(), Fail> {
-    tried(&rt, rt.alloc(), &fails_once(true), Trial::Outlives)
+fn an_actor_outlives_a_commit_that_left_the_new_rows(rt: HostRuntime) {
+    tried(&rt, rt.alloc(), &fails_once(true), Trial::Outlives);
 }

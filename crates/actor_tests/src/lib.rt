@@ -1,14 +1,29 @@
-//! Tests of actors over their public calls: three of them at a table, with a machine that adds up, and with failing keepers. A crate with
-//! tests is proved twice, so they stand here.
+//! Tests of actors over their public calls, of three of them at a table, with a machine that adds up and with failing keepers; and of runs of
+//! actors, each beside its table: full outboxes, sessions with a realm whose logs are gathered, and three nodes on threads of their own. A
+//! crate with tests is proved twice, so they stand here.
 #![tactic(auto)]
 
 #[cfg(test)]
+mod actors;
+#[cfg(test)]
 mod carrying;
+#[cfg(test)]
+mod check;
 #[cfg(test)]
 mod counting;
 #[cfg(test)]
 mod crashing;
 #[cfg(test)]
+mod hearing;
+#[cfg(test)]
+mod outboxes;
+#[cfg(test)]
+mod realms;
+#[cfg(test)]
 mod refusing;
+#[cfg(test)]
+mod sessions;
+#[cfg(test)]
+mod threads;
 #[cfg(test)]
 mod trial;

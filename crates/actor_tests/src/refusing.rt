@@ -1,5 +1,6 @@
 // What actors refuse, what is no event, and how many acts wait.
 use crate::carrying::{at, has_log, number};
+use crate::check::Check;
 use crate::counting::{Asked, Counting, NONE_FAILS, Sum, ask};
 use crate::crashing::restarted;
 use crate::trial::{Trial, tried};
@@ -10,7 +11,7 @@ use node_actor::ActorFault;
 use paxos_packets::{Ballot, Change, Votes};
 use std::alloc::Global;
 use std::process::Abort;
-use std::test::Fail;
+use test_checks::{check, check_eq};
 
 // Acts that are pending.
 
@@ -34,17 +35,17 @@ fn takes(actor: &mut Counting<'_>, count: u32) -> u32 {
 fn fills_up(rt: &impl Abort, actor: &mut Counting<'_>) {
     let taken = takes(actor, 1_023);
     let faults = (number(ask(actor, ONE)), number(ask(actor, Asked::Tick)));
-    assert_eq!(rt; (taken, faults.0, faults.1), (1_023, 74, 0));
+    check_eq!(rt; (taken, faults.0, faults.1), (1_023, 74, 0));
 }
 
 #[test]
-fn a_full_actor_goes_on(rt: HostRuntime) -> Result<(), Fail> {
-    tried(&rt, rt.alloc(), &NONE_FAILS, Trial::Fills)
+fn a_full_actor_goes_on(rt: HostRuntime) {
+    tried(&rt, rt.alloc(), &NONE_FAILS, Trial::Fills);
 }
 
 // Nothing has moved, and nothing is applied.
 fn is_still(rt: &impl Abort, actor: &Counting<'_>) {
-    assert!(rt; !actor.has_moved());
+    check!(rt; !actor.has_moved());
     has_log(rt, actor, &[]);
 }
 
@@ -62,93 +63,87 @@ const NO_EVENTS: &[Asked] = &[
 fn passes(rt: &impl Abort, actor: &mut Counting<'_>) {
     is_still(rt, actor);
     for asked in NO_EVENTS {
-        assert_eq!(rt; number(ask(actor, *asked)), 0);
+        check_eq!(rt; number(ask(actor, *asked)), 0);
         is_still(rt, actor);
     }
 }
 
 /// What the actor of node 1 does where it stands: it fills up, or what is no event passes it.
-pub fn first_does(rt: &impl Abort, stations: &mut [Counting<'_>], fills: bool) -> Result<(), Fail> {
-    let actor = at(stations, 1)?;
+pub fn first_does(rt: &impl Abort, stations: &mut [Counting<'_>], fills: bool) {
+    let actor = at(rt, stations, 1);
     if fills {
         fills_up(rt, actor);
     } else {
         passes(rt, actor);
     }
-    Ok(())
 }
 
 #[test]
-fn no_event_changes_nothing(rt: HostRuntime) -> Result<(), Fail> {
-    tried(&rt, rt.alloc(), &NONE_FAILS, Trial::Rests)
+fn no_event_changes_nothing(rt: HostRuntime) {
+    tried(&rt, rt.alloc(), &NONE_FAILS, Trial::Rests);
 }
 
 #[test]
-fn an_actor_begins_again(rt: HostRuntime) -> Result<(), Fail> {
-    tried(&rt, rt.alloc(), &NONE_FAILS, Trial::Restarts)
+fn an_actor_begins_again(rt: HostRuntime) {
+    tried(&rt, rt.alloc(), &NONE_FAILS, Trial::Restarts);
 }
 
 /// The actor, which has gone down, has begun again.
-pub fn begins_again(rt: &impl Abort, alloc: Global, actor: Counting<'_>) -> Result<(), Fail> {
-    let Some(mut actor) = restarted(alloc, actor) else {
-        return Err(Fail::from("no actor"));
-    };
+pub fn begins_again(rt: &impl Abort, alloc: Global, actor: Counting<'_>) {
+    let mut actor = restarted(alloc, actor).expect(rt, "an actor");
     is_still(rt, &actor);
     let number = number(actor.tick());
     close(actor);
-    assert_eq!(rt; number, 0);
-    Ok(())
+    check_eq!(rt; number, 0);
 }
 
 // Restarts on other stores.
 
 // A store of a node that was started so often, and then promised this round, if one.
-fn keeper_with(alloc: Global, boots: u64, round: u64) -> Result<MemKeeper<Number>, Fail> {
+fn keeper_with(rt: &impl Abort, alloc: Global, boots: u64, round: u64) -> MemKeeper<Number> {
     let mut keeper = MemKeeper::new(alloc);
     for _ in 0..boots {
-        boot(&mut keeper)?;
+        boot(rt, &mut keeper);
     }
     if 0 < round {
-        promise(alloc, &mut keeper, round)?;
+        promise(rt, alloc, &mut keeper, round);
     }
-    Ok(keeper)
+    keeper
 }
 
-fn boot(keeper: &mut MemKeeper<Number>) -> Result<(), Fail> {
-    let rows = keeper.boot()?;
+fn boot(rt: &impl Abort, keeper: &mut MemKeeper<Number>) {
+    let rows = keeper.boot().expect(rt, "a boot");
     drop(rows);
-    Ok(())
 }
 
-fn promise(alloc: Global, keeper: &mut MemKeeper<Number>, round: u64) -> Result<(), Fail> {
-    keeper.commit(&Change {
-        promised: Some(Ballot { round, node: 3 }),
-        votes: Votes::new(alloc),
-    })?;
-    Ok(())
+fn promise(rt: &impl Abort, alloc: Global, keeper: &mut MemKeeper<Number>, round: u64) {
+    keeper
+        .commit(&Change {
+            promised: Some(Ballot { round, node: 3 }),
+            votes: Votes::new(alloc),
+        })
+        .expect(rt, "a commit");
 }
 
-fn boots_of(keeper: &mut MemKeeper<Number>) -> Option<u64> {
-    let rows = keeper.load().ok()?;
-    Some(rows.boot)
+fn boots_of(rt: &impl Abort, keeper: &mut MemKeeper<Number>) -> u64 {
+    let rows = keeper.load().expect(rt, "what is stored");
+    rows.boot
 }
 
 // What is left behind a restart on a store of another node, and whether it answered 62 and began no boot.
 fn refused<'a>(
+    rt: &impl Abort,
     alloc: Global,
     left: Left<'a, Count>,
     keeper: MemKeeper<Number>,
     boots: u64,
-) -> Result<(Left<'a, Count>, bool), Fail> {
+) -> (Left<'a, Count>, bool) {
     match left.restart(alloc, Count::new(alloc), keeper) {
-        Begun::Again(station) => {
-            close(station);
-            Err(Fail::from("an actor"))
-        },
+        Begun::Again(_station) => panic!(rt; "an actor"),
         Begun::Not(number, left, mut keeper) => {
-            let found = boots_of(&mut keeper);
+            let found = boots_of(rt, &mut keeper);
             drop(keeper);
-            Ok((left, number == 62 && found == Some(boots)))
+            (left, number == 62 && found == boots)
         },
     }
 }
@@ -156,35 +151,19 @@ fn refused<'a>(
 // How often the node of another store was started, and the round that it promised then.
 const OTHERS: &[(u64, u64)] = &[(0, 0), (1, 0), (1, 2), (2, 2), (0, 1)];
 
-// The same with the store that is made in this row, if it could be.
-fn refused_in<'a>(
-    alloc: Global,
-    left: Left<'a, Count>,
-    boots: u64,
-    keeper: Result<MemKeeper<Number>, Fail>,
-) -> Result<(Left<'a, Count>, bool), Fail> {
-    match keeper {
-        Ok(keeper) => refused(alloc, left, keeper, boots),
-        Err(fail) => {
-            close_left(left);
-            Err(fail)
-        },
-    }
-}
-
 // Whether all of them are refused.
-fn refuses_all(alloc: Global, left: Left<'_, Count>) -> Result<bool, Fail> {
+fn refuses_all(rt: &impl Abort, alloc: Global, left: Left<'_, Count>) -> bool {
     let mut left = left;
     let mut all = true;
     for (boots, round) in OTHERS {
-        let keeper = keeper_with(alloc, *boots, *round);
-        let (next, is_one) = refused_in(alloc, left, *boots, keeper)?;
+        let keeper = keeper_with(rt, alloc, *boots, *round);
+        let (next, is_one) = refused(rt, alloc, left, keeper, *boots);
         left = next;
         all = all && is_one;
     }
     let is_first = left.me() == 1;
     close_left(left);
-    Ok(all && is_first)
+    all && is_first
 }
 
 fn ended<'a>(actor: Counting<'a>) -> Left<'a, Count> {
@@ -196,15 +175,14 @@ fn ended<'a>(actor: Counting<'a>) -> Left<'a, Count> {
 }
 
 /// An actor that has promised the round 1 of its own goes down, and is not restarted on other stores.
-pub fn refuses(rt: &impl Abort, alloc: Global, actor: Counting<'_>) -> Result<(), Fail> {
-    let all = refuses_all(alloc, ended(actor))?;
-    assert!(rt; all);
-    Ok(())
+pub fn refuses(rt: &impl Abort, alloc: Global, actor: Counting<'_>) {
+    let all = refuses_all(rt, alloc, ended(actor));
+    check!(rt; all);
 }
 
 #[test]
-fn other_stores_are_refused(rt: HostRuntime) -> Result<(), Fail> {
-    tried(&rt, rt.alloc(), &NONE_FAILS, Trial::Refuses)
+fn other_stores_are_refused(rt: HostRuntime) {
+    tried(&rt, rt.alloc(), &NONE_FAILS, Trial::Refuses);
 }
 
 // The texts of faults.
@@ -234,30 +212,21 @@ const TEXTS: &[(u8, &str)] = &[
 ];
 
 // Whether the fault's text is this.
-fn has_text(alloc: Global, fault: &ActorFault<Sum>, text: &str) -> Result<bool, Fail> {
-    let told = format!(in alloc; "{fault}")?;
-    Ok(told.as_str() == text)
+fn has_text(rt: &impl Abort, alloc: Global, fault: &ActorFault<Sum>, text: &str) -> bool {
+    let told = format!(in alloc; "{fault}").expect(rt, "room for a text");
+    told.as_str() == text
 }
 
-fn is_told(
-    rt: &impl Abort,
-    alloc: Global,
-    fault: &ActorFault<Sum>,
-    number: u8,
-    text: &str,
-) -> Result<(), Fail> {
-    let same = has_text(alloc, fault, text)?;
-    assert_eq!(rt; (fault.number(), same), (number, true));
-    Ok(())
+fn is_told(rt: &impl Abort, alloc: Global, fault: &ActorFault<Sum>, number: u8, text: &str) {
+    let same = has_text(rt, alloc, fault, text);
+    check_eq!(rt; (fault.number(), same), (number, true));
 }
 
 #[test]
-fn faults_have_numbers_and_texts(rt: HostRuntime) -> Result<(), Fail> {
+fn faults_have_numbers_and_texts(rt: HostRuntime) {
     for (number, text) in TEXTS {
         let fault = fault_of(rt.alloc(), *number);
-        let told = is_told(&rt, rt.alloc(), &fault, *number, text);
+        is_told(&rt, rt.alloc(), &fault, *number, text);
         drop(fault);
-        told?;
     }
-    Ok(())
 }

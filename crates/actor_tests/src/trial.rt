@@ -7,7 +7,6 @@ use core_stands::{Plays, with_stations};
 use core_tests::{Count, Number};
 use std::alloc::Global;
 use std::process::Abort;
-use std::test::Fail;
 
 /// What is tried: with all three, or with that of node 1.
 #[derive(Clone, Copy)]
@@ -29,26 +28,19 @@ struct Trying<R> {
 }
 
 // What is tried with the actor of node 1 alone, which ends there.
-fn try_first(
-    rt: &impl Abort,
-    alloc: Global,
-    stations: &mut Vec<Counting<'_>>,
-    restarts: bool,
-) -> Result<(), Fail> {
-    let Some(first) = stations.pop() else {
-        return Err(Fail::from("no such node"));
-    };
+fn try_first(rt: &impl Abort, alloc: Global, stations: &mut Vec<Counting<'_>>, restarts: bool) {
+    let first = stations.pop().expect(rt, "a node");
     if restarts {
-        begins_again(rt, alloc, first)
+        begins_again(rt, alloc, first);
     } else {
-        refuses(rt, alloc, first)
+        refuses(rt, alloc, first);
     }
 }
 
 impl<R: Abort> Plays<Count, MemKeeper<Number>> for Trying<&R> {
-    type End = Result<(), Fail>;
+    type End = ();
 
-    fn play(&mut self, stations: &mut Vec<Counting<'_>>) -> Result<(), Fail> {
+    fn play(&mut self, stations: &mut Vec<Counting<'_>>) {
         let (rt, alloc) = (self.rt, self.alloc);
         match self.trial {
             Trial::Serves => serve_and_leave(rt, alloc, stations),
@@ -69,10 +61,10 @@ impl<R: Abort> Plays<Count, MemKeeper<Number>> for Trying<&R> {
 }
 
 /// Tries it with three actors over stores in memory, of which one may fail.
-pub fn tried(rt: &impl Abort, alloc: Global, failing: &Failing, trial: Trial) -> Result<(), Fail> {
+pub fn tried(rt: &impl Abort, alloc: Global, failing: &Failing, trial: Trial) {
     let mut trying = Trying { rt, alloc, trial };
-    match with_stations::<Count, MemKeeper<Number>, _, _>(alloc, failing, &mut trying) {
-        Some(done) => done,
-        None => Err(Fail::from("no actors")),
-    }
+    with_stations::<Count, MemKeeper<Number>, _, _>(alloc, failing, &mut trying).expect(
+        rt,
+        "three actors",
+    );
 }

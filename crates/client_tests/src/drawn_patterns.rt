@@ -1,12 +1,13 @@
 // A table of drawn patterns beside a scan of all of them by `matches` and `better`.
+use crate::check::Check;
 use rand_chacha::ChaCha20Rng;
 use rand_core::SeedableRng;
 use rand_core::utils::NextWord;
 use std::alloc::Global;
 use std::process::Abort;
-use std::test::Fail;
+use test_checks::{check, check_eq};
 use wamp_ids::{Match, Pattern, Uri};
-use wamp_patterns::{Memory, PatternTable, better, matches};
+use wamp_patterns::{PatternTable, better, matches};
 
 /// A pattern that was put, until another one takes its place.
 #[derive(Drop)]
@@ -16,7 +17,7 @@ struct Drawn {
 }
 
 // A text of up to seven of three letters, so that many begin alike.
-fn draw_text(alloc: Global, words: &mut ChaCha20Rng) -> Result<String, Fail> {
+fn draw_text(rt: &impl Abort, alloc: Global, words: &mut ChaCha20Rng) -> String {
     let mut text = String::new(alloc);
     let length = words.next_word() % 8;
     for _ in 0..length {
@@ -25,9 +26,9 @@ fn draw_text(alloc: Global, words: &mut ChaCha20Rng) -> Result<String, Fail> {
             1 => 'b',
             _ => '.',
         };
-        text.push(letter)?;
+        text.push(letter).expect(rt, "room for a letter");
     }
-    Ok(text)
+    text
 }
 
 fn draw_match(words: &mut ChaCha20Rng) -> Match {
@@ -40,34 +41,37 @@ fn draw_match(words: &mut ChaCha20Rng) -> Match {
 
 // Puts a drawn pattern with its number, if it is one; the number that stood there does not stand any more.
 fn put_drawn(
+    rt: &impl Abort,
     alloc: Global,
     words: &mut ChaCha20Rng,
     table: &mut PatternTable<usize>,
     drawn: &mut Vec<Drawn>,
-) -> Result<(), Fail> {
+) {
     let matching = draw_match(words);
-    let text = draw_text(alloc, words)?;
+    let text = draw_text(rt, alloc, words);
     let Ok(pattern) = Pattern::read(alloc, text.as_str(), matching) else {
-        return Ok(());
+        return;
     };
-    put_one(table, drawn, pattern)
+    put_one(rt, table, drawn, pattern);
 }
 
 fn put_one(
+    rt: &impl Abort,
     table: &mut PatternTable<usize>,
     drawn: &mut Vec<Drawn>,
     pattern: Pattern<'static>,
-) -> Result<(), Fail> {
-    match table.put(&pattern, drawn.len()) {
-        Ok(Some(old)) => strike(drawn, old),
-        Ok(None) => {}
-        Err(_) => return Err(Fail::from(Memory)),
+) {
+    let old = table
+        .put(&pattern, drawn.len())
+        .expect(rt, "room for a pattern");
+    if let Some(old) = old {
+        strike(drawn, old);
     }
-    drawn.push(Drawn {
+    let one = Drawn {
         pattern,
         stands: true,
-    })?;
-    Ok(())
+    };
+    drawn.push(one).expect(rt, "room for a pattern");
 }
 
 fn strike(drawn: &mut Vec<Drawn>, number: usize) {
@@ -135,33 +139,28 @@ fn is_behind(before: Option<&Drawn>, one: &Drawn) -> bool {
 }
 
 // What the table answers for this URI, beside the scan; how many match.
-fn compare(
-    rt: &impl Abort,
-    table: &PatternTable<usize>,
-    drawn: &[Drawn],
-    uri: &Uri<'_>,
-) -> Result<usize, Fail> {
+fn compare(rt: &impl Abort, table: &PatternTable<usize>, drawn: &[Drawn], uri: &Uri<'_>) -> usize {
     let (best, count) = scan(drawn, uri);
-    assert_eq!(rt; table.best(uri).copied(), best);
-    let found = table.all(uri)?;
-    assert!(rt; are_all(drawn, uri, found.as_slice(), count));
-    Ok(count)
+    check_eq!(rt; table.best(uri).copied(), best);
+    let found = table.all(uri).expect(rt, "room for all that match");
+    check!(rt; are_all(drawn, uri, found.as_slice(), count));
+    count
 }
 
 // Draws until so many patterns were put.
 fn fill(
+    rt: &impl Abort,
     alloc: Global,
     words: &mut ChaCha20Rng,
     table: &mut PatternTable<usize>,
     drawn: &mut Vec<Drawn>,
     most: usize,
-) -> Result<(), Fail> {
+) {
     for _ in 0..10_000u32 {
         if drawn.len() < most {
-            put_drawn(alloc, words, table, drawn)?;
+            put_drawn(rt, alloc, words, table, drawn);
         }
     }
-    Ok(())
 }
 
 // How many URIs none, one and more of the patterns match.
@@ -202,12 +201,11 @@ fn ask_one(
     table: &PatternTable<usize>,
     drawn: &[Drawn],
     seen: Seen,
-) -> Result<Seen, Fail> {
+) -> Seen {
     let Ok(uri) = Uri::of(text) else {
-        return Ok(seen);
+        return seen;
     };
-    let count = compare(rt, table, drawn, &uri)?;
-    Ok(seen.with(count))
+    seen.with(compare(rt, table, drawn, &uri))
 }
 
 // What the drawn URIs show.
@@ -217,19 +215,18 @@ fn ask(
     words: &mut ChaCha20Rng,
     table: &PatternTable<usize>,
     drawn: &[Drawn],
-) -> Result<Seen, Fail> {
+) -> Seen {
     let mut seen = Seen {
         none: 0,
         one: 0,
         many: 0,
     };
     for _ in 0..200u32 {
-        let text = draw_text(alloc, words)?;
-        let asked = ask_one(rt, text.as_str(), table, drawn, seen);
+        let text = draw_text(rt, alloc, words);
+        seen = ask_one(rt, text.as_str(), table, drawn, seen);
         drop(text);
-        seen = asked?;
     }
-    Ok(seen)
+    seen
 }
 
 // Takes every second one out again.
@@ -249,27 +246,25 @@ fn draws_and_asks(
     alloc: Global,
     table: &mut PatternTable<usize>,
     drawn: &mut Vec<Drawn>,
-) -> Result<(), Fail> {
+) {
     let mut words = ChaCha20Rng::from_seed([7; 32]);
-    fill(alloc, &mut words, table, drawn, 5)?;
-    let few = ask(rt, alloc, &mut words, table, drawn)?;
-    assert!(rt; few.none > 0 && few.one > 0);
-    fill(alloc, &mut words, table, drawn, 2_000)?;
-    assert_eq!(rt; drawn.len(), 2_000);
-    let full = ask(rt, alloc, &mut words, table, drawn)?;
-    assert!(rt; full.many > 0);
+    fill(rt, alloc, &mut words, table, drawn, 5);
+    let few = ask(rt, alloc, &mut words, table, drawn);
+    check!(rt; few.none > 0 && few.one > 0);
+    fill(rt, alloc, &mut words, table, drawn, 2_000);
+    check_eq!(rt; drawn.len(), 2_000);
+    let full = ask(rt, alloc, &mut words, table, drawn);
+    check!(rt; full.many > 0);
     take_half(table, drawn);
-    ask(rt, alloc, &mut words, table, drawn)?;
-    Ok(())
+    ask(rt, alloc, &mut words, table, drawn);
 }
 
 #[test]
-fn answers_as_a_scan_does(rt: HostRuntime) -> Result<(), Fail> {
+fn answers_as_a_scan_does(rt: HostRuntime) {
     let alloc = rt.alloc();
     let mut table = PatternTable::new(alloc);
     let mut drawn = Vec::new(alloc);
-    let done = draws_and_asks(&rt, alloc, &mut table, &mut drawn);
+    draws_and_asks(&rt, alloc, &mut table, &mut drawn);
     drop(table);
     drop(drawn);
-    done
 }

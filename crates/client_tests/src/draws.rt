@@ -1,6 +1,8 @@
 // Draws beside those that another ChaCha20 gives (the Python package `cryptography`).
+use crate::check::Check;
 use serve_draws::Draws;
 use std::process::Abort;
+use test_checks::check;
 
 // A key, a node and its boot; and the draws with the numbers 1, 2, 3, 32 and 33: the generator makes 32 at a time.
 type Row = (u64, u8, u64, [u64; 5]);
@@ -95,6 +97,6 @@ fn drawn(draws: &mut Draws) -> [u64; 5] {
 fn draws_are_those_of_the_cipher(rt: HostRuntime) {
     for (key, node, boot, wanted) in ROWS {
         let mut draws = Draws::new(*key, *node, *boot);
-        assert!(rt; drawn(&mut draws) == *wanted, "{key} {node} {boot}");
+        check!(&rt; drawn(&mut draws) == *wanted, (key, node, boot));
     }
 }

@@ -1,7 +1,8 @@
 // Rows on ids, texts and URIs.
+use crate::check::Check;
 use std::alloc::Global;
 use std::process::Abort;
-use std::test::Fail;
+use test_checks::{check, check_eq};
 use wamp_ids::{Id, LAST_ID, Memory, Text, Uri, UriFault};
 
 fn next_of(number: u64) -> Option<u64> {
@@ -20,33 +21,32 @@ const NEXT: &[(u64, Option<u64>)] = &[
 #[test]
 fn ids_go_round(rt: HostRuntime) {
     for (number, next) in NEXT {
-        assert_eq!(rt; next_of(*number), *next, "{number}");
+        check_eq!(&rt; next_of(*number), *next, number);
     }
-    assert_eq!(rt; LAST_ID, 9_007_199_254_740_992);
+    check_eq!(&rt; LAST_ID, 9_007_199_254_740_992);
 }
 
 // Whether a copy has this text, too, and is the same.
-fn is_text_copied(text: &Text, wanted: &str) -> Result<bool, Memory> {
-    let copy = text.copy()?;
-    Ok(copy.as_str() == wanted && text.same(&copy))
+fn is_text_copied(rt: &impl Abort, text: &Text, wanted: &str) -> bool {
+    let copy = text.copy().expect(rt, "room for a copy");
+    copy.as_str() == wanted && text.same(&copy)
 }
 
-fn is_same_text(alloc: Global, text: &Text, other: &str) -> Result<bool, Memory> {
-    Ok(text.same(&Text::new(alloc, other)?))
+fn is_same_text(rt: &impl Abort, alloc: Global, text: &Text, other: &str) -> bool {
+    text.same(&Text::new(alloc, other).expect(rt, "room for a text"))
 }
 
-fn is_hi(rt: &impl Abort, alloc: Global, text: &Text) -> Result<(), Fail> {
-    assert!(rt; is_text_copied(text, "hi")?);
-    assert!(rt; !is_same_text(alloc, text, "ho")?);
-    Ok(())
+fn is_hi(rt: &impl Abort, alloc: Global, text: &Text) {
+    check!(rt; is_text_copied(rt, text, "hi"));
+    check!(rt; !is_same_text(rt, alloc, text, "ho"));
 }
 
 #[test]
-fn copies_texts(rt: HostRuntime) -> Result<(), Fail> {
-    let empty = Text::new(rt.alloc(), "")?;
-    assert_eq!(rt; empty.as_str(), "");
-    let text = Text::from(String::from_str(rt.alloc(), "hi")?);
-    is_hi(&rt, rt.alloc(), &text)
+fn copies_texts(rt: HostRuntime) {
+    let empty = Text::new(rt.alloc(), "").expect(&rt, "room for a text");
+    check_eq!(&rt; empty.as_str(), "");
+    let text = Text::from(String::from_str(rt.alloc(), "hi").expect(&rt, "room for a text"));
+    is_hi(&rt, rt.alloc(), &text);
 }
 
 fn fault_of(alloc: Global, text: &str) -> u8 {
@@ -75,56 +75,55 @@ const URIS: &[(&str, u8)] = &[
 ];
 
 // The faults of a text of so many octets, which is read, and found.
-fn faults_of(alloc: Global, length: usize) -> Result<(u8, u8), Fail> {
-    let text = String::from_utf8(vec![in alloc; b'a'; length]?)?;
-    Ok((fault_of(alloc, text.as_str()), fault_found(text.as_str())))
+fn faults_of(rt: &impl Abort, alloc: Global, length: usize) -> (u8, u8) {
+    let octets = vec![in alloc; b'a'; length].expect(rt, "room for a text");
+    let text = String::from_utf8(octets).expect(rt, "a text");
+    (fault_of(alloc, text.as_str()), fault_found(text.as_str()))
 }
 
 #[test]
-fn reads_uris_by_the_loose_rules(rt: HostRuntime) -> Result<(), Fail> {
+fn reads_uris_by_the_loose_rules(rt: HostRuntime) {
     for (text, number) in URIS {
-        assert!(rt; fault_of(rt.alloc(), text) == *number, "{text}");
-        assert!(rt; fault_found(text) == *number, "{text}");
+        check!(&rt; fault_of(rt.alloc(), text) == *number, text);
+        check!(&rt; fault_found(text) == *number, text);
     }
-    assert!(rt; faults_of(rt.alloc(), 1024)? == (0, 0));
-    assert!(rt; faults_of(rt.alloc(), 1025)? == (1, 1));
-    Ok(())
+    check!(&rt; faults_of(&rt, rt.alloc(), 1024) == (0, 0));
+    check!(&rt; faults_of(&rt, rt.alloc(), 1025) == (1, 1));
 }
 
-fn is_reserved(alloc: Global, text: &str) -> Result<bool, UriFault> {
-    Ok(Uri::read(alloc, text)?.is_reserved())
+fn is_reserved(rt: &impl Abort, alloc: Global, text: &str) -> bool {
+    Uri::read(alloc, text).expect(rt, "a URI").is_reserved()
 }
 
-fn is_same_uri(alloc: Global, uri: &Uri<'_>, text: &str) -> Result<bool, UriFault> {
-    Ok(uri.same(&Uri::read(alloc, text)?))
+fn is_same_uri(rt: &impl Abort, alloc: Global, uri: &Uri<'_>, text: &str) -> bool {
+    uri.same(&Uri::read(alloc, text).expect(rt, "a URI"))
 }
 
-fn is_uri_copied(alloc: Global, uri: &Uri<'_>, wanted: &str) -> Result<bool, Memory> {
-    let copy = uri.copy(alloc)?;
-    Ok(copy.as_str() == wanted && uri.same(&copy))
+fn is_uri_copied(rt: &impl Abort, alloc: Global, uri: &Uri<'_>, wanted: &str) -> bool {
+    let copy = uri.copy(alloc).expect(rt, "room for a copy");
+    copy.as_str() == wanted && uri.same(&copy)
 }
 
 fn has_parts(uri: &Uri<'_>) -> bool {
     uri.part(1) == Some("é") && uri.part(3).is_none() && uri.parts().count() == 3
 }
 
-fn is_apart(rt: &impl Abort, alloc: Global, uri: &Uri<'_>) -> Result<(), Fail> {
-    assert!(rt; uri.is_reserved() && has_parts(uri));
-    assert!(rt; is_uri_copied(alloc, uri, "wamp.é.x")?);
-    assert!(rt; uri.same(&Uri::of("wamp.é.x")?));
-    assert!(rt; !is_same_uri(alloc, uri, "wamp.é")?);
-    Ok(())
+fn is_apart(rt: &impl Abort, alloc: Global, uri: &Uri<'_>) {
+    check!(rt; uri.is_reserved() && has_parts(uri));
+    check!(rt; is_uri_copied(rt, alloc, uri, "wamp.é.x"));
+    check!(rt; uri.same(&Uri::of("wamp.é.x").expect(rt, "a URI")));
+    check!(rt; !is_same_uri(rt, alloc, uri, "wamp.é"));
 }
 
 #[test]
-fn takes_uris_apart(rt: HostRuntime) -> Result<(), Fail> {
-    assert!(rt; !is_reserved(rt.alloc(), "wampx.y")?);
-    let uri = Uri::read(rt.alloc(), "wamp.é.x")?;
-    is_apart(&rt, rt.alloc(), &uri)
+fn takes_uris_apart(rt: HostRuntime) {
+    check!(&rt; !is_reserved(&rt, rt.alloc(), "wampx.y"));
+    let uri = Uri::read(rt.alloc(), "wamp.é.x").expect(&rt, "a URI");
+    is_apart(&rt, rt.alloc(), &uri);
 }
 
 #[test]
 fn want_of_memory_has_number_five(rt: HostRuntime) {
-    assert_eq!(rt; Memory.number(), 5);
-    assert_eq!(rt; UriFault::Memory.number(), 5);
+    check_eq!(&rt; Memory.number(), 5);
+    check_eq!(&rt; UriFault::Memory.number(), 5);
 }

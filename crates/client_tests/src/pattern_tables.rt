@@ -1,12 +1,14 @@
 // Rows on which URIs a pattern matches, which pattern serves, and tables by patterns.
+use crate::check::Check;
 use std::alloc::Global;
 use std::process::Abort;
-use std::test::Fail;
-use wamp_ids::{Match, Pattern, Uri, UriFault};
+use test_checks::{check, check_eq};
+use wamp_ids::{Match, Pattern, Uri};
 use wamp_patterns::{Memory, PatternTable, better, matches};
 
-fn is_matched(text: &str, matching: Match, uri: &str) -> Result<bool, UriFault> {
-    Ok(matches(&Pattern::of(text, matching)?, &Uri::of(uri)?))
+fn is_matched(rt: &impl Abort, text: &str, matching: Match, uri: &str) -> bool {
+    let pattern = Pattern::of(text, matching).expect(rt, "a pattern");
+    matches(&pattern, &Uri::of(uri).expect(rt, "a URI"))
 }
 
 const MATCHED: &[(&str, Match, &str, bool)] = &[
@@ -24,27 +26,29 @@ const MATCHED: &[(&str, Match, &str, bool)] = &[
 ];
 
 #[test]
-fn matches_by_the_three_rules(rt: HostRuntime) -> Result<(), Fail> {
+fn matches_by_the_three_rules(rt: HostRuntime) {
     for (text, matching, uri, expected) in MATCHED {
-        let found = is_matched(text, *matching, uri)?;
-        assert_eq!(rt; found, *expected, "{text} at {uri}");
+        let found = is_matched(&rt, text, *matching, uri);
+        check_eq!(&rt; found, *expected, (text, uri));
     }
-    Ok(())
 }
 
-fn is_better(one: (&str, Match), other: (&str, Match)) -> Result<bool, UriFault> {
-    Ok(better(&Pattern::of(one.0, one.1)?, &Pattern::of(other.0, other.1)?))
+fn is_better(rt: &impl Abort, one: (&str, Match), other: (&str, Match)) -> bool {
+    let pattern = Pattern::of(one.0, one.1).expect(rt, "a pattern");
+    better(
+        &pattern,
+        &Pattern::of(other.0, other.1).expect(rt, "a pattern"),
+    )
 }
 
 #[test]
-fn the_longer_prefix_is_better_and_any_prefix_than_a_wildcard(rt: HostRuntime) -> Result<(), Fail> {
+fn the_longer_prefix_is_better_and_any_prefix_than_a_wildcard(rt: HostRuntime) {
     for (one, other) in [
         (("a.", Match::Prefix), ("a", Match::Prefix)),
         (("a", Match::Prefix), ("a.", Match::Wildcard)),
     ] {
-        assert!(rt; is_better(one, other)?);
+        check!(&rt; is_better(&rt, one, other));
     }
-    Ok(())
 }
 
 // The value that stood there, or that is found, or the fault's number; 0 where there is none.
@@ -61,59 +65,60 @@ fn answer(table: &mut PatternTable<u8>, word: &str, pattern: &Pattern<'_>, value
     }
 }
 
-fn best(table: &PatternTable<u8>, uri: &str) -> Result<u8, UriFault> {
-    Ok(table.best(&Uri::of(uri)?).copied().unwrap_or(0))
+fn best(rt: &impl Abort, table: &PatternTable<u8>, uri: &str) -> u8 {
+    let uri = Uri::of(uri).expect(rt, "a URI");
+    table.best(&uri).copied().unwrap_or(0)
 }
 
 // The values of all patterns that match, a digit for each.
-fn all(table: &PatternTable<u8>, uri: &str) -> Result<u64, Fail> {
+fn all(rt: &impl Abort, table: &PatternTable<u8>, uri: &str) -> u64 {
+    let uri = Uri::of(uri).expect(rt, "a URI");
     let mut digits: u64 = 0;
-    for value in table.all(&Uri::of(uri)?)? {
+    for value in table.all(&uri).expect(rt, "room for all values") {
         digits = digits.wrapping_mul(10).wrapping_add(*value as u64);
     }
-    Ok(digits)
+    digits
 }
 
 // What one step answers.
 fn step(
+    rt: &impl Abort,
     table: &mut PatternTable<u8>,
     word: &str,
     text: &str,
     matching: Match,
     value: u8,
-) -> Result<u64, Fail> {
+) -> u64 {
     if word == "all" {
-        return all(table, text);
+        return all(rt, table, text);
     }
     if word == "best" {
-        return Ok(best(table, text)? as u64);
+        return best(rt, table, text) as u64;
     }
-    let pattern = Pattern::of(text, matching)?;
-    Ok(answer(table, word, &pattern, value) as u64)
+    let pattern = Pattern::of(text, matching).expect(rt, "a pattern");
+    answer(table, word, &pattern, value) as u64
 }
 
 // What is done with which text, match and value, and what is answered.
 type Row<'a> = (&'a str, &'a str, Match, u8, u64);
 
 // Takes these steps one after the other, each with its answer.
-fn check_in(rt: &impl Abort, table: &mut PatternTable<u8>, rows: &[Row<'_>]) -> Result<(), Fail> {
+fn check_in(rt: &impl Abort, table: &mut PatternTable<u8>, rows: &[Row<'_>]) {
     for (word, text, matching, value, answer) in rows {
-        let given = step(table, word, text, *matching, *value)?;
-        assert_eq!(rt; given, *answer, "{word} {text} {value}");
+        let given = step(rt, table, word, text, *matching, *value);
+        check_eq!(rt; given, *answer, (word, text, value));
     }
-    Ok(())
 }
 
 // The same at an empty table.
-fn check(rt: &impl Abort, alloc: Global, rows: &[Row<'_>]) -> Result<(), Fail> {
+fn check(rt: &impl Abort, alloc: Global, rows: &[Row<'_>]) {
     let mut table = PatternTable::new(alloc);
-    let done = check_in(rt, &mut table, rows);
+    check_in(rt, &mut table, rows);
     drop(table);
-    done
 }
 
 #[test]
-fn one_of_two_wildcards_serves(rt: HostRuntime) -> Result<(), Fail> {
+fn one_of_two_wildcards_serves(rt: HostRuntime) {
     let wildcard = Match::Wildcard;
     for (one, other, uri, serves) in [
         ("a1.b2..d4.e5", "a1.b2.c33..e5", "a1.b2.c33.d4.e5", 2),
@@ -133,9 +138,8 @@ fn one_of_two_wildcards_serves(rt: HostRuntime) -> Result<(), Fail> {
             ("put", one, wildcard, 1, 0),
             ("best", uri, wildcard, 0, serves),
         ];
-        check(&rt, rt.alloc(), rows.as_slice())?;
+        check(&rt, rt.alloc(), rows.as_slice());
     }
-    Ok(())
 }
 
 const NEXT_SERVES: &[Row<'static>] = &[
@@ -159,8 +163,8 @@ const NEXT_SERVES: &[Row<'static>] = &[
 ];
 
 #[test]
-fn the_next_serves_once_the_best_is_removed(rt: HostRuntime) -> Result<(), Fail> {
-    check(&rt, rt.alloc(), NEXT_SERVES)
+fn the_next_serves_once_the_best_is_removed(rt: HostRuntime) {
+    check(&rt, rt.alloc(), NEXT_SERVES);
 }
 
 const ORDER_IS_NO_RANK: &[Row<'static>] = &[
@@ -180,8 +184,8 @@ const ORDER_IS_NO_RANK: &[Row<'static>] = &[
 ];
 
 #[test]
-fn the_order_of_putting_is_no_rank(rt: HostRuntime) -> Result<(), Fail> {
-    check(&rt, rt.alloc(), ORDER_IS_NO_RANK)
+fn the_order_of_putting_is_no_rank(rt: HostRuntime) {
+    check(&rt, rt.alloc(), ORDER_IS_NO_RANK);
 }
 
 const ALL_IN_ORDER: &[Row<'static>] = &[
@@ -198,8 +202,8 @@ const ALL_IN_ORDER: &[Row<'static>] = &[
 ];
 
 #[test]
-fn gives_all_that_match_in_order(rt: HostRuntime) -> Result<(), Fail> {
-    check(&rt, rt.alloc(), ALL_IN_ORDER)
+fn gives_all_that_match_in_order(rt: HostRuntime) {
+    check(&rt, rt.alloc(), ALL_IN_ORDER);
 }
 
 const WILDCARD_SERVES: &[Row<'static>] = &[
@@ -222,8 +226,8 @@ const WILDCARD_SERVES: &[Row<'static>] = &[
 ];
 
 #[test]
-fn the_wildcard_serves_once_all_prefixes_are_removed(rt: HostRuntime) -> Result<(), Fail> {
-    check(&rt, rt.alloc(), WILDCARD_SERVES)
+fn the_wildcard_serves_once_all_prefixes_are_removed(rt: HostRuntime) {
+    check(&rt, rt.alloc(), WILDCARD_SERVES);
 }
 
 const ONE_VALUE: &[Row<'static>] = &[
@@ -238,11 +242,11 @@ const ONE_VALUE: &[Row<'static>] = &[
 ];
 
 #[test]
-fn puts_one_value_for_a_text_and_match(rt: HostRuntime) -> Result<(), Fail> {
-    check(&rt, rt.alloc(), ONE_VALUE)
+fn puts_one_value_for_a_text_and_match(rt: HostRuntime) {
+    check(&rt, rt.alloc(), ONE_VALUE);
 }
 
 #[test]
 fn want_of_memory_has_number_36(rt: HostRuntime) {
-    assert_eq!(rt; Memory.number(), 36);
+    check_eq!(&rt; Memory.number(), 36);
 }

@@ -1,8 +1,9 @@
 // Rows on patterns.
+use crate::check::Check;
 use std::alloc::Global;
 use std::process::Abort;
-use std::test::Fail;
-use wamp_ids::{Match, Pattern, UriFault};
+use test_checks::check;
+use wamp_ids::{Match, Pattern};
 
 fn fault_of(alloc: Global, text: &str, matching: Match) -> u8 {
     match Pattern::read(alloc, text, matching) {
@@ -36,30 +37,32 @@ const PATTERNS: &[(&str, Match, u8)] = &[
 #[test]
 fn reads_patterns(rt: HostRuntime) {
     for (text, matching, number) in PATTERNS {
-        assert!(rt; fault_of(rt.alloc(), text, *matching) == *number, "{text}");
-        assert!(rt; fault_found(text, *matching) == *number, "{text}");
+        check!(&rt; fault_of(rt.alloc(), text, *matching) == *number, text);
+        check!(&rt; fault_found(text, *matching) == *number, text);
     }
 }
 
 // The faults of a text of so many octets, as it matches in each way.
-fn faults_of(alloc: Global, length: usize) -> Result<(u8, u8, u8), Fail> {
-    let text = String::from_utf8(vec![in alloc; b'a'; length]?)?;
-    Ok((
+fn faults_of(rt: &impl Abort, alloc: Global, length: usize) -> (u8, u8, u8) {
+    let octets = vec![in alloc; b'a'; length].expect(rt, "room for a text");
+    let text = String::from_utf8(octets).expect(rt, "a text");
+    (
         fault_of(alloc, text.as_str(), Match::Exact),
         fault_of(alloc, text.as_str(), Match::Prefix),
         fault_of(alloc, text.as_str(), Match::Wildcard),
-    ))
+    )
 }
 
 #[test]
-fn patterns_have_at_most_1024_octets(rt: HostRuntime) -> Result<(), Fail> {
-    assert!(rt; faults_of(rt.alloc(), 1024)? == (0, 0, 0));
-    assert!(rt; faults_of(rt.alloc(), 1025)? == (1, 1, 1));
-    Ok(())
+fn patterns_have_at_most_1024_octets(rt: HostRuntime) {
+    check!(&rt; faults_of(&rt, rt.alloc(), 1024) == (0, 0, 0));
+    check!(&rt; faults_of(&rt, rt.alloc(), 1025) == (1, 1, 1));
 }
 
-fn is_reserved(text: &str, matching: Match) -> Result<bool, UriFault> {
-    Ok(Pattern::of(text, matching)?.is_reserved())
+fn is_reserved(rt: &impl Abort, text: &str, matching: Match) -> bool {
+    Pattern::of(text, matching)
+        .expect(rt, "a pattern")
+        .is_reserved()
 }
 
 // A text, how it matches, and whether it is reserved.
@@ -75,11 +78,10 @@ const RESERVED: &[(&str, Match, bool)] = &[
 ];
 
 #[test]
-fn some_patterns_are_reserved(rt: HostRuntime) -> Result<(), Fail> {
+fn some_patterns_are_reserved(rt: HostRuntime) {
     for (text, matching, reserved) in RESERVED {
-        assert!(rt; is_reserved(text, *matching)? == *reserved, "{text}");
+        check!(&rt; is_reserved(&rt, text, *matching) == *reserved, text);
     }
-    Ok(())
 }
 
 fn has_parts(pattern: &Pattern<'_>) -> bool {
@@ -91,26 +93,27 @@ fn has_parts(pattern: &Pattern<'_>) -> bool {
 }
 
 #[test]
-fn takes_patterns_apart(rt: HostRuntime) -> Result<(), Fail> {
-    let pattern = Pattern::read(rt.alloc(), "a..é", Match::Wildcard)?;
-    assert!(rt; has_parts(&pattern));
-    Ok(())
+fn takes_patterns_apart(rt: HostRuntime) {
+    let pattern = Pattern::read(rt.alloc(), "a..é", Match::Wildcard).expect(&rt, "a pattern");
+    check!(&rt; has_parts(&pattern));
 }
 
-fn is_same(pattern: &Pattern<'_>, text: &str, matching: Match) -> Result<bool, UriFault> {
-    Ok(pattern.same(&Pattern::of(text, matching)?))
+fn is_same(rt: &impl Abort, pattern: &Pattern<'_>, text: &str, matching: Match) -> bool {
+    pattern.same(&Pattern::of(text, matching).expect(rt, "a pattern"))
 }
 
-fn is_copy(rt: &impl Abort, copy: &Pattern<'_>) -> Result<(), Fail> {
-    assert!(rt; copy.as_str() == "a..é" && copy.matching() == Match::Wildcard);
-    assert!(rt; is_same(copy, "a..é", Match::Wildcard)?);
-    assert!(rt; !is_same(copy, "a..é", Match::Prefix)?);
-    assert!(rt; !is_same(copy, "a..", Match::Wildcard)?);
-    Ok(())
+fn is_copy(rt: &impl Abort, copy: &Pattern<'_>) {
+    check!(rt; copy.as_str() == "a..é" && copy.matching() == Match::Wildcard);
+    check!(rt; is_same(rt, copy, "a..é", Match::Wildcard));
+    check!(rt; !is_same(rt, copy, "a..é", Match::Prefix));
+    check!(rt; !is_same(rt, copy, "a..", Match::Wildcard));
 }
 
 #[test]
-fn a_copied_pattern_is_the_same(rt: HostRuntime) -> Result<(), Fail> {
-    let copy = Pattern::of("a..é", Match::Wildcard)?.copy(rt.alloc())?;
-    is_copy(&rt, &copy)
+fn a_copied_pattern_is_the_same(rt: HostRuntime) {
+    let copy = Pattern::of("a..é", Match::Wildcard)
+        .expect(&rt, "a pattern")
+        .copy(rt.alloc())
+        .expect(&rt, "room for a copy");
+    is_copy(&rt, &copy);
 }

@@ -1,9 +1,10 @@
 // Rows on payloads: which numbers and depths are taken, and the text that is written.
+use crate::check::Check;
 use json::Writer;
 use serde_json::Value;
 use std::alloc::Global;
 use std::process::Abort;
-use std::test::Fail;
+use test_checks::{check, check_eq};
 use wamp_ids::Text;
 use wamp_values::{
     Args, Arguments, ArgumentsKw, Found, Memory, Payload, ValueFault, bool_option, text_at,
@@ -12,25 +13,30 @@ use wamp_values::{
 
 // `inside` within so many arrays, or objects.
 fn nested(
+    rt: &impl Abort,
     alloc: Global,
     open: &str,
     inside: &str,
     close: &str,
     depth: usize,
-) -> Result<Value, Fail> {
+) -> Value {
     let mut text = String::new(alloc);
     for _level in 0..depth {
-        text.push_str(open)?;
+        text.push_str(open).expect(rt, "room for a text");
     }
-    text.push_str(inside)?;
+    text.push_str(inside).expect(rt, "room for a text");
     for _level in 0..depth {
-        text.push_str(close)?;
+        text.push_str(close).expect(rt, "room for a text");
     }
-    Ok(Value::from_str(alloc, text.as_str())?)
+    value(rt, alloc, text.as_str())
 }
 
-fn payload(alloc: Global, text: &str) -> Result<Payload, Fail> {
-    Ok(Payload::check(Value::from_str(alloc, text)?)?)
+fn value(rt: &impl Abort, alloc: Global, text: &str) -> Value {
+    Value::from_str(alloc, text).expect(rt, "a value")
+}
+
+fn payload(rt: &impl Abort, alloc: Global, text: &str) -> Payload {
+    Payload::check(value(rt, alloc, text)).expect(rt, "a payload")
 }
 
 // The number of the fault, or 0 where the value is a payload.
@@ -41,8 +47,8 @@ fn fault_of(value: Value) -> u8 {
     }
 }
 
-fn fault_in(alloc: Global, text: &str) -> Result<u8, Fail> {
-    Ok(fault_of(Value::from_str(alloc, text)?))
+fn fault_in(rt: &impl Abort, alloc: Global, text: &str) -> u8 {
+    fault_of(value(rt, alloc, text))
 }
 
 // A text, and the number of its fault, or 0.
@@ -62,21 +68,21 @@ const NUMBERS: &[(&str, u8)] = &[
 ];
 
 #[test]
-fn numbers_are_i64_or_u64(rt: HostRuntime) -> Result<(), Fail> {
+fn numbers_are_i64_or_u64(rt: HostRuntime) {
     for (text, number) in NUMBERS {
-        assert!(rt; fault_in(rt.alloc(), text)? == *number, "{text}");
+        check!(&rt; fault_in(&rt, rt.alloc(), text) == *number, text);
     }
-    Ok(())
 }
 
 fn fault_nested(
+    rt: &impl Abort,
     alloc: Global,
     open: &str,
     inside: &str,
     close: &str,
     depth: usize,
-) -> Result<u8, Fail> {
-    Ok(fault_of(nested(alloc, open, inside, close, depth)?))
+) -> u8 {
+    fault_of(nested(rt, alloc, open, inside, close, depth))
 }
 
 // What opens and closes a level, and what is inside, how deep, and the number of the fault, or 0.
@@ -90,39 +96,40 @@ const DEPTHS: &[(&str, &str, &str, usize, u8)] = &[
 ];
 
 #[test]
-fn nests_at_most_126_deep(rt: HostRuntime) -> Result<(), Fail> {
+fn nests_at_most_126_deep(rt: HostRuntime) {
     for (open, inside, close, depth, number) in DEPTHS {
-        let given = fault_nested(rt.alloc(), open, inside, close, *depth)?;
-        assert!(rt; given == *number, "{open} {inside} {depth}");
+        let given = fault_nested(&rt, rt.alloc(), open, inside, close, *depth);
+        check!(&rt; given == *number, (open, inside, depth));
     }
-    Ok(())
 }
 
 #[test]
 fn faults_have_numbers(rt: HostRuntime) {
-    assert_eq!(rt; ValueFault::Number.number(), 11);
-    assert_eq!(rt; ValueFault::Deep.number(), 13);
-    assert_eq!(rt; ValueFault::Memory.number(), 12);
-    assert_eq!(rt; Memory.number(), 12);
+    check_eq!(&rt; ValueFault::Number.number(), 11);
+    check_eq!(&rt; ValueFault::Deep.number(), 13);
+    check_eq!(&rt; ValueFault::Memory.number(), 12);
+    check_eq!(&rt; Memory.number(), 12);
 }
 
 // Whether the payload is written as this text.
-fn is_text_of(alloc: Global, payload: &Payload, text: &str) -> Result<bool, Fail> {
+fn is_text_of(rt: &impl Abort, alloc: Global, payload: &Payload, text: &str) -> bool {
     let mut out = Vec::new(alloc);
-    payload.write_into(&mut out)?;
-    Ok(out.as_slice() == text.as_bytes())
+    payload.write_into(&mut out).expect(rt, "room for a text");
+    out.as_slice() == text.as_bytes()
 }
 
 // Appends the payload that this text is of.
-fn append(alloc: Global, text: &str, out: &mut Vec<u8>) -> Result<(), Fail> {
-    Ok(payload(alloc, text)?.write_into(out)?)
+fn append(rt: &impl Abort, alloc: Global, text: &str, out: &mut Vec<u8>) {
+    payload(rt, alloc, text)
+        .write_into(out)
+        .expect(rt, "room for a text");
 }
 
 // Whether that payload is written so, behind what is there.
-fn is_appended(alloc: Global, text: &str, written: &str) -> Result<bool, Fail> {
-    let mut out = Vec::from_slice(alloc, b"a,")?;
-    append(alloc, text, &mut out)?;
-    Ok(out.as_slice().strip_prefix(b"a,") == Some(written.as_bytes()))
+fn is_appended(rt: &impl Abort, alloc: Global, text: &str, written: &str) -> bool {
+    let mut out = Vec::from_slice(alloc, b"a,").expect(rt, "room for a text");
+    append(rt, alloc, text, &mut out);
+    out.as_slice().strip_prefix(b"a,") == Some(written.as_bytes())
 }
 
 // A text, and what is written of it.
@@ -147,21 +154,22 @@ const TEXTS: &[(&str, &str)] = &[
 ];
 
 #[test]
-fn writes_compact_text(rt: HostRuntime) -> Result<(), Fail> {
+fn writes_compact_text(rt: HostRuntime) {
     for (text, written) in TEXTS {
-        assert!(rt; is_appended(rt.alloc(), text, written)?, "{text}");
+        check!(&rt; is_appended(&rt, rt.alloc(), text, written), text);
     }
-    Ok(())
 }
 
 // Whether the first is the same as the second, and the second as the first.
-fn are_same(alloc: Global, one: &Payload, text: &str) -> Result<(bool, bool), Fail> {
-    let other = payload(alloc, text)?;
-    Ok((one.same(&other), other.same(one)))
+fn are_same(rt: &impl Abort, alloc: Global, one: &Payload, text: &str) -> (bool, bool) {
+    let other = payload(rt, alloc, text);
+    (one.same(&other), other.same(one))
 }
 
-fn copied(alloc: Global, text: &str) -> Result<Payload, Fail> {
-    Ok(payload(alloc, text)?.copy()?)
+fn copied(rt: &impl Abort, alloc: Global, text: &str) -> Payload {
+    payload(rt, alloc, text)
+        .copy()
+        .expect(rt, "room for a copy")
 }
 
 const COPIED: &str = "{\"a\":[1,\"x\",null],\"b\":true}";
@@ -175,18 +183,17 @@ const OTHERS: &[(&str, bool)] = &[
     ("null", false),
 ];
 
-fn is_copy(rt: &impl Abort, alloc: Global, copy: &Payload) -> Result<(), Fail> {
+fn is_copy(rt: &impl Abort, alloc: Global, copy: &Payload) {
     for (text, same) in OTHERS {
-        assert!(rt; are_same(alloc, copy, text)? == (*same, *same), "{text}");
+        check!(rt; are_same(rt, alloc, copy, text) == (*same, *same), text);
     }
-    assert!(rt; is_text_of(alloc, copy, COPIED)?);
-    Ok(())
+    check!(rt; is_text_of(rt, alloc, copy, COPIED));
 }
 
 #[test]
-fn a_copy_is_equal(rt: HostRuntime) -> Result<(), Fail> {
-    let copy = copied(rt.alloc(), COPIED)?;
-    is_copy(&rt, rt.alloc(), &copy)
+fn a_copy_is_equal(rt: HostRuntime) {
+    let copy = copied(&rt, rt.alloc(), COPIED);
+    is_copy(&rt, rt.alloc(), &copy);
 }
 
 const OPTIONS: &str = "{\"match\":\"prefix\",\"acknowledge\":true}";
@@ -199,22 +206,21 @@ fn text_of(found: &Found<Text>) -> &str {
     }
 }
 
-fn is_found(alloc: Global, options: &Value, key: &str, want: &str) -> Result<bool, Fail> {
-    let found = text_option(alloc, options, key)?;
-    Ok(text_of(&found) == want)
+fn is_found(rt: &impl Abort, alloc: Global, options: &Value, key: &str, want: &str) -> bool {
+    let found = text_option(alloc, options, key).expect(rt, "room for a text");
+    text_of(&found) == want
 }
 
-fn texts_are_found(rt: &impl Abort, alloc: Global, options: &Value) -> Result<(), Fail> {
-    assert!(rt; is_found(alloc, options, "match", "prefix")?);
-    assert!(rt; is_found(alloc, options, "acknowledge", "other")?);
-    assert!(rt; is_found(alloc, options, "none", "absent")?);
-    Ok(())
+fn texts_are_found(rt: &impl Abort, alloc: Global, options: &Value) {
+    check!(rt; is_found(rt, alloc, options, "match", "prefix"));
+    check!(rt; is_found(rt, alloc, options, "acknowledge", "other"));
+    check!(rt; is_found(rt, alloc, options, "none", "absent"));
 }
 
 #[test]
-fn finds_texts(rt: HostRuntime) -> Result<(), Fail> {
-    let options = Value::from_str(rt.alloc(), OPTIONS)?;
-    texts_are_found(&rt, rt.alloc(), &options)
+fn finds_texts(rt: HostRuntime) {
+    let options = value(&rt, rt.alloc(), OPTIONS);
+    texts_are_found(&rt, rt.alloc(), &options);
 }
 
 fn text_found<'a>(options: &'a Value, key: &str) -> &'a str {
@@ -243,113 +249,107 @@ const KEYS: &[(&str, &str, &str)] = &[
 
 fn options_are_found(rt: &impl Abort, options: &Value) {
     for (key, text, truth) in KEYS {
-        assert!(rt; text_found(options, key) == *text, "{key}");
-        assert!(rt; bool_found(options, key) == *truth, "{key}");
+        check!(rt; text_found(options, key) == *text, key);
+        check!(rt; bool_found(options, key) == *truth, key);
     }
 }
 
 #[test]
-fn finds_options(rt: HostRuntime) -> Result<(), Fail> {
-    let options = Value::from_str(rt.alloc(), OPTIONS)?;
+fn finds_options(rt: HostRuntime) {
+    let options = value(&rt, rt.alloc(), OPTIONS);
     options_are_found(&rt, &options);
-    Ok(())
 }
 
-fn list(alloc: Global, text: &str) -> Result<Arguments, Fail> {
-    Ok(Arguments::of(payload(alloc, text)?).ok_or("an array")?)
+fn list(rt: &impl Abort, alloc: Global, text: &str) -> Arguments {
+    Arguments::of(payload(rt, alloc, text)).expect(rt, "an array")
 }
 
-fn dict(alloc: Global, text: &str) -> Result<ArgumentsKw, Fail> {
-    Ok(ArgumentsKw::of(payload(alloc, text)?).ok_or("an object")?)
+fn dict(rt: &impl Abort, alloc: Global, text: &str) -> ArgumentsKw {
+    ArgumentsKw::of(payload(rt, alloc, text)).expect(rt, "an object")
 }
 
-fn is_copied(args: &Args) -> Result<bool, Fail> {
-    let copy = args.copy()?;
-    Ok(args.same(&copy))
+fn is_copied(rt: &impl Abort, args: &Args) -> bool {
+    let copy = args.copy().expect(rt, "room for a copy");
+    args.same(&copy)
 }
 
 // Whether these arguments end a message of the code 36 as this text.
-fn is_written(alloc: Global, args: &Args, text: &str) -> Result<bool, Fail> {
+fn is_written(rt: &impl Abort, alloc: Global, args: &Args, text: &str) -> bool {
     let mut out = Writer::new(Vec::new(alloc));
-    out.begin_array()?;
-    out.u64(36)?;
-    args.put(&mut out)?;
-    out.end_array()?;
-    Ok(out.into_inner().as_slice() == text.as_bytes())
+    out.begin_array().expect(rt, "room for a text");
+    out.u64(36).expect(rt, "room for a text");
+    args.put(&mut out).expect(rt, "room for a text");
+    out.end_array().expect(rt, "room for a text");
+    out.into_inner().as_slice() == text.as_bytes()
 }
 
 #[test]
-fn arguments_are_an_array_and_an_object(rt: HostRuntime) -> Result<(), Fail> {
-    assert!(rt; Arguments::of(payload(rt.alloc(), "{}")?).is_none());
-    assert!(rt; ArgumentsKw::of(payload(rt.alloc(), "[]")?).is_none());
-    Ok(())
+fn arguments_are_an_array_and_an_object(rt: HostRuntime) {
+    check!(&rt; Arguments::of(payload(&rt, rt.alloc(), "{}")).is_none());
+    check!(&rt; ArgumentsKw::of(payload(&rt, rt.alloc(), "[]")).is_none());
 }
 
-fn list_is_copied(alloc: Global, text: &str) -> Result<bool, Fail> {
-    let list = list(alloc, text)?;
+fn list_is_copied(rt: &impl Abort, alloc: Global, text: &str) -> bool {
+    let list = list(rt, alloc, text);
     let copied = list.copy().map(|copy| list.same(&copy));
     drop(list);
-    Ok(copied?)
+    copied.expect(rt, "room for a copy")
 }
 
-fn dict_is_copied(alloc: Global, text: &str) -> Result<bool, Fail> {
-    let dict = dict(alloc, text)?;
+fn dict_is_copied(rt: &impl Abort, alloc: Global, text: &str) -> bool {
+    let dict = dict(rt, alloc, text);
     let copied = dict.copy().map(|copy| dict.same(&copy));
     drop(dict);
-    Ok(copied?)
+    copied.expect(rt, "room for a copy")
 }
 
 #[test]
-fn arguments_are_copied(rt: HostRuntime) -> Result<(), Fail> {
-    assert!(rt; list_is_copied(rt.alloc(), "[\"hi\"]")?);
-    assert!(rt; list_is_copied(rt.alloc(), "[]")?);
-    assert!(rt; dict_is_copied(rt.alloc(), "{\"a\":1}")?);
-    assert!(rt; dict_is_copied(rt.alloc(), "{}")?);
-    Ok(())
+fn arguments_are_copied(rt: HostRuntime) {
+    check!(&rt; list_is_copied(&rt, rt.alloc(), "[\"hi\"]"));
+    check!(&rt; list_is_copied(&rt, rt.alloc(), "[]"));
+    check!(&rt; dict_is_copied(&rt, rt.alloc(), "{\"a\":1}"));
+    check!(&rt; dict_is_copied(&rt, rt.alloc(), "{}"));
 }
 
 #[test]
-fn no_arguments_end_a_message(rt: HostRuntime) -> Result<(), Fail> {
-    assert!(rt; is_written(rt.alloc(), &Args::Nothing, "[36]")?);
-    Ok(())
+fn no_arguments_end_a_message(rt: HostRuntime) {
+    check!(&rt; is_written(&rt, rt.alloc(), &Args::Nothing, "[36]"));
 }
 
-fn alone(alloc: Global) -> Result<Args, Fail> {
-    Ok(Args::List(list(alloc, "[\"hi\"]")?))
+fn alone(rt: &impl Abort, alloc: Global) -> Args {
+    Args::List(list(rt, alloc, "[\"hi\"]"))
 }
 
-fn is_alone(rt: &impl Abort, alloc: Global, alone: &Args) -> Result<(), Fail> {
-    assert!(rt; is_written(alloc, alone, "[36,[\"hi\"]]")?);
-    assert!(rt; !alone.same(&Args::Nothing));
-    Ok(())
-}
-
-#[test]
-fn a_list_ends_a_message(rt: HostRuntime) -> Result<(), Fail> {
-    let alone = alone(rt.alloc())?;
-    is_alone(&rt, rt.alloc(), &alone)
-}
-
-fn list_and_dict(alloc: Global) -> Result<Args, Fail> {
-    let list = list(alloc, "[\"hi\"]")?;
-    let dict = dict(alloc, "{\"a\":1}")?;
-    Ok(Args::Both(list, dict))
-}
-
-fn is_same_alone(alloc: Global, both: &Args) -> Result<bool, Fail> {
-    let alone = alone(alloc)?;
-    Ok(both.same(&alone))
-}
-
-fn are_both(rt: &impl Abort, alloc: Global, both: &Args) -> Result<(), Fail> {
-    assert!(rt; is_written(alloc, both, "[36,[\"hi\"],{\"a\":1}]")?);
-    assert!(rt; is_copied(both)?);
-    assert!(rt; !is_same_alone(alloc, both)?);
-    Ok(())
+fn is_alone(rt: &impl Abort, alloc: Global, alone: &Args) {
+    check!(rt; is_written(rt, alloc, alone, "[36,[\"hi\"]]"));
+    check!(rt; !alone.same(&Args::Nothing));
 }
 
 #[test]
-fn a_list_and_an_object_end_a_message(rt: HostRuntime) -> Result<(), Fail> {
-    let both = list_and_dict(rt.alloc())?;
-    are_both(&rt, rt.alloc(), &both)
+fn a_list_ends_a_message(rt: HostRuntime) {
+    let alone = alone(&rt, rt.alloc());
+    is_alone(&rt, rt.alloc(), &alone);
+}
+
+fn list_and_dict(rt: &impl Abort, alloc: Global) -> Args {
+    let list = list(rt, alloc, "[\"hi\"]");
+    let dict = dict(rt, alloc, "{\"a\":1}");
+    Args::Both(list, dict)
+}
+
+fn is_same_alone(rt: &impl Abort, alloc: Global, both: &Args) -> bool {
+    let alone = alone(rt, alloc);
+    both.same(&alone)
+}
+
+fn are_both(rt: &impl Abort, alloc: Global, both: &Args) {
+    check!(rt; is_written(rt, alloc, both, "[36,[\"hi\"],{\"a\":1}]"));
+    check!(rt; is_copied(rt, both));
+    check!(rt; !is_same_alone(rt, alloc, both));
+}
+
+#[test]
+fn a_list_and_an_object_end_a_message(rt: HostRuntime) {
+    let both = list_and_dict(&rt, rt.alloc());
+    are_both(&rt, rt.alloc(), &both);
 }

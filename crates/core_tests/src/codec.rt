@@ -1,13 +1,14 @@
+use crate::check::Check;
 use crate::{Number, Octet};
-use command_codec::{CodecFault, Entry, put_entry, take_entry};
+use command_codec::{Entry, put_entry, take_entry};
 use std::alloc::Global;
 use std::process::Abort;
-use std::test::Fail;
+use test_checks::{check, check_eq};
 
-fn spelled(alloc: Global, entry: &Entry<Number>) -> Result<Vec<u8>, CodecFault> {
+fn spelled(rt: &impl Abort, alloc: Global, entry: &Entry<Number>) -> Vec<u8> {
     let mut out = Vec::new(alloc);
-    put_entry::<Number, Octet>(entry, &mut out)?;
-    Ok(out)
+    put_entry::<Number, Octet>(entry, &mut out).expect(rt, "a spelling");
+    out
 }
 
 // An Item of node 2 in its boot 1, of its transport 1.
@@ -29,9 +30,9 @@ fn fault_of(alloc: Global, octets: &[u8]) -> u8 {
     }
 }
 
-fn is_spelled(alloc: Global, entry: &Entry<Number>, octets: &[u8]) -> Result<bool, CodecFault> {
-    let found = spelled(alloc, entry)?;
-    Ok(found.as_slice() == octets)
+fn is_spelled(rt: &impl Abort, alloc: Global, entry: &Entry<Number>, octets: &[u8]) -> bool {
+    let found = spelled(rt, alloc, entry);
+    found.as_slice() == octets
 }
 
 const BOOT: &[u8] = &[1, 2, 0, 0, 0, 0, 0, 0, 0, 1];
@@ -55,11 +56,10 @@ fn entry(row: usize) -> Entry<Number> {
 const SPELLED: [&[u8]; 4] = [&[0], BOOT, LOST, ITEM];
 
 #[test]
-fn entries_have_their_octets(rt: HostRuntime) -> Result<(), Fail> {
+fn entries_have_their_octets(rt: HostRuntime) {
     for (row, octets) in SPELLED.iter().enumerate() {
-        assert!(rt; is_spelled(rt.alloc(), &entry(row), octets)?, "{row}");
+        check!(&rt; is_spelled(&rt, rt.alloc(), &entry(row), octets), row);
     }
-    Ok(())
 }
 
 // Octets, and the number of their fault, or 0.
@@ -107,24 +107,23 @@ const OCTETS: &[(&[u8], u8)] = &[
 #[test]
 fn octets_are_read_as_entries(rt: HostRuntime) {
     for (octets, number) in OCTETS {
-        assert_eq!(rt; fault_of(rt.alloc(), octets), *number);
+        check_eq!(&rt; fault_of(rt.alloc(), octets), *number);
     }
 }
 
 // The number of the octets' Item and what it holds; nothing where they are another entry.
-fn item_in(alloc: Global, octets: &[u8]) -> Result<Option<(u64, u32)>, CodecFault> {
-    match take_entry::<Number, Octet>(alloc, octets)? {
-        Entry::Item { seq, body, .. } => Ok(Some((seq, body.get()))),
-        _ => Ok(None),
+fn item_in(rt: &impl Abort, alloc: Global, octets: &[u8]) -> Option<(u64, u32)> {
+    match take_entry::<Number, Octet>(alloc, octets).expect(rt, "an entry") {
+        Entry::Item { seq, body, .. } => Some((seq, body.get())),
+        _ => None,
     }
 }
 
 #[test]
-fn an_entry_is_read_again(rt: HostRuntime) -> Result<(), Fail> {
-    let octets = spelled(rt.alloc(), &item(281_474_976_710_655, 255))?;
+fn an_entry_is_read_again(rt: HostRuntime) {
+    let octets = spelled(&rt, rt.alloc(), &item(281_474_976_710_655, 255));
     let told = Some((281_474_976_710_655, 255));
-    assert_eq!(rt; item_in(rt.alloc(), &octets)?, told);
-    Ok(())
+    check_eq!(&rt; item_in(&rt, rt.alloc(), &octets), told);
 }
 
 // The number of the fault for which the entry is not put, 0 where it is.
@@ -151,14 +150,13 @@ fn unspelled(row: u8) -> Entry<Number> {
 // Of an entry that has no spelling nothing is put.
 fn puts_nothing(rt: &impl Abort, out: &mut Vec<u8>) {
     for row in 0..4u8 {
-        assert_eq!(rt; refusal(&unspelled(row), out), 43, "{row}");
+        check_eq!(rt; refusal(&unspelled(row), out), 43, row);
     }
-    assert_eq!(rt; out.as_slice(), [5, 6].as_slice());
+    check_eq!(rt; out.as_slice(), [5, 6].as_slice());
 }
 
 #[test]
-fn an_entry_without_a_spelling_puts_nothing(rt: HostRuntime) -> Result<(), Fail> {
-    let mut out = vec![in rt.alloc(); 5u8, 6]?;
+fn an_entry_without_a_spelling_puts_nothing(rt: HostRuntime) {
+    let mut out = vec![in rt.alloc(); 5u8, 6].expect(&rt, "room for two octets");
     puts_nothing(&rt, &mut out);
-    Ok(())
 }

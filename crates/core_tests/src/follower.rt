@@ -1,10 +1,11 @@
+use crate::check::Check;
 use crate::{Count, Foretells, Number, Refuses};
 use log_follower::{Follower, Transport};
 use replica_machine::{Entry, Machine};
 use std::alloc::Global;
 use std::marker::Model;
 use std::process::Abort;
-use std::test::Fail;
+use test_checks::check_eq;
 
 // A node that passes pieces of one log, behind a front of it.
 #[derive(Drop)]
@@ -50,20 +51,22 @@ fn item(seq: u64, value: u32) -> Entry<Number> {
 
 // Nodes 1 and 2 begin, and then node 2 takes 5 and 6.
 fn walk_of<M: Machine<Body = Number>>(
+    rt: &impl Abort,
     alloc: Global,
     node: u8,
     machine: M,
-) -> Result<Walk<M>, Fail> {
+) -> Walk<M> {
     let log = vec![in alloc;
         Entry::Boot { node: 1, boot: 1 },
         Entry::Boot { node: 2, boot: 1 },
         item(1, 5),
         item(2, 6),
-    ]?;
-    Ok(Walk {
+    ]
+    .expect(rt, "room for a log");
+    Walk {
         follower: Follower::new(alloc, node, machine),
         log,
-    })
+    }
 }
 
 // What transport 1 of the node in this boot was handed: how many sums, and the last of them.
@@ -142,7 +145,7 @@ fn passed<M: Machine<Say = (Transport, u64)>>(
 
 fn goes<M: Machine<Say = (Transport, u64)>>(rt: &impl Abort, walk: &mut Walk<M>, rows: &[Row]) {
     for row in rows {
-        assert_eq!(rt; passed(walk, row), (true, row.3, row.4));
+        check_eq!(rt; passed(walk, row), (true, row.3, row.4));
     }
 }
 
@@ -157,44 +160,36 @@ fn counted(walk: &Walk<Count>) -> (u64, usize, usize) {
 }
 
 #[test]
-fn what_is_applied_again_is_not_told_again(rt: HostRuntime) -> Result<(), Fail> {
-    let mut walk = walk_of(rt.alloc(), 2, Count::new(rt.alloc()))?;
+fn what_is_applied_again_is_not_told_again(rt: HostRuntime) {
+    let mut walk = walk_of(&rt, rt.alloc(), 2, Count::new(rt.alloc()));
     goes(&rt, &mut walk, ONCE);
     let counted = counted(&walk);
     drop(walk);
-    assert_eq!(rt; counted, (11, 4, 1));
-    Ok(())
+    check_eq!(&rt; counted, (11, 4, 1));
 }
 
 // A node whose machine speaks ahead goes as these rows say, and hands something to so many transports.
-fn speaks_ahead(
-    rt: &impl Abort,
-    alloc: Global,
-    node: u8,
-    rows: &[Row],
-    transports: usize,
-) -> Result<(), Fail> {
-    let mut walk = walk_of(alloc, node, Foretells::new(alloc))?;
+fn speaks_ahead(rt: &impl Abort, alloc: Global, node: u8, rows: &[Row], transports: usize) {
+    let mut walk = walk_of(rt, alloc, node, Foretells::new(alloc));
     goes(rt, &mut walk, rows);
     let told = told(&walk.follower);
     drop(walk);
-    assert_eq!(rt; told, transports);
-    Ok(())
+    check_eq!(rt; told, transports);
 }
 
 #[test]
-fn what_was_said_early_is_handed_out_when_its_boot_passes(rt: HostRuntime) -> Result<(), Fail> {
-    speaks_ahead(&rt, rt.alloc(), 2, AHEAD, 2)
+fn what_was_said_early_is_handed_out_when_its_boot_passes(rt: HostRuntime) {
+    speaks_ahead(&rt, rt.alloc(), 2, AHEAD, 2);
 }
 
 #[test]
-fn what_a_boot_did_not_pass_is_not_handed_out(rt: HostRuntime) -> Result<(), Fail> {
-    speaks_ahead(&rt, rt.alloc(), 2, CUT_SHORT, 2)
+fn what_a_boot_did_not_pass_is_not_handed_out(rt: HostRuntime) {
+    speaks_ahead(&rt, rt.alloc(), 2, CUT_SHORT, 2);
 }
 
 #[test]
-fn what_is_for_another_node_is_dropped(rt: HostRuntime) -> Result<(), Fail> {
-    speaks_ahead(&rt, rt.alloc(), 1, OF_ANOTHER, 0)
+fn what_is_for_another_node_is_dropped(rt: HostRuntime) {
+    speaks_ahead(&rt, rt.alloc(), 1, OF_ANOTHER, 0);
 }
 
 // A piece of the log in a boot, whether it is passed, and the length of the log then and whether the machine is given up.
@@ -221,16 +216,15 @@ fn tried(walk: &mut Walk<Refuses>, row: &Try) -> (bool, usize, bool) {
 
 fn is_given_up(rt: &impl Abort, walk: &mut Walk<Refuses>) {
     for row in REFUSED {
-        assert_eq!(rt; tried(walk, row), (row.3, row.4, row.5));
+        check_eq!(rt; tried(walk, row), (row.3, row.4, row.5));
     }
     // it took the second entry of the refused event before it failed at the third
-    assert_eq!(rt; walk.follower.machine().taken(), 2);
+    check_eq!(rt; walk.follower.machine().taken(), 2);
 }
 
 #[test]
-fn a_machine_that_refuses_is_given_up(rt: HostRuntime) -> Result<(), Fail> {
-    let mut walk = walk_of(rt.alloc(), 3, Refuses::new(rt.alloc(), 2))?;
+fn a_machine_that_refuses_is_given_up(rt: HostRuntime) {
+    let mut walk = walk_of(&rt, rt.alloc(), 3, Refuses::new(rt.alloc(), 2));
     is_given_up(&rt, &mut walk);
     drop(walk);
-    Ok(())
 }

@@ -1,7 +1,8 @@
+use crate::check::Check;
 use crate::{Count, Number, Refuses};
-use replica_machine::{AppliedLog, Entry, Failed, LearnFault, Machine, Roll, Slot};
+use replica_machine::{AppliedLog, Entry, LearnFault, Machine, Roll, Slot};
 use std::process::Abort;
-use std::test::Fail;
+use test_checks::{check, check_eq};
 
 // The Boot of node 1, or its Item with this number, which holds ten times the number.
 fn entry(seq: u32) -> Entry<Number> {
@@ -19,20 +20,21 @@ fn entry(seq: u32) -> Entry<Number> {
 }
 
 // A slot of a table, by its place from 0.
-fn slot(place: usize) -> Result<Slot, LearnFault> {
-    Slot::new((place as u64).saturating_add(1)).ok_or(LearnFault::Failed)
+fn slot(rt: &impl Abort, place: usize) -> Slot {
+    Slot::new((place as u64).saturating_add(1)).expect(rt, "a slot")
 }
 
 // Learns a table's entries in the slots 1 and on, the last one first, but for the first `from`.
 fn learn_behind<M: Machine<Body = Number>>(
+    rt: &impl Abort,
     log: &mut AppliedLog<M>,
     table: &[u32],
     from: usize,
-) -> Result<(), LearnFault> {
+) {
     for place in (from..table.len()).rev() {
-        log.learn(slot(place)?, entry(table[place]))?;
+        log.learn(slot(rt, place), entry(table[place]))
+            .expect(rt, "an entry that is learned");
     }
-    Ok(())
 }
 
 // A Boot, then Items 1, 1 again, 3, 2 and 3.
@@ -42,21 +44,21 @@ const OUT_OF_ORDER: [u32; 6] = [0, 1, 1, 3, 2, 3];
 type Told = Option<(u64, bool, Option<u64>)>;
 
 // What is told of the next step.
-fn step(log: &mut AppliedLog<Count>) -> Result<Told, Failed> {
-    let Some(step) = log.advance()? else {
-        return Ok(None);
+fn step(rt: &impl Abort, log: &mut AppliedLog<Count>) -> Told {
+    let Some(step) = log.advance().expect(rt, "a step or none") else {
+        return None;
     };
-    Ok(Some((
+    Some((
         step.slot.get(),
         step.took,
         step.says.first().map(|say| say.1),
-    )))
+    ))
 }
 
 // The log goes on with these steps.
 fn goes_on(rt: &impl Abort, log: &mut AppliedLog<Count>, rows: &[Told]) {
     for told in rows {
-        assert_eq!(rt; step(log), Ok(*told));
+        check_eq!(rt; step(rt, log), *told);
     }
 }
 
@@ -72,56 +74,55 @@ const SKIPPED: &[Told] = &[
 ];
 
 // Goes along a log by reference: who owns it drops it at each of its exits.
-fn skips(rt: &impl Abort, log: &mut AppliedLog<Count>) -> Result<(), Fail> {
-    learn_behind(log, &OUT_OF_ORDER, 1)?;
+fn skips(rt: &impl Abort, log: &mut AppliedLog<Count>) {
+    learn_behind(rt, log, &OUT_OF_ORDER, 1);
     goes_on(rt, log, &[None]);
-    learn_behind(log, &[0], 0)?;
+    learn_behind(rt, log, &[0], 0);
     goes_on(rt, log, SKIPPED);
-    assert_eq!(rt; (log.machine().sum(), log.applied().len()), (60, 6));
-    Ok(())
+    check_eq!(rt; (log.machine().sum(), log.applied().len()), (60, 6));
 }
 
 #[test]
-fn items_out_of_order_are_skipped(rt: HostRuntime) -> Result<(), Fail> {
+fn items_out_of_order_are_skipped(rt: HostRuntime) {
     let mut log = AppliedLog::new(rt.alloc(), Count::new(rt.alloc()));
-    skips(&rt, &mut log)
+    skips(&rt, &mut log);
 }
 
 // The number of the fault with which an entry is not learned in a slot, by its place from 0; 0 where it is.
-fn refusal<M: Machine<Body = Number>>(log: &mut AppliedLog<M>, place: usize, seq: u32) -> u8 {
-    let done = match slot(place) {
-        Ok(slot) => log.learn(slot, entry(seq)),
-        Err(fault) => Err(fault),
-    };
-    match done {
+fn refusal<M: Machine<Body = Number>>(
+    rt: &impl Abort,
+    log: &mut AppliedLog<M>,
+    place: usize,
+    seq: u32,
+) -> u8 {
+    match log.learn(slot(rt, place), entry(seq)) {
         Ok(()) => 0,
         Err(fault) => fault.number(),
     }
 }
 
-fn keeps_entries(rt: &impl Abort, log: &mut AppliedLog<Count>) -> Result<(), Fail> {
-    learn_behind(log, &[0, 1], 0)?;
+fn keeps_entries(rt: &impl Abort, log: &mut AppliedLog<Count>) {
+    learn_behind(rt, log, &[0, 1], 0);
     goes_on(rt, log, &[Some((1, true, None))]);
     // another entry, in a slot that is applied and in one that is not, and the same again
     for (place, seq, number) in [(0, 1, 46), (1, 2, 46), (0, 0, 0), (1, 1, 0)] {
-        assert_eq!(rt; refusal(log, place, seq), number);
+        check_eq!(rt; refusal(rt, log, place, seq), number);
     }
-    assert_eq!(rt; log.applied().len(), 1);
+    check_eq!(rt; log.applied().len(), 1);
     goes_on(rt, log, &[Some((2, true, Some(10)))]);
-    Ok(())
 }
 
 #[test]
-fn one_entry_stands_in_a_slot(rt: HostRuntime) -> Result<(), Fail> {
+fn one_entry_stands_in_a_slot(rt: HostRuntime) {
     let mut log = AppliedLog::new(rt.alloc(), Count::new(rt.alloc()));
-    keeps_entries(&rt, &mut log)
+    keeps_entries(&rt, &mut log);
 }
 
 #[test]
 fn faults_have_their_numbers(rt: HostRuntime) {
-    assert_eq!(rt; LearnFault::Disagree.number(), 46);
-    assert_eq!(rt; LearnFault::Memory.number(), 47);
-    assert_eq!(rt; LearnFault::Failed.number(), 48);
+    check_eq!(&rt; LearnFault::Disagree.number(), 46);
+    check_eq!(&rt; LearnFault::Memory.number(), 47);
+    check_eq!(&rt; LearnFault::Failed.number(), 48);
 }
 
 // Advances so many times, and tells how often the log answered with a step.
@@ -143,22 +144,21 @@ fn stop(log: &mut AppliedLog<Refuses>) -> u8 {
     }
 }
 
-fn spoils(rt: &impl Abort, log: &mut AppliedLog<Refuses>) -> Result<(), Fail> {
-    learn_behind(log, &OUT_OF_ORDER, 0)?;
+fn spoils(rt: &impl Abort, log: &mut AppliedLog<Refuses>) {
+    learn_behind(rt, log, &OUT_OF_ORDER, 0);
     // of the six slots the first, second and fifth take effect; the sixth is refused
-    assert_eq!(rt; steps(log, 5), 5);
+    check_eq!(rt; steps(log, 5), 5);
     for _again in 0..3u8 {
-        assert_eq!(rt; stop(log), 48);
+        check_eq!(rt; stop(log), 48);
     }
-    assert_eq!(rt; refusal(log, 0, 0), 48);
-    assert_eq!(rt; (log.applied().len(), log.machine().taken()), (5, 3));
-    Ok(())
+    check_eq!(rt; refusal(rt, log, 0, 0), 48);
+    check_eq!(rt; (log.applied().len(), log.machine().taken()), (5, 3));
 }
 
 #[test]
-fn a_machine_that_refuses_spoils_the_log(rt: HostRuntime) -> Result<(), Fail> {
+fn a_machine_that_refuses_spoils_the_log(rt: HostRuntime) {
     let mut log = AppliedLog::new(rt.alloc(), Refuses::new(rt.alloc(), 3));
-    spoils(&rt, &mut log)
+    spoils(&rt, &mut log);
 }
 
 // An entry, of which node and boot, and whether it takes effect.
@@ -202,16 +202,16 @@ fn takes(roll: &mut Roll, row: &Row) -> bool {
 }
 
 fn goes_along(rt: &impl Abort, roll: &mut Roll) {
-    assert_eq!(rt; roll.live(3), None);
+    check_eq!(rt; roll.live(3), None);
     for row in TAKEN {
-        assert_eq!(rt; takes(roll, row), row.3);
+        check_eq!(rt; takes(roll, row), row.3);
     }
-    assert_eq!(rt; (roll.live(3), roll.live(255)), (None, Some(9)));
+    check_eq!(rt; (roll.live(3), roll.live(255)), (None, Some(9)));
 }
 
 fn counts_items(rt: &impl Abort, roll: &mut Roll) {
-    assert!(rt; roll.take(&item()));
-    assert_eq!(rt; (roll.taken(255), roll.taken(3)), (1, 0));
+    check!(rt; roll.take(&item()));
+    check_eq!(rt; (roll.taken(255), roll.taken(3)), (1, 0));
 }
 
 #[test]

@@ -1,10 +1,11 @@
 ghost use Rattle.std.specs.Prelude.{◌≡◌, OnOk, fold};
 
+use crate::check::Check;
 use crate::{Count, Number};
 use paxos_packets::Transport;
 use replica_machine::{Failed, Input, Machine};
 use std::process::Abort;
-use std::test::Fail;
+use test_checks::check_eq;
 
 // Applies inputs in order: from the trait alone, a machine folds `next` over them.
 fn follow<M: Machine>(machine: &mut M, inputs: &[Input<M::Body>]) -> Result<(), Failed>
@@ -17,13 +18,10 @@ fn follow<M: Machine>(machine: &mut M, inputs: &[Input<M::Body>]) -> Result<(), 
 }
 
 #[test]
-fn a_failed_machine_is_48(rt: HostRuntime) -> Result<(), Fail> {
-    assert_eq!(rt; Failed.number(), 48);
-    assert_eq!(rt;
-        format!(in rt.alloc(); "{}", Failed)?.as_str(),
-        "the machine has failed"
-    );
-    Ok(())
+fn a_failed_machine_is_48(rt: HostRuntime) {
+    check_eq!(&rt; Failed.number(), 48);
+    let told = format!(in rt.alloc(); "{}", Failed).expect(&rt, "room for a text");
+    check_eq!(&rt; told.as_str(), "the machine has failed");
 }
 
 const FROM: Transport = Transport {
@@ -33,18 +31,20 @@ const FROM: Transport = Transport {
 };
 
 // Another item of the transport.
-fn said(count: &mut Count) -> Result<u64, Fail> {
-    let said = count.apply(&Input::Item {
-        transport: FROM,
-        body: Number::new(7),
-    })?;
+fn said(rt: &impl Abort, count: &mut Count) -> u64 {
+    let said = count
+        .apply(&Input::Item {
+            transport: FROM,
+            body: Number::new(7),
+        })
+        .expect(rt, "what is said");
     match said.as_slice() {
-        [(transport, sum)] if *transport == FROM => Ok(*sum),
-        _ => Ok(0),
+        [(transport, sum)] if *transport == FROM => *sum,
+        _ => 0,
     }
 }
 
-fn adds_up(rt: &impl Abort, count: &mut Count) -> Result<(), Fail> {
+fn adds_up(rt: &impl Abort, count: &mut Count) {
     follow(
         count,
         &[
@@ -54,15 +54,15 @@ fn adds_up(rt: &impl Abort, count: &mut Count) -> Result<(), Fail> {
                 body: Number::new(5),
             },
         ],
-    )?;
-    assert_eq!(rt; count.sum(), 5);
-    assert_eq!(rt; said(count)?, 12);
-    assert_eq!(rt; Count::to(&(FROM, 12)), FROM);
-    Ok(())
+    )
+    .expect(rt, "a machine that goes on");
+    check_eq!(rt; count.sum(), 5);
+    check_eq!(rt; said(rt, count), 12);
+    check_eq!(rt; Count::to(&(FROM, 12)), FROM);
 }
 
 #[test]
-fn counts(rt: HostRuntime) -> Result<(), Fail> {
+fn counts(rt: HostRuntime) {
     let mut count = Count::new(rt.alloc());
-    adds_up(&rt, &mut count)
+    adds_up(&rt, &mut count);
 }

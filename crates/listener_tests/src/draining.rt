@@ -2,6 +2,7 @@
 ghost use Rattle.std.specs.Prelude.{◌≡◌, IfOk};
 ghost use Rattle.rtrb.specs.Ring.{IsFinishedOf, SameConsumer};
 
+use crate::check::Check;
 use crate::reading::{ASKED, letter, next_letter};
 use crate::streams::AtOnce;
 use client_listener::{FromClient, drain, read_transport};
@@ -10,6 +11,7 @@ use std::alloc::Global;
 use std::panic::Expect;
 use std::process::Abort;
 use std::test::Fail;
+use test_checks::{check, check_eq};
 
 // The letters of items.
 fn letters_of(rt: &impl Abort, alloc: Global, items: &[FromClient]) -> String {
@@ -79,10 +81,10 @@ fn drains(
 {
     let taken = three(consumer);
     let left = letters_left(rt, alloc, consumer, finished);
-    assert!(rt; taken == [Some('C'), Some('R'), Some('R')]);
-    assert_eq!(rt; left.as_str(), "RRPH");
+    check!(rt; taken == [Some('C'), Some('R'), Some('R')]);
+    check_eq!(rt; left.as_str(), "RRPH");
     drop(left);
-    assert_eq!(rt; next_letter(consumer), None);
+    check_eq!(rt; next_letter(consumer), None);
 }
 
 #[test]

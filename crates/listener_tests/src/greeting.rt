@@ -1,8 +1,10 @@
 // Rows on how a client is greeted.
+use crate::check::Check;
 use crate::streams::{Wire, is_same};
 use client_listener::{ListenFault, greet, read_handshake};
 use std::alloc::Global;
 use std::process::Abort;
+use test_checks::{check, check_eq};
 
 // What a client sends first, whether there is room for it, and how the greeting ends; what the client is answered, and what is left of what
 // it sent.
@@ -49,12 +51,9 @@ const GREETED: &[Row] = &[
 // A stream of these octets is greeted so, and the client is answered so.
 fn is_greeted(rt: &impl Abort, wire: &mut Wire<'_>, row: &Row) {
     let (asked, room, result, answered, left) = row;
-    assert!(rt; greet(wire, *room) == *result, "to {asked:?}");
-    assert!(rt;
-        is_same(wire.answered.as_slice(), answered),
-        "answered to {asked:?}"
-    );
-    assert!(rt; is_same(wire.asked, left), "left of {asked:?}");
+    check!(rt; greet(wire, *room) == *result, asked);
+    check!(rt; is_same(wire.answered.as_slice(), answered), asked);
+    check!(rt; is_same(wire.asked, left), asked);
 }
 
 // Greets the client of a row.
@@ -90,11 +89,8 @@ fn greeted(alloc: Global, calls: u32) -> Result<u32, ListenFault> {
 #[test]
 fn greets_no_further_than_the_stream_goes(rt: HostRuntime) {
     for (calls, fault, number) in FAILING {
-        assert!(rt; greeted(rt.alloc(), *calls) == Err(*fault), "after {calls}");
-        assert!(rt; fault.number() == *number, "after {calls}");
+        check!(&rt; greeted(rt.alloc(), *calls) == Err(*fault), calls);
+        check!(&rt; fault.number() == *number, calls);
     }
-    assert_eq!(rt;
-        read_handshake(&mut &b"\x7F\xF1\0\0rest"[..]),
-        Ok([0x7F, 0xF1, 0, 0])
-    );
+    check_eq!(&rt; read_handshake(&mut &b"\x7F\xF1\0\0rest"[..]), Ok([0x7F, 0xF1, 0, 0]));
 }

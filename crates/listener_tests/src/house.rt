@@ -1,5 +1,6 @@
 // A node's side of its clients, without a node: the test takes and puts in its place. Every wait ends after ten seconds, and what cannot be
 // had (memory, a socket, an answer in time) ends the test at once, so that no way out drops what a test has.
+use crate::check::Check;
 use crate::reading;
 use crate::writing::{hand, message_of};
 use bytes::Bytes;
@@ -15,6 +16,7 @@ use std::sync::{Arc, Wait};
 use std::thread;
 use std::thread::{JoinHandle, Threads};
 use std::time::{Clock, Duration};
+use test_checks::check_eq;
 
 // A listener's thread, and what it shares with the test.
 pub struct House {
@@ -80,7 +82,7 @@ impl House {
         rt: &R,
     ) -> (TcpStream, Arrival) {
         let (client, answer) = self.knock(rt, [0x7F, 0xF1, 0, 0]);
-        assert_eq!(rt; answer, [0x7F, 0xB1, 0, 0]);
+        check_eq!(rt; answer, [0x7F, 0xB1, 0, 0]);
         (client, self.arrival(rt))
     }
 
@@ -173,7 +175,7 @@ fn next_letter<R: Clock>(rt: &R, arrival: &mut Arrival) -> char {
 // The next items of a client have these letters, one after another.
 pub fn comes<R: Clock + Abort>(rt: &R, arrival: &mut Arrival, letters: &str) {
     for letter in letters.chars() {
-        assert_eq!(rt; next_letter(rt, arrival), letter, "of {letters}");
+        check_eq!(rt; next_letter(rt, arrival), letter, letters);
     }
 }
 

@@ -1,4 +1,5 @@
 // What a porter does for its connections, from the handshake to the end.
+use crate::check::Check;
 use crate::house::{House, comes, hand_close, hand_message, hand_pong, reads, reads_the_end};
 use serve_lanes::{Arrival, REQUESTS_WAITING};
 use std::alloc::Global;
@@ -8,6 +9,7 @@ use std::panic::Expect;
 use std::process::Abort;
 use std::thread;
 use std::time::{Clock, CpuClock, Duration};
+use test_checks::{check, check_eq};
 
 const HELLO: &[u8] = b"\0\0\0\x28[1,\"realm1\",{\"roles\":{\"subscriber\":{}}}]";
 
@@ -26,15 +28,15 @@ fn sends(rt: &impl Abort, client: &mut TcpStream, octets: &[u8], times: u32) {
 
 // A message and a PONG that are handed over reach the client, and then the end.
 fn is_answered(rt: &impl Abort, alloc: Global, client: &mut TcpStream, arrival: &mut Arrival) {
-    assert!(rt; hand_message(alloc, &mut arrival.replies, &REGISTERED[4..]));
+    check!(rt; hand_message(alloc, &mut arrival.replies, &REGISTERED[4..]));
     arrival.line.tell_said();
-    assert!(rt; reads(rt, client, alloc, REGISTERED));
-    assert!(rt; hand_pong(rt, alloc, &mut arrival.replies, b"hi"));
+    check!(rt; reads(rt, client, alloc, REGISTERED));
+    check!(rt; hand_pong(rt, alloc, &mut arrival.replies, b"hi"));
     arrival.line.tell_said();
-    assert!(rt; reads(rt, client, alloc, PONG));
-    assert!(rt; hand_close(&mut arrival.replies));
+    check!(rt; reads(rt, client, alloc, PONG));
+    check!(rt; hand_close(&mut arrival.replies));
     arrival.line.tell_said();
-    assert!(rt; reads_the_end(client));
+    check!(rt; reads_the_end(client));
 }
 
 #[test]
@@ -44,12 +46,12 @@ fn a_client_is_heard_and_answered(rt: HostRuntime) {
     sends(&rt, &mut client, HELLO, 1);
     sends(&rt, &mut client, PING, 1);
     comes(&rt, &mut arrival, "CRP");
-    assert!(rt; house.lobby.take_stirred());
+    check!(&rt; house.lobby.take_stirred());
     is_answered(&rt, rt.alloc(), &mut client, &mut arrival);
     drop(client);
     comes(&rt, &mut arrival, "HE");
     drop(arrival);
-    assert!(rt; house.is_empty_soon(&rt));
+    check!(&rt; house.is_empty_soon(&rt));
     house.close(&rt);
 }
 
@@ -57,12 +59,12 @@ fn a_client_is_heard_and_answered(rt: HostRuntime) {
 fn the_257th_client_is_refused(rt: HostRuntime) {
     let mut house = House::open(&rt, rt.alloc());
     for at in 0..256 {
-        assert!(rt; house.lobby.enter(), "{at}");
+        check!(&rt; house.lobby.enter(), at);
     }
-    assert!(rt; !house.lobby.enter());
+    check!(&rt; !house.lobby.enter());
     let (mut refused, answer) = house.knock(&rt, [0x7F, 0xF1, 0, 0]);
-    assert_eq!(rt; answer, [0x7F, 0x40, 0, 0]);
-    assert!(rt; reads_the_end(&mut refused));
+    check_eq!(&rt; answer, [0x7F, 0x40, 0, 0]);
+    check!(&rt; reads_the_end(&mut refused));
     drop(refused);
     house.lobby.leave();
     let (client, arrival) = house.client(&rt);
@@ -75,13 +77,13 @@ fn the_257th_client_is_refused(rt: HostRuntime) {
 fn a_client_that_is_refused_leaves_nothing(rt: HostRuntime) {
     let mut house = House::open(&rt, rt.alloc());
     let (mut client, answer) = house.knock(&rt, [0x7F, 0xF2, 0, 0]);
-    assert_eq!(rt; answer, [0x7F, 0x10, 0, 0]);
-    assert!(rt; reads_the_end(&mut client));
+    check_eq!(&rt; answer, [0x7F, 0x10, 0, 0]);
+    check!(&rt; reads_the_end(&mut client));
     drop(client);
     let mut arrival = house.arrival(&rt);
     comes(&rt, &mut arrival, "E");
     drop(arrival);
-    assert!(rt; house.is_empty_soon(&rt));
+    check!(&rt; house.is_empty_soon(&rt));
     house.close(&rt);
 }
 
@@ -91,9 +93,9 @@ fn hanging_up_ends_a_connection(rt: HostRuntime) {
     let (mut client, mut arrival) = house.client(&rt);
     comes(&rt, &mut arrival, "C");
     arrival.line.hang_up();
-    assert!(rt; reads_the_end(&mut client));
+    check!(&rt; reads_the_end(&mut client));
     comes(&rt, &mut arrival, "HE");
-    assert!(rt; house.is_empty_soon(&rt));
+    check!(&rt; house.is_empty_soon(&rt));
     drop(arrival);
     drop(client);
     house.close(&rt);
@@ -104,14 +106,14 @@ fn what_waits_is_written_before_a_dropped_line_ends(rt: HostRuntime) {
     let mut house = House::open(&rt, rt.alloc());
     let (mut client, mut arrival) = house.client(&rt);
     for _ in 0..1_000 {
-        assert!(rt; hand_message(rt.alloc(), &mut arrival.replies, &REGISTERED[4..]));
+        check!(&rt; hand_message(rt.alloc(), &mut arrival.replies, &REGISTERED[4..]));
     }
     drop(arrival);
     for at in 0..1_000 {
-        assert!(rt; reads(&rt, &mut client, rt.alloc(), REGISTERED), "{at}");
+        check!(&rt; reads(&rt, &mut client, rt.alloc(), REGISTERED), at);
     }
-    assert!(rt; reads_the_end(&mut client));
-    assert!(rt; house.is_empty_soon(&rt));
+    check!(&rt; reads_the_end(&mut client));
+    check!(&rt; house.is_empty_soon(&rt));
     drop(client);
     house.close(&rt);
 }
@@ -130,8 +132,8 @@ fn a_reader_waits_for_room_and_goes_on(rt: HostRuntime) {
     }
     comes(&rt, &mut arrival, "HE");
     drop(arrival);
-    assert!(rt; reads_the_end(&mut client));
-    assert!(rt; house.is_empty_soon(&rt));
+    check!(&rt; reads_the_end(&mut client));
+    check!(&rt; house.is_empty_soon(&rt));
     drop(client);
     house.close(&rt);
 }
@@ -152,9 +154,9 @@ fn a_reader_at_a_full_ring_ends_with_its_node(rt: HostRuntime) {
     let mut house = House::open(&rt, rt.alloc());
     let (mut client, mut arrival) = house.client(&rt);
     sends(&rt, &mut client, PING, 1_000);
-    assert_eq!(rt; fills(&rt, &mut arrival), REQUESTS_WAITING);
+    check_eq!(&rt; fills(&rt, &mut arrival), REQUESTS_WAITING);
     drop(arrival);
-    assert!(rt; house.is_empty_soon(&rt));
+    check!(&rt; house.is_empty_soon(&rt));
     drop(client);
     house.close(&rt);
 }
@@ -179,8 +181,8 @@ fn idle_connections_cost_no_processor_time(rt: HostRuntime) {
             .expect(&rt, "room for a client");
     }
     let spent = spent(&rt);
-    assert!(rt; spent < Duration::from_millis(20), "{spent:?}");
+    check!(&rt; spent < Duration::from_millis(20), spent);
     drop(clients);
-    assert!(rt; house.is_empty_soon(&rt));
+    check!(&rt; house.is_empty_soon(&rt));
     house.close(&rt);
 }

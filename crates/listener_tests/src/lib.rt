@@ -1,9 +1,15 @@
-//! Tests of what stands between a client's socket and a node's thread, over public calls, in memory and over loopback sockets. A crate
-//! with tests is proved twice, so they stand here.
+//! Tests of what stands between a client's socket and a node's thread, and of what that thread stands on in a served cluster, over public
+//! calls, in memory and over loopback sockets. A crate with tests is proved twice, so they stand here.
 #![tactic(auto)]
 
 #[cfg(test)]
+mod check;
+#[cfg(test)]
+mod counting;
+#[cfg(test)]
 mod draining;
+#[cfg(test)]
+mod feeding;
 #[cfg(test)]
 mod greeting;
 #[cfg(test)]

@@ -1,6 +1,7 @@
 // Rows on what is put into a ring for a client's octets.
 ghost use Rattle.rtrb.specs.Ring.{SameConsumer};
 
+use crate::check::Check;
 use crate::streams::{AtOnce, COUNT, Wire, frames};
 use client_listener::{FromClient, ListenFault, read_transport};
 use rtrb::{Consumer, Producer, RingBuffer};
@@ -9,6 +10,7 @@ use std::io;
 use std::io::Read;
 use std::panic::Expect;
 use std::process::Abort;
+use test_checks::{check, check_eq};
 use wamp_messages::{Message, Read as ReadResult, write};
 
 // The client's frames of the stored run, and a PING.
@@ -44,9 +46,9 @@ pub fn next_letter(consumer: &mut Consumer<FromClient>) -> Option<char>
 // The next items of a ring have these letters, and none comes behind them.
 fn are_next(rt: &impl Abort, consumer: &mut Consumer<FromClient>, letters: &str) {
     for letter in letters.chars() {
-        assert_eq!(rt; next_letter(consumer), Some(letter), "of {letters}");
+        check_eq!(rt; next_letter(consumer), Some(letter), letters);
     }
-    assert_eq!(rt; next_letter(consumer), None, "behind {letters}");
+    check_eq!(rt; next_letter(consumer), None, letters);
 }
 
 // The octets of a client, how many of them come at a time, and behind how many calls its stream fails; the slots of a ring that nobody
@@ -91,7 +93,7 @@ fn read_all<S: Read>(
     turns: u64,
 ) -> Result<(), ListenFault> {
     let (outcome, finished) = read_transport(&AtOnce, alloc, stream, producer, turns);
-    assert!(rt; finished.is_some(), "the ring's other end is there");
+    check!(rt; finished.is_some(), "the ring's other end is there");
     drop(finished);
     outcome
 }
@@ -113,7 +115,7 @@ fn ended(
 fn puts(rt: &impl Abort, alloc: Global, row: &Row) {
     let (producer, mut consumer) = RingBuffer::new(alloc, row.3).expect(rt, "a ring");
     let outcome = ended(rt, alloc, row, producer);
-    assert!(rt; outcome == row.5, "by {} of {:?}", row.1, row.0);
+    check!(rt; outcome == row.5, (row.1, row.0));
     are_next(rt, &mut consumer, row.6);
     drop(consumer);
 }
@@ -157,9 +159,9 @@ fn next_holds(
 
 // The items of a ring that are told by what they hold.
 fn hold(rt: &impl Abort, alloc: Global, consumer: &mut Consumer<FromClient>) {
-    assert_eq!(rt; next_letter(consumer), Some('C'));
-    assert!(rt; next_holds(rt, alloc, consumer, b"[32,1,{},\"a.b\"]"));
-    assert!(rt; next_holds(rt, alloc, consumer, b"AB"));
+    check_eq!(rt; next_letter(consumer), Some('C'));
+    check!(rt; next_holds(rt, alloc, consumer, b"[32,1,{},\"a.b\"]"));
+    check!(rt; next_holds(rt, alloc, consumer, b"AB"));
 }
 
 #[test]
@@ -167,7 +169,7 @@ fn puts_what_the_frames_hold(rt: HostRuntime) {
     let mut asked = &b"\0\0\0\x0F[32,1,{},\"a.b\"]\x01\0\0\x02AB\x02\0\0\x01C"[..];
     let (producer, mut consumer) = RingBuffer::new(rt.alloc(), 8).expect(&rt, "a ring");
     let outcome = read_all(&rt, rt.alloc(), &mut asked, producer, 9);
-    assert!(rt; outcome == Ok(()));
+    check!(&rt; outcome == Ok(()));
     hold(&rt, rt.alloc(), &mut consumer);
     drop(consumer);
 }
@@ -214,7 +216,7 @@ fn count_through(rt: &impl Abort, alloc: Global, asked: &[u8]) -> u32 {
         messages: 0,
     };
     let outcome = read_all(rt, alloc, &mut stream, producer, u64::MAX);
-    assert!(rt; outcome == Ok(()));
+    check!(rt; outcome == Ok(()));
     let last = take_all(&mut stream.consumer);
     let messages = stream.messages.saturating_add(last);
     drop(stream);
@@ -226,5 +228,5 @@ fn ten_thousand_messages_go_through_a_ring_of_64(rt: HostRuntime) {
     let octets = frames(&rt, rt.alloc());
     let messages = count_through(&rt, rt.alloc(), octets.as_slice());
     drop(octets);
-    assert_eq!(rt; messages, COUNT);
+    check_eq!(&rt; messages, COUNT);
 }

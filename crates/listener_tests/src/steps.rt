@@ -1,4 +1,5 @@
 // Rows on what goes into a ring, and out of one, in steps that wait for nothing.
+use crate::check::Check;
 use crate::reading::{ASKED, next_letter};
 use crate::streams::is_same;
 use crate::writing::hand_pongs;
@@ -10,6 +11,7 @@ use std::io::{ErrorKind, Write};
 use std::panic::Expect;
 use std::process::Abort;
 use std::str::Chars;
+use test_checks::{check, check_eq};
 
 // The octets of a client, how many of them are fed at a time, and the slots of the ring, which is emptied whenever it is full; how the last put
 // ends, and the letters of all that is put.
@@ -44,7 +46,7 @@ fn empty(rt: &impl Abort, consumer: &mut Consumer<FromClient>, letters: &mut Cha
         let Some(letter) = next_letter(consumer) else {
             return;
         };
-        assert_eq!(rt; Some(letter), letters.next());
+        check_eq!(rt; Some(letter), letters.next());
     }
 }
 
@@ -76,10 +78,10 @@ fn hang(
     let (producer, consumer) = ring;
     if !inlet.hang(producer) {
         empty(rt, consumer, letters);
-        assert!(rt; inlet.hang(producer));
+        check!(rt; inlet.hang(producer));
     }
     empty(rt, consumer, letters);
-    assert_eq!(rt; letters.next(), None);
+    check_eq!(rt; letters.next(), None);
 }
 
 // What is put of a row's octets is what the row says.
@@ -97,7 +99,7 @@ fn goes_in(
         inlet.feed(octets).expect(rt, "room for the octets");
         last = put_all(rt, inlet, parser, (producer, consumer), &mut letters);
     }
-    assert!(rt; last == row.3, "by {} of {:?}", row.1, row.0);
+    check!(rt; last == row.3, (row.1, row.0));
     hang(rt, inlet, (producer, consumer), &mut letters);
 }
 
@@ -174,10 +176,10 @@ const GATHERED: &[Gathered] = &[
 fn write_all(rt: &impl Abort, outbox: &mut Outbox, sips: &mut Sips) {
     for _ in 0..64 {
         if let Err(error) = outbox.write_some(sips) {
-            assert!(rt; error.kind() == ErrorKind::WouldBlock);
+            check!(rt; error.kind() == ErrorKind::WouldBlock);
         }
     }
-    assert_eq!(rt; outbox.len(), 0);
+    check_eq!(rt; outbox.len(), 0);
 }
 
 // What is gathered and written of a row is what the row says.
@@ -189,9 +191,9 @@ fn goes_out(
     sips: &mut Sips,
 ) {
     let gathered = outbox.gather(consumer);
-    assert!(rt; gathered == row.2, "of {:?}", row.0);
+    check!(rt; gathered == row.2, row.0);
     write_all(rt, outbox, sips);
-    assert!(rt; is_same(sips.octets.as_slice(), row.3), "of {:?}", row.0);
+    check!(rt; is_same(sips.octets.as_slice(), row.3), row.0);
 }
 
 // The same, by an outbox and a ring of its own.
@@ -223,9 +225,9 @@ fn gathering_stops_behind_64_kib(rt: HostRuntime) {
     hand_pongs(&rt, rt.alloc(), &mut producer, &[20_000; 5], false);
     let mut outbox = Outbox::new(rt.alloc(), 1 << 24);
     let gathered = outbox.gather(&mut consumer);
-    assert!(rt; gathered == Ok(true));
-    assert_eq!(rt; outbox.len(), 80_016);
-    assert_eq!(rt; consumer.slots(), 1);
+    check!(&rt; gathered == Ok(true));
+    check_eq!(&rt; outbox.len(), 80_016);
+    check_eq!(&rt; consumer.slots(), 1);
     drop(outbox);
     drop(consumer);
     drop(producer);

@@ -1,4 +1,5 @@
 // Rings between two threads: what one puts for a client's octets the other takes, and what one hands over the other writes.
+use crate::check::Check;
 use crate::reading::next_letter;
 use crate::streams::{COUNT, FRAME, frames};
 use crate::writing::message_of;
@@ -7,6 +8,7 @@ use rtrb::{Consumer, Producer, PushError, RingBuffer};
 use std::alloc::Global;
 use std::panic::Expect;
 use std::thread;
+use test_checks::{check, check_eq};
 
 // How many messages come out of a ring, up to the last item.
 fn count_messages(consumer: Consumer<FromClient>) -> u32 {
@@ -33,8 +35,8 @@ fn ten_thousand_messages_are_read_for_another_thread(rt: HostRuntime) {
         move || count_messages(consumer),
         || read_transport(&rt, rt.alloc(), &mut asked, producer, u64::MAX).0,
     );
-    assert!(rt; outcome == Ok(()));
-    assert_eq!(rt; messages, COUNT);
+    check!(&rt; outcome == Ok(()));
+    check_eq!(&rt; messages, COUNT);
     drop(octets);
 }
 
@@ -84,10 +86,10 @@ fn ten_thousand_messages_of_another_thread_are_written(rt: HostRuntime) {
         move || hand_all(alloc, producer),
         || write_transport(&rt, alloc, consumer, &mut written, 512, u64::MAX),
     );
-    assert!(rt; outcome == Ok(()));
-    assert_eq!(rt; handed, COUNT);
+    check!(&rt; outcome == Ok(()));
+    check_eq!(&rt; handed, COUNT);
     let wanted = frames(&rt, alloc);
-    assert!(rt; written.as_slice() == wanted.as_slice());
+    check!(&rt; written.as_slice() == wanted.as_slice());
     drop(wanted);
     drop(written);
 }

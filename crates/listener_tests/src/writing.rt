@@ -1,4 +1,5 @@
 // Rows on what is written of what is taken out of a ring, and of what an outbox holds.
+use crate::check::Check;
 use crate::streams::{AtOnce, COUNT, FRAME, Wire, frames, is_same};
 use bytes::Bytes;
 use client_listener::{ListenFault, Outbox, ToClient, write_transport};
@@ -8,6 +9,7 @@ use std::io;
 use std::io::Write;
 use std::panic::Expect;
 use std::process::Abort;
+use test_checks::check;
 use wamp_messages::{Read as ReadResult, read};
 use wamp_rawsocket::FrameKind;
 
@@ -56,14 +58,14 @@ pub fn hand<T: Drop>(producer: &mut Producer<T>, item: Option<T>) -> bool {
 
 // Hands an item to a ring, which has room for it.
 fn put<T: Drop>(rt: &impl Abort, producer: &mut Producer<T>, item: T) {
-    assert!(rt; hand(producer, Some(item)), "the ring has room");
+    check!(rt; hand(producer, Some(item)), "the ring has room");
 }
 
 // Puts the messages of the texts into a ring, and `Close` behind them.
 fn hand_texts(rt: &impl Abort, alloc: Global, producer: &mut Producer<ToClient>) {
     for text in TEXTS {
         let item = message_of(alloc, text.as_bytes());
-        assert!(rt; hand(producer, item), "{text}");
+        check!(rt; hand(producer, item), text);
     }
     put(rt, producer, ToClient::Close);
 }
@@ -75,8 +77,8 @@ fn writes_the_frames_of_the_stored_run(rt: HostRuntime) {
     let mut wire = Wire::new(rt.alloc(), b"", 64, None);
     let outcome = write_transport(&AtOnce, rt.alloc(), consumer, &mut wire, 1 << 24, 9);
     drop(producer);
-    assert!(rt; outcome == Ok(()));
-    assert!(rt; wire.answered.as_slice() == ANSWERED);
+    check!(&rt; outcome == Ok(()));
+    check!(&rt; wire.answered.as_slice() == ANSWERED);
     drop(wire);
 }
 
@@ -152,7 +154,7 @@ const ENDS: &[Row] = &[
 fn is_ended(rt: &impl Abort, alloc: Global, row: &Row, wire: &mut Wire<'_>) {
     let outcome = written(rt, alloc, row.0, row.1, wire);
     let is_so = outcome == row.3 && is_same(wire.answered.as_slice(), row.4);
-    assert!(rt; is_so, "of {:?}: {outcome:?}", row.0);
+    check!(rt; is_so, (row.0, outcome));
 }
 
 fn ends(rt: &impl Abort, alloc: Global, row: &Row) {
@@ -218,9 +220,9 @@ fn ten_thousand_messages_are_written_out_of_a_ring_of_64(rt: HostRuntime) {
         answered: Vec::new(rt.alloc()),
     };
     let outcome = write_transport(&AtOnce, rt.alloc(), consumer, &mut stream, 512, u64::MAX);
-    assert!(rt; outcome == Ok(()));
+    check!(&rt; outcome == Ok(()));
     let wanted = frames(&rt, rt.alloc());
-    assert!(rt; stream.answered.as_slice() == wanted.as_slice());
+    check!(&rt; stream.answered.as_slice() == wanted.as_slice());
     drop(wanted);
     drop(stream);
 }
@@ -244,9 +246,9 @@ fn keeps(rt: &impl Abort, outbox: &mut Outbox, wire: &mut Wire<'_>) {
         Err(ListenFault::Write),
         Ok(()),
     ];
-    assert!(rt; answers == wanted, "{answers:?}");
-    assert!(rt; lengths == [6, 0], "{lengths:?}");
-    assert!(rt; is_same(wire.answered.as_slice(), b"\x02\0\0\x02ab"));
+    check!(rt; answers == wanted, answers);
+    check!(rt; lengths == [6, 0], lengths);
+    check!(rt; is_same(wire.answered.as_slice(), b"\x02\0\0\x02ab"));
 }
 
 #[test]

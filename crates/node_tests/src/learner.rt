@@ -1,12 +1,13 @@
 ghost use Rattle.std.specs.Prelude.{◌≡◌, ◌<◌, true, IsTrue};
 ghost use Rattle.paxos_learner.specs.Learner.{has_room_at};
 
+use crate::check::Check;
 use core_tests::Number;
 use paxos_learner::{Learner, LearnerFault};
 use paxos_packets::{Ballot, Body, Entry, Members, Slot, Vote};
 use std::alloc::Global;
 use std::process::Abort;
-use std::test::Fail;
+use test_checks::{check, check_eq};
 
 // The Boot of this node, and a Noop for 0.
 fn entry(node: u8) -> Entry<Number> {
@@ -118,23 +119,22 @@ fn step(
 // What is done, by which node and in which round, in which slot, with the Boot of which node; and what is answered.
 type Row = (&'static str, u8, u64, u64, u8, u64);
 
-fn is_answered(learner: &mut Learner<Number>, row: &Row) -> Result<bool, Fail> {
+fn is_answered(rt: &impl Abort, learner: &mut Learner<Number>, row: &Row) -> bool {
     let (word, node, round, slot, of, answer) = *row;
-    let slot = Slot::new(slot).ok_or("a slot")?;
-    Ok(step(learner, word, node, round, slot, of) == answer)
+    let slot = Slot::new(slot).expect(rt, "a slot");
+    step(learner, word, node, round, slot, of) == answer
 }
 
-fn goes(rt: &impl Abort, learner: &mut Learner<Number>, rows: &[Row]) -> Result<(), Fail> {
+fn goes(rt: &impl Abort, learner: &mut Learner<Number>, rows: &[Row]) {
     for row in rows {
-        assert!(rt; is_answered(learner, row)?, "{} {} {}", row.0, row.1, row.2);
+        check!(rt; is_answered(rt, learner, row), (row.0, row.1, row.2));
     }
-    Ok(())
 }
 
-fn check(rt: &impl Abort, alloc: Global, rows: &[Row]) -> Result<(), Fail> {
-    let members = Members::new(3).ok_or("3 members")?;
+fn check(rt: &impl Abort, alloc: Global, rows: &[Row]) {
+    let members = Members::new(3).expect(rt, "3 members");
     let mut learner = Learner::new(alloc, members);
-    goes(rt, &mut learner, rows)
+    goes(rt, &mut learner, rows);
 }
 
 const A_MAJORITY_IN_ONE_BALLOT_LEARNS: &[Row] = &[
@@ -148,8 +148,8 @@ const A_MAJORITY_IN_ONE_BALLOT_LEARNS: &[Row] = &[
 ];
 
 #[test]
-fn a_majority_in_one_ballot_learns(rt: HostRuntime) -> Result<(), Fail> {
-    check(&rt, rt.alloc(), A_MAJORITY_IN_ONE_BALLOT_LEARNS)
+fn a_majority_in_one_ballot_learns(rt: HostRuntime) {
+    check(&rt, rt.alloc(), A_MAJORITY_IN_ONE_BALLOT_LEARNS);
 }
 
 const ANOTHER_ENTRY_DISAGREES: &[Row] = &[
@@ -162,9 +162,9 @@ const ANOTHER_ENTRY_DISAGREES: &[Row] = &[
 ];
 
 #[test]
-fn another_entry_disagrees(rt: HostRuntime) -> Result<(), Fail> {
-    assert_eq!(rt; LearnerFault::Memory.number(), 56);
-    check(&rt, rt.alloc(), ANOTHER_ENTRY_DISAGREES)
+fn another_entry_disagrees(rt: HostRuntime) {
+    check_eq!(&rt; LearnerFault::Memory.number(), 56);
+    check(&rt, rt.alloc(), ANOTHER_ENTRY_DISAGREES);
 }
 
 const WHAT_IS_TOLD_AHEAD_IS_FOUND: &[Row] = &[
@@ -178,8 +178,8 @@ const WHAT_IS_TOLD_AHEAD_IS_FOUND: &[Row] = &[
 ];
 
 #[test]
-fn what_is_told_ahead_is_found(rt: HostRuntime) -> Result<(), Fail> {
-    check(&rt, rt.alloc(), WHAT_IS_TOLD_AHEAD_IS_FOUND)
+fn what_is_told_ahead_is_found(rt: HostRuntime) {
+    check(&rt, rt.alloc(), WHAT_IS_TOLD_AHEAD_IS_FOUND);
 }
 
 const WHAT_HAS_ROOM_IS_TAKEN_IN: &[Row] = &[
@@ -194,6 +194,6 @@ const WHAT_HAS_ROOM_IS_TAKEN_IN: &[Row] = &[
 ];
 
 #[test]
-fn what_has_room_is_taken_in(rt: HostRuntime) -> Result<(), Fail> {
-    check(&rt, rt.alloc(), WHAT_HAS_ROOM_IS_TAKEN_IN)
+fn what_has_room_is_taken_in(rt: HostRuntime) {
+    check(&rt, rt.alloc(), WHAT_HAS_ROOM_IS_TAKEN_IN);
 }

@@ -1,9 +1,10 @@
+use crate::check::Check;
 use core_tests::Number;
 use paxos_node::{Event, Node, NodeFault, Packets};
 use paxos_packets::{Ballot, Body, Entries, Entry, Kind, Members, Packet, Rows, Slot, Vote, Votes};
 use std::alloc::Global;
 use std::process::Abort;
-use std::test::Fail;
+use test_checks::check;
 
 // A word and its numbers. Of an event: the node that it is of, or the sender of what is delivered; of a packet: the node that it is for.
 // Then a ballot, a slot (or the first that is asked for), and an entry.
@@ -67,101 +68,104 @@ fn entry_of(number: u64) -> Entry<Number> {
     Entry::Lost { node, boot: 1 }
 }
 
-fn slot_of(number: u64) -> Result<Slot, Fail> {
-    Ok(Slot::new(number).ok_or("a slot")?)
+fn slot_of(rt: &impl Abort, number: u64) -> Slot {
+    Slot::new(number).expect(rt, "a slot")
 }
 
-fn vote_of(ballot: u64, slot: u64, entry: u64) -> Result<Vote<Number>, Fail> {
-    let slot = slot_of(slot)?;
-    Ok(Vote {
+fn vote_of(rt: &impl Abort, ballot: u64, slot: u64, entry: u64) -> Vote<Number> {
+    let slot = slot_of(rt, slot);
+    Vote {
         slot,
         ballot: ballot_of(ballot),
         entry: entry_of(entry),
-    })
+    }
 }
 
 // No votes where the slot is 0, else one for this entry in ballot (1, 2).
-fn votes_of(alloc: Global, slot: u64, entry: u64) -> Result<Votes<Number>, Fail> {
+fn votes_of(rt: &impl Abort, alloc: Global, slot: u64, entry: u64) -> Votes<Number> {
     let mut votes = Votes::new(alloc);
     if slot != 0 {
-        votes.put(vote_of(12, slot, entry)?)?;
+        let vote = vote_of(rt, 12, slot, entry);
+        votes.put(vote).expect(rt, "room for a vote");
     }
-    Ok(votes)
+    votes
 }
 
 // Two entries.
-fn entries_of(alloc: Global, one: u64, other: u64) -> Result<Entries<Number>, Fail> {
+fn entries_of(rt: &impl Abort, alloc: Global, one: u64, other: u64) -> Entries<Number> {
     let mut entries = Entries::new(alloc);
-    entries.push(entry_of(one))?;
-    entries.push(entry_of(other))?;
-    Ok(entries)
+    entries.push(entry_of(one)).expect(rt, "room for an entry");
+    entries
+        .push(entry_of(other))
+        .expect(rt, "room for an entry");
+    entries
 }
 
 // What a packet says of a vote, where the word says so.
-fn kind_of_vote(said: &Said) -> Result<Kind<Number>, Fail> {
+fn kind_of_vote(rt: &impl Abort, said: &Said) -> Kind<Number> {
     let (word, _, ballot, slot, entry) = *said;
-    let vote = vote_of(ballot, slot, entry)?;
+    let vote = vote_of(rt, ballot, slot, entry);
     if word == "accept" {
-        return Ok(Kind::Accept { vote });
+        return Kind::Accept { vote };
     }
-    Ok(Kind::Accepted { vote })
+    Kind::Accepted { vote }
 }
 
 // What a packet says.
-fn kind_of(alloc: Global, said: &Said) -> Result<Kind<Number>, Fail> {
+fn kind_of(rt: &impl Abort, alloc: Global, said: &Said) -> Kind<Number> {
     let (word, _, ballot, slot, entry) = *said;
     if word == "prepare" {
-        return Ok(Kind::Prepare {
+        return Kind::Prepare {
             ballot: ballot_of(ballot),
             first: slot,
-        });
+        };
     }
     if word == "promise" {
-        return Ok(Kind::Promise {
+        return Kind::Promise {
             ballot: ballot_of(ballot),
-            votes: votes_of(alloc, slot, entry)?,
-        });
+            votes: votes_of(rt, alloc, slot, entry),
+        };
     }
     if word == "ask" {
-        return Ok(Kind::Ask { first: slot });
+        return Kind::Ask { first: slot };
     }
     if word == "learned" {
-        return Ok(Kind::Learned {
-            slot: slot_of(slot)?,
+        return Kind::Learned {
+            slot: slot_of(rt, slot),
             entry: entry_of(entry),
-        });
+        };
     }
     if word == "forward" {
-        return Ok(Kind::Forward {
-            entries: entries_of(alloc, slot, entry)?,
-        });
+        return Kind::Forward {
+            entries: entries_of(rt, alloc, slot, entry),
+        };
     }
-    kind_of_vote(said)
+    kind_of_vote(rt, said)
 }
 
 // What happens to the node with this number: a packet reaches it, where no other event has the word.
-fn event_of(alloc: Global, me: u8, said: &Said) -> Result<Event<Number>, Fail> {
+fn event_of(rt: &impl Abort, alloc: Global, me: u8, said: &Said) -> Event<Number> {
     let (word, node, _, _, _) = *said;
     if word == "tick" {
-        return Ok(Event::Tick { node });
+        return Event::Tick { node };
     }
     if word == "start" {
-        return Ok(Event::Start { node });
+        return Event::Start { node };
     }
     if word == "take" {
-        return Ok(Event::Take {
+        return Event::Take {
             node,
             transport: 1,
             body: Number::new(7),
-        });
+        };
     }
-    Ok(Event::Deliver {
+    Event::Deliver {
         packet: Packet {
             sender: node,
             addressee: me,
-            kind: kind_of(alloc, said)?,
+            kind: kind_of(rt, alloc, said),
         },
-    })
+    }
 }
 
 // Plans and adopts the event: how many entries are applied, how long the log is to be, and what is sent.
@@ -175,43 +179,45 @@ fn turn(
     Ok((applied.as_slice().len() as u64, log, packets))
 }
 
-fn is_sent(alloc: Global, me: u8, packet: &Packet<Number>, wanted: &Said) -> Result<bool, Fail> {
-    let kind = kind_of(alloc, wanted)?;
-    Ok(packet.sender == me && packet.addressee == wanted.1 && packet.kind.same(&kind))
+fn is_sent(rt: &impl Abort, alloc: Global, me: u8, packet: &Packet<Number>, wanted: &Said) -> bool {
+    let kind = kind_of(rt, alloc, wanted);
+    packet.sender == me && packet.addressee == wanted.1 && packet.kind.same(&kind)
 }
 
 fn are_sent(
+    rt: &impl Abort,
     alloc: Global,
     me: u8,
     packets: &[Packet<Number>],
     wanted: &[Said],
-) -> Result<bool, Fail> {
+) -> bool {
     if packets.len() != wanted.len() {
-        return Ok(false);
+        return false;
     }
     for index in 0..wanted.len() {
-        if !is_sent(alloc, me, &packets[index], &wanted[index])? {
-            return Ok(false);
+        if !is_sent(rt, alloc, me, &packets[index], &wanted[index]) {
+            return false;
         }
     }
-    Ok(true)
+    true
 }
 
 // The event happens: what it applies or its fault, the length of the log that it tells, and whether this is sent.
 fn happens(
+    rt: &impl Abort,
     alloc: Global,
     me: u8,
     node: &mut Node<Number>,
     event: &Event<Number>,
     wanted: &[Said],
-) -> Result<(u64, u64, bool), Fail> {
+) -> (u64, u64, bool) {
     match turn(node, event) {
-        Ok((applied, log, packets)) => Ok((
+        Ok((applied, log, packets)) => (
             applied,
             log,
-            are_sent(alloc, me, packets.as_slice(), wanted)?,
-        )),
-        Err(fault) => Ok((fault.number() as u64, node.applied(), wanted.is_empty())),
+            are_sent(rt, alloc, me, packets.as_slice(), wanted),
+        ),
+        Err(fault) => (fault.number() as u64, node.applied(), wanted.is_empty()),
     }
 }
 
@@ -234,57 +240,49 @@ fn asked(node: &Node<Number>, said: &Said) -> Option<u64> {
 }
 
 // The node takes so many acts.
-fn fill(alloc: Global, me: u8, node: &mut Node<Number>, acts: u64) -> Result<(), Fail> {
-    let take = event_of(alloc, me, &("take", me, 0, 0, 0))?;
+fn fill(rt: &impl Abort, alloc: Global, me: u8, node: &mut Node<Number>, acts: u64) {
+    let take = event_of(rt, alloc, me, &("take", me, 0, 0, 0));
     for _ in 0..acts {
-        turn(node, &take)?;
+        turn(node, &take).expect(rt, "room for an act");
     }
-    Ok(())
 }
 
 // Whether a row is as it says.
-fn step(alloc: Global, me: u8, node: &mut Node<Number>, row: &Row) -> Result<bool, Fail> {
+fn step(rt: &impl Abort, alloc: Global, me: u8, node: &mut Node<Number>, row: &Row) -> bool {
     let (said, answer, log, wanted) = row;
     if let Some(given) = asked(node, said) {
-        return Ok(given == *answer && node.applied() == *log);
+        return given == *answer && node.applied() == *log;
     }
     if said.0 == "takes" {
-        fill(alloc, me, node, *answer)?;
-        return Ok(node.applied() == *log);
+        fill(rt, alloc, me, node, *answer);
+        return node.applied() == *log;
     }
-    let event = event_of(alloc, me, said)?;
-    let (given, length, is_so) = happens(alloc, me, node, &event, wanted)?;
-    Ok(is_so && given == *answer && length == *log && node.applied() == *log)
+    let event = event_of(rt, alloc, me, said);
+    let (given, length, is_so) = happens(rt, alloc, me, node, &event, wanted);
+    is_so && given == *answer && length == *log && node.applied() == *log
 }
 
 // The node with this number of three, under this promise.
-fn node_of(alloc: Global, me: u8, promised: u64) -> Result<Node<Number>, Fail> {
-    let members = Members::new(3).ok_or("3 members")?;
+fn node_of(rt: &impl Abort, alloc: Global, me: u8, promised: u64) -> Node<Number> {
+    let members = Members::new(3).expect(rt, "3 members");
     let rows = Rows {
         boot: 1,
         promised: promised_of(promised),
         votes: Votes::new(alloc),
     };
-    Ok(Node::of(alloc, me, members, rows)?)
+    Node::of(alloc, me, members, rows).expect(rt, "room for a node")
 }
 
-fn are_so(
-    rt: &impl Abort,
-    alloc: Global,
-    me: u8,
-    node: &mut Node<Number>,
-    rows: &[Row],
-) -> Result<(), Fail> {
+fn are_so(rt: &impl Abort, alloc: Global, me: u8, node: &mut Node<Number>, rows: &[Row]) {
     for row in rows {
-        assert!(rt; step(alloc, me, node, row)?, "{}", row.0.0);
+        check!(rt; step(rt, alloc, me, node, row), row.0.0);
     }
-    Ok(())
 }
 
 // A node with this number, under this promise, goes as these rows say.
-fn check(rt: &impl Abort, alloc: Global, me: u8, promised: u64, rows: &[Row]) -> Result<(), Fail> {
-    let mut node = node_of(alloc, me, promised)?;
-    are_so(rt, alloc, me, &mut node, rows)
+fn check(rt: &impl Abort, alloc: Global, me: u8, promised: u64, rows: &[Row]) {
+    let mut node = node_of(rt, alloc, me, promised);
+    are_so(rt, alloc, me, &mut node, rows);
 }
 
 // What the first node asks for while nothing is applied.
@@ -304,8 +302,8 @@ const FIRST: &[Row] = &[
 ];
 
 #[test]
-fn a_first_node_leads_and_learns(rt: HostRuntime) -> Result<(), Fail> {
-    check(&rt, rt.alloc(), 1, 0, FIRST)
+fn a_first_node_leads_and_learns(rt: HostRuntime) {
+    check(&rt, rt.alloc(), 1, 0, FIRST);
 }
 
 // What a leader sends for the Boot and the act of node 2.
@@ -344,8 +342,8 @@ const LEADS: &[Row] = &[
 ];
 
 #[test]
-fn a_leader_proposes_what_is_forwarded(rt: HostRuntime) -> Result<(), Fail> {
-    check(&rt, rt.alloc(), 1, 0, LEADS)
+fn a_leader_proposes_what_is_forwarded(rt: HostRuntime) {
+    check(&rt, rt.alloc(), 1, 0, LEADS);
 }
 
 // What the first node sends as it begins its next ballot, and where a promise reports a vote in slot 3.
@@ -377,8 +375,8 @@ const REPORTED: &[Row] = &[
 ];
 
 #[test]
-fn reports_are_proposed_again(rt: HostRuntime) -> Result<(), Fail> {
-    check(&rt, rt.alloc(), 1, 12, REPORTED)
+fn reports_are_proposed_again(rt: HostRuntime) {
+    check(&rt, rt.alloc(), 1, 12, REPORTED);
 }
 
 // What it sends in the last round.
@@ -398,9 +396,9 @@ const SPENT: &[Row] = &[
 ];
 
 #[test]
-fn rounds_end(rt: HostRuntime) -> Result<(), Fail> {
-    check(&rt, rt.alloc(), 1, 2_814_749_767_106_542, LAST)?;
-    check(&rt, rt.alloc(), 1, 2_814_749_767_106_552, SPENT)
+fn rounds_end(rt: HostRuntime) {
+    check(&rt, rt.alloc(), 1, 2_814_749_767_106_542, LAST);
+    check(&rt, rt.alloc(), 1, 2_814_749_767_106_552, SPENT);
 }
 
 // Its Boot is pending already.
@@ -410,8 +408,8 @@ const FILLED: &[Row] = &[
 ];
 
 #[test]
-fn no_more_than_1024_are_pending(rt: HostRuntime) -> Result<(), Fail> {
-    check(&rt, rt.alloc(), 1, 0, FILLED)
+fn no_more_than_1024_are_pending(rt: HostRuntime) {
+    check(&rt, rt.alloc(), 1, 0, FILLED);
 }
 
 // What the second node sends as it votes, and as it takes an act.
@@ -426,8 +424,8 @@ const SECOND: &[Row] = &[
 ];
 
 #[test]
-fn another_node_forwards(rt: HostRuntime) -> Result<(), Fail> {
-    check(&rt, rt.alloc(), 2, 0, SECOND)
+fn another_node_forwards(rt: HostRuntime) {
+    check(&rt, rt.alloc(), 2, 0, SECOND);
 }
 
 // What the third node sends as it votes for its own Lost.
@@ -450,7 +448,7 @@ const HEARD: &[Row] = &[
 ];
 
 #[test]
-fn its_own_lost_leaves_it_down(rt: HostRuntime) -> Result<(), Fail> {
-    check(&rt, rt.alloc(), 3, 0, TOLD)?;
-    check(&rt, rt.alloc(), 3, 0, HEARD)
+fn its_own_lost_leaves_it_down(rt: HostRuntime) {
+    check(&rt, rt.alloc(), 3, 0, TOLD);
+    check(&rt, rt.alloc(), 3, 0, HEARD);
 }

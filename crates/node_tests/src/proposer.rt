@@ -1,9 +1,10 @@
+use crate::check::Check;
 use core_tests::Number;
 use paxos_packets::{Ballot, Body, Entries, Entry, Members, Slot, Vote, Votes};
 use paxos_proposer::{Move, Proposer, ProposerFault};
 use std::alloc::Global;
 use std::process::Abort;
-use std::test::Fail;
+use test_checks::{check, check_eq};
 
 // A vote that a promise reports: for the Boot of this node, in the slot and the ballot.
 #[derive(Clone, Copy)]
@@ -23,20 +24,21 @@ const fn reported(slot: u64, ballot: Ballot, node: u8) -> Report {
     Report { slot, ballot, node }
 }
 
-fn proposer(alloc: Global) -> Option<Proposer<Number>> {
-    Some(Proposer::new(alloc, 1, Members::new(3)?))
+fn proposer(rt: &impl Abort, alloc: Global) -> Proposer<Number> {
+    Proposer::new(alloc, 1, Members::new(3).expect(rt, "3 members"))
 }
 
-fn votes(alloc: Global, reports: &[Report]) -> Result<Votes<Number>, Fail> {
+fn votes(rt: &impl Abort, alloc: Global, reports: &[Report]) -> Votes<Number> {
     let mut votes = Votes::new(alloc);
     for report in reports {
-        votes.put(Vote {
-            slot: Slot::new(report.slot).ok_or("a slot")?,
+        let vote = Vote {
+            slot: Slot::new(report.slot).expect(rt, "a slot"),
             ballot: report.ballot,
             entry: boot(report.node),
-        })?;
+        };
+        votes.put(vote).expect(rt, "room for a vote");
     }
-    Ok(votes)
+    votes
 }
 
 // The act of this number, with this body.
@@ -55,41 +57,47 @@ fn boot(node: u8) -> Entry<Number> {
 }
 
 // The nodes whose Boots these entries are, 0 for a Noop; another entry is 9.
-fn boots(alloc: Global, entries: &Entries<Number>) -> Result<Vec<u8>, Fail> {
+fn boots(rt: &impl Abort, alloc: Global, entries: &Entries<Number>) -> Vec<u8> {
     let mut nodes = Vec::new(alloc);
     for entry in entries.as_slice() {
-        nodes.push(match entry {
+        let node = match entry {
             Entry::Noop => 0,
             Entry::Boot { node, .. } => *node,
             Entry::Lost { .. } | Entry::Item { .. } => 9,
-        })?;
+        };
+        nodes.push(node).expect(rt, "room for a node");
     }
-    Ok(nodes)
+    nodes
 }
 
 fn start(
+    rt: &impl Abort,
     alloc: Global,
     proposer: &mut Proposer<Number>,
     first: u64,
-) -> Result<Result<Ballot, ProposerFault>, Fail> {
+) -> Result<Ballot, ProposerFault> {
     if first == 0 {
-        return Err("no slot is numbered 0")?;
+        panic!(rt; "no slot is numbered 0");
     }
-    Ok(proposer.start(first, votes(alloc, NONE)?))
+    proposer.start(first, votes(rt, alloc, NONE))
 }
 
 // Counts a promise with these reports: whether the proposer leads then, and the Boots that it is to propose.
 fn promise(
+    rt: &impl Abort,
     alloc: Global,
     proposer: &mut Proposer<Number>,
     node: u8,
     ballot: Ballot,
     reports: &[Report],
-) -> Result<Option<Vec<u8>>, Fail> {
-    let reported = votes(alloc, reports)?;
-    match proposer.on_promise(node, ballot, reported)? {
-        Some(called) => Ok(Some(boots(alloc, &called)?)),
-        None => Ok(None),
+) -> Option<Vec<u8>> {
+    let reported = votes(rt, alloc, reports);
+    let called = proposer
+        .on_promise(node, ballot, reported)
+        .expect(rt, "room for a promise");
+    match called {
+        Some(called) => Some(boots(rt, alloc, &called)),
+        None => None,
     }
 }
 
@@ -128,23 +136,24 @@ fn entry_of(number: u64) -> Entry<Number> {
     item((number % 1_000) as u32)
 }
 
-fn started(alloc: Global, proposer: &mut Proposer<Number>, first: u64) -> Result<u64, Fail> {
-    match start(alloc, proposer, first)? {
-        Ok(ballot) => Ok(shown(Some(ballot))),
-        Err(fault) => Ok(fault_of(fault)),
+fn started(rt: &impl Abort, alloc: Global, proposer: &mut Proposer<Number>, first: u64) -> u64 {
+    match start(rt, alloc, proposer, first) {
+        Ok(ballot) => shown(Some(ballot)),
+        Err(fault) => fault_of(fault),
     }
 }
 
 // 0 where it does not lead by this promise, else how many entries it is to propose, and 1.
 fn promised(
+    rt: &impl Abort,
     alloc: Global,
     proposer: &mut Proposer<Number>,
     node: u64,
     ballot: u64,
-) -> Result<u64, Fail> {
-    match promise(alloc, proposer, (node % 8) as u8, told(ballot), NONE)? {
-        Some(called) => Ok((called.len() as u64).wrapping_add(1)),
-        None => Ok(0),
+) -> u64 {
+    match promise(rt, alloc, proposer, (node % 8) as u8, told(ballot), NONE) {
+        Some(called) => (called.len() as u64).wrapping_add(1),
+        None => 0,
     }
 }
 
@@ -164,22 +173,23 @@ fn next(proposer: &Proposer<Number>) -> u64 {
 
 // What one step answers.
 fn step(
+    rt: &impl Abort,
     alloc: Global,
     proposer: &mut Proposer<Number>,
     word: &str,
     one: u64,
     other: u64,
-) -> Result<u64, Fail> {
+) -> u64 {
     if word == "start" {
-        return started(alloc, proposer, one);
+        return started(rt, alloc, proposer, one);
     }
     if word == "promise" {
-        return promised(alloc, proposer, one, other);
+        return promised(rt, alloc, proposer, one, other);
     }
     if word == "submit" {
-        return Ok(submitted(proposer, one));
+        return submitted(proposer, one);
     }
-    Ok(told_step(proposer, word, one, other))
+    told_step(proposer, word, one, other)
 }
 
 // What a step answers that needs no memory.
@@ -220,32 +230,20 @@ fn told_step(proposer: &mut Proposer<Number>, word: &str, one: u64, other: u64) 
 // What is done, with which numbers, and what is answered.
 type Row = (&'static str, u64, u64, u64);
 
-fn is_answered(alloc: Global, proposer: &mut Proposer<Number>, row: &Row) -> Result<bool, Fail> {
+fn is_answered(rt: &impl Abort, alloc: Global, proposer: &mut Proposer<Number>, row: &Row) -> bool {
     let (word, one, other, answer) = *row;
-    Ok(step(alloc, proposer, word, one, other)? == answer)
+    step(rt, alloc, proposer, word, one, other) == answer
 }
 
-fn goes(
-    rt: &impl Abort,
-    alloc: Global,
-    proposer: &mut Proposer<Number>,
-    rows: &[Row],
-) -> Result<(), Fail> {
+fn goes(rt: &impl Abort, alloc: Global, proposer: &mut Proposer<Number>, rows: &[Row]) {
     for row in rows {
-        assert!(rt;
-            is_answered(alloc, proposer, row)?,
-            "{} {} {}",
-            row.0,
-            row.1,
-            row.2
-        );
+        check!(rt; is_answered(rt, alloc, proposer, row), (row.0, row.1, row.2));
     }
-    Ok(())
 }
 
-fn check(rt: &impl Abort, alloc: Global, rows: &[Row]) -> Result<(), Fail> {
-    let mut proposer = proposer(alloc).ok_or("3 members")?;
-    goes(rt, alloc, &mut proposer, rows)
+fn check(rt: &impl Abort, alloc: Global, rows: &[Row]) {
+    let mut proposer = proposer(rt, alloc);
+    goes(rt, alloc, &mut proposer, rows);
 }
 
 const A_FIRST_BALLOT_LEADS_BY_A_MAJORITY: &[Row] = &[
@@ -275,8 +273,8 @@ const A_FIRST_BALLOT_LEADS_BY_A_MAJORITY: &[Row] = &[
 ];
 
 #[test]
-fn a_first_ballot_leads_by_a_majority(rt: HostRuntime) -> Result<(), Fail> {
-    check(&rt, rt.alloc(), A_FIRST_BALLOT_LEADS_BY_A_MAJORITY)
+fn a_first_ballot_leads_by_a_majority(rt: HostRuntime) {
+    check(&rt, rt.alloc(), A_FIRST_BALLOT_LEADS_BY_A_MAJORITY);
 }
 
 const ROUNDS_AND_SLOTS_END: &[Row] = &[
@@ -291,9 +289,9 @@ const ROUNDS_AND_SLOTS_END: &[Row] = &[
 ];
 
 #[test]
-fn rounds_and_slots_end(rt: HostRuntime) -> Result<(), Fail> {
-    assert_eq!(rt; ProposerFault::Memory.number(), 54);
-    check(&rt, rt.alloc(), ROUNDS_AND_SLOTS_END)
+fn rounds_and_slots_end(rt: HostRuntime) {
+    check_eq!(&rt; ProposerFault::Memory.number(), 54);
+    check(&rt, rt.alloc(), ROUNDS_AND_SLOTS_END);
 }
 
 const A_GREATER_BALLOT_ENDS_ITS_OWN: &[Row] = &[
@@ -312,8 +310,8 @@ const A_GREATER_BALLOT_ENDS_ITS_OWN: &[Row] = &[
 ];
 
 #[test]
-fn a_greater_ballot_ends_its_own(rt: HostRuntime) -> Result<(), Fail> {
-    check(&rt, rt.alloc(), A_GREATER_BALLOT_ENDS_ITS_OWN)
+fn a_greater_ballot_ends_its_own(rt: HostRuntime) {
+    check(&rt, rt.alloc(), A_GREATER_BALLOT_ENDS_ITS_OWN);
 }
 
 const A_PROPOSAL_STANDS_UNTIL_IT_IS_APPLIED: &[Row] = &[
@@ -333,43 +331,45 @@ const A_PROPOSAL_STANDS_UNTIL_IT_IS_APPLIED: &[Row] = &[
 ];
 
 #[test]
-fn a_proposal_stands_until_it_is_applied(rt: HostRuntime) -> Result<(), Fail> {
-    check(&rt, rt.alloc(), A_PROPOSAL_STANDS_UNTIL_IT_IS_APPLIED)
+fn a_proposal_stands_until_it_is_applied(rt: HostRuntime) {
+    check(&rt, rt.alloc(), A_PROPOSAL_STANDS_UNTIL_IT_IS_APPLIED);
 }
 
 // The Boots that a proposer is to propose, once these two promises were counted.
 fn counted(
+    rt: &impl Abort,
     alloc: Global,
     proposer: &mut Proposer<Number>,
     one: &[Report],
     other: &[Report],
-) -> Result<Option<Vec<u8>>, Fail> {
+) -> Option<Vec<u8>> {
     proposer.saw(8);
     let own = ballot(9, 1);
-    drop(start(alloc, proposer, 2)?);
-    drop(promise(alloc, proposer, 2, own, one)?);
-    promise(alloc, proposer, 4, own, other)
+    drop(start(rt, alloc, proposer, 2));
+    drop(promise(rt, alloc, proposer, 2, own, one));
+    promise(rt, alloc, proposer, 4, own, other)
 }
 
-fn called_by(alloc: Global, one: &[Report], other: &[Report]) -> Result<Option<Vec<u8>>, Fail> {
-    let members = Members::new(5).ok_or("5 members")?;
+fn called_by(rt: &impl Abort, alloc: Global, one: &[Report], other: &[Report]) -> Option<Vec<u8>> {
+    let members = Members::new(5).expect(rt, "5 members");
     let mut proposer = Proposer::new(alloc, 1, members);
-    counted(alloc, &mut proposer, one, other)
+    counted(rt, alloc, &mut proposer, one, other)
 }
 
 // Whether those of one of five members are these.
 fn are_called(
+    rt: &impl Abort,
     alloc: Global,
     one: &[Report],
     other: &[Report],
     wanted: &[u8],
-) -> Result<bool, Fail> {
-    let called = called_by(alloc, one, other)?.ok_or("it leads")?;
-    Ok(called.as_slice() == wanted)
+) -> bool {
+    let called = called_by(rt, alloc, one, other).expect(rt, "it leads");
+    called.as_slice() == wanted
 }
 
 #[test]
-fn the_greatest_ballot_is_called_for(rt: HostRuntime) -> Result<(), Fail> {
+fn the_greatest_ballot_is_called_for(rt: HostRuntime) {
     let one = [
         reported(1, ballot(8, 2), 7),
         reported(2, ballot(4, 2), 2),
@@ -381,35 +381,35 @@ fn the_greatest_ballot_is_called_for(rt: HostRuntime) -> Result<(), Fail> {
         reported(3, ballot(4, 1), 4),
         reported(5, ballot(2, 2), 6),
     ];
-    assert!(rt; are_called(rt.alloc(), &one, &other, &[2, 4, 0, 6])?);
-    Ok(())
+    check!(&rt; are_called(&rt, rt.alloc(), &one, &other, &[2, 4, 0, 6]));
 }
 
 #[test]
-fn gaps_are_filled(rt: HostRuntime) -> Result<(), Fail> {
+fn gaps_are_filled(rt: HostRuntime) {
     let one = [reported(4, ballot(1, 2), 2)];
-    assert!(rt; are_called(rt.alloc(), &one, NONE, &[0, 0, 2])?);
-    Ok(())
+    check!(&rt; are_called(&rt, rt.alloc(), &one, NONE, &[0, 0, 2]));
 }
 
 // Sees the round as a move, in the room made for it.
-fn sees(alloc: Global, proposer: &mut Proposer<Number>, round: u64) -> Result<(), Fail> {
+fn sees(rt: &impl Abort, alloc: Global, proposer: &mut Proposer<Number>, round: u64) {
     let mut moves = Vec::new(alloc);
-    moves.push(Move::Saw { round })?;
-    proposer.make_room_for(&moves)?;
+    moves
+        .push(Move::Saw { round })
+        .expect(rt, "room for a move");
+    proposer
+        .make_room_for(&moves)
+        .expect(rt, "room for the moves");
     proposer.move_in_room(moves);
-    Ok(())
 }
 
 // Does so, and starts.
-fn moved(alloc: Global, proposer: &mut Proposer<Number>, round: u64) -> Result<u64, Fail> {
-    sees(alloc, proposer, round)?;
-    started(alloc, proposer, 1)
+fn moved(rt: &impl Abort, alloc: Global, proposer: &mut Proposer<Number>, round: u64) -> u64 {
+    sees(rt, alloc, proposer, round);
+    started(rt, alloc, proposer, 1)
 }
 
 #[test]
-fn moves_are_done_in_the_room_made_for_them(rt: HostRuntime) -> Result<(), Fail> {
-    let mut proposer = proposer(rt.alloc()).ok_or("3 members")?;
-    assert!(rt; moved(rt.alloc(), &mut proposer, 6)? == 71);
-    Ok(())
+fn moves_are_done_in_the_room_made_for_them(rt: HostRuntime) {
+    let mut proposer = proposer(&rt, rt.alloc());
+    check!(&rt; moved(&rt, rt.alloc(), &mut proposer, 6) == 71);
 }

@@ -1,117 +1,121 @@
-ghost use Rattle.std.specs.Prelude.{IfOk};
 ghost use Rattle.paxos_proposer.specs.Moves.{ArePossible};
 
+use crate::check::Check;
 use core_tests::Number;
 use paxos_packets::{Ballot, Entry, Members, Votes};
-use paxos_proposer::{Move, Proposer, ProposerFault, Proposing};
+use paxos_proposer::{Move, Proposer, Proposing};
 use std::alloc::Global;
 use std::process::Abort;
-use std::test::Fail;
+use test_checks::check;
 
 const FIRST: Ballot = Ballot { round: 1, node: 1 };
 
 // A round is seen, and refusals come to a proposer at rest; its next ballot.
-fn see(draft: &mut Proposing<'_, Number>) -> Result<Ballot, ProposerFault> {
-    draft.saw(4)?;
-    draft.step_down(FIRST)?;
-    draft.on_nack(FIRST, Ballot { round: 2, node: 2 })?;
-    draft.next_ballot()
+fn see(rt: &impl Abort, draft: &mut Proposing<'_, Number>) -> Ballot {
+    draft.saw(4).expect(rt, "room for a move");
+    draft.step_down(FIRST).expect(rt, "room for a move");
+    draft
+        .on_nack(FIRST, Ballot { round: 2, node: 2 })
+        .expect(rt, "room for a move");
+    draft.next_ballot().expect(rt, "a next ballot")
 }
 
 // That ballot, and how much is to be done.
-fn seen(alloc: Global, proposer: &Proposer<Number>) -> Result<(Ballot, usize), ProposerFault> {
+fn seen(rt: &impl Abort, alloc: Global, proposer: &Proposer<Number>) -> (Ballot, usize) {
     let mut draft = Proposing::of(alloc, proposer);
-    let next = see(&mut draft)?;
-    Ok((next, draft.into_moves().len()))
+    let next = see(rt, &mut draft);
+    (next, draft.into_moves().len())
 }
 
 // It begins its next ballot.
-fn begun(alloc: Global, proposer: &Proposer<Number>) -> Result<Vec<Move<Number>>, ProposerFault>
-    ensures { IfOk result (λ moves. ArePossible moves.items proposer.now.state) }
+fn begun(rt: &impl Abort, alloc: Global, proposer: &Proposer<Number>) -> Vec<Move<Number>>
+    ensures { ArePossible result.items proposer.now.state }
 {
     let mut draft = Proposing::of(alloc, proposer);
     let Ok(_next) = draft.next_ballot() else {
-        return Ok(draft.into_moves());
+        return draft.into_moves();
     };
-    draft.start(1, Votes::new(alloc))?;
-    Ok(draft.into_moves())
+    draft
+        .start(1, Votes::new(alloc))
+        .expect(rt, "room for a move");
+    draft.into_moves()
 }
 
 // Node 2 promises the ballot, and then an entry is proposed. Also how many entries the promises call for.
 fn led(
+    rt: &impl Abort,
     alloc: Global,
     proposer: &Proposer<Number>,
-) -> Result<(Vec<Move<Number>>, usize, bool), ProposerFault>
-    ensures { IfOk result (λ planned. ArePossible planned.0.items proposer.now.state) }
+) -> (Vec<Move<Number>>, usize, bool)
+    ensures { ArePossible result.0.items proposer.now.state }
 {
     let mut draft = Proposing::of(alloc, proposer);
-    let called = match draft.on_promise(2, FIRST, Votes::new(alloc))? {
+    let promised = draft
+        .on_promise(2, FIRST, Votes::new(alloc))
+        .expect(rt, "room for a promise");
+    let called = match promised {
         Some(entries) => entries.as_slice().len(),
         None => 9,
     };
     if let Some(_offer) = draft.offer() {
-        draft.submit(&Entry::Noop)?;
+        draft.submit(&Entry::Noop).expect(rt, "room for a move");
     }
     let stands = draft.is_leading() && draft.stands(0, &Entry::Noop);
-    Ok((draft.into_moves(), called, stands))
+    (draft.into_moves(), called, stands)
 }
 
 // What is planned is done.
-fn take(proposer: &mut Proposer<Number>, moves: Vec<Move<Number>>) -> Result<(), ProposerFault>
+fn take(rt: &impl Abort, proposer: &mut Proposer<Number>, moves: Vec<Move<Number>>)
     requires { ArePossible moves.items proposer.old.state }
 {
-    proposer.make_room_for(&moves)?;
+    proposer
+        .make_room_for(&moves)
+        .expect(rt, "room for the moves");
     proposer.move_in_room(moves);
-    Ok(())
 }
 
-fn proposer(alloc: Global) -> Result<Proposer<Number>, Fail> {
-    let members = Members::new(3).ok_or("3 members")?;
-    Ok(Proposer::new(alloc, 1, members))
+fn proposer(rt: &impl Abort, alloc: Global) -> Proposer<Number> {
+    let members = Members::new(3).expect(rt, "3 members");
+    Proposer::new(alloc, 1, members)
 }
 
-fn is_seen(rt: &impl Abort, alloc: Global, proposer: &Proposer<Number>) -> Result<(), Fail> {
-    assert!(rt; seen(alloc, proposer)? == (Ballot { round: 5, node: 1 }, 1));
-    assert!(rt; proposer.next_ballot() == Ok(FIRST));
-    Ok(())
+fn is_seen(rt: &impl Abort, alloc: Global, proposer: &Proposer<Number>) {
+    check!(rt; seen(rt, alloc, proposer) == (Ballot { round: 5, node: 1 }, 1));
+    check!(rt; proposer.next_ballot() == Ok(FIRST));
 }
 
 #[test]
-fn what_is_seen_is_planned(rt: HostRuntime) -> Result<(), Fail> {
-    let proposer = proposer(rt.alloc())?;
-    is_seen(&rt, rt.alloc(), &proposer)
+fn what_is_seen_is_planned(rt: HostRuntime) {
+    let proposer = proposer(&rt, rt.alloc());
+    is_seen(&rt, rt.alloc(), &proposer);
 }
 
 // It begins: how many moves that takes, and whether it had no ballot before.
-fn begin(alloc: Global, proposer: &mut Proposer<Number>) -> Result<(usize, bool), ProposerFault> {
-    let moves = begun(alloc, proposer)?;
+fn begin(rt: &impl Abort, alloc: Global, proposer: &mut Proposer<Number>) -> (usize, bool) {
+    let moves = begun(rt, alloc, proposer);
     let before = (moves.len(), proposer.ballot().is_none());
-    take(proposer, moves)?;
-    Ok(before)
+    take(rt, proposer, moves);
+    before
 }
 
 // It leads: how many moves that takes, how many entries the promises call for, and whether the entry stands in what is planned.
-fn lead(
-    alloc: Global,
-    proposer: &mut Proposer<Number>,
-) -> Result<(usize, usize, bool), ProposerFault> {
-    let (moves, called, stands) = led(alloc, proposer)?;
+fn lead(rt: &impl Abort, alloc: Global, proposer: &mut Proposer<Number>) -> (usize, usize, bool) {
+    let (moves, called, stands) = led(rt, alloc, proposer);
     let planned = (moves.len(), called, stands);
-    take(proposer, moves)?;
-    Ok(planned)
+    take(rt, proposer, moves);
+    planned
 }
 
-fn is_done(rt: &impl Abort, alloc: Global, proposer: &mut Proposer<Number>) -> Result<(), Fail> {
-    assert!(rt; begin(alloc, proposer)? == (1, true));
-    assert!(rt; proposer.ballot() == Some(FIRST));
-    assert!(rt; lead(alloc, proposer)? == (2, 0, true));
-    assert!(rt; proposer.is_leading());
-    assert!(rt; proposer.stands(0, &Entry::Noop));
-    Ok(())
+fn is_done(rt: &impl Abort, alloc: Global, proposer: &mut Proposer<Number>) {
+    check!(rt; begin(rt, alloc, proposer) == (1, true));
+    check!(rt; proposer.ballot() == Some(FIRST));
+    check!(rt; lead(rt, alloc, proposer) == (2, 0, true));
+    check!(rt; proposer.is_leading());
+    check!(rt; proposer.stands(0, &Entry::Noop));
 }
 
 #[test]
-fn what_is_planned_is_done(rt: HostRuntime) -> Result<(), Fail> {
-    let mut proposer = proposer(rt.alloc())?;
-    is_done(&rt, rt.alloc(), &mut proposer)
+fn what_is_planned_is_done(rt: HostRuntime) {
+    let mut proposer = proposer(&rt, rt.alloc());
+    is_done(&rt, rt.alloc(), &mut proposer);
 }

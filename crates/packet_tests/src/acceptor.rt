@@ -1,27 +1,28 @@
+use crate::check::Check;
 use core_tests::Number;
 use paxos_acceptor::{Acceptor, Answer, Memory, Verdict, laws};
 use paxos_packets::{Ballot, Body, Change, Entries, Entry, Kind, Packet, Rows, Slot, Vote, Votes};
 use std::alloc::Global;
 use std::process::Abort;
-use std::test::Fail;
+use test_checks::{check, check_eq};
 
-fn vote_for<B: Body>(alloc: Global, ballot: Ballot, entry: &Entry<B>) -> Result<Vote<B>, Fail> {
-    Ok(Vote {
-        slot: Slot::new(1).ok_or("slot 1")?,
+fn vote_for<B: Body>(rt: &impl Abort, alloc: Global, ballot: Ballot, entry: &Entry<B>) -> Vote<B> {
+    Vote {
+        slot: Slot::new(1).expect(rt, "slot 1"),
         ballot,
-        entry: entry.copy(alloc)?,
-    })
+        entry: entry.copy(alloc).expect(rt, "room for a copy"),
+    }
 }
 
 // A vote in the ballot with this number, none for 0.
-fn votes_of<B: Body>(alloc: Global, entry: &Entry<B>, ballot: u64) -> Result<Votes<B>, Fail> {
+fn votes_of<B: Body>(rt: &impl Abort, alloc: Global, entry: &Entry<B>, ballot: u64) -> Votes<B> {
     if ballot == 0 {
-        return Ok(Votes::new(alloc));
+        return Votes::new(alloc);
     }
-    let vote = vote_for(alloc, ballot_of(ballot), entry)?;
+    let vote = vote_for(rt, alloc, ballot_of(ballot), entry);
     let mut votes = Votes::new(alloc);
-    votes.put(vote)?;
-    Ok(votes)
+    votes.put(vote).expect(rt, "room for a vote");
+    votes
 }
 
 // What is asked, in which ballot; how the acceptor answers, and by which ballot. A ballot is a number that ends in its node.
@@ -34,154 +35,161 @@ fn ballot_of(number: u64) -> Ballot {
     }
 }
 
-fn kind_of<B: Body>(alloc: Global, entry: &Entry<B>, row: &Row) -> Result<Kind<B>, Fail> {
+fn kind_of<B: Body>(rt: &impl Abort, alloc: Global, entry: &Entry<B>, row: &Row) -> Kind<B> {
     let ballot = ballot_of(row.1);
     if row.0 == "prepare" {
-        return Ok(Kind::Prepare { ballot, first: 1 });
+        return Kind::Prepare { ballot, first: 1 };
     }
     if row.0 == "accept" {
-        return Ok(Kind::Accept {
-            vote: vote_for(alloc, ballot, entry)?,
-        });
+        return Kind::Accept {
+            vote: vote_for(rt, alloc, ballot, entry),
+        };
     }
-    Ok(Kind::Ask { first: 1 })
+    Kind::Ask { first: 1 }
 }
 
-fn packet_of<B: Body>(alloc: Global, entry: &Entry<B>, row: &Row) -> Result<Packet<B>, Fail> {
-    Ok(Packet {
+fn packet_of<B: Body>(rt: &impl Abort, alloc: Global, entry: &Entry<B>, row: &Row) -> Packet<B> {
+    Packet {
         sender: 2,
         addressee: 3,
-        kind: kind_of(alloc, entry, row)?,
-    })
+        kind: kind_of(rt, alloc, entry, row),
+    }
 }
 
 // A promise of this ballot, that reports the vote in the other ballot, if there is one.
 fn promise<B: Body>(
+    rt: &impl Abort,
     alloc: Global,
     entry: &Entry<B>,
     ballot: Ballot,
     voted: u64,
-) -> Result<Kind<B>, Fail> {
-    Ok(Kind::Promise {
+) -> Kind<B> {
+    Kind::Promise {
         ballot,
-        votes: votes_of(alloc, entry, voted)?,
-    })
+        votes: votes_of(rt, alloc, entry, voted),
+    }
 }
 
 // The kind of packet that is wanted in answer.
-fn answer_of<B: Body>(alloc: Global, entry: &Entry<B>, row: &Row) -> Result<Kind<B>, Fail> {
+fn answer_of<B: Body>(rt: &impl Abort, alloc: Global, entry: &Entry<B>, row: &Row) -> Kind<B> {
     let (_, asked, word, other) = *row;
     let ballot = ballot_of(asked);
     if word == "promises" {
-        return promise(alloc, entry, ballot, other);
+        return promise(rt, alloc, entry, ballot, other);
     }
     if word == "refuses" {
-        return Ok(Kind::Nack {
+        return Kind::Nack {
             ballot,
             promised: ballot_of(other),
-        });
+        };
     }
-    Ok(Kind::Accepted {
-        vote: vote_for(alloc, ballot, entry)?,
-    })
+    Kind::Accepted {
+        vote: vote_for(rt, alloc, ballot, entry),
+    }
 }
 
 fn is_same_kind<B: Body>(
+    rt: &impl Abort,
     alloc: Global,
     entry: &Entry<B>,
     row: &Row,
     kind: &Kind<B>,
-) -> Result<bool, Fail> {
-    let wanted = answer_of(alloc, entry, row)?;
+) -> bool {
+    let wanted = answer_of(rt, alloc, entry, row);
     let same = kind.same(&wanted);
     drop(wanted);
-    Ok(same)
+    same
 }
 
 // Whether the answer is that of the row: a vote is told to the others, a promise and a refusal to the sender.
 fn is_answer<B: Body>(
+    rt: &impl Abort,
     alloc: Global,
     entry: &Entry<B>,
     row: &Row,
     answer: &Answer<B>,
-) -> Result<bool, Fail> {
+) -> bool {
     match answer {
-        Answer::Nothing => Ok(row.2 == "nothing"),
-        Answer::ToSender { kind } => Ok(row.2 != "votes" && is_same_kind(alloc, entry, row, kind)?),
-        Answer::ToOthers { kind } => Ok(row.2 == "votes" && is_same_kind(alloc, entry, row, kind)?),
+        Answer::Nothing => row.2 == "nothing",
+        Answer::ToSender { kind } => row.2 != "votes" && is_same_kind(rt, alloc, entry, row, kind),
+        Answer::ToOthers { kind } => row.2 == "votes" && is_same_kind(rt, alloc, entry, row, kind),
     }
 }
 
 // Whether the votes are this one alone.
 fn are_voted<B: Body>(
+    rt: &impl Abort,
     alloc: Global,
     entry: &Entry<B>,
     ballot: Ballot,
     votes: &Votes<B>,
-) -> Result<bool, Fail> {
-    let wanted = vote_for(alloc, ballot, entry)?;
+) -> bool {
+    let wanted = vote_for(rt, alloc, ballot, entry);
     let voted = has_voted(votes.as_slice(), &wanted);
     drop(wanted);
-    Ok(voted)
+    voted
 }
 
 // Whether the change is that of the row: a promise and a vote raise what is promised to their ballot.
 fn is_change<B: Body>(
+    rt: &impl Abort,
     alloc: Global,
     entry: &Entry<B>,
     row: &Row,
     change: &Change<B>,
-) -> Result<bool, Fail> {
+) -> bool {
     let ballot = ballot_of(row.1);
     if row.2 == "votes" {
-        return Ok(
-            change.promised == Some(ballot) && are_voted(alloc, entry, ballot, &change.votes)?,
-        );
+        return change.promised == Some(ballot)
+            && are_voted(rt, alloc, entry, ballot, &change.votes);
     }
     let promised = if row.2 == "promises" {
         Some(ballot)
     } else {
         None
     };
-    Ok(change.promised == promised && change.votes.as_slice().is_empty())
+    change.promised == promised && change.votes.as_slice().is_empty()
 }
 
 fn is_verdict<B: Body>(
+    rt: &impl Abort,
     alloc: Global,
     entry: &Entry<B>,
     row: &Row,
     verdict: &Verdict<B>,
-) -> Result<bool, Fail> {
-    Ok(
-        is_change(alloc, entry, row, &verdict.change)?
-            && is_answer(alloc, entry, row, &verdict.answer)?,
-    )
+) -> bool {
+    is_change(rt, alloc, entry, row, &verdict.change)
+        && is_answer(rt, alloc, entry, row, &verdict.answer)
 }
 
 // The acceptor plans and adopts what the packet brings about. Whether it is what the row says.
 fn takes<B: Body>(
+    rt: &impl Abort,
     alloc: Global,
     acceptor: &mut Acceptor<B>,
     entry: &Entry<B>,
     row: &Row,
     packet: &Packet<B>,
-) -> Result<bool, Fail> {
-    let verdict = acceptor.plan(alloc, packet)?;
-    let is_so = is_verdict(alloc, entry, row, &verdict);
+) -> bool {
+    let verdict = acceptor
+        .plan(alloc, packet)
+        .expect(rt, "room for a verdict");
+    let is_so = is_verdict(rt, alloc, entry, row, &verdict);
     let Verdict { change, answer } = verdict;
     drop(answer);
     let is_adopted = acceptor.adopt(change).is_ok();
-    Ok(is_so? && is_adopted)
+    is_so && is_adopted
 }
 
 fn step<B: Body>(
+    rt: &impl Abort,
     alloc: Global,
     acceptor: &mut Acceptor<B>,
     entry: &Entry<B>,
     row: &Row,
-) -> Result<bool, Fail> {
-    let packet = packet_of(alloc, entry, row)?;
-    let is_so = takes(alloc, acceptor, entry, row, &packet);
+) -> bool {
+    let packet = packet_of(rt, alloc, entry, row);
+    let is_so = takes(rt, alloc, acceptor, entry, row, &packet);
     drop(packet);
     is_so
 }
@@ -200,16 +208,10 @@ const ROWS: &[Row] = &[
     ("ask", 0, "nothing", 0),
 ];
 
-fn is_asked<B: Body>(
-    rt: &impl Abort,
-    alloc: Global,
-    acceptor: &mut Acceptor<B>,
-    entry: &Entry<B>,
-) -> Result<(), Fail> {
+fn is_asked<B: Body>(rt: &impl Abort, alloc: Global, acceptor: &mut Acceptor<B>, entry: &Entry<B>) {
     for row in ROWS {
-        assert!(rt; step(alloc, acceptor, entry, row)?, "{} {}", row.0, row.1);
+        check!(rt; step(rt, alloc, acceptor, entry, row), (row.0, row.1));
     }
-    Ok(())
 }
 
 // Whether this vote is the only one.
@@ -234,18 +236,19 @@ fn has_rows<B: Body>(acceptor: Acceptor<B>, vote: &Vote<B>) -> bool {
 }
 
 // How many votes it copies from the slot with this number on.
-fn copied<B: Body>(alloc: Global, acceptor: &Acceptor<B>, first: u64) -> Result<usize, Fail> {
-    let votes = acceptor.votes_from(alloc, first)?;
+fn copied<B: Body>(rt: &impl Abort, alloc: Global, acceptor: &Acceptor<B>, first: u64) -> usize {
+    let votes = acceptor
+        .votes_from(alloc, first)
+        .expect(rt, "room for a copy");
     let count = votes.as_slice().len();
     drop(votes);
-    Ok(count)
+    count
 }
 
 // Its one vote is copied from its slot on, and not behind it.
-fn is_copied<B: Body>(rt: &impl Abort, alloc: Global, acceptor: &Acceptor<B>) -> Result<(), Fail> {
-    assert_eq!(rt; copied(alloc, acceptor, 1)?, 1);
-    assert_eq!(rt; copied(alloc, acceptor, 2)?, 0);
-    Ok(())
+fn is_copied<B: Body>(rt: &impl Abort, alloc: Global, acceptor: &Acceptor<B>) {
+    check_eq!(rt; copied(rt, alloc, acceptor, 1), 1);
+    check_eq!(rt; copied(rt, alloc, acceptor, 2), 0);
 }
 
 // The acceptor is asked and left with this vote.
@@ -255,12 +258,11 @@ fn plays<B: Body>(
     acceptor: &mut Acceptor<B>,
     entry: &Entry<B>,
     vote: &Vote<B>,
-) -> Result<(), Fail> {
-    is_asked(rt, alloc, acceptor, entry)?;
-    acceptor.make_room(1)?;
-    is_copied(rt, alloc, acceptor)?;
-    assert!(rt; is_left(acceptor, vote));
-    Ok(())
+) {
+    is_asked(rt, alloc, acceptor, entry);
+    acceptor.make_room(1).expect(rt, "room for a vote");
+    is_copied(rt, alloc, acceptor);
+    check!(rt; is_left(acceptor, vote));
 }
 
 fn acceptor<B>(alloc: Global) -> Acceptor<B> {
@@ -271,19 +273,18 @@ fn acceptor<B>(alloc: Global) -> Acceptor<B> {
     })
 }
 
-fn is_voted_for<B: Body>(rt: &impl Abort, alloc: Global, entry: &Entry<B>) -> Result<(), Fail> {
-    let vote = vote_for(alloc, FIRST, entry)?;
+fn is_voted_for<B: Body>(rt: &impl Abort, alloc: Global, entry: &Entry<B>) {
+    let vote = vote_for(rt, alloc, FIRST, entry);
     let mut acceptor = acceptor(alloc);
-    plays(rt, alloc, &mut acceptor, entry, &vote)?;
+    plays(rt, alloc, &mut acceptor, entry, &vote);
     let is_kept = has_rows(acceptor, &vote);
     drop(vote);
-    assert!(rt; is_kept);
-    Ok(())
+    check!(rt; is_kept);
 }
 
 #[test]
-fn a_boot_is_voted_for(rt: HostRuntime) -> Result<(), Fail> {
-    is_voted_for(&rt, rt.alloc(), &Entry::<Number>::Boot { node: 1, boot: 1 })
+fn a_boot_is_voted_for(rt: HostRuntime) {
+    is_voted_for(&rt, rt.alloc(), &Entry::<Number>::Boot { node: 1, boot: 1 });
 }
 
 fn item<B: Drop>(body: B) -> Entry<B> {
@@ -297,28 +298,25 @@ fn item<B: Drop>(body: B) -> Entry<B> {
 }
 
 // An entry whose body has memory of its own.
-fn large(alloc: Global) -> Result<Entry<Entries<Number>>, Fail> {
+fn large(rt: &impl Abort, alloc: Global) -> Entry<Entries<Number>> {
     let mut body = Entries::new(alloc);
-    body.push(item(Number::new(7)))?;
-    Ok(item(body))
+    body.push(item(Number::new(7)))
+        .expect(rt, "room for an entry");
+    item(body)
 }
 
 #[test]
-fn an_item_with_memory_is_voted_for(rt: HostRuntime) -> Result<(), Fail> {
-    let entry = large(rt.alloc())?;
-    let done = is_voted_for(&rt, rt.alloc(), &entry);
+fn an_item_with_memory_is_voted_for(rt: HostRuntime) {
+    let entry = large(&rt, rt.alloc());
+    is_voted_for(&rt, rt.alloc(), &entry);
     drop(entry);
-    done
 }
 
 #[test]
-fn want_of_memory_is_50(rt: HostRuntime) -> Result<(), Fail> {
-    assert_eq!(rt; Memory.number(), 50);
-    assert_eq!(rt;
-        format!(in rt.alloc(); "{}", Memory)?.as_str(),
-        "no memory for the acceptor"
-    );
-    Ok(())
+fn want_of_memory_is_50(rt: HostRuntime) {
+    check_eq!(&rt; Memory.number(), 50);
+    let told = format!(in rt.alloc(); "{}", Memory).expect(&rt, "room for a text");
+    check_eq!(&rt; told.as_str(), "no memory for the acceptor");
 }
 
 #[test]

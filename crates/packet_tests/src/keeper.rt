@@ -1,9 +1,10 @@
+use crate::check::Check;
 use acceptor_keeper::{Keeper, KeeperFault, MemKeeper};
 use core_tests::Number;
 use paxos_packets::{Ballot, Change, Entry, Rows, Slot, Vote, Votes};
 use std::alloc::Global;
 use std::process::Abort;
-use std::test::Fail;
+use test_checks::{check, check_eq};
 
 // What a keeper answered: its fault's number or 0, the boot number, the round promised, and the rounds of the votes in slots 1 to 3,
 // each 0 where there is none.
@@ -45,27 +46,27 @@ fn number(done: Result<(), KeeperFault>) -> u8 {
 }
 
 // Puts votes for Boot (1, 1) in this ballot, in these slots.
-fn put_votes(votes: &mut Votes<Number>, ballot: Ballot, slots: &[u64]) -> Result<(), Fail> {
+fn put_votes(rt: &impl Abort, votes: &mut Votes<Number>, ballot: Ballot, slots: &[u64]) {
     for slot in slots {
-        let slot = Slot::new(*slot).ok_or("a slot")?;
-        votes.put(Vote {
+        let slot = Slot::new(*slot).expect(rt, "a slot");
+        let vote = Vote {
             slot,
             ballot,
             entry: Entry::Boot { node: 1, boot: 1 },
-        })?;
+        };
+        votes.put(vote).expect(rt, "room for a vote");
     }
-    Ok(())
 }
 
 // A promise of this round of node 1, and such votes.
-fn change(alloc: Global, round: u64, slots: &[u64]) -> Result<Change<Number>, Fail> {
+fn change(rt: &impl Abort, alloc: Global, round: u64, slots: &[u64]) -> Change<Number> {
     let ballot = Ballot { round, node: 1 };
     let mut votes = Votes::new(alloc);
-    put_votes(&mut votes, ballot, slots)?;
-    Ok(Change {
+    put_votes(rt, &mut votes, ballot, slots);
+    Change {
         promised: Some(ballot),
         votes,
-    })
+    }
 }
 
 // One call each: what a test owns it lends to these.
@@ -79,15 +80,16 @@ fn load(keeper: &mut MemKeeper<Number>) -> Answer {
 }
 
 fn commit(
+    rt: &impl Abort,
     alloc: Global,
     keeper: &mut MemKeeper<Number>,
     round: u64,
     slots: &[u64],
-) -> Result<u8, Fail> {
-    let change = change(alloc, round, slots)?;
+) -> u8 {
+    let change = change(rt, alloc, round, slots);
     let done = number(keeper.commit(&change));
     drop(change);
-    Ok(done)
+    done
 }
 
 // Commits with these rounds in these slots, and what each answers.
@@ -96,48 +98,44 @@ fn commits(
     alloc: Global,
     keeper: &mut MemKeeper<Number>,
     rows: &[(u64, &[u64], u8)],
-) -> Result<(), Fail> {
+) {
     for (round, slots, wanted) in rows {
-        assert!(rt; commit(alloc, keeper, *round, slots)? == *wanted);
+        check!(rt; commit(rt, alloc, keeper, *round, slots) == *wanted);
     }
-    Ok(())
 }
 
 // A boot, the promise of round 1, and a vote in slot 1.
-fn first_run(rt: &impl Abort, alloc: Global, keeper: &mut MemKeeper<Number>) -> Result<(), Fail> {
-    assert!(rt; boot(keeper) == (0, 1, 0, [0, 0, 0]));
-    commits(rt, alloc, keeper, &[(1, &[], 0), (1, &[1], 0)])
+fn first_run(rt: &impl Abort, alloc: Global, keeper: &mut MemKeeper<Number>) {
+    check!(rt; boot(keeper) == (0, 1, 0, [0, 0, 0]));
+    commits(rt, alloc, keeper, &[(1, &[], 0), (1, &[1], 0)]);
 }
 
 fn second_run(rt: &impl Abort, keeper: &mut MemKeeper<Number>) {
-    assert!(rt; load(keeper) == (0, 1, 1, [1, 0, 0]));
-    assert!(rt; boot(keeper) == (0, 2, 1, [1, 0, 0]));
-    assert!(rt; keeper.failures() == 0);
+    check!(rt; load(keeper) == (0, 1, 1, [1, 0, 0]));
+    check!(rt; boot(keeper) == (0, 2, 1, [1, 0, 0]));
+    check!(rt; keeper.failures() == 0);
 }
 
 #[test]
-fn what_is_committed_is_loaded(rt: HostRuntime) -> Result<(), Fail> {
+fn what_is_committed_is_loaded(rt: HostRuntime) {
     let mut keeper = MemKeeper::new(rt.alloc());
-    first_run(&rt, rt.alloc(), &mut keeper)?;
+    first_run(&rt, rt.alloc(), &mut keeper);
     let mut again = keeper.reopen();
     second_run(&rt, &mut again);
     drop(again);
-    Ok(())
 }
 
-fn replaces(rt: &impl Abort, alloc: Global, keeper: &mut MemKeeper<Number>) -> Result<(), Fail> {
+fn replaces(rt: &impl Abort, alloc: Global, keeper: &mut MemKeeper<Number>) {
     let rows: [(u64, &[u64], u8); 3] = [(1, &[2], 0), (2, &[3, 2, 1], 0), (3, &[3], 0)];
-    commits(rt, alloc, keeper, &rows)?;
-    assert!(rt; load(keeper) == (0, 0, 3, [2, 2, 3]));
-    Ok(())
+    commits(rt, alloc, keeper, &rows);
+    check!(rt; load(keeper) == (0, 0, 3, [2, 2, 3]));
 }
 
 #[test]
-fn a_vote_replaces_that_of_its_slot(rt: HostRuntime) -> Result<(), Fail> {
+fn a_vote_replaces_that_of_its_slot(rt: HostRuntime) {
     let mut keeper = MemKeeper::new(rt.alloc());
-    let done = replaces(&rt, rt.alloc(), &mut keeper);
+    replaces(&rt, rt.alloc(), &mut keeper);
     drop(keeper);
-    done
 }
 
 // Two commits with the rounds 1 and 2 in slots 1 and 2, of which one fails: what these answer.
@@ -146,56 +144,44 @@ fn commits_and_fails(
     alloc: Global,
     keeper: &mut MemKeeper<Number>,
     wants: (u8, u8),
-) -> Result<(), Fail> {
-    assert!(rt; boot(keeper) == (0, 1, 0, [0, 0, 0]));
-    commits(rt, alloc, keeper, &[(1, &[1], wants.0), (2, &[2], wants.1)])
+) {
+    check!(rt; boot(keeper) == (0, 1, 0, [0, 0, 0]));
+    commits(rt, alloc, keeper, &[(1, &[1], wants.0), (2, &[2], wants.1)]);
 }
 
 fn has_failed(rt: &impl Abort, keeper: &mut MemKeeper<Number>) {
-    assert!(rt; load(keeper) == (65, 0, 0, [0, 0, 0]));
-    assert!(rt; boot(keeper) == (65, 0, 0, [0, 0, 0]));
-    assert!(rt; keeper.failures() == 1);
+    check!(rt; load(keeper) == (65, 0, 0, [0, 0, 0]));
+    check!(rt; boot(keeper) == (65, 0, 0, [0, 0, 0]));
+    check!(rt; keeper.failures() == 1);
 }
 
-fn goes_on(
-    rt: &impl Abort,
-    alloc: Global,
-    keeper: &mut MemKeeper<Number>,
-    want: Answer,
-) -> Result<(), Fail> {
-    assert!(rt; load(keeper) == want);
-    commits(rt, alloc, keeper, &[(3, &[3], 0)])
+fn goes_on(rt: &impl Abort, alloc: Global, keeper: &mut MemKeeper<Number>, want: Answer) {
+    check!(rt; load(keeper) == want);
+    commits(rt, alloc, keeper, &[(3, &[3], 0)]);
 }
 
 // A keeper that fails at its kth commit: what it answers, and what is loaded once it is opened again.
-fn fails(
-    rt: &impl Abort,
-    alloc: Global,
-    k: u64,
-    after: bool,
-    wants: (u8, u8, Answer),
-) -> Result<(), Fail> {
+fn fails(rt: &impl Abort, alloc: Global, k: u64, after: bool, wants: (u8, u8, Answer)) {
     let mut keeper = MemKeeper::failing(alloc, k, after);
-    commits_and_fails(rt, alloc, &mut keeper, (wants.0, wants.1))?;
+    commits_and_fails(rt, alloc, &mut keeper, (wants.0, wants.1));
     has_failed(rt, &mut keeper);
     let mut again = keeper.reopen();
-    let done = goes_on(rt, alloc, &mut again, wants.2);
+    goes_on(rt, alloc, &mut again, wants.2);
     drop(again);
-    done
 }
 
 #[test]
-fn the_first_commit_fails(rt: HostRuntime) -> Result<(), Fail> {
+fn the_first_commit_fails(rt: HostRuntime) {
     let alloc = rt.alloc();
-    fails(&rt, alloc, 1, false, (61, 65, (0, 1, 0, [0, 0, 0])))?;
-    fails(&rt, alloc, 1, true, (61, 65, (0, 1, 1, [1, 0, 0])))
+    fails(&rt, alloc, 1, false, (61, 65, (0, 1, 0, [0, 0, 0])));
+    fails(&rt, alloc, 1, true, (61, 65, (0, 1, 1, [1, 0, 0])));
 }
 
 #[test]
-fn the_second_commit_fails(rt: HostRuntime) -> Result<(), Fail> {
+fn the_second_commit_fails(rt: HostRuntime) {
     let alloc = rt.alloc();
-    fails(&rt, alloc, 2, false, (0, 61, (0, 1, 1, [1, 0, 0])))?;
-    fails(&rt, alloc, 2, true, (0, 61, (0, 1, 2, [1, 2, 0])))
+    fails(&rt, alloc, 2, false, (0, 61, (0, 1, 1, [1, 0, 0])));
+    fails(&rt, alloc, 2, true, (0, 61, (0, 1, 2, [1, 2, 0])));
 }
 
 #[test]
@@ -208,5 +194,5 @@ fn faults_have_their_numbers(rt: HostRuntime) {
         KeeperFault::Failed.number(),
         KeeperFault::Boots.number(),
     ];
-    assert_eq!(rt; numbers, [61, 62, 63, 64, 65, 66]);
+    check_eq!(&rt; numbers, [61, 62, 63, 64, 65, 66]);
 }

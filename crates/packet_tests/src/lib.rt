@@ -5,6 +5,8 @@
 #[cfg(test)]
 mod acceptor;
 #[cfg(test)]
+mod check;
+#[cfg(test)]
 mod keeper;
 #[cfg(test)]
 mod outboxes;

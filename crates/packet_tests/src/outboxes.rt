@@ -1,8 +1,9 @@
+use crate::check::Check;
 use packet_outboxes::Outboxes;
 use paxos_packets::{Kind, Members, Packet};
 use std::alloc::Global;
 use std::process::Abort;
-use std::test::Fail;
+use test_checks::check_eq;
 
 // An Ask of node 2, told by its addressee and its slot.
 type Told = (u8, u64);
@@ -21,22 +22,21 @@ const OLDEST_FIRST: &[(&[Told], Told)] = &[
     (&[(1, 9)], (1, 9)),
 ];
 
-fn push_asks(packets: &mut Vec<Packet<u32>>, asks: &[Told]) -> Result<(), Fail> {
+fn push_asks(rt: &impl Abort, packets: &mut Vec<Packet<u32>>, asks: &[Told]) {
     for (addressee, first) in asks {
-        packets.push(Packet {
+        let packet = Packet {
             sender: 2,
             addressee: *addressee,
             kind: Kind::Ask { first: *first },
-        })?;
+        };
+        packets.push(packet).expect(rt, "room for a packet");
     }
-    Ok(())
 }
 
-fn put(alloc: Global, outboxes: &mut Outboxes<u32>, asks: &[Told]) -> Result<(), Fail> {
+fn put(rt: &impl Abort, alloc: Global, outboxes: &mut Outboxes<u32>, asks: &[Told]) {
     let mut packets = Vec::new(alloc);
-    push_asks(&mut packets, asks)?;
+    push_asks(rt, &mut packets, asks);
     outboxes.put_all(packets);
-    Ok(())
 }
 
 fn first_in(packet: &Packet<u32>) -> u64 {
@@ -55,9 +55,9 @@ fn next(outboxes: &mut Outboxes<u32>) -> Told {
     told
 }
 
-fn outboxes(alloc: Global) -> Result<Outboxes<u32>, Fail> {
-    let members = Members::new(3).ok_or("three members")?;
-    Ok(Outboxes::new(alloc, 2, members)?)
+fn outboxes(rt: &impl Abort, alloc: Global) -> Outboxes<u32> {
+    let members = Members::new(3).expect(rt, "three members");
+    Outboxes::new(alloc, 2, members).expect(rt, "room for the outboxes")
 }
 
 fn goes_first(
@@ -65,12 +65,11 @@ fn goes_first(
     alloc: Global,
     outboxes: &mut Outboxes<u32>,
     rows: &[(&[Told], Told)],
-) -> Result<(), Fail> {
+) {
     for (asks, first) in rows {
-        put(alloc, outboxes, asks)?;
-        assert_eq!(rt; next(outboxes), *first);
+        put(rt, alloc, outboxes, asks);
+        check_eq!(rt; next(outboxes), *first);
     }
-    Ok(())
 }
 
 // Whom a packet is taken for, whether it goes or comes back, and which it is; 0 where none waits.
@@ -102,51 +101,47 @@ fn next_for(outboxes: &mut Outboxes<u32>, peer: u8, goes: bool) -> u64 {
     first
 }
 
-fn comes_back(rt: &impl Abort, alloc: Global, outboxes: &mut Outboxes<u32>) -> Result<(), Fail> {
-    put(alloc, outboxes, &[(3, 1), (1, 2), (9, 5), (3, 3), (1, 4)])?;
+fn comes_back(rt: &impl Abort, alloc: Global, outboxes: &mut Outboxes<u32>) {
+    put(
+        rt,
+        alloc,
+        outboxes,
+        &[(3, 1), (1, 2), (9, 5), (3, 3), (1, 4)],
+    );
     for (peer, goes, first) in FOR_ONE {
-        assert_eq!(rt; next_for(outboxes, *peer, *goes), *first);
+        check_eq!(rt; next_for(outboxes, *peer, *goes), *first);
     }
-    Ok(())
 }
 
 #[test]
-fn a_packet_that_could_not_go_comes_first_again(rt: HostRuntime) -> Result<(), Fail> {
-    let mut outboxes = outboxes(rt.alloc())?;
-    let done = comes_back(&rt, rt.alloc(), &mut outboxes);
+fn a_packet_that_could_not_go_comes_first_again(rt: HostRuntime) {
+    let mut outboxes = outboxes(&rt, rt.alloc());
+    comes_back(&rt, rt.alloc(), &mut outboxes);
     drop(outboxes);
-    done
 }
 
 #[test]
-fn the_oldest_packet_goes_first(rt: HostRuntime) -> Result<(), Fail> {
-    let mut outboxes = outboxes(rt.alloc())?;
-    let done = goes_first(&rt, rt.alloc(), &mut outboxes, OLDEST_FIRST);
+fn the_oldest_packet_goes_first(rt: HostRuntime) {
+    let mut outboxes = outboxes(&rt, rt.alloc());
+    goes_first(&rt, rt.alloc(), &mut outboxes, OLDEST_FIRST);
     drop(outboxes);
-    done
 }
 
 // More packets for node 1 than its outbox holds.
-fn fill(alloc: Global, outboxes: &mut Outboxes<u32>) -> Result<(), Fail> {
+fn fill(rt: &impl Abort, alloc: Global, outboxes: &mut Outboxes<u32>) {
     for first in 2..4_099 {
-        put(alloc, outboxes, &[(1, first)])?;
+        put(rt, alloc, outboxes, &[(1, first)]);
     }
-    Ok(())
 }
 
-fn loses_its_oldest(
-    rt: &impl Abort,
-    alloc: Global,
-    outboxes: &mut Outboxes<u32>,
-) -> Result<(), Fail> {
-    fill(alloc, outboxes)?;
-    goes_first(rt, alloc, outboxes, &[(&[(3, 1)], (1, 3)), (&[], (1, 4))])
+fn loses_its_oldest(rt: &impl Abort, alloc: Global, outboxes: &mut Outboxes<u32>) {
+    fill(rt, alloc, outboxes);
+    goes_first(rt, alloc, outboxes, &[(&[(3, 1)], (1, 3)), (&[], (1, 4))]);
 }
 
 #[test]
-fn a_full_outbox_loses_its_oldest(rt: HostRuntime) -> Result<(), Fail> {
-    let mut outboxes = outboxes(rt.alloc())?;
-    let done = loses_its_oldest(&rt, rt.alloc(), &mut outboxes);
+fn a_full_outbox_loses_its_oldest(rt: HostRuntime) {
+    let mut outboxes = outboxes(&rt, rt.alloc());
+    loses_its_oldest(&rt, rt.alloc(), &mut outboxes);
     drop(outboxes);
-    done
 }

@@ -1,7 +1,9 @@
+use crate::check::Check;
 use script_lines::{Act, Id, Line, LinesFault, Members, NodeSet, Parser, lines_of, read_line};
 use std::alloc::{AllocError, Global};
 use std::fmt::Write;
 use std::process::Abort;
+use test_checks::check_eq;
 
 // Texts of scripts in a cluster of three nodes, and what is told of each: its lines as short words, or the number of the first bad one.
 const SCRIPTS: &[(&[u8], &str)] = &[
@@ -106,7 +108,7 @@ fn is_told(rt: &impl Abort, alloc: Global, text: &[u8], expected: &str) {
     let lines = lines_of(alloc, Members::new(3).unwrap(), text);
     tell_all(&lines, &mut told).expect(rt, "room for what is told");
     drop(lines);
-    assert_eq!(rt; told.as_str(), expected);
+    check_eq!(rt; told.as_str(), expected);
 }
 
 #[test]

@@ -1,6 +1,8 @@
+use crate::check::Check;
 use cluster_program::{Order, UsageFault, help_of, order_of, unreadable_words};
 use std::alloc::{AllocError, Global};
 use std::process::Abort;
+use test_checks::{check, check_eq};
 
 // The words of a command line.
 fn words_of(rt: &impl Abort, alloc: Global, line: &str) -> Vec<String> {
@@ -48,7 +50,7 @@ fn is_read(rt: &impl Abort, alloc: Global, line: &str, answer: &str) {
 }
 
 fn is_answer(rt: &impl Abort, read: &str, answer: &str, line: &str) {
-    assert_eq!(rt; read, answer, "{line}");
+    check_eq!(rt; read, answer, line);
 }
 
 fn told(alloc: Global, order: &Order) -> Result<String, AllocError> {
@@ -175,7 +177,7 @@ const HINTS: &[(&str, &str)] = &[
 
 fn is_hinted(rt: &impl Abort, alloc: Global, line: &str, hint: &str) {
     let cause = cause(rt, alloc, line);
-    assert!(rt; cause.contains(hint), "{line}");
+    check!(rt; cause.contains(hint), line);
 }
 
 #[test]
@@ -184,7 +186,7 @@ fn says_what_may_have_been_meant(rt: HostRuntime) {
         is_hinted(&rt, rt.alloc(), line, hint);
     }
     let unreadable = unreadable_words(rt.alloc());
-    assert_eq!(rt; unreadable.status(), 2);
+    check_eq!(&rt; unreadable.status(), 2);
 }
 
 // Command lines that ask for a text, and a part of it.
@@ -205,7 +207,7 @@ const TEXTS: &[(&str, &str)] = &[
 
 fn is_helped(rt: &impl Abort, alloc: Global, line: &str, text: &str) {
     let told = help(rt, alloc, line).expect(rt, "the text is told");
-    assert!(rt; told.contains(text), "{line}");
+    check!(rt; told.contains(text), line);
 }
 
 #[test]
@@ -214,5 +216,5 @@ fn tells_what_is_asked_for(rt: HostRuntime) {
         is_helped(&rt, rt.alloc(), line, text);
     }
     let told = help(&rt, rt.alloc(), "stream");
-    assert!(rt; told.is_none());
+    check!(&rt; told.is_none());
 }

@@ -1,8 +1,10 @@
+use crate::check::Check;
 use crate::ends::{Paper, Pieces, new_paper, reader_of};
 use cluster_program::{Members, RunFault, script_run};
 use std::alloc::{AllocError, Global};
 use std::fmt::Write;
 use std::process::Abort;
+use test_checks::{check, check_eq};
 
 // What WELCOME announces; a row says W in its place.
 const FEATURES: &str =
@@ -178,8 +180,8 @@ fn is_due(
     due: &[u8],
     script: &str,
 ) {
-    assert_eq!(rt; outcome, Ok(()), "{script}");
-    assert_eq!(rt; written, due, "{script}");
+    check_eq!(rt; outcome, Ok(()), script);
+    check_eq!(rt; written, due, script);
 }
 
 #[test]
@@ -195,10 +197,10 @@ fn counts_draws_by_what_is_said(rt: HostRuntime) {
     let script =
         "crash 3\ntake 3 1 say {\nstart 1\nflush\ntake 1 1 connect\ntake 1 1 say [1,\"realm1\",{}]\nflush\n";
     let (written, outcome) = play(&rt, rt.alloc(), 3, script.as_bytes(), 64);
-    assert_eq!(rt; outcome, Ok(()));
+    check_eq!(&rt; outcome, Ok(()));
     let mut end = String::from_str(rt.alloc(), "node 3 down\n").expect(&rt, "room for a text");
     put_told("to 1 1 1 [2,2,W]", &mut end).expect(&rt, "room for a line");
-    assert!(rt; written.as_slice().ends_with(end.as_bytes()));
+    check!(&rt; written.as_slice().ends_with(end.as_bytes()));
 }
 
 // Scripts of which a line is no event, and its number.
@@ -213,8 +215,8 @@ const BAD: &[(&[u8], u64)] = &[
 
 fn is_bad(rt: &impl Abort, alloc: Global, script: &[u8], number: u64) {
     let (written, outcome) = play(rt, alloc, 3, script, 5);
-    assert_eq!(rt; outcome, Err(RunFault::Line(number)), "{script:?}");
-    assert!(rt; written.is_empty(), "{script:?}");
+    check_eq!(rt; outcome, Err(RunFault::Line(number)), script);
+    check!(rt; written.is_empty(), script);
 }
 
 #[test]
@@ -234,10 +236,10 @@ fn stops_behind_reads(rt: &impl Abort, alloc: Global, members: Members, reads: u
     let mut paper = new_paper(alloc, None);
     let outcome = run(alloc, &mut reader, &mut paper, members);
     if reader.reads_before_failure.is_none() {
-        assert_eq!(rt; outcome, Err(RunFault::Transport(83)), "after {reads}");
-        assert!(rt; paper.octets.is_empty(), "after {reads}");
+        check_eq!(rt; outcome, Err(RunFault::Transport(83)), reads);
+        check!(rt; paper.octets.is_empty(), reads);
     } else {
-        assert_eq!(rt; outcome, Ok(()), "after {reads}");
+        check_eq!(rt; outcome, Ok(()), reads);
     }
 }
 
@@ -259,7 +261,7 @@ fn ends_behind_writes(
     let mut paper = new_paper(alloc, Some(calls));
     let mut reader = reader_of(SCRIPT, 64);
     let ended = run(alloc, &mut reader, &mut paper, members);
-    assert_eq!(rt; ended, outcome, "after {calls}");
+    check_eq!(rt; ended, outcome, calls);
 }
 
 #[test]
@@ -290,7 +292,7 @@ fn writes_before_much_text_waits(rt: HostRuntime) {
     let mut paper = new_paper(rt.alloc(), None);
     let mut reader = reader_of(script.as_slice(), 1 << 20);
     let outcome = run(rt.alloc(), &mut reader, &mut paper, members);
-    assert_eq!(rt; outcome, Ok(()));
-    assert!(rt; paper.longest >= 65536 && paper.longest < 65536 + 256);
-    assert!(rt; paper.octets.len() > 400 * (213 + 39));
+    check_eq!(&rt; outcome, Ok(()));
+    check!(&rt; paper.longest >= 65536 && paper.longest < 65536 + 256);
+    check!(&rt; paper.octets.len() > 400 * (213 + 39));
 }

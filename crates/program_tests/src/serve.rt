@@ -1,4 +1,5 @@
 // A served cluster: its nodes step on threads of their own, and what a client of one node publishes reaches a client of another.
+use crate::check::Check;
 use cluster_program::{Gate, Members, serve_run};
 use std::alloc::{AllocError, Global};
 use std::io::{Read, Write};
@@ -7,6 +8,7 @@ use std::sync::Arc;
 use std::sync::atomic::{AtomicBool, Ordering};
 use std::time::{Clock, Duration};
 use std::{io, thread};
+use test_checks::{check, check_eq};
 
 // How often something is looked for, a millisecond apart.
 const POLLS: u32 = 10_000;
@@ -191,14 +193,11 @@ fn an_event_crosses_nodes_that_step_on_threads_of_their_own(rt: HostRuntime) {
             heard
         },
     );
-    assert!(rt; served.is_ok());
-    assert!(rt; gate.second.load(Ordering::SeqCst));
+    check!(&rt; served.is_ok());
+    check!(&rt; gate.second.load(Ordering::SeqCst));
     let heard = heard.expect(&rt, "an event");
-    assert!(rt; heard.as_str().starts_with("[36,1,"));
-    assert!(rt; heard.as_str().ends_with(r#",{},["hi"]]"#));
+    check!(&rt; heard.as_str().starts_with("[36,1,"));
+    check!(&rt; heard.as_str().ends_with(r#",{},["hi"]]"#));
     let told = str::from_utf8(told.as_slice()).expect(&rt, "text");
-    assert_eq!(rt;
-        told,
-        "node 1 listens on 127.0.0.1:24871\nnode 2 listens on 127.0.0.1:24872\nnode 3 listens on 127.0.0.1:24873\n"
-    );
+    check_eq!(&rt; told, "node 1 listens on 127.0.0.1:24871\nnode 2 listens on 127.0.0.1:24872\nnode 3 listens on 127.0.0.1:24873\n");
 }

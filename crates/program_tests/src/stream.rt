@@ -1,7 +1,9 @@
+use crate::check::Check;
 use crate::ends::{Paper, Pieces, new_paper, reader_of};
 use cluster_program::{RunFault, stream_run};
 use std::alloc::{AllocError, Global};
 use std::process::Abort;
+use test_checks::{check, check_eq};
 
 // The client's octets of the stored run.
 const ASKED: &[u8] = b"\x7F\xF1\0\0\
@@ -58,8 +60,8 @@ fn is_due(
     due: &[u8],
     at: usize,
 ) {
-    assert_eq!(rt; outcome, ending, "at {at}");
-    assert_eq!(rt; written, due, "at {at}");
+    check_eq!(rt; outcome, ending, at);
+    check_eq!(rt; written, due, at);
 }
 
 // Asserts how a run ended, and that it wrote a front of what the stored run writes.
@@ -70,8 +72,8 @@ fn is_front(
     ending: Result<(), RunFault>,
     at: usize,
 ) {
-    assert_eq!(rt; outcome, ending, "at {at}");
-    assert!(rt; ANSWERED.starts_with(written), "at {at}");
+    check_eq!(rt; outcome, ending, at);
+    check!(rt; ANSWERED.starts_with(written), at);
 }
 
 fn answers_by(rt: &impl Abort, alloc: Global, most: usize) {
@@ -92,10 +94,10 @@ fn answers_calls_by(rt: &impl Abort, alloc: Global, most: usize) {
 }
 
 fn is_called(rt: &impl Abort, outcome: Result<(), RunFault>, written: &[u8], most: usize) {
-    assert_eq!(rt; outcome, Ok(()), "by {most}");
-    assert!(rt; written.ends_with(CALLED), "by {most}");
+    check_eq!(rt; outcome, Ok(()), most);
+    check!(rt; written.ends_with(CALLED), most);
     // The handshake's answer and WELCOME stand before.
-    assert_eq!(rt; written.len(), CALLED.len().wrapping_add(217), "by {most}");
+    check_eq!(rt; written.len(), CALLED.len().wrapping_add(217), most);
 }
 
 #[test]
@@ -114,9 +116,9 @@ fn reads_nothing_behind_the_handshake_before_it_is_answered(rt: HostRuntime) {
 }
 
 fn is_refused(rt: &impl Abort, outcome: Result<(), RunFault>, written: &[u8], rest: &[u8]) {
-    assert_eq!(rt; outcome, Err(RunFault::Transport(81)));
-    assert_eq!(rt; written, b"\x7F\x10\0\0".as_slice());
-    assert_eq!(rt; rest, b"rest".as_slice());
+    check_eq!(rt; outcome, Err(RunFault::Transport(81)));
+    check_eq!(rt; written, b"\x7F\x10\0\0".as_slice());
+    check_eq!(rt; rest, b"rest".as_slice());
 }
 
 // What faulty clients send, what they are answered, and the number of the fault.
@@ -153,11 +155,11 @@ fn ends_by_faults_of_the_client(rt: HostRuntime) {
 fn is_told(rt: &impl Abort, alloc: Global, fault: RunFault, text: &str, status: u8) {
     let told = format!(in alloc; "{fault}").expect(rt, "room for a text");
     is_text(rt, told.as_str(), text);
-    assert_eq!(rt; fault.status(), status, "of {text}");
+    check_eq!(rt; fault.status(), status, text);
 }
 
 fn is_text(rt: &impl Abort, told: &str, text: &str) {
-    assert_eq!(rt; told, text);
+    check_eq!(rt; told, text);
 }
 
 #[test]
@@ -342,7 +344,7 @@ fn writes_before_many_replies_wait(rt: HostRuntime) {
     let mut paper = new_paper(rt.alloc(), None);
     let mut reader = reader_of(asked.as_slice(), 1 << 20);
     let outcome = run(rt.alloc(), &mut reader, &mut paper);
-    assert_eq!(rt; outcome, Ok(()));
-    assert!(rt; paper.longest > 65536 && paper.longest < 65536 + 256);
-    assert!(rt; paper.octets.len() > 1500 * (213 + 39));
+    check_eq!(&rt; outcome, Ok(()));
+    check!(&rt; paper.longest > 65536 && paper.longest < 65536 + 256);
+    check!(&rt; paper.octets.len() > 1500 * (213 + 39));
 }

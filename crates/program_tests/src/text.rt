@@ -1,4 +1,6 @@
+use crate::check::Check;
 use script_text::{Entry, Memory, Out, Transport, put_log, put_node, put_said};
+use test_checks::check_eq;
 
 // A log in which an Item comes before the one that its node took before it, and a boot is lost twice.
 const LOG: &[Entry<u8>] = &[
@@ -51,5 +53,5 @@ fn logs_and_sayings_are_told(rt: HostRuntime) {
     put_all(&mut told).expect(&rt, "room for a text");
     let mut expected = Vec::new(rt.alloc());
     put_expected(&mut expected).expect(&rt, "room for a text");
-    assert_eq!(rt; told.as_slice(), expected.as_slice());
+    check_eq!(&rt; told.as_slice(), expected.as_slice());
 }

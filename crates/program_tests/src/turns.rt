@@ -1,7 +1,9 @@
+use crate::check::Check;
 use cluster_program::stream_run;
 use std::cell::Cell;
 use std::io;
 use std::io::{Read, Write};
+use test_checks::{check, check_eq};
 
 // What a client sends, each part once the octets that answer the parts before it have reached it.
 const TALK: [(&[u8], usize); 5] = [
@@ -79,7 +81,7 @@ fn answers_before_the_next_read(rt: HostRuntime) {
         received: &received,
     };
     let outcome = stream_run(rt.alloc(), &mut client, &mut way, "realm1");
-    assert_eq!(rt; outcome, Ok(()));
-    assert!(rt; client.others.is_empty());
-    assert_eq!(rt; received.get(), 302);
+    check_eq!(&rt; outcome, Ok(()));
+    check!(&rt; client.others.is_empty());
+    check_eq!(&rt; received.get(), 302);
 }

@@ -1,4 +1,6 @@
+use crate::check::Check;
 use std::process::Abort;
+use test_checks::check;
 use waiting_packets::{Members, Memory, NodeSet, Waiting};
 
 // What is done, and what is told.
@@ -79,7 +81,7 @@ fn is_right(waiting: &mut Waiting, step: &Step) -> Result<bool, Memory> {
 fn play(rt: &impl Abort, waiting: &mut Waiting) {
     for step in STEPS {
         let is_right = is_right(waiting, step).expect(rt, "room for a packet");
-        assert!(rt; is_right);
+        check!(rt; is_right);
     }
 }
 

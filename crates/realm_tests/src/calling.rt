@@ -1,8 +1,9 @@
+use crate::check::Check;
 use crate::realm::{HELLO, Row, check, in_one_text, realm_of, replies};
-use realm_machine::{Failed, Realm, Say, Transport};
+use realm_machine::{Realm, Say, Transport};
 use std::alloc::Global;
 use std::process::Abort;
-use std::test::Fail;
+use test_checks::check;
 
 // A HELLO that announces call canceling.
 const CANCELING: &str =
@@ -45,14 +46,14 @@ const CANCELED_CALLS: &[Row] = &[
 ];
 
 #[test]
-fn canceled_calls(rt: HostRuntime) -> Result<(), Fail> {
+fn canceled_calls(rt: HostRuntime) {
     check(
         &rt,
         rt.alloc(),
         4096,
         &[Some(CANCELING), Some(HELLO)],
         CANCELED_CALLS,
-    )
+    );
 }
 
 const CALLEES_TAKE_TURNS: &[Row] = &[
@@ -105,14 +106,14 @@ const CALLEES_TAKE_TURNS: &[Row] = &[
 ];
 
 #[test]
-fn callees_take_turns(rt: HostRuntime) -> Result<(), Fail> {
+fn callees_take_turns(rt: HostRuntime) {
     check(
         &rt,
         rt.alloc(),
         3,
         &[Some(HELLO), Some(HELLO), Some(HELLO)],
         CALLEES_TAKE_TURNS,
-    )
+    );
 }
 
 const UNFIT_CALLS_AND_ANSWERS: &[Row] = &[
@@ -176,14 +177,14 @@ const UNFIT_CALLS_AND_ANSWERS: &[Row] = &[
 ];
 
 #[test]
-fn unfit_calls_and_answers(rt: HostRuntime) -> Result<(), Fail> {
+fn unfit_calls_and_answers(rt: HostRuntime) {
     check(
         &rt,
         rt.alloc(),
         4096,
         &[Some(HELLO), Some(HELLO)],
         UNFIT_CALLS_AND_ANSWERS,
-    )
+    );
 }
 
 const ONE_OPEN_CALL: &[Row] = &[
@@ -207,8 +208,8 @@ const ONE_OPEN_CALL: &[Row] = &[
 ];
 
 #[test]
-fn one_open_call(rt: HostRuntime) -> Result<(), Fail> {
-    check(&rt, rt.alloc(), 1, &[Some(HELLO), None], ONE_OPEN_CALL)
+fn one_open_call(rt: HostRuntime) {
+    check(&rt, rt.alloc(), 1, &[Some(HELLO), None], ONE_OPEN_CALL);
 }
 
 const CALLERS_AND_CALLEES_LEAVE: &[Row] = &[
@@ -233,14 +234,14 @@ const CALLERS_AND_CALLEES_LEAVE: &[Row] = &[
 ];
 
 #[test]
-fn callers_and_callees_leave(rt: HostRuntime) -> Result<(), Fail> {
+fn callers_and_callees_leave(rt: HostRuntime) {
     check(
         &rt,
         rt.alloc(),
         4096,
         &[Some(CANCELING), Some(HELLO)],
         CALLERS_AND_CALLEES_LEAVE,
-    )
+    );
 }
 
 const A_VIOLATION_ENDS_CALLS_BOTH_WAYS: &[Row] = &[
@@ -259,14 +260,14 @@ const A_VIOLATION_ENDS_CALLS_BOTH_WAYS: &[Row] = &[
 ];
 
 #[test]
-fn a_violation_ends_calls_both_ways(rt: HostRuntime) -> Result<(), Fail> {
+fn a_violation_ends_calls_both_ways(rt: HostRuntime) {
     check(
         &rt,
         rt.alloc(),
         4096,
         &[Some(HELLO), Some(CANCELING), Some(HELLO), Some(HELLO)],
         A_VIOLATION_ENDS_CALLS_BOTH_WAYS,
-    )
+    );
 }
 
 const A_PROCEDURE_PASSES_ON: &[Row] = &[
@@ -303,14 +304,14 @@ const A_PROCEDURE_PASSES_ON: &[Row] = &[
 ];
 
 #[test]
-fn a_procedure_passes_on(rt: HostRuntime) -> Result<(), Fail> {
+fn a_procedure_passes_on(rt: HostRuntime) {
     check(
         &rt,
         rt.alloc(),
         4096,
         &[Some(HELLO), Some(HELLO)],
         A_PROCEDURE_PASSES_ON,
-    )
+    );
 }
 
 const REFUSED_PROCEDURES: &[Row] = &[
@@ -365,8 +366,8 @@ const REFUSED_PROCEDURES: &[Row] = &[
 ];
 
 #[test]
-fn refused_procedures(rt: HostRuntime) -> Result<(), Fail> {
-    check(&rt, rt.alloc(), 1, &[Some(HELLO)], REFUSED_PROCEDURES)
+fn refused_procedures(rt: HostRuntime) {
+    check(&rt, rt.alloc(), 1, &[Some(HELLO)], REFUSED_PROCEDURES);
 }
 
 fn at(node: u8, number: u32) -> Transport {
@@ -377,49 +378,41 @@ fn at(node: u8, number: u32) -> Transport {
     }
 }
 
-fn gone(realm: &mut Realm, node: u8) -> Result<Vec<Say>, Failed> {
-    realm.gone(node)
+fn gone(rt: &impl Abort, realm: &mut Realm, node: u8) -> Vec<Say> {
+    realm.gone(node).expect(rt, "what the realm says")
 }
 
 // What is said at the end of this node.
-fn told_gone(alloc: Global, realm: &mut Realm, node: u8) -> Result<Vec<u8>, Fail> {
-    let says = gone(realm, node)?;
-    in_one_text(alloc, says.as_slice())
+fn told_gone(rt: &impl Abort, alloc: Global, realm: &mut Realm, node: u8) -> Vec<u8> {
+    let says = gone(rt, realm, node);
+    in_one_text(rt, alloc, says.as_slice())
 }
 
 // What a transport does, by node and number.
 type Gone = (u8, u32, u64, &'static str);
 
-fn say_all(alloc: Global, realm: &mut Realm, rows: &[Gone]) -> Result<(), Fail> {
+fn say_all(rt: &impl Abort, alloc: Global, realm: &mut Realm, rows: &[Gone]) {
     for (node, number, draw, text) in rows {
-        let _said = replies(alloc, realm, at(*node, *number), *draw, text)?;
+        let _said = replies(rt, alloc, realm, at(*node, *number), *draw, text);
     }
-    Ok(())
 }
 
 // Whether the end of node 3 makes the realm say this.
-fn is_told_gone(alloc: Global, realm: &mut Realm, says: &str) -> Result<bool, Fail> {
-    let said = told_gone(alloc, realm, 3)?;
-    Ok(said.as_slice() == says.as_bytes())
+fn is_told_gone(rt: &impl Abort, alloc: Global, realm: &mut Realm, says: &str) -> bool {
+    let said = told_gone(rt, alloc, realm, 3);
+    said.as_slice() == says.as_bytes()
 }
 
-fn is_gone(
-    rt: &impl Abort,
-    alloc: Global,
-    realm: &mut Realm,
-    rows: &[Gone],
-    says: &str,
-) -> Result<(), Fail> {
-    say_all(alloc, realm, rows)?;
-    assert!(rt; is_told_gone(alloc, realm, says)?);
-    assert!(rt; is_told_gone(alloc, realm, "")?);
-    Ok(())
+fn is_gone(rt: &impl Abort, alloc: Global, realm: &mut Realm, rows: &[Gone], says: &str) {
+    say_all(rt, alloc, realm, rows);
+    check!(rt; is_told_gone(rt, alloc, realm, says));
+    check!(rt; is_told_gone(rt, alloc, realm, ""));
 }
 
 // What the end of node 3 makes the realm say behind these rows, once.
-fn check_gone(rt: &impl Abort, alloc: Global, rows: &[Gone], says: &str) -> Result<(), Fail> {
-    let mut realm = realm_of(alloc, 4096)?;
-    is_gone(rt, alloc, &mut realm, rows, says)
+fn check_gone(rt: &impl Abort, alloc: Global, rows: &[Gone], says: &str) {
+    let mut realm = realm_of(rt, alloc, 4096);
+    is_gone(rt, alloc, &mut realm, rows, says);
 }
 
 const A_NODE_IS_GONE: &[Gone] = &[
@@ -433,11 +426,11 @@ const A_NODE_IS_GONE: &[Gone] = &[
 ];
 
 #[test]
-fn a_node_is_gone(rt: HostRuntime) -> Result<(), Fail> {
+fn a_node_is_gone(rt: HostRuntime) {
     check_gone(
         &rt,
         rt.alloc(),
         A_NODE_IS_GONE,
         "9 [8,48,3,{},\"wamp.error.canceled\"];1 [6,{},\"wamp.close.system_shutdown\"];1 close;2 close;",
-    )
+    );
 }

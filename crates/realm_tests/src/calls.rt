@@ -2,14 +2,15 @@
 ghost use Rattle.std.specs.Prelude.{◌≡◌};
 ghost use Rattle.realm_sessions.specs.Links.{has_number};
 
+use crate::check::Check;
 use realm_calls::{Calls, Cancelled, Open};
 use realm_sessions::RealmFault;
 use std::process::Abort;
-use std::test::Fail;
+use test_checks::check;
 use wamp_ids::{Id, Mode};
 
-fn id(number: u64) -> Result<Id, Fail> {
-    Ok(Id::new(number).ok_or("no id")?)
+fn id(rt: &impl Abort, number: u64) -> Id {
+    Id::new(number).expect(rt, "an id")
 }
 
 // Two numbers as one, of which the second has so many digits.
@@ -70,13 +71,13 @@ fn is_among(ids: &[Id], id: Id) -> bool
 }
 
 // The fault's number, or 0; 1 where the request or the invocation is open.
-fn opened(calls: &mut Calls, call: &Open) -> Result<u64, Fail> {
-    let taken = calls.open_of(call.callee)?;
+fn opened(rt: &impl Abort, calls: &mut Calls, call: &Open) -> u64 {
+    let taken = calls.open_of(call.callee).expect(rt, "room for ids");
     if is_among(&taken, call.invocation) || calls.has(call.caller, call.request) {
-        return Ok(1);
+        return 1;
     }
     let given = calls.open(call.caller, call.request, call.callee, call.invocation);
-    Ok(answer_of(given.map(|()| 0)))
+    answer_of(given.map(|()| 0))
 }
 
 fn canceled(calls: &mut Calls, call: &Open, mode: Mode, announces: bool) -> u64 {
@@ -85,19 +86,19 @@ fn canceled(calls: &mut Calls, call: &Open, mode: Mode, announces: bool) -> u64 
 }
 
 // The open invocations of the callee.
-fn invocations(calls: &Calls, callee: Id) -> Result<u64, Fail> {
-    let found = calls.open_of(callee)?;
-    Ok(digits_of(&found))
+fn invocations(rt: &impl Abort, calls: &Calls, callee: Id) -> u64 {
+    let found = calls.open_of(callee).expect(rt, "room for ids");
+    digits_of(&found)
 }
 
-fn without_callee(calls: &mut Calls, callee: Id) -> Result<u64, Fail> {
-    let ended = calls.leave_callee(callee)?;
-    Ok(numbers_of(&ended))
+fn without_callee(rt: &impl Abort, calls: &mut Calls, callee: Id) -> u64 {
+    let ended = calls.leave_callee(callee).expect(rt, "room for calls");
+    numbers_of(&ended)
 }
 
-fn without_caller(calls: &mut Calls, caller: Id) -> Result<u64, Fail> {
-    let ended = calls.leave_caller(caller)?;
-    Ok(numbers_of(&ended))
+fn without_caller(rt: &impl Abort, calls: &mut Calls, caller: Id) -> u64 {
+    let ended = calls.leave_caller(caller).expect(rt, "room for calls");
+    numbers_of(&ended)
 }
 
 // What is asked, if the word asks whether something is so.
@@ -115,37 +116,37 @@ fn told(calls: &Calls, word: &str, call: &Open) -> Option<bool> {
 }
 
 // What one step answers.
-fn step(calls: &mut Calls, word: &str, call: &Open) -> Result<u64, Fail> {
+fn step(rt: &impl Abort, calls: &mut Calls, word: &str, call: &Open) -> u64 {
     if word == "open" {
-        return opened(calls, call);
+        return opened(rt, calls, call);
     }
     if let Some(holds) = told(calls, word, call) {
-        return Ok(if holds { 1 } else { 0 });
+        return if holds { 1 } else { 0 };
     }
     if word == "invocations" {
-        return invocations(calls, call.callee);
+        return invocations(rt, calls, call.callee);
     }
     if word == "answer" {
         let given = calls.answer(call.callee, call.invocation);
-        return Ok(answer_of(given.map(|call| number_of(&call))));
+        return answer_of(given.map(|call| number_of(&call)));
     }
     if word == "callee leaves" {
-        return without_callee(calls, call.callee);
+        return without_callee(rt, calls, call.callee);
     }
     if word == "caller leaves" {
-        return without_caller(calls, call.caller);
+        return without_caller(rt, calls, call.caller);
     }
     if word == "open calls" {
-        let open = calls.to_vec()?;
-        return Ok(numbers_of(&open));
+        let open = calls.to_vec().expect(rt, "room for calls");
+        return numbers_of(&open);
     }
     if word == "callee" {
-        return Ok(match calls.call_of(call.caller, call.request) {
+        return match calls.call_of(call.caller, call.request) {
             Some(found) => found.callee.get(),
             None => 0,
-        });
+        };
     }
-    Ok(stopped(calls, word, call))
+    stopped(calls, word, call)
 }
 
 // A cancellation: the mode, and whether the callee announced it.
@@ -165,25 +166,24 @@ fn stopped(calls: &mut Calls, word: &str, call: &Open) -> u64 {
 // The word, then caller, request, callee and invocation, and the answer.
 type Row = (&'static str, u64, u64, u64, u64, u64);
 
-fn call_of(row: &Row) -> Result<Open, Fail> {
-    Ok(Open {
-        caller: id(row.1)?,
-        request: id(row.2)?,
-        callee: id(row.3)?,
-        invocation: id(row.4)?,
-    })
-}
-
-fn is_answered(calls: &mut Calls, row: &Row) -> Result<bool, Fail> {
-    let call = call_of(row)?;
-    Ok(step(calls, row.0, &call)? == row.5)
-}
-
-fn goes(rt: &impl Abort, calls: &mut Calls, rows: &[Row]) -> Result<(), Fail> {
-    for row in rows {
-        assert!(rt; is_answered(calls, row)?, "{} {} {}", row.0, row.1, row.2);
+fn call_of(rt: &impl Abort, row: &Row) -> Open {
+    Open {
+        caller: id(rt, row.1),
+        request: id(rt, row.2),
+        callee: id(rt, row.3),
+        invocation: id(rt, row.4),
     }
-    Ok(())
+}
+
+fn is_answered(rt: &impl Abort, calls: &mut Calls, row: &Row) -> bool {
+    let call = call_of(rt, row);
+    step(rt, calls, row.0, &call) == row.5
+}
+
+fn goes(rt: &impl Abort, calls: &mut Calls, rows: &[Row]) {
+    for row in rows {
+        check!(rt; is_answered(rt, calls, row), (row.0, row.1, row.2));
+    }
 }
 
 const OPENS_AND_ANSWERS_CALLS: &[Row] = &[
@@ -217,9 +217,9 @@ const OPENS_AND_ANSWERS_CALLS: &[Row] = &[
 ];
 
 #[test]
-fn opens_and_answers_calls(rt: HostRuntime) -> Result<(), Fail> {
+fn opens_and_answers_calls(rt: HostRuntime) {
     let mut calls = Calls::new(rt.alloc(), 2);
-    goes(&rt, &mut calls, OPENS_AND_ANSWERS_CALLS)
+    goes(&rt, &mut calls, OPENS_AND_ANSWERS_CALLS);
 }
 
 const CANCELS_CALLS: &[Row] = &[
@@ -240,9 +240,9 @@ const CANCELS_CALLS: &[Row] = &[
 ];
 
 #[test]
-fn cancels_calls(rt: HostRuntime) -> Result<(), Fail> {
+fn cancels_calls(rt: HostRuntime) {
     let mut calls = Calls::new(rt.alloc(), 4);
-    goes(&rt, &mut calls, CANCELS_CALLS)
+    goes(&rt, &mut calls, CANCELS_CALLS);
 }
 
 const ENDS_THE_CALLS_OF_A_SESSION: &[Row] = &[
@@ -262,7 +262,7 @@ const ENDS_THE_CALLS_OF_A_SESSION: &[Row] = &[
 ];
 
 #[test]
-fn ends_the_calls_of_a_session(rt: HostRuntime) -> Result<(), Fail> {
+fn ends_the_calls_of_a_session(rt: HostRuntime) {
     let mut calls = Calls::new(rt.alloc(), 4);
-    goes(&rt, &mut calls, ENDS_THE_CALLS_OF_A_SESSION)
+    goes(&rt, &mut calls, ENDS_THE_CALLS_OF_A_SESSION);
 }

@@ -6,6 +6,8 @@ mod calling;
 #[cfg(test)]
 mod calls;
 #[cfg(test)]
+mod check;
+#[cfg(test)]
 mod realm;
 #[cfg(test)]
 mod registrations;

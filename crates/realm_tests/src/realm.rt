@@ -1,67 +1,65 @@
-use realm_machine::{Act, Failed, Id, Limits, Out, Realm, Say, Shared, Transport};
+use crate::check::Check;
+use realm_machine::{Act, Id, Limits, Out, Realm, Say, Shared, Transport};
 use std::alloc::Global;
 use std::process::Abort;
-use std::test::Fail;
-use wamp_messages::{Memory, Read, read, write};
+use test_checks::check;
+use wamp_messages::{Read, read, write};
 
-pub fn realm_of(alloc: Global, limit: u32) -> Result<Realm, Fail> {
-    let name = String::from_str(alloc, "realm1")?;
+pub fn realm_of(rt: &impl Abort, alloc: Global, limit: u32) -> Realm {
+    let name = String::from_str(alloc, "realm1").expect(rt, "room for a name");
     let limits = Limits {
         sessions: limit,
         registrations: limit,
         subscriptions: limit,
         calls: limit,
     };
-    Ok(Realm::new(alloc, name, limits))
+    Realm::new(alloc, name, limits)
 }
 
-// What is read of a text; want of memory is let go by std's call, so that no exit here drops what was read.
-fn shared(alloc: Global, text: &str) -> Option<Shared<Read>> {
-    let read = read(alloc, text.as_bytes()).ok()?;
-    Shared::new(alloc, read).ok()
+// What is read of a text.
+fn shared(rt: &impl Abort, alloc: Global, text: &str) -> Shared<Read> {
+    let read = read(alloc, text.as_bytes()).expect(rt, "room for a message");
+    Shared::new(alloc, read).expect(rt, "room to share it")
 }
 
 // `connect`, `hang up`, or the text of a message.
-fn parsed(alloc: Global, draw: u64, text: &str) -> Result<Act, Memory> {
+fn parsed(rt: &impl Abort, alloc: Global, draw: u64, text: &str) -> Act {
     if text == "connect" {
-        return Ok(Act::Connect);
+        return Act::Connect;
     }
     if text == "hang up" {
-        return Ok(Act::Hung);
+        return Act::Hung;
     }
-    let Some(draw) = Id::new(draw) else {
-        return Err(Memory);
-    };
-    let Some(read) = shared(alloc, text) else {
-        return Err(Memory);
-    };
-    Ok(Act::Said { draw, read })
+    let draw = Id::new(draw).expect(rt, "an id");
+    let read = shared(rt, alloc, text);
+    Act::Said { draw, read }
 }
 
-fn spelled(alloc: Global, out: &Out) -> Result<Vec<u8>, Memory> {
+fn spelled(rt: &impl Abort, alloc: Global, out: &Out) -> Vec<u8> {
     match out {
-        Out::Send(message) => write(alloc, message),
-        Out::Close => Ok(Vec::from_slice(alloc, b"close")?),
+        Out::Send(message) => write(alloc, message).expect(rt, "room for a text"),
+        Out::Close => Vec::from_slice(alloc, b"close").expect(rt, "room for a text"),
     }
 }
 
 // Appends `NUMBER TEXT;`, the text cut behind 60 octets.
-fn append(alloc: Global, all: &mut Vec<u8>, say: &Say) -> Result<(), Fail> {
-    let number = format!(in alloc; "{} ", say.transport.number)?;
-    all.extend_from_slice(number.as_bytes())?;
-    let octets = spelled(alloc, &say.out)?;
-    all.extend_from_slice(&octets[..octets.len().min(60)])?;
-    all.push(b';')?;
-    Ok(())
+fn append(rt: &impl Abort, alloc: Global, all: &mut Vec<u8>, say: &Say) {
+    let number = format!(in alloc; "{} ", say.transport.number).expect(rt, "room for a number");
+    all.extend_from_slice(number.as_bytes())
+        .expect(rt, "room for a number");
+    let octets = spelled(rt, alloc, &say.out);
+    all.extend_from_slice(&octets[..octets.len().min(60)])
+        .expect(rt, "room for a text");
+    all.push(b';').expect(rt, "room for its end");
 }
 
 // `NUMBER TEXT;` for each saying.
-pub fn in_one_text(alloc: Global, says: &[Say]) -> Result<Vec<u8>, Fail> {
+pub fn in_one_text(rt: &impl Abort, alloc: Global, says: &[Say]) -> Vec<u8> {
     let mut all = Vec::new(alloc);
     for say in says {
-        append(alloc, &mut all, say)?;
+        append(rt, alloc, &mut all, say);
     }
-    Ok(all)
+    all
 }
 
 fn transport(number: u32) -> Transport {
@@ -72,48 +70,49 @@ fn transport(number: u32) -> Transport {
     }
 }
 
-fn act(realm: &mut Realm, transport: Transport, act: &Act) -> Result<Vec<Say>, Failed> {
-    realm.act(transport, act)
+fn act(rt: &impl Abort, realm: &mut Realm, transport: Transport, act: &Act) -> Vec<Say> {
+    realm.act(transport, act).expect(rt, "what the realm says")
 }
 
 // What is said to the act of a transport.
 fn told(
+    rt: &impl Abort,
     alloc: Global,
     realm: &mut Realm,
     transport: Transport,
     said: &Act,
-) -> Result<Vec<u8>, Fail> {
-    let says = act(realm, transport, said)?;
-    in_one_text(alloc, says.as_slice())
+) -> Vec<u8> {
+    let says = act(rt, realm, transport, said);
+    in_one_text(rt, alloc, says.as_slice())
 }
 
 pub fn replies(
+    rt: &impl Abort,
     alloc: Global,
     realm: &mut Realm,
     transport: Transport,
     draw: u64,
     text: &str,
-) -> Result<Vec<u8>, Fail> {
-    let said = parsed(alloc, draw, text)?;
-    told(alloc, realm, transport, &said)
+) -> Vec<u8> {
+    let said = parsed(rt, alloc, draw, text);
+    told(rt, alloc, realm, transport, &said)
 }
 
 /// What a transport does, with the draw for it, and what the realm says then.
 pub type Row = (u32, u64, &'static str, &'static str);
 
 // Whether the realm says what the row says.
-fn is_said(alloc: Global, realm: &mut Realm, row: &Row) -> Result<bool, Fail> {
+fn is_said(rt: &impl Abort, alloc: Global, realm: &mut Realm, row: &Row) -> bool {
     let (number, draw, text, says) = *row;
-    let octets = replies(alloc, realm, transport(number), draw, text)?;
-    Ok(octets.as_slice() == says.as_bytes())
+    let octets = replies(rt, alloc, realm, transport(number), draw, text);
+    octets.as_slice() == says.as_bytes()
 }
 
 // Each transport does what its row says; and the realm says then what the row says.
-fn goes(rt: &impl Abort, alloc: Global, realm: &mut Realm, rows: &[Row]) -> Result<(), Fail> {
+fn goes(rt: &impl Abort, alloc: Global, realm: &mut Realm, rows: &[Row]) {
     for row in rows {
-        assert!(rt; is_said(alloc, realm, row)?, "{} {}", row.0, row.2);
+        check!(rt; is_said(rt, alloc, realm, row), (row.0, row.2));
     }
-    Ok(())
 }
 
 /// A HELLO.
@@ -143,32 +142,19 @@ const CLIENTS: &[(u32, u64, &str)] = &[
     ),
 ];
 
-fn connects(rt: &impl Abort, alloc: Global, realm: &mut Realm, clients: usize) -> Result<(), Fail> {
+fn connects(rt: &impl Abort, alloc: Global, realm: &mut Realm, clients: usize) {
     for (number, draw, _welcome) in CLIENTS.iter().take(clients) {
-        assert!(rt;
-            is_said(alloc, realm, &(*number, *draw, "connect", ""))?,
-            "{number}"
-        );
+        check!(rt; is_said(rt, alloc, realm, &(*number, *draw, "connect", "")), number);
     }
-    Ok(())
 }
 
 // Opens a session for each client that has a HELLO.
-fn opens(
-    rt: &impl Abort,
-    alloc: Global,
-    realm: &mut Realm,
-    clients: &[Option<&'static str>],
-) -> Result<(), Fail> {
+fn opens(rt: &impl Abort, alloc: Global, realm: &mut Realm, clients: &[Option<&'static str>]) {
     for ((number, draw, welcome), hello) in CLIENTS.iter().zip(clients.iter()) {
         if let Some(hello) = hello {
-            assert!(rt;
-                is_said(alloc, realm, &(*number, *draw, hello, welcome))?,
-                "{number}"
-            );
+            check!(rt; is_said(rt, alloc, realm, &(*number, *draw, hello, welcome)), number);
         }
     }
-    Ok(())
 }
 
 fn opens_and_goes(
@@ -177,10 +163,10 @@ fn opens_and_goes(
     realm: &mut Realm,
     clients: &[Option<&'static str>],
     rows: &[Row],
-) -> Result<(), Fail> {
-    connects(rt, alloc, realm, clients.len())?;
-    opens(rt, alloc, realm, clients)?;
-    goes(rt, alloc, realm, rows)
+) {
+    connects(rt, alloc, realm, clients.len());
+    opens(rt, alloc, realm, clients);
+    goes(rt, alloc, realm, rows);
 }
 
 // Rows in a realm with this limit, in which clients are connected, each with a session by its HELLO, or with none.
@@ -190,9 +176,9 @@ pub fn check(
     limit: u32,
     clients: &[Option<&'static str>],
     rows: &[Row],
-) -> Result<(), Fail> {
-    let mut realm = realm_of(alloc, limit)?;
-    opens_and_goes(rt, alloc, &mut realm, clients, rows)
+) {
+    let mut realm = realm_of(rt, alloc, limit);
+    opens_and_goes(rt, alloc, &mut realm, clients, rows);
 }
 
 const TWO_CLIENTS_AND_ONE_TOPIC: &[Row] = &[
@@ -253,8 +239,8 @@ const TWO_CLIENTS_AND_ONE_TOPIC: &[Row] = &[
 ];
 
 #[test]
-fn two_clients_and_one_topic(rt: HostRuntime) -> Result<(), Fail> {
-    check(&rt, rt.alloc(), 4096, &[], TWO_CLIENTS_AND_ONE_TOPIC)
+fn two_clients_and_one_topic(rt: HostRuntime) {
+    check(&rt, rt.alloc(), 4096, &[], TWO_CLIENTS_AND_ONE_TOPIC);
 }
 
 const LIMITS_OF_ONE_AND_REFUSALS: &[Row] = &[
@@ -300,14 +286,14 @@ const LIMITS_OF_ONE_AND_REFUSALS: &[Row] = &[
 ];
 
 #[test]
-fn limits_of_one_and_refusals(rt: HostRuntime) -> Result<(), Fail> {
+fn limits_of_one_and_refusals(rt: HostRuntime) {
     check(
         &rt,
         rt.alloc(),
         1,
         &[Some(HELLO), None],
         LIMITS_OF_ONE_AND_REFUSALS,
-    )
+    );
 }
 
 const EVENTS_NAME_THEIR_TOPICS: &[Row] = &[
@@ -352,14 +338,14 @@ const EVENTS_NAME_THEIR_TOPICS: &[Row] = &[
 ];
 
 #[test]
-fn events_name_their_topics(rt: HostRuntime) -> Result<(), Fail> {
+fn events_name_their_topics(rt: HostRuntime) {
     check(
         &rt,
         rt.alloc(),
         4096,
         &[Some(HELLO), Some(HELLO)],
         EVENTS_NAME_THEIR_TOPICS,
-    )
+    );
 }
 
 const ONE_SESSION_IN_THREE_MATCHES: &[Row] = &[
@@ -388,14 +374,14 @@ const ONE_SESSION_IN_THREE_MATCHES: &[Row] = &[
 ];
 
 #[test]
-fn one_session_in_three_matches(rt: HostRuntime) -> Result<(), Fail> {
+fn one_session_in_three_matches(rt: HostRuntime) {
     check(
         &rt,
         rt.alloc(),
         4096,
         &[Some(HELLO), Some(HELLO)],
         ONE_SESSION_IN_THREE_MATCHES,
-    )
+    );
 }
 
 const PATTERNS_OF_EMPTY_COMPONENTS: &[Row] = &[
@@ -410,14 +396,14 @@ const PATTERNS_OF_EMPTY_COMPONENTS: &[Row] = &[
 ];
 
 #[test]
-fn patterns_of_empty_components(rt: HostRuntime) -> Result<(), Fail> {
+fn patterns_of_empty_components(rt: HostRuntime) {
     check(
         &rt,
         rt.alloc(),
         4096,
         &[Some(HELLO)],
         PATTERNS_OF_EMPTY_COMPONENTS,
-    )
+    );
 }
 
 const SINGLE_SUBSCRIPTIONS_ARE_LEFT: &[Row] = &[
@@ -452,12 +438,12 @@ const SINGLE_SUBSCRIPTIONS_ARE_LEFT: &[Row] = &[
 ];
 
 #[test]
-fn single_subscriptions_are_left(rt: HostRuntime) -> Result<(), Fail> {
+fn single_subscriptions_are_left(rt: HostRuntime) {
     check(
         &rt,
         rt.alloc(),
         4096,
         &[Some(HELLO)],
         SINGLE_SUBSCRIPTIONS_ARE_LEFT,
-    )
+    );
 }

@@ -1,7 +1,9 @@
 // Rows on registrations: who registers and withdraws, and who is called.
+use crate::check::Check;
 use realm_registrations::Registrations;
 use std::alloc::Global;
 use std::process::Abort;
+use test_checks::check;
 use wamp_ids::{Id, Invoke, Match, Pattern, Uri};
 
 // How a word registers: exactly under a policy, or alone under another match.
@@ -114,13 +116,7 @@ fn is_answered(registrations: &mut Registrations, row: &Row<'_>) -> bool {
 
 fn goes(rt: &impl Abort, registrations: &mut Registrations, rows: &[Row<'_>]) {
     for row in rows {
-        assert!(rt;
-            is_answered(registrations, row),
-            "{} {} {}",
-            row.0,
-            row.1,
-            row.3
-        );
+        check!(rt; is_answered(registrations, row), (row.0, row.1, row.3));
     }
 }
 

@@ -1,7 +1,8 @@
 // Rows on sessions and on the faults of a realm's parts.
+use crate::check::Check;
 use realm_sessions::{RealmFault, Sessions, Transport};
 use std::process::Abort;
-use std::test::Fail;
+use test_checks::{check, check_eq};
 use wamp_ids::Id;
 
 fn transport(node: u8, number: u32) -> Transport {
@@ -110,7 +111,7 @@ fn is_answered(sessions: &mut Sessions, row: &Row) -> bool {
 
 fn goes(rt: &impl Abort, sessions: &mut Sessions) {
     for row in ROWS {
-        assert!(rt; is_answered(sessions, row), "{} {} {}", row.0, row.1, row.2);
+        check!(rt; is_answered(sessions, row), (row.0, row.1, row.2));
     }
 }
 
@@ -132,11 +133,11 @@ fn next_of(sessions: &mut Sessions, session: u64, taken: &[Id]) -> u64 {
 }
 
 // The id behind the session's last invocation, 0 where there is no session.
-fn due_of(sessions: &Sessions, session: u64) -> Result<u64, Fail> {
-    Ok(match sessions.due_invocation(id(session)?) {
+fn due_of(rt: &impl Abort, sessions: &Sessions, session: u64) -> u64 {
+    match sessions.due_invocation(id(rt, session)) {
         Some(invocation) => invocation.get(),
         None => 0,
-    })
+    }
 }
 
 // A session, two ids that are taken, and its next invocation.
@@ -151,81 +152,86 @@ const INVOCATIONS: &[(u64, [u64; 2], u64)] = &[
     (7, [1, 4], 0),
 ];
 
-fn id(number: u64) -> Result<Id, Fail> {
-    Ok(Id::new(number).ok_or("an id")?)
+fn id(rt: &impl Abort, number: u64) -> Id {
+    Id::new(number).expect(rt, "an id")
+}
+
+// Connects a transport.
+fn connect(rt: &impl Abort, sessions: &mut Sessions, transport: Transport) {
+    sessions
+        .connect(transport)
+        .expect(rt, "room for a transport");
 }
 
 // Connects two transports, and opens sessions 5 and 6 there.
-fn open_both(sessions: &mut Sessions) -> Result<(u64, u64), Fail> {
-    sessions.connect(transport(1, 1))?;
-    sessions.connect(transport(1, 2))?;
-    Ok((opened(sessions, 1, 5), opened(sessions, 2, 6)))
+fn open_both(rt: &impl Abort, sessions: &mut Sessions) -> (u64, u64) {
+    connect(rt, sessions, transport(1, 1));
+    connect(rt, sessions, transport(1, 2));
+    (opened(sessions, 1, 5), opened(sessions, 2, 6))
 }
 
 fn is_next(
+    rt: &impl Abort,
     sessions: &mut Sessions,
     session: u64,
     taken: [u64; 2],
     next: u64,
-) -> Result<bool, Fail> {
-    let taken = [id(taken[0])?, id(taken[1])?];
-    Ok(next_of(sessions, session, &taken) == next)
+) -> bool {
+    let taken = [id(rt, taken[0]), id(rt, taken[1])];
+    next_of(sessions, session, &taken) == next
 }
 
-fn hands_out(rt: &impl Abort, sessions: &mut Sessions) -> Result<(), Fail> {
-    assert!(rt; open_both(sessions)? == (5, 6));
-    assert!(rt; due_of(sessions, 5)? == 1);
+fn hands_out(rt: &impl Abort, sessions: &mut Sessions) {
+    check!(rt; open_both(rt, sessions) == (5, 6));
+    check!(rt; due_of(rt, sessions, 5) == 1);
     for (session, taken, next) in INVOCATIONS {
-        assert!(rt; is_next(sessions, *session, *taken, *next)?, "{session}");
+        check!(rt; is_next(rt, sessions, *session, *taken, *next), session);
     }
-    assert!(rt; due_of(sessions, 5)? == 6 && due_of(sessions, 7)? == 0);
-    assert!(rt; place_of(sessions, 5) == 11);
-    Ok(())
+    check!(rt; due_of(rt, sessions, 5) == 6 && due_of(rt, sessions, 7) == 0);
+    check!(rt; place_of(sessions, 5) == 11);
 }
 
 #[test]
-fn hands_out_ids_of_invocations(rt: HostRuntime) -> Result<(), Fail> {
+fn hands_out_ids_of_invocations(rt: HostRuntime) {
     let mut sessions = Sessions::new(rt.alloc(), 2);
-    hands_out(&rt, &mut sessions)
+    hands_out(&rt, &mut sessions);
 }
 
-fn connect_all(sessions: &mut Sessions) -> Result<(), Fail> {
+fn connect_all(rt: &impl Abort, sessions: &mut Sessions) {
     for (node, number) in [(1, 4), (2, 1), (1, 2), (1, 4), (2, 3)] {
-        sessions.connect(transport(node, number))?;
+        connect(rt, sessions, transport(node, number));
     }
-    Ok(())
 }
 
-fn are_of(sessions: &Sessions, node: u8, wanted: &[Transport]) -> Result<bool, Fail> {
-    let found = sessions.of_origin(node)?;
-    Ok(found.as_slice() == wanted)
+fn are_of(rt: &impl Abort, sessions: &Sessions, node: u8, wanted: &[Transport]) -> bool {
+    let found = sessions.of_origin(node).expect(rt, "room for transports");
+    found.as_slice() == wanted
 }
 
 // Whether all transports are there in the order in which they came.
-fn are_in_order(sessions: &Sessions) -> Result<bool, Fail> {
-    let links = sessions.to_vec()?;
+fn are_in_order(rt: &impl Abort, sessions: &Sessions) -> bool {
+    let links = sessions.to_vec().expect(rt, "room for transports");
     let mut numbers: u64 = 0;
     for link in &links {
         numbers = numbers
             .wrapping_mul(10)
             .wrapping_add(link.transport.number as u64);
     }
-    Ok(numbers == 4_123)
+    numbers == 4_123
 }
 
-fn gives_all(rt: &impl Abort, sessions: &mut Sessions) -> Result<(), Fail> {
-    connect_all(sessions)?;
-    assert!(rt; are_of(sessions, 1, &[transport(1, 4), transport(1, 2)])?);
-    assert!(rt; are_of(sessions, 2, &[transport(2, 1), transport(2, 3)])?);
-    assert!(rt; are_of(sessions, 3, &[])?);
-    assert!(rt; are_in_order(sessions)?);
-    Ok(())
+fn gives_all(rt: &impl Abort, sessions: &mut Sessions) {
+    connect_all(rt, sessions);
+    check!(rt; are_of(rt, sessions, 1, &[transport(1, 4), transport(1, 2)]));
+    check!(rt; are_of(rt, sessions, 2, &[transport(2, 1), transport(2, 3)]));
+    check!(rt; are_of(rt, sessions, 3, &[]));
+    check!(rt; are_in_order(rt, sessions));
 }
 
 #[test]
-fn gives_the_transports_of_a_node(rt: HostRuntime) -> Result<(), Fail> {
+fn gives_the_transports_of_a_node(rt: HostRuntime) {
     let mut sessions = Sessions::new(rt.alloc(), 2);
-    gives_all(&rt, &mut sessions)
+    gives_all(&rt, &mut sessions);
 }
 
 // Each fault, its number and its URI.
@@ -264,7 +270,7 @@ const FAULTS: &[(RealmFault, u8, Option<&str>)] = &[
 #[test]
 fn seven_faults_have_uris(rt: HostRuntime) {
     for (fault, number, uri) in FAULTS {
-        assert_eq!(rt; fault.number(), *number);
-        assert_eq!(rt; fault.uri(), *uri);
+        check_eq!(&rt; fault.number(), *number);
+        check_eq!(&rt; fault.uri(), *uri);
     }
 }

@@ -1,6 +1,8 @@
 // Rows on subscriptions.
+use crate::check::Check;
 use realm_subscriptions::{Receiver, Subscriptions};
 use std::process::Abort;
+use test_checks::check;
 use wamp_ids::{Id, Match, Pattern, Uri};
 
 // The id that is answered, or the fault's number; 0 where nothing is asked.
@@ -131,13 +133,7 @@ fn is_answered(subscriptions: &mut Subscriptions, row: &Row) -> bool {
 
 fn goes(rt: &impl Abort, subscriptions: &mut Subscriptions) {
     for row in ROWS {
-        assert!(rt;
-            is_answered(subscriptions, row),
-            "{} {} {}",
-            row.0,
-            row.1,
-            row.2
-        );
+        check!(rt; is_answered(subscriptions, row), (row.0, row.1, row.2));
     }
 }
 

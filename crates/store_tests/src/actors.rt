@@ -3,6 +3,7 @@ ghost use Rattle.std.specs.Prelude.{◌≡◌, All, IfSome};
 ghost use Rattle.mail_table.specs.Seats.{Owns};
 ghost use Rattle.paxos_node.specs.declared.view.Opened.TheVariants.{Never};
 
+use crate::check::Check;
 use crate::sql::{Reopens, new_store};
 use crate::station::{Left, Station, again, number_of, opened};
 use core_tests::{Count, Number};
@@ -10,6 +11,7 @@ use mail_table::{Mail, NodeSeat, Office, found};
 use node_actor::{Keeper, Machine, Members};
 use std::alloc::Global;
 use std::process::Abort;
+use test_checks::check_eq;
 
 // The seat of node 2, one of three.
 fn second(mail: &Mail<Number>, seats: &mut Vec<NodeSeat<Number>>) -> Option<NodeSeat<Number>>
@@ -112,5 +114,5 @@ fn outlives<K: Keeper<Number> + Reopens + Drop>(
 fn a_promise_outlives_its_actor(rt: HostRuntime) {
     let alloc = rt.alloc();
     let (round, fault) = outlives(&rt, alloc, new_store(&rt, alloc));
-    assert_eq!(rt; (round, fault), (5, 66));
+    check_eq!(&rt; (round, fault), (5, 66));
 }

@@ -1,3 +1,4 @@
+use crate::check::Check;
 use crate::sql::{in_memory, opened};
 use acceptor_keeper::{Keeper, KeeperFault};
 use acceptor_store::SqlKeeper;
@@ -7,6 +8,7 @@ use realm_acts::{Act, Id, Read};
 use sqlite::{Alter, Connection};
 use std::alloc::Global;
 use std::process::Abort;
+use test_checks::check_eq;
 use wamp_messages::{UnfitKind, read};
 
 type Sql<S> = SqlKeeper<Act, ActCoder, S>;
@@ -183,7 +185,7 @@ fn asked<S: Alter>(keeper: &mut Sql<S>, changes: &Changes, ask: &Ask) -> Answer 
 fn answers<S: Alter>(rt: &impl Abort, keeper: &mut Sql<S>, changes: &Changes, rows: &[Row]) {
     for (ask, expected) in rows {
         let found = asked(keeper, changes, ask);
-        assert_eq!(rt; found, *expected);
+        check_eq!(rt; found, *expected);
     }
 }
 

@@ -6,6 +6,8 @@ mod actors;
 #[cfg(test)]
 mod acts;
 #[cfg(test)]
+mod check;
+#[cfg(test)]
 mod sql;
 #[cfg(test)]
 mod station;

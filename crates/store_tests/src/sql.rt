@@ -1,3 +1,4 @@
+use crate::check::Check;
 use acceptor_keeper::{Keeper, KeeperFault};
 use acceptor_store::SqlKeeper;
 use command_codec::Coder;
@@ -7,6 +8,7 @@ use sqlite::{Alter, Connection, FileStore, Files, MemStore, Options};
 use sqlite_disk::{Crash, Memory};
 use std::alloc::Global;
 use std::process::Abort;
+use test_checks::check_eq;
 
 pub type Sql<S> = SqlKeeper<Number, Octet, S>;
 
@@ -161,7 +163,7 @@ fn asked<S: Alter>(rt: &impl Abort, alloc: Global, keeper: &mut Sql<S>, ask: &As
 fn answers<S: Alter>(rt: &impl Abort, alloc: Global, keeper: &mut Sql<S>, rows: &[Row<'_>]) {
     for (ask, expected) in rows {
         let found = asked(rt, alloc, keeper, ask);
-        assert_eq!(rt; found, *expected);
+        check_eq!(rt; found, *expected);
     }
 }
 
@@ -323,7 +325,7 @@ const DAMAGES: &[(&str, (u8, u8))] = &[
 fn damage(rt: HostRuntime) {
     for (sql, answers) in DAMAGES {
         let found = damaged_in_memory(&rt, rt.alloc(), sql);
-        assert_eq!(rt; found, *answers, "{sql}");
+        check_eq!(&rt; found, *answers, sql);
     }
 }
 

@@ -1,4 +1,5 @@
 // One session through three nodes, of which the third has a machine that refuses its second input.
+use crate::check::Check;
 use crate::packets::{FIRST, LOG, PACKETS, SECOND};
 use crate::schedule::SESSION;
 use crate::worlds::{has_log, has_sent, run_rows, turn, world_of};
@@ -6,6 +7,7 @@ use cluster_world::World;
 use core_tests::Refuses;
 use std::alloc::Global;
 use std::process::Abort;
+use test_checks::{check, check_eq};
 
 fn refusing(rt: &impl Abort, alloc: Global) -> World<Refuses> {
     world_of(
@@ -19,25 +21,25 @@ fn refusing(rt: &impl Abort, alloc: Global) -> World<Refuses> {
 
 // The run ends at the event in which node 3 would apply the second entry, and so does what is left of it.
 fn stops(rt: &impl Abort, alloc: Global, world: &mut World<Refuses>) {
-    assert_eq!(rt; run_rows(rt, world, alloc, SESSION), Some(20));
-    assert_eq!(rt; run_rows(rt, world, alloc, &SESSION[20..]), Some(0));
-    assert!(rt; has_log(world, 1, &[FIRST]));
-    assert!(rt; has_log(world, 2, &[FIRST, SECOND]));
-    assert!(rt; has_log(world, 3, &[FIRST]));
+    check_eq!(rt; run_rows(rt, world, alloc, SESSION), Some(20));
+    check_eq!(rt; run_rows(rt, world, alloc, &SESSION[20..]), Some(0));
+    check!(rt; has_log(world, 1, &[FIRST]));
+    check!(rt; has_log(world, 2, &[FIRST, SECOND]));
+    check!(rt; has_log(world, 3, &[FIRST]));
 }
 
 // One by one all others happen, but for one more that would teach node 3 the second slot.
 fn goes_on(rt: &impl Abort, alloc: Global, world: &mut World<Refuses>) {
     for index in 20..SESSION.len() {
         let done = turn(rt, world, alloc, &SESSION[index]);
-        assert_eq!(rt; done, index != 20 && index != 30, "{index}");
+        check_eq!(rt; done, index != 20 && index != 30, index);
     }
-    assert!(rt; has_sent(rt, world, alloc, PACKETS));
-    assert!(rt; has_log(world, 1, LOG));
-    assert!(rt; has_log(world, 2, LOG));
-    assert!(rt; has_log(world, 3, &[FIRST]));
+    check!(rt; has_sent(rt, world, alloc, PACKETS));
+    check!(rt; has_log(world, 1, LOG));
+    check!(rt; has_log(world, 2, LOG));
+    check!(rt; has_log(world, 3, &[FIRST]));
     for node in 1..=3 {
-        assert!(rt; world.is_up(node));
+        check!(rt; world.is_up(node));
     }
 }
 

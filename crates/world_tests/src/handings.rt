@@ -1,4 +1,5 @@
 // Who was told something: transports of three nodes, whose machines add up.
+use crate::check::Check;
 use crate::schedule::Turn;
 use crate::session::counts;
 use crate::worlds::{Told, flush, hands_out, turn};
@@ -6,6 +7,7 @@ use cluster_world::World;
 use core_tests::Count;
 use std::alloc::Global;
 use std::process::Abort;
+use test_checks::check;
 
 // Acts of transports of three nodes; each is delivered to its end before the next.
 const ACTS: &[Turn] = &[
@@ -26,13 +28,13 @@ const TOLD: &[Told] = &[
 ];
 
 fn tells_in_order(rt: &impl Abort, alloc: Global, world: &mut World<Count>) {
-    assert!(rt; hands_out(world, &[]));
+    check!(rt; hands_out(world, &[]));
     for index in 0..ACTS.len() {
         let done = world.sent();
-        assert!(rt; turn(rt, world, alloc, &ACTS[index]));
-        assert!(rt; flush(rt, world, alloc, done));
+        check!(rt; turn(rt, world, alloc, &ACTS[index]));
+        check!(rt; flush(rt, world, alloc, done));
     }
-    assert!(rt; hands_out(world, TOLD));
+    check!(rt; hands_out(world, TOLD));
 }
 
 #[test]

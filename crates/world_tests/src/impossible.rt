@@ -1,4 +1,5 @@
 // Events that are not possible: each leaves the world as it is.
+use crate::check::Check;
 use crate::schedule::{SESSION, Turn};
 use crate::session::{counts, goes, is_behind};
 use crate::worlds::{shown, turn};
@@ -6,6 +7,7 @@ use cluster_world::World;
 use core_tests::Count;
 use std::alloc::Global;
 use std::process::Abort;
+use test_checks::check;
 
 // Of nodes that are up, and of what is no member.
 const UP: &[Turn] = &[
@@ -41,17 +43,17 @@ const DOWN: &[Turn] = &[
 fn stays(rt: &impl Abort, alloc: Global, world: &mut World<Count>, turns: &[Turn]) {
     let before = shown(world);
     for row in turns {
-        assert!(rt; turn(rt, world, alloc, row), "{} {}", row.0, row.1);
-        assert!(rt; shown(world) == before, "{} {}", row.0, row.1);
+        check!(rt; turn(rt, world, alloc, row), (row.0, row.1));
+        check!(rt; shown(world) == before, (row.0, row.1));
     }
 }
 
 fn stays_down(rt: &impl Abort, alloc: Global, world: &mut World<Count>) {
     goes(rt, alloc, world, &[("crash", 3, 0, 0)]);
-    assert!(rt; shown(world) == (38, [4, 4, 0], [true, true, false], 2));
+    check!(rt; shown(world) == (38, [4, 4, 0], [true, true, false], 2));
     stays(rt, alloc, world, DOWN);
     goes(rt, alloc, world, &[("restart", 3, 0, 0)]);
-    assert!(rt; shown(world) == (38, [4, 4, 0], [true, true, true], 2));
+    check!(rt; shown(world) == (38, [4, 4, 0], [true, true, true], 2));
 }
 
 fn stays_up(rt: &impl Abort, alloc: Global, world: &mut World<Count>) {

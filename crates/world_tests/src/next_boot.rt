@@ -1,4 +1,5 @@
 // One session through three nodes, whose machines tell each sum also to the transport of that number in its node's next boot.
+use crate::check::Check;
 use crate::packets::{FIRST, FIVE, Held, SECOND, SIX};
 use crate::schedule::{SESSION, Turn};
 use crate::worlds::{Told, flush, hands_out, has_log, run_rows, turn, was_told, world_of};
@@ -6,6 +7,7 @@ use cluster_world::World;
 use core_tests::Foretells;
 use std::alloc::Global;
 use std::process::Abort;
+use test_checks::{check, check_eq};
 
 // Three nodes with such machines.
 fn foretelling(rt: &impl Abort, alloc: Global) -> World<Foretells> {
@@ -20,12 +22,12 @@ fn foretelling(rt: &impl Abort, alloc: Global) -> World<Foretells> {
 
 // What the transport of node 2 was told in boot 1, and the one with its number in boot 2.
 fn told(rt: &impl Abort, world: &World<Foretells>, first: &[u64], second: &[u64]) {
-    assert!(rt; was_told(world, 2, 1, 1, first));
-    assert!(rt; was_told(world, 2, 2, 1, second));
+    check!(rt; was_told(world, 2, 1, 1, first));
+    check!(rt; was_told(world, 2, 2, 1, second));
 }
 
 fn session(rt: &impl Abort, alloc: Global, world: &mut World<Foretells>) {
-    assert_eq!(rt; run_rows(rt, world, alloc, SESSION), None);
+    check_eq!(rt; run_rows(rt, world, alloc, SESSION), None);
     told(rt, world, &[5, 11], &[]);
 }
 
@@ -39,18 +41,18 @@ const BACK: &[Turn] = &[("crash", 2, 0, 0), ("restart", 2, 0, 0)];
 fn comes_back(rt: &impl Abort, alloc: Global, world: &mut World<Foretells>) {
     session(rt, alloc, world);
     for row in BACK {
-        assert!(rt; turn(rt, world, alloc, row));
+        check!(rt; turn(rt, world, alloc, row));
     }
-    assert!(rt; world.is_up(2));
-    assert!(rt; has_log(world, 2, &[]));
+    check!(rt; world.is_up(2));
+    check!(rt; has_log(world, 2, &[]));
     told(rt, world, &[5, 11], &[]);
-    assert!(rt; turn(rt, world, alloc, &("tick", 2, 0, 0)));
-    assert!(rt; flush(rt, world, alloc, 38));
+    check!(rt; turn(rt, world, alloc, &("tick", 2, 0, 0)));
+    check!(rt; flush(rt, world, alloc, 38));
     for node in 1..=3 {
-        assert!(rt; has_log(world, node, LOG_AFTER), "{node}");
+        check!(rt; has_log(world, node, LOG_AFTER), node);
     }
     told(rt, world, &[5, 11], &[5, 11]);
-    assert!(rt; hands_out(world, BOTH));
+    check!(rt; hands_out(world, BOTH));
 }
 
 #[test]

@@ -7,6 +7,7 @@ ghost use Rattle.paxos_node.specs.Adopting.{Fits, Planned};
 ghost use Rattle.paxos_node.specs.declared.event.Event.TheVariants.{Start, Tick};
 ghost use Rattle.std.specs.Prelude.{◌≡◌, ◌≤◌, ℕ, eqb, All, IfOk, IfSome, OnOk, true, false};
 
+use crate::check::Check;
 use core_tests::Number;
 use mail_table::{Mail, NodeSeat, Office, found};
 use paxos_node::{Event, Node, Outcome, Packets};
@@ -14,6 +15,7 @@ use paxos_packets::{Kind, Members, Packet, Rows, Votes};
 use std::alloc::Global;
 use std::process::Abort;
 use std::test::Fail;
+use test_checks::check;
 
 // The node of this seat, opened for the first time.
 pub(crate) fn opened(
@@ -114,14 +116,14 @@ fn pass(
     requires first { Has one.old.part.seen.sent first × (first.addressee ≡ 2) }
     requires second { Has one.old.part.seen.sent second × (second.addressee ≡ 2) }
 {
-    assert!(rt; mail.post(one, 2, first).is_ok());
+    check!(rt; mail.post(one, 2, first).is_ok());
     let Err(second) = mail.post(one, 2, second) else {
         panic!(rt; "two packets in one box")
     };
-    assert!(rt; is_ask(mail.fetch(two, 1)) == Some(true));
-    assert!(rt; mail.post(one, 2, second).is_ok());
-    assert!(rt; is_ask(mail.fetch(two, 1)) == Some(false));
-    assert!(rt; is_ask(mail.fetch(two, 1)).is_none());
+    check!(rt; is_ask(mail.fetch(two, 1)) == Some(true));
+    check!(rt; mail.post(one, 2, second).is_ok());
+    check!(rt; is_ask(mail.fetch(two, 1)) == Some(false));
+    check!(rt; is_ask(mail.fetch(two, 1)).is_none());
 }
 
 // The seats of nodes 1 and 2, of three.

@@ -1,4 +1,5 @@
 // One session through three nodes, whose machines add up: at once, one by one, with altered packets between, and each packet twice.
+use crate::check::Check;
 use crate::packets::{FIRST, FIVE, LOG, Mail, PACKETS, SECOND, SIX, packet_of};
 use crate::schedule::{SESSION, Turn};
 use crate::worlds::{
@@ -11,6 +12,7 @@ use paxos_packets::Transport;
 use replica_machine::Machine;
 use std::alloc::Global;
 use std::process::Abort;
+use test_checks::{check, check_eq};
 
 // Three nodes whose machines add up.
 pub fn counts(rt: &impl Abort, alloc: Global) -> World<Count> {
@@ -44,29 +46,29 @@ const STRANGERS: &[u8] = &[0, 4, 255];
 // What each world shows behind the session: all nodes are up with its log, and no other is.
 fn has_logs<M: Machine<Body = Number>>(rt: &impl Abort, world: &World<M>) {
     for node in 1..=3 {
-        assert!(rt; world.is_up(node), "{node}");
-        assert!(rt; has_log(world, node, LOG), "{node}");
+        check!(rt; world.is_up(node), node);
+        check!(rt; has_log(world, node, LOG), node);
     }
     for node in STRANGERS {
-        assert!(rt; !world.is_up(*node), "{node}");
-        assert!(rt; has_log(world, *node, &[]), "{node}");
+        check!(rt; !world.is_up(*node), node);
+        check!(rt; has_log(world, *node, &[]), node);
     }
 }
 
 // The transport of node 2 was told 5 and then 11, and no other was told anything.
 fn has_told<M: Machine<Say = (Transport, u64)>>(rt: &impl Abort, world: &World<M>) {
-    assert!(rt; was_told(world, 2, 1, 1, &[5, 11]));
+    check!(rt; was_told(world, 2, 1, 1, &[5, 11]));
     for (node, boot, number) in UNTOLD {
-        assert!(rt; was_told(world, *node, *boot, *number, &[]), "{node}");
+        check!(rt; was_told(world, *node, *boot, *number, &[]), node);
     }
-    assert!(rt; hands_out(world, TOLD));
+    check!(rt; hands_out(world, TOLD));
 }
 
 // The world is the one behind the session.
 pub fn is_behind(rt: &impl Abort, alloc: Global, world: &World<Count>) {
-    assert!(rt; has_sent(rt, world, alloc, PACKETS));
-    assert!(rt; world.packet(0).is_none());
-    assert!(rt; world.packet(39).is_none());
+    check!(rt; has_sent(rt, world, alloc, PACKETS));
+    check!(rt; world.packet(0).is_none());
+    check!(rt; world.packet(39).is_none());
     has_logs(rt, world);
     has_told(rt, world);
 }
@@ -79,14 +81,14 @@ fn a_session_at_once(rt: HostRuntime) {
 }
 
 fn at_once(rt: &impl Abort, alloc: Global, world: &mut World<Count>) {
-    assert_eq!(rt; run_rows(rt, world, alloc, SESSION), None);
+    check_eq!(rt; run_rows(rt, world, alloc, SESSION), None);
     is_behind(rt, alloc, world)
 }
 
 // The events of rows happen, one by one.
 pub fn goes(rt: &impl Abort, alloc: Global, world: &mut World<Count>, turns: &[Turn]) {
     for row in turns {
-        assert!(rt; turn(rt, world, alloc, row), "{} {}", row.0, row.1);
+        check!(rt; turn(rt, world, alloc, row), (row.0, row.1));
     }
 }
 
@@ -189,8 +191,8 @@ fn alters(rt: &impl Abort, alloc: Global, world: &mut World<Count>, number: u8) 
     let before = shown(world);
     for (like, mail) in ALTERED {
         if *like == number {
-            assert!(rt; takes_mail(rt, alloc, world, mail));
-            assert!(rt; shown(world) == before, "{number}");
+            check!(rt; takes_mail(rt, alloc, world, mail));
+            check!(rt; shown(world) == before, number);
         }
     }
 }
@@ -200,7 +202,7 @@ fn with_altered(rt: &impl Abort, alloc: Global, world: &mut World<Count>) {
         if row.0 == "deliver" {
             alters(rt, alloc, world, row.1);
         }
-        assert!(rt; turn(rt, world, alloc, row), "{} {}", row.0, row.1);
+        check!(rt; turn(rt, world, alloc, row), (row.0, row.1));
     }
     is_behind(rt, alloc, world)
 }
@@ -218,8 +220,8 @@ fn flush_twice(rt: &impl Abort, alloc: Global, world: &mut World<Count>, from: u
         if number >= world.sent() {
             break;
         }
-        assert!(rt; deliver(rt, world, alloc, number + 1));
-        assert!(rt; deliver(rt, world, alloc, number + 1));
+        check!(rt; deliver(rt, world, alloc, number + 1));
+        check!(rt; deliver(rt, world, alloc, number + 1));
     }
     world.sent()
 }
@@ -232,10 +234,10 @@ const TAKES: &[Turn] = &[("take", 2, 1, 5), ("take", 2, 1, 6)];
 fn twice(rt: &impl Abort, alloc: Global, world: &mut World<Count>) {
     goes(rt, alloc, world, BEGINS);
     let begun = flush_twice(rt, alloc, world, 0);
-    assert_eq!(rt; begun, 2 + 4 + 4 + 8);
+    check_eq!(rt; begun, 2 + 4 + 4 + 8);
     goes(rt, alloc, world, TAKES);
     let done = flush_twice(rt, alloc, world, begun);
-    assert_eq!(rt; done, begun + 2 + 3 * 12);
+    check_eq!(rt; done.checked_sub(begun), Some(2 + 3 * 12));
     has_logs(rt, world);
     has_told(rt, world);
 }
@@ -249,5 +251,5 @@ fn what_is_delivered_twice_takes_effect_once(rt: HostRuntime) {
 
 #[test]
 fn want_of_memory_has_a_number(rt: HostRuntime) {
-    assert_eq!(rt; Memory.number(), 60);
+    check_eq!(&rt; Memory.number(), 60);
 }

@@ -1,11 +1,13 @@
 ghost use Rattle.std.specs.Prelude.{◌≡◌, ◌≤◌, All};
 ghost use Rattle.mail_table.specs.Seats.{Owns};
 
+use crate::check::Check;
 use core_tests::Number;
 use mail_table::{Mail, Memory, NodeSeat, Office, Worn, found};
 use paxos_packets::Members;
 use std::process::Abort;
 use std::test::Fail;
+use test_checks::{check, check_eq};
 
 // The last seat is node 3's, is the table's, and finds nothing in its boxes.
 fn finds_nothing(rt: &impl Abort, mail: &Mail<Number>, seats: &mut Vec<NodeSeat<Number>>)
@@ -15,10 +17,10 @@ fn finds_nothing(rt: &impl Abort, mail: &Mail<Number>, seats: &mut Vec<NodeSeat<
     let Some(mut seat) = seats.pop() else {
         panic!(rt; "no seat")
     };
-    assert_eq!(rt; seat.node(), 3);
-    assert!(rt; mail.owns(&seat));
-    assert!(rt; mail.fetch(&mut seat, 1).is_none());
-    assert!(rt; mail.fetch(&mut seat, 2).is_none());
+    check_eq!(rt; seat.node(), 3);
+    check!(rt; mail.owns(&seat));
+    check!(rt; mail.fetch(&mut seat, 1).is_none());
+    check!(rt; mail.fetch(&mut seat, 2).is_none());
 }
 
 #[test]
@@ -26,7 +28,7 @@ fn an_empty_box_gives_nothing(rt: HostRuntime) -> Result<(), Fail> {
     let members = Members::new(3).ok_or("3 members")?;
     let mut office = Office::new();
     let (mail, mut seats) = found(rt.alloc(), &mut office, members)?;
-    assert_eq!(rt; seats.len(), 3);
+    check_eq!(&rt; seats.len(), 3);
     finds_nothing(&rt, &mail, &mut seats);
     Ok(())
 }
@@ -39,7 +41,7 @@ fn all_seats_are_gathered(rt: HostRuntime) -> Result<(), Fail> {
     let Ok(lengths) = mail.gather(seats) else {
         panic!(rt; "not gathered")
     };
-    assert!(rt; lengths == [0; 7]);
+    check!(&rt; lengths == [0; 7]);
     Ok(())
 }
 
@@ -52,7 +54,7 @@ fn a_missing_seat_hands_all_back(rt: HostRuntime) -> Result<(), Fail> {
     let Err((_mail, seats)) = mail.gather(seats) else {
         panic!(rt; "gathered")
     };
-    assert_eq!(rt; seats.len(), 2);
+    check_eq!(&rt; seats.len(), 2);
     Ok(())
 }
 
@@ -84,7 +86,7 @@ fn swap_last(
     let Some(foreign) = others.pop() else {
         panic!(rt; "no seat of the other table")
     };
-    assert!(rt; seats.push(foreign).is_ok());
+    check!(rt; seats.push(foreign).is_ok());
 }
 
 // A table and its seats, as `found` gives them.
@@ -101,8 +103,8 @@ fn gather_mixed(rt: &impl Abort, mine: Founded, other: Founded)
     let Err((mail, seats)) = mail.gather(seats) else {
         panic!(rt; "gathered")
     };
-    assert_eq!(rt; seats.len(), 3);
-    assert_eq!(rt; count_owned(&mail, seats.as_slice()), 2);
+    check_eq!(rt; seats.len(), 3);
+    check_eq!(rt; count_owned(&mail, seats.as_slice()), 2);
 }
 
 #[test]
@@ -117,6 +119,6 @@ fn a_foreign_seat_hands_all_back(rt: HostRuntime) -> Result<(), Fail> {
 
 #[test]
 fn faults_of_a_table_have_numbers(rt: HostRuntime) {
-    assert_eq!(rt; Memory.number(), 67);
-    assert_eq!(rt; Worn.number(), 68);
+    check_eq!(&rt; Memory.number(), 67);
+    check_eq!(&rt; Worn.number(), 68);
 }

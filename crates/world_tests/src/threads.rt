@@ -5,6 +5,7 @@ ghost use Rattle.world_tests.specs.Standing.{Knows};
 ghost use Rattle.paxos_node.specs.declared.view.Opened.TheVariants.{Never};
 ghost use Rattle.std.specs.Prelude.{◌≡◌, ◌≤◌, All};
 
+use crate::check::Check;
 use crate::posting::{for_second, opened, stepped};
 use core_tests::Number;
 use mail_table::{Mail, NodeSeat, Office, found};
@@ -15,6 +16,7 @@ use std::process::Abort;
 use std::test::Fail;
 use std::thread;
 use std::thread::Threads;
+use test_checks::check;
 
 // How many packets are posted at most, and how often a post is tried, and a fetch.
 const PACKETS: u64 = 100;
@@ -116,8 +118,8 @@ fn pass_between(
         move || second_thread(mail, two),
     );
     let posted = posted?;
-    assert!(rt; 0 < posted && posted <= PACKETS);
-    assert!(rt; came <= posted && posted <= came.saturating_add(1));
+    check!(rt; 0 < posted && posted <= PACKETS);
+    check!(rt; came <= posted && posted <= came.saturating_add(1));
     Ok(())
 }
 

@@ -2,7 +2,7 @@
 // they live through. What cannot be had, as memory or a boot, ends the test at once, so that no way out drops an actor.
 ghost use Rattle.std.specs.Prelude.{◌≡◌, All, false};
 ghost use Rattle.mail_table.specs.Seats.{Owns};
-ghost use Rattle.run_tests.specs.Fresh.{IsFresh};
+ghost use Rattle.actor_tests.specs.Fresh.{IsFresh};
 
 use crate::hearing::{Heard, hear};
 use mail_table::{Mail, NodeSeat, Office, found};

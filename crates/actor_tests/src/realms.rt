@@ -2,10 +2,12 @@
 ghost use Rattle.std.specs.Prelude.{◌≡◌, false};
 ghost use Rattle.realm_machine.specs.Machine.{has_failed};
 
+use crate::check::Check;
 use realm_machine::{Act, Id, Limits, Out, Realm, Say, Shared, Transport};
 use std::alloc::Global;
 use std::panic::Expect;
 use std::process::Abort;
+use test_checks::check;
 use wamp_messages::{Memory, read, write};
 
 const LIMITS: Limits = Limits {
@@ -60,8 +62,8 @@ fn is_said(rt: &impl Abort, alloc: Global, say: &Say, want: &str) -> bool {
 
 /// Asserts that these texts were said to the transport 1 of node 2 in its boot 1, and nothing else: how they begin.
 pub fn are_said(rt: &impl Abort, alloc: Global, says: &[Say], wants: &[&str]) {
-    assert!(rt; says.len() == wants.len());
+    check!(rt; says.len() == wants.len());
     for (say, want) in says.iter().zip(wants) {
-        assert!(rt; is_said(rt, alloc, say, want));
+        check!(rt; is_said(rt, alloc, say, want));
     }
 }

@@ -1,8 +1,10 @@
 // When a node ticks, begins a ballot and suspects another.
+use crate::check::Check;
 use paxos_packets::Members;
 use serve_ticks::{Due, Ticks};
 use std::panic::Expect;
 use std::process::Abort;
+use test_checks::check;
 
 // So many turns without a packet.
 fn rest(ticks: &mut Ticks, turns: u64, is_pending: bool) {
@@ -40,24 +42,24 @@ type Row = (u64, bool, Option<u8>, (u64, u64, u64));
 
 fn go_over(rt: &impl Abort, ticks: &mut Ticks, rows: &[Row]) {
     for (times, is_pending, hears, due) in rows {
-        assert!(rt; over(ticks, *times, *is_pending, *hears) == *due);
+        check!(rt; over(ticks, *times, *is_pending, *hears) == *due);
     }
 }
 
 // Node 1 begins a ballot at once.
 fn starts_at_once(rt: &impl Abort, members: Members) {
     let mut first = Ticks::new(1, members);
-    assert!(rt; first.next() == Some(Due::Start));
-    assert!(rt; first.next().is_none());
+    check!(rt; first.next() == Some(Due::Start));
+    check!(rt; first.next().is_none());
 }
 
 // The first tick.
 fn ticks_first(rt: &impl Abort, ticks: &mut Ticks) {
     rest(ticks, 63, false);
-    assert!(rt; ticks.next().is_none());
+    check!(rt; ticks.next().is_none());
     rest(ticks, 1, false);
-    assert!(rt; ticks.next() == Some(Due::Tick));
-    assert!(rt; ticks.next().is_none());
+    check!(rt; ticks.next() == Some(Due::Tick));
+    check!(rt; ticks.next().is_none());
 }
 
 // When ticks and ballots are due.

@@ -2,6 +2,7 @@
 ghost use Rattle.mail_table.specs.Seats.{Owns};
 
 use crate::actors::{Life, all_turns, live};
+use crate::check::Check;
 use crate::hearing::{Heard, Told, hear, is_log};
 use crate::realms::{are_said, realm, said};
 use acceptor_keeper::MemKeeper;
@@ -10,6 +11,7 @@ use node_actor::{Actor, Keeper, Machine};
 use realm_machine::{Act, Realm, Say};
 use std::alloc::Global;
 use std::process::Abort;
+use test_checks::check;
 
 type Serving = Actor<Realm, MemKeeper<Act>>;
 
@@ -139,7 +141,7 @@ fn is_lost<M: Machine, K: Keeper<M::Body>>(
 {
     first_does(rt, mail, one, heard, Does::SuspectsTwo);
     all_turns(rt, mail, one, two, three, heard);
-    assert!(rt; heard.faults.as_slice().starts_with(&[(2, 73), (2, 71)]));
+    check!(rt; heard.faults.as_slice().starts_with(&[(2, 73), (2, 71)]));
     is_log(rt, one.log(), FIVE);
     is_log(rt, two.log(), &[]);
     is_log(rt, three.log(), FIVE);
@@ -166,7 +168,7 @@ fn lives<M: Machine, K: Keeper<M::Body>>(
 {
     joins(rt, mail, one, two, three, heard, connect, hello);
     have_log(rt, one, two, three, FOUR);
-    assert!(rt; heard.faults.is_empty());
+    check!(rt; heard.faults.is_empty());
     if let Fate::Stays = fate {
         return false;
     }
@@ -264,7 +266,7 @@ impl<R: Abort> Life<Realm, MemKeeper<Act>> for Session<'_, R> {
     }
 
     fn end(&self, heard: &Heard<Say>, lengths: &[u64; 7]) {
-        assert!(self.rt; lengths == self.lengths);
+        check!(self.rt; lengths == self.lengths);
         are_said(self.rt, self.alloc, heard.says.as_slice(), WELCOME);
         are_said(self.rt, self.alloc, heard.lost.as_slice(), self.last);
     }

@@ -1,9 +1,11 @@
+use crate::check::Check;
 use act_codec::ActCoder;
 use command_codec::{Entry, put_entry, take_entry};
 use paxos_packets::{Body, Shared};
 use realm_acts::{Act, Read};
-use std::alloc::{AllocError, Global};
-use std::test::Fail;
+use std::alloc::Global;
+use std::process::Abort;
+use test_checks::{check, check_eq};
 use wamp_ids::Id;
 use wamp_messages::{Message, UnfitKind};
 
@@ -16,18 +18,22 @@ const FRONT: [u8; 22] = [
 const SAID: [u8; 9] = [2, 0, 0, 0, 0, 0, 0, 0, 5];
 
 // An Item whose body begins with these octets, and goes on with the text.
-fn item(alloc: Global, body: &[u8], text: &str) -> Result<Vec<u8>, AllocError> {
-    let mut octets = Vec::from_slice(alloc, &FRONT)?;
-    octets.extend_from_slice(body)?;
-    octets.extend_from_slice(text.as_bytes())?;
-    Ok(octets)
+fn item(rt: &impl Abort, alloc: Global, body: &[u8], text: &str) -> Vec<u8> {
+    let mut octets = Vec::from_slice(alloc, &FRONT).expect(rt, "room for an entry");
+    octets
+        .extend_from_slice(body)
+        .expect(rt, "room for an entry");
+    octets
+        .extend_from_slice(text.as_bytes())
+        .expect(rt, "room for an entry");
+    octets
 }
 
 // An Item that says what these octets and the text are read as.
-fn said(alloc: Global, read: &[u8], text: &str) -> Result<Vec<u8>, AllocError> {
-    let mut body = Vec::from_slice(alloc, &SAID)?;
-    body.extend_from_slice(read)?;
-    item(alloc, body.as_slice(), text)
+fn said(rt: &impl Abort, alloc: Global, read: &[u8], text: &str) -> Vec<u8> {
+    let mut body = Vec::from_slice(alloc, &SAID).expect(rt, "room for a body");
+    body.extend_from_slice(read).expect(rt, "room for a body");
+    item(rt, alloc, body.as_slice(), text)
 }
 
 // What the octets are taken as: the number of the fault, the letter of the act where the entry is put as these octets again, or 0.
@@ -76,7 +82,7 @@ fn read_letter(read: &Read) -> u8 {
 }
 
 #[test]
-fn acts_are_read_from_octets(rt: HostRuntime) -> Result<(), Fail> {
+fn acts_are_read_from_octets(rt: HostRuntime) {
     let alloc = rt.alloc();
     let rows: [(&[u8], u8); 7] = [
         (&[0], b'C'),
@@ -88,14 +94,13 @@ fn acts_are_read_from_octets(rt: HostRuntime) -> Result<(), Fail> {
         (&[2, 0, 33], 43),
     ];
     for (body, wanted) in rows {
-        let octets = item(alloc, body, "")?;
-        assert_eq!(rt; answer(alloc, octets.as_slice()), wanted);
+        let octets = item(&rt, alloc, body, "");
+        check_eq!(&rt; answer(alloc, octets.as_slice()), wanted);
     }
-    Ok(())
 }
 
 #[test]
-fn messages_stand_as_they_are_written(rt: HostRuntime) -> Result<(), Fail> {
+fn messages_stand_as_they_are_written(rt: HostRuntime) {
     let alloc = rt.alloc();
     let rows: [(u8, &str, u8); 8] = [
         (15, "[32,1,{},\"a.b\"]", b'G'),
@@ -108,14 +113,13 @@ fn messages_stand_as_they_are_written(rt: HostRuntime) -> Result<(), Fail> {
         (24, "[70,1,{\"progress\":true}]", 43),
     ];
     for (length, text, wanted) in rows {
-        let octets = said(alloc, &[0, 0, 0, 0, length], text)?;
-        assert_eq!(rt; answer(alloc, octets.as_slice()), wanted);
+        let octets = said(&rt, alloc, &[0, 0, 0, 0, length], text);
+        check_eq!(&rt; answer(alloc, octets.as_slice()), wanted);
     }
-    Ok(())
 }
 
 #[test]
-fn unfit_requests_and_faults_have_their_octets(rt: HostRuntime) -> Result<(), Fail> {
+fn unfit_requests_and_faults_have_their_octets(rt: HostRuntime) {
     let alloc = rt.alloc();
     let rows: [(&[u8], u8); 9] = [
         (&[1, 16, 0, 0, 0, 0, 0, 0, 0, 1, 1], b'Q'),
@@ -129,32 +133,28 @@ fn unfit_requests_and_faults_have_their_octets(rt: HostRuntime) -> Result<(), Fa
         (&[3], 42),
     ];
     for (read, wanted) in rows {
-        let octets = said(alloc, read, "")?;
-        assert_eq!(rt; answer(alloc, octets.as_slice()), wanted);
+        let octets = said(&rt, alloc, read, "");
+        check_eq!(&rt; answer(alloc, octets.as_slice()), wanted);
     }
-    Ok(())
 }
 
 // An unfit request, said with draw 5.
-fn unfit(alloc: Global, kind: UnfitKind, quiet: bool) -> Option<Entry<Act>> {
-    let request = Id::new(1)?;
-    let read = Shared::new(
-        alloc,
-        Read::Unfit {
-            kind,
-            request,
-            quiet,
-        },
-    )
-    .ok()?;
-    let draw = Id::new(5)?;
-    Some(Entry::Item {
+fn unfit(rt: &impl Abort, alloc: Global, kind: UnfitKind, quiet: bool) -> Entry<Act> {
+    let request = Id::new(1).expect(rt, "an id");
+    let read = Read::Unfit {
+        kind,
+        request,
+        quiet,
+    };
+    let read = Shared::new(alloc, read).expect(rt, "room for what was read");
+    let draw = Id::new(5).expect(rt, "an id");
+    Entry::Item {
         node: 2,
         boot: 1,
         seq: 1,
         transport: 1,
         body: Act::Said { draw, read },
-    })
+    }
 }
 
 // The number of the fault for which the entry is not put, 0 where it is.
@@ -166,16 +166,12 @@ fn refusal(alloc: Global, entry: &Entry<Act>) -> u8 {
     }
 }
 
-// The same for an unfit request; 1 where there is none.
-fn unfit_refusal(alloc: Global, kind: UnfitKind, quiet: bool) -> u8 {
-    match unfit(alloc, kind, quiet) {
-        Some(entry) => {
-            let number = refusal(alloc, &entry);
-            drop(entry);
-            number
-        }
-        None => 1,
-    }
+// The same for an unfit request.
+fn unfit_refusal(rt: &impl Abort, alloc: Global, kind: UnfitKind, quiet: bool) -> u8 {
+    let entry = unfit(rt, alloc, kind, quiet);
+    let number = refusal(alloc, &entry);
+    drop(entry);
+    number
 }
 
 #[test]
@@ -189,7 +185,7 @@ fn only_a_publish_is_quiet(rt: HostRuntime) {
         (UnfitKind::Yield, true, 43),
     ];
     for (kind, quiet, wanted) in rows {
-        assert_eq!(rt; unfit_refusal(alloc, kind, quiet), wanted);
+        check_eq!(&rt; unfit_refusal(&rt, alloc, kind, quiet), wanted);
     }
 }
 
@@ -226,11 +222,10 @@ fn is_copied(alloc: Global, entry: &Entry<Act>) -> bool {
 }
 
 #[test]
-fn what_was_said_comes_with_its_draw(rt: HostRuntime) -> Result<(), Fail> {
+fn what_was_said_comes_with_its_draw(rt: HostRuntime) {
     let alloc = rt.alloc();
-    let octets = said(alloc, &[0, 0, 0, 0, 15], "[32,1,{},\"a.b\"]")?;
-    let entry = take_entry::<Act, ActCoder>(alloc, octets.as_slice())?;
-    assert!(rt; is_subscribe(&entry, 5));
-    assert!(rt; is_copied(alloc, &entry));
-    Ok(())
+    let octets = said(&rt, alloc, &[0, 0, 0, 0, 15], "[32,1,{},\"a.b\"]");
+    let entry = take_entry::<Act, ActCoder>(alloc, octets.as_slice()).expect(&rt, "an entry");
+    check!(&rt; is_subscribe(&entry, 5));
+    check!(&rt; is_copied(alloc, &entry));
 }

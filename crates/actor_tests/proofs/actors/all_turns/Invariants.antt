@@ -1,5 +1,5 @@
 use Rattle.mail_table.specs.Seats.{Owns}
-use Rattle.run_tests.proofs.actors.all_turns.Given as goal
+use Rattle.actor_tests.proofs.actors.all_turns.Given as goal
 
 abbrev pub invariant-loop : goal.invariant-loop
 invariant-loop g l = Owns l.mail l.one.seat × Owns l.mail l.two.seat × Owns l.mail l.three.seat

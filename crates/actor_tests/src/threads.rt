@@ -2,6 +2,7 @@
 ghost use Rattle.mail_table.specs.Seats.{Owns};
 
 use crate::actors::{Life, live};
+use crate::check::Check;
 use crate::hearing::Heard;
 use acceptor_keeper::MemKeeper;
 use actor_run::{Feed, Gate, Seen, run_node};
@@ -14,6 +15,7 @@ use std::process::Abort;
 use std::sync::atomic::{AtomicU64, Ordering};
 use std::thread;
 use std::thread::{Threads, join_mut};
+use test_checks::{check, check_eq};
 
 type Adding = Actor<Count, MemKeeper<Number>>;
 
@@ -212,9 +214,9 @@ fn run_all<R: Threads>(
 
 // Asserts that a node answered all its acts, in order, and that its log has them; gives how long the log was.
 fn ended(rt: &impl Abort, ran: Ran) -> u64 {
-    assert_eq!(rt; ran.answered, ACTS);
-    assert!(rt; !ran.strange);
-    assert!(rt; ACTS as usize <= ran.length);
+    check_eq!(rt; ran.answered, ACTS);
+    check!(rt; !ran.strange);
+    check!(rt; ACTS as usize <= ran.length);
     ran.length as u64
 }
 
@@ -263,7 +265,7 @@ impl<R: Abort + Threads> Life<Count, MemKeeper<Number>> for Side<'_, R> {
     ) {}
 
     fn end(&self, _heard: &Heard<Sum>, lengths: &[u64; 7]) {
-        assert!(self.rt; *lengths == self.lengths);
+        check!(self.rt; *lengths == self.lengths);
     }
 }
 

@@ -1,9 +1,10 @@
 // Outboxes that are full.
 ghost use Rattle.std.specs.Prelude.{◌≡◌, ◌≤◌, All, false};
 ghost use Rattle.mail_table.specs.Seats.{Owns};
-ghost use Rattle.run_tests.specs.Fresh.{IsFresh};
+ghost use Rattle.actor_tests.specs.Fresh.{IsFresh};
 
 use crate::actors::{gathered, last_seat, opened, put_seat, seat_of};
+use crate::check::Check;
 use crate::hearing::number;
 use acceptor_keeper::MemKeeper;
 use core_tests::{Count, Number};
@@ -13,6 +14,7 @@ use paxos_packets::Kind;
 use std::alloc::Global;
 use std::panic::Expect;
 use std::process::Abort;
+use test_checks::{check, check_eq};
 
 // How often the first node turns at most.
 const MOST_TURNS: u32 = 10_000;
@@ -114,11 +116,11 @@ fn keeps_the_newest<M: Machine, K: Keeper<M::Body>>(
     ensures two { Owns mail.now two.new }
     ensures three { Owns mail.now three.new }
 {
-    assert_eq!(rt; ticks(mail, actor, 4_096), 4_096);
-    assert_eq!(rt; number(actor.start(mail)), 0);
+    check_eq!(rt; ticks(mail, actor, 4_096), 4_096);
+    check_eq!(rt; number(actor.start(mail)), 0);
     let (second, third) = drained(mail, actor, two, three);
-    assert_eq!(rt; (second.count, second.prepares), (4_096, true));
-    assert_eq!(rt; (third.count, third.prepares), (4_096, true));
+    check_eq!(rt; (second.count, second.prepares), (4_096, true));
+    check_eq!(rt; (third.count, third.prepares), (4_096, true));
 }
 
 // Nodes 2 and 3 fetch what the actor of the first of these seats posts.
@@ -158,7 +160,7 @@ fn listen<M: Machine, K: Keeper<M::Body> + Drop>(
     let mut office = Office::new();
     let (mail, mut seats) = found::<M::Body>(alloc, &mut office, members).expect(rt, "a table");
     hear(rt, alloc, &mail, &mut seats, members, machine, keeper);
-    assert!(rt; gathered(rt, mail, seats) == [0; 7]);
+    check!(rt; gathered(rt, mail, seats) == [0; 7]);
 }
 
 #[test]

@@ -1,8 +1,10 @@
 // What calls of actors answer.
+use crate::check::Check;
 use node_actor::{ActorFault, Entry};
 use std::alloc::Global;
 use std::panic::Expect;
 use std::process::Abort;
+use test_checks::check;
 
 /// What a call of an actor answers.
 pub type Answer<Y> = Result<Vec<Y>, ActorFault<Y>>;
@@ -77,8 +79,8 @@ pub fn told<B>(entry: &Entry<B>) -> Told {
 
 /// Asserts what a log is.
 pub fn is_log<B>(rt: &impl Abort, log: &[Entry<B>], wants: &[Told]) {
-    assert!(rt; log.len() == wants.len());
+    check!(rt; log.len() == wants.len());
     for (entry, want) in log.iter().zip(wants) {
-        assert!(rt; told(entry) == *want);
+        check!(rt; told(entry) == *want);
     }
 }

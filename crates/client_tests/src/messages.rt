@@ -1,6 +1,8 @@
 // Rows of messages: what is read of a text, and the one text that is written.
+use crate::check::Check;
 use std::alloc::Global;
-use std::test::Fail;
+use std::process::Abort;
+use test_checks::{check, check_eq};
 use wamp_messages::{Memory, Message, Parser, Read, UnfitKind, read, read_by, write};
 
 const WELCOME: &str = "[2,1,{\"roles\":{\"broker\":{\"features\":{\
@@ -18,15 +20,15 @@ fn fault_number(done: &Read) -> u8 {
 
 // What is read. It has no contract, so that nothing is known of the value: a proof carries what is known through each drop. What owns one
 // drops it by std's call, since an exit of its own would be proved for each kind of message.
-fn read_of(alloc: Global, octets: &[u8]) -> Result<Read, Memory> {
-    read(alloc, octets)
+fn read_of(rt: &impl Abort, alloc: Global, octets: &[u8]) -> Read {
+    read(alloc, octets).expect(rt, "room for a message")
 }
 
-fn fault(alloc: Global, octets: &[u8]) -> Result<u8, Fail> {
-    let done = read_of(alloc, octets)?;
+fn fault(rt: &impl Abort, alloc: Global, octets: &[u8]) -> u8 {
+    let done = read_of(rt, alloc, octets);
     let number = fault_number(&done);
     drop(done);
-    Ok(number)
+    number
 }
 
 // Whether this is the unfit request 1 of this kind.
@@ -41,21 +43,21 @@ fn is_unfit(done: &Read, wanted: UnfitKind, silent: bool) -> bool {
     }
 }
 
-fn reads_unfit(alloc: Global, text: &str, kind: UnfitKind, quiet: bool) -> Result<bool, Fail> {
-    let done = read_of(alloc, text.as_bytes())?;
+fn reads_unfit(rt: &impl Abort, alloc: Global, text: &str, kind: UnfitKind, quiet: bool) -> bool {
+    let done = read_of(rt, alloc, text.as_bytes());
     let unfit = is_unfit(&done, kind, quiet);
     drop(done);
-    Ok(unfit)
+    unfit
 }
 
-fn is_spelled(alloc: Global, message: &Message, text: &str) -> Result<bool, Fail> {
-    let octets = write(alloc, message)?;
-    Ok(octets.as_slice() == text.as_bytes())
+fn is_spelled(rt: &impl Abort, alloc: Global, message: &Message, text: &str) -> bool {
+    let octets = write(alloc, message).expect(rt, "room for a text");
+    octets.as_slice() == text.as_bytes()
 }
 
 // A copy, of which nothing is known either.
-fn copy_of(message: &Message) -> Result<Message, Memory> {
-    message.copy()
+fn copy_of(rt: &impl Abort, message: &Message) -> Message {
+    message.copy().expect(rt, "room for a copy")
 }
 
 fn is_same(copy: &Message, message: &Message) -> bool {
@@ -63,39 +65,36 @@ fn is_same(copy: &Message, message: &Message) -> bool {
 }
 
 // Whether the copy is equal, and has the text.
-fn is_copy(alloc: Global, copy: &Message, message: &Message, text: &str) -> Result<bool, Fail> {
-    if !is_same(copy, message) {
-        return Ok(false);
-    }
-    is_spelled(alloc, copy, text)
+fn is_copy(rt: &impl Abort, alloc: Global, copy: &Message, message: &Message, text: &str) -> bool {
+    is_same(copy, message) && is_spelled(rt, alloc, copy, text)
 }
 
-fn is_copied(alloc: Global, message: &Message, text: &str) -> Result<bool, Fail> {
-    let copy = copy_of(message)?;
-    let equal = is_copy(alloc, &copy, message, text);
+fn is_copied(rt: &impl Abort, alloc: Global, message: &Message, text: &str) -> bool {
+    let copy = copy_of(rt, message);
+    let equal = is_copy(rt, alloc, &copy, message, text);
     drop(copy);
     equal
 }
 
 // Whether this is a message, and has the text.
-fn is_good(alloc: Global, done: &Read, text: &str) -> Result<bool, Fail> {
+fn is_good(rt: &impl Abort, alloc: Global, done: &Read, text: &str) -> bool {
     match done {
-        Read::Good(message) => is_copied(alloc, message, text),
-        _ => Ok(false),
+        Read::Good(message) => is_copied(rt, alloc, message, text),
+        _ => false,
     }
 }
 
 // Whether the message that is read of the one text has the other.
-fn is_written_as(alloc: Global, text: &str, written: &str) -> Result<bool, Fail> {
-    let done = read_of(alloc, text.as_bytes())?;
-    let good = is_good(alloc, &done, written);
+fn is_written_as(rt: &impl Abort, alloc: Global, text: &str, written: &str) -> bool {
+    let done = read_of(rt, alloc, text.as_bytes());
+    let good = is_good(rt, alloc, &done, written);
     drop(done);
     good
 }
 
 // Whether the text is that of the message that is read of it.
-fn is_written_again(alloc: Global, text: &str) -> Result<bool, Fail> {
-    is_written_as(alloc, text, text)
+fn is_written_again(rt: &impl Abort, alloc: Global, text: &str) -> bool {
+    is_written_as(rt, alloc, text, text)
 }
 
 // Texts that are no message, and the number of the first fault of each.
@@ -131,44 +130,40 @@ const FAULTS: &[(&str, u8)] = &[
 ];
 
 #[test]
-fn faults_come_in_the_order_of_their_numbers(rt: HostRuntime) -> Result<(), Fail> {
+fn faults_come_in_the_order_of_their_numbers(rt: HostRuntime) {
     for (text, number) in FAULTS {
-        assert_eq!(rt; fault(rt.alloc(), text.as_bytes())?, *number, "{text}");
+        check_eq!(&rt; fault(&rt, rt.alloc(), text.as_bytes()), *number, text);
     }
-    assert_eq!(rt; fault(rt.alloc(), &[0x5b, 0x22, 0xff, 0x22, 0x5d])?, 21);
-    Ok(())
+    check_eq!(&rt; fault(&rt, rt.alloc(), &[0x5b, 0x22, 0xff, 0x22, 0x5d]), 21);
 }
 
 #[test]
-fn unfit_requests_are_told_apart_from_faults(rt: HostRuntime) -> Result<(), Fail> {
+fn unfit_requests_are_told_apart_from_faults(rt: HostRuntime) {
     let alloc = rt.alloc();
     let subscribe = UnfitKind::Subscribe;
     let publish = UnfitKind::Publish;
-    assert!(rt;
-        reads_unfit(
+    check!(&rt; reads_unfit(
+            &rt,
             alloc,
             "[32,1,{\"match\":\"fuzzy\"},\"a\"]",
             subscribe,
             false
-        )?
-    );
-    assert!(rt; reads_unfit(alloc, "[32,1,{\"match\":null},\"a\"]", subscribe, false)?);
-    assert!(rt; reads_unfit(alloc, "[16,1,{},\"a\",[0.5]]", publish, true)?);
-    assert!(rt; reads_unfit(alloc, "[16,1,{\"acknowledge\":1},\"a\"]", publish, true)?);
-    assert!(rt;
-        reads_unfit(
+        ));
+    check!(&rt; reads_unfit(&rt, alloc, "[32,1,{\"match\":null},\"a\"]", subscribe, false));
+    check!(&rt; reads_unfit(&rt, alloc, "[16,1,{},\"a\",[0.5]]", publish, true));
+    check!(&rt; reads_unfit(&rt, alloc, "[16,1,{\"acknowledge\":1},\"a\"]", publish, true));
+    check!(&rt; reads_unfit(
+            &rt,
             alloc,
             "[16,1,{\"acknowledge\":true},\"a\",[0.5]]",
             publish,
             false
-        )?
-    );
-    assert!(rt; reads_unfit(alloc, "[8,68,1,{},\"a\",[0.5]]", UnfitKind::Yield, false)?);
-    Ok(())
+        ));
+    check!(&rt; reads_unfit(&rt, alloc, "[8,68,1,{},\"a\",[0.5]]", UnfitKind::Yield, false));
 }
 
 #[test]
-fn each_kind_of_unfit_request_is_told(rt: HostRuntime) -> Result<(), Fail> {
+fn each_kind_of_unfit_request_is_told(rt: HostRuntime) {
     for (text, kind) in [
         ("[64,1,{\"invoke\":\"random\"},\"p\"]", UnfitKind::Register),
         ("[64,1,{\"invoke\":null},\"p\"]", UnfitKind::Register),
@@ -177,13 +172,12 @@ fn each_kind_of_unfit_request_is_told(rt: HostRuntime) -> Result<(), Fail> {
         ("[49,1,{\"mode\":\"stop\"}]", UnfitKind::Cancel),
         ("[70,1,{},[0.5]]", UnfitKind::Yield),
     ] {
-        assert!(rt; reads_unfit(rt.alloc(), text, kind, false)?, "{text}");
+        check!(&rt; reads_unfit(&rt, rt.alloc(), text, kind, false), text);
     }
-    Ok(())
 }
 
 #[test]
-fn keys_are_written_in_their_order(rt: HostRuntime) -> Result<(), Fail> {
+fn keys_are_written_in_their_order(rt: HostRuntime) {
     for (text, written) in [
         (
             "[64,1,{\"match\":\"wildcard\",\"invoke\":\"first\"},\"a..b\"]",
@@ -195,9 +189,8 @@ fn keys_are_written_in_their_order(rt: HostRuntime) -> Result<(), Fail> {
         ),
         ("[49,1,{\"mode\":\"killnowait\"}]", "[49,1,{}]"),
     ] {
-        assert!(rt; is_written_as(rt.alloc(), text, written)?, "{text}");
+        check!(&rt; is_written_as(&rt, rt.alloc(), text, written), text);
     }
-    Ok(())
 }
 
 // A text of each kind of message, with the keys that are written.
@@ -230,34 +223,33 @@ const WRITTEN: &[&str] = &[
 ];
 
 #[test]
-fn what_is_read_is_written_as_its_one_text(rt: HostRuntime) -> Result<(), Fail> {
+fn what_is_read_is_written_as_its_one_text(rt: HostRuntime) {
     for text in WRITTEN {
-        assert!(rt; is_written_again(rt.alloc(), *text)?, "{text}");
+        check!(&rt; is_written_again(&rt, rt.alloc(), *text), text);
     }
-    Ok(())
 }
 
 // What is read in kept room. It has no contract either.
-fn read_in(parser: &mut Parser, octets: &[u8]) -> Result<Read, Memory> {
-    read_by(parser, octets)
+fn read_in(rt: &impl Abort, parser: &mut Parser, octets: &[u8]) -> Read {
+    read_by(parser, octets).expect(rt, "room for a message")
 }
 
-fn fault_in(parser: &mut Parser, text: &str) -> Result<u8, Fail> {
-    let done = read_in(parser, text.as_bytes())?;
+fn fault_in(rt: &impl Abort, parser: &mut Parser, text: &str) -> u8 {
+    let done = read_in(rt, parser, text.as_bytes());
     let number = fault_number(&done);
     drop(done);
-    Ok(number)
+    number
 }
 
-fn is_read_in(parser: &mut Parser, alloc: Global, text: &str) -> Result<bool, Fail> {
-    let done = read_in(parser, text.as_bytes())?;
-    let good = is_good(alloc, &done, text);
+fn is_read_in(rt: &impl Abort, parser: &mut Parser, alloc: Global, text: &str) -> bool {
+    let done = read_in(rt, parser, text.as_bytes());
+    let good = is_good(rt, alloc, &done, text);
     drop(done);
     good
 }
 
 #[test]
-fn one_parser_tells_the_fault_of_each_text(rt: HostRuntime) -> Result<(), Fail> {
+fn one_parser_tells_the_fault_of_each_text(rt: HostRuntime) {
     let mut parser = Parser::new(rt.alloc());
     for (text, number) in [
         ("[32,1,{},\"a\"]", 0),
@@ -269,13 +261,12 @@ fn one_parser_tells_the_fault_of_each_text(rt: HostRuntime) -> Result<(), Fail> 
         ("[16,0,{},\"a\",[0.5]]", 26),
         ("[32,1,{},\"a\"]", 0),
     ] {
-        assert_eq!(rt; fault_in(&mut parser, text)?, number, "{text}");
+        check_eq!(&rt; fault_in(&rt, &mut parser, text), number, text);
     }
-    Ok(())
 }
 
 #[test]
-fn one_parser_reads_message_after_message(rt: HostRuntime) -> Result<(), Fail> {
+fn one_parser_reads_message_after_message(rt: HostRuntime) {
     let mut parser = Parser::new(rt.alloc());
     for text in [
         "[16,2,{\"acknowledge\":true},\"a.b\",[-1,[],{\"a\":{\"b\":[null,false]}}]]",
@@ -283,12 +274,11 @@ fn one_parser_reads_message_after_message(rt: HostRuntime) -> Result<(), Fail> {
         "[8,32,1,{},\"wamp.error.invalid_argument\",[],{\"a\":\"x\\n\"}]",
         "[48,7,{},\"p.q\",[18446744073709551615,-9223372036854775808]]",
     ] {
-        assert!(rt; is_read_in(&mut parser, rt.alloc(), text)?, "{text}");
+        check!(&rt; is_read_in(&rt, &mut parser, rt.alloc(), text), text);
     }
-    Ok(())
 }
 
 #[test]
 fn want_of_memory_has_number_27(rt: HostRuntime) {
-    assert_eq!(rt; Memory.number(), 27);
+    check_eq!(&rt; Memory.number(), 27);
 }

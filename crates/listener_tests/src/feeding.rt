@@ -1,6 +1,7 @@
 // A feed over rings that are made by hand: which events come out, what it answers itself, and where it puts what the node says. One function
 // owns the gate and the feed, and lends them to what happens there. What cannot be had, as memory or a socket, ends the test at once, so that
 // no other way out drops what a test has.
+use crate::check::Check;
 use actor_run::{Feed, Gate, Seen};
 use bytes::Bytes;
 use client_listener::{FromClient, ToClient};
@@ -18,6 +19,7 @@ use std::panic::Expect;
 use std::process::Abort;
 use std::sync::{Arc, Wait};
 use std::time::Clock;
+use test_checks::{check, check_eq};
 use wamp_messages::{Read as ReadResult, read};
 
 const NODE: u8 = 2;
@@ -138,9 +140,9 @@ fn next_letter(replies: &mut Consumer<ToClient>) -> Option<char> {
 // A client was told what these letters say, and nothing more.
 fn is_told(rt: &impl Abort, client: &mut Client, letters: &str) {
     for letter in letters.chars() {
-        assert_eq!(rt; next_letter(&mut client.replies), Some(letter));
+        check_eq!(rt; next_letter(&mut client.replies), Some(letter));
     }
-    assert_eq!(rt; next_letter(&mut client.replies), None);
+    check_eq!(rt; next_letter(&mut client.replies), None);
 }
 
 // The letters of an event: an act's, with its transport's number before it; another event's, with none.
@@ -209,7 +211,7 @@ fn gives<F: Feed<Act, Say>, G: Gate>(
 ) {
     let mut letters = String::new(alloc);
     put_round(rt, gate, feed, seen, &mut letters);
-    assert_eq!(rt; letters.as_str(), wanted);
+    check_eq!(rt; letters.as_str(), wanted);
     drop(letters);
 }
 
@@ -407,10 +409,10 @@ fn closes(
     play(rt, alloc, gate, feed, lobby, one, two, NOTHING);
     hand(rt, alloc, feed, BOOT, &[1, 2]);
     play(rt, alloc, gate, feed, lobby, one, two, HUNG);
-    assert!(rt; has_ended(rt, one));
+    check!(rt; has_ended(rt, one));
     is_told(rt, two, "m");
     feed.restart(BOOT + 1);
-    assert!(rt; has_ended(rt, two));
+    check!(rt; has_ended(rt, two));
 }
 
 // In the next boot transports are numbered from 1.
@@ -453,7 +455,7 @@ fn comes<F: Feed<Act, Say>, G: Gate>(
 ) -> u32 {
     let mut letters = String::new(alloc);
     let count = first_event(rt, gate, feed, &mut letters);
-    assert_eq!(rt; letters.as_str(), letter);
+    check_eq!(rt; letters.as_str(), letter);
     drop(letters);
     count
 }
@@ -467,12 +469,12 @@ fn ticks<F: Feed<Act, Say>, G: Gate>(
     is_first: bool,
 ) {
     if is_first {
-        assert_eq!(rt; comes(rt, alloc, gate, feed, "b"), 1);
-        assert_eq!(rt; comes(rt, alloc, gate, feed, "t"), 63);
+        check_eq!(rt; comes(rt, alloc, gate, feed, "b"), 1);
+        check_eq!(rt; comes(rt, alloc, gate, feed, "t"), 63);
     } else {
-        assert_eq!(rt; comes(rt, alloc, gate, feed, "t"), 64);
+        check_eq!(rt; comes(rt, alloc, gate, feed, "t"), 64);
     }
-    assert!(rt; comes(rt, alloc, gate, feed, "t") >= 64);
+    check!(rt; comes(rt, alloc, gate, feed, "t") >= 64);
 }
 
 // What happens at a node.
