@@ -107,7 +107,7 @@ impl House {
         false
     }
 
-    // Ends the listener's thread: it looks for its node behind each client.
+    // Ends the listener's thread. A last client has it look for its node, where it has not seen already that this is gone.
     pub fn close<R: Net<Listener = TcpListener, Stream = TcpStream> + Threads + Abort>(
         self,
         rt: &R,
@@ -120,7 +120,7 @@ impl House {
         } = self;
         drop(arrivals);
         drop(lobby);
-        let last = TcpStream::connect(rt, address).expect(rt, "a last connection");
+        let last = TcpStream::connect(rt, address);
         door.join(rt);
         drop(last);
     }
