@@ -1,31 +1,13 @@
 // What actors answer, and turns in rotation.
 use crate::check::Check;
+use crate::hearing::{Heard, Told, told};
 use core_stands::{Answer, Station, count_of, told_of};
 use node_actor::{Entry, Keeper, Machine};
-use std::alloc::Global;
 use std::process::Abort;
 use test_checks::check;
 
 // How often each node turns at most.
 const MOST_ROUNDS: u32 = 1_000;
-
-/// What calls answered: what was said, what was said as its node was lost, and the numbers of nodes and of their faults.
-#[derive(Drop)]
-pub struct Heard<Y> {
-    pub says: Vec<Y>,
-    pub lost: Vec<Y>,
-    pub faults: Vec<(u8, u8)>,
-}
-
-impl<Y> Heard<Y> {
-    pub fn nothing(alloc: Global) -> Heard<Y> {
-        Heard {
-            says: Vec::new(alloc),
-            lost: Vec::new(alloc),
-            faults: Vec::new(alloc),
-        }
-    }
-}
 
 fn put_all<Y: Drop>(rt: &impl Abort, says: &mut Vec<Y>, more: Option<Vec<Y>>) {
     let Some(more) = more else {
@@ -112,23 +94,6 @@ pub fn all_turns<M: Machine, K: Keeper<M::Body>>(
         }
     }
     panic!(rt; "packets without end")
-}
-
-/// An entry without its body: the letter of its kind, its node, its boot, and its number.
-pub type Told = (char, u8, u64, u64);
-
-fn told<B>(entry: &Entry<B>) -> Told {
-    match entry {
-        Entry::Noop => ('n', 0, 0, 0),
-        Entry::Boot { node, boot } => ('b', *node, *boot, 0),
-        Entry::Item {
-            node,
-            boot,
-            seq,
-            ..
-        } => ('i', *node, *boot, *seq),
-        Entry::Lost { node, boot } => ('l', *node, *boot, 0),
-    }
 }
 
 // Whether these are the entries.

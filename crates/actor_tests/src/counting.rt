@@ -1,6 +1,7 @@
 // Three actors with a machine that adds up.
-use crate::carrying::{Heard, Told, all_turns, at, have_log, hear, number};
+use crate::carrying::{all_turns, at, have_log, hear, number};
 use crate::check::Check;
+use crate::hearing::{Heard, Told};
 use crate::trial::{Trial, tried};
 use acceptor_keeper::MemKeeper;
 use core_stands::{Answer, Source, Station, close_log};

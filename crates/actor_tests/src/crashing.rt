@@ -1,7 +1,8 @@
 // An actor whose store fails, and which is restarted.
-use crate::carrying::{Heard, Told, have_log};
+use crate::carrying::have_log;
 use crate::check::Check;
 use crate::counting::{ALL, Asked, Counting, Failing, Script, Sum, fault_at, goes};
+use crate::hearing::{Heard, Told};
 use crate::trial::{Trial, tried};
 use core_stands::{again, pop_two, push_two};
 use core_tests::Count;
