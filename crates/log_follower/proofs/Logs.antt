@@ -16,7 +16,7 @@ use Rattle.replica_machine.specs.Log.{Begins}
 use Rattle.replica_machine.specs.Replay.{Machine, sayings_behind, sayings_by_slot}
 use Rattle.replica_machine.proofs.Replaying.{sayings_by_slots}
 use Rattle.log_follower.specs.declared.kept.Place.{Place}
-use Rattle.log_follower.specs.Following.{AgreesWith, said_to, said_in_boot, is_of, kept_at, kept_from, handed_to}
+use Rattle.log_follower.specs.Following.{Followed, AgreesWith, Keeps, said_to, said_in_boot, is_of, kept_at, kept_from, handed_to}
 use Rattle.log_follower.proofs.Handing.{transport_is}
 
 -- lists
@@ -306,3 +306,30 @@ parts from stands known es l is = elim (cases_lt stands (from + length es)) [
 
     fresh : take (length es - (known - from)) (drop (known - from) es) ≡ drop (known - from) es
     fresh = ap (λ n. take n (drop (known - from) es)) (sym rest) ∙ take-length (drop (known - from) es)
+
+-- of so many entries of the node, behind `from`, these are known and those fresh
+module _ (from es stands known fresh : ℕ) (count : known + fresh ≡ from + es) where
+  pub none_fresh : (0 < fresh → known ≡ stands) → from + es ≤ stands → fresh ≡ 0
+  none_fresh whole short = elim (cases_lt 0 fresh) [
+    | inl more ↦ (let at : known ≡ stands = whole more in omega arith)
+    | inr none ↦ omega arith
+  ]
+
+  pub some_fresh : known ≤ stands → stands < from + es → 0 < fresh
+  some_fresh within long = omega arith
+
+  pub all_within : {A : Type 0} (p new log : List A) → length p ≡ stands → length new ≡ fresh → log ≡ p ++ new → known ≤ stands
+      → from + es ≤ length log
+  all_within p new log a b is within =
+      let all : length log ≡ length p + length new = ap (λ xs. length xs) is ∙ length-append p new in
+      omega arith
+
+-- what is kept of a log is kept where nothing of it changes
+pub keeps_on : {B M S Y : Type 0} (m : Machine B S Y) (boot from : ℕ) (old new : Followed B M Y) → new.node ≡ old.node → new.log ≡ old.log
+    → ((b i : ℕ) → i < length old.log → kept_at b i new.kept ≡ kept_at b i old.kept) → Keeps m boot from old → Keeps m boot from new
+keeps_on m boot from old new node log same keeps b i later passed l =
+    let k : i < length old.log = subst (λ q. i < length q) log l in
+    same b i k
+    ∙ keeps b i later passed k
+    ∙ ap (λ q. said_in_boot m.to old.node b (slice_index_or (sayings_by_slot m [] q) i [])) (sym log)
+    ∙ ap (λ n. said_in_boot m.to n b (slice_index_or (sayings_by_slot m [] new.log) i [])) (sym node)

@@ -1,8 +1,8 @@
 -- What is left to hand out, and to keep, one place of the log further on.
 use Rattle.std.proofs.Common.{◌≡◌, refl, sym, ap, ◌∙◌, ℕ, zero, suc, ◌+◌, ◌-◌, ◌<◌, ◌≤◌, arith, List, [], ◌∷◌, ◌++◌, length, drop}
-use Rattle.std.proofs.Common.{map, slice_index_or, Bool, true, false, eqb, ◌&&◌}
-use Rattle.std.proofs.lemmas.Bool.{eqb-true, ne_eqb}
-use Rattle.std.proofs.lemmas.List.{append_assoc, length-append}
+use Rattle.std.proofs.Common.{map, slice_index_or, subst, Bool, true, false, cond, eqb, ◌&&◌}
+use Rattle.std.proofs.lemmas.Bool.{eqb-true, eq-eqb, ne_eqb}
+use Rattle.std.proofs.lemmas.List.{append_assoc, append-nil, length-append}
 use Rattle.std.proofs.lemmas.List.Elements.{filter-append}
 use Rattle.std.specs.declared.vec.Vec.{Vec}
 use Rattle.std.specs.declared.alloc.Global.{Global}
@@ -72,3 +72,37 @@ left f d zero [] x more h = cc
 left f d (suc k) [] x more h = cc
 left f d zero (y ∷ ys) x more h = (let a : more ≡ ys = cc in a, let b : y ≡ x = cc in ap (λ z. f z) b)
 left f d (suc k) (y ∷ ys) x more h = left f d k ys x more h
+
+-- one saying further on, where b tells whether it counts
+
+pub said_one : {Y : Type 0} (b : Bool) (old new : List Y) (y : Y) (rest total : List Y) → new ≡ old ++ cond b (y ∷ []) []
+    → old ++ cond b (y ∷ rest) rest ≡ total → new ++ rest ≡ total
+said_one true old new y rest total a h = ap (λ l. l ++ rest) a ∙ append_assoc old (y ∷ []) rest ∙ h
+said_one false old new y rest total a h = ap (λ l. l ++ rest) (a ∙ append-nil old) ∙ h
+
+pub room_one : {Y : Type 0} (b : Bool) (old new : ℕ) (y : Y) (rest : List Y) → old ≡ new + cond b 1 0
+    → length (cond b (y ∷ rest) rest) ≤ old → length rest ≤ new
+room_one true old new y rest a h = omega arith
+room_one false old new y rest a h = omega arith
+
+pub count_one : {Y : Type 0} (b : Bool) (old new whole total : ℕ) (y : Y) (rest : List Y) → old ≡ new + cond b 1 0
+    → old + whole ≡ total + length (cond b (y ∷ rest) rest) → new + whole ≡ total + length rest
+count_one true old new whole total y rest a h = omega arith
+count_one false old new whole total y rest a h = omega arith
+
+pub more_one : {Y : Type 0} (b : Bool) (old new total : ℕ) (y : Y) (rest : List Y) → new ≡ old + cond b 1 0
+    → old + length (cond b (y ∷ rest) rest) ≡ total → new + length rest ≡ total
+more_one true old new total y rest a h = omega arith
+more_one false old new total y rest a h = omega arith
+
+-- the first one counts for its own transport
+pub counts : {Y : Type 0} (to : Y → Transport) (y : Y) (ys : List Y) (room : ℕ) → length (said_to to (to y) (y ∷ ys)) ≤ room → 0 < room
+counts to y ys room h =
+    let t = to y in
+    let rest = said_to to t ys in
+    let is : same_transport t t ≡ true =
+    ap (λ b. b && (eqb t.boot t.boot && eqb t.number t.number)) (eq-eqb t.node t.node refl)
+    ∙ ap (λ b. b && eqb t.number t.number) (eq-eqb t.boot t.boot refl)
+    ∙ eq-eqb t.number t.number refl in
+    let more : suc (length rest) ≤ room = subst (λ b. length (cond b (y ∷ rest) rest) ≤ room) is h in
+    omega arith

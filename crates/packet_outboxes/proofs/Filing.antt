@@ -1,16 +1,16 @@
 -- Outboxes: what stays so when a packet is put into one, or taken out.
-use Rattle.std.proofs.Common.{◌≡◌, ◌≢◌, ◌<◌, ◌≤◌, ◌+◌, ◌-◌, ◌⊎◌, inl, inr, ℕ, suc, zero, Bool, true, false, eqb, cond, List, [], ◌∷◌, ◌++◌, length, drop, map}
-use Rattle.std.proofs.Common.{◌||◌, ltb, get_or, set, sym, ap, subst, ◌∙◌, refl, arith, Option, Some, None}
-use Rattle.std.specs.Prelude.{◌==◌, All, filter, slice_get, option_map}
-use Rattle.std.proofs.lemmas.List.{get_or-set_same, get_or-set_other, drop-append-le, drop-drop, length-drop, length-append, length-map, length-set, map-append, drop-map, append-nil, get_or_append_left, get_or_at, get_or_past, set_past, append_assoc}
-use Rattle.std.proofs.lemmas.List.Elements.{All-drop, All-push, All-nil, filter-append}
+use Rattle.std.proofs.Common.{◌≡◌, ◌<◌, ◌≤◌, ◌+◌, ◌-◌, ◌⊎◌, inl, inr, ℕ, suc, zero, Bool, true, false, eqb, cond, List, [], ◌∷◌, ◌++◌, length, drop, map}
+use Rattle.std.proofs.Common.{◌||◌, ltb, set, sym, ap, subst, ◌∙◌, refl, arith, Option, Some, None}
+use Rattle.std.specs.Prelude.{◌==◌, All, slice_get, option_map}
+use Rattle.std.proofs.lemmas.List.{get_or-set_same, get_or-set_other, set-get_or, drop-append-le, drop-drop, length-drop, length-append, length-map, length-set, map-append, drop-map, append-nil, get_or_append_left, get_or_at, get_or_past, set_past, append_assoc}
+use Rattle.std.proofs.lemmas.List.Elements.{All-drop, All-push, All-cons, All-nil, filter-append}
 use Rattle.std.proofs.lemmas.Bool.{cases_eq, cases_lt, eq-eqb, ne_eqb, ltb-true, ltb-false}
 use Rattle.circular_buffer.specs.Buffer.{Buffer, buffer, keep_last}
 use Rattle.paxos_packets.specs.declared.packet.Packet.{Packet}
 use Rattle.packet_outboxes.specs.declared.outboxes.Stamped.{Stamped}
 use Rattle.packet_outboxes.specs.declared.outboxes.First.{First}
 use Rattle.packet_outboxes.specs.Outboxes.{Waiting, most_waiting, limit, box_of, waiting, IsPeer, to, empty_boxes, behind, filed, HasLimits, WaitBehind, AreKept, without_first, first_stamp, older, IsOldestBelow, Leaves}
-use Rattle.packet_outboxes.specs.Outboxes.{TakenFor}
+use Rattle.packet_outboxes.specs.Outboxes.{TakenFor, WaitsFirst, filed_first}
 
 -- what stands last of the last, and of more behind them
 pub keep_last_again : {A : Type 0} (n : ℕ) (xs ys : List A) → keep_last n (keep_last n xs ++ ys) ≡ keep_last n (xs ++ ys)
@@ -73,6 +73,9 @@ empty_at B me (suc n) k h = empty_last B me n k h (empty_at B me n k) (cases_lt 
 last_or : (n k : ℕ) → k < suc n → (k < n) ⊎ (n ≤ k) → (k < n) ⊎ (k ≡ n)
 last_or n k l (inl m) = inl m
 last_or n k l (inr m) = inr (omega (arith, l, m))
+
+pub below_all : (place count all : ℕ) → count ≡ all → place < count → place < all
+below_all place count all same h = omega (arith, same, h)
 
 some_is : (a b : ℕ) → ◌≡◌ {A = Option ℕ} (Some a) (Some b) → a ≡ b
 some_is a b e = cc
@@ -347,3 +350,96 @@ module _ {B : Type 0} where
         others = λ j other. ap (λ b. map told b.items) (leaves_else k j boxes other);
         room = omega (arith, size, most);
       }
+
+  -- nothing leaves an outbox that is empty
+
+  empty_drop : (b : Buffer (Stamped B)) → slice_get b.items 0 ≡ None → buffer (drop 1 b.items) b.capacity ≡ b
+  empty_drop b none = ap (λ xs. buffer xs b.capacity) (same b.items none)
+    where
+      same : (xs : List (Stamped B)) → slice_get xs 0 ≡ None → drop 1 xs ≡ xs
+      same [] e = refl
+      same (x ∷ xs) e = absurd (let off : ◌≡◌ {A = Option (Stamped B)} (Some x) None = e in cc)
+
+  pub still : (k : ℕ) (boxes : List (Buffer (Stamped B))) → slice_get (box_of k boxes).items 0 ≡ None → without_first k boxes ≡ boxes
+  still k boxes none = ap (λ b. set boxes k b) (empty_drop (box_of k boxes) none) ∙ set-get_or boxes k (buffer [] 0)
+
+  empty_here : (b : Buffer (Stamped B)) → slice_get b.items 0 ≡ None → map told b.items ≡ []
+  empty_here b none = of_items b.items none
+    where
+      of_items : (xs : List (Stamped B)) → slice_get xs 0 ≡ None → map told xs ≡ []
+      of_items [] e = refl
+      of_items (x ∷ xs) e = absurd (let off : ◌≡◌ {A = Option (Stamped B)} (Some x) None = e in cc)
+
+  -- where none is taken, none waited, and all is as it was
+  pub none_for : (place k : ℕ) → place ≡ k → (w old : Waiting B) → w ≡ old → (later : List (Buffer (Stamped B))) → later ≡ without_first place w.boxes
+      → None ≡ slice_get (box_of place w.boxes).items 0
+      → (record { me = w.me; members = w.members; boxes = later; next = w.next } ≡ old) × (waiting k old ≡ [])
+  none_for place k same w old is later taken none = (
+    ap (λ bs. record { me = w.me; members = w.members; boxes = bs; next = w.next }) (taken ∙ still place w.boxes (sym none)) ∙ is,
+    ap (λ j. waiting j old) (sym same) ∙ ap (λ (v : Waiting B). waiting place v) (sym is) ∙ empty_here (box_of place w.boxes) (sym none),
+  )
+
+  -- nor does any where there is no outbox
+  pub none_past : (place k count : ℕ) → place ≡ k → (w old : Waiting B) → w ≡ old → count ≡ length w.boxes → count ≤ place → waiting k old ≡ []
+  none_past place k count same w old is all past =
+      ap (λ (v : Waiting B). waiting k v) (sym is)
+      ∙ ap (λ b. map told b.items) (get_or_past w.boxes k (buffer [] 0) (omega (arith, same, all, past)))
+
+  -- one packet more waits before the others of its outbox
+
+  module _ (s : Stamped B) (boxes : List (Buffer (Stamped B))) where
+    abbrev before : Buffer (Stamped B)
+    before = buffer (s ∷ (box_of s.packet.addressee boxes).items) (box_of s.packet.addressee boxes).capacity
+
+    first_box : s.packet.addressee < length boxes → box_of s.packet.addressee (filed_first s boxes) ≡ before
+    first_box h = get_or-set_same boxes s.packet.addressee before (buffer [] 0) h
+
+    other_box : (k : ℕ) → (k ≡ s.packet.addressee → ⊥) → box_of k (filed_first s boxes) ≡ box_of k boxes
+    other_box k other = get_or-set_other boxes s.packet.addressee k before (buffer [] 0) other
+
+    each_first : (P : ℕ → Buffer (Stamped B) → Type 0) → s.packet.addressee < length boxes → P s.packet.addressee before
+        → ((k : ℕ) → P k (box_of k boxes)) → (k : ℕ) → (k ≡ s.packet.addressee) ⊎ (k ≡ s.packet.addressee → ⊥) → P k (box_of k (filed_first s boxes))
+    each_first P h new old k (inl e) =
+        subst (λ j. P j (box_of j (filed_first s boxes))) (sym e) (subst (P s.packet.addressee) (sym (first_box h)) new)
+    each_first P h new old k (inr other) = subst (P k) (sym (other_box k other)) (old k)
+
+    first_kept : (me members : ℕ) → AreKept me members boxes → s.packet.addressee < length boxes
+        → length (box_of s.packet.addressee boxes).items < (box_of s.packet.addressee boxes).capacity → AreKept me members (filed_first s boxes)
+    first_kept me members kept h room =
+        record {
+          wide = length-set boxes s.packet.addressee before ∙ kept.wide;
+          limits = λ k. each_first (λ j c. j ≤ members → c.capacity ≡ limit me j) h (kept.limits s.packet.addressee) kept.limits k
+              (cases_eq k s.packet.addressee);
+          within = λ k. each_first (λ j c. length c.items ≤ c.capacity) h (omega (arith, room)) kept.within k (cases_eq k s.packet.addressee);
+          filed = λ k. each_first (λ j c. All (λ t. t.packet.addressee ≡ j) c.items) h
+              (All-cons (λ t. t.packet.addressee ≡ s.packet.addressee) s (box_of s.packet.addressee boxes).items refl (kept.filed s.packet.addressee))
+              kept.filed k (cases_eq k s.packet.addressee);
+        }
+
+  -- the outboxes, and what callers see of them: the addressee of the packet is another member, and there is room
+  module _ (w old : Waiting B) (is : w ≡ old) (kept : AreKept w.me w.members w.boxes) (s : Stamped B)
+      (seen : IsPeer old.me old.members s.packet.addressee) where
+    peer : IsPeer w.me w.members s.packet.addressee
+    peer = subst (λ (v : Waiting B). IsPeer v.me v.members s.packet.addressee) (sym is) seen
+
+    pub place_for : s.packet.addressee < length w.boxes
+    place_for = let wide = kept.wide in let few = peer.0.1 in omega (arith, wide, few)
+
+    pub room_for : length (waiting s.packet.addressee old) < most_waiting
+        → length (box_of s.packet.addressee w.boxes).items < (box_of s.packet.addressee w.boxes).capacity
+    room_for room =
+        let b : Buffer (Stamped B) = box_of s.packet.addressee w.boxes in
+        let size : length (waiting s.packet.addressee old) ≡ length b.items =
+        ap (λ (v : Waiting B). length (waiting s.packet.addressee v)) (sym is) ∙ length-map b.items told in
+        let most : b.capacity ≡ most_waiting = kept.limits s.packet.addressee peer.0.1 ∙ limit_peer w.me w.members s.packet.addressee peer in
+        omega (arith, size, most, room)
+
+    pub kept_first : length (waiting s.packet.addressee old) < most_waiting → AreKept w.me w.members (filed_first s w.boxes)
+    kept_first room = first_kept s w.boxes w.me w.members kept place_for (room_for room)
+
+    pub waits_first : WaitsFirst s.packet old (record { me = w.me; members = w.members; boxes = filed_first s w.boxes; next = w.next })
+    waits_first =
+        record {
+          first = ap (λ b. map told b.items) (first_box s w.boxes place_for) ∙ ap (λ (v : Waiting B). s.packet ∷ waiting s.packet.addressee v) is;
+          others = λ k other. ap (λ b. map told b.items) (other_box s w.boxes k other) ∙ ap (λ (v : Waiting B). waiting k v) is;
+        }

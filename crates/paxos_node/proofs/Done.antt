@@ -1,5 +1,5 @@
 -- What is answered where an event's part of the node may have failed for want of memory.
-use Rattle.std.proofs.Common.{◌≡◌, ℕ, Bool, false, Result, Ok, Err, Option, None, List, refl, sym, ◌∙◌, subst}
+use Rattle.std.proofs.Common.{◌≡◌, ℕ, Bool, true, false, Result, Ok, Err, Option, None, List, refl, sym, ◌∙◌, subst}
 use Rattle.std.proofs.lemmas.Result.{on_ok_weaker}
 use Rattle.std.specs.Prelude.{IfOk, OnOk, OnErr}
 use Rattle.paxos_packets.specs.declared.entry.Entry.{Entry}
@@ -13,6 +13,9 @@ use Rattle.paxos_node.specs.Applying.{settle}
 use Rattle.paxos_node.specs.Outcome.{with_added}
 use Rattle.paxos_node.specs.Plans.{Answers, Answered}
 use Rattle.paxos_node.proofs.Ending.{settled_disagrees, without_added}
+
+pub not_both : {X : Type 0} (b : Bool) → b ≡ false → b ≡ true → X
+not_both b p q = absurd (cc)
 
 -- where there is an answer, the part was done
 

@@ -8,3 +8,4 @@ pub mod Ending
 pub mod Answering
 pub mod Making
 pub mod Done
+pub mod Counting

@@ -1,7 +1,8 @@
 -- What a proposer would be to which one thing more is done.
-use Rattle.std.proofs.Common.{◌≡◌, ℕ, suc, max, ◌+◌, ◌≤◌, Bool, true, false, cond, not, ◌&&◌, ◌||◌, Some, None, is_some, List, [], ◌∷◌, ◌++◌}
+use Rattle.std.proofs.Common.{◌≡◌, ℕ, suc, max, ◌+◌, ◌<◌, ◌≤◌, Bool, true, false, cond, not, ◌&&◌, ◌||◌, Option, Some, None, is_some, List, [], ◌∷◌, ◌++◌}
 use Rattle.std.proofs.Common.{refl, sym, ap, ◌∙◌, subst, arith}
-use Rattle.std.specs.Prelude.{nat_lt}
+use Rattle.std.specs.Prelude.{nat_lt, Result, Ok, Err, is_err, OnOk}
+use Rattle.std.proofs.lemmas.Bool.{ltb-true, not-false}
 use Rattle.std.proofs.lemmas.List.{append-nil, append_assoc}
 use Rattle.std.proofs.lemmas.List.Folds.{list_any-append}
 use Rattle.paxos_packets.specs.Members.{is_majority}
@@ -15,13 +16,13 @@ use Rattle.paxos_proposer.specs.declared.promises.CountedPromise.{CountedPromise
 use Rattle.paxos_proposer.specs.declared.moves.Move.{Move}
 use Rattle.paxos_proposer.specs.declared.proposing.Offer.{Offer}
 use Rattle.paxos_proposer.specs.Moves.{after_move, after_moves, IsPossible, ArePossible}
-use Rattle.paxos_proposer.specs.Proposer.{step_down, nacked, submitted, is_below, is_refused, is_leading, slots_spent, next_vote, slot_end}
+use Rattle.paxos_proposer.specs.Proposer.{step_down, nacked, submitted, is_below, is_refused, is_leading, slots_spent, next_vote, slot_end, round_end, is_spent}
 use Rattle.paxos_proposer.specs.Promises.{promised, called_by, counts, and_promise_of}
 use Rattle.paxos_proposer.specs.Proposals.{stands, stands_among}
 use Rattle.paxos_proposer.specs.Reports.{is_counted, reports, called_for}
 use Rattle.paxos_proposer.specs.Role.{Role, Idle, Preparing, Leading}
 use Rattle.paxos_proposer.specs.State.{State, role_of, IsAboveNone, with_role, saw, started, after_promise, after_submit}
-use Rattle.paxos_proposer.specs.Proposing.{offer_of, promises_of, proposals_of, earlier, led, IsTold}
+use Rattle.paxos_proposer.specs.Proposing.{Draft, after, role_then, and_move, offer_of, promises_of, proposals_of, earlier, led, IsTold}
 
 -- one is done last
 
@@ -45,6 +46,26 @@ told_more {B} seen phase goes_on votes ms ns m s e a p t = (
   subst (λ (u : State B). IsTold seen phase goes_on votes s u) (sym (after_more ms ns m s e)) t,
   subst (λ (l : List (Move B)). ArePossible l s) (sym e) (possible_last ms m s a p),
 )
+
+-- what callers see of it, with one thing more and with none
+
+pub and_one : {B : Type 0} (s : State B) (ms ns : List (Move B)) (m : Move B) (d : Draft B) → ns ≡ ms ++ m ∷ []
+    → record { before = s; moves = ms } ≡ d → record { before = s; moves = ns } ≡ and_move m d
+and_one {B} s ms ns m d e v = (λ i. record { before = s; moves = e i }) ∙ ap (λ (a : Draft B). and_move m a) v
+
+pub as_it_was : {B : Type 0} (s : State B) (ms ns : List (Move B)) (d : Draft B) → ns ≡ ms → record { before = s; moves = ms } ≡ d
+    → record { before = s; moves = ns } ≡ d
+as_it_was s ms ns d e v = (λ i. record { before = s; moves = e i }) ∙ v
+
+pub told_still : {B : Type 0} (seen : ℕ) (phase : Phase) (goes_on : Bool) (votes : List (Vote B)) (ms ns : List (Move B)) (s : State B) → ns ≡ ms
+    → IsTold seen phase goes_on votes s (after_moves ms s) × ArePossible ms s → IsTold seen phase goes_on votes s (after_moves ns s) × ArePossible ns s
+told_still {B} seen phase goes_on votes ms ns s e t =
+    subst (λ (l : List (Move B)). IsTold seen phase goes_on votes s (after_moves l s) × ArePossible l s) (sym e) t
+
+-- what a call promises where it answers `Ok`
+pub where_ok : {T E P : Type 0} (r : Result T E) → false ≡ is_err r → OnOk r P → P
+where_ok (Ok x) h p = p
+where_ok (Err e) h p = absurd (cc)
 
 -- a phase and lists give the role
 
@@ -110,6 +131,27 @@ led_above Kept.Idle a = tt
 led_above (Kept.Preparing c first) a = a
 led_above (Kept.Leading c next) a = a
 
+-- a phase in which a slot is left to propose in
+
+abbrev pub IsOffering : Phase → Type 0
+IsOffering Kept.Idle = ⊥
+IsOffering (Kept.Preparing b first) = ⊥
+IsOffering (Kept.Leading b next) = (1 ≤ next) × (next < slot_end)
+
+pub offering_leads : (p : Phase) → IsOffering p → ((b : Ballot) (next : ℕ) → p ≡ Kept.Leading b next → ⊥) → ⊥
+offering_leads Kept.Idle o f = o
+offering_leads (Kept.Preparing b first) o f = o
+offering_leads (Kept.Leading b next) o f = f b next refl
+
+is_offering : {B : Type 0} (p : Phase) (cs : List (CountedPromise B)) (vs : List (Vote B)) → IsAboveNone p → is_some (offer_of (role_of p cs vs)) ≡ true → IsOffering p
+is_offering Kept.Idle cs vs a h = absurd (cc)
+is_offering (Kept.Preparing b first) cs vs a h = absurd (cc)
+is_offering (Kept.Leading b next) cs vs a h = (a, ltb-true next slot_end (go (nat_lt next slot_end) h))
+  where
+    go : (x : Bool) → is_some {T = Offer} (cond x (Some (record { ballot = b; slot = next })) None) ≡ true → x ≡ true
+    go true f = refl
+    go false f = absurd (cc)
+
 -- what is new behind each move
 
 module _ {B : Type 0} where
@@ -145,6 +187,12 @@ module _ {B : Type 0} where
         role_is = λ i. Preparing (record { round = n i; node = m i }) first (record { node = new.me; votes = reported } ∷ []);
         above = l;
       }
+
+  pub round_left : (seen : ℕ) (phase : Phase) (goes_on : Bool) (votes : List (Vote B)) (old new : State B) → IsTold seen phase goes_on votes old new
+      → is_spent new.proposer ≡ false → suc seen < round_end
+  round_left seen phase goes_on votes old new t h =
+      subst (λ (n : ℕ). suc n < round_end) t.seen_is
+      (ltb-true (suc new.proposer.seen) round_end (not-false (nat_lt (suc new.proposer.seen) round_end) h))
 
   -- a promise that calls for nothing leaves the phase as it was
 
@@ -195,6 +243,19 @@ module _ {B : Type 0} where
       go true false f = absurd (cc)
       go false y f = absurd (cc)
 
+  -- what is called for is told of the proposer as it is, where nothing was done to its role
+
+  pub called_still : (s : State B) (ms : List (Move B)) (d : Draft B) (node : ℕ) (b : Ballot) (reported : List (Vote B)) (called answered : Option (List (Entry B)))
+      → record { before = s; moves = ms } ≡ d → role_then d ≡ d.before.proposer.role → (after_moves ms s).members ≡ s.members
+      → called ≡ called_by s.members node b reported s.proposer.role → called ≡ answered
+      → answered ≡ called_by (after d).members node b reported (role_then d)
+  called_still s ms d node b reported called answered v same m is as_is =
+      let role : s.proposer.role ≡ (after_moves ms s).proposer.role =
+      ap (λ (a : Draft B). a.before.proposer.role) v ∙ sym same ∙ sym (ap (λ (a : Draft B). role_then a) v) in
+      sym as_is ∙ is
+      ∙ (λ i. called_by (sym m i) node b reported (role i))
+      ∙ ap (λ (a : Draft B). called_by (after a).members node b reported (role_then a)) v
+
   pub told_lead : (seen node : ℕ) (b : Ballot) (reported : List (Vote B)) (phase : Phase) (goes_on : Bool) (votes more : List (Vote B)) (old new : State B)
       (es : List (Entry B)) → IsTold seen phase goes_on votes old new → called_by new.members node b reported new.proposer.role ≡ Some es → more ≡ []
       → IsTold seen (led phase) false more old (after_promise node b reported new)
@@ -223,6 +284,11 @@ module _ {B : Type 0} where
       go : (x : Bool) → is_some {T = Offer} (cond x (Some (record { ballot = c; slot = next })) None) ≡ true → not x ≡ false
       go true f = refl
       go false f = absurd (cc)
+
+  pub offering : (seen : ℕ) (phase : Phase) (goes_on : Bool) (votes : List (Vote B)) (old new : State B) → IsTold seen phase goes_on votes old new
+      → is_some (offer_of new.proposer.role) ≡ true → IsOffering phase
+  offering seen phase goes_on votes old new t h =
+      is_offering phase t.promises (earlier goes_on old.proposer.role ++ votes) t.above (subst (λ (r : Role B). is_some {T = Offer} (offer_of r) ≡ true) t.role_is h)
 
   pub told_submit : (seen : ℕ) (b : Ballot) (next : ℕ) (goes_on : Bool) (votes more : List (Vote B)) (old new : State B) (e : Entry B)
       → IsTold seen (Kept.Leading b next) goes_on votes old new → more ≡ votes ++ next_vote b next e ∷ []

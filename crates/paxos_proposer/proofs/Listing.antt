@@ -1,6 +1,8 @@
 -- Proposals are found by identity.
-use Rattle.std.proofs.Common.{◌≡◌, ℕ, zero, suc, ◌<◌, ◌≤◌, Bool, true, false, cond, ◌&&◌, ◌||◌, Option, Some, None, List, [], ◌∷◌, ◌++◌, ltb, length, get_or}
-use Rattle.std.proofs.Common.{refl, sym, ap, subst, arith}
+use Rattle.std.proofs.Common.{◌≡◌, ℕ, zero, suc, ◌<◌, ◌≤◌, Bool, true, false, cond, ◌&&◌, ◌||◌, Option, Some, None, List, [], ◌∷◌, ◌++◌, ltb, length, get_or, drop, ◌+◌}
+use Rattle.std.proofs.Common.{refl, sym, ap, ◌∙◌, subst, arith}
+use Rattle.std.specs.Prelude.{nat_lt}
+use Rattle.std.proofs.lemmas.List.{at_drop_more}
 use Rattle.std.proofs.lemmas.Bool.{and_from}
 use Rattle.std.proofs.lemmas.Bool.Decides.{nat_tests}
 use Rattle.std.proofs.Math.Bool.{beq}
@@ -149,3 +151,17 @@ stands_there same applied e (w ∷ ws) (suc i) v l g h =
     on : (a b : Bool) → b ≡ true → (a || b) ≡ true
     on true b p = refl
     on false b p = p
+
+-- what is passed does not stand
+
+pub and_false : (a b : Bool) → b ≡ false → (a && b) ≡ false
+and_false true b h = h
+and_false false b h = refl
+
+pub stands_behind : {B : Type 0} (same : B → B → Bool) (applied : ℕ) (e : Entry B) (vs : List (Vote B)) (i : ℕ) (v : Vote B) → i < length vs
+    → v ≡ get_or vs i v → (nat_lt applied v.slot && same_entry same v.entry e) ≡ false
+    → stands_among same applied e (drop (i + 1) vs) ≡ stands_among same applied e (drop i vs)
+stands_behind {B} same applied e vs i v lt is fails =
+    sym (at_drop_more (λ ws. stands_among same applied e ws) vs i v lt
+    ∙ ap (λ (b : Bool). b || stands_among same applied e (drop (i + 1) vs))
+    (subst (λ (w : Vote B). (nat_lt applied w.slot && same_entry same w.entry e) ≡ false) is fails))

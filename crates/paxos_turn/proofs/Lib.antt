@@ -3,4 +3,5 @@ pub mod Putting
 pub mod Planning
 pub mod Rounds
 pub mod Again
+pub mod Sending
 pub mod Standing

@@ -2,3 +2,4 @@ pub mod SoundCalls
 pub mod EndedCalls
 pub mod Ending
 pub mod Indexes
+pub mod Found

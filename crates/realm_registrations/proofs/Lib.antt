@@ -2,4 +2,5 @@ pub mod Calling
 pub mod Changes
 pub mod Cursor
 pub mod Grouped
+pub mod Registering
 pub mod SoundRegistrations

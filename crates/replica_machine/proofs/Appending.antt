@@ -1,8 +1,13 @@
 -- What is left when one of many entries is applied.
-use Rattle.std.proofs.Common.{◌≡◌, sym, ap, ◌∙◌, List, [], ◌∷◌, ◌++◌}
-use Rattle.std.proofs.lemmas.List.{append_assoc}
+use Rattle.std.proofs.Common.{◌≡◌, ◌≢◌, true, false, Ok, Err, sym, ap, ◌∙◌, subst, List, [], ◌∷◌, ◌++◌}
+use Rattle.std.specs.Prelude.{Result, OnOk, IsErrOf}
+use Rattle.std.specs.Result.{is_err}
+use Rattle.std.proofs.lemmas.Bool.{false≢true}
+use Rattle.std.proofs.lemmas.List.{append-nil, append_assoc}
 use Rattle.paxos_packets.specs.declared.entry.Entry.{Entry}
-use Rattle.replica_machine.specs.Log.{Begins, next_by, says_by}
+use Rattle.replica_machine.specs.declared.log.LearnFault.{LearnFault}
+use Rattle.replica_machine.specs.declared.log.LearnFault.TheVariants.{Disagree, Memory, Failed}
+use Rattle.replica_machine.specs.Log.{LogState, Begins, next_by, says_by}
 use Rattle.replica_machine.specs.Replay.{Machine, input_of, state, sayings_behind, sayings_by_slot}
 use Rattle.replica_machine.specs.Roll.{takes_effect}
 use Rattle.replica_machine.proofs.Applying.{said_behind, state_behind}
@@ -33,3 +38,49 @@ module _ {B S Y : Type 0} (m : Machine B S Y) where
       ∙ ap (λ l. said ++ sayings_behind m old (e ∷ []) ∷ sayings_by_slot m l more) longer
       ∙ ap (λ l. said ++ sayings_by_slot m old l) (sym first)
       ∙ h
+
+-- what holds of a success holds where there was no error
+pub if_not_err : {T E P : Type 0} (r : Result T E) → is_err r ≡ false → OnOk r P → P
+if_not_err (Ok _) _ p = p
+if_not_err (Err _) h p = absurd (false≢true (sym h))
+
+-- the faults differ
+pub memory_failed : Memory ≢ Failed
+memory_failed e = cc
+
+pub memory_disagree : Memory ≢ Disagree
+memory_disagree e = cc
+
+pub failed_disagree : Failed ≢ Disagree
+failed_disagree e = cc
+
+pub other_fault : {T : Type 0} (a b : LearnFault) → a ≢ b → IsErrOf {T = T} (Err a) b → ⊥
+other_fault a b differ e = differ (cc)
+
+pub no_fault : {T : Type 0} (x : T) (a : LearnFault) → IsErrOf (Ok x) a → ⊥
+no_fault x a e = cc
+
+-- what stays of a log whose parts are seen as `inside`, where its entries are kept elsewhere
+module _ {B M : Type 0} (now inside : LogState B M) (same : inside ≡ now) where
+  pub log_stays : (applied : List (Entry B)) → applied ≡ inside.applied → record inside { applied = applied } ≡ now
+  log_stays applied h = ap (λ l. record inside { applied = l }) h ∙ same
+
+  pub stays_empty : now.ahead ≡ [] → inside.ahead ≡ []
+  stays_empty empty = ap (λ (v : LogState B M). v.ahead) same ∙ empty
+
+  pub not_failed : inside.failed ≡ false → now.failed ≡ true → ⊥
+  not_failed alive failed = false≢true (sym alive ∙ ap (λ (v : LogState B M). v.failed) same ∙ failed)
+
+  pub applied_is : (applied : List (Entry B)) → applied ≡ inside.applied → applied ≡ now.applied
+  applied_is applied h = h ∙ ap (λ (v : LogState B M). v.applied) same
+
+  pub begins_with : (applied longer : List (Entry B)) → applied ≡ inside.applied → Begins applied longer → Begins now.applied longer
+  begins_with applied longer h = subst (λ l. Begins l longer) (applied_is applied h)
+
+  pub begins_same : (applied : List (Entry B)) → applied ≡ inside.applied → Begins now.applied applied
+  begins_same applied h = begins_with applied applied h ([], append-nil applied)
+
+  pub state_inside : {S Y : Type 0} (m : Machine B S Y) (content : M → S) (applied : List (Entry B)) → applied ≡ inside.applied
+      → content now.machine ≡ state m now.applied → content inside.machine ≡ state m applied
+  state_inside m content applied h follows =
+      ap (λ (v : LogState B M). content v.machine) same ∙ follows ∙ ap (λ l. state m l) (sym (applied_is applied h))

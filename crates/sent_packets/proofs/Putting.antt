@@ -1,6 +1,6 @@
 -- A packet is put behind the others.
 use Rattle.std.proofs.Common.{◌≡◌, ◌⊎◌, inl, inr, ⊎_elim, ℕ, zero, suc, ◌+◌, ◌<◌, ◌≤◌, Bool, true, false, refl, sym, ap, ◌∙◌, subst, arith, List, [], ◌∷◌}
-use Rattle.std.proofs.Common.{◌++◌, length, length-append, Option, Some, None, cond}
+use Rattle.std.proofs.Common.{◌++◌, ◌-◌, min, length, length-append, Option, Some, None, cond}
 use Rattle.std.specs.Prelude.{IsSome, slice_get}
 use Rattle.std.specs.Map.{lookup}
 use Rattle.std.proofs.lemmas.Bool.{cond-true, cond-false, cases_Bool}
@@ -40,6 +40,31 @@ longer xs x = length-append xs (x ∷ []) ∙ plus_one (length xs)
   where
     plus_one : (k : ℕ) → k + 1 ≡ suc k
     plus_one k = omega arith
+
+-- where there is room for the rest, there is for its first one
+pub room_for : {A : Type 0} (rest after : List A) (x : A) (room : ℕ) → length rest ≤ room → rest ≡ x ∷ after → 1 ≤ room
+room_for rest after x room h step = let some : length rest ≡ suc (length after) = ap length step in omega (arith, h, some)
+
+-- room for so many in both
+pub room_in_both : (cap len spare more : ℕ) → len + more ≤ cap → more ≤ spare → more ≤ min (cap - len) spare
+room_in_both cap len spare more fits few = omega (arith, fits, few)
+
+-- where there is room for one, both the list and the table have it, and use up no more
+pub spare_for : (cap len spare room : ℕ) → min (cap - len) spare ≡ room → 1 ≤ room → 0 < spare
+spare_for cap len spare room is h = omega (arith, is, h)
+
+pub cap_for : (cap len spare room : ℕ) → min (cap - len) spare ≡ room → 1 ≤ room → len < cap
+cap_for cap len spare room is h = omega (arith, is, h)
+
+pub one_less : (cap len spare room cap_then len_then spare_then : ℕ) → min (cap - len) spare ≡ room → cap_then ≡ cap → len_then ≡ len + 1
+    → spare ≤ spare_then + 1 → room ≤ min (cap_then - len_then) spare_then + 1
+one_less cap len spare room cap_then len_then spare_then is same more less = omega (arith, is, same, more, less)
+
+-- the same packets and entries have the same index
+pub index_still : {B : Type 0} (packets then_packets : List (Packet B)) (table then_table : List (Key × ℕ)) → then_packets ≡ packets → then_table ≡ table
+    → IsIndex table packets → IsIndex then_table then_packets
+index_still packets then_packets table then_table same alike index =
+    subst (λ t. IsIndex t then_packets) (sym alike) (subst (λ ps. IsIndex table ps) (sym same) index)
 
 module _ {B : Type 0} (packets : List (Packet B)) (table : List (Key × ℕ)) (index : IsIndex table packets) (p : Packet B) where
   listed_on : (q : Packet B) → IsListed table packets q → IsListed table (packets ++ p ∷ []) q

@@ -7,7 +7,8 @@ use Rattle.std.proofs.lemmas.Option.{slice_get_past}
 use Rattle.std.specs.List.{find, All}
 use Rattle.std.specs.Prelude.{◌==◌}
 use Rattle.std.proofs.lemmas.Bool.{cases_eq, ne_eqb, eq-eqb, and_from, ltb-true, ltb-false}
-use Rattle.std.proofs.lemmas.List.{length-set, get_or-set_same, get_or-set_other, length_push, append-nil, get_or_append_left}
+use Rattle.std.proofs.lemmas.List.Elements.{All-nil, All-push}
+use Rattle.std.proofs.lemmas.List.{length-append, length-set, get_or-set_same, get_or-set_other, length_push, append-nil, get_or_append_left}
 use Rattle.paxos_packets.specs.Members.{is_member}
 use Rattle.waiting_packets.specs.declared.waiting.Sent.{Sent}
 use Rattle.waiting_packets.specs.declared.queue.Queue.{Queue}
@@ -184,6 +185,16 @@ between_own members pair p on e = and_from _ _ on (eq-eqb (pair_of p) pair e)
 
 abbrev pub IsEmpty : Queue → Type 0
 IsEmpty q = (q.places.items ≡ []) × (q.passed ≡ 0)
+
+pub none_yet : (qs : List Queue) → qs ≡ [] → (length qs ≡ 0) × All IsEmpty qs
+none_yet qs e = (ap (λ (xs : List Queue). length xs) e, subst (λ (xs : List Queue). All IsEmpty xs) (sym e) (All-nil IsEmpty))
+
+pub one_empty_more : (qs later : List Queue) (q : Queue) (n : ℕ) → later ≡ qs ++ q ∷ [] → IsEmpty q → (length qs ≡ n) × All IsEmpty qs
+    → (length later ≡ n + 1) × All IsEmpty later
+one_empty_more qs later q n e empty was = (
+  ap (λ (xs : List Queue). length xs) e ∙ length-append qs (q ∷ []) ∙ ap (λ k. k + 1) was.0,
+  subst (λ (xs : List Queue). All IsEmpty xs) (sym e) (All-push IsEmpty qs q was.1 empty),
+)
 
 pub nothing_queued : (qs : List Queue) → length qs ≡ 64 → All IsEmpty qs → (members : ℕ) → AreQueues members [] qs
 nothing_queued qs count none members = record {

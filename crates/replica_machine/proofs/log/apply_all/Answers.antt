@@ -1,10 +1,28 @@
-use Rattle.std.proofs.Common.{rules, ◌≡◌, ap, ◌∙◌, arith, List, [], ◌∷◌, length, map, suc}
+use Rattle.std.proofs.Common.{rules, ◌≡◌, ap, ◌∙◌, arith, List, [], ◌∷◌, ◌+◌, ◌++◌, length, map, suc}
+use Rattle.std.specs.Prelude.{vec_len}
 use Rattle.std.specs.Vec.Iter.{into_iter_items}
-use Rattle.std.proofs.lemmas.List.{map-append}
+use Rattle.std.proofs.lemmas.List.{append-nil, map-append}
 use Rattle.paxos_packets.specs.declared.entry.Entry.{Entry}
 use Rattle.replica_machine.specs.Log.{machine_from}
+use Rattle.replica_machine.specs.Replay.{sayings_by_slot}
 use Rattle.replica_machine.proofs.Appending.{rest_applied, begins_on, state_on, said_on}
 use Rattle.replica_machine.proofs.log.apply_all.Goals as goal
+
+pub loop-entry-init : goal.loop-entry-init
+loop-entry-init g c =
+    let rest : into_iter_items c.into_iter-entry-iterator.result ≡ c.args.entries.items = search rules in
+    let count : length (into_iter_items c.into_iter-entry-iterator.result) ≡ length c.args.entries.items = ap (λ l. length l) rest in
+    let applied = c.args.applied.now.items in (
+      c.requires.roll,
+      (let a = c.requires.room in let k = c.args.entries.ok.0 in let n = count in omega arith),
+      (let a = c.requires.said_room in let k = c.args.entries.ok.0 in let n = count in omega arith),
+      ap (λ n. vec_len c.args.said.now + n) count,
+      ap (λ l. applied ++ l) rest,
+      ([], append-nil applied),
+      λ first follows.
+          let m = machine_from g.M.Machine.next g.M.Machine.says g.M.Machine.to first in
+          (follows, ap (λ l. map (λ says. says.items) c.args.said.now.items ++ sayings_by_slot m applied l) rest),
+    )
 
 pub loop-entry-preserved : goal.loop-entry-preserved
 loop-entry-preserved g c =

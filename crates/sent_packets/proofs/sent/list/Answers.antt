@@ -1,5 +1,6 @@
-use Rattle.std.proofs.Common.{◌≡◌, Some, length, subst, cond}
+use Rattle.std.proofs.Common.{◌≡◌, ◌≤◌, ◌+◌, ℕ, false, true, Some, length, subst, cond, arith}
 use Rattle.std.specs.Map.{lookup}
+use Rattle.indexmap.specs.IndexMap.{spare}
 use Rattle.sent_packets.specs.declared.numbers.Key.{Key}
 use Rattle.sent_packets.specs.Numbers.{same_key}
 use Rattle.sent_packets.proofs.Putting.{again, kept_new}
@@ -18,3 +19,18 @@ returns-clause-index g c =
     c.of-numbers.ensures c.in-Ok.ensures.updates.0)
     (subst (λ n. lookup (same_key (record { numbers = n; ordinal = c.in-Some.ordinal })) c.insert.new.self.entries ≡ Some (length c.args.packets.now))
     c.of-numbers.ensures c.in-Ok.ensures.updates.1)
+
+off : false ≡ true → ⊥
+off e = cc
+
+fewer : (n : ℕ) → n ≤ n + 1
+fewer n = omega arith
+
+pub unreachable-requires : goal.unreachable-requires
+unreachable-requires g c = off (c.in_default-insert.ensures.succeeds c.requires.spare)
+
+pub returns-in_default-clause-spare : goal.returns-in_default-clause-spare
+returns-in_default-clause-spare g c = fewer (spare c.args.places.now)
+
+pub returns-clause-spare : goal.returns-clause-spare
+returns-clause-spare g c = c.insert.ensures.spare

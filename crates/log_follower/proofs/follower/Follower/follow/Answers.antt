@@ -1,9 +1,10 @@
-use Rattle.std.proofs.Common.{◌≡◌, sym, ap, ◌∙◌, subst, ◌+◌, ◌-◌, ◌<◌, ◌++◌, arith, length, take, drop, slice_index_or, []}
+use Rattle.std.proofs.Common.{◌≡◌, refl, sym, ap, ◌∙◌, subst, ◌+◌, ◌-◌, ◌<◌, ◌++◌, arith, length, take, drop, slice_index_or, []}
+use Rattle.std.proofs.lemmas.Result.{MatchResult-from_err}
 use Rattle.replica_machine.specs.Log.{machine_from}
 use Rattle.replica_machine.specs.Replay.{state, sayings_by_slot}
 use Rattle.log_follower.specs.Handed.{said_in, room_in}
-use Rattle.log_follower.specs.Following.{said_to, said_in_boot, kept_at, kept_from}
-use Rattle.log_follower.proofs.Logs.{parts, room_for, kept_then, handed_then}
+use Rattle.log_follower.specs.Following.{said_to, said_in_boot, kept_at, kept_from, Keeps}
+use Rattle.log_follower.proofs.Logs.{parts, room_for, kept_then, handed_then, keeps_on, none_fresh, some_fresh, all_within}
 use Rattle.log_follower.proofs.follower.Follower.follow.Goals as goal
 
 pub tell-requires : goal.tell-requires
@@ -105,3 +106,62 @@ returns-clause-ok_keeps g c = λ first follows keeps b i later passed l.
     ∙ kept b i later (λ e. let z = passed e in omega arith) (subst (λ q. i < length q) log l)
     ∙ ap (λ q. said_in_boot m.to c.args.self.now.node b (slice_index_or (sayings_by_slot m [] q) i [])) (sym log)
     ∙ ap (λ n. said_in_boot m.to n b (slice_index_or (sayings_by_slot m [] c.hand_out.new.self.log) i [])) (sym node)
+
+pub returns-in_err-tell-clause-err_keeps : goal.returns-in_err-tell-clause-err_keeps
+returns-in_err-tell-clause-err_keeps g c = λ first keeps.
+    let m = machine_from g.M.Machine.next g.M.Machine.says g.M.Machine.to first in
+    let before = c.in_ok-expect.ensures in
+    MatchResult-from_err c.from_residual-in_err-tell.result (λ _. Unit {0}) (λ _. Keeps m c.args.boot c.args.from c.tell.new.self)
+    c.from_residual-in_err-tell.ensures.0
+    (λ _. keeps_on m c.args.boot c.args.from c.args.self.now c.tell.new.self (c.tell.ensures.node ∙ before.node)
+    (c.in_err-tell.ensures.err_log ∙ before.log)
+    (λ b i l. c.tell.ensures.known b i (subst (λ q. i < length q) (sym before.log) l) ∙ ap (λ kept. kept_at b i kept) before.kept)
+    keeps)
+
+pub returns-in_err-tell-clause-spared : goal.returns-in_err-tell-clause-spared
+returns-in_err-tell-clause-spared g c = λ short.
+    let p = c.args.self.now.log in
+    let es = c.args.entries.now in
+    let known = c.known-known.result in
+    let of = parts c.args.from (length p) known es c.requires.within c.known-known.ensures in
+    let fresh = take (length es - (known - c.args.from)) (drop (known - c.args.from) es) in
+    c.tell.ensures.spared (none_fresh c.args.from (length es) (length p) known (length fresh) of.count of.whole short)
+    ∙ c.in_ok-expect.ensures.given_up
+
+pub returns-in_err-tell-clause-refuses : goal.returns-in_err-tell-clause-refuses
+returns-in_err-tell-clause-refuses g c = λ up long. c.from_residual-in_err-tell.ensures.0
+
+pub hand_out-requires-clause-log : goal.hand_out-requires-clause-log
+hand_out-requires-clause-log g c =
+    let p = c.args.self.now.log in
+    let es = c.args.entries.now in
+    let known = c.known-known.result in
+    let of = parts c.args.from (length p) known es c.requires.within c.known-known.ensures in
+    let fresh = take (length es - (known - c.args.from)) (drop (known - c.args.from) es) in
+    all_within c.args.from (length es) (length p) known (length fresh) of.count p fresh c.tell.new.self.log refl refl
+    (c.in_ok-tell.ensures.ok_log ∙ ap (λ l. l ++ fresh) c.in_ok-expect.ensures.log) of.within
+
+pub returns-clause-ok_log : goal.returns-clause-ok_log
+returns-clause-ok_log g c =
+    let p = c.args.self.now.log in
+    let es = c.args.entries.now in
+    let known = c.known-known.result in
+    let of = parts c.args.from (length p) known es c.requires.within c.known-known.ensures in
+    let fresh = take (length es - (known - c.args.from)) (drop (known - c.args.from) es) in
+    c.hand_out.ensures.log
+    ∙ c.in_ok-tell.ensures.ok_log
+    ∙ ap (λ l. l ++ fresh) c.in_ok-expect.ensures.log
+    ∙ ap (λ l. p ++ l) of.are
+
+pub returns-clause-spared : goal.returns-clause-spared
+returns-clause-spared g c = λ short. c.hand_out.ensures.given_up ∙ c.in_ok-tell.ensures.ok_alive ∙ c.in_ok-expect.ensures.given_up
+
+pub returns-clause-refuses : goal.returns-clause-refuses
+returns-clause-refuses g c = λ up long.
+    let p = c.args.self.now.log in
+    let es = c.args.entries.now in
+    let known = c.known-known.result in
+    let of = parts c.args.from (length p) known es c.requires.within c.known-known.ensures in
+    let fresh = take (length es - (known - c.args.from)) (drop (known - c.args.from) es) in
+    c.in_ok-tell.ensures.refuses (c.in_ok-expect.ensures.given_up ∙ up)
+    (some_fresh c.args.from (length es) (length p) known (length fresh) of.count of.within long)

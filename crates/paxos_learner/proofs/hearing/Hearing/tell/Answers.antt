@@ -1,8 +1,10 @@
-use Rattle.std.proofs.Common.{◌≡◌, List, [], ◌∷◌, ◌++◌, ◌∙◌, ap, sym, subst, refl}
+use Rattle.std.proofs.Common.{◌≡◌, Option, List, [], ◌∷◌, ◌++◌, ◌∙◌, ap, sym, subst, refl}
 use Rattle.paxos_packets.specs.declared.entry.Entry.{Entry}
 use Rattle.paxos_learner.specs.declared.hearing.News.{News}
 use Rattle.paxos_learner.specs.declared.hearing.News.TheVariants.{Told}
-use Rattle.paxos_learner.specs.Hearing.{IsOver, hear_all}
+use Rattle.paxos_learner.specs.Learner.{is_other, disagrees}
+use Rattle.paxos_learner.specs.Hearing.{Draft, IsOver, hear_all, after}
+use Rattle.paxos_learner.proofs.Drafting.{drafted, drafted_more, over_kept, on_err}
 use Rattle.paxos_learner.proofs.Overlay.{over_same, over_tell, over_told}
 use Rattle.paxos_learner.proofs.hearing.Hearing.tell.Goals as goal
 
@@ -19,3 +21,40 @@ invariant_of-self-2 g c =
     (over_told c.self.inside.changed.heard c.self.inside.gained.learned c.self.inside.learner.now.state.learner
     (hear_all c.self.inside.news.items c.self.inside.learner.now.state).learner c.args.slot c.args.entry.now c.self.invariant
     c.gain.ensures.least c.gain.ensures.most)))
+
+pub invariant_of-self : goal.invariant_of-self
+invariant_of-self g c =
+    over_kept c.self.inside.changed.heard c.self.inside.changed.heard c.self.inside.gained.learned c.self.inside.gained.learned
+    c.self.inside.learner.now.state c.reserve.new.self.items c.self.inside.news.items refl refl c.reserve.ensures.items c.self.invariant
+
+pub returns-then-is_err-clause-err : goal.returns-then-is_err-clause-err
+returns-then-is_err-clause-err g c =
+    drafted c.self.inside.learner.now.state c.reserve.new.self.items c.self.inside.news.items c.args.self.now c.reserve.ensures.items
+    c.self.view_is
+
+pub invariant_of-self-in_err-other : goal.invariant_of-self-in_err-other
+invariant_of-self-in_err-other g c =
+    over_kept c.self.inside.changed.heard c.self.inside.changed.heard c.self.inside.gained.learned c.gain.new.gained.learned
+    c.self.inside.learner.now.state c.reserve.new.self.items c.self.inside.news.items refl c.in_err-other.ensures.err
+    c.reserve.ensures.items c.self.invariant
+
+pub returns-in_err-other-clause-err : goal.returns-in_err-other-clause-err
+returns-in_err-other-clause-err g c =
+    on_err c.from_residual.result _
+    (drafted c.self.inside.learner.now.state c.reserve.new.self.items c.self.inside.news.items c.args.self.now c.reserve.ensures.items
+    c.self.view_is)
+
+pub returns-clause-ok : goal.returns-clause-ok
+returns-clause-ok g c =
+    let items : c.push_reserved.new.self.items ≡ c.self.inside.news.items ++ Told c.args.slot c.args.entry.now ∷ [] =
+    c.push_reserved.ensures.items
+    ∙ ap (λ (ns : List (News g.row.B.Denot)). ns ++ Told c.args.slot c.in-Ok.copy ∷ []) c.reserve.ensures.items
+    ∙ ap (λ (e : Entry g.row.B.Denot). c.self.inside.news.items ++ Told c.args.slot e ∷ []) c.in-Ok.ensures in
+    drafted_more c.self.inside.learner.now.state c.push_reserved.new.self.items c.self.inside.news.items (Told c.args.slot c.args.entry.now)
+    c.args.self.now items c.self.view_is
+
+pub returns-clause-other : goal.returns-clause-other
+returns-clause-other g c =
+    c.in_ok-other.ensures.other
+    ∙ ap (λ (o : Option (Entry g.row.B.Denot)). is_other g.B.Body.same c.args.entry.now o) (sym (c.self.invariant.learned c.args.slot))
+    ∙ ap (λ (d : Draft g.row.B.Denot). disagrees g.B.Body.same c.args.slot c.args.entry.now (after d).learner) c.self.view_is

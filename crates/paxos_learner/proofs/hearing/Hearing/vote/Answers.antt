@@ -8,6 +8,7 @@ use Rattle.paxos_learner.specs.Tallies.{Heard, place_of, nodes_heard, insert_ent
 use Rattle.paxos_learner.specs.Learner.{State, is_other, vote_disagrees}
 use Rattle.paxos_learner.specs.Hearing.{Draft, IsOver, hear_all, after}
 use Rattle.paxos_learner.proofs.Counting.{few_agree, most_agree}
+use Rattle.paxos_learner.proofs.Drafting.{drafted, drafted_more, over_kept, on_err}
 use Rattle.paxos_learner.proofs.Overlay.{members_stay, over_same, over_cast, over_few, over_most}
 use Rattle.paxos_learner.proofs.hearing.Hearing.vote.Goals as goal
 
@@ -87,3 +88,55 @@ returns-clause-other g c =
     ∙ ap (λ (o : Option (Entry g.row.B.Denot)). is_other g.B.Body.same v.entry o) (sym (c.self.invariant.learned v.slot))
     ∙ most_agree g.B.Body.same now.members c.args.node v now.learner most
     ∙ ap (λ (d : Draft g.row.B.Denot). vote_disagrees g.B.Body.same (after d).members c.args.node v (after d).learner) c.self.view_is
+
+pub invariant_of-self : goal.invariant_of-self
+invariant_of-self g c =
+    over_kept c.self.inside.changed.heard c.self.inside.changed.heard c.self.inside.gained.learned c.self.inside.gained.learned
+    c.self.inside.learner.now.state c.reserve.new.self.items c.self.inside.news.items refl refl c.reserve.ensures.items c.self.invariant
+
+pub returns-then-is_err-clause-err : goal.returns-then-is_err-clause-err
+returns-then-is_err-clause-err g c =
+    drafted c.self.inside.learner.now.state c.reserve.new.self.items c.self.inside.news.items c.args.self.now c.reserve.ensures.items
+    c.self.view_is
+
+pub invariant_of-self-in_err-make_room : goal.invariant_of-self-in_err-make_room
+invariant_of-self-in_err-make_room g c =
+    over_kept c.self.inside.changed.heard c.make_room.new.self.heard c.self.inside.gained.learned c.self.inside.gained.learned
+    c.self.inside.learner.now.state c.reserve.new.self.items c.self.inside.news.items c.make_room.ensures.heard refl
+    c.reserve.ensures.items c.self.invariant
+
+pub returns-in_err-make_room-clause-err : goal.returns-in_err-make_room-clause-err
+returns-in_err-make_room-clause-err g c =
+    on_err c.from_residual.result _
+    (drafted c.self.inside.learner.now.state c.reserve.new.self.items c.self.inside.news.items c.args.self.now c.reserve.ensures.items
+    c.self.view_is)
+
+pub invariant_of-self-in_err-other : goal.invariant_of-self-in_err-other
+invariant_of-self-in_err-other g c =
+    over_kept c.self.inside.changed.heard c.make_room.new.self.heard c.self.inside.gained.learned c.gain.new.gained.learned
+    c.self.inside.learner.now.state c.reserve.new.self.items c.self.inside.news.items c.make_room.ensures.heard c.in_err-other.ensures.err
+    c.reserve.ensures.items c.self.invariant
+
+pub returns-in_err-other-clause-err : goal.returns-in_err-other-clause-err
+returns-in_err-other-clause-err g c =
+    on_err c.from_residual-in_err-other.result _
+    (drafted c.self.inside.learner.now.state c.reserve.new.self.items c.self.inside.news.items c.args.self.now c.reserve.ensures.items
+    c.self.view_is)
+
+pub returns-then-not-has_majority-clause-ok : goal.returns-then-not-has_majority-clause-ok
+returns-then-not-has_majority-clause-ok g c =
+    let items : c.push_reserved.new.self.items ≡ c.self.inside.news.items ++ Cast c.args.node c.args.vote.now ∷ [] =
+    c.push_reserved.ensures.items
+    ∙ ap (λ (ns : List (News g.row.B.Denot)). ns ++ Cast c.args.node c.in-Ok.copy ∷ []) c.reserve.ensures.items
+    ∙ ap (λ (w : Vote g.row.B.Denot). c.self.inside.news.items ++ Cast c.args.node w ∷ []) c.in-Ok.ensures in
+    drafted_more c.self.inside.learner.now.state c.push_reserved.new.self.items c.self.inside.news.items (Cast c.args.node c.args.vote.now)
+    c.args.self.now items c.self.view_is
+
+pub returns-clause-ok : goal.returns-clause-ok
+returns-clause-ok g c =
+    let items : c.push_reserved-2.new.self.items ≡ c.self.inside.news.items ++ Cast c.args.node c.args.vote.now ∷ [] =
+    c.push_reserved-2.ensures.items
+    ∙ ap (λ (ns : List (News g.row.B.Denot)). ns ++ Cast c.args.node c.in-Ok.copy ∷ []) c.reserve.ensures.items
+    ∙ ap (λ (w : Vote g.row.B.Denot). c.self.inside.news.items ++ Cast c.args.node w ∷ []) c.in-Ok.ensures in
+    drafted_more c.self.inside.learner.now.state c.push_reserved-2.new.self.items c.self.inside.news.items (Cast c.args.node c.args.vote.now)
+    c.args.self.now items c.self.view_is

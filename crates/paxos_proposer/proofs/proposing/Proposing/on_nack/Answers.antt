@@ -1,4 +1,5 @@
-use Rattle.std.proofs.Common.{◌≡◌, true, List, [], ◌∷◌, ◌++◌, ◌∙◌, ap, sym, rules}
+use Rattle.std.proofs.Common.{◌≡◌, ◌+◌, ◌≤◌, true, List, [], ◌∷◌, ◌++◌, ◌∙◌, ap, sym, arith, rules}
+use Rattle.std.specs.Prelude.{vec_len, vec_capacity}
 use Rattle.paxos_proposer.specs.declared.moves.Move.{Move}
 use Rattle.paxos_proposer.specs.declared.moves.Move.TheVariants.{Nacked}
 use Rattle.paxos_proposer.specs.Moves.{after_moves}
@@ -27,3 +28,16 @@ returns-clause-after g c =
     let items : c.push_reserved.new.self.items ≡ c.self.inside.moves.items ++ Nacked c.args.ballot c.args.promised ∷ [] =
     c.push_reserved.ensures.items ∙ ap (λ (ms : List (Move g.row.B.Denot)). ms ++ Nacked c.args.ballot c.args.promised ∷ []) c.reserve.ensures.items in
     d.after_more c.self.inside.moves.items _ (Nacked c.args.ballot c.args.promised) s items ∙ ap (λ (a : Draft g.row.B.Denot). after_nack c.args.ballot c.args.promised (after a)) c.self.view_is
+
+pub invariant_of-self : goal.invariant_of-self
+invariant_of-self g c =
+    d.told_still c.self.inside.seen c.self.inside.phase c.self.inside.goes_on c.self.inside.proposed.votes c.self.inside.moves.items _
+    c.self.inside.proposer.now.state c.reserve.ensures.items c.self.invariant
+
+pub push_reserved-requires : goal.push_reserved-requires
+push_reserved-requires g c =
+    let room : vec_len c.reserve.new.self + 1 ≤ vec_capacity c.reserve.new.self = d.where_ok c.reserve.result c.if-is_err.ensures.value c.reserve.ensures.ok in
+    omega arith
+
+pub returns-then-is_err-clause-err : goal.returns-then-is_err-clause-err
+returns-then-is_err-clause-err g c = d.as_it_was c.self.inside.proposer.now.state c.self.inside.moves.items _ _ c.reserve.ensures.items c.self.view_is

@@ -1,4 +1,5 @@
-use Rattle.std.proofs.Common.{◌≡◌, ℕ, false, Some, List, subst, [], ◌∷◌, ◌++◌, ◌∙◌, ap, sym}
+use Rattle.std.proofs.Common.{◌≡◌, ℕ, ◌+◌, ◌≤◌, false, None, Some, List, subst, [], ◌∷◌, ◌++◌, ◌∙◌, ap, sym, arith}
+use Rattle.std.specs.Prelude.{vec_len, vec_capacity}
 use Rattle.paxos_proposer.specs.declared.phase.Phase.{Phase}
 use Rattle.paxos_proposer.specs.declared.moves.Move.{Move}
 use Rattle.paxos_proposer.specs.declared.moves.Move.TheVariants.{Promised}
@@ -23,6 +24,12 @@ invariant_of-self-in_default g c =
     ∙ ap (λ (r : Role g.row.B.Denot). called_by s.members c.args.node c.args.ballot c.args.votes r) same ∙ sym c.in_ok-called.ensures.called in
     d.told_more _ _ _ _ c.self.inside.moves.items _ (Promised c.args.node c.args.ballot c.args.votes) s items c.self.invariant.1 tt
     (d.told_count c.self.inside.seen c.args.node c.args.ballot c.args.votes _ _ _ s now c.self.invariant.0 (called ∙ c.in_default.is))
+
+pub returns-in_default-clause-ok : goal.returns-in_default-clause-ok
+returns-in_default-clause-ok g c =
+    let items : c.push_reserved.new.self.items ≡ c.self.inside.moves.items ++ Promised c.args.node c.args.ballot c.args.votes ∷ [] =
+    c.push_reserved.ensures.items ∙ ap (λ (ms : List (Move g.row.B.Denot)). ms ++ Promised c.args.node c.args.ballot c.args.votes ∷ []) c.reserve.ensures.items in
+    d.and_one c.self.inside.proposer.now.state c.self.inside.moves.items _ (Promised c.args.node c.args.ballot c.args.votes) _ items c.self.view_is
 
 pub returns-in_default-clause-after : goal.returns-in_default-clause-after
 returns-in_default-clause-after g c =
@@ -52,6 +59,12 @@ invariant_of-self-2 g c =
     (d.told_lead c.self.inside.seen c.args.node c.args.ballot c.args.votes c.self.inside.phase c.self.inside.goes_on c.self.inside.proposed.votes
     c.clear.new.self.votes s now c.in-Some.entries c.self.invariant.0 (called ∙ some) none))
 
+pub returns-clause-ok : goal.returns-clause-ok
+returns-clause-ok g c =
+    let items : c.push_reserved.new.self.items ≡ c.self.inside.moves.items ++ Promised c.args.node c.args.ballot c.args.votes ∷ [] =
+    c.push_reserved.ensures.items ∙ ap (λ (ms : List (Move g.row.B.Denot)). ms ++ Promised c.args.node c.args.ballot c.args.votes ∷ []) c.reserve.ensures.items in
+    d.and_one c.self.inside.proposer.now.state c.self.inside.moves.items _ (Promised c.args.node c.args.ballot c.args.votes) _ items c.self.view_is
+
 pub returns-clause-after : goal.returns-clause-after
 returns-clause-after g c =
     let s : State g.row.B.Denot = c.self.inside.proposer.now.state in
@@ -60,3 +73,26 @@ returns-clause-after g c =
     c.push_reserved.ensures.items ∙ ap (λ (ms : List (Move g.row.B.Denot)). ms ++ Promised c.args.node c.args.ballot c.args.votes ∷ []) c.reserve.ensures.items in
     d.after_more c.self.inside.moves.items _ (Promised c.args.node c.args.ballot c.args.votes) s items
     ∙ ap (λ (a : Draft g.row.B.Denot). after_promise c.args.node c.args.ballot c.args.votes (after a)) c.self.view_is
+
+pub returns-then-is_err-clause-err : goal.returns-then-is_err-clause-err
+returns-then-is_err-clause-err g c = d.as_it_was c.self.inside.proposer.now.state c.self.inside.moves.items _ _ c.reserve.ensures.items c.self.view_is
+
+pub returns-in_default-clause-called : goal.returns-in_default-clause-called
+returns-in_default-clause-called g c =
+    d.called_still c.self.inside.proposer.now.state c.self.inside.moves.items c.args.self.now c.args.node c.args.ballot c.args.votes c.in_ok-called.called
+    None c.self.view_is c.requires c.self.invariant.0.members_is c.in_ok-called.ensures.called c.in_default.is
+
+pub returns-clause-called : goal.returns-clause-called
+returns-clause-called g c =
+    d.called_still c.self.inside.proposer.now.state c.self.inside.moves.items c.args.self.now c.args.node c.args.ballot c.args.votes c.in_ok-called.called
+    (Some c.in-Some.entries) c.self.view_is c.requires c.self.invariant.0.members_is c.in_ok-called.ensures.called c.in-Some.is
+
+pub invariant_of-self : goal.invariant_of-self
+invariant_of-self g c =
+    d.told_still c.self.inside.seen c.self.inside.phase c.self.inside.goes_on c.self.inside.proposed.votes c.self.inside.moves.items _
+    c.self.inside.proposer.now.state c.reserve.ensures.items c.self.invariant
+
+pub push_reserved-requires : goal.push_reserved-requires
+push_reserved-requires g c =
+    let room : vec_len c.reserve.new.self + 1 ≤ vec_capacity c.reserve.new.self = d.where_ok c.reserve.result c.if-is_err.ensures.value c.reserve.ensures.ok in
+    omega arith

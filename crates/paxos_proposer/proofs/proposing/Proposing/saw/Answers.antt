@@ -1,4 +1,5 @@
-use Rattle.std.proofs.Common.{◌≡◌, max, List, [], ◌∷◌, ◌++◌, ◌∙◌, ap, arith}
+use Rattle.std.proofs.Common.{◌≡◌, ◌+◌, ◌≤◌, max, List, [], ◌∷◌, ◌++◌, ◌∙◌, ap, arith}
+use Rattle.std.specs.Prelude.{vec_len, vec_capacity}
 use Rattle.paxos_proposer.specs.declared.moves.Move.{Move}
 use Rattle.paxos_proposer.specs.declared.moves.Move.TheVariants.{Saw}
 use Rattle.paxos_proposer.specs.Moves.{after_moves}
@@ -24,3 +25,16 @@ returns-clause-after g c =
     let items : c.push_reserved.new.self.items ≡ c.self.inside.moves.items ++ Saw c.args.round ∷ [] =
     c.push_reserved.ensures.items ∙ ap (λ (ms : List (Move g.row.B.Denot)). ms ++ Saw c.args.round ∷ []) c.reserve.ensures.items in
     d.after_more c.self.inside.moves.items _ (Saw c.args.round) s items ∙ ap (λ (a : Draft g.row.B.Denot). saw c.args.round (after a)) c.self.view_is
+
+pub invariant_of-self : goal.invariant_of-self
+invariant_of-self g c =
+    d.told_still c.self.inside.seen c.self.inside.phase c.self.inside.goes_on c.self.inside.proposed.votes c.self.inside.moves.items _
+    c.self.inside.proposer.now.state c.reserve.ensures.items c.self.invariant
+
+pub push_reserved-requires : goal.push_reserved-requires
+push_reserved-requires g c =
+    let room : vec_len c.reserve.new.self + 1 ≤ vec_capacity c.reserve.new.self = d.where_ok c.reserve.result c.if-is_err.ensures.value c.reserve.ensures.ok in
+    omega arith
+
+pub returns-then-is_err-clause-err : goal.returns-then-is_err-clause-err
+returns-then-is_err-clause-err g c = d.as_it_was c.self.inside.proposer.now.state c.self.inside.moves.items _ _ c.reserve.ensures.items c.self.view_is

@@ -1,13 +1,93 @@
-use Rattle.std.proofs.Common.{sym, ap, ◌∙◌}
-use Rattle.replica_machine.specs.Log.{LogState, machine_from}
-use Rattle.replica_machine.specs.Replay.{state}
+use Rattle.std.proofs.Common.{refl, sym, ap, ◌∙◌, ◌++◌, arith, map, subst}
+use Rattle.replica_machine.specs.declared.log.LearnFault.TheVariants.{Memory, Failed}
+use Rattle.replica_machine.specs.Log.{machine_from}
+use Rattle.replica_machine.specs.Roll.{IsRollOf}
+use Rattle.replica_machine.specs.Replay.{sayings_by_slot}
+use Rattle.replica_machine.proofs.Appending.{memory_failed, memory_disagree, failed_disagree, other_fault, no_fault}
+use Rattle.replica_machine.proofs.Appending.{if_not_err, log_stays, stays_empty, not_failed, applied_is, begins_with, begins_same, state_inside}
 use Rattle.replica_machine.proofs.log.AppliedLog.append.Goals as goal
 
-pub returns-clause-follows : goal.returns-clause-follows
-returns-clause-follows g c = λ first follows.
-    let m = machine_from g.M.Machine.next g.M.Machine.says g.M.Machine.to first in
-    c.in-Ok-apply_all.ensures.content first
-    (ap (λ (v : LogState g.row.M-Body.Denot g.row.M.Denot). g.M.Machine.content v.machine) c.self.view_is
-    ∙ follows
-    ∙ ap (λ (v : LogState g.row.M-Body.Denot g.row.M.Denot). state m v.applied) (sym c.self.view_is)
-    ∙ ap (λ l. state m l) (sym c.reserve.ensures.items))
+pub apply_all-requires : goal.apply_all-requires
+apply_all-requires g c =
+    let many = c.len-2.ensures in
+    let kept = if_not_err _ (sym c.if-is_err.ensures.value) c.reserve.ensures.ok in
+    let none = c.in-Ok.ensures.len in
+    let made = c.in-Ok.ensures.capacity in
+    let asked = c.len.ensures in
+    record {
+      roll = subst (λ l. IsRollOf l c.self.inside.roll) (sym c.reserve.ensures.items) (c.self.invariant c.if-self.false);
+      room = omega arith;
+      said_room = omega arith;
+    }
+
+pub returns-in_default : goal.returns-in_default
+returns-in_default g c = record {
+  applied = tt;
+  count = tt;
+  ahead = c.requires;
+  alive = tt;
+  failed = λ f. absurd (not_failed c.args.self.now _ c.self.view_is c.if-self.false f);
+  memory = λ _. refl;
+  refused = λ e. absurd (other_fault Memory Failed memory_failed e);
+  no_other = memory_disagree;
+  err = begins_same c.args.self.now c.args.self.now refl c.args.self.now.applied refl;
+  follows = λ _ _. tt;
+  says = λ _ _. tt;
+}
+
+pub returns-then-is_err : goal.returns-then-is_err
+returns-then-is_err g c = record {
+  applied = tt;
+  count = tt;
+  ahead = stays_empty c.args.self.now _ c.self.view_is c.requires;
+  alive = tt;
+  failed = λ f. absurd (not_failed c.args.self.now _ c.self.view_is c.if-self.false f);
+  memory = λ _. log_stays c.args.self.now _ c.self.view_is _ c.reserve.ensures.items;
+  refused = λ e. absurd (other_fault Memory Failed memory_failed e);
+  no_other = memory_disagree;
+  err = begins_same c.args.self.now _ c.self.view_is _ c.reserve.ensures.items;
+  follows = λ _ _. tt;
+  says = λ _ _. tt;
+}
+
+pub returns-in_default-apply_all : goal.returns-in_default-apply_all
+returns-in_default-apply_all g c = record {
+  applied = tt;
+  count = tt;
+  ahead = stays_empty c.args.self.now _ c.self.view_is c.requires;
+  alive = tt;
+  failed = λ _. refl;
+  memory = λ e. absurd (other_fault Failed Memory (λ f. memory_failed (sym f)) e);
+  refused = λ _. refl;
+  no_other = failed_disagree;
+  err = begins_with c.args.self.now _ c.self.view_is _ _ c.reserve.ensures.items c.in_default-apply_all.ensures.err;
+  follows = λ _ _. tt;
+  says = λ _ _. tt;
+}
+
+pub returns : goal.returns
+returns g c =
+    let now = c.args.self.now in
+    let done = c.in-Ok-apply_all.ensures in
+    let stood = c.reserve.ensures.items in
+    let before = applied_is now _ c.self.view_is _ stood in
+    let none = c.in-Ok.ensures.len in
+    let count = done.count in
+    let content = g.M.Machine.content in
+    let from = machine_from g.M.Machine.next g.M.Machine.says g.M.Machine.to in
+    record {
+      applied = done.applied ∙ ap (λ l. l ++ c.args.entries.items) before;
+      count = omega arith;
+      ahead = stays_empty now _ c.self.view_is c.requires;
+      alive = c.if-self.false;
+      failed = λ f. absurd (not_failed now _ c.self.view_is c.if-self.false f);
+      memory = λ e. absurd (no_fault c.apply_all.new.said Memory e);
+      refused = λ e. absurd (no_fault c.apply_all.new.said Failed e);
+      no_other = tt;
+      err = tt;
+      follows = λ first follows. done.content first (state_inside now _ c.self.view_is (from first) content _ stood follows);
+      says = λ first follows. done.said first (state_inside now _ c.self.view_is (from first) content _ stood follows)
+          ∙ ap (λ l. map (λ says. says.items) l ++ sayings_by_slot (from first) c.reserve.new.self.items c.args.entries.items)
+          c.in-Ok.ensures.items
+          ∙ ap (λ l. sayings_by_slot (from first) l c.args.entries.items) before;
+    }
