@@ -7,7 +7,7 @@ use crate::actors::{gathered, last_seat, opened, put_seat, seat_of};
 use crate::check::Check;
 use crate::hearing::number;
 use acceptor_keeper::MemKeeper;
-use core_tests::{Count, Number};
+use core_bodies::{Count, Number};
 use mail_table::{Mail, NodeSeat, Office, found};
 use node_actor::{Actor, Body, Keeper, Machine, Members, Packet};
 use paxos_packets::Kind;

@@ -6,7 +6,7 @@ use crate::check::Check;
 use crate::hearing::Heard;
 use acceptor_keeper::MemKeeper;
 use actor_run::{Feed, Gate, Seen, run_node};
-use core_tests::{Count, Number};
+use core_bodies::{Count, Number};
 use mail_table::Mail;
 use node_actor::{Actor, Event};
 use paxos_packets::Transport;

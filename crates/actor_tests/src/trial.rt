@@ -3,8 +3,8 @@ use crate::counting::{Counting, Failing, fails, serve_and_leave};
 use crate::crashing::outlives;
 use crate::refusing::{begins_again, first_does, refuses};
 use acceptor_keeper::MemKeeper;
+use core_bodies::{Count, Number};
 use core_stands::{Plays, with_stations};
-use core_tests::{Count, Number};
 use std::alloc::Global;
 use std::process::Abort;
 

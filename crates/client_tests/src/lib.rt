@@ -1,7 +1,11 @@
-//! Tests of what a client meets below the realm, from ids to messages and frames, and of acts as octets, over the crates' public surfaces. A
-//! crate with tests is proved twice, so they stand here.
+//! Tests of what a client meets, from ids to messages and frames, of acts as octets, and of the realm and its parts, over the crates' public
+//! surfaces. A crate with tests is proved twice, so they stand here.
 #![tactic(auto)]
 
+#[cfg(test)]
+mod calling;
+#[cfg(test)]
+mod calls;
 #[cfg(test)]
 mod check;
 #[cfg(test)]
@@ -20,5 +24,13 @@ mod messages;
 mod pattern_tables;
 #[cfg(test)]
 mod patterns;
+#[cfg(test)]
+mod realm;
+#[cfg(test)]
+mod registrations;
+#[cfg(test)]
+mod sessions;
+#[cfg(test)]
+mod subscriptions;
 #[cfg(test)]
 mod values;

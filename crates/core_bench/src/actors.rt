@@ -3,8 +3,8 @@ use crate::bodies::Numbers;
 use crate::cluster::{Cluster, Counts, Load, measure};
 use crate::fault::BenchFault;
 use acceptor_keeper::MemKeeper;
+use core_bodies::{Count, Number};
 use core_stands::{NODES, Plays, Source, Station, count_of, with_stations};
-use core_tests::{Count, Number};
 use std::alloc::Global;
 
 /// An actor that adds up, over a store in memory.

@@ -1,6 +1,6 @@
 // The bodies of acts: numbers, and a realm's acts, each a PUBLISH whose text has 200 octets.
 use crate::fault::BenchFault;
-use core_tests::Number;
+use core_bodies::Number;
 use realm_acts::{Act, Id, Shared};
 use std::alloc::{AllocError, Global};
 use wamp_messages::{Memory, read};

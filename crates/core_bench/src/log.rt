@@ -1,8 +1,8 @@
 // The applied log: what learning and applying an entry takes, behind a gap of one slot and of many.
 use crate::cluster::Load;
 use crate::fault::BenchFault;
+use core_bodies::{Count, Number};
 use core_stands::close_log;
-use core_tests::{Count, Number};
 use replica_machine::{AppliedLog, Entry, Slot};
 use std::time::Instant;
 

@@ -2,8 +2,8 @@
 use crate::bodies::{Acts, Numbers, Source, text_of};
 use crate::cluster::{Cluster, Counts, Load, measure};
 use crate::fault::BenchFault;
+use core_bodies::Number;
 use core_stands::{Nodes, Passes, with_nodes};
-use core_tests::Number;
 use paxos_packets::Body;
 use realm_acts::Act;
 

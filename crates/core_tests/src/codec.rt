@@ -1,6 +1,6 @@
 use crate::check::Check;
-use crate::{Number, Octet};
 use command_codec::{Entry, put_entry, take_entry};
+use core_bodies::{Number, Octet};
 use std::alloc::Global;
 use std::process::Abort;
 use test_checks::{check, check_eq};

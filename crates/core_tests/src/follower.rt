@@ -1,5 +1,5 @@
 use crate::check::Check;
-use crate::{Count, Foretells, Number, Refuses};
+use core_bodies::{Count, Foretells, Number, Refuses};
 use log_follower::{Follower, Transport};
 use replica_machine::{Entry, Machine};
 use std::alloc::Global;

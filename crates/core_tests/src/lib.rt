@@ -1,25 +1,37 @@
-//! The bodies and machines that tests of the consensus core are run with, and tests of the machines that follow a log, of a node's
-//! machine through crashes and restarts, and of entries as octets.
+//! Tests of the consensus core below its actors: packets, those ever sent and those that wait, the acceptor and the keeper of its rows in
+//! memory, the proposer and the learner, what is planned on both, one node, the machines that follow a log, and entries as octets. All over the
+//! crates' public surfaces. A crate with tests is proved twice, so they stand here.
 #![tactic(auto)]
 
+#[cfg(test)]
+mod acceptor;
 #[cfg(test)]
 mod check;
 #[cfg(test)]
 mod codec;
-mod count;
 #[cfg(test)]
 mod follower;
-mod foretells;
+#[cfg(test)]
+mod hearing;
+#[cfg(test)]
+mod keeper;
+#[cfg(test)]
+mod learner;
 #[cfg(test)]
 mod log;
 #[cfg(test)]
 mod machine;
-mod number;
-mod octet;
-mod refuses;
-
-pub use count::Count;
-pub use foretells::Foretells;
-pub use number::Number;
-pub use octet::Octet;
-pub use refuses::Refuses;
+#[cfg(test)]
+mod nodes;
+#[cfg(test)]
+mod outboxes;
+#[cfg(test)]
+mod packets;
+#[cfg(test)]
+mod planning;
+#[cfg(test)]
+mod proposer;
+#[cfg(test)]
+mod proposing;
+#[cfg(test)]
+mod sent;

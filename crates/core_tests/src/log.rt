@@ -1,5 +1,5 @@
 use crate::check::Check;
-use crate::{Count, Number, Refuses};
+use core_bodies::{Count, Number, Refuses};
 use replica_machine::{AppliedLog, Entry, LearnFault, Machine, Roll, Slot};
 use std::process::Abort;
 use test_checks::{check, check_eq};

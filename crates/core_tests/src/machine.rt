@@ -1,7 +1,7 @@
 ghost use Rattle.std.specs.Prelude.{◌≡◌, OnOk, fold};
 
 use crate::check::Check;
-use crate::{Count, Number};
+use core_bodies::{Count, Number};
 use paxos_packets::Transport;
 use replica_machine::{Failed, Input, Machine};
 use std::process::Abort;

@@ -6,7 +6,7 @@ ghost use Rattle.paxos_node.specs.declared.view.Opened.TheVariants.{Never};
 use crate::check::Check;
 use crate::sql::{Reopens, new_store};
 use crate::station::{Left, Station, again, number_of, opened};
-use core_tests::{Count, Number};
+use core_bodies::{Count, Number};
 use mail_table::{Mail, NodeSeat, Office, found};
 use node_actor::{Keeper, Machine, Members};
 use std::alloc::Global;

@@ -2,7 +2,7 @@ use crate::check::Check;
 use acceptor_keeper::{Keeper, KeeperFault};
 use acceptor_store::SqlKeeper;
 use command_codec::Coder;
-use core_tests::{Number, Octet};
+use core_bodies::{Number, Octet};
 use paxos_packets::{Ballot, Body, Change, Entry, Rows, Slot, Vote, Votes};
 use sqlite::{Alter, Connection, FileStore, Files, MemStore, Options};
 use sqlite_disk::{Crash, Memory};

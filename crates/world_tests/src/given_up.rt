@@ -4,7 +4,7 @@ use crate::packets::{FIRST, LOG, PACKETS, SECOND};
 use crate::schedule::SESSION;
 use crate::worlds::{has_log, has_sent, run_rows, turn, world_of};
 use cluster_world::World;
-use core_tests::Refuses;
+use core_bodies::Refuses;
 use std::alloc::Global;
 use std::process::Abort;
 use test_checks::{check, check_eq};

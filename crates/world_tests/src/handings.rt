@@ -4,7 +4,7 @@ use crate::schedule::Turn;
 use crate::session::counts;
 use crate::worlds::{Told, flush, hands_out, turn};
 use cluster_world::World;
-use core_tests::Count;
+use core_bodies::Count;
 use std::alloc::Global;
 use std::process::Abort;
 use test_checks::check;

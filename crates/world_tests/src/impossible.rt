@@ -4,7 +4,7 @@ use crate::schedule::{SESSION, Turn};
 use crate::session::{counts, goes, is_behind};
 use crate::worlds::{shown, turn};
 use cluster_world::World;
-use core_tests::Count;
+use core_bodies::Count;
 use std::alloc::Global;
 use std::process::Abort;
 use test_checks::check;

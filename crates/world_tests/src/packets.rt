@@ -1,5 +1,5 @@
 // Packets and entries as rows of words and numbers, and those of one session through three nodes.
-use core_tests::Number;
+use core_bodies::Number;
 use paxos_packets::{Ballot, Body, Entries, Entry, Kind, Packet, Slot, Vote, Votes};
 use std::alloc::Global;
 use std::panic::Expect;

@@ -8,7 +8,7 @@ ghost use Rattle.paxos_node.specs.declared.event.Event.TheVariants.{Start, Tick}
 ghost use Rattle.std.specs.Prelude.{◌≡◌, ◌≤◌, ℕ, eqb, All, IfOk, IfSome, OnOk, true, false};
 
 use crate::check::Check;
-use core_tests::Number;
+use core_bodies::Number;
 use mail_table::{Mail, NodeSeat, Office, found};
 use paxos_node::{Event, Node, Outcome, Packets};
 use paxos_packets::{Kind, Members, Packet, Rows, Votes};

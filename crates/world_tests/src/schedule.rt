@@ -1,6 +1,6 @@
 // Events as rows of words and numbers, and those of one session through three nodes.
 use crate::packets::{Mail, PACKETS, packet_of};
-use core_tests::Number;
+use core_bodies::Number;
 use paxos_node::Event;
 use std::alloc::Global;
 use std::panic::Expect;

@@ -6,7 +6,7 @@ use crate::worlds::{
     Told, deliver, hands_out, happens, has_log, has_sent, run_rows, shown, turn, was_told, world_of,
 };
 use cluster_world::{Memory, World};
-use core_tests::{Count, Number};
+use core_bodies::{Count, Number};
 use paxos_node::Event;
 use paxos_packets::Transport;
 use replica_machine::Machine;

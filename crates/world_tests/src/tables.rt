@@ -2,7 +2,7 @@ ghost use Rattle.std.specs.Prelude.{◌≡◌, ◌≤◌, All};
 ghost use Rattle.mail_table.specs.Seats.{Owns};
 
 use crate::check::Check;
-use core_tests::Number;
+use core_bodies::Number;
 use mail_table::{Mail, Memory, NodeSeat, Office, Worn, found};
 use paxos_packets::Members;
 use std::process::Abort;

@@ -7,7 +7,7 @@ ghost use Rattle.std.specs.Prelude.{◌≡◌, ◌≤◌, All};
 
 use crate::check::Check;
 use crate::posting::{for_second, opened, stepped};
-use core_tests::Number;
+use core_bodies::Number;
 use mail_table::{Mail, NodeSeat, Office, found};
 use paxos_node::Node;
 use paxos_packets::{Members, Packet};

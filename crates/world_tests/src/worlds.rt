@@ -4,7 +4,7 @@ ghost use Rattle.std.specs.Prelude.{◌≡◌, false};
 use crate::packets::{Held, Mail, is_log, is_mail};
 use crate::schedule::{Turn, event_of, events_of};
 use cluster_world::World;
-use core_tests::Number;
+use core_bodies::Number;
 use paxos_node::Event;
 use paxos_packets::{Body, Members, Packet, Transport};
 use replica_machine::Machine;

@@ -1,5 +1,5 @@
 use crate::check::Check;
-use core_tests::Number;
+use core_bodies::Number;
 use paxos_node::{Node, NodeFault};
 use paxos_packets::{Ballot, Members, Rows, Votes};
 use std::alloc::Global;

@@ -1,6 +1,6 @@
 use crate::check::Check;
 use acceptor_keeper::{Keeper, KeeperFault, MemKeeper};
-use core_tests::Number;
+use core_bodies::Number;
 use paxos_packets::{Ballot, Change, Entry, Rows, Slot, Vote, Votes};
 use std::alloc::Global;
 use std::process::Abort;

@@ -1,5 +1,5 @@
 use crate::check::Check;
-use core_tests::Number;
+use core_bodies::Number;
 use paxos_learner::{Hearing, Learner, News};
 use paxos_packets::{Ballot, Body, Entry, Members, Slot, Vote};
 use std::alloc::Global;

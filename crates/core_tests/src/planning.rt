@@ -1,5 +1,5 @@
 use crate::check::Check;
-use core_tests::Number;
+use core_bodies::Number;
 use paxos_node::{Event, Node, NodeFault, Packets};
 use paxos_packets::{Ballot, Body, Entries, Entry, Kind, Members, Packet, Rows, Slot, Vote, Votes};
 use std::alloc::Global;

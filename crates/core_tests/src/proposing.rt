@@ -1,7 +1,7 @@
 ghost use Rattle.paxos_proposer.specs.Moves.{ArePossible};
 
 use crate::check::Check;
-use core_tests::Number;
+use core_bodies::Number;
 use paxos_packets::{Ballot, Entry, Members, Votes};
 use paxos_proposer::{Move, Proposer, Proposing};
 use std::alloc::Global;

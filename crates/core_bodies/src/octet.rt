@@ -1,4 +1,4 @@
-ghost use Rattle.core_tests.specs.Octet.{octet_spelling, octet_reading, octet_again, octet_spelled};
+ghost use Rattle.core_bodies.specs.Octet.{octet_spelling, octet_reading, octet_again, octet_spelled};
 
 use crate::number::Number;
 use command_codec::{CodecFault, Coder};

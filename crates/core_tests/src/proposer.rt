@@ -1,5 +1,5 @@
 use crate::check::Check;
-use core_tests::Number;
+use core_bodies::Number;
 use paxos_packets::{Ballot, Body, Entries, Entry, Members, Slot, Vote, Votes};
 use paxos_proposer::{Move, Proposer, ProposerFault};
 use std::alloc::Global;

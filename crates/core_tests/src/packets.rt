@@ -2,7 +2,7 @@ ghost use Rattle.std.specs.Prelude.{◌≡◌, ◌==◌, ℕ, List, refl, IfOk};
 ghost use Rattle.std.specs.Cmp.Lexicographic.{pointwise, bytes_decides};
 
 use crate::check::Check;
-use core_tests::Number;
+use core_bodies::Number;
 use paxos_packets::{
     Ballot, Body, Change, Entries, Entry, KeptVotes, Kind, Members, Memory, NodeSet, Packet, Rows,
     Shared, Slot, Vote, Votes, laws,

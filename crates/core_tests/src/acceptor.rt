@@ -1,5 +1,5 @@
 use crate::check::Check;
-use core_tests::Number;
+use core_bodies::Number;
 use paxos_acceptor::{Acceptor, Answer, Memory, Verdict, laws};
 use paxos_packets::{Ballot, Body, Change, Entries, Entry, Kind, Packet, Rows, Slot, Vote, Votes};
 use std::alloc::Global;

@@ -1,6 +1,6 @@
 use crate::check::Check;
 use crate::packets::{kinds, packet_of};
-use core_tests::Number;
+use core_bodies::Number;
 use paxos_packets::{Body, Kind, Packet};
 use sent_packets::SentPackets;
 use std::alloc::Global;

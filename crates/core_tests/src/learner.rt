@@ -2,7 +2,7 @@ ghost use Rattle.std.specs.Prelude.{◌≡◌, ◌<◌, true, IsTrue};
 ghost use Rattle.paxos_learner.specs.Learner.{has_room_at};
 
 use crate::check::Check;
-use core_tests::Number;
+use core_bodies::Number;
 use paxos_learner::{Learner, LearnerFault};
 use paxos_packets::{Ballot, Body, Entry, Members, Slot, Vote};
 use std::alloc::Global;

@@ -1,6 +1,6 @@
 ghost use Rattle.std.specs.Prelude.{◌≡◌, ℕ, Bool, false, IfOk, IfSome, OnOk};
 ghost use Rattle.replica_machine.specs.Examples.{added};
-ghost use Rattle.core_tests.specs.Foretold.{foretold, next_one};
+ghost use Rattle.core_bodies.specs.Foretold.{foretold, next_one};
 
 use crate::number::Number;
 use paxos_packets::Transport;
