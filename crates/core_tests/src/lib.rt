@@ -1,6 +1,7 @@
 //! Tests of the consensus core below its actors: packets, those ever sent and those that wait, the acceptor and the keeper of its rows in
-//! memory, the proposer and the learner, what is planned on both, one node, the machines that follow a log, and entries as octets. All over the
-//! crates' public surfaces. A crate with tests is proved twice, so they stand here.
+//! memory, the proposer and the learner, what is planned on both, one node, the machines that follow a log, entries as octets, whole clusters
+//! under schedules, and the mail table between their nodes. All over the crates' public surfaces. A crate with tests is proved twice, so they
+//! stand here.
 #![tactic(auto)]
 
 #[cfg(test)]
@@ -12,7 +13,13 @@ mod codec;
 #[cfg(test)]
 mod follower;
 #[cfg(test)]
+mod given_up;
+#[cfg(test)]
+mod handings;
+#[cfg(test)]
 mod hearing;
+#[cfg(test)]
+mod impossible;
 #[cfg(test)]
 mod keeper;
 #[cfg(test)]
@@ -22,16 +29,32 @@ mod log;
 #[cfg(test)]
 mod machine;
 #[cfg(test)]
+mod next_boot;
+#[cfg(test)]
 mod nodes;
 #[cfg(test)]
 mod outboxes;
+#[cfg(test)]
+mod packet_rows;
 #[cfg(test)]
 mod packets;
 #[cfg(test)]
 mod planning;
 #[cfg(test)]
+mod posting;
+#[cfg(test)]
 mod proposer;
 #[cfg(test)]
 mod proposing;
 #[cfg(test)]
+mod schedule;
+#[cfg(test)]
 mod sent;
+#[cfg(test)]
+mod session;
+#[cfg(test)]
+mod tables;
+#[cfg(test)]
+mod threads;
+#[cfg(test)]
+mod worlds;

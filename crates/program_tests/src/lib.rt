@@ -1,6 +1,6 @@
 //! Tests of the program's calls, and below them of a script's lines, of the packets that its flushes deliver, of a script that is played
-//! and of the text of a world, over the public surfaces of `cluster_program`, `script_lines`, `waiting_packets` and `script_text`.
-//! A crate with tests is proved twice, so they stand here.
+//! and of the text of a world, over the public surfaces of `cluster_program`, `script_lines`, `waiting_packets` and `script_text`; and of the
+//! acceptor's store over SQLite, and of an actor over it, by their public calls. A crate with tests is proved twice, so they stand here.
 #![tactic(auto)]
 
 #[cfg(test)]
@@ -19,6 +19,14 @@ mod player;
 mod script;
 #[cfg(test)]
 mod serve;
+#[cfg(test)]
+mod sql;
+#[cfg(test)]
+mod station;
+#[cfg(test)]
+mod store_actors;
+#[cfg(test)]
+mod store_acts;
 #[cfg(test)]
 mod stream;
 #[cfg(test)]

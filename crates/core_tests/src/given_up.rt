@@ -1,6 +1,6 @@
 // One session through three nodes, of which the third has a machine that refuses its second input.
 use crate::check::Check;
-use crate::packets::{FIRST, LOG, PACKETS, SECOND};
+use crate::packet_rows::{FIRST, LOG, PACKETS, SECOND};
 use crate::schedule::SESSION;
 use crate::worlds::{has_log, has_sent, run_rows, turn, world_of};
 use cluster_world::World;

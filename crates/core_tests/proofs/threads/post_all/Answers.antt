@@ -1,5 +1,5 @@
-use Rattle.world_tests.proofs.Following.{knows_still}
-use Rattle.world_tests.proofs.threads.post_all.Goals as goal
+use Rattle.core_tests.proofs.Following.{knows_still}
+use Rattle.core_tests.proofs.threads.post_all.Goals as goal
 
 pub loop-preserved : goal.loop-preserved
 loop-preserved c =

@@ -1,7 +1,7 @@
 // Worlds of three nodes: how they go on, and what they show.
 ghost use Rattle.std.specs.Prelude.{◌≡◌, false};
 
-use crate::packets::{Held, Mail, is_log, is_mail};
+use crate::packet_rows::{Held, Mail, is_log, is_mail};
 use crate::schedule::{Turn, event_of, events_of};
 use cluster_world::World;
 use core_bodies::Number;

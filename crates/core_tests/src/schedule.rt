@@ -1,5 +1,5 @@
 // Events as rows of words and numbers, and those of one session through three nodes.
-use crate::packets::{Mail, PACKETS, packet_of};
+use crate::packet_rows::{Mail, PACKETS, packet_of};
 use core_bodies::Number;
 use paxos_node::Event;
 use std::alloc::Global;

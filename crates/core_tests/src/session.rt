@@ -1,6 +1,6 @@
 // One session through three nodes, whose machines add up: at once, one by one, with altered packets between, and each packet twice.
 use crate::check::Check;
-use crate::packets::{FIRST, FIVE, LOG, Mail, PACKETS, SECOND, SIX, packet_of};
+use crate::packet_rows::{FIRST, FIVE, LOG, Mail, PACKETS, SECOND, SIX, packet_of};
 use crate::schedule::{SESSION, Turn};
 use crate::worlds::{
     Told, deliver, hands_out, happens, has_log, has_sent, run_rows, shown, turn, was_told, world_of,

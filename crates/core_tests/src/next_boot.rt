@@ -1,6 +1,6 @@
 // One session through three nodes, whose machines tell each sum also to the transport of that number in its node's next boot.
 use crate::check::Check;
-use crate::packets::{FIRST, FIVE, Held, SECOND, SIX};
+use crate::packet_rows::{FIRST, FIVE, Held, SECOND, SIX};
 use crate::schedule::{SESSION, Turn};
 use crate::worlds::{Told, flush, hands_out, has_log, run_rows, turn, was_told, world_of};
 use cluster_world::World;
