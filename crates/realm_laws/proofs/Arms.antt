@@ -32,17 +32,18 @@ use Rattle.realm_subscriptions.specs.Subscriptions.{Subscriptions}
 use Rattle.realm_subscriptions.specs.Subscribing as subscriptions
 use Rattle.realm_subscriptions.specs.Receiving.{receivers}
 use Rattle.realm_subscriptions.specs.Leaving as topics_left
-use Rattle.realm_machine.specs.declared.act.Say.{Say}
+use Rattle.realm_sayings.specs.declared.act.Say.{Say}
+use Rattle.realm_sayings.specs.Sayings.{invalid_uri, no_such_subscription, no_such_realm, limit}
+use Rattle.realm_sayings.specs.Events.{event_of, event_to, is_open_topic}
 use Rattle.realm_machine.specs.declared.requester.Requester.{Requester}
 use Rattle.realm_machine.specs.Config.{Config}
-use Rattle.realm_machine.specs.Sayings.{invalid_uri, no_such_subscription, no_such_realm, limit}
 use Rattle.realm_machine.specs.Content.{Content, Step, quiet, reply, refuse, refuse_by, with_links, with_topics}
 use Rattle.realm_machine.specs.Content.{with_registry}
 use Rattle.realm_machine.specs.Leaving.{stop}
 use Rattle.realm_machine.specs.Opening.{welcomed, open_at}
 use Rattle.realm_machine.specs.Subscribing.{subscribed, subscribe_to, subscribe}
 use Rattle.realm_machine.specs.Unsubscribing.{unsubscribe}
-use Rattle.realm_machine.specs.Publishing.{event_of, event_to, events, is_open_topic, published, publish}
+use Rattle.realm_machine.specs.Publishing.{events, published, publish}
 use Rattle.realm_machine.specs.Registering.{registered, register_for, register, unregistered, unregister}
 use Rattle.realm_machine.specs.Calling.{invoke}
 use Rattle.realm_laws.specs.Trace.{is_final}

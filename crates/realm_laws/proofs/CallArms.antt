@@ -31,15 +31,16 @@ use Rattle.realm_registrations.specs.Registry.{Registry, choose, turn}
 use Rattle.realm_calls.specs.declared.calls.Open.{Open}
 use Rattle.realm_calls.specs.Calls.{is_call, is_invocation, has, call_of, is_full, open_call, with_call, open_of, end}
 use Rattle.realm_calls.specs.Calls.{cancel_one}
-use Rattle.realm_machine.specs.declared.act.Say.{Say}
+use Rattle.realm_sayings.specs.declared.act.Say.{Say}
+use Rattle.realm_sayings.specs.Sayings.{say, to_session, refusal, invalid_uri, invalid_argument, no_such_procedure}
+use Rattle.realm_sayings.specs.Sayings.{limit, canceled}
+use Rattle.realm_sayings.specs.Invocations.{interrupt, invocation, failure}
 use Rattle.realm_machine.specs.declared.requester.Requester.{Requester}
-use Rattle.realm_machine.specs.Sayings.{say, to_session, refusal, invalid_uri, invalid_argument, no_such_procedure}
-use Rattle.realm_machine.specs.Sayings.{limit, canceled}
 use Rattle.realm_machine.specs.Content.{Content, Step, quiet, refuse, with_calls}
-use Rattle.realm_machine.specs.Leaving.{violation, interrupt}
-use Rattle.realm_machine.specs.Calling.{refuse_call, invocation, invoke, call_chosen, call_open, call_read, call_text}
+use Rattle.realm_machine.specs.Leaving.{violation}
+use Rattle.realm_machine.specs.Calling.{refuse_call, invoke, call_chosen, call_open, call_read, call_text}
 use Rattle.realm_machine.specs.Calling.{on_call}
-use Rattle.realm_machine.specs.Calling.{canceled_as, cancel_found, on_cancel, replied, reply_to, on_yield, failure}
+use Rattle.realm_machine.specs.Calling.{canceled_as, cancel_found, on_cancel, replied, reply_to, on_yield}
 use Rattle.realm_machine.specs.Calling.{on_failure, unfit_call}
 use Rattle.realm_laws.specs.Trace.{is_final_message, is_final}
 use Rattle.realm_laws.proofs.Has.{Has, any_has, find_has}

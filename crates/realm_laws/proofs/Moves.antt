@@ -18,12 +18,14 @@ use Rattle.realm_calls.specs.declared.calls.Open.{Open}
 use Rattle.realm_calls.specs.Calls.{is_to, calls_to, calls_by, without_callee, without_caller}
 use Rattle.realm_calls.specs.Laws.{AreSoundCalls}
 use Rattle.realm_calls.proofs.SoundCalls.{kept_sound}
-use Rattle.realm_machine.specs.declared.act.Say.{Say}
-use Rattle.realm_machine.specs.Sayings.{say, shut, say_to, to_session, refusal, abort, goodbye as goodbye_for, canceled}
-use Rattle.realm_machine.specs.Sayings.{protocol_violation, goodbye_and_out}
+use Rattle.realm_sayings.specs.declared.act.Say.{Say}
+use Rattle.realm_sayings.specs.Sayings.{say, shut, say_to, to_session, refusal, abort, goodbye as goodbye_for, canceled}
+use Rattle.realm_sayings.specs.Sayings.{protocol_violation, goodbye_and_out}
+use Rattle.realm_sayings.specs.Endings.{end_for_caller, end_for_callee, farewell}
+use Rattle.realm_sayings.specs.Invocations.{interrupt}
 use Rattle.realm_machine.specs.Content.{Content, Step, quiet, and_then, with_links, with_calls}
-use Rattle.realm_machine.specs.Leaving.{end_for_caller, end_for_callee, interrupt, leave_session, leave}
-use Rattle.realm_machine.specs.Leaving.{remove, stop, violation, aborted, goodbye, farewell, one_gone, all_gone}
+use Rattle.realm_machine.specs.Leaving.{leave_session, leave}
+use Rattle.realm_machine.specs.Leaving.{remove, stop, violation, aborted, goodbye, one_gone, all_gone}
 use Rattle.realm_laws.specs.Trace.{is_final_message, is_final}
 use Rattle.realm_laws.proofs.Has.{Has, has_filter, has_cons, has_nil}
 use Rattle.realm_laws.proofs.Counts.{bit, count, bit_le, count_append, count_le, count_filter, count_split, count_flat}

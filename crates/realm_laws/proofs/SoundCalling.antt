@@ -4,9 +4,9 @@ use Rattle.std.proofs.Common.{Option, None, Some, refl, ◌∙◌}
 use Rattle.std.proofs.lemmas.Bool.{cond_both}
 use Rattle.wamp_ids.specs.declared.uri.UriFault.{UriFault}
 use Rattle.wamp_kinds.specs.declared.message.Message.{Message}
+use Rattle.realm_sayings.specs.Sayings.{limit, no_such_procedure}
 use Rattle.realm_machine.specs.declared.requester.Requester.{Requester}
 use Rattle.realm_machine.specs.Config.{Config}
-use Rattle.realm_machine.specs.Sayings.{limit, no_such_procedure}
 use Rattle.realm_machine.specs.Content.{Content}
 use Rattle.realm_machine.specs.Leaving.{violation}
 use Rattle.realm_laws.specs.Laws.{IsSound}

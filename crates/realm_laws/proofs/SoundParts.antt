@@ -16,6 +16,8 @@ use Rattle.realm_sessions.specs.declared.fault.RealmFault.TheVariants as fault
 use Rattle.realm_sessions.specs.Laws.{AreSoundLinks}
 use Rattle.realm_sessions.specs.Links.{by_transport, session_count, new_session_id}
 use Rattle.realm_sessions.specs.Sessions.{Sessions, Opened, opened, open_session}
+use Rattle.realm_sayings.specs.Sayings.{limit, no_such_realm, no_such_subscription, invalid_uri}
+use Rattle.realm_sayings.specs.Events.{is_open_topic}
 use Rattle.realm_machine.specs.declared.requester.Requester.{Requester}
 use Rattle.realm_machine.specs.Config.{Config}
 use Rattle.realm_subscriptions.specs.declared.subscription.Subscription.{Subscription}
@@ -24,13 +26,12 @@ use Rattle.realm_subscriptions.specs.Subscription.{is_member}
 use Rattle.realm_subscriptions.specs.Subscribing.{Subscribed}
 use Rattle.realm_subscriptions.specs.Subscribing as subscriptions
 use Rattle.realm_subscriptions.specs.Leaving as left
-use Rattle.realm_machine.specs.Sayings.{limit, no_such_realm, no_such_subscription, invalid_uri}
 use Rattle.realm_machine.specs.Content.{Content, Step, quiet, reply, refuse, refuse_by, with_topics, with_registry}
 use Rattle.realm_machine.specs.Leaving.{leave_session, leave, remove, stop, violation, aborted, goodbye}
 use Rattle.realm_machine.specs.Opening.{welcome, welcomed, open_at}
 use Rattle.realm_machine.specs.Subscribing.{subscribed, subscribe_to}
 use Rattle.realm_machine.specs.Unsubscribing.{unsubscribe}
-use Rattle.realm_machine.specs.Publishing.{is_open_topic, publish}
+use Rattle.realm_machine.specs.Publishing.{publish}
 use Rattle.realm_subscriptions.specs.Laws.{AreSoundSubscriptions}
 use Rattle.realm_laws.specs.Laws.{IsSound}
 use Rattle.wamp_ids.specs.declared.policy.Invoke.{Invoke}

@@ -21,9 +21,10 @@ use Rattle.realm_sessions.specs.Links.{by_transport, of_origin, session_count}
 use Rattle.replica_machine.specs.declared.input.Input.{Input}
 use Rattle.replica_machine.specs.declared.input.Input.TheVariants.{Boot, Lost, Item}
 use Rattle.realm_sessions.specs.Sessions.{open_session}
+use Rattle.realm_sayings.specs.Sayings.{no_such_realm, invalid_argument}
+use Rattle.realm_sayings.specs.Invocations.{failure}
 use Rattle.realm_machine.specs.declared.requester.Requester.{Requester}
 use Rattle.realm_machine.specs.Config.{Config}
-use Rattle.realm_machine.specs.Sayings.{no_such_realm, invalid_argument}
 use Rattle.realm_machine.specs.Content.{Content, empty}
 use Rattle.realm_machine.specs.Leaving.{stop, violation, one_gone, all_gone}
 use Rattle.realm_machine.specs.Opening.{welcomed}
@@ -35,7 +36,6 @@ use Rattle.wamp_values.specs.declared.args.Args.TheVariants.{Nothing}
 use Rattle.wamp_kinds.specs.declared.error.Error as error
 use Rattle.realm_calls.specs.Calls.{has}
 use Rattle.realm_calls.specs.Calls as calls
-use Rattle.realm_machine.specs.Calling.{failure}
 use Rattle.realm_sessions.proofs.SoundLinks as links
 use Rattle.realm_sessions.proofs.FreeIds as free
 use Rattle.realm_subscriptions.proofs.Sound as topics

@@ -30,9 +30,9 @@ use Rattle.realm_calls.proofs.SoundCalls.{nothing_sound as no_calls}
 use Rattle.realm_sessions.specs.Links.{is_taken}
 use Rattle.realm_acts.specs.declared.act.Act.{Act}
 use Rattle.realm_acts.specs.declared.act.Act.TheVariants.{Connect, Said, Hung}
+use Rattle.realm_sayings.specs.Sayings.{invalid_argument}
 use Rattle.realm_machine.specs.declared.requester.Requester.{Requester}
 use Rattle.realm_machine.specs.Config.{Config}
-use Rattle.realm_machine.specs.Sayings.{invalid_argument}
 use Rattle.realm_machine.specs.Content.{Content, Step, empty, quiet, refuse}
 use Rattle.realm_machine.specs.Step.{on_unfit, on_error, on_request, on_opening, on_read, on_transport}
 use Rattle.realm_machine.specs.Step.{step, after_input, said_at}

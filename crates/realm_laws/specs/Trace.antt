@@ -14,9 +14,9 @@ use Rattle.wamp_kinds.specs.declared.read_result.Read.{Read}
 use Rattle.wamp_kinds.specs.declared.read_result.Read.TheVariants.{Good, Unfit, Bad}
 use Rattle.realm_acts.specs.declared.act.Act.{Act}
 use Rattle.realm_acts.specs.declared.act.Act.TheVariants.{Connect, Said, Hung}
-use Rattle.realm_machine.specs.declared.act.Out.{Out}
-use Rattle.realm_machine.specs.declared.act.Out.TheVariants.{Send, Close}
-use Rattle.realm_machine.specs.declared.act.Say.{Say}
+use Rattle.realm_sayings.specs.declared.act.Out.{Out}
+use Rattle.realm_sayings.specs.declared.act.Out.TheVariants.{Send, Close}
+use Rattle.realm_sayings.specs.declared.act.Say.{Say}
 use Rattle.realm_machine.specs.Config.{Config}
 use Rattle.realm_machine.specs.Content.{Content}
 use Rattle.realm_machine.specs.Step.{after_input, said_at}

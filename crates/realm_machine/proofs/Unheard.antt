@@ -12,10 +12,12 @@ use Rattle.realm_sessions.specs.declared.links.Link.{Link}
 use Rattle.realm_sessions.specs.Links.{is_of, has_id, by_transport, announces, put_session, set_session}
 use Rattle.realm_calls.specs.declared.calls.Open.{Open}
 use Rattle.realm_calls.specs.Calls.{calls_to, calls_by, without_callee}
-use Rattle.realm_machine.specs.declared.act.Say.{Say}
-use Rattle.realm_machine.specs.Sayings.{say, say_to, to_session, refusal, canceled}
+use Rattle.realm_sayings.specs.declared.act.Say.{Say}
+use Rattle.realm_sayings.specs.Sayings.{say, say_to, to_session, refusal, canceled}
+use Rattle.realm_sayings.specs.Invocations.{interrupt}
+use Rattle.realm_sayings.specs.Endings.{end_for_caller, end_for_callee}
 use Rattle.realm_machine.specs.Content.{Content}
-use Rattle.realm_machine.specs.Leaving.{interrupt, end_for_caller, end_for_callee, leave_session, leave}
+use Rattle.realm_machine.specs.Leaving.{leave_session, leave}
 use Rattle.realm_machine.specs.Laws.{HungUpIsToldNothing}
 
 abbrev IsUnheard : Transport → List Say → Type 0

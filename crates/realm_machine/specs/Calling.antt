@@ -1,9 +1,6 @@
 -- How a client calls a procedure, cancels a call, and answers an invocation (WAMP specification, "Remote Procedure Calls",
 -- "Call Canceling"; the limits, the refusals and their order are this profile's: docs/PROTOCOL.md, "The realm").
-use Rattle.std.specs.Prelude.{ℕ, List, [], ◌∷◌, ◌++◌, find, Option, None, Some, Result, Ok, Err, if◌then◌else◌}
-use Rattle.paxos_packets.specs.declared.transport.Transport.{Transport}
-use Rattle.wamp_ids.specs.declared.policy.Match.{Match}
-use Rattle.wamp_ids.specs.declared.policy.Match.TheVariants.{Exact, Prefix, Wildcard}
+use Rattle.std.specs.Prelude.{ℕ, List, ◌++◌, find, Option, None, Some, Result, Ok, Err, if◌then◌else◌}
 use Rattle.wamp_ids.specs.declared.policy.Mode.{Mode}
 use Rattle.wamp_ids.specs.declared.uri.UriFault.{UriFault}
 use Rattle.wamp_ids.specs.Uri.{uri_of, is_reserved}
@@ -11,11 +8,10 @@ use Rattle.wamp_values.specs.declared.args.Args.{Args}
 use Rattle.wamp_values.specs.declared.args.Args.TheVariants.{Nothing}
 use Rattle.wamp_elements.specs.declared.request_kind.RequestKind.TheVariants as kind
 use Rattle.wamp_kinds.specs.declared.message.Message.{Message}
-use Rattle.wamp_kinds.specs.declared.message.Message.TheVariants.{Error, Invocation, Reply}
+use Rattle.wamp_kinds.specs.declared.message.Message.TheVariants.{Reply}
 use Rattle.wamp_kinds.specs.declared.call.Call.{Call}
 use Rattle.wamp_kinds.specs.declared.call.Cancel.{Cancel}
 use Rattle.wamp_kinds.specs.declared.call.Yield.{Yield}
-use Rattle.realm_sessions.specs.declared.links.Link.{Link}
 use Rattle.realm_sessions.specs.Links.{announces}
 use Rattle.realm_sessions.specs.Sessions.{Invoked, next_invocation}
 use Rattle.realm_registrations.specs.declared.registration.Chosen.{Chosen}
@@ -23,30 +19,16 @@ use Rattle.realm_registrations.specs.Registry.{choose, turn}
 use Rattle.realm_calls.specs.declared.calls.Open.{Open}
 use Rattle.realm_calls.specs.declared.calls.Cancelled.{Cancelled}
 use Rattle.realm_calls.specs.Calls.{is_invocation, has, call_of, is_full, open_call, with_call, open_of, end, cancel_one, without_cancelled}
-use Rattle.realm_machine.specs.declared.act.Say.{Say}
+use Rattle.realm_sayings.specs.Sayings.{to_session, invalid_uri, invalid_argument, no_such_procedure, limit}
+use Rattle.realm_sayings.specs.Invocations.{invocation, interrupted, told_canceled, failure}
 use Rattle.realm_machine.specs.declared.requester.Requester.{Requester}
-use Rattle.realm_machine.specs.Sayings.{say, to_session, refusal, invalid_uri, invalid_argument, no_such_procedure, limit, canceled}
 use Rattle.realm_machine.specs.Content.{Content, Step, quiet, refuse, with_calls}
-use Rattle.realm_machine.specs.Leaving.{interrupt, violation}
+use Rattle.realm_machine.specs.Leaving.{violation}
 
 -- ---- CALL
 
 abbrev pub refuse_call : Content → Requester → Call → List ℕ → Step
 refuse_call c requester call error = refuse c requester.transport kind.Call call.request error
-
--- the callee of a pattern is told which procedure is called
-abbrev pub procedure_for : Match → List ℕ → Option (List ℕ)
-procedure_for Exact procedure = None
-procedure_for Prefix procedure = Some procedure
-procedure_for Wildcard procedure = Some procedure
-
-abbrev pub invocation : ℕ → Chosen → Call → Message
-invocation id chosen call = Invocation (record {
-  request = id;
-  registration = chosen.registration;
-  procedure = procedure_for chosen.matching call.procedure;
-  args = call.args;
-})
 
 -- the callee is invoked under this id, and callees that take turns do so; that an id is found is a law of sessions
 abbrev pub invoke_under : Content → Requester → Call → Chosen → Option ℕ → Step
@@ -95,15 +77,6 @@ on_call c requester call =
 
 -- ---- CANCEL
 
--- the callee is interrupted, if that is due
-abbrev pub interrupted : List Link → Open → Option Mode → List Say
-interrupted links call None = []
-interrupted links call (Some mode) = to_session links call.callee (interrupt call mode)
-
--- the caller is told, if its call ended
-abbrev pub told_canceled : Transport → Cancelled → List Say
-told_canceled t it = if it.is_ended then say t (refusal kind.Call it.call.request canceled) ∷ [] else []
-
 abbrev pub canceled_as : Content → Requester → Cancelled → Step
 canceled_as c requester it = record {
   content = record c { calls = without_cancelled c.calls it };
@@ -135,9 +108,6 @@ reply_to c callee request answer = replied c answer (find (is_invocation callee 
 abbrev pub on_yield : Content → Requester → Yield → Step
 on_yield c requester yield =
     reply_to c requester.session yield.request (λ request. Reply (record { request = request; args = yield.args }))
-
-abbrev pub failure : List ℕ → Args → ℕ → Message
-failure error args request = Error (record { kind = kind.Call; request = request; error = error; args = args })
 
 -- the invocation failed
 abbrev pub on_failure : Content → Requester → ℕ → List ℕ → Args → Step

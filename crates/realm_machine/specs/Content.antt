@@ -5,7 +5,8 @@ use Rattle.std.specs.declared.alloc.Global.{Global}
 use Rattle.paxos_packets.specs.declared.transport.Transport.{Transport}
 use Rattle.wamp_kinds.specs.declared.message.Message.{Message}
 use Rattle.wamp_elements.specs.declared.request_kind.RequestKind.{RequestKind}
-use Rattle.realm_machine.specs.declared.act.Say.{Say}
+use Rattle.realm_sayings.specs.declared.act.Say.{Say}
+use Rattle.realm_sayings.specs.Sayings.{say, refusal}
 use Rattle.realm_sessions.specs.declared.links.Link.{Link}
 use Rattle.realm_sessions.specs.declared.fault.RealmFault.{RealmFault}
 use Rattle.realm_sessions.specs.Fault.{uri_of}
@@ -16,7 +17,6 @@ use Rattle.realm_calls.specs.declared.calls.Open.{Open}
 use Rattle.realm_calls.specs.Calls.{Calls}
 use Rattle.realm_calls.specs.Calls as calls
 use Rattle.realm_machine.specs.declared.config.Limits.{Limits}
-use Rattle.realm_machine.specs.Sayings.{say, refusal}
 
 pub record Content : Type 0 where
   pub sessions : Sessions

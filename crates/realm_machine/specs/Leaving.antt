@@ -1,36 +1,16 @@
 -- How a client leaves, and why it is made to (WAMP specification, "Session Closing"; docs/PROTOCOL.md, "The realm").
-use Rattle.std.specs.Prelude.{ℕ, List, [], ◌∷◌, ◌++◌, Option, None, Some, if◌then◌else◌}
+use Rattle.std.specs.Prelude.{ℕ, List, [], ◌∷◌, Option, None, Some}
 use Rattle.std.specs.List.{flat_map}
 use Rattle.paxos_packets.specs.declared.transport.Transport.{Transport}
-use Rattle.wamp_ids.specs.declared.policy.Mode.{Mode}
-use Rattle.wamp_ids.specs.declared.policy.Mode.TheVariants.{KillNoWait}
-use Rattle.wamp_elements.specs.declared.request_kind.RequestKind.TheVariants as kind
-use Rattle.wamp_kinds.specs.declared.message.Message.{Message}
-use Rattle.wamp_kinds.specs.declared.message.Message.TheVariants.{Interrupt}
-use Rattle.realm_sessions.specs.declared.links.Link.{Link}
-use Rattle.realm_sessions.specs.Links.{by_transport, announces, of_origin, set_session, without_transport}
+use Rattle.realm_sessions.specs.Links.{by_transport, of_origin, set_session, without_transport}
 use Rattle.realm_registrations.specs.Registry as registrations
 use Rattle.realm_subscriptions.specs.Leaving as subscriptions
-use Rattle.realm_calls.specs.declared.calls.Open.{Open}
 use Rattle.realm_calls.specs.Calls.{calls_to, calls_by, without_callee, without_caller}
-use Rattle.realm_machine.specs.declared.act.Say.{Say}
-use Rattle.realm_machine.specs.Sayings.{say, shut, to_session, refusal, abort, goodbye as goodbye_for, canceled}
-use Rattle.realm_machine.specs.Sayings.{protocol_violation, goodbye_and_out, system_shutdown}
+use Rattle.realm_sayings.specs.Sayings.{say, shut, abort, goodbye as goodbye_for, protocol_violation, goodbye_and_out}
+use Rattle.realm_sayings.specs.Endings.{end_for_caller, end_for_callee, farewell}
 use Rattle.realm_machine.specs.Content.{Content, Step, quiet, reply, and_then, with_links, with_calls}
 
 -- ---- calls end with a session
-
--- the caller is told that its call is canceled
-abbrev pub end_for_caller : List Link → Open → List Say
-end_for_caller links call = to_session links call.caller (refusal kind.Call call.request canceled)
-
-abbrev pub interrupt : Open → Mode → Message
-interrupt call mode = Interrupt (record { request = call.invocation; mode = mode })
-
--- the callee is told that nobody waits for its answer, if it announced call canceling
-abbrev pub end_for_callee : List Link → Open → List Say
-end_for_callee links call =
-    if announces links call.callee then to_session links call.callee (interrupt call KillNoWait) else []
 
 -- the calls to the session by others end, in order of opening
 abbrev pub end_calls_to : Content → ℕ → Step
@@ -93,16 +73,6 @@ abbrev pub goodbye : Content → Transport → Step
 goodbye c t = and_then (leave c t) (λ d. reply d t (goodbye_for goodbye_and_out))
 
 -- ---- a node is gone
-
--- a session that ends so is told why
-abbrev pub told_shutdown : Transport → Option ℕ → List Say
-told_shutdown t None = []
-told_shutdown t (Some session) = say t (goodbye_for system_shutdown) ∷ []
-
--- what a transport of the node is told, that had this session or none
-abbrev pub farewell : Transport → Option (Option ℕ) → List Say
-farewell t None = []
-farewell t (Some session) = told_shutdown t session ++ shut t ∷ []
 
 abbrev pub one_gone : Content → Transport → Step
 one_gone c t = and_then (remove c t) (λ d. record { content = d; says = farewell t (by_transport c.sessions.list t) })

@@ -1,4 +1,3 @@
-pub mod Sayings
 pub mod Config
 pub mod Content
 pub mod Leaving

@@ -6,8 +6,8 @@ use Rattle.wamp_kinds.specs.declared.session.Hello.{Hello}
 use Rattle.wamp_kinds.specs.declared.message.Message.TheVariants.{Welcome}
 use Rattle.realm_sessions.specs.declared.fault.RealmFault.{RealmFault}
 use Rattle.realm_sessions.specs.Sessions.{Sessions, Opened, open_session}
+use Rattle.realm_sayings.specs.Sayings.{limit, no_such_realm}
 use Rattle.realm_machine.specs.Config.{Config}
-use Rattle.realm_machine.specs.Sayings.{limit, no_such_realm}
 use Rattle.realm_machine.specs.Content.{Content, Step, reply}
 use Rattle.realm_machine.specs.Leaving.{stop}
 

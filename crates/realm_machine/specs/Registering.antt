@@ -11,8 +11,8 @@ use Rattle.wamp_kinds.specs.declared.message.Message.TheVariants as message
 use Rattle.realm_sessions.specs.declared.fault.RealmFault.{RealmFault}
 use Rattle.realm_registrations.specs.Registry.{Registry, Registered, Unregistered}
 use Rattle.realm_registrations.specs.Registry as registrations
+use Rattle.realm_sayings.specs.Sayings.{invalid_uri}
 use Rattle.realm_machine.specs.declared.requester.Requester.{Requester}
-use Rattle.realm_machine.specs.Sayings.{invalid_uri}
 use Rattle.realm_machine.specs.Content.{Content, Step, reply, refuse, refuse_for, with_registry}
 
 -- the content with these registrations, and what the client is told

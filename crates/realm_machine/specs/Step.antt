@@ -17,11 +17,11 @@ use Rattle.wamp_kinds.specs.declared.read_result.Read.{Read}
 use Rattle.wamp_kinds.specs.declared.read_result.Read.TheVariants.{Good, Unfit, Bad}
 use Rattle.realm_acts.specs.declared.act.Act.{Act}
 use Rattle.realm_acts.specs.declared.act.Act.TheVariants.{Connect, Said, Hung}
-use Rattle.realm_machine.specs.declared.act.Say.{Say}
+use Rattle.realm_sayings.specs.declared.act.Say.{Say}
+use Rattle.realm_sayings.specs.Sayings.{invalid_argument}
 use Rattle.realm_machine.specs.declared.requester.Requester.{Requester}
 use Rattle.realm_machine.specs.Config.{Config}
 use Rattle.realm_sessions.specs.Links.{by_transport, connect}
-use Rattle.realm_machine.specs.Sayings.{invalid_argument}
 use Rattle.realm_machine.specs.Content.{Content, Step, quiet, refuse, with_links}
 use Rattle.realm_machine.specs.Leaving.{remove, violation, aborted, goodbye, gone}
 use Rattle.realm_machine.specs.Opening.{open_at}

@@ -10,8 +10,8 @@ use Rattle.realm_sessions.specs.declared.fault.RealmFault.{RealmFault}
 use Rattle.realm_subscriptions.specs.Subscriptions.{Subscriptions}
 use Rattle.realm_subscriptions.specs.Subscribing.{Subscribed}
 use Rattle.realm_subscriptions.specs.Subscribing as subscriptions
+use Rattle.realm_sayings.specs.Sayings.{invalid_uri, limit}
 use Rattle.realm_machine.specs.declared.requester.Requester.{Requester}
-use Rattle.realm_machine.specs.Sayings.{invalid_uri, limit}
 use Rattle.realm_machine.specs.Content.{Content, Step, reply, refuse, with_topics}
 
 -- the content with these subscriptions, and what the client is told; a session is refused for the limit alone

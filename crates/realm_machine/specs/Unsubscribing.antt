@@ -5,8 +5,8 @@ use Rattle.wamp_kinds.specs.declared.subscribe.Unsubscribe.{Unsubscribe}
 use Rattle.wamp_kinds.specs.declared.message.Message.TheVariants as message
 use Rattle.realm_subscriptions.specs.Leaving.{is_in}
 use Rattle.realm_subscriptions.specs.Leaving as subscriptions
+use Rattle.realm_sayings.specs.Sayings.{no_such_subscription}
 use Rattle.realm_machine.specs.declared.requester.Requester.{Requester}
-use Rattle.realm_machine.specs.Sayings.{no_such_subscription}
 use Rattle.realm_machine.specs.Content.{Content, Step, reply, refuse, with_topics}
 
 -- a session that is no member of the subscription is refused

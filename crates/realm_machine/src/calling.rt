@@ -1,29 +1,26 @@
 // How a client calls a procedure, cancels a call, and answers an invocation.
-ghost use Rattle.std.specs.Prelude.{◌≡◌, ◌++◌, false, IfSome, IfOk, OnOk};
+ghost use Rattle.std.specs.Prelude.{◌≡◌, ◌++◌, false, IfSome, IfOk};
 ghost use Rattle.realm_calls.specs.Calls.{has, open_of};
 ghost use Rattle.realm_sessions.specs.Links.{has_number};
 ghost use Rattle.realm_sessions.specs.Sessions.{next_invocation};
+ghost use Rattle.realm_sayings.specs.Invocations.{interrupted, told_canceled};
 ghost use Rattle.realm_machine.specs.Content.{Does};
-ghost use Rattle.realm_machine.specs.Calling.{refuse_call, invocation, procedure_for, invoke_under, invoke, call_chosen, call_open, call_uri};
-ghost use Rattle.realm_machine.specs.Calling.{call_text, on_call, interrupted, told_canceled, on_cancel, on_yield, failure, on_failure, unfit_yield};
+ghost use Rattle.realm_machine.specs.Calling.{refuse_call, invoke_under, invoke, call_chosen, call_open, call_uri};
+ghost use Rattle.realm_machine.specs.Calling.{call_text, on_call, on_cancel, on_yield, on_failure, unfit_yield};
 
-use crate::act::Say;
 use crate::content::Content;
-use crate::leaving::interrupt;
-use crate::memory::Memory;
 use crate::requester::Requester;
-use crate::sayings::{
-    CANCELED, INVALID_ARGUMENT, INVALID_URI, LIMIT, NO_SUCH_PROCEDURE, add_message, add_refusal,
-};
 use paxos_packets::Transport;
 use realm_calls::Cancelled;
 use realm_registrations::Chosen;
-use realm_sessions::Sessions;
+use realm_sayings::{
+    INVALID_ARGUMENT, INVALID_URI, LIMIT, Memory, NO_SUCH_PROCEDURE, Say, add_interrupt,
+    add_told_canceled, failure, invocation,
+};
 use realm_sessions::laws::invocation_ids_are_found;
-use std::alloc::Global;
 use wamp_elements::RequestKind;
-use wamp_ids::{Id, Match, Text, Uri};
-use wamp_kinds::{Call, Cancel, Error, Invocation, Message, Reply, Yield};
+use wamp_ids::{Id, Uri};
+use wamp_kinds::{Call, Cancel, Message, Reply, Yield};
 use wamp_values::Args;
 
 impl Content {
@@ -245,85 +242,5 @@ impl Content {
         ensures { Does result self.new (unfit_yield self.old requester request) }
     {
         self.on_failure(requester, request, INVALID_ARGUMENT, &Args::Nothing)
-    }
-}
-
-// The ERROR that says to a caller that its call failed.
-fn failure(alloc: Global, request: Id, error: &str, args: &Args) -> Result<Message, Memory>
-    ensures { IfOk result (λ message. message ≡ failure error.now args.now request) }
-{
-    let error = Text::new(alloc, error)?;
-    let Ok(args) = args.copy() else {
-        drop(error);
-        return Err(Memory);
-    };
-    Ok(Message::Error(Error {
-        kind: RequestKind::Call,
-        request,
-        error,
-        args,
-    }))
-}
-
-// The INVOCATION of the callee that is chosen.
-fn invocation(id: Id, chosen: &Chosen, call: &Call) -> Result<Message, Memory>
-    ensures { IfOk result (λ message. message ≡ invocation id chosen.now call.now) }
-{
-    let procedure = procedure_for(chosen.matching, &call.procedure)?;
-    let Ok(args) = call.args.copy() else {
-        drop(procedure);
-        return Err(Memory);
-    };
-    Ok(Message::Invocation(Invocation {
-        request: id,
-        registration: chosen.registration,
-        procedure,
-        args,
-    }))
-}
-
-// What the callee of a registration is told of the procedure.
-fn procedure_for(matching: Match, procedure: &Text) -> Result<Option<Text>, Memory>
-    ensures { IfOk result (λ told. told ≡ procedure_for matching procedure.now) }
-{
-    match matching {
-        Match::Exact => Ok(None),
-        Match::Prefix | Match::Wildcard => Ok(Some(procedure.copy()?)),
-    }
-}
-
-// The INTERRUPT of a callee, if one is due.
-fn add_interrupt(says: &mut Vec<Say>, sessions: &Sessions, it: &Cancelled) -> Result<(), Memory>
-    ensures { OnOk result (says.new.items ≡ says.old.items ++ interrupted sessions.now.list it.now.call it.now.interrupt) }
-{
-    let Some(mode) = it.interrupt else {
-        return Ok(());
-    };
-    match sessions.by_id(it.call.callee) {
-        Some(transport) => add_message(says, transport, interrupt(&it.call, mode)),
-        None => Ok(()),
-    }
-}
-
-// The caller is told, if its call ended.
-fn add_told_canceled(
-    alloc: Global,
-    says: &mut Vec<Say>,
-    transport: Transport,
-    it: &Cancelled,
-) -> Result<(), Memory>
-    ensures { OnOk result (says.new.items ≡ says.old.items ++ told_canceled transport it.now) }
-{
-    if it.is_ended {
-        add_refusal(
-            alloc,
-            says,
-            transport,
-            RequestKind::Call,
-            it.call.request,
-            CANCELED,
-        )
-    } else {
-        Ok(())
     }
 }

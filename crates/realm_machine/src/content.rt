@@ -1,14 +1,12 @@
 ghost use Rattle.std.specs.Prelude.{◌≡◌, IfOk};
+ghost use Rattle.realm_sayings.specs.Sayings.{say_to};
 ghost use Rattle.realm_machine.specs.Content.{Does, empty, reply, refuse, refuse_for};
-ghost use Rattle.realm_machine.specs.Sayings.{say_to};
 
-use crate::act::Say;
 use crate::config::Limits;
-use crate::memory::Memory;
-use crate::sayings::refusal;
 use paxos_packets::Transport;
 use realm_calls::Calls;
 use realm_registrations::Registrations;
+use realm_sayings::{Memory, Say, refusal};
 use realm_sessions::{RealmFault, Sessions};
 use realm_subscriptions::Subscriptions;
 use std::alloc::Global;

@@ -4,29 +4,26 @@
 //! has the rules. The laws on sessions, registrations, subscriptions and calls stand in the crate `realm_laws`.
 #![tactic(auto)]
 
-mod act;
 mod calling;
 mod config;
 mod content;
 pub mod laws;
 mod leaving;
 mod machine;
-mod memory;
 mod opening;
 mod publishing;
 mod realm;
 mod registering;
 mod requester;
-mod sayings;
 mod step;
 mod subscribing;
 mod unsubscribing;
 
-pub use act::{Out, Say};
 pub use config::Limits;
 pub use paxos_packets::{Shared, Transport};
 pub use realm::Realm;
 pub use realm_acts::Act;
+pub use realm_sayings::{Out, Say};
 pub use replica_machine::Failed;
 pub use wamp_ids::Id;
 pub use wamp_kinds::{Message, Read};

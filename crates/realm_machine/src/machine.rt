@@ -1,7 +1,7 @@
-use crate::act::Say;
 use crate::realm::Realm;
 use paxos_packets::Transport;
 use realm_acts::Act;
+use realm_sayings::Say;
 use replica_machine::{Failed, Input, Machine};
 
 // The begin of a boot and the loss of a node end what the node's boot before had; an item is an act of its transport.

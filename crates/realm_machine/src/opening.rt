@@ -4,12 +4,10 @@ ghost use Rattle.realm_sessions.specs.Links.{by_transport};
 ghost use Rattle.realm_machine.specs.Content.{Does};
 ghost use Rattle.realm_machine.specs.Opening.{open_at};
 
-use crate::act::Say;
 use crate::config::Config;
 use crate::content::Content;
-use crate::memory::Memory;
-use crate::sayings::{LIMIT, NO_SUCH_REALM};
 use paxos_packets::Transport;
+use realm_sayings::{LIMIT, Memory, NO_SUCH_REALM, Say};
 use wamp_ids::Id;
 use wamp_kinds::{Hello, Message, Welcome};
 

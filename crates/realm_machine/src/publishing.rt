@@ -1,20 +1,14 @@
 // How a client publishes to a topic's members.
-ghost use Rattle.std.specs.Prelude.{◌≡◌, ◌++◌, is_some, IfSome, IfOk, OnOk};
-ghost use Rattle.std.specs.List.{flat_map};
+ghost use Rattle.std.specs.Prelude.{◌≡◌, ◌++◌, OnOk};
 ghost use Rattle.realm_machine.specs.Content.{Does};
-ghost use Rattle.realm_machine.specs.Publishing.{is_open_topic, told_topic, publish, events, event_to};
+ghost use Rattle.realm_machine.specs.Publishing.{publish, events};
 
-use crate::act::Say;
 use crate::content::Content;
-use crate::memory::Memory;
 use crate::requester::Requester;
-use crate::sayings::INVALID_URI;
-use realm_sessions::Sessions;
-use realm_subscriptions::Receiver;
-use std::alloc::Global;
+use realm_sayings::{INVALID_URI, Memory, Say, add_events_to, open_topic};
 use wamp_elements::RequestKind;
-use wamp_ids::{Id, Match, Text, Uri};
-use wamp_kinds::{Event, Message, Publish, Published};
+use wamp_ids::{Id, Uri};
+use wamp_kinds::{Message, Publish, Published};
 use wamp_values::Args;
 
 impl Content {
@@ -73,71 +67,4 @@ impl Content {
             args,
         )
     }
-}
-
-// The events for these receivers.
-fn add_events_to(
-    sessions: &Sessions,
-    says: &mut Vec<Say>,
-    receivers: &[Receiver],
-    topic: &Uri<'_>,
-    publication: Id,
-    args: &Args,
-) -> Result<(), Memory>
-    ensures { OnOk result (says.new.items
-        ≡ says.old.items ++ flat_map (event_to sessions.now.list topic.now publication args.now) receivers.now) }
-{
-    for receiver in receivers {
-        add_event(sessions, says, receiver, topic, publication, args)?;
-    }
-    Ok(())
-}
-
-// The event for one receiver.
-fn add_event(
-    sessions: &Sessions,
-    says: &mut Vec<Say>,
-    receiver: &Receiver,
-    topic: &Uri<'_>,
-    publication: Id,
-    args: &Args,
-) -> Result<(), Memory>
-    ensures { OnOk result (says.new.items
-        ≡ says.old.items ++ event_to sessions.now.list topic.now publication args.now receiver.now) }
-{
-    if let Some(transport) = sessions.by_id(receiver.member) {
-        let topic = told_topic(*says.allocator(), receiver.matching, topic)?;
-        let args = args.copy()?;
-        says.push(Say::send(
-            transport,
-            Message::Event(Event {
-                subscription: receiver.subscription,
-                publication,
-                topic,
-                args,
-            }),
-        ))?;
-    }
-    Ok(())
-}
-
-// The topic that the event names: its own where the match is not exact.
-fn told_topic(alloc: Global, matching: Match, topic: &Uri<'_>) -> Result<Option<Text>, Memory>
-    ensures { IfOk result (λ told. told ≡ told_topic matching topic.now) }
-{
-    match matching {
-        Match::Exact => Ok(None),
-        Match::Prefix | Match::Wildcard => Ok(Some(Text::new(alloc, topic.as_str())?)),
-    }
-}
-
-// The text as a topic that clients may publish to: a URI that is not the router's own.
-fn open_topic(topic: &Text) -> Option<Uri<'_>>
-    ensures open { is_some result ≡ is_open_topic topic.now }
-    ensures text { IfSome result (λ uri. uri ≡ topic.now) }
-{
-    let Ok(uri) = Uri::of(topic.as_str()) else {
-        return None;
-    };
-    if uri.is_reserved() { None } else { Some(uri) }
 }

@@ -2,11 +2,11 @@ ghost use Rattle.std.specs.Prelude.{◌≡◌, Some, string_bytes};
 ghost use Rattle.realm_machine.specs.Content.{empty};
 ghost use Rattle.realm_machine.specs.Realm.{Acts, Goes};
 
-use crate::act::Say;
 use crate::config::{Config, Limits};
 use crate::content::Content;
 use paxos_packets::Transport;
 use realm_acts::Act;
+use realm_sayings::Say;
 use replica_machine::Failed;
 use std::alloc::Global;
 use std::marker::Model;

@@ -2,11 +2,9 @@
 ghost use Rattle.realm_machine.specs.Content.{Does};
 ghost use Rattle.realm_machine.specs.Registering.{register, unregister};
 
-use crate::act::Say;
 use crate::content::Content;
-use crate::memory::Memory;
 use crate::requester::Requester;
-use crate::sayings::INVALID_URI;
+use realm_sayings::{INVALID_URI, Memory, Say};
 use realm_sessions::RealmFault;
 use wamp_elements::RequestKind;
 use wamp_ids::Pattern;

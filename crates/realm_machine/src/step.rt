@@ -6,14 +6,12 @@ ghost use Rattle.realm_machine.specs.Calling.{unfit_call};
 ghost use Rattle.wamp_elements.specs.declared.request_kind.RequestKind.TheVariants as kind;
 ghost use Rattle.realm_machine.specs.Step.{refuse_unless, on_unfit, on_error, on_request, on_opening, on_message, on_read, on_act};
 
-use crate::act::Say;
 use crate::config::Config;
 use crate::content::Content;
-use crate::memory::Memory;
 use crate::requester::Requester;
-use crate::sayings::INVALID_ARGUMENT;
 use paxos_packets::Transport;
 use realm_acts::Act;
+use realm_sayings::{INVALID_ARGUMENT, Memory, Say};
 use wamp_elements::RequestKind;
 use wamp_ids::Id;
 use wamp_kinds::{Error, Message, Read, UnfitKind};

@@ -3,11 +3,9 @@ ghost use Rattle.realm_machine.specs.Content.{Does, refuse};
 ghost use Rattle.wamp_elements.specs.declared.request_kind.RequestKind.TheVariants as kind;
 ghost use Rattle.realm_machine.specs.Subscribing.{subscribe};
 
-use crate::act::Say;
 use crate::content::Content;
-use crate::memory::Memory;
 use crate::requester::Requester;
-use crate::sayings::{INVALID_URI, LIMIT};
+use realm_sayings::{INVALID_URI, LIMIT, Memory, Say};
 use realm_sessions::RealmFault;
 use wamp_elements::RequestKind;
 use wamp_ids::{Id, Pattern};

@@ -2,11 +2,9 @@
 ghost use Rattle.realm_machine.specs.Content.{Does};
 ghost use Rattle.realm_machine.specs.Unsubscribing.{unsubscribe};
 
-use crate::act::Say;
 use crate::content::Content;
-use crate::memory::Memory;
 use crate::requester::Requester;
-use crate::sayings::NO_SUCH_SUBSCRIPTION;
+use realm_sayings::{Memory, NO_SUCH_SUBSCRIPTION, Say};
 use wamp_elements::RequestKind;
 use wamp_kinds::{Message, Unsubscribe, Unsubscribed};
 

@@ -5,7 +5,7 @@ use Rattle.log_follower.specs.Following.{Followed}
 use Rattle.replica_machine.specs.Replay.{state, said}
 use Rattle.realm_registrations.specs.Laws.{AreSoundRegistrations}
 use Rattle.realm_acts.specs.declared.act.Act.{Act}
-use Rattle.realm_machine.specs.declared.act.Say.{Say}
+use Rattle.realm_sayings.specs.declared.act.Say.{Say}
 use Rattle.realm_machine.specs.Config.{Config}
 use Rattle.realm_machine.specs.Machine.{realm_of, live_of}
 use Rattle.realm_machine.specs.Realm.{State}

@@ -2,7 +2,7 @@
 use Rattle.std.specs.Prelude.{◌≡◌, ℕ, zero, suc, ◌+◌, List, [], ◌++◌, map}
 use Rattle.std.specs.List.{flat_map}
 use Rattle.paxos_packets.specs.declared.transport.Transport.{Transport}
-use Rattle.realm_machine.specs.declared.act.Say.{Say}
+use Rattle.realm_sayings.specs.declared.act.Say.{Say}
 use Rattle.realm_acts.specs.declared.act.Act.{Act}
 use Rattle.realm_acts.specs.Act.{same_act}
 use Rattle.realm_machine.specs.Config.{Config}

@@ -6,8 +6,8 @@ use Rattle.paxos_packets.specs.declared.entry.Entry.{Entry}
 use Rattle.paxos_packets.specs.declared.entry.Entry.TheVariants.{Noop, Boot, Lost, Item}
 use Rattle.paxos_packets.specs.declared.transport.Transport.{Transport}
 use Rattle.replica_machine.specs.Effects.{effects}
-use Rattle.realm_machine.specs.declared.act.Out.{Out}
-use Rattle.realm_machine.specs.declared.act.Out.TheVariants.{Send, Close}
+use Rattle.realm_sayings.specs.declared.act.Out.{Out}
+use Rattle.realm_sayings.specs.declared.act.Out.TheVariants.{Send, Close}
 use Rattle.wamp_messages.specs.Writing.{text_of}
 
 -- each number behind a space

@@ -12,9 +12,9 @@ use Rattle.wamp_rawsocket.specs.declared.frame.FrameKind.{FrameKind}
 use Rattle.wamp_rawsocket.specs.declared.frame.FrameKind.TheVariants as kind
 use Rattle.wamp_rawsocket.specs.Splitter.{whole, faulty, front_of}
 use Rattle.wamp_rawsocket.proofs.Streams.{whole_leaves_less, frames_at_whole, frames_at_fault, frames_at_end}
+use Rattle.realm_sayings.specs.declared.act.Say.{Say}
 use Rattle.realm_machine.specs.Config.{Config}
 use Rattle.realm_acts.specs.declared.act.Act.TheVariants.{Said, Hung}
-use Rattle.realm_machine.specs.declared.act.Say.{Say}
 use Rattle.realm_machine.specs.Content.{Content}
 use Rattle.realm_machine.proofs.Unheard as hung
 use Rattle.realm_machine.specs.Step.{next, says}

@@ -1,6 +1,6 @@
 -- What the client was told, saying by saying.
 use Rattle.std.proofs.Common.{◌≡◌, ℕ, suc, ◌+◌, ◌<◌, true, List, ◌∷◌, drop, get_or, length, Ok, sym, ap, add-one, drop-cons}
-use Rattle.realm_machine.specs.declared.act.Say.{Say}
+use Rattle.realm_sayings.specs.declared.act.Say.{Say}
 use Rattle.paxos_packets.specs.Transport.{same_transport}
 use Rattle.stream_program.specs.declared.progress.Progress.{Progress}
 use Rattle.stream_program.specs.declared.progress.Progress.TheVariants.{Onward, Closed}

@@ -16,9 +16,9 @@ use Rattle.wamp_rawsocket.specs.Frame.{frame_octets, outbound_limit}
 use Rattle.wamp_rawsocket.specs.Handshake.{answer_of}
 use Rattle.wamp_rawsocket.specs.Splitter.{Frames, ended, broken, frame, frames_of}
 use Rattle.realm_acts.specs.declared.act.Act.TheVariants.{Connect, Said, Hung}
-use Rattle.realm_machine.specs.declared.act.Out.{Out}
-use Rattle.realm_machine.specs.declared.act.Out.TheVariants.{Send, Close}
-use Rattle.realm_machine.specs.declared.act.Say.{Say}
+use Rattle.realm_sayings.specs.declared.act.Out.{Out}
+use Rattle.realm_sayings.specs.declared.act.Out.TheVariants.{Send, Close}
+use Rattle.realm_sayings.specs.declared.act.Say.{Say}
 use Rattle.realm_machine.specs.Config.{Config}
 use Rattle.realm_machine.specs.Content.{Content, empty}
 use Rattle.realm_machine.specs.Step.{next, says}

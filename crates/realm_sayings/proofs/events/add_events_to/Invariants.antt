@@ -1,7 +1,7 @@
 use Rattle.std.proofs.Common.{◌≡◌, ◌++◌, drop}
 use Rattle.std.specs.List.{flat_map}
-use Rattle.realm_machine.specs.Publishing.{event_to}
-use Rattle.realm_machine.proofs.publishing.add_events_to.Given as goal
+use Rattle.realm_sayings.specs.Events.{event_to}
+use Rattle.realm_sayings.proofs.events.add_events_to.Given as goal
 
 -- what is said so far and the events of the receivers that are left is all of it
 abbrev pub invariant-loop-receiver : goal.invariant-loop-receiver

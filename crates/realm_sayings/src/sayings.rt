@@ -1,5 +1,5 @@
 ghost use Rattle.std.specs.Prelude.{◌≡◌, ◌∷◌, ◌++◌, [], IfOk, OnOk};
-ghost use Rattle.realm_machine.specs.Sayings.{say, shut, refusal, abort, goodbye};
+ghost use Rattle.realm_sayings.specs.Sayings.{say, shut, refusal, abort, goodbye};
 
 use crate::act::{Out, Say};
 use crate::memory::Memory;
@@ -53,7 +53,7 @@ impl Say {
     }
 }
 
-// The ERROR that refuses a request.
+/// The ERROR that refuses a request.
 pub fn refusal(
     alloc: Global,
     kind: RequestKind,
@@ -101,7 +101,7 @@ pub fn add_message(
     Ok(())
 }
 
-// The transport is closed, behind what is said.
+/// The transport is closed.
 pub fn add_close(says: &mut Vec<Say>, transport: Transport) -> Result<(), Memory>
     ensures { OnOk result (says.new.items ≡ says.old.items ++ shut transport ∷ []) }
 {
@@ -125,7 +125,7 @@ pub fn add_refusal(
     add_message(says, transport, message)
 }
 
-// The session is said goodbye to for this reason, behind what is said.
+/// The session is said goodbye to for this reason.
 pub fn add_goodbye(
     alloc: Global,
     says: &mut Vec<Say>,

@@ -5,8 +5,8 @@ use Rattle.wamp_values.specs.declared.args.Args.TheVariants.{Nothing}
 use Rattle.wamp_elements.specs.declared.request_kind.RequestKind.{RequestKind}
 use Rattle.wamp_kinds.specs.declared.message.Message.{Message}
 use Rattle.wamp_kinds.specs.declared.message.Message.TheVariants.{Abort, Goodbye, Error}
-use Rattle.realm_machine.specs.declared.act.Out.TheVariants.{Send, Close}
-use Rattle.realm_machine.specs.declared.act.Say.{Say}
+use Rattle.realm_sayings.specs.declared.act.Out.TheVariants.{Send, Close}
+use Rattle.realm_sayings.specs.declared.act.Say.{Say}
 use Rattle.realm_sessions.specs.declared.links.Link.{Link}
 use Rattle.realm_sessions.specs.Links.{transport_of}
 

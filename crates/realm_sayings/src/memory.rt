@@ -1,7 +1,7 @@
 use realm_sessions::RealmFault;
 use std::alloc::{AllocError, AllocFailed};
 
-// No memory was left: the realm fails for it.
+/// No memory was left: the only error of the calls that answer it. The realm fails for it.
 #[derive(Clone, Copy, Debug)]
 pub struct Memory;
 
