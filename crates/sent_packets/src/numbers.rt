@@ -4,7 +4,7 @@ ghost use Rattle.sent_packets.specs.Numbers.{plain, no_entry, entry_numbers, for
 use paxos_packets::{Ballot, Entry, Kind, Packet};
 
 /// The numbers of an entry; 0 where it has none of that name.
-#[derive(Clone, Copy, Debug, PartialEq, Eq, Hash)]
+#[derive(Clone, Copy, PartialEq, Eq, Hash)]
 pub struct EntryNumbers {
     pub node: u8,
     pub boot: u64,
@@ -13,7 +13,7 @@ pub struct EntryNumbers {
 
 /// The numbers of a packet: what is in it but for bodies and lists. What a kind of packet has not is 0, so that kinds are told apart by what
 /// they have, but for a vote that is asked for and one that was cast.
-#[derive(Clone, Copy, Debug, PartialEq, Eq, Hash)]
+#[derive(Clone, Copy, PartialEq, Eq, Hash)]
 pub struct Numbers {
     pub sender: u8,
     pub addressee: u8,
@@ -33,7 +33,7 @@ pub struct Numbers {
 }
 
 /// Under what the place of a packet is found: its numbers, and how many different packets with these were sent before it.
-#[derive(Clone, Copy, Debug, PartialEq, Eq, Hash)]
+#[derive(Clone, Copy, PartialEq, Eq, Hash)]
 pub struct Key {
     pub numbers: Numbers,
     pub ordinal: usize,

@@ -7,7 +7,7 @@ use std::alloc::Global;
 use std::marker::Model;
 
 // A packet that was sent: its ends, and whether it was delivered.
-#[derive(Clone, Copy, Debug, PartialEq, Eq)]
+#[derive(Clone, Copy, PartialEq, Eq)]
 pub(crate) struct Sent {
     pub(crate) sender: u8,
     pub(crate) addressee: u8,
