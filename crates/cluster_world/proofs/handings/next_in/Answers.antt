@@ -1,5 +1,5 @@
 -- One member was handed nothing more; the one behind it is next.
-use Rattle.std.proofs.Common.{◌++◌, ◌∙◌, sym, ap, arith}
+use Rattle.std.proofs.Common.{◌++◌, ◌∙◌, sym, ap, arith, rules}
 use Rattle.cluster_world.specs.Told.{tell_members}
 use Rattle.cluster_world.proofs.handings.next_in.Goals as goal
 
@@ -14,3 +14,6 @@ loop-turn-preserved g c =
           ∙ (ap (λ l. l ++ tell_members c.loop-turn.left.now) (sym c.in_default.ensures.0) ∙ i.0)),
       omega (arith, fewer, count),
     )
+
+pub loop-turn-init : goal.loop-turn-init
+loop-turn-init g c = search rules

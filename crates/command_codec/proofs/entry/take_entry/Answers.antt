@@ -1,3 +1,4 @@
+use Rattle.std.proofs.Common.{rules}
 use Rattle.command_codec.proofs.Numbers.{octets_are}
 use Rattle.command_codec.proofs.Entries.{whole_spelled, one_entry, nothing_left, only_memory}
 use Rattle.command_codec.proofs.entry.take_entry.Goals as goal
@@ -23,3 +24,9 @@ pub returns-in-Err-clause-read_again : goal.returns-in-Err-clause-read_again
 returns-in-Err-clause-read_again g c = λ e h.
     only_memory g.C.Coder.spelling g.C.Coder.reading g.met.C.Coder.read_again g.met.C.Coder.spelled c.in-Err.fault c.args.octets.now e h
     c.in-Err.ensures.fault
+
+pub returns-else-is_empty-clause-taken : goal.returns-else-is_empty-clause-taken
+returns-else-is_empty-clause-taken g c = search rules
+
+pub returns-else-is_empty-clause-spelled : goal.returns-else-is_empty-clause-spelled
+returns-else-is_empty-clause-spelled g c = search rules

@@ -22,3 +22,6 @@ store-requires g c = (
   delivers_at g.B.Body.same c.args.table.now.shared.key c.args.table.now.shared.table_id.slots c.exchange.new.seat.id c.args.at (only
       c.args.seat.now.me.0) c.exchange.new.seat.me c.args.packet (search rules) c.requires.may,
 )
+
+pub returns-then-found-ne0-clause-posted : goal.returns-then-found-ne0-clause-posted
+returns-then-found-ne0-clause-posted g c = search rules

@@ -14,3 +14,9 @@ returns-clause-ok g c =
     (λ (e : c.put.new.self.learned ≡ put_learned (record { slot = c.args.slot; entry = c.in-Ok.copy }) c.args.learned.now.learned).
     e ∙ ap (λ x. put_learned (record { slot = c.args.slot; entry = x }) c.args.learned.now.learned) c.in-Ok.ensures
     ∙ learn_new c.args.slot c.args.entry.now c.args.learned.now.learned (sym none)) c.put.ensures.ok
+
+pub returns-in-Some-clause-ok : goal.returns-in-Some-clause-ok
+returns-in-Some-clause-ok g c = search rules
+
+pub returns-in-Some-clause-disagree : goal.returns-in-Some-clause-disagree
+returns-in-Some-clause-disagree g c = search rules

@@ -15,3 +15,6 @@ pub returns-in_err-votes-clause-below : goal.returns-in_err-votes-clause-below
 returns-in_err-votes-clause-below g c =
     let given : c.from_residual-in_err-votes.result ≡ Err c.in_err-votes.field-0.0 = search rules in
     subst (λ r. IfErr r LiesBelow) (sym given) (damaged_below c.in_err-votes.field-0.0 _ c.in_err-votes.ensures.fault)
+
+pub returns-clause-rows : goal.returns-clause-rows
+returns-clause-rows g c = search rules

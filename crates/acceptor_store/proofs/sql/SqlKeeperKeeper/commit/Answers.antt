@@ -1,4 +1,4 @@
-use Rattle.std.proofs.Common.{inl, inr, ⊎_elim, sym, subst, IsTrue}
+use Rattle.std.proofs.Common.{inl, inr, ⊎_elim, sym, subst, IsTrue, rules}
 use Rattle.std.proofs.lemmas.Result.{on_ok_weaker}
 use Rattle.sqlite.specs.Held.{state}
 use Rattle.acceptor_store.specs.Store.{Holds, Finds}
@@ -24,3 +24,6 @@ returns-clause-refused g c clean is_open rows holds =
 
 pub returns-clause-kept : goal.returns-clause-kept
 returns-clause-kept g c damaged x found = subst (λ k. Finds g.S.Store g.C.Coder.reading k x) c.self.view_is (c.commit_to-done.ensures.kept damaged x found)
+
+pub returns-clause-fails : goal.returns-clause-fails
+returns-clause-fails g c = search rules

@@ -1,4 +1,4 @@
-use Rattle.std.proofs.Common.{List, refl, subst, ◌∙◌}
+use Rattle.std.proofs.Common.{List, refl, subst, ◌∙◌, rules}
 use Rattle.paxos_packets.specs.declared.packet.Packet.{Packet}
 use Rattle.packet_outboxes.specs.Outboxes.{WaitBehind}
 use Rattle.actor_parts.specs.Parts.{Parted}
@@ -28,3 +28,6 @@ returns-clause-adopts g c =
       failed = refl;
       spoiled = refl;
     })
+
+pub returns-clause-applied : goal.returns-clause-applied
+returns-clause-applied g c = search rules

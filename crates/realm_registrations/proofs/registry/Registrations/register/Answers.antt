@@ -1,4 +1,4 @@
-use Rattle.std.proofs.Common.{◌≡◌, true, None, Some, OnOk, ap, sym, subst, ◌∙◌}
+use Rattle.std.proofs.Common.{◌≡◌, true, None, Some, OnOk, ap, sym, subst, ◌∙◌, rules}
 use Rattle.realm_sessions.specs.Fault.{Answers}
 use Rattle.realm_registrations.specs.Registration.{may_join}
 use Rattle.realm_registrations.specs.Registry.{Registry, Registered, registration_at}
@@ -48,3 +48,12 @@ returns-clause-registry c =
     let same = one_joined c.args.self.now c.args.session c.args.pattern.now c.args.invoke c.in-Some.registration.now
     (sym c.is_reserved.ensures ∙ c.if-is_reserved.false) is may (sym c.is_full.ensures ∙ c.if-is_full.false) in
     c.in_ok-add_callee.ensures.ok ∙ sym (ap (λ (d : Registered). d.registry) same)
+
+pub returns-then-not-may_join-clause-answer : goal.returns-then-not-may_join-clause-answer
+returns-then-not-may_join-clause-answer c = search rules
+
+pub returns-then-not-may_join-clause-registry : goal.returns-then-not-may_join-clause-registry
+returns-then-not-may_join-clause-registry c = search rules
+
+pub returns-then-not-may_join-clause-unchanged : goal.returns-then-not-may_join-clause-unchanged
+returns-then-not-may_join-clause-unchanged c = search rules

@@ -1,4 +1,5 @@
-use Rattle.std.proofs.Common.{◌≡◌, ◌≤◌, List, [], ◌++◌, length, sym, ap, subst, ◌∙◌}
+use Rattle.std.proofs.lemmas.Grind.{common_steps}
+use Rattle.std.proofs.Common.{◌≡◌, ◌≤◌, List, [], ◌++◌, length, sym, ap, subst, ◌∙◌, arith}
 use Rattle.std.proofs.lemmas.List.{append-nil, nil_from_length}
 use Rattle.std.specs.Vec.Iter.{into_iter_items}
 use Rattle.paxos_packets.specs.declared.packet.Packet.{Packet}
@@ -25,3 +26,6 @@ returns g c =
     record {
       packets = sym (append-nil c.loop-packet.self.packets) ∙ ap (λ ps. c.loop-packet.self.packets ++ ps) (sym none) ∙ c.loop-packet.invariant.0;
     }
+
+pub loop-packet-preserved : goal.loop-packet-preserved
+loop-packet-preserved g c = grind (arith, common_steps)

@@ -1,0 +1,5 @@
+use Rattle.std.proofs.Common.{rules}
+use Rattle.actor_parts.proofs.parts.Parts.spoil_at.Goals as goal
+
+pub returns : goal.returns
+returns g c = search rules
