@@ -1,3 +1,4 @@
 pub mod Id
 pub mod Pattern
 pub mod Uri
+pub mod Glance

@@ -5,7 +5,7 @@ ghost use Rattle.wamp_ids.specs.Pattern.{IsPattern, pattern_of};
 
 use crate::memory::Memory;
 use crate::policy::Match;
-use crate::uri::{UriFault, check, is_wamp};
+use crate::uri::{UriFault, begins_as_own, check, is_wamp};
 use std::alloc::Global;
 use std::borrow::CowStr;
 use std::marker::Model;
@@ -91,7 +91,7 @@ impl<'a> Pattern<'a> {
     pub fn is_reserved(&self) -> bool
         ensures { result ≡ is_reserved self.now.text }
     {
-        is_wamp(self.part(0))
+        begins_as_own(self.as_str()) && is_wamp(self.part(0))
     }
 
     /// An equal pattern with a text of its own. Where memory runs out there is none, and nothing has changed.

@@ -1,8 +1,10 @@
-ghost use Rattle.std.specs.Prelude.{◌≡◌, List, ℕ, IsTrue, ◌↔◌, IfOk, slice_get, option_map};
+ghost use Rattle.std.specs.Prelude.{◌≡◌, List, ℕ, IsTrue, ◌↔◌, IfOk, slice_get, option_map, true, false};
+ghost use Rattle.std.specs.Bool.{OnTrue};
 ghost use Rattle.std.specs.Cow.{cow_str_bytes};
 ghost use Rattle.std.specs.Str.Iter.{split_text, split_has_more, split_pattern};
 ghost use Rattle.wamp_ids.specs.Uri.{parts, is_reserved, number_of, uri_of, unless_faulty, is_wamp, Reads, IsUri, has_space};
-ghost use Rattle.wamp_ids.specs.Uri.{has_empty_part};
+ghost use Rattle.wamp_ids.specs.Uri.{has_hash, has_empty_part};
+ghost use Rattle.wamp_ids.specs.Glance.{is_visible, is_plain};
 
 use crate::memory::Memory;
 use crate::policy::Match;
@@ -121,7 +123,7 @@ impl<'a> Uri<'a> {
     pub fn is_reserved(&self) -> bool
         ensures { result ≡ is_reserved self.now }
     {
-        is_wamp(self.part(0))
+        begins_as_own(self.as_str()) && is_wamp(self.part(0))
     }
 
     /// An equal URI with a text of its own. Where memory runs out there is none, and nothing has changed.
@@ -148,6 +150,9 @@ pub(crate) fn check(text: &str, matching: Match) -> Result<(), UriFault>
     if text.len() > LONGEST {
         return Err(UriFault::TooLong);
     }
+    if is_plain(text) {
+        return Ok(());
+    }
     if has_space(text) {
         return Err(UriFault::Space);
     }
@@ -160,6 +165,15 @@ pub(crate) fn check(text: &str, matching: Match) -> Result<(), UriFault>
     Ok(())
 }
 
+// Whether a text begins with the octet of the router's own; of nearly all others it tells that they are not.
+#[tactic(auto, using(crate::proofs::Glance::not_own))]
+pub(crate) fn begins_as_own(text: &str) -> bool
+    ensures { result ≡ false → is_reserved text.now ≡ false }
+{
+    let octets = text.as_bytes();
+    !octets.is_empty() && octets[0] == b'w'
+}
+
 // Whether this first component makes a text the router's own.
 pub(crate) fn is_wamp(part: Option<&str>) -> bool
     ensures { result ≡ is_wamp (option_map (λ text. text.now) part.entry) }
@@ -168,6 +182,42 @@ pub(crate) fn is_wamp(part: Option<&str>) -> bool
         Some(part) => part == "wamp",
         None => false,
     }
+}
+
+// Whether one glance at the text shows that it breaks no rule of any match, as with nearly all texts.
+#[tactic(auto, using(crate::proofs::Glance::glance_shows))]
+fn is_plain(text: &str) -> bool
+    ensures { OnTrue result ((has_space text.now ≡ false)
+        × (has_hash text.now ≡ false) × (has_empty_part text.now ≡ false)) }
+{
+    are_plain(text.as_bytes())
+}
+
+// Whether all are visible octets of ASCII without `#`, and none of the components that dots part is empty.
+fn are_plain(octets: &[u8]) -> bool
+    ensures { result ≡ is_plain true octets.now }
+{
+    let mut begins = true;
+    for octet in octets {
+        if *octet == b'.' {
+            if begins {
+                return false;
+            }
+            begins = true;
+        } else {
+            if !is_visible(*octet) {
+                return false;
+            }
+            begins = false;
+        }
+    }
+    !begins
+}
+
+fn is_visible(octet: u8) -> bool
+    ensures { result ≡ is_visible octet }
+{
+    32 < octet && octet < 127 && octet != b'#'
 }
 
 fn has_space(text: &str) -> bool
