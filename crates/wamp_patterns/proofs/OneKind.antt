@@ -26,6 +26,10 @@ module _ {V : Type 0} (m : Match) (texts : List (List ℕ × V)) (u : List ℕ) 
   one_kind (k ∷ []) l = by_text (filled m k.0 u)
   one_kind (k ∷ j ∷ kinds) l = absurd (omega arith)
 
+  pub none_first : (kinds : List (List ℕ × ℕ)) → length kinds ≡ 0 → None ≡ first_found m texts u (keys_of kinds)
+  none_first [] l = refl
+  none_first (k ∷ kinds) l = absurd (omega (arith, l))
+
   pub none_more : (kinds : List (List ℕ × ℕ)) (found : List (Bor V)) → length kinds ≤ 1 → first_found m texts u (keys_of kinds) ≡ None
       → map (λ value. value.now) found ≡ map (λ value. value.now) found ++ values_of (all_found m texts u [] (keys_of kinds))
   none_more kinds found l none =

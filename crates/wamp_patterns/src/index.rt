@@ -104,11 +104,15 @@ impl<V> Index<V> {
 
     /// The value of the first kind, in their order, of which a pattern matches the URI. Takes no memory, and for each kind that stands a
     /// look-up: of wildcards for each that has as many components as the URI, and no other is met.
+    #[tactic(auto, using(crate::proofs::OneKind::none_first))]
     pub(crate) fn first(&self, matching: Match, uri: &[u8]) -> Option<&V>
         requires { length uri.now ≤ 1024 }
         ensures found { option_copied result ≡ first_found matching self.now.texts uri.now (keys_of self.now.kinds) }
         ensures ordered { AreTextsInOrder self.now.kinds }
     {
+        if self.kinds.len() == 0 {
+            return None;
+        }
         match matching {
             Match::Wildcard => self.first_shape(uri),
             _ => self.first_kind(matching, uri),
