@@ -2,6 +2,7 @@
 use Rattle.std.proofs.Common.{◌≡◌, ℕ, zero, suc, ◌+◌, ◌<◌, length, get_or, drop, arith, Bool, true}
 use Rattle.std.proofs.Common.{false, cond, ◌||◌, List, [], ◌∷◌, map, filter, Option, None, Some, nat_cmp, nat_eq}
 use Rattle.std.proofs.Common.{refl, sym, ap, ◌∙◌, subst}
+use Rattle.std.specs.Prelude.{option_to_list}
 use denote.Ref.{Bor}
 use Rattle.std.specs.declared.cmp.Ordering.{Ordering}
 use Rattle.std.specs.declared.cmp.Ordering.TheVariants.{Less, Equal, Greater}
@@ -197,3 +198,11 @@ gathered_next rows found after (id ∷ rest) zero d within step = ap (λ xs. gat
 gathered_next rows found after (id ∷ rest) (suc i) d within step =
     let next : suc i + 1 ≡ suc (i + 1) = omega arith in
     ap (λ n. gathered rows after (map (λ id. id.now) (drop n (id ∷ rest)))) next ∙ gathered_next rows found after rest i d (omega arith) step
+
+-- what one id gathers
+pub one_gathered : {G : Type 0} (rows : List (ℕ × G)) (ids : List (Bor ℕ)) (d : Bor ℕ) (o : Option G) → 0 < length ids → length ids < 2
+    → member_at (get_or ids 0 d).now rows ≡ o → values_of (gathered rows [] (map (λ id. id.now) ids)) ≡ option_to_list o
+one_gathered rows [] d o some few is = absurd (omega arith)
+one_gathered rows (id ∷ []) d None some few is = ap (λ o. values_of (with_found id.now o [])) is
+one_gathered rows (id ∷ []) d (Some x) some few is = ap (λ o. values_of (with_found id.now o [])) is
+one_gathered rows (id ∷ next ∷ rest) d o some few is = absurd (omega arith)

@@ -1,5 +1,5 @@
 // The groups whose patterns match a URI.
-ghost use Rattle.std.specs.Prelude.{◌≡◌, ℕ, [], IfOk, OnOk, IsOkUnless, map, option_copied};
+ghost use Rattle.std.specs.Prelude.{◌≡◌, ◌<◌, ℕ, [], length, IfOk, OnOk, IsOkUnless, map, option_copied};
 ghost use Rattle.std.specs.Map.{values_of};
 ghost use Rattle.wamp_patterns.specs.Ranking.{matching, serves};
 ghost use Rattle.realm_sessions.specs.declared.fault.RealmFault.TheVariants as fault;
@@ -42,8 +42,33 @@ pub(crate) fn matching_in<'a, G: Group>(
     let Ok(ids) = patterns.all(uri) else {
         return Err(RealmFault::Memory);
     };
+    if ids.len() < 2 {
+        return sole(alloc, rows, &ids);
+    }
     let found = gathered(alloc, rows, &ids)?;
     values(alloc, &found)
+}
+
+// The group of the one id, where there is one: no map is made for it.
+fn sole<'a, G: Group>(
+    alloc: Global,
+    rows: &'a BTreeMap<u64, G>,
+    ids: &[&u64],
+) -> Result<Vec<&'a G>, RealmFault>
+    requires { length ids.now < 2 }
+    ensures found { IfOk result (λ found. map (λ group. group.now) found.items
+        ≡ values_of (gathered rows.now.entries [] (map (λ id. id.now) ids.now))) }
+    ensures fault { IsOkUnless result fault.Memory }
+{
+    let mut found = Vec::new(alloc);
+    if ids.is_empty() {
+        return Ok(found);
+    }
+    let Some(group) = rows.get(ids[0]) else {
+        return Ok(found);
+    };
+    found.push(group)?;
+    Ok(found)
 }
 
 // The groups of these ids, by ascending id.
