@@ -87,6 +87,7 @@ pub(crate) fn two(rest: &mut IntoIter<Value>) -> Option<(Value, Value)>
 }
 
 // The next three elements.
+#[inline(always)]
 pub(crate) fn three(rest: &mut IntoIter<Value>) -> Option<(Value, Value, Value)>
     ensures { MatchOption result (has_three (elements rest.old) ≡ false)
         (λ some. elements rest.old
@@ -122,6 +123,7 @@ pub(crate) fn four(rest: &mut IntoIter<Value>) -> Option<(Value, Value, Value, V
 }
 
 // The elements that are left, as arguments.
+#[inline(always)]
 pub(crate) fn arguments(mut rest: IntoIter<Value>) -> Given
     ensures { result ≡ args_given (elements rest) }
 {
@@ -138,6 +140,7 @@ pub(crate) fn arguments(mut rest: IntoIter<Value>) -> Given
     both(list, dictionary)
 }
 
+#[inline(always)]
 fn listed(list: Value) -> Given
     ensures { result ≡ args_given (item (view list) no_items) }
 {

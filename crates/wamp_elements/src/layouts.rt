@@ -379,6 +379,7 @@ pub fn id_dictionary_text_args(mut rest: IntoIter<Value>) -> Result<UriRequest, 
     asked
 }
 
+#[inline(always)]
 fn request_given(
     request: &Value,
     options: Value,
@@ -404,6 +405,7 @@ fn request_given(
     }
 }
 
+#[inline(always)]
 fn request_with(
     request: &Value,
     options: Value,

@@ -26,6 +26,7 @@ pub(crate) enum Fitness {
 
 // The value's fitness where its arrays and objects may nest `room` deep.
 #[cycle(fitness)]
+#[inline(always)]
 pub(crate) fn fitness_of(value: &Value, room: usize) -> Fitness
     ensures value { result ≡ fitness (has_float (view value.now)) (depth (view value.now)) room }
     ensures plain { IfExact result (IsPlain (view value.now)) }
@@ -44,6 +45,7 @@ pub(crate) fn fitness_of(value: &Value, room: usize) -> Fitness
 
 // The fitness of the array of these items.
 #[cycle(fitness)]
+#[inline(never)]
 fn items_fitness(items: &Vec<Value>, room: usize) -> Fitness
     ensures value { result ≡ fitness (items_have_float (items_view items.now.items))
         (suc (items_depth (items_view items.now.items))) room }
@@ -62,6 +64,7 @@ fn items_fitness(items: &Vec<Value>, room: usize) -> Fitness
 
 // The fitness of the object of these members.
 #[cycle(fitness)]
+#[inline(never)]
 #[tactic(auto, using(crate::proofs::Plain::keys_in_order))]
 fn members_fitness(members: &Map<String, Value>, room: usize) -> Fitness
     ensures sorted { IsStrictlySortedBy (slice_cmp nat_cmp) (keys (members_view members.now.entries)) }

@@ -10,6 +10,7 @@ use serde_json::{Map, Number, Value};
 use std::alloc::AllocError;
 
 #[cycle(put)]
+#[inline(always)]
 pub(crate) fn put(value: &Value, out: &mut Writer) -> Result<(), AllocError>
     requires { has_float (view value.now) ≡ false }
     ensures { Appends result out.old out.new (data_tokens (view value.now)) }
@@ -32,6 +33,7 @@ pub(crate) fn put(value: &Value, out: &mut Writer) -> Result<(), AllocError>
 
 // The items and the closing bracket.
 #[cycle(put)]
+#[inline(never)]
 fn put_items(items: &Vec<Value>, out: &mut Writer) -> Result<(), AllocError>
     requires { items_have_float (items_view items.now.items) ≡ false }
     ensures { Appends result out.old out.new (list_tokens (items_view items.now.items)) }
@@ -44,6 +46,7 @@ fn put_items(items: &Vec<Value>, out: &mut Writer) -> Result<(), AllocError>
 
 // The members and the closing brace.
 #[cycle(put)]
+#[inline(never)]
 fn put_members(members: &Map<String, Value>, out: &mut Writer) -> Result<(), AllocError>
     requires { members_have_float (members_view members.now.entries) ≡ false }
     ensures { Appends result out.old out.new (dict_tokens (members_view members.now.entries)) }
