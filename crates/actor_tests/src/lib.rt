@@ -1,6 +1,6 @@
-//! Tests of actors over their public calls, of three of them at a table, with a machine that adds up and with failing keepers; and of runs of
-//! actors, each beside its table: full outboxes, sessions with a realm whose logs are gathered, and three nodes on threads of their own. A
-//! crate with tests is proved twice, so they stand here.
+//! Tests of the mail table between nodes; of actors over their public calls, of three of them at a table, with a machine that adds up and
+//! with failing keepers; and of runs of actors, each beside its table: full outboxes, sessions with a realm whose logs are gathered, and three
+//! nodes on threads of their own. A crate with tests is proved twice, so they stand here.
 #![tactic(auto)]
 
 #[cfg(test)]
@@ -16,7 +16,13 @@ mod crashing;
 #[cfg(test)]
 mod hearing;
 #[cfg(test)]
+mod mail_tables;
+#[cfg(test)]
+mod mail_threads;
+#[cfg(test)]
 mod outboxes;
+#[cfg(test)]
+mod posting;
 #[cfg(test)]
 mod realms;
 #[cfg(test)]

@@ -1,7 +1,6 @@
 //! Tests of the consensus core below its actors: packets, those ever sent and those that wait, the acceptor and the keeper of its rows in
-//! memory, the proposer and the learner, what is planned on both, one node, the machines that follow a log, entries as octets, whole clusters
-//! under schedules, and the mail table between their nodes. All over the crates' public surfaces. A crate with tests is proved twice, so they
-//! stand here.
+//! memory, the proposer and the learner, what is planned on both, one node, the machines that follow a log, entries as octets, and whole
+//! clusters under schedules. All over the crates' public surfaces. A crate with tests is proved twice, so they stand here.
 #![tactic(auto)]
 
 #[cfg(test)]
@@ -41,8 +40,6 @@ mod packets;
 #[cfg(test)]
 mod planning;
 #[cfg(test)]
-mod posting;
-#[cfg(test)]
 mod proposer;
 #[cfg(test)]
 mod proposing;
@@ -52,9 +49,5 @@ mod schedule;
 mod sent;
 #[cfg(test)]
 mod session;
-#[cfg(test)]
-mod tables;
-#[cfg(test)]
-mod threads;
 #[cfg(test)]
 mod worlds;

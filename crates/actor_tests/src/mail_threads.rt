@@ -1,7 +1,7 @@
 // Two nodes, each on a thread of its own.
 ghost use Rattle.cluster_world.specs.Has.{Has};
 ghost use Rattle.mail_table.specs.Seats.{Owns};
-ghost use Rattle.core_tests.specs.Standing.{Knows};
+ghost use Rattle.actor_tests.specs.Standing.{Knows};
 ghost use Rattle.paxos_node.specs.declared.view.Opened.TheVariants.{Never};
 ghost use Rattle.std.specs.Prelude.{◌≡◌, ◌≤◌, All};
 

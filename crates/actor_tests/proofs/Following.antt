@@ -2,7 +2,7 @@
 use Rattle.std.proofs.Common.{◌≡◌, ℕ, Bool, true, false, eqb, refl, ap, sym, subst, ◌∙◌}
 use Rattle.mail_table.specs.Boxes.{Follows}
 use Rattle.mail_table.specs.Seats.{Mailed, Seated, Owns}
-use Rattle.core_tests.specs.Standing.{Knows}
+use Rattle.actor_tests.specs.Standing.{Knows}
 use Rattle.paxos_node.specs.Adopting.{Planned}
 use Rattle.paxos_node.specs.Held.{Held}
 use Rattle.paxos_node.specs.declared.event.Event.TheVariants.{Start, Tick}

@@ -1,7 +1,7 @@
 use Rattle.std.proofs.Common.{◌≡◌}
 use Rattle.cluster_world.specs.Has.{Has}
 use Rattle.mail_table.specs.Seats.{Owns}
-use Rattle.core_tests.proofs.threads.post_to_second.Given as goal
+use Rattle.actor_tests.proofs.mail_threads.post_to_second.Given as goal
 
 abbrev pub invariant-loop : goal.invariant-loop
 invariant-loop l =

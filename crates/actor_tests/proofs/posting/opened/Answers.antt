@@ -2,7 +2,7 @@ use Rattle.std.proofs.Common.{◌≡◌, ◌∙◌, ap, sym, None}
 use Rattle.mail_table.specs.Views.{opened_with}
 use Rattle.paxos_node.specs.Applying.{started}
 use Rattle.paxos_packets.specs.declared.rows.Rows.{Rows}
-use Rattle.core_tests.proofs.posting.opened.Goals as goal
+use Rattle.actor_tests.proofs.posting.opened.Goals as goal
 
 pub returns : goal.returns
 returns c =

@@ -1,5 +1,5 @@
-use Rattle.core_tests.proofs.Following.{knows_still}
-use Rattle.core_tests.proofs.threads.post_all.Goals as goal
+use Rattle.actor_tests.proofs.Following.{knows_still}
+use Rattle.actor_tests.proofs.mail_threads.post_all.Goals as goal
 
 pub loop-preserved : goal.loop-preserved
 loop-preserved c =

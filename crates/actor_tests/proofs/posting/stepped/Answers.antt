@@ -1,8 +1,8 @@
 use Rattle.std.proofs.Common.{◌≡◌, ◌∙◌, ap, sym, subst}
 use Rattle.cluster_world.proofs.Lists.{has_left, has_right}
 use Rattle.cluster_world.specs.Has.{Has}
-use Rattle.core_tests.proofs.Following.{follows}
-use Rattle.core_tests.proofs.posting.stepped.Goals as goal
+use Rattle.actor_tests.proofs.Following.{follows}
+use Rattle.actor_tests.proofs.posting.stepped.Goals as goal
 
 pub advance-requires-clause-follows : goal.advance-requires-clause-follows
 advance-requires-clause-follows c =

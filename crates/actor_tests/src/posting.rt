@@ -1,6 +1,6 @@
 ghost use Rattle.cluster_world.specs.Has.{Has};
 ghost use Rattle.mail_table.specs.Seats.{Owns};
-ghost use Rattle.core_tests.specs.Standing.{Knows};
+ghost use Rattle.actor_tests.specs.Standing.{Knows};
 ghost use Rattle.paxos_node.specs.declared.view.Opened.TheVariants.{Never};
 ghost use Rattle.paxos_packets.specs.declared.packet.Packet.{Packet};
 ghost use Rattle.paxos_node.specs.Adopting.{Fits, Planned};

@@ -2,7 +2,7 @@ use Rattle.std.proofs.Common.{◌≡◌, ◌++◌, ◌∷◌, [], List, rules, s
 use Rattle.std.specs.Prelude.{option_to_list}
 use Rattle.cluster_world.proofs.Lists.{has_left, has_right}
 use Rattle.cluster_world.specs.Has.{Has, here}
-use Rattle.core_tests.proofs.posting.for_second.Goals as goal
+use Rattle.actor_tests.proofs.posting.for_second.Goals as goal
 
 pub returns-then-packet-eq2 : goal.returns-then-packet-eq2
 returns-then-packet-eq2 c =
