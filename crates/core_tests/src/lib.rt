@@ -1,6 +1,6 @@
-//! Tests of the consensus core below its actors: packets, those ever sent and those that wait, the acceptor and the keeper of its rows in
-//! memory, the proposer and the learner, what is planned on both, one node, the machines that follow a log, entries as octets, and whole
-//! clusters under schedules. All over the crates' public surfaces. A crate with tests is proved twice, so they stand here.
+//! Tests of the consensus core below its actors: packets, those ever sent, those that wait and those that a flush delivers, the acceptor and
+//! the keeper of its rows in memory, the proposer and the learner, what is planned on both, one node, the machines that follow a log, entries
+//! as octets, and whole clusters under schedules. All over the crates' public surfaces. A crate with tests is proved twice, so they stand here.
 #![tactic(auto)]
 
 #[cfg(test)]
@@ -49,5 +49,7 @@ mod schedule;
 mod sent;
 #[cfg(test)]
 mod session;
+#[cfg(test)]
+mod waiting;
 #[cfg(test)]
 mod worlds;

@@ -1,5 +1,5 @@
-//! Tests of what stands between a client's socket and a node's thread, and of what that thread stands on in a served cluster, over public
-//! calls, in memory and over loopback sockets. A crate with tests is proved twice, so they stand here.
+//! Tests of what stands between a client's socket and a node's thread, of what that thread stands on in a served cluster, and of one client
+//! over a reader and a writer, over public calls, in memory and over loopback sockets. A crate with tests is proved twice, so they stand here.
 #![tactic(auto)]
 
 #[cfg(test)]
@@ -17,6 +17,8 @@ mod house;
 #[cfg(test)]
 mod lanes;
 #[cfg(test)]
+mod one_client;
+#[cfg(test)]
 mod reading;
 #[cfg(test)]
 mod steps;
@@ -24,5 +26,7 @@ mod steps;
 mod streams;
 #[cfg(test)]
 mod threads;
+#[cfg(test)]
+mod turns;
 #[cfg(test)]
 mod writing;

@@ -1,5 +1,4 @@
-//! Tests of the program's calls, and below them of a script's lines, of the packets that its flushes deliver, of a script that is played
-//! and of the text of a world, over the public surfaces of `cluster_program`, `script_lines`, `waiting_packets` and `script_text`; and of the
+//! Tests of the program's calls over the public surface of `cluster_program`: the command line, scripts, a served cluster; and of the
 //! acceptor's store over SQLite, and of an actor over it, by their public calls. A crate with tests is proved twice, so they stand here.
 #![tactic(auto)]
 
@@ -7,10 +6,6 @@
 mod check;
 #[cfg(test)]
 mod clusters;
-#[cfg(test)]
-mod ends;
-#[cfg(test)]
-mod lines;
 #[cfg(test)]
 mod order;
 #[cfg(test)]
@@ -27,11 +22,3 @@ mod station;
 mod store_actors;
 #[cfg(test)]
 mod store_acts;
-#[cfg(test)]
-mod stream;
-#[cfg(test)]
-mod text;
-#[cfg(test)]
-mod turns;
-#[cfg(test)]
-mod waiting;

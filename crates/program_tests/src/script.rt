@@ -1,10 +1,9 @@
 use crate::check::Check;
-use crate::ends::{Paper, Pieces, new_paper, reader_of};
 use cluster_program::{Members, RunFault, script_run};
 use std::alloc::{AllocError, Global};
 use std::fmt::Write;
 use std::process::Abort;
-use test_checks::{check, check_eq};
+use test_checks::{Paper, Pieces, check, check_eq, new_paper, reader_of};
 
 // What WELCOME announces; a row says W in its place.
 const FEATURES: &str =

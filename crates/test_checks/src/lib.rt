@@ -1,6 +1,11 @@
 //! The checks of tests. What `assert!` and `assert_eq!` write out is proved anew wherever one stands; what `check!` and `check_eq!` write
-//! out is a call of a function of `Check`, which stands in each crate of tests, since no library may end the process.
+//! out is a call of a function of `Check`, which stands in each crate of tests, since no library may end the process. Besides, a reader and a
+//! writer that tests see into.
 #![tactic(auto)]
+
+mod ends;
+
+pub use ends::{Paper, Pieces, new_paper, reader_of};
 
 /// As `assert!`, but over a reference to what may end the process, and with a note that is one value.
 #[macro_export]

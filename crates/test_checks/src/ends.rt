@@ -1,15 +1,15 @@
-// A reader and a writer that tests see into.
-
 use std::alloc::Global;
 use std::io;
 use std::io::{Read, Write};
 
-// A reader that gives at most so many octets at a time, and fails once.
+/// A reader that gives at most so many octets at a time, and fails once.
 #[derive(Drop)]
-pub(crate) struct Pieces<'a> {
-    pub(crate) octets: &'a [u8],
+pub struct Pieces<'a> {
+    /// What it has still to give.
+    pub octets: &'a [u8],
     most: usize,
-    pub(crate) reads_before_failure: Option<u32>,
+    /// How many reads come before the one that fails; none once it has failed, or where none is to fail.
+    pub reads_before_failure: Option<u32>,
 }
 
 impl Read for Pieces<'_> {
@@ -27,12 +27,15 @@ impl Read for Pieces<'_> {
     }
 }
 
-// A writer that keeps what it is given, and fails once, in a write or in a flush.
+/// A writer that keeps what it is given, and fails once, in a write or in a flush.
 #[derive(Drop)]
-pub(crate) struct Paper {
-    pub(crate) octets: Vec<u8>,
-    pub(crate) longest: usize,
-    pub(crate) calls_before_failure: Option<u32>,
+pub struct Paper {
+    /// What was written.
+    pub octets: Vec<u8>,
+    /// How many octets the longest write had.
+    pub longest: usize,
+    /// How many calls come before the one that fails; none once it has failed, or where none is to fail.
+    pub calls_before_failure: Option<u32>,
 }
 
 impl Paper {
@@ -69,8 +72,8 @@ impl Write for Paper {
     }
 }
 
-// A reader of these octets, by so many at a time.
-pub(crate) fn reader_of(octets: &[u8], most: usize) -> Pieces<'_> {
+/// A reader of these octets, by so many at a time.
+pub fn reader_of(octets: &[u8], most: usize) -> Pieces<'_> {
     Pieces {
         octets,
         most,
@@ -78,8 +81,8 @@ pub(crate) fn reader_of(octets: &[u8], most: usize) -> Pieces<'_> {
     }
 }
 
-// A writer with nothing in it, which fails behind so many calls.
-pub(crate) fn new_paper(alloc: Global, calls_before_failure: Option<u32>) -> Paper {
+/// A writer with nothing in it, which fails behind so many calls.
+pub fn new_paper(alloc: Global, calls_before_failure: Option<u32>) -> Paper {
     Paper {
         octets: Vec::new(alloc),
         longest: 0,

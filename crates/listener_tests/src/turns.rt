@@ -1,8 +1,8 @@
 use crate::check::Check;
-use cluster_program::stream_run;
 use std::cell::Cell;
 use std::io;
 use std::io::{Read, Write};
+use stream_program::stream_run;
 use test_checks::{check, check_eq};
 
 // What a client sends, each part once the octets that answer the parts before it have reached it.

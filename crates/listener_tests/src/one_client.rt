@@ -1,9 +1,8 @@
 use crate::check::Check;
-use crate::ends::{Paper, Pieces, new_paper, reader_of};
-use cluster_program::{RunFault, stream_run};
 use std::alloc::{AllocError, Global};
 use std::process::Abort;
-use test_checks::{check, check_eq};
+use stream_program::{RunFault, stream_run};
+use test_checks::{Paper, Pieces, check, check_eq, new_paper, reader_of};
 
 // The client's octets of the stored run.
 const ASKED: &[u8] = b"\x7F\xF1\0\0\
