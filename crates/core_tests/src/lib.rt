@@ -50,6 +50,8 @@ mod sent;
 #[cfg(test)]
 mod session;
 #[cfg(test)]
+mod votes;
+#[cfg(test)]
 mod waiting;
 #[cfg(test)]
 mod worlds;

@@ -2,10 +2,11 @@ ghost use Rattle.std.specs.Prelude.{◌≡◌, ◌==◌, ℕ, List, refl, IfOk};
 ghost use Rattle.std.specs.Cmp.Lexicographic.{pointwise, bytes_decides};
 
 use crate::check::Check;
+use crate::votes::{item, slot, vote, votes_of};
 use core_bodies::Number;
 use paxos_packets::{
-    Ballot, Body, Change, Entries, Entry, KeptVotes, Kind, Members, Memory, NodeSet, Packet, Rows,
-    Shared, Slot, Vote, Votes, laws,
+    Ballot, Body, Change, Entries, Entry, Kind, Members, Memory, NodeSet, Packet, Rows, Shared,
+    Slot, Votes, laws,
 };
 use std::alloc::Global;
 use std::marker::Model;
@@ -55,28 +56,6 @@ fn shared_of(rt: &impl Abort, alloc: Global, octets: &[u8]) -> Shared<Text>
     Shared::new(alloc, text).expect(rt, "room for a shared text")
 }
 
-fn item<B: Drop>(body: B) -> Entry<B> {
-    Entry::Item {
-        node: 2,
-        boot: 3,
-        seq: 4,
-        transport: 5,
-        body,
-    }
-}
-
-fn slot(rt: &impl Abort, number: u64) -> Slot {
-    Slot::new(number).expect(rt, "a slot's number")
-}
-
-fn vote<B: Drop>(rt: &impl Abort, number: u64, round: u64, entry: Entry<B>) -> Vote<B> {
-    Vote {
-        slot: slot(rt, number),
-        ballot: Ballot { round, node: 1 },
-        entry,
-    }
-}
-
 #[test]
 fn slots_have_their_range(rt: HostRuntime) {
     check!(&rt; Slot::new(0).is_none());
@@ -122,156 +101,6 @@ fn three_of_four_are_a_majority(rt: HostRuntime) {
     check!(&rt; !four.majority(set), "two of four, and others that are no members");
     set.insert(3);
     check!(&rt; four.majority(set));
-}
-
-// Puts a vote for each row: its slot, its round and the number that its Item holds.
-fn put_rows(rt: &impl Abort, votes: &mut Votes<Number>, rows: &[(u64, u64, u32)]) {
-    for (number, round, body) in rows {
-        let vote = vote(rt, *number, *round, item(Number::new(*body)));
-        votes.put(vote).expect(rt, "room for a vote");
-    }
-}
-
-// Votes put in this order.
-fn votes_of(rt: &impl Abort, alloc: Global, rows: &[(u64, u64, u32)]) -> Votes<Number> {
-    let mut votes = Votes::new(alloc);
-    put_rows(rt, &mut votes, rows);
-    votes
-}
-
-// Whether the vote is in this slot and round, for the Item that holds this number.
-fn is_vote(vote: &Vote<Number>, row: &(u64, u64, u32)) -> bool {
-    let (number, round, body) = *row;
-    vote.slot.get() == number
-        && vote.ballot == Ballot { round, node: 1 }
-        && vote.entry.same(&item(Number::new(body)))
-}
-
-// Whether these are the votes, in this order.
-fn are_votes(votes: &[Vote<Number>], rows: &[(u64, u64, u32)]) -> bool {
-    votes.len() == rows.len()
-        && votes
-            .iter()
-            .zip(rows.iter())
-            .all(|(vote, row)| is_vote(vote, row))
-}
-
-// Whether the vote for this slot is this one, or, where there is none, whether none is found.
-fn finds(votes: &Votes<Number>, slot: Slot, row: Option<(u64, u64, u32)>) -> bool {
-    match (votes.find(slot), row) {
-        (Some(vote), Some(row)) => is_vote(vote, &row),
-        (None, None) => true,
-        _ => false,
-    }
-}
-
-// Puts the others from this slot on behind the votes.
-fn put_from(
-    rt: &impl Abort,
-    alloc: Global,
-    votes: &mut Votes<Number>,
-    others: &Votes<Number>,
-    from: u64,
-) {
-    let behind = others.copy_from(alloc, from).expect(rt, "room for a copy");
-    votes.put_all(behind).expect(rt, "room for the votes");
-}
-
-fn are_copied_from(
-    rt: &impl Abort,
-    alloc: Global,
-    votes: &Votes<Number>,
-    from: u64,
-    rows: &[(u64, u64, u32)],
-) -> bool {
-    let behind = votes.copy_from(alloc, from).expect(rt, "room for a copy");
-    let same = are_votes(behind.as_slice(), rows);
-    drop(behind);
-    same
-}
-
-// Whether the votes are those from this slot on, put behind one in slot 1.
-fn is_put_behind_one(rt: &impl Abort, alloc: Global, votes: &Votes<Number>, from: u64) -> bool {
-    let mut more = votes_of(rt, alloc, &[(1, 1, 1)]);
-    put_from(rt, alloc, &mut more, votes, from);
-    let same = more.same(votes);
-    drop(more);
-    same
-}
-
-#[test]
-fn votes_stand_by_slot(rt: HostRuntime) {
-    // the later vote replaces the first of its slot
-    let votes = votes_of(
-        &rt,
-        rt.alloc(),
-        &[(5, 1, 1), (1, 1, 1), (3, 1, 1), (3, 2, 2)],
-    );
-    check!(&rt; are_votes(votes.as_slice(), &[(1, 1, 1), (3, 2, 2), (5, 1, 1)]));
-    drop(votes);
-}
-
-#[test]
-fn votes_are_found_by_slot(rt: HostRuntime) {
-    let (second, third) = (slot(&rt, 2), slot(&rt, 3));
-    let votes = votes_of(&rt, rt.alloc(), &[(5, 1, 1), (1, 1, 1), (3, 2, 2)]);
-    check!(&rt; finds(&votes, third, Some((3, 2, 2))));
-    check!(&rt; finds(&votes, second, None));
-    drop(votes);
-}
-
-fn are_copied(rt: &impl Abort, alloc: Global, votes: &Votes<Number>) {
-    check!(rt; are_copied_from(rt, alloc, votes, 2, &[(3, 2, 2), (5, 1, 1)]));
-    check!(rt; is_put_behind_one(rt, alloc, votes, 2));
-}
-
-#[test]
-fn votes_are_copied_from_a_slot_on(rt: HostRuntime) {
-    let votes = votes_of(&rt, rt.alloc(), &[(5, 1, 1), (1, 1, 1), (3, 2, 2)]);
-    are_copied(&rt, rt.alloc(), &votes);
-    let all = votes.into_vec();
-    check_eq!(&rt; all.len(), 3);
-    drop(all);
-}
-
-// Votes put in the room that was made for them.
-fn kept_of(rt: &impl Abort, first: Votes<Number>, more: Votes<Number>) -> KeptVotes<Number> {
-    let count = more.as_slice().len();
-    let mut kept = KeptVotes::of(first);
-    kept.make_room(count).expect(rt, "room for the votes");
-    kept.put_all_in_room(more);
-    kept
-}
-
-// How many votes are copied from slot 2 on.
-fn copied(rt: &impl Abort, alloc: Global, kept: &KeptVotes<Number>) -> usize {
-    let behind = kept.copy_from(alloc, 2).expect(rt, "room for a copy");
-    let count = behind.as_slice().len();
-    drop(behind);
-    count
-}
-
-// Whether votes in the slots 1 and 2 are kept, none in 3, and one from 2 on.
-fn are_kept(rt: &impl Abort, alloc: Global, kept: &KeptVotes<Number>) -> bool {
-    let (second, third) = (slot(rt, 2), slot(rt, 3));
-    let found = kept.find(second).is_some() && kept.find(third).is_none();
-    found && kept.as_slice().len() == 2 && copied(rt, alloc, kept) == 1
-}
-
-// A vote in slot 2, and behind it one in slot 1 and another in 2.
-fn kept(rt: &impl Abort, alloc: Global) -> KeptVotes<Number> {
-    let first = votes_of(rt, alloc, &[(2, 1, 1)]);
-    let more = votes_of(rt, alloc, &[(1, 1, 2), (2, 2, 3)]);
-    kept_of(rt, first, more)
-}
-
-#[test]
-fn votes_are_put_where_there_is_room(rt: HostRuntime) {
-    let kept = kept(&rt, rt.alloc());
-    check!(&rt; are_kept(&rt, rt.alloc(), &kept));
-    let votes = kept.into_votes();
-    check!(&rt; are_votes(votes.as_slice(), &[(1, 1, 2), (2, 2, 3)]));
-    drop(votes);
 }
 
 pub fn packet_of<B: Body>(rt: &impl Abort, alloc: Global, kind: &Kind<B>) -> Packet<B> {

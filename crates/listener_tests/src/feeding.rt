@@ -2,18 +2,16 @@
 // owns the gate and the feed, and lends them to what happens there. What cannot be had, as memory or a socket, ends the test at once, so that
 // no other way out drops what a test has.
 use crate::check::Check;
-use actor_run::{Feed, Gate, Seen};
-use bytes::Bytes;
-use client_listener::{FromClient, ToClient};
-use paxos_node::Event;
-use paxos_packets::{Members, NodeSet, Transport};
+use crate::clients::{Client, connect, has_ended, is_told, send};
+use crate::rounds::{NODE, comes, gives, quiet};
+use actor_run::{Feed, Gate};
+use paxos_packets::{Members, Transport};
 use realm_acts::Act;
 use realm_machine::{Out, Say};
-use rtrb::{Consumer, Producer, RingBuffer};
+use rtrb::{Producer, RingBuffer};
 use serve_feed::{ClientFeed, Home, Pace, Paced};
-use serve_lanes::{Arrival, Line, Lobby, REQUESTS_WAITING, SAYINGS_WAITING};
+use serve_lanes::{Arrival, Lobby, SAYINGS_WAITING};
 use std::alloc::Global;
-use std::io::Read;
 use std::net::{Net, TcpListener, TcpStream};
 use std::panic::Expect;
 use std::process::Abort;
@@ -21,8 +19,6 @@ use std::sync::{Arc, Wait};
 use std::time::Clock;
 use test_checks::{check, check_eq};
 use wamp_messages::{Read as ReadResult, read};
-
-const NODE: u8 = 2;
 
 const BOOT: u64 = 5;
 
@@ -35,184 +31,6 @@ impl Gate for Open {
     fn pass(&self, _node: u8, _turn: u64) -> bool {
         true
     }
-}
-
-// What the last turn told, where nothing happened in it.
-fn quiet() -> Seen {
-    Seen {
-        from: None,
-        applied: 0,
-        pending: false,
-        posted: NodeSet::new(),
-        waiting: [0; 7],
-        leads: false,
-    }
-}
-
-// A client's ends of a connection: of both rings, and of the stream.
-#[derive(Drop)]
-struct Client {
-    items: Producer<FromClient>,
-    replies: Consumer<ToClient>,
-    stream: TcpStream,
-}
-
-// A stream over loopback, from both sides.
-fn streams<R: Abort + Net<Listener = TcpListener, Stream = TcpStream>>(
-    rt: &R,
-) -> (TcpStream, TcpStream) {
-    let listener = TcpListener::bind(rt, "127.0.0.1:0").expect(rt, "a port");
-    let address = listener.local_addr().expect(rt, "an address");
-    let ours = TcpStream::connect(rt, address).expect(rt, "a connection");
-    let (theirs, _address) = listener.accept().expect(rt, "its other end");
-    drop(listener);
-    (ours, theirs)
-}
-
-// Puts an item into a ring, which has room for it.
-fn put<T>(rt: &impl Abort, ring: &mut Producer<T>, item: T) {
-    ring.push(item).expect(rt, "room in a ring");
-}
-
-// A connection that arrives.
-fn connect<R: Abort + Net<Listener = TcpListener, Stream = TcpStream>>(
-    rt: &R,
-    alloc: Global,
-    arrivals: &mut Producer<Arrival>,
-) -> Client {
-    let (stream, theirs) = streams(rt);
-    let line = Line::over(alloc, theirs).expect(rt, "a line");
-    let (items, node_items) = RingBuffer::new(alloc, REQUESTS_WAITING).expect(rt, "a ring");
-    let (node_replies, replies) = RingBuffer::new(alloc, SAYINGS_WAITING).expect(rt, "a ring");
-    let arrival = Arrival {
-        items: node_items,
-        replies: node_replies,
-        line,
-    };
-    put(rt, arrivals, arrival);
-    Client {
-        items,
-        replies,
-        stream,
-    }
-}
-
-// An item, by its letter.
-fn item_of(rt: &impl Abort, alloc: Global, letter: char) -> FromClient {
-    match letter {
-        'C' => FromClient::Connect,
-        'P' => FromClient::Ping(Bytes::copy_from_slice(alloc, b"hi").expect(rt, "a payload")),
-        'S' => FromClient::Read(read(alloc, b"[48,1,{},\"a\"]").expect(rt, "a message")),
-        _ => FromClient::Hung,
-    }
-}
-
-// Puts items into the client's ring, by their letters.
-fn send(rt: &impl Abort, alloc: Global, client: &mut Client, letters: &str) {
-    for letter in letters.chars() {
-        put(rt, &mut client.items, item_of(rt, alloc, letter));
-    }
-}
-
-// The letter of what a client is told.
-fn letter_of(saying: &ToClient) -> char {
-    match saying {
-        ToClient::Send(_) => 'm',
-        ToClient::Pong(payload) => if payload.as_slice() == b"hi".as_slice() {
-            'p'
-        } else {
-            '?'
-        },
-        ToClient::Close => 'x',
-    }
-}
-
-// The letter of the next saying in a ring, which is taken out.
-fn next_letter(replies: &mut Consumer<ToClient>) -> Option<char> {
-    let Ok(saying) = replies.pop() else {
-        return None;
-    };
-    let letter = letter_of(&saying);
-    drop(saying);
-    Some(letter)
-}
-
-// A client was told what these letters say, and nothing more.
-fn is_told(rt: &impl Abort, client: &mut Client, letters: &str) {
-    for letter in letters.chars() {
-        check_eq!(rt; next_letter(&mut client.replies), Some(letter));
-    }
-    check_eq!(rt; next_letter(&mut client.replies), None);
-}
-
-// The letters of an event: an act's, with its transport's number before it; another event's, with none.
-fn letters_of(event: &Event<Act>) -> (Option<char>, char) {
-    match event {
-        Event::Take {
-            transport,
-            body,
-            ..
-        } => {
-            let letter = match body {
-                Act::Connect => 'C',
-                Act::Said { .. } => 'S',
-                Act::Hung => 'H',
-            };
-            let number = char::from_digit(*transport, 10).unwrap_or('?');
-            (Some(number), letter)
-        },
-        Event::Tick { .. } => (None, 't'),
-        Event::Start { .. } => (None, 'b'),
-        Event::Suspect { .. } => (None, 's'),
-        _ => (None, '?'),
-    }
-}
-
-// The letters of the feed's next event.
-fn next_event<F: Feed<Act, Say>>(feed: &mut F, seen: &Seen) -> Option<(Option<char>, char)> {
-    let Some(event) = feed.next(*seen) else {
-        return None;
-    };
-    let letters = letters_of(&event);
-    drop(event);
-    Some(letters)
-}
-
-// Appends the letters of a round's events.
-fn put_round<F: Feed<Act, Say>, G: Gate>(
-    rt: &impl Abort,
-    gate: &G,
-    feed: &mut F,
-    seen: &Seen,
-    letters: &mut String,
-) {
-    if !gate.pass(NODE, 1) {
-        return;
-    }
-    for _ in 0..64 {
-        let Some((number, letter)) = next_event(feed, seen) else {
-            return;
-        };
-        if let Some(number) = number {
-            letters.push(number).expect(rt, "room for a number");
-        }
-        letters.push(letter).expect(rt, "room for a letter");
-    }
-}
-
-// The events of a round have these letters.
-fn gives<F: Feed<Act, Say>, G: Gate>(
-    rt: &impl Abort,
-    alloc: Global,
-    gate: &G,
-    feed: &mut F,
-    seen: &Seen,
-    wanted: &str,
-) {
-    let mut letters = String::new(alloc);
-    put_round(rt, gate, feed, seen, &mut letters);
-    check_eq!(rt; letters.as_str(), wanted);
-    drop(letters);
 }
 
 // A saying for the transport with this number, in this boot.
@@ -385,13 +203,6 @@ fn holds_back<F: Feed<Act, Say>, G: Gate>(
     gives(rt, alloc, gate, feed, &seen, "1S1S1S");
 }
 
-// Whether the stream has ended.
-fn has_ended(rt: &impl Abort, client: &mut Client) -> bool {
-    let mut buffer = [0; 4];
-    let count = client.stream.read(&mut buffer).expect(rt, "a read");
-    count == 0
-}
-
 // A client for whom more than 1,024 sayings wait is closed, and nobody else; in another boot all are.
 fn closes(
     rt: &impl Abort,
@@ -427,37 +238,6 @@ fn begins_anew(
     send(rt, alloc, three, "C");
     lobby.stir();
     gives(rt, alloc, gate, feed, &quiet(), "1C");
-}
-
-// Appends the letters of the first round with events; which round that was.
-fn first_event<F: Feed<Act, Say>, G: Gate>(
-    rt: &impl Abort,
-    gate: &G,
-    feed: &mut F,
-    letters: &mut String,
-) -> u32 {
-    for count in 1..1000 {
-        put_round(rt, gate, feed, &quiet(), letters);
-        if letters.len() > 0 {
-            return count;
-        }
-    }
-    panic!(rt; "no event came")
-}
-
-// The first event has this letter; in which round it came.
-fn comes<F: Feed<Act, Say>, G: Gate>(
-    rt: &impl Abort,
-    alloc: Global,
-    gate: &G,
-    feed: &mut F,
-    letter: &str,
-) -> u32 {
-    let mut letters = String::new(alloc);
-    let count = first_event(rt, gate, feed, &mut letters);
-    check_eq!(rt; letters.as_str(), letter);
-    drop(letters);
-    count
 }
 
 // Node 1 begins a ballot at once; each node ticks after 64 rounds, and again once it has rested.

@@ -5,6 +5,8 @@
 #[cfg(test)]
 mod check;
 #[cfg(test)]
+mod clients;
+#[cfg(test)]
 mod counting;
 #[cfg(test)]
 mod draining;
@@ -20,6 +22,8 @@ mod lanes;
 mod one_client;
 #[cfg(test)]
 mod reading;
+#[cfg(test)]
+mod rounds;
 #[cfg(test)]
 mod steps;
 #[cfg(test)]

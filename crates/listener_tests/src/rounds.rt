@@ -1,0 +1,125 @@
+// Rounds of a node over a feed: the events that come out of it, by letters.
+use crate::check::Check;
+use actor_run::{Feed, Gate, Seen};
+use paxos_node::Event;
+use paxos_packets::NodeSet;
+use realm_acts::Act;
+use realm_machine::Say;
+use std::alloc::Global;
+use std::process::Abort;
+use test_checks::check_eq;
+
+pub const NODE: u8 = 2;
+
+// What the last turn told, where nothing happened in it.
+pub fn quiet() -> Seen {
+    Seen {
+        from: None,
+        applied: 0,
+        pending: false,
+        posted: NodeSet::new(),
+        waiting: [0; 7],
+        leads: false,
+    }
+}
+
+// The letters of an event: an act's, with its transport's number before it; another event's, with none.
+fn letters_of(event: &Event<Act>) -> (Option<char>, char) {
+    match event {
+        Event::Take {
+            transport,
+            body,
+            ..
+        } => {
+            let letter = match body {
+                Act::Connect => 'C',
+                Act::Said { .. } => 'S',
+                Act::Hung => 'H',
+            };
+            let number = char::from_digit(*transport, 10).unwrap_or('?');
+            (Some(number), letter)
+        },
+        Event::Tick { .. } => (None, 't'),
+        Event::Start { .. } => (None, 'b'),
+        Event::Suspect { .. } => (None, 's'),
+        _ => (None, '?'),
+    }
+}
+
+// The letters of the feed's next event.
+fn next_event<F: Feed<Act, Say>>(feed: &mut F, seen: &Seen) -> Option<(Option<char>, char)> {
+    let Some(event) = feed.next(*seen) else {
+        return None;
+    };
+    let letters = letters_of(&event);
+    drop(event);
+    Some(letters)
+}
+
+// Appends the letters of a round's events.
+fn put_round<F: Feed<Act, Say>, G: Gate>(
+    rt: &impl Abort,
+    gate: &G,
+    feed: &mut F,
+    seen: &Seen,
+    letters: &mut String,
+) {
+    if !gate.pass(NODE, 1) {
+        return;
+    }
+    for _ in 0..64 {
+        let Some((number, letter)) = next_event(feed, seen) else {
+            return;
+        };
+        if let Some(number) = number {
+            letters.push(number).expect(rt, "room for a number");
+        }
+        letters.push(letter).expect(rt, "room for a letter");
+    }
+}
+
+// The events of a round have these letters.
+pub fn gives<F: Feed<Act, Say>, G: Gate>(
+    rt: &impl Abort,
+    alloc: Global,
+    gate: &G,
+    feed: &mut F,
+    seen: &Seen,
+    wanted: &str,
+) {
+    let mut letters = String::new(alloc);
+    put_round(rt, gate, feed, seen, &mut letters);
+    check_eq!(rt; letters.as_str(), wanted);
+    drop(letters);
+}
+
+// Appends the letters of the first round with events; which round that was.
+fn first_event<F: Feed<Act, Say>, G: Gate>(
+    rt: &impl Abort,
+    gate: &G,
+    feed: &mut F,
+    letters: &mut String,
+) -> u32 {
+    for count in 1..1000 {
+        put_round(rt, gate, feed, &quiet(), letters);
+        if letters.len() > 0 {
+            return count;
+        }
+    }
+    panic!(rt; "no event came")
+}
+
+// The first event has this letter; in which round it came.
+pub fn comes<F: Feed<Act, Say>, G: Gate>(
+    rt: &impl Abort,
+    alloc: Global,
+    gate: &G,
+    feed: &mut F,
+    letter: &str,
+) -> u32 {
+    let mut letters = String::new(alloc);
+    let count = first_event(rt, gate, feed, &mut letters);
+    check_eq!(rt; letters.as_str(), letter);
+    drop(letters);
+    count
+}
