@@ -23,7 +23,8 @@ type Adding = Actor<Count, MemKeeper<Number>>;
 type Sum = (Transport, u64);
 
 // How many acts each node takes, how many of them may wait for their answers, after how many turns in which nothing came it ticks, in a row or
-// not, after how many it lets other threads go first, and how often it turns at most.
+// not, and after how many it lets other threads go first. No number of turns ends a run: where the host takes a processor away, one thread makes
+// millions of them while another stands still.
 const ACTS: u32 = 1_000;
 
 const WINDOW: u32 = 16;
@@ -32,9 +33,7 @@ const QUIET: u32 = 20_000;
 
 const YIELDS: u64 = 256;
 
-const MOST_TURNS: u64 = 10_000_000;
-
-// Passes until three feeds were handed all their answers, or for so many turns.
+// Passes until three feeds were handed all their answers.
 #[derive(Drop)]
 struct Until<'a> {
     served: &'a AtomicU64,
@@ -45,7 +44,7 @@ impl<'a> Gate for Until<'a> {
         if turn % YIELDS == 0 {
             thread::yield_now();
         }
-        turn < MOST_TURNS && self.served.load(Ordering::SeqCst) < 3
+        self.served.load(Ordering::SeqCst) < 3
     }
 }
 
@@ -161,6 +160,8 @@ fn run(mail: &Mail<Number>, actor: &mut Adding, node: u8, served: &AtomicU64) ->
     let mut feed = Acts::of(node, served);
     let gate = Until { served };
     let done = run_node(mail, actor, &gate, &mut feed);
+    // who ends before the others are served, by a fault, ends them, too
+    served.fetch_add(3, Ordering::SeqCst);
     let strange = feed.strange || done.is_err();
     drop(done);
     Ran {
