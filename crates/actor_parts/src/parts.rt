@@ -19,7 +19,7 @@ use crate::storing::commit;
 use acceptor_keeper::{Keeper, KeeperFault};
 use packet_outboxes::Outboxes;
 use paxos_node::{Event, Node, NodeFault, Outcome};
-use paxos_packets::{Entries, Entry, Members, Packet, Rows};
+use paxos_packets::{Ballot, Entries, Entry, Members, Packet, Rows};
 use replica_machine::{AppliedLog, Failed, Machine};
 use std::alloc::Global;
 use std::marker::Model;
@@ -137,6 +137,13 @@ impl<M: Machine, K: Keeper<M::Body>> Parts<M, K> {
         ensures { result ≡ is_leading self.now.node.state.proposer.role }
     {
         self.node.is_leading()
+    }
+
+    /// The greatest ballot that its node has promised, if any.
+    pub fn promised(&self) -> Option<Ballot>
+        ensures { result ≡ self.now.node.state.rows.promised }
+    {
+        self.node.promised()
     }
 
     /// How many packets wait to be posted to this node.

@@ -29,11 +29,13 @@ fn waiting_of<M: Machine, K: Keeper<M::Body>>(actor: &Actor<M, K>) -> [u16; 7] {
 fn seen_by<M: Machine, K: Keeper<M::Body>>(actor: &Actor<M, K>) -> Seen {
     Seen {
         from: actor.from(),
+        heard: actor.heard(),
         applied: actor.applied(),
         pending: actor.has_pending(),
         posted: actor.posted(),
         waiting: waiting_of(actor),
         leads: actor.is_leading(),
+        promised: actor.promised(),
     }
 }
 

@@ -2,19 +2,29 @@ ghost use Rattle.std.specs.Prelude.{ℕ, List, ◌++◌};
 ghost use Rattle.std.specs.Option.{option_to_list};
 ghost use Rattle.paxos_node.specs.declared.event.Event.{Event};
 
+use node_actor::Heard;
 use paxos_node::Event;
-use paxos_packets::NodeSet;
+use paxos_packets::{Ballot, NodeSet};
 
-/// What a feed is told when it is asked for an event: from whom the last turn treated a packet, how long the node's log is, whether
-/// entries are pending, to whom the last turn posted, how many packets wait for each member (member 1 first), and whether the node leads.
+/// What a feed is told when it is asked for an event.
 #[derive(Clone, Copy)]
 pub struct Seen {
+    /// Whose packet the last turn treated, if it treated one.
     pub from: Option<u8>,
+    /// What that packet showed.
+    pub heard: Option<Heard>,
+    /// How many entries the node has applied.
     pub applied: u64,
+    /// Whether entries are pending.
     pub pending: bool,
+    /// To whom the last turn posted.
     pub posted: NodeSet,
+    /// How many packets wait for each member, member 1 first.
     pub waiting: [u16; 7],
+    /// Whether the node leads.
     pub leads: bool,
+    /// The greatest ballot that the node has promised, if any.
+    pub promised: Option<Ballot>,
 }
 
 /// Where the events of a node come from, and its sayings go.

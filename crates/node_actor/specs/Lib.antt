@@ -1,4 +1,5 @@
 pub mod Actor
+pub mod Heard
 pub mod Steps
 pub mod Views
 pub mod Calls

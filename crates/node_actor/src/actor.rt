@@ -13,13 +13,14 @@ ghost use Rattle.node_actor.specs.Turns.{Turns};
 ghost use Rattle.node_actor.specs.Views.{View, seen, StandsFor};
 
 use crate::event::{event as make_event, pass};
+use crate::heard::Heard;
 use crate::turning::{Round, turn};
 use acceptor_keeper::Keeper;
 use actor_parts::{ActorFault, Parts};
 use actor_posts::Post;
 use mail_table::{Mail, NodeSeat};
 use paxos_node::Event;
-use paxos_packets::{Entry, NodeSet};
+use paxos_packets::{Ballot, Entry, NodeSet};
 use replica_machine::{AppliedLog, Machine};
 use std::marker::Model;
 
@@ -231,6 +232,13 @@ impl<M: Machine, K: Keeper<M::Body>> Actor<M, K> {
         self.parts.is_leading()
     }
 
+    /// The greatest ballot that its node has promised, if any.
+    pub fn promised(&self) -> Option<Ballot>
+        ensures { result ≡ self.now.node.state.rows.promised }
+    {
+        self.parts.promised()
+    }
+
     /// How many packets wait to be posted to this node.
     pub fn waiting_for(&self, peer: u8) -> usize
         ensures { result ≡ length (waiting peer self.now.waiting) }
@@ -241,6 +249,11 @@ impl<M: Machine, K: Keeper<M::Body>> Actor<M, K> {
     /// Whose packet the last turn treated, if it treated one.
     pub fn from(&self) -> Option<u8> {
         self.round.from
+    }
+
+    /// What the packet that the last turn treated showed, if it treated one.
+    pub fn heard(&self) -> Option<Heard> {
+        self.round.heard
     }
 
     /// To whom the last turn posted.

@@ -5,6 +5,7 @@
 mod actor;
 mod event;
 mod fetching;
+mod heard;
 pub mod laws;
 mod posting;
 mod restart;
@@ -14,7 +15,8 @@ pub use acceptor_keeper::{Keeper, KeeperFault};
 pub use actor::Actor;
 pub use actor_parts::ActorFault;
 pub use actor_posts::Post;
+pub use heard::Heard;
 pub use mail_table::{Mail, NodeSeat};
 pub use paxos_node::{Event, Outcome};
-pub use paxos_packets::{Body, Entry, Members, Packet, Rows};
+pub use paxos_packets::{Ballot, Body, Entry, Members, Packet, Rows};
 pub use replica_machine::{AppliedLog, Machine};

@@ -10,6 +10,7 @@ ghost use Rattle.node_actor.specs.Turns.{Turns};
 
 use crate::event::{deliver, pass};
 use crate::fetching::{after, fetch_round};
+use crate::heard::{Heard, heard_in};
 use crate::posting::post_all;
 use acceptor_keeper::Keeper;
 use actor_parts::{ActorFault, Parts};
@@ -18,11 +19,12 @@ use paxos_packets::NodeSet;
 use replica_machine::Machine;
 
 // From whom the next turn fetches first: the member behind the one whose packet came last, so that each of those that always have one gets
-// as many turns; and of the last turn, whose packet it treated, and to whom it posted.
+// as many turns; and of the last turn, whose packet it treated, what that showed, and to whom it posted.
 #[derive(Drop)]
 pub(crate) struct Round {
     pub(crate) first: u8,
     pub(crate) from: Option<u8>,
+    pub(crate) heard: Option<Heard>,
     pub(crate) posted: NodeSet,
 }
 
@@ -34,6 +36,7 @@ impl Round {
         Round {
             first: 1,
             from: None,
+            heard: None,
             posted: NodeSet::new(),
         }
     }
@@ -64,11 +67,13 @@ pub(crate) fn turn<M: Machine, K: Keeper<M::Body>>(
     round.posted = post_all(mail, seat, parts);
     round.first = after(members, first);
     round.from = None;
+    round.heard = None;
     match fetch_round(mail, seat, members, first) {
         None => pass(seat, parts),
         Some((from, packet)) => {
             round.first = after(members, from);
             round.from = Some(from);
+            round.heard = Some(heard_in(&packet.kind));
             deliver(mail, seat, parts, packet)
         },
     }
