@@ -7,8 +7,6 @@ mod check;
 #[cfg(test)]
 mod clients;
 #[cfg(test)]
-mod counting;
-#[cfg(test)]
 mod draining;
 #[cfg(test)]
 mod feeding;

@@ -15,11 +15,13 @@ pub const NODE: u8 = 2;
 pub fn quiet() -> Seen {
     Seen {
         from: None,
+        heard: None,
         applied: 0,
         pending: false,
         posted: NodeSet::new(),
         waiting: [0; 7],
         leads: false,
+        promised: None,
     }
 }
 

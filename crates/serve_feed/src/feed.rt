@@ -1,16 +1,18 @@
 use crate::home::Home;
 use crate::lanes::Lanes;
 use crate::pace::Pace;
+use crate::peers::Peers;
+use crate::signs::turn_of;
 use actor_run::{Feed, Seen};
 use client_listener::ToClient;
 use paxos_node::Event;
-use paxos_packets::{Members, NodeSet};
+use paxos_packets::{Ballot, Members, NodeSet};
 use realm_acts::Act;
 use realm_machine::{Out, Say};
 use rtrb::Consumer;
 use serve_draws::Draws;
 use serve_lanes::{Arrival, Lobby};
-use serve_ticks::{Due, Keeping, Ticks};
+use serve_ticks::{Due, Sign, Ticks};
 use std::alloc::Global;
 use std::sync::Arc;
 
@@ -49,18 +51,16 @@ pub struct ClientFeed<'a> {
     is_busy: bool,
     // Whether a tick while nothing moved was all that happened since.
     is_ticked: bool,
+    // Whether something may be due that was not asked for yet.
+    may_be_due: bool,
     // How many acts were given since no entry was pending, and how many may be.
     under_way: u32,
     most: u32,
-    // How many entries were applied by the last turn.
+    // How many entries the last turn had applied, and what the node had promised then.
     applied: u64,
-    // How many packets waited for each member behind the last turn, and how many ticks were given by then, at the last of which it was judged
-    // whether each member keeps up (member 1 first in both), and whether acts are held back for one.
-    waiting: [u16; 7],
-    given: u64,
-    judged: u64,
-    keeping: [Keeping; 7],
-    is_held: bool,
+    promised: Option<Ballot>,
+    // How the other members get on.
+    peers: Peers,
 }
 
 impl Drop for ClientFeed<'_> {
@@ -80,14 +80,12 @@ impl Drop for ClientFeed<'_> {
             round: _,
             is_busy: _,
             is_ticked: _,
+            may_be_due: _,
             under_way: _,
             most: _,
             applied: _,
-            waiting: _waiting,
-            given: _,
-            judged: _,
-            keeping: _keeping,
-            is_held: _,
+            promised: _,
+            peers: _peers,
         } = self;
     }
 }
@@ -120,36 +118,39 @@ impl<'a> ClientFeed<'a> {
             arrivals,
             lanes: Lanes::new(alloc),
             draws: Draws::new(key, node, boot),
-            ticks: Ticks::new(node, members),
+            ticks: Ticks::new(node, members, true),
             round: 0,
             is_busy: true,
             is_ticked: false,
+            may_be_due: true,
             under_way: 0,
             most: MOST_FORWARDED,
             applied: 0,
-            waiting: [0; 7],
-            given: 0,
-            judged: u64::MAX,
-            keeping: [
-                Keeping::new(),
-                Keeping::new(),
-                Keeping::new(),
-                Keeping::new(),
-                Keeping::new(),
-                Keeping::new(),
-                Keeping::new(),
-            ],
-            is_held: false,
+            promised: None,
+            peers: Peers::new(members),
         }
+    }
+
+    /// Begins the first boot of the node in this run, as [`ClientFeed::restart`] does a later one; a ballot is due at once at node 1.
+    pub fn begin(&mut self, boot: u64) {
+        self.begin_boot(boot, true);
     }
 
     /// Begins anew in another boot of the node: every connection ends, transports are numbered from 1, the draws are those of the boot, and
     /// nothing is counted yet. Arrivals that were not taken yet stay.
     pub fn restart(&mut self, boot: u64) {
-        self.lanes.end_all();
+        self.begin_boot(boot, false);
+    }
+
+    // A boot begins, which is the first one of the run or a later one.
+    fn begin_boot(&mut self, boot: u64, is_first: bool) {
+        self.lanes.end_all(self.lobby);
         self.boot = boot;
         self.draws = Draws::new(self.key, self.node, boot);
-        self.ticks = Ticks::new(self.node, self.members);
+        self.ticks = Ticks::new(self.node, self.members, is_first);
+        self.peers = Peers::new(self.members);
+        self.promised = None;
+        self.may_be_due = true;
         self.is_busy = true;
         self.under_way = 0;
         self.lanes.stir();
@@ -158,7 +159,7 @@ impl<'a> ClientFeed<'a> {
     /// Ends every connection, those that have just come among them.
     pub fn close(&mut self) {
         self.take_arrivals();
-        self.lanes.end_all();
+        self.lanes.end_all(self.lobby);
     }
 
     // Connections that came have lanes from now on.
@@ -174,9 +175,9 @@ impl<'a> ClientFeed<'a> {
     // Counts the last turn, and wakes whom it concerns. Once a round.
     fn count(&mut self, seen: &Seen) {
         // What a tick alone has posted waits for the peers' own ticks.
-        let is_quiet = self.is_ticked && self.waiting == [0; 7];
+        let is_quiet = self.is_ticked && *self.peers.waiting() == [0; 7];
         self.is_ticked = false;
-        self.watch(&seen.waiting);
+        self.watch(seen);
         let moved = wake_peers(self.node, self.members, self.lobbies, seen, is_quiet);
         // Nothing came, and all that was due is posted.
         let is_still = !moved || seen.from.is_none() && seen.waiting == [0; 7];
@@ -190,8 +191,19 @@ impl<'a> ClientFeed<'a> {
         let is_idle = is_still && !self.is_busy && !self.may_act();
         self.pace.judge(is_idle && !self.is_woken_soon());
         self.is_busy = false;
-        self.ticks
-            .count(seen.from, seen.applied, seen.pending, self.pace.is_due());
+        let turn = turn_of(seen, self.promised, self.pace.due());
+        self.promised = seen.promised;
+        if self.ticks.count(turn) {
+            self.pace.counted();
+            self.may_be_due = true;
+        }
+        if matches!(turn.sign, Sign::Refused { .. } | Sign::Told) {
+            self.may_be_due = true;
+        }
+        self.pace.set_quick(seen.pending || self.peers.holds_acts());
+        if self.pace.take_waited() {
+            self.lanes.ignore_slow(self.lobby);
+        }
     }
 
     // Where somebody has put something into the node's rings, it is looked for.
@@ -212,16 +224,11 @@ impl<'a> ClientFeed<'a> {
         is_woken
     }
 
-    // So many packets wait for each member: where that has changed, or a tick was given since, says in the node's lobby for whom, and judges who
-    // keeps up.
-    fn watch(&mut self, waiting: &[u16; 7]) {
-        if *waiting == self.waiting && self.judged == self.given {
-            return;
+    // Notes how the other members get on, and says in the node's lobby for whom its packets wait.
+    fn watch(&mut self, seen: &Seen) {
+        if self.peers.watch(self.ticks.beats(), seen) {
+            tell_waits(self.lobby, self.members, &seen.waiting);
         }
-        self.waiting = *waiting;
-        self.judged = self.given;
-        tell_waits(self.lobby, self.members, waiting);
-        self.is_held = hold_back(&mut self.keeping, self.given, waiting);
     }
 
     // Something happens in this round: no rest comes before the turn behind it is counted.
@@ -256,7 +263,6 @@ impl<'a> ClientFeed<'a> {
             Due::Tick => {
                 self.is_ticked = !self.pace.is_moving();
                 self.pace.ticked();
-                self.given = self.given.saturating_add(1);
                 Event::Tick { node }
             },
             Due::Start => Event::Start { node },
@@ -266,12 +272,12 @@ impl<'a> ClientFeed<'a> {
 
     // Whether a client may do something next, and may have done it.
     fn may_act(&self) -> bool {
-        !self.is_held && self.under_way < self.most && self.lanes.is_on()
+        !self.peers.holds_acts() && self.under_way < self.most && self.lanes.is_on()
     }
 
     // What a client does.
     fn act(&mut self) -> Option<Event<Act>> {
-        let next = self.lanes.next(&mut self.draws);
+        let next = self.lanes.next(self.lobby, &mut self.draws);
         self.lanes.wake_told();
         let (transport, body) = next?;
         self.stay();
@@ -288,7 +294,7 @@ impl<'a> ClientFeed<'a> {
         let Say { transport, out } = say;
         let saying = saying_of(out);
         if transport.node == self.node && transport.boot == self.boot {
-            self.lanes.reply(transport.number, saying);
+            self.lanes.reply(self.lobby, transport.number, saying);
         } else {
             drop(saying);
         }
@@ -302,11 +308,12 @@ impl Feed<Act, Say> for ClientFeed<'_> {
         ensures { Unit {0} }
     {
         self.see(&seen);
-        if self.pace.is_due()
-            && let Some(due) = self.ticks.next()
+        if self.may_be_due
+            && let Some(due) = self.ticks.next(!self.peers.holds_ticks())
         {
             return Some(self.due(due));
         }
+        self.may_be_due = false;
         if !self.may_act() {
             return None;
         }
@@ -334,17 +341,6 @@ fn tell_waits(lobby: &Lobby, members: Members, waiting: &[u16; 7]) {
             lobby.set_waits(below + 1, *count > 0);
         }
     }
-}
-
-// Whether acts are held back, so that each member keeps up for whom so many packets wait at this tick.
-fn hold_back(keeping: &mut [Keeping; 7], tick: u64, waiting: &[u16; 7]) -> bool {
-    let mut is_held = false;
-    for place in 0..7 {
-        if keeping[place].holds(tick, usize::from(waiting[place])) {
-            is_held = true;
-        }
-    }
-    is_held
 }
 
 // Wakes those to whom the last turn of this node posted, unless what it posted is to wait, and the one whose packet it took, if packets of that

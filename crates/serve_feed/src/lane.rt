@@ -1,6 +1,14 @@
 use client_listener::{FromClient, ToClient};
 use rtrb::{Consumer, Producer};
-use serve_lanes::Arrival;
+use serve_lanes::{Arrival, Lobby, SAYINGS_WAITING};
+
+/// With room for how many sayings or fewer the ring of a client is nearly full, and with room for how many it is nearly empty.
+const LITTLE_ROOM: usize = SAYINGS_WAITING / 4;
+
+const MUCH_ROOM: usize = SAYINGS_WAITING / 2;
+
+/// After how many sayings each the room is looked at.
+const SAYINGS_A_LOOK: u8 = 64;
 
 // How far a connection is: its client has not been greeted yet, it is open, or the node has ended it.
 #[derive(Clone, Copy, PartialEq, Eq, Drop)]
@@ -18,12 +26,15 @@ pub(crate) enum Found {
     End,
 }
 
-// A connection at its node: the number of its transport, and whether its porter is to be told of sayings.
+// A connection at its node: the number of its transport, whether its porter is to be told of sayings, how many sayings were put since the
+// last look at the room for them, and whether the node has waited for its client in vain, and does not until it has caught up.
 #[derive(Drop)]
 pub(crate) struct Lane {
     number: u32,
     stage: Stage,
     is_told: bool,
+    since_look: u8,
+    is_ignored: bool,
     arrival: Arrival,
 }
 
@@ -34,6 +45,8 @@ impl Lane {
             number,
             stage: Stage::New,
             is_told: false,
+            since_look: 0,
+            is_ignored: false,
             arrival,
         }
     }
@@ -62,16 +75,39 @@ impl Lane {
     }
 
     // Puts a saying behind the others. Where there is no room the connection ends, and the answer is false.
-    pub fn reply(&mut self, saying: ToClient) -> bool {
+    pub fn reply(&mut self, lobby: &Lobby, saying: ToClient) -> bool {
         if self.stage == Stage::Ended {
             drop(saying);
             return true;
         }
         if push(&mut self.arrival.replies, saying) {
+            self.look_at_room(lobby);
             return true;
         }
-        self.end();
+        self.end(lobby);
         false
+    }
+
+    // Each 64th saying: whether the client is slow, since there is little room left.
+    fn look_at_room(&mut self, lobby: &Lobby) {
+        self.since_look = self.since_look.saturating_add(1);
+        if self.since_look < SAYINGS_A_LOOK {
+            return;
+        }
+        self.since_look = 0;
+        let room = self.arrival.replies.slots();
+        if room >= MUCH_ROOM {
+            self.is_ignored = false;
+        } else if room <= LITTLE_ROOM && !self.is_ignored {
+            self.arrival.line.mark_slow(lobby);
+        }
+    }
+
+    // The node has waited for slow clients in vain: if this is one, it does not wait for it until it has caught up.
+    pub fn ignore_slow(&mut self, lobby: &Lobby) {
+        if self.arrival.line.clear_slow(lobby) {
+            self.is_ignored = true;
+        }
     }
 
     // Marks that its porter is to be told of sayings; answers whether it was marked before.
@@ -92,9 +128,15 @@ impl Lane {
         self.arrival.line.tell_room();
     }
 
+    // The node does not wait for the client any longer.
+    pub fn forget_slow(&self, lobby: &Lobby) {
+        self.arrival.line.clear_slow(lobby);
+    }
+
     // The node ends the connection at once.
-    pub fn end(&mut self) {
+    pub fn end(&mut self, lobby: &Lobby) {
         self.stage = Stage::Ended;
+        self.forget_slow(lobby);
         self.arrival.line.hang_up();
     }
 }

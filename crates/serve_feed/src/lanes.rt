@@ -4,7 +4,7 @@ use client_listener::{FromClient, ToClient};
 use paxos_packets::Shared;
 use realm_acts::Act;
 use serve_draws::Draws;
-use serve_lanes::Arrival;
+use serve_lanes::{Arrival, Lobby};
 use std::alloc::Global;
 use wamp_kinds::Read;
 
@@ -65,9 +65,9 @@ impl Lanes {
     }
 
     // The next act of a client, and its transport's number.
-    pub fn next(&mut self, draws: &mut Draws) -> Option<(u32, Act)> {
+    pub fn next(&mut self, lobby: &Lobby, draws: &mut Draws) -> Option<(u32, Act)> {
         for _ in 0..MOST_LOOKS {
-            match self.step(draws) {
+            match self.step(lobby, draws) {
                 Step::Through => return None,
                 Step::On => {},
                 Step::Act(number, act) => return Some((number, act)),
@@ -77,7 +77,7 @@ impl Lanes {
     }
 
     // Looks at the lane that is next.
-    fn step(&mut self, draws: &mut Draws) -> Step {
+    fn step(&mut self, lobby: &Lobby, draws: &mut Draws) -> Step {
         let Some(place) = self.look.place(self.lanes.len()) else {
             return Step::Through;
         };
@@ -90,8 +90,8 @@ impl Lanes {
                 self.leave(place);
                 Step::On
             },
-            Found::End => self.remove(place),
-            Found::Item(item) => self.treat(place, number, item, draws),
+            Found::End => self.remove(lobby, place),
+            Found::Item(item) => self.treat(lobby, place, number, item, draws),
         }
     }
 
@@ -104,13 +104,14 @@ impl Lanes {
         }
     }
 
-    // The lane is no more. A Hung is due, if a Connect was taken.
-    fn remove(&mut self, place: usize) -> Step {
+    // The lane is no more, and its client is not waited for. A Hung is due, if a Connect was taken.
+    fn remove(&mut self, lobby: &Lobby, place: usize) -> Step {
         if place >= self.lanes.len() {
             return Step::On;
         }
         self.look.removed();
         let lane = self.lanes.remove(place);
+        lane.forget_slow(lobby);
         let number = lane.number();
         let known = lane.is_known();
         drop(lane);
@@ -122,7 +123,14 @@ impl Lanes {
     }
 
     // What comes of an item of the lane, whose transport has this number.
-    fn treat(&mut self, place: usize, number: u32, item: FromClient, draws: &mut Draws) -> Step {
+    fn treat(
+        &mut self,
+        lobby: &Lobby,
+        place: usize,
+        number: u32,
+        item: FromClient,
+        draws: &mut Draws,
+    ) -> Step {
         match item {
             FromClient::Connect => {
                 self.connect(place);
@@ -133,13 +141,13 @@ impl Lanes {
                     self.took(place);
                     Step::Act(number, said(read, draws))
                 },
-                None => self.refuse(place),
+                None => self.refuse(lobby, place),
             },
             FromClient::Ping(payload) => {
-                self.answer(place, ToClient::Pong(payload));
+                self.answer(lobby, place, ToClient::Pong(payload));
                 Step::On
             },
-            FromClient::Hung => self.remove(place),
+            FromClient::Hung => self.remove(lobby, place),
         }
     }
 
@@ -152,18 +160,18 @@ impl Lanes {
     }
 
     // There is no memory for what the client of the lane sent: the connection ends.
-    fn refuse(&mut self, place: usize) -> Step {
+    fn refuse(&mut self, lobby: &Lobby, place: usize) -> Step {
         if let Some(lane) = self.lanes.get_mut(place) {
-            lane.end();
+            lane.end(lobby);
         }
         self.look.stir();
         Step::On
     }
 
     // The node itself answers the client of the lane.
-    fn answer(&mut self, place: usize, saying: ToClient) {
+    fn answer(&mut self, lobby: &Lobby, place: usize, saying: ToClient) {
         if let Some(lane) = self.lanes.get_mut(place) {
-            put(lane, &mut self.told, &mut self.look, saying);
+            put(lobby, lane, &mut self.told, &mut self.look, saying);
         } else {
             drop(saying);
         }
@@ -180,9 +188,9 @@ impl Lanes {
     }
 
     // Puts a saying behind the others for the transport with this number, if it is there.
-    pub fn reply(&mut self, number: u32, saying: ToClient) {
+    pub fn reply(&mut self, lobby: &Lobby, number: u32, saying: ToClient) {
         match lane_of(&mut self.lanes, number) {
-            Some(lane) => put(lane, &mut self.told, &mut self.look, saying),
+            Some(lane) => put(lobby, lane, &mut self.told, &mut self.look, saying),
             None => drop(saying),
         }
     }
@@ -197,10 +205,17 @@ impl Lanes {
         self.told.clear();
     }
 
-    // Every connection ends, and numbers begin anew.
-    pub fn end_all(&mut self) {
+    // The node has waited for slow clients in vain.
+    pub fn ignore_slow(&mut self, lobby: &Lobby) {
         for lane in &mut self.lanes {
-            lane.end();
+            lane.ignore_slow(lobby);
+        }
+    }
+
+    // Every connection ends, and numbers begin anew.
+    pub fn end_all(&mut self, lobby: &Lobby) {
+        for lane in &mut self.lanes {
+            lane.end(lobby);
         }
         self.lanes.clear();
         self.told.clear();
@@ -237,8 +252,8 @@ fn lane_of(lanes: &mut Vec<Lane>, number: u32) -> Option<&mut Lane> {
 }
 
 // Puts a saying behind the others for the lane, whose porter is to be told then. Where there is no room it ends, which is found at a look.
-fn put(lane: &mut Lane, told: &mut Vec<u32>, look: &mut Look, saying: ToClient) {
-    if !lane.reply(saying) {
+fn put(lobby: &Lobby, lane: &mut Lane, told: &mut Vec<u32>, look: &mut Look, saying: ToClient) {
+    if !lane.reply(lobby, saying) {
         look.stir();
         return;
     }

@@ -22,6 +22,8 @@ mod lane;
 mod lanes;
 mod look;
 mod pace;
+mod peers;
+mod signs;
 
 pub use feed::ClientFeed;
 pub use home::Home;

@@ -1,14 +1,15 @@
 use crate::home::Home;
 use actor_run::Gate;
 use serve_lanes::Lobby;
+use serve_ticks::BEATS_A_TICK;
 use std::cell::Cell;
 use std::sync::Wait;
 use std::time::{Clock, Duration, Instant};
 
-/// How long it is from where one tick is due to where the next one is, in milliseconds.
-const TICK_MILLIS: u64 = 10;
+/// How long a beat is, in milliseconds.
+const BEAT_MILLIS: u64 = 2;
 
-/// How near a tick is to count as due: a node that is awake then ticks together with those that woke it.
+/// How near the end of a beat is to count as reached: a node that is awake then counts together with those that woke it.
 const NEAR_MICROS: u64 = 500;
 
 /// How many rounds with packets make a node expect more before the next tick. A few come with each tick.
@@ -17,17 +18,23 @@ const ROUNDS_MOVING: u8 = 16;
 /// Each how many rounds a node that does not rest looks at the clock.
 const ROUNDS_A_LOOK: u64 = 64;
 
+/// For how many milliseconds at the most a node waits for clients that are slow.
+const SLOW_MILLIS: u64 = 80;
+
 /// What the gate and the feed of one node's thread tell each other: which round it is, whether the turn that was judged last was idle, whether
-/// none was judged that came behind the last rest, whether a tick is due, and whether entries or many packets moved since the last one. It
-/// stays on its thread.
+/// none was judged since the last rest, how many beats are due, how many the feed has counted, whether beats are counted one by one, whether
+/// entries or many packets moved since the last tick, and whether the node has waited for slow clients in vain. It stays on its thread.
 #[derive(Drop)]
 pub struct Pace {
     round: Cell<u64>,
     is_idle: Cell<bool>,
     is_rested: Cell<bool>,
-    is_due: Cell<bool>,
+    due: Cell<u64>,
+    counted: Cell<u64>,
+    is_quick: Cell<bool>,
     is_moving: Cell<bool>,
     stirs: Cell<u8>,
+    has_waited: Cell<bool>,
 }
 
 impl Pace {
@@ -37,9 +44,12 @@ impl Pace {
             round: Cell::new(0),
             is_idle: Cell::new(false),
             is_rested: Cell::new(true),
-            is_due: Cell::new(true),
+            due: Cell::new(BEATS_A_TICK),
+            counted: Cell::new(0),
+            is_quick: Cell::new(false),
             is_moving: Cell::new(false),
             stirs: Cell::new(0),
+            has_waited: Cell::new(false),
         }
     }
 
@@ -59,20 +69,37 @@ impl Pace {
         self.is_rested.set(false);
     }
 
-    // Whether the node is likely to be woken before the next tick, which is not due: entries or many packets moved since the last one. The first
-    // turn behind a rest comes before any look.
+    // The node has rested: what was judged before says nothing of what it was woken for.
+    fn rested(&self) {
+        self.is_idle.set(false);
+        self.is_rested.set(true);
+    }
+
+    // Whether the node is likely to be woken before beats are due: entries or many packets moved since the last tick. The first turn after a
+    // rest comes before any look.
     pub(crate) fn expects_more(&self) -> bool {
-        self.is_moving() && !self.is_due.get() && !self.is_rested.get()
+        self.is_moving() && self.due.get() == 0 && !self.is_rested.get()
     }
 
-    // Whether turns without a packet count towards a tick.
-    pub(crate) fn is_due(&self) -> bool {
-        self.is_due.get()
+    // How many beats are due: turns without a packet count while some are.
+    pub(crate) fn due(&self) -> u64 {
+        self.due.get()
     }
 
-    // The tick that was due was given.
+    // The beats that were due are counted.
+    pub(crate) fn counted(&self) {
+        self.counted
+            .set(self.counted.get().saturating_add(self.due.get()));
+        self.due.set(0);
+    }
+
+    // Whether beats are counted one by one, or a tick's together.
+    pub(crate) fn set_quick(&self, is_quick: bool) {
+        self.is_quick.set(is_quick);
+    }
+
+    // A tick was given.
     pub(crate) fn ticked(&self) {
-        self.is_due.set(false);
         self.is_moving.set(false);
         self.stirs.set(0);
     }
@@ -95,25 +122,34 @@ impl Pace {
             self.moved();
         }
     }
+
+    // Whether the node has waited in vain for clients that are slow, since the last call.
+    pub(crate) fn take_waited(&self) -> bool {
+        self.has_waited.replace(false)
+    }
 }
 
-/// The gate of a node's thread: it rests where a turn behind the last rest was idle and no tick is due, until somebody wakes the node or the
-/// next tick is due, 10 ms behind the last; then it asks the caller's gate. One more turn comes between the idle one and the rest; what it may
-/// take was put there behind the idle one, and who put it there wakes the node. Where entries or many packets moved since the last tick the
-/// feed looks first, between the two, whether the node is woken.
+/// The gate of a node's thread: it rests if a turn since the last rest was idle and no beats are due, until somebody wakes the node or the
+/// next beats are due; then it asks the caller's gate. One more turn comes between the idle one and the rest; what it may take was put there
+/// after the idle one, and who put it there wakes the node. If entries or many packets moved since the last tick the feed looks first,
+/// between the two, whether the node is woken.
 ///
-/// A round costs it some loads, and each 64th one a look at the clock. Where the clock cannot be read a tick is always due.
+/// While a client of the node is slow it rests for at most 80 ms, so that the porter takes what waits for the client.
+///
+/// A round costs it some loads, and each 64th one a look at the clock. If the clock cannot be read a tick is always due.
 #[derive(Drop)]
 pub struct Paced<'a, R: Wait + Clock, G: Gate> {
     rt: &'a R,
     pace: &'a Pace,
     lobby: &'a Lobby,
     gate: &'a G,
+    // When the beats ended that were counted, and how many did, by the clock.
     last: Cell<Option<Instant>>,
+    beat: Cell<u64>,
 }
 
 impl<'a, R: Wait + Clock, G: Gate> Paced<'a, R, G> {
-    /// Over the caller's gate. Ticks are due each 10 ms from the cluster's beginning on, or from now on where that is not known: nodes that tick
+    /// Over the caller's gate. Beats end each 2 ms from the cluster's beginning on, or from now on if that is not known: nodes that tick
     /// together wake each other less often.
     pub fn new(rt: &'a R, home: Home<'a>, gate: &'a G) -> Paced<'a, R, G> {
         Paced {
@@ -122,54 +158,108 @@ impl<'a, R: Wait + Clock, G: Gate> Paced<'a, R, G> {
             lobby: home.lobby,
             gate,
             last: Cell::new(home.began.or(Instant::now(rt).ok())),
+            beat: Cell::new(0),
         }
     }
 
-    // How long it is until a tick is due; nothing where it is, which is noted then.
+    // How long it is until beats are due; zero if some are, which is noted then.
     fn left(&self) -> Duration {
-        let Ok(now) = Instant::now(self.rt) else {
-            return self.due(None);
-        };
-        let Some(last) = self.last.get() else {
-            return self.due(Some(now));
+        let (Ok(now), Some(last)) = (Instant::now(self.rt), self.since()) else {
+            self.pace.due.set(BEATS_A_TICK);
+            return Duration::ZERO;
         };
         let passed = now.saturating_duration_since(last);
-        let ticks = ticks_in(passed);
-        if ticks == 0 {
-            return Duration::from_millis(TICK_MILLIS).saturating_sub(passed);
+        let ended = beats_in(passed);
+        let wanted = self.wanted();
+        if ended < wanted {
+            return time_of(wanted).saturating_sub(passed);
         }
-        let since = last.checked_add(Duration::from_millis(ticks.saturating_mul(TICK_MILLIS)));
-        self.due(since.or(Some(now)))
-    }
-
-    // A tick is due since then, if it is known since when.
-    fn due(&self, since: Option<Instant>) -> Duration {
-        self.last.set(since.or(self.last.get()));
-        self.pace.is_due.set(true);
+        // Time in which the node stood still is not counted.
+        self.go_on(last, ended.saturating_sub(BEATS_A_TICK));
+        self.pace.due.set(ended.min(BEATS_A_TICK));
         Duration::ZERO
     }
 
-    // Rests until somebody wakes the node or a tick is due; at least two turns follow.
+    // Since when no beat is counted, which the feed may have put off.
+    fn since(&self) -> Option<Instant> {
+        let last = self.last.get()?;
+        let counted = self.pace.counted.replace(0);
+        Some(self.go_on(last, counted))
+    }
+
+    // No beat is counted since so many beats after that moment, which is returned.
+    fn go_on(&self, last: Instant, beats: u64) -> Instant {
+        if beats == 0 {
+            return last;
+        }
+        let next = last.checked_add(time_of(beats)).unwrap_or(last);
+        self.last.set(Some(next));
+        self.beat.set(self.beat.get().wrapping_add(beats));
+        next
+    }
+
+    // How many beats make some due: one, or those that are left of a tick of the cluster.
+    fn wanted(&self) -> u64 {
+        if self.pace.is_quick.get() {
+            1
+        } else {
+            BEATS_A_TICK - self.beat.get() % BEATS_A_TICK
+        }
+    }
+
+    // Rests until somebody wakes the node or beats are due; at least two turns follow.
     fn rest(&self) {
         let left = self.left();
         if !left.is_zero() {
             self.lobby.rest(self.rt, left);
         }
-        self.pace.is_idle.set(false);
-        self.pace.is_rested.set(true);
+        self.pace.rested();
+    }
+
+    // Rests until no client is slow, for 80 ms at the most.
+    fn wait_for_slow(&self) {
+        let began = Instant::now(self.rt).ok();
+        for _ in 0..u64::MAX {
+            let left = self.left_of_wait(began);
+            if left.is_zero() {
+                self.pace.has_waited.set(true);
+                break;
+            }
+            self.lobby.rest(self.rt, left);
+            if !self.lobby.has_slow() {
+                break;
+            }
+        }
+        self.pace.rested();
+    }
+
+    // How long a wait that began then may go on; not at all if the clock cannot be read.
+    fn left_of_wait(&self, began: Option<Instant>) -> Duration {
+        let (Some(began), Ok(now)) = (began, Instant::now(self.rt)) else {
+            return Duration::ZERO;
+        };
+        Duration::from_millis(SLOW_MILLIS).saturating_sub(now.saturating_duration_since(began))
     }
 }
 
-// How many ticks become due within so long behind one, one that is near among them.
-fn ticks_in(passed: Duration) -> u64 {
+// How many beats end within this time, one that is near among them.
+fn beats_in(passed: Duration) -> u64 {
     let near = passed.saturating_add(Duration::from_micros(NEAR_MICROS));
-    u64::try_from(near.as_millis()).unwrap_or(u64::MAX) / TICK_MILLIS
+    u64::try_from(near.as_millis()).unwrap_or(u64::MAX) / BEAT_MILLIS
+}
+
+// How long this many beats take.
+fn time_of(beats: u64) -> Duration {
+    Duration::from_millis(beats.saturating_mul(BEAT_MILLIS))
 }
 
 impl<R: Wait + Clock, G: Gate> Gate for Paced<'_, R, G> {
     fn pass(&self, node: u8, turn: u64) -> bool {
         self.pace.begin();
-        if !self.pace.is_due.get() {
+        if self.lobby.has_slow() {
+            self.wait_for_slow();
+        }
+        if self.pace.due.get() == 0 {
             if self.pace.is_idle.get() {
                 self.rest();
             } else if turn % ROUNDS_A_LOOK == 0 {

@@ -178,7 +178,7 @@ impl Desk {
     // The client is served from now on.
     fn open(&mut self, limit: u32, hall: &mut Hall) -> Next {
         if let Some(outgoing) = &mut self.outgoing {
-            outgoing.open(hall.alloc, limit);
+            outgoing.open(limit);
         }
         self.stage = Stage::Open;
         self.ticks = None;
@@ -217,8 +217,11 @@ impl Desk {
 
     // Writes what the client is sent, and puts what it sends.
     fn serve(&mut self, hall: &mut Hall) -> Next {
-        let sent = self.send();
+        let sent = self.send(hall);
         let received = self.receive(hall);
+        if self.outgoing.is_none() {
+            self.ties.clear_slow(&hall.lobby);
+        }
         if self.incoming.is_none() && self.outgoing.is_none() {
             return self.leave();
         }
@@ -229,11 +232,11 @@ impl Desk {
     }
 
     // Writes what the client is sent.
-    fn send(&mut self) -> Next {
+    fn send(&mut self, hall: &mut Hall) -> Next {
         let Some(outgoing) = &mut self.outgoing else {
             return Next::Rest;
         };
-        match outgoing.go_on(&self.ties, &mut self.is_writable) {
+        match outgoing.go_on(&self.ties, &mut self.is_writable, hall) {
             Outward::Written => Next::Rest,
             Outward::More => Next::Again,
             Outward::Closed => {
@@ -244,6 +247,7 @@ impl Desk {
             }
             Outward::Over => {
                 self.fault = self.fault.or(outgoing.fault());
+                hall.waiting = hall.waiting.saturating_sub(outgoing.waiting());
                 drop(self.outgoing.take());
                 self.ties.shut();
                 self.note(true, true, true);

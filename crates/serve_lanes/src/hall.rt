@@ -6,12 +6,14 @@ use std::sync::Arc;
 /// How many octets one read takes at the most.
 const ROOM: usize = 1 << 16;
 
-// What all connections of a porter share: room for what is read, what messages are read by, and where their node rests.
+// What all connections of a porter share: room for what is read, what messages are read by, how many octets wait for their streams, and where
+// their node rests.
 #[derive(Drop)]
 pub(crate) struct Hall {
     pub alloc: Global,
     pub room: Vec<u8>,
     pub parser: Parser,
+    pub waiting: usize,
     pub lobby: Arc<Lobby, Global>,
 }
 
@@ -25,6 +27,7 @@ impl Hall {
             alloc,
             room,
             parser: Parser::new(alloc),
+            waiting: 0,
             lobby,
         })
     }

@@ -1,3 +1,4 @@
+use crate::lobby::Lobby;
 use crate::ties::Ties;
 use client_listener::{FromClient, ToClient};
 use rtrb::{Consumer, Producer};
@@ -55,6 +56,16 @@ impl Line {
     /// Lets the porter go on, if it waits for room in the ring of items. For a node that has taken some.
     pub fn tell_room(&self) {
         self.ties.tell_room();
+    }
+
+    /// Counts the client as slow in the lobby of its node, until its porter has taken the sayings that wait. For a node that has put many.
+    pub fn mark_slow(&self, lobby: &Lobby) {
+        self.ties.mark_slow(lobby);
+    }
+
+    /// Counts the client as slow no longer. Returns whether it was counted.
+    pub fn clear_slow(&self, lobby: &Lobby) -> bool {
+        self.ties.clear_slow(lobby)
     }
 
     /// Ends the connection at once: nothing more is read or written.

@@ -20,6 +20,8 @@ pub struct Lobby {
     taken: AtomicU64,
     // For whom its packets wait: a bit for each node.
     waits: AtomicU64,
+    // How many of its clients are slow.
+    slow: AtomicU64,
 }
 
 impl Drop for Lobby {
@@ -31,6 +33,7 @@ impl Drop for Lobby {
             is_stirred: _is_stirred,
             taken: _taken,
             waits: _waits,
+            slow: _slow,
         } = self;
     }
 }
@@ -50,6 +53,7 @@ impl Lobby {
             is_stirred: AtomicBool::new(false),
             taken: AtomicU64::new(0),
             waits: AtomicU64::new(0),
+            slow: AtomicU64::new(0),
         }
     }
 
@@ -119,6 +123,22 @@ impl Lobby {
             }
         }
         false
+    }
+
+    /// Whether a client of the node is slow: many sayings wait in its ring, and its porter has not taken them yet.
+    pub fn has_slow(&self) -> bool {
+        self.slow.load(Ordering::SeqCst) > 0
+    }
+
+    // One client more is slow.
+    pub(crate) fn add_slow(&self) {
+        self.slow.fetch_add(1, Ordering::SeqCst);
+    }
+
+    // One client less is slow: the node, which may rest until none is, looks.
+    pub(crate) fn remove_slow(&self) {
+        self.slow.fetch_sub(1, Ordering::SeqCst);
+        self.wake();
     }
 
     /// Takes a place for a connection. Answers false where all 256 are taken.

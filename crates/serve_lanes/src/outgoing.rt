@@ -1,8 +1,20 @@
+use crate::hall::Hall;
 use crate::ties::Ties;
 use client_listener::{ListenFault, Outbox, ToClient};
 use rtrb::Consumer;
 use std::alloc::Global;
+use std::collections::VecDeque;
 use std::io::ErrorKind;
+
+/// How many octets may wait for one client's stream, and for the streams of all clients of a node, while further sayings are taken.
+const MOST_WAITING: usize = 1 << 20;
+
+const MOST_WAITING_IN_ALL: usize = 64 << 20;
+
+/// How many times sayings are taken in a row at the most, and how many octets one outbox gets.
+const MOST_GATHERED: u8 = 32;
+
+const FULL: usize = 1 << 16;
 
 // How far what a client is sent has come: what can be written is, or more can be at once, or all is written up to a `Close`, or nothing more is
 // written.
@@ -17,7 +29,12 @@ pub(crate) enum Outward {
 // What a client is sent, on its way out of its node's ring.
 #[derive(Drop)]
 pub(crate) struct Outgoing {
+    alloc: Global,
+    limit: u32,
+    // What is written next, what waits after it, and how many octets that is in all.
     outbox: Outbox,
+    later: VecDeque<Outbox>,
+    waiting: usize,
     replies: Consumer<ToClient>,
     // Whether a `Close` was taken, and whether nothing more is taken for a fault.
     is_closed: bool,
@@ -25,10 +42,14 @@ pub(crate) struct Outgoing {
 }
 
 impl Outgoing {
-    // Nothing is sent yet, to a client that has not said what payloads it takes. Takes no memory.
+    // Nothing is sent yet, to a client that has not said what payloads it takes. Does not allocate.
     pub fn new(alloc: Global, replies: Consumer<ToClient>) -> Outgoing {
         Outgoing {
+            alloc,
+            limit: 0,
             outbox: Outbox::new(alloc, 0),
+            later: VecDeque::new(alloc),
+            waiting: 0,
             replies,
             is_closed: false,
             fault: None,
@@ -36,8 +57,9 @@ impl Outgoing {
     }
 
     // The client takes payloads of up to `limit` octets.
-    pub fn open(&mut self, alloc: Global, limit: u32) {
-        self.outbox = Outbox::new(alloc, limit);
+    pub fn open(&mut self, limit: u32) {
+        self.limit = limit;
+        self.outbox = Outbox::new(self.alloc, limit);
     }
 
     // Why nothing more is written, if that is no end.
@@ -45,31 +67,44 @@ impl Outgoing {
         self.fault
     }
 
-    // Takes what is there, once all that was taken before is written, and writes once, if the stream has room. Whether it still has is noted.
-    pub fn go_on(&mut self, ties: &Ties, is_writable: &mut bool) -> Outward {
-        // The node puts nothing behind letting go.
-        let is_let_go = ties.is_let_go();
-        if self.outbox.len() == 0 && !self.is_closed && self.fault.is_none() {
-            self.gather();
-        }
-        if *is_writable && self.outbox.len() > 0 {
-            match self.write(ties) {
-                Ok(()) => *is_writable = self.outbox.len() == 0,
-                Err(ErrorKind::WouldBlock) => *is_writable = false,
-                Err(ErrorKind::Interrupted) => return Outward::More,
-                Err(_) => {
-                    self.fault = self.fault.or(Some(ListenFault::Write));
-                    return Outward::Over;
-                }
-            }
-        }
-        self.course(is_let_go)
+    // How many octets wait for the stream.
+    pub fn waiting(&self) -> usize {
+        self.waiting
     }
 
-    // How far it has come.
-    fn course(&mut self, is_let_go: bool) -> Outward {
-        if self.outbox.len() > 0 {
-            return Outward::Written;
+    // Takes what is there, as far as it may wait, and writes once, if the stream has room. Notes whether the stream still has.
+    pub fn go_on(&mut self, ties: &Ties, is_writable: &mut bool, hall: &mut Hall) -> Outward {
+        // The node puts nothing after letting go.
+        let is_let_go = ties.is_let_go();
+        let before = self.waiting;
+        self.gather_all(hall.waiting);
+        let written = self.write(ties, is_writable);
+        hall.waiting = hall
+            .waiting
+            .saturating_sub(before)
+            .saturating_add(self.waiting);
+        let is_empty = self.replies.is_empty();
+        if is_empty {
+            ties.clear_slow(&hall.lobby);
+        }
+        match written {
+            Ok(()) => self.course(is_let_go, is_empty, *is_writable),
+            Err(ErrorKind::Interrupted) => Outward::More,
+            Err(_) => {
+                self.fault = self.fault.or(Some(ListenFault::Write));
+                Outward::Over
+            }
+        }
+    }
+
+    // How far it has come, by whether the node has let go, the ring is empty, and the stream has room.
+    fn course(&self, is_let_go: bool, is_empty: bool, is_writable: bool) -> Outward {
+        if self.waiting > 0 {
+            return if is_writable {
+                Outward::More
+            } else {
+                Outward::Written
+            };
         }
         if self.is_closed {
             return Outward::Closed;
@@ -77,7 +112,7 @@ impl Outgoing {
         if self.fault.is_some() {
             return Outward::Over;
         }
-        if !self.replies.is_empty() {
+        if !is_empty {
             return Outward::More;
         }
         if is_let_go {
@@ -87,20 +122,77 @@ impl Outgoing {
         }
     }
 
-    // Takes what is there.
-    fn gather(&mut self) {
-        match self.outbox.gather(&mut self.replies) {
-            Ok(is_open) => self.is_closed = !is_open,
-            Err(fault) => self.fault = Some(fault),
+    // Takes what is there, as far as it may wait.
+    fn gather_all(&mut self, in_all: usize) {
+        for _ in 0..MOST_GATHERED {
+            if self.is_closed || self.fault.is_some() || !self.has_room(in_all) {
+                return;
+            }
+            if let Err(fault) = self.gather() {
+                self.fault = Some(fault);
+            }
+            // The ring had no more.
+            if self.last_len() <= FULL {
+                return;
+            }
         }
     }
 
-    // Writes once.
-    fn write(&mut self, ties: &Ties) -> Result<(), ErrorKind> {
+    // Whether more may wait, where this many octets wait for all clients.
+    fn has_room(&self, in_all: usize) -> bool {
+        self.waiting == 0 || self.waiting < MOST_WAITING && in_all < MOST_WAITING_IN_ALL
+    }
+
+    // Takes what is there, into the last outbox, or into one more where that is full.
+    fn gather(&mut self) -> Result<(), ListenFault> {
+        if self.last_len() > FULL {
+            let next = Outbox::new(self.alloc, self.limit);
+            if self.later.push_back(next).is_err() {
+                return Err(ListenFault::Memory);
+            }
+        }
+        let before = self.last_len();
+        let gathered = match self.later.back_mut() {
+            Some(last) => last.gather(&mut self.replies),
+            None => self.outbox.gather(&mut self.replies),
+        };
+        let more = self.last_len().saturating_sub(before);
+        self.waiting = self.waiting.saturating_add(more);
+        self.is_closed = !gathered?;
+        Ok(())
+    }
+
+    // How many octets wait in the last outbox.
+    fn last_len(&self) -> usize {
+        match self.later.back() {
+            Some(last) => last.len(),
+            None => self.outbox.len(),
+        }
+    }
+
+    // Writes once, if something waits and the stream has room.
+    fn write(&mut self, ties: &Ties, is_writable: &mut bool) -> Result<(), ErrorKind> {
+        if self.waiting == 0 || !*is_writable {
+            return Ok(());
+        }
+        let before = self.outbox.len();
         let mut stream = ties.stream();
         match self.outbox.write_some(&mut stream) {
-            Ok(()) => Ok(()),
-            Err(error) => Err(error.kind()),
+            Ok(()) => {}
+            Err(error) if error.kind() == ErrorKind::WouldBlock => {
+                *is_writable = false;
+                return Ok(());
+            }
+            Err(error) => return Err(error.kind()),
         }
+        let left = self.outbox.len();
+        self.waiting = self.waiting.saturating_sub(before.saturating_sub(left));
+        *is_writable = left == 0;
+        if left == 0
+            && let Some(next) = self.later.pop_front()
+        {
+            self.outbox = next;
+        }
+        Ok(())
     }
 }

@@ -1,17 +1,19 @@
 use crate::bell::Bell;
+use crate::lobby::Lobby;
 use std::alloc::Global;
 use std::net::{Shutdown, TcpStream};
 use std::sync::Arc;
 use std::sync::atomic::{AtomicBool, Ordering};
 
-// What a connection's node and its porter share: the stream, the porter's bell, whether the node has let the connection go, and whether the
-// porter waits for room in the ring of items.
+// What a connection's node and its porter share: the stream, the porter's bell, whether the node has let the connection go, whether the
+// porter waits for room in the ring of items, and whether the client is counted as slow.
 #[derive(Drop)]
 pub(crate) struct Ties {
     stream: TcpStream,
     bell: Option<Arc<Bell, Global>>,
     is_let_go: AtomicBool,
     wants_room: AtomicBool,
+    is_slow: AtomicBool,
 }
 
 impl Ties {
@@ -21,6 +23,7 @@ impl Ties {
             bell,
             is_let_go: AtomicBool::new(false),
             wants_room: AtomicBool::new(false),
+            is_slow: AtomicBool::new(false),
         }
     }
 
@@ -47,6 +50,22 @@ impl Ties {
     // The porter waits for room from now on.
     pub fn want_room(&self) {
         self.wants_room.store(true, Ordering::SeqCst);
+    }
+
+    // The client is slow from now on.
+    pub fn mark_slow(&self, lobby: &Lobby) {
+        if !self.is_slow.swap(true, Ordering::SeqCst) {
+            lobby.add_slow();
+        }
+    }
+
+    // The client is slow no longer. Returns whether it was.
+    pub fn clear_slow(&self, lobby: &Lobby) -> bool {
+        let was = self.is_slow.load(Ordering::SeqCst) && self.is_slow.swap(false, Ordering::SeqCst);
+        if was {
+            lobby.remove_slow();
+        }
+        was
     }
 
     // Lets the porter know that the node will neither take nor put anything more.

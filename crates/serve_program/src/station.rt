@@ -90,7 +90,7 @@ impl<R: Eprint> Feed<Act, Say> for Served<'_, R> {
 
 impl<R: Eprint> Boots for Served<'_, R> {
     fn up(&mut self, node: u8, boot: u64) {
-        self.feed.restart(boot);
+        self.feed.begin(boot);
         let _ = eprintln!(self.rt; "node {node} is up in boot {boot}");
     }
 
