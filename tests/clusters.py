@@ -1,0 +1,793 @@
+"""What tests/serve, tests/restart, tests/stall and tests/burst share: a client, a cluster of the built program, publishers and
+subscribers at full speed, threads that stand still, and processors that are busy. Every wait is bounded, and what was started is ended by
+end_all.
+
+It is a module, and the program of its own helper processes (class Helper): clusters.py WORK OPTIONS, where WORK is `publish` or `read`.
+WAMPD names another program than crates/wampd/out/wampd.
+"""
+import atexit
+import collections
+import contextlib
+import ctypes
+import json
+import os
+import random
+import re
+import select
+import signal
+import socket
+import subprocess
+import sys
+import tempfile
+import threading
+import time
+
+HERE = os.path.dirname(os.path.abspath(__file__))
+PROGRAM = os.environ.get("WAMPD", os.path.join(HERE, "..", "crates", "wampd", "out", "wampd"))
+NODES = 3
+# Seconds: for one answer, and for a program to be up or to end.
+PATIENCE = 30
+PATIENCE_OF_RUNS = 60
+# Seconds after which a busy loop ends by itself.
+PATIENCE_OF_LOOPS = 1800
+# Seconds without an acknowledgement from which on that is noted as a gap, and seconds between two notes of how much was sent.
+GAP = 0.05
+NOTE = 0.01
+# Seconds that a subscriber leaves between two reads, so that it takes many events at once; sockets hold far more.
+NAP = 0.002
+GREETING = bytes([0x7F, 0xF1, 0, 0])
+ANSWER = bytes([0x7F, 0xB1, 0, 0])
+# What may wait for a client at its node: octets, and then messages.
+OCTETS_WAITING = 1 << 20
+SAYINGS_WAITING = 1024
+ROLES = {"publisher": {}, "subscriber": {}, "caller": {}, "callee": {}}
+
+
+class Fault(Exception):
+    """What a test found."""
+
+
+def hold(holds, what):
+    if not holds:
+        raise Fault(what)
+
+
+# ---- frames
+
+
+def frame(payload, kind=0):
+    return bytes([kind]) + len(payload).to_bytes(3, "big") + payload
+
+
+def message(*parts):
+    """A message's payload."""
+    return json.dumps(parts, separators=(",", ":")).encode()
+
+
+def frames(octets):
+    """The payloads of the whole frames at the front of these octets, and the octets after them."""
+    payloads, at, end = [], 0, len(octets)
+    while end - at >= 4:
+        after = at + 4 + int.from_bytes(octets[at + 1 : at + 4], "big")
+        if after > end:
+            break
+        payloads.append(octets[at + 4 : after])
+        at = after
+    return payloads, octets[at:]
+
+
+# ---- clients
+
+
+def opened(port, receive_buffer=None, patience=PATIENCE):
+    """A connected stream, each of whose reads and writes is bounded."""
+    stream = socket.socket()
+    stream.settimeout(patience)
+    if receive_buffer:
+        stream.setsockopt(socket.SOL_SOCKET, socket.SO_RCVBUF, receive_buffer)
+    try:
+        stream.connect(("127.0.0.1", port))
+    except OSError:
+        stream.close()
+        raise
+    stream.setsockopt(socket.IPPROTO_TCP, socket.TCP_NODELAY, 1)
+    return stream
+
+
+class Client:
+    """A connection to a port, its handshake done."""
+
+    def __init__(self, port, receive_buffer=None, greeting=GREETING, patience=PATIENCE):
+        self.stream = opened(port, receive_buffer, patience)
+        self.stream.sendall(greeting)
+        answer = self.octets(4)
+        hold(answer == ANSWER, f"the handshake is answered by {answer.hex(' ')}")
+        self.request = 0
+
+    def octets(self, count):
+        """So many octets, or EOFError where the connection ended before."""
+        got = b""
+        while len(got) < count:
+            more = self.stream.recv(count - len(got))
+            if not more:
+                raise EOFError(f"the connection ended after {len(got)} of {count} octets")
+            got += more
+        return got
+
+    def frame(self, kind, payload):
+        self.stream.sendall(frame(payload, kind))
+
+    def say(self, *parts):
+        self.frame(0, message(*parts))
+
+    def hear_frame(self):
+        head = self.octets(4)
+        return head[0], self.octets(int.from_bytes(head[1:], "big"))
+
+    def hear(self, *front):
+        """The next message, which has to begin so."""
+        kind, payload = self.hear_frame()
+        hold(kind == 0, f"a frame of type {kind} where a message was due")
+        got = json.loads(payload)
+        hold(got[: len(front)] == list(front), f"{got} where {list(front)}.. was due")
+        return got
+
+    def is_heard(self, seconds):
+        """Whether something comes within this number of seconds."""
+        return bool(select.select([self.stream], [], [], seconds)[0])
+
+    def next_request(self):
+        self.request += 1
+        return self.request
+
+    def join(self, realm="realm1", **features):
+        self.say(1, realm, {"roles": {**ROLES, **features}})
+        return self.hear(2)[1]
+
+    def ask(self, code, answer, *rest):
+        """A request with options and what follows; what stands after its number in the answer."""
+        request = self.next_request()
+        self.say(code, request, {}, *rest)
+        return self.hear(answer, request)[2]
+
+    def ask_for(self, code, answer, number):
+        """A request that takes a number's thing back."""
+        request = self.next_request()
+        self.say(code, request, number)
+        self.hear(answer, request)
+
+    def subscribe(self, topic):
+        return self.ask(32, 33, topic)
+
+    def register(self, procedure):
+        return self.ask(64, 65, procedure)
+
+    def is_free(self, procedure):
+        """Whether nobody has registered the procedure; the client registers and unregisters it then."""
+        request = self.next_request()
+        self.say(64, request, {}, procedure)
+        answer = self.hear()
+        if answer[:3] == [8, 64, request]:
+            hold(answer[4] == "wamp.error.procedure_already_exists", f"{answer} where the procedure is registered")
+            return False
+        hold(answer[:2] == [65, request], f"{answer} to a REGISTER")
+        self.ask_for(66, 67, answer[2])
+        return True
+
+    def say_publish(self, topic, *args):
+        """Publishes, to be acknowledged; the request."""
+        request = self.next_request()
+        self.say(16, request, {"acknowledge": True}, topic, list(args))
+        return request
+
+    def publish(self, topic, *args):
+        """An acknowledged publication's id."""
+        return self.hear(17, self.say_publish(topic, *args))[2]
+
+    def call(self, procedure, *args):
+        request = self.next_request()
+        self.say(48, request, {}, procedure, list(args))
+        return request
+
+    def answer_calls(self, count):
+        """Answers this number of calls, each by its arguments."""
+        for _ in range(count):
+            invocation = self.hear(68)
+            self.say(70, invocation[1], {}, invocation[4])
+
+    def ended(self):
+        """Reads until the connection ends; how many octets came."""
+        count = 0
+        while True:
+            try:
+                more = self.stream.recv(65536)
+            except ConnectionError:
+                return count
+            if not more:
+                return count
+            count += len(more)
+
+    def close(self):
+        self.stream.close()
+
+
+def welcomed(port, limit, begin=None):
+    """Seconds from `begin` on, which is now where none is named, until a client is welcomed at this port; None after `limit` of them.
+    Where a connection is refused or ends before, another is tried."""
+    begin = begin or time.monotonic()
+    while (left := begin + limit - time.monotonic()) > 0:
+        try:
+            client = Client(port, patience=left)
+            client.stream.settimeout(max(0.001, begin + limit - time.monotonic()))
+            client.join()
+            client.close()
+            return time.monotonic() - begin
+        except (OSError, EOFError, Fault):
+            time.sleep(0.005)
+    return None
+
+
+# ---- clusters
+
+
+def free_port():
+    """The first of as many free ports as there are nodes, below those that the system hands out."""
+    for _ in range(1000):
+        port = random.randrange(10000, 32000)
+        try:
+            for below in range(NODES):
+                with socket.socket() as probe:
+                    probe.bind(("127.0.0.1", port + below))
+            return port
+        except OSError:
+            continue
+    raise Fault("no free ports")
+
+
+class Cluster:
+    """A running `wampd serve`, or another program in its place."""
+
+    running = []
+
+    def __init__(self, *options, port=None, words=None):
+        self.port = port or free_port()
+        self.errors = tempfile.NamedTemporaryFile("a")
+        words = words or [PROGRAM, "serve", "--nodes", str(NODES), "--port", str(self.port), "--key", "1", *options]
+        self.child = subprocess.Popen(words, stdin=subprocess.PIPE, stdout=subprocess.PIPE, stderr=self.errors)
+        Cluster.running.append(self)
+
+    def up(self):
+        """Waits until each node has said that it listens."""
+        want = "".join(f"node {node + 1} listens on 127.0.0.1:{self.port + node}\n" for node in range(NODES))
+        got = b""
+        until = time.monotonic() + PATIENCE_OF_RUNS
+        while len(got) < len(want) and time.monotonic() < until:
+            if select.select([self.child.stdout], [], [], 0.1)[0]:
+                more = os.read(self.child.stdout.fileno(), 4096)
+                if not more:
+                    break
+                got += more
+        hold(got.decode() == want, f"it printed {got!r}, and has {self.told()!r} on standard error")
+        return self
+
+    def told(self):
+        """What standard error has so far."""
+        with open(self.errors.name, errors="replace") as errors:
+            return errors.read()
+
+    def leaders(self):
+        """The nodes that have said that they lead, in that order."""
+        return [int(node) for node in re.findall(r"^node (\d) leads$", self.told(), re.M)]
+
+    def takes_over(self, limit):
+        """Seconds from the moment at which the last node is up until one leads: so long it takes to prepare a ballot, and to take over all
+        votes that are reported. None if that does not come within `limit` seconds."""
+        until = time.monotonic() + limit
+        up = None
+        while time.monotonic() < until:
+            lines = self.told()
+            if up is None and len(re.findall(r"^node \d is up in boot", lines, re.M)) == NODES:
+                up = time.monotonic()
+            if up is not None and " leads\n" in lines:
+                return time.monotonic() - up
+            time.sleep(0.002)
+        return None
+
+    def client(self, node, **options):
+        return Client(self.port + node - 1, **options)
+
+    def clients(self):
+        """A client of each node, all of them joined."""
+        clients = [self.client(node + 1) for node in range(NODES)]
+        for client in clients:
+            client.join()
+        return clients
+
+    def ports(self, count, nodes=range(1, NODES + 1)):
+        """The ports of so many clients, which these nodes share."""
+        return [self.port + nodes[at % len(nodes)] - 1 for at in range(count)]
+
+    def welcomes(self, limit, begin=None):
+        """For each node, seconds from `begin` on until a client is welcomed at it, or None after `limit` of them."""
+        begin = begin or time.monotonic()
+        answers = [in_thread(welcomed, self.port + node, limit, begin) for node in range(NODES)]
+        return [answer(2 * limit) for answer in answers]
+
+    def node_threads(self):
+        """The system's numbers of the nodes' threads, by node. In the order of their start the program's threads are the first one, the
+        porters', the input's, and the nodes', the last node's first. That each is its node's is shown here: while it stands still its
+        node answers no PING and its porter answers a handshake, and the other nodes answer."""
+        folder = f"/proc/{self.child.pid}/task"
+        until = time.monotonic() + PATIENCE
+        while len(os.listdir(folder)) < 2 * NODES + 2:
+            hold(time.monotonic() < until, f"it has {len(os.listdir(folder))} threads")
+            time.sleep(0.01)
+        threads = dict(enumerate(map(int, os.listdir(folder)[: -NODES - 1 : -1]), 1))
+        clients = self.clients()
+        for node, thread in threads.items():
+            with held(thread):
+                for client in clients:
+                    client.frame(1, b"A")
+                for at, client in enumerate(clients):
+                    is_answered = client.is_heard(0.2 if at == node - 1 else PATIENCE)
+                    hold(is_answered == (at != node - 1), f"with the thread of node {node} held, node {at + 1} answers: {is_answered}")
+                self.client(node).close()
+            for client in clients:
+                hold(client.hear_frame() == (2, b"A"), "a PING is not answered by its PONG")
+        for client in clients:
+            client.close()
+        return threads
+
+    def end(self):
+        """Waits for its end, and gives its status."""
+        try:
+            return self.child.wait(PATIENCE_OF_RUNS)
+        except subprocess.TimeoutExpired:
+            raise Fault("it does not end") from None
+
+    def tell(self, line):
+        """A line on its standard input."""
+        self.child.stdin.write(line + b"\n")
+        self.child.stdin.flush()
+
+    def stop(self):
+        """Ends its input; it has to end well."""
+        self.child.stdin.close()
+        status = self.end()
+        hold(status == 0, f"status {status} where its input has ended; standard error: {self.told()!r}")
+
+    def kill(self):
+        self.child.kill()
+        self.child.wait()
+
+    @staticmethod
+    def end_all():
+        for cluster in Cluster.running:
+            if cluster.child.poll() is None:
+                cluster.kill()
+        Cluster.running.clear()
+
+
+def in_thread(work, *args):
+    """Runs this in a thread; a call that waits for its end, and gives or raises what it gave or raised."""
+    found = []
+
+    def run():
+        try:
+            found.append((work(*args), None))
+        except BaseException as error:
+            found.append((None, error))
+
+    thread = threading.Thread(target=run, daemon=True)
+    thread.start()
+
+    def result(patience=2 * PATIENCE):
+        thread.join(patience)
+        hold(found, "a thread of the test does not end")
+        if found[0][1]:
+            raise found[0][1]
+        return found[0][0]
+
+    return result
+
+
+# ---- threads that stand still, and busy processors
+
+SYSTEM = ctypes.CDLL(None, use_errno=True)
+SYSTEM.ptrace.restype = ctypes.c_long
+SYSTEM.ptrace.argtypes = [ctypes.c_long, ctypes.c_long, ctypes.c_void_p, ctypes.c_void_p]
+SEIZE, INTERRUPT, DETACH = 0x4206, 0x4207, 17
+# That a thread of another process is waited for.
+ANY_THREAD = 0x40000000
+
+
+def trace(request, thread):
+    if SYSTEM.ptrace(request, thread, None, None) == -1:
+        number = ctypes.get_errno()
+        raise OSError(number, f"ptrace: {os.strerror(number)}")
+
+
+def await_stop(thread):
+    """Waits until a thread that was interrupted stands still."""
+    until = time.monotonic() + PATIENCE
+    while os.waitpid(thread, ANY_THREAD | os.WNOHANG)[0] == 0:
+        hold(time.monotonic() < until, f"thread {thread} does not stop")
+        time.sleep(0.001)
+
+
+def let_go(thread):
+    try:
+        trace(DETACH, thread)
+    except OSError:
+        # Its process was killed: it is gone once its end has been taken.
+        with contextlib.suppress(OSError):
+            os.waitpid(thread, ANY_THREAD | os.WNOHANG)
+
+
+@contextlib.contextmanager
+def held(*threads):
+    """These threads of a child get no processor inside of this (ptrace(2), which needs root or the same user's leave). Its other threads go
+    on. The thread that enters this has to leave it, too; where this process ends, they are let go."""
+    taken = []
+    try:
+        for thread in threads:
+            trace(SEIZE, thread)
+            taken.append(thread)
+            trace(INTERRUPT, thread)
+        for thread in threads:
+            await_stop(thread)
+        yield
+    finally:
+        for thread in taken:
+            let_go(thread)
+
+
+BUSY = """
+import os, time
+parent, until = os.getppid(), time.monotonic() + {seconds}
+while os.getppid() == parent and time.monotonic() < until:
+    for _ in range(1000000):
+        pass
+"""
+
+
+@contextlib.contextmanager
+def busy(count):
+    """So many busy loops run inside of this. They end by themselves where this process has ended."""
+    text = BUSY.format(seconds=PATIENCE_OF_LOOPS)
+    loops = [subprocess.Popen([sys.executable, "-c", text], stdin=subprocess.DEVNULL) for _ in range(count)]
+    try:
+        yield
+    finally:
+        for loop in loops:
+            loop.kill()
+        for loop in loops:
+            loop.wait()
+
+
+# ---- publishers at full speed
+
+
+class Publisher:
+    """A client of a Load: how many publications it has sent, and how many of them are acknowledged."""
+
+    def __init__(self, port, number, topic, octets):
+        client = Client(port)
+        client.join()
+        self.stream = client.stream
+        self.number = number
+        self.front = b'{"acknowledge":true},"%s",[%d' % (topic.encode(), number)
+        self.back = b'"%s"' % (b"x" * octets)
+        self.sent = self.done = 0
+        self.rest = b""
+        # When each publication was sent that is not acknowledged yet.
+        self.times = collections.deque()
+
+    def send(self, count):
+        """So many publications more, at once."""
+        now = time.monotonic()
+        out = []
+        for at in range(self.sent, self.sent + count):
+            out.append(frame(b"[16,%d,%s,%d,%s]]" % (at + 1, self.front, at, self.back)))
+            self.times.append(now)
+        self.sent += count
+        self.stream.sendall(b"".join(out))
+
+    def take(self):
+        """The seconds that each publication took whose acknowledgement has come."""
+        more = self.stream.recv(1 << 18)
+        hold(more, "a publisher was closed")
+        payloads, self.rest = frames(self.rest + more)
+        now = time.monotonic()
+        for payload in payloads:
+            self.done += 1
+            hold(payload.startswith(b"[17,%d," % self.done), f"{payload[:200]!r} where publication {self.done} was to be acknowledged")
+        return [now - self.times.popleft() for _ in payloads]
+
+
+class Load:
+    """Publishers, one at each of these ports, each of which keeps `flight` acknowledged publications under way, `each` of them in all
+    where that is given. The arguments of a publication are its publisher's number, its own, from 0 on, and `octets` letters."""
+
+    def __init__(self, ports, flight=16, each=None, topic="test.topic", octets=32):
+        self.flight = flight
+        self.each = each
+        self.publishers = [Publisher(port, number, topic, octets) for number, port in enumerate(ports)]
+        self.poll = select.epoll()
+        self.at = {}
+        for publisher in self.publishers:
+            self.poll.register(publisher.stream.fileno(), select.EPOLLIN)
+            self.at[publisher.stream.fileno()] = publisher
+        self.is_open = True
+        self.sent = self.done = 0
+        # The seconds that each publication took; where nothing was acknowledged for a while, when that began and how long it lasted; how
+        # many publications had been sent by when.
+        self.took = []
+        self.gaps = []
+        self.notes = []
+        self.last = time.monotonic()
+
+    def send(self, publisher, count):
+        if self.each is not None:
+            count = min(count, self.each - publisher.sent)
+        if count > 0:
+            publisher.send(count)
+            self.sent += count
+
+    def begin(self):
+        """Sends the first publications."""
+        self.last = time.monotonic()
+        for publisher in self.publishers:
+            self.send(publisher, self.flight)
+
+    def turn(self, seconds=0.1):
+        """Takes what comes within so many seconds, and sends as many publications more. The files that it polls beside its own, and that
+        have something to be read."""
+        others = []
+        for number, _ in self.poll.poll(seconds):
+            publisher = self.at.get(number)
+            if publisher is None:
+                others.append(number)
+                continue
+            took = publisher.take()
+            if took:
+                self.took += took
+                self.done += len(took)
+                self.note(time.monotonic())
+                if self.is_open:
+                    self.send(publisher, len(took))
+        return others
+
+    def note(self, now):
+        """Something was acknowledged."""
+        if now - self.last >= GAP:
+            self.gaps.append((self.last, now - self.last))
+        self.last = now
+        if not self.notes or now - self.notes[-1][0] >= NOTE:
+            self.notes.append((now, self.sent))
+
+    def is_done(self):
+        """Whether all is acknowledged."""
+        return self.done == self.sent and (self.each is None or self.sent == self.each * len(self.publishers))
+
+    def run(self, limit, until=None):
+        """Goes on until all is acknowledged, or `until()` holds."""
+        end = time.monotonic() + limit
+        while not (until() if until else self.is_done()):
+            hold(time.monotonic() < end, f"of {self.sent} publications {self.done} are acknowledged after {limit} s")
+            self.turn()
+
+    def finish(self, limit=PATIENCE):
+        """Sends no more, and waits until all is acknowledged; with the time until it gives up, that is a gap, too."""
+        self.is_open = False
+        self.each = None
+        end = time.monotonic() + limit
+        while not self.is_done() and time.monotonic() < end:
+            self.turn()
+        if not self.is_done():
+            self.note(time.monotonic())
+
+    def close(self):
+        for publisher in self.publishers:
+            publisher.stream.close()
+        self.poll.close()
+
+
+def fill(cluster, count, clients=16, flight=16, limit=600):
+    """So many clients of a cluster have `count` publications acknowledged; how many seconds that took."""
+    load = Load(cluster.ports(clients), flight, each=max(1, count // clients))
+    begin = time.monotonic()
+    load.begin()
+    load.run(limit)
+    load.close()
+    return time.monotonic() - begin
+
+
+def share_of(values, share):
+    """The value that this share of them does not exceed; 0 of none."""
+    values = sorted(values)
+    return values[min(len(values) - 1, int(share * len(values)))] if values else 0.0
+
+
+# ---- helper processes
+
+
+class Helper:
+    """A process that does one of WORKS with these options. It and the program say lines of JSON to each other. It ends with its input."""
+
+    running = []
+
+    def __init__(self, work, **options):
+        words = [sys.executable, "-B", os.path.abspath(__file__), work, json.dumps(options)]
+        self.work = work
+        self.child = subprocess.Popen(words, stdin=subprocess.PIPE, stdout=subprocess.PIPE)
+        self.rest = b""
+        Helper.running.append(self)
+
+    def tell(self, value):
+        """Says this to it, unless it has ended: what it said before is still heard."""
+        with contextlib.suppress(BrokenPipeError):
+            self.child.stdin.write(json.dumps(value).encode() + b"\n")
+            self.child.stdin.flush()
+
+    def hear(self, limit):
+        """What it says next."""
+        until = time.monotonic() + limit
+        while b"\n" not in self.rest:
+            left = until - time.monotonic()
+            hold(left > 0, f"{self.work} has said nothing for {limit} s")
+            if select.select([self.child.stdout], [], [], left)[0]:
+                more = os.read(self.child.stdout.fileno(), 1 << 16)
+                hold(more, f"{self.work} has ended by status {self.child.poll()}")
+                self.rest += more
+        line, self.rest = self.rest.split(b"\n", 1)
+        return json.loads(line)
+
+    def kill(self):
+        self.child.kill()
+        self.child.wait()
+
+    @staticmethod
+    def end_all():
+        for helper in Helper.running:
+            if helper.child.poll() is None:
+                helper.kill()
+        Helper.running.clear()
+
+
+def end_all():
+    Helper.end_all()
+    Cluster.end_all()
+
+
+atexit.register(end_all)
+
+
+def say(value):
+    print(json.dumps(value), flush=True)
+
+
+def work_publish(ports, flight=16, topic="test.topic", octets=32, limit=PATIENCE):
+    """A Load that begins with the first line and ends with the next; then what it saw. A publication that is not acknowledged `limit`
+    seconds later is given up."""
+    load = Load(ports, flight, topic=topic, octets=octets)
+    say("ready")
+    if not sys.stdin.buffer.readline():
+        return
+    load.poll.register(0, select.EPOLLIN)
+    begin = time.monotonic()
+    load.begin()
+    while 0 not in load.turn():
+        pass
+    load.poll.unregister(0)
+    seconds = time.monotonic() - begin
+    load.finish(limit)
+    say(
+        {
+            "sent": [publisher.sent for publisher in load.publishers],
+            "done": [publisher.done for publisher in load.publishers],
+            "seconds": seconds,
+            "gaps": load.gaps,
+            "notes": load.notes,
+            "took": load.took,
+        }
+    )
+
+
+# The front of an event's arguments: its publisher's number, and its own.
+COUNTED = re.compile(rb"\{\},\[(\d+),(\d+),")
+
+
+class Reader:
+    """A subscriber that reads as fast as it can: how many publications of each publisher it had, and how many it lost; which was the
+    first that came where another was due."""
+
+    def __init__(self, port, topic):
+        client = Client(port)
+        client.join()
+        client.subscribe(topic)
+        self.stream = client.stream
+        self.counts = collections.Counter()
+        self.next = collections.Counter()
+        self.rest = b""
+        self.wrong = None
+
+    def take(self):
+        """Takes what has come; whether the connection goes on."""
+        try:
+            more = self.stream.recv(1 << 20)
+        except ConnectionError:
+            return False
+        self.rest += more
+        end = 0
+        for found in COUNTED.finditer(self.rest):
+            publisher, number = map(int, found.groups())
+            if number != self.next[publisher]:
+                self.wrong = self.wrong or [publisher, number, self.next[publisher]]
+            self.next[publisher] = number + 1
+            self.counts[publisher] += 1
+            end = found.end()
+        self.rest = self.rest[end:]
+        return bool(more)
+
+    def has_all(self, totals):
+        return all(self.counts[publisher] >= total for publisher, total in enumerate(totals))
+
+
+def work_read(port, topic="test.topic", limit=PATIENCE):
+    """A Reader. A line tells it how many publications there are of each publisher; it says what it saw once it has had them, or after
+    `limit` seconds, or at once where it is closed."""
+    reader = Reader(port, topic)
+    say("ready")
+    totals, until, is_closed = None, None, False
+    while totals is None or time.monotonic() < until and not reader.has_all(totals):
+        ready = select.select([reader.stream, sys.stdin] if totals is None else [reader.stream], [], [], 0.1)[0]
+        if sys.stdin in ready:
+            line = sys.stdin.readline()
+            if not line:
+                return
+            totals, until = json.loads(line), time.monotonic() + limit
+        if reader.stream in ready and not reader.take():
+            is_closed = True
+            break
+        time.sleep(NAP)
+    say({"counts": reader.counts, "wrong": reader.wrong, "closed": is_closed})
+
+
+WORKS = {"publish": work_publish, "read": work_read}
+
+
+# ---- programs
+
+
+def row(*cells):
+    """A row of a table."""
+    print(f"| {' | '.join(map(str, cells))} |", flush=True)
+
+
+def head(*cells):
+    row(*cells)
+    print("|---" * len(cells) + "|", flush=True)
+
+
+def need_program(name):
+    if not os.access(PROGRAM, os.X_OK):
+        sys.exit(f"tests/{name}: build first: ./wampd --help")
+
+
+def bounded(seconds):
+    """After so many seconds the program is in Fault; where it is told to end, it ends what it started, too."""
+
+    def out_of_time(_signal, _frame):
+        raise Fault(f"all together took more than {seconds} s")
+
+    signal.signal(signal.SIGALRM, out_of_time)
+    signal.signal(signal.SIGTERM, lambda *_: sys.exit(143))
+    signal.alarm(seconds)
+
+
+if __name__ == "__main__":
+    if len(sys.argv) != 3 or sys.argv[1] not in WORKS:
+        sys.exit(__doc__)
+    with contextlib.suppress(KeyboardInterrupt):
+        WORKS[sys.argv[1]](**json.loads(sys.argv[2]))
