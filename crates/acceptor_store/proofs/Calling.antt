@@ -14,7 +14,7 @@ use Rattle.paxos_packets.specs.declared.rows.Change.{Change}
 use Rattle.paxos_packets.specs.declared.rows.Rows.{Rows}
 use Rattle.paxos_acceptor.specs.Acceptor.{adopted}
 use Rattle.command_codec.specs.Number.{Reading}
-use Rattle.acceptor_keeper.specs.Keeper.{no_rows}
+use Rattle.store_keeper.specs.Keeper.{no_rows}
 use Rattle.store_rows.specs.declared.rows.Numbers.{Numbers}
 use Rattle.acceptor_store.specs.Tables.{store_schema, empty_schema}
 use Rattle.acceptor_store.specs.Statements.{IsFounded}

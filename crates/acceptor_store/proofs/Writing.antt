@@ -5,7 +5,7 @@ use Rattle.std.proofs.lemmas.Bool.{and_parts, leb-true, le-leb}
 use Rattle.std.proofs.lemmas.Bool.Decides.{nat_tests}
 use Rattle.sqlite_value.specs.declared.value.Value.{Value}
 use Rattle.sqlite_value.specs.declared.value.Value.TheVariants.{Null, Int, Real, Text, Blob}
-use Rattle.acceptor_keeper.specs.declared.fault.KeeperFault.TheVariants.{Damaged, Version}
+use Rattle.store_keeper.specs.declared.fault.KeeperFault.TheVariants.{Damaged, Version}
 use Rattle.sqlite_value.specs.Order.{Row, column}
 use Rattle.sqlite_trees.specs.Tree.{rowid}
 use Rattle.sqlite_catalog.specs.Listing.{IsSound}

@@ -8,8 +8,8 @@ use Rattle.paxos_packets.specs.declared.rows.Change.{Change}
 use Rattle.paxos_packets.specs.declared.rows.Rows.{Rows}
 use Rattle.command_codec.specs.Number.{Reading}
 use Rattle.command_codec.specs.Entry.{entry_spelling}
-use Rattle.acceptor_keeper.specs.declared.fault.KeeperFault.{KeeperFault}
-use Rattle.acceptor_keeper.specs.declared.fault.KeeperFault.TheVariants.{Store, Damaged, Version, Memory, Failed, Boots}
+use Rattle.store_keeper.specs.declared.fault.KeeperFault.{KeeperFault}
+use Rattle.store_keeper.specs.declared.fault.KeeperFault.TheVariants.{Store, Damaged, Version, Memory, Failed, Boots}
 use Rattle.store_rows.specs.declared.rows.Numbers.{Numbers}
 use Rattle.acceptor_store.specs.Tables.{store_schema, meta_columns, vote_columns}
 use Rattle.store_rows.specs.Rows.{rows_of}

@@ -8,7 +8,7 @@ ghost use Rattle.sqlite.specs.State.{HasCleanDisk, Survives};
 ghost use Rattle.paxos_packets.specs.Rows.{last_boot, raised};
 ghost use Rattle.paxos_packets.specs.declared.rows.Rows.{Rows};
 ghost use Rattle.paxos_acceptor.specs.Acceptor.{adopted};
-ghost use Rattle.acceptor_keeper.specs.Keeper.{no_rows, FindsOr, FindsNoMore};
+ghost use Rattle.store_keeper.specs.Keeper.{no_rows, FindsOr, FindsNoMore};
 ghost use Rattle.acceptor_store.specs.Tables.{empty_schema};
 ghost use Rattle.acceptor_store.specs.Statements.{IsFounded};
 ghost use Rattle.acceptor_store.specs.Store.{Stores, Leaves, Holds, Finds, written, Follows, NotLowered};
@@ -20,11 +20,11 @@ ghost use Rattle.acceptor_store.specs.Answers.{Gives, Tells, Refuses, are_spelle
 
 use crate::store::{commit_rows, found_store, read_store, settle};
 use crate::tables::is_empty;
-use acceptor_keeper::KeeperFault;
 use command_codec::Coder;
 use paxos_packets::{Body, Change, Rows, Vote, Votes};
 use sqlite::{Alter, Connection};
 use std::alloc::Global;
+use store_keeper::KeeperFault;
 use store_rows::{Numbers, numbers_after, raise_boot};
 
 // The calls of a keeper, over its connection and the numbers that it knows.

@@ -3,7 +3,7 @@ ghost use Rattle.sqlite.specs.Effect.{Database};
 ghost use Rattle.sqlite.specs.Held.{state};
 ghost use Rattle.sqlite.specs.State.{HasCleanDisk, Survives};
 ghost use Rattle.paxos_packets.specs.declared.rows.Rows.{Rows};
-ghost use Rattle.acceptor_keeper.specs.Keeper.{no_rows, FindsOr, FindsNoMore};
+ghost use Rattle.store_keeper.specs.Keeper.{no_rows, FindsOr, FindsNoMore};
 ghost use Rattle.paxos_acceptor.specs.Acceptor.{adopted};
 ghost use Rattle.acceptor_store.specs.Tables.{empty_schema};
 ghost use Rattle.acceptor_store.specs.Statements.{IsFounded};
@@ -14,12 +14,12 @@ ghost use Rattle.acceptor_store.specs.Answers.{Gives, Tells, Refuses, has_place}
 
 use crate::calls::{boot_from, commit_to, found_where_empty, load_from};
 use crate::store::settle;
-use acceptor_keeper::{Keeper, KeeperFault};
 use command_codec::Coder;
 use paxos_packets::{Body, Change, Rows};
 use sqlite::{Alter, Connection};
 use std::alloc::Global;
 use std::marker::{Model, PhantomData};
+use store_keeper::{Keeper, KeeperFault};
 use store_rows::Numbers;
 
 /// A keeper whose rows are two tables of a SQLite database, one transaction a commit.

@@ -13,10 +13,10 @@ ghost use Rattle.store_rows.specs.Rows.{is_promised};
 ghost use Rattle.acceptor_store.specs.Store.{IsVote, AreVotes};
 ghost use Rattle.store_rows.specs.Faults.{LiesBelow};
 
-use acceptor_keeper::KeeperFault;
 use command_codec::Coder;
 use paxos_packets::Ballot;
 use sqlite::{Alter, Connection, Error, ErrorCode, Row, Transaction, params};
+use store_keeper::KeeperFault;
 
 // Each statement of the store is a function of its own, which says what its text is.
 

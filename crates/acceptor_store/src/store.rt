@@ -19,12 +19,12 @@ ghost use Rattle.store_rows.specs.Changes.{is_placed};
 
 use crate::statements::{fault_of, found, put_meta, put_vote, read_tables};
 use crate::tables::has_store_tables;
-use acceptor_keeper::KeeperFault;
 use command_codec::laws::spellings_are_apart;
 use command_codec::{CodecFault, Coder, Entry, put_entry};
 use paxos_packets::{Body, Rows, Vote};
 use sqlite::{Alter, Connection, Transaction};
 use std::alloc::Global;
+use store_keeper::KeeperFault;
 use store_rows::{Numbers, read_rows};
 
 // What a connection is known to be between two calls.

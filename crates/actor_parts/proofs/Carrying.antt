@@ -9,12 +9,12 @@ use Rattle.paxos_packets.specs.declared.entry.Entry.{Entry}
 use Rattle.paxos_packets.specs.declared.rows.Rows.{Rows}
 use Rattle.paxos_packets.specs.Members.{IsMember}
 use Rattle.paxos_acceptor.specs.Acceptor as accepting
-use Rattle.acceptor_keeper.specs.declared.fault.KeeperFault.{KeeperFault}
+use Rattle.store_keeper.specs.declared.fault.KeeperFault.{KeeperFault}
 use Rattle.replica_machine.specs.Log.{LogState}
 use Rattle.replica_machine.specs.Replay.{Machine}
-use Rattle.packet_outboxes.specs.Outboxes.{Waiting, WaitBehind}
+use Rattle.actor_outboxes.specs.Outboxes.{Waiting, WaitBehind}
 use Rattle.paxos_node.specs.declared.outcome.Outcome.{Outcome}
-use Rattle.paxos_turn.specs.Node.{NodeState}
+use Rattle.paxos_planning.specs.Node.{NodeState}
 use Rattle.paxos_node.specs.Adopting.{adopted, stays_up}
 use Rattle.paxos_node.specs.Applying.{down}
 use Rattle.actor_parts.specs.declared.fault.ActorFault.{ActorFault}

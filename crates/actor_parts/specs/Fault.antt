@@ -1,6 +1,6 @@
 -- The numbers of an actor's faults.
 use Rattle.std.specs.Prelude.{ℕ}
-use Rattle.acceptor_keeper.specs.Fault as keeping
+use Rattle.store_keeper.specs.Fault as keeping
 use Rattle.actor_parts.specs.declared.fault.ActorFault.{ActorFault}
 use Rattle.actor_parts.specs.declared.fault.ActorFault.TheVariants.{Failed, Rounds, Full, Keeper, Disagree, LostHere, Worn, Memory}
 

@@ -5,11 +5,11 @@ use Rattle.paxos_packets.specs.declared.rows.Rows.{Rows}
 use Rattle.replica_machine.specs.Log.{LogState, learned_in}
 use Rattle.paxos_node.specs.declared.event.Event.{Event}
 use Rattle.paxos_node.specs.declared.outcome.Outcome.{Outcome}
-use Rattle.paxos_turn.specs.Node.{NodeState}
+use Rattle.paxos_planning.specs.Node.{NodeState}
 use Rattle.paxos_node.specs.Held.{Held}
 use Rattle.paxos_node.specs.Plans.{plans}
 use Rattle.paxos_node.specs.Adopting.{Planned}
-use Rattle.packet_outboxes.specs.Outboxes.{Waiting}
+use Rattle.actor_outboxes.specs.Outboxes.{Waiting}
 
 pub record Parted (B M K : Type 0) : Type 0 where
   pub node : Held B

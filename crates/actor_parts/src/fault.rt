@@ -1,8 +1,8 @@
 ghost use Rattle.std.specs.Prelude.{◌≡◌};
 ghost use Rattle.actor_parts.specs.Fault.{number_of};
 
-use acceptor_keeper::KeeperFault;
 use std::fmt;
+use store_keeper::KeeperFault;
 
 /// Why an actor did not take an event, or did not begin. All but `Rounds` and `Full` end it: it answers `Failed` from then on.
 #[derive(Drop)]

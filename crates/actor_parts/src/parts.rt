@@ -9,20 +9,20 @@ ghost use Rattle.paxos_node.specs.Events.{outcome_of, is_round_refused, is_full_
 ghost use Rattle.paxos_node.specs.Held.{HasRoom};
 ghost use Rattle.paxos_node.specs.Plans.{plans, unchanged, Answers};
 ghost use Rattle.paxos_proposer.specs.Proposer.{is_leading};
-ghost use Rattle.packet_outboxes.specs.Outboxes.{HasLimits, IsPeer, TakenFor, WaitsFirst, most_waiting, waiting};
+ghost use Rattle.actor_outboxes.specs.Outboxes.{HasLimits, IsPeer, TakenFor, WaitsFirst, most_waiting, waiting};
 ghost use Rattle.replica_machine.specs.Log.{machine_from, Follows};
 ghost use Rattle.actor_parts.specs.Parts.{Parted, IsPrefixOf, first_parts};
 ghost use Rattle.actor_parts.specs.Steps.{IsAtEnd, Applied, Falls, OnlyNode, OnlyKeeper, OnlyLog, OnlyWaiting, Adopts};
 
 use crate::following::apply_all;
 use crate::storing::commit;
-use acceptor_keeper::{Keeper, KeeperFault};
-use packet_outboxes::Outboxes;
+use actor_outboxes::Outboxes;
 use paxos_node::{Event, Node, NodeFault, Outcome};
 use paxos_packets::{Ballot, Entries, Entry, Members, Packet, Rows};
 use replica_machine::{AppliedLog, Failed, Machine};
 use std::alloc::Global;
 use std::marker::Model;
+use store_keeper::{Keeper, KeeperFault};
 
 /// What an actor is made of: a node, its store, the packets that wait to go out, the machine behind its log. What holds of an actor need not
 /// hold between the steps of an event, so it is asked for by the calls.

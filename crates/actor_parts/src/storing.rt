@@ -4,8 +4,8 @@ ghost use Rattle.paxos_packets.specs.declared.rows.Rows.{Rows};
 ghost use Rattle.paxos_acceptor.specs.Acceptor.{adopted, no_change};
 ghost use Rattle.actor_parts.specs.Steps.{Falls};
 
-use acceptor_keeper::{Keeper, KeeperFault};
 use paxos_packets::{Body, Change};
+use store_keeper::{Keeper, KeeperFault};
 
 // The change is committed, unless there is nothing in it.
 pub(crate) fn commit<B: Body, K: Keeper<B>>(

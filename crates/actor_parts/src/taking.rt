@@ -7,9 +7,9 @@ ghost use Rattle.actor_parts.specs.Steps.{StaysWho, IsAtEnd, AnswersUp, TakesIn}
 
 use crate::fault::ActorFault;
 use crate::parts::Parts;
-use acceptor_keeper::Keeper;
 use paxos_node::Outcome;
 use replica_machine::Machine;
+use store_keeper::Keeper;
 
 impl<M: Machine, K: Keeper<M::Body>> Parts<M, K> {
     /// The outcome, which is committed, is adopted, its packets wait, and the machine follows what it applied.

@@ -10,9 +10,9 @@ use Rattle.paxos_packets.specs.Vote.{votes_equality}
 use Rattle.paxos_packets.specs.declared.ballot.Ballot.{Ballot}
 use Rattle.paxos_packets.specs.declared.rows.Rows.{Rows}
 use Rattle.paxos_acceptor.specs.Acceptor as accepting
-use Rattle.acceptor_keeper.specs.Keeper.{FindsOr}
-use Rattle.acceptor_keeper.specs.declared.fault.KeeperFault.TheVariants as store
-use Rattle.packet_outboxes.specs.Outboxes.{Waiting}
+use Rattle.store_keeper.specs.Keeper.{FindsOr}
+use Rattle.store_keeper.specs.declared.fault.KeeperFault.TheVariants as store
+use Rattle.actor_outboxes.specs.Outboxes.{Waiting}
 use Rattle.paxos_node.specs.declared.outcome.Outcome.{Outcome}
 use Rattle.actor_parts.specs.declared.fault.ActorFault.{ActorFault}
 use Rattle.actor_parts.specs.declared.fault.ActorFault.TheVariants.{Keeper, Worn}

@@ -8,7 +8,7 @@ use Rattle.paxos_node.specs.View.{Viewed}
 use Rattle.paxos_node.specs.declared.outcome.Outcome.{Outcome}
 use Rattle.paxos_node.specs.declared.view.Opened.{Opened}
 use Rattle.paxos_node.specs.declared.view.Opened.TheVariants.{Never, With}
-use Rattle.paxos_turn.specs.Node.{NodeState}
+use Rattle.paxos_planning.specs.Node.{NodeState}
 use Rattle.mail_table.specs.Boxes.{Follows}
 use Rattle.mail_table.specs.Covered.{MayRenew}
 use Rattle.mail_table.specs.Seats.{Seated}

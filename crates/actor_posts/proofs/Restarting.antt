@@ -6,10 +6,10 @@ use Rattle.std.specs.Prelude.{◌==◌}
 use Rattle.paxos_packets.specs.Rows.{last_boot, raised}
 use Rattle.paxos_packets.specs.declared.rows.Rows.{Rows}
 use Rattle.paxos_acceptor.specs.Acceptor as accepting
-use Rattle.acceptor_keeper.specs.Keeper.{FindsOr}
-use Rattle.acceptor_keeper.specs.declared.fault.KeeperFault.{KeeperFault}
-use Rattle.acceptor_keeper.specs.declared.fault.KeeperFault.TheVariants as store
-use Rattle.packet_outboxes.specs.Outboxes.{Waiting}
+use Rattle.store_keeper.specs.Keeper.{FindsOr}
+use Rattle.store_keeper.specs.declared.fault.KeeperFault.{KeeperFault}
+use Rattle.store_keeper.specs.declared.fault.KeeperFault.TheVariants as store
+use Rattle.actor_outboxes.specs.Outboxes.{Waiting}
 use Rattle.paxos_node.specs.Adopting.{adopted}
 use Rattle.paxos_node.specs.Applying.{started, down}
 use Rattle.paxos_node.specs.Events.{owner, possible, outcome_of}
@@ -20,7 +20,7 @@ use Rattle.paxos_node.specs.declared.event.Event.{Event}
 use Rattle.paxos_node.specs.declared.event.Event.TheVariants.{Crash}
 use Rattle.paxos_node.specs.declared.outcome.Outcome.{Outcome}
 use Rattle.paxos_node.specs.declared.view.Opened.TheVariants.{With}
-use Rattle.paxos_turn.specs.Node.{NodeState}
+use Rattle.paxos_planning.specs.Node.{NodeState}
 use Rattle.mail_table.specs.Seats.{Seated}
 use Rattle.actor_parts.specs.Parts.{IsPlan}
 use Rattle.actor_parts.specs.declared.fault.ActorFault.{ActorFault}

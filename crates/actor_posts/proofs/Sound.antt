@@ -3,7 +3,7 @@ use Rattle.std.proofs.Common.{◌≡◌, ◌∙◌, Bool, true, false, cond, Opt
 use Rattle.std.specs.Prelude.{nat_le}
 use Rattle.paxos_packets.specs.Members.{IsMember}
 use Rattle.paxos_packets.specs.declared.rows.Rows.{Rows}
-use Rattle.packet_outboxes.specs.Outboxes.{Waiting}
+use Rattle.actor_outboxes.specs.Outboxes.{Waiting}
 use Rattle.replica_machine.specs.Log.{is_slot}
 use Rattle.paxos_node.specs.Held.{Held}
 use Rattle.mail_table.specs.Seats.{Seated}

@@ -3,9 +3,9 @@ use Rattle.std.specs.Prelude.{◌≡◌, ◌<◌, ◌≤◌, ◌^◌, ℕ, suc, 
 use Rattle.paxos_packets.specs.Rows.{last_boot, raised}
 use Rattle.paxos_packets.specs.declared.rows.Rows.{Rows}
 use Rattle.paxos_acceptor.specs.Acceptor as accepting
-use Rattle.acceptor_keeper.specs.Keeper.{FindsOr}
-use Rattle.acceptor_keeper.specs.declared.fault.KeeperFault.TheVariants as store
-use Rattle.packet_outboxes.specs.Outboxes.{Waiting, waiting}
+use Rattle.store_keeper.specs.Keeper.{FindsOr}
+use Rattle.store_keeper.specs.declared.fault.KeeperFault.TheVariants as store
+use Rattle.actor_outboxes.specs.Outboxes.{Waiting, waiting}
 use Rattle.paxos_node.specs.Applying.{started}
 use Rattle.paxos_node.specs.Held.{Held}
 use Rattle.paxos_node.specs.declared.outcome.Outcome.{Outcome}

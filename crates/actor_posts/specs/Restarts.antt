@@ -4,9 +4,9 @@ use Rattle.std.specs.Prelude.{◌∷◌, if◌then◌else◌}
 use Rattle.paxos_packets.specs.Rows.{raised}
 use Rattle.paxos_packets.specs.declared.rows.Rows.{Rows}
 use Rattle.paxos_acceptor.specs.Acceptor as accepting
-use Rattle.acceptor_keeper.specs.Keeper.{FindsNoMore, FindsOr}
-use Rattle.acceptor_keeper.specs.declared.fault.KeeperFault.{KeeperFault}
-use Rattle.acceptor_keeper.specs.declared.fault.KeeperFault.TheVariants as store
+use Rattle.store_keeper.specs.Keeper.{FindsNoMore, FindsOr}
+use Rattle.store_keeper.specs.declared.fault.KeeperFault.{KeeperFault}
+use Rattle.store_keeper.specs.declared.fault.KeeperFault.TheVariants as store
 use Rattle.paxos_node.specs.Adopting.{Planned}
 use Rattle.paxos_node.specs.Events.{possible, outcome_of}
 use Rattle.paxos_node.specs.Plans.{plans}
@@ -14,7 +14,7 @@ use Rattle.paxos_node.specs.View.{Viewed, moved}
 use Rattle.paxos_node.specs.declared.event.Event.{Event}
 use Rattle.paxos_node.specs.declared.event.Event.TheVariants.{Crash, Restart}
 use Rattle.paxos_node.specs.declared.outcome.Outcome.{Outcome}
-use Rattle.paxos_turn.specs.Node.{NodeState}
+use Rattle.paxos_planning.specs.Node.{NodeState}
 use Rattle.mail_table.specs.Seats.{Seated}
 use Rattle.actor_parts.specs.declared.fault.ActorFault.{ActorFault}
 use Rattle.actor_parts.specs.declared.fault.ActorFault.TheVariants.{Keeper, Worn, Memory}

@@ -9,13 +9,13 @@ ghost use Rattle.actor_posts.specs.Restarts.{Refuses};
 use crate::post::Post;
 use crate::preparing::{Ready, prepare};
 use crate::seating::take_seat;
-use acceptor_keeper::Keeper;
+use actor_outboxes::Outboxes;
 use actor_parts::ActorFault;
 use mail_table::{Mail, NodeSeat};
-use packet_outboxes::Outboxes;
 use paxos_node::Node;
 use paxos_packets::Body;
 use std::alloc::Global;
+use store_keeper::Keeper;
 
 /// A node that has just begun: the node, its outboxes, in which nothing waits, and its seat at the table.
 #[derive(Drop)]

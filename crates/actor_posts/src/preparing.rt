@@ -1,5 +1,5 @@
 ghost use Rattle.std.specs.Prelude.{◌≡◌, None, Some, Ok, Err, false, IfOk, IfErr};
-ghost use Rattle.acceptor_keeper.specs.Keeper.{FindsOr};
+ghost use Rattle.store_keeper.specs.Keeper.{FindsOr};
 ghost use Rattle.paxos_packets.specs.Rows.{raised};
 ghost use Rattle.paxos_packets.specs.declared.rows.Rows.{Rows};
 ghost use Rattle.actor_posts.specs.Beginning.{Boots, IsEmpty, NoDamage, Starts};
@@ -7,11 +7,11 @@ ghost use Rattle.actor_posts.specs.Restarts.{judge_of, Found, Readied, Refuses};
 
 use crate::compare::{Fit, fit_of, is_later};
 use crate::post::Post;
-use acceptor_keeper::{Keeper, KeeperFault};
+use actor_outboxes::Outboxes;
 use actor_parts::ActorFault;
-use packet_outboxes::Outboxes;
 use paxos_packets::{Body, Members, Rows};
 use std::alloc::Global;
+use store_keeper::{Keeper, KeeperFault};
 
 // The most events that a node's word counts.
 const MOST_EVENTS: u64 = 1 << 62;

@@ -6,7 +6,7 @@ use Rattle.std.proofs.lemmas.Grind.{flat_map-append}
 use Rattle.paxos_packets.specs.declared.rows.Rows.{Rows}
 use Rattle.paxos_node.specs.declared.event.Event.{Event}
 use Rattle.paxos_node.specs.View.{Viewed}
-use Rattle.paxos_turn.specs.Node.{NodeState}
+use Rattle.paxos_planning.specs.Node.{NodeState}
 use Rattle.std.specs.Prelude.{Result}
 use Rattle.std.specs.declared.vec.Vec.{Vec}
 use Rattle.std.specs.declared.alloc.Global.{Global}

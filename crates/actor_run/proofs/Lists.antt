@@ -9,7 +9,7 @@ use Rattle.paxos_node.specs.declared.event.Event.{Event}
 use Rattle.paxos_node.specs.declared.event.Event.TheVariants.{Take, Tick, Start, Suspect, Deliver, Crash, Restart}
 use Rattle.paxos_node.specs.Events.{takes, is_round_refused, is_full_refused}
 use Rattle.paxos_node.specs.View.{Viewed}
-use Rattle.paxos_turn.specs.Node.{NodeState}
+use Rattle.paxos_planning.specs.Node.{NodeState}
 use Rattle.replica_machine.specs.Replay.{Machine}
 use Rattle.actor_parts.specs.Handing.{handed_by}
 use Rattle.node_actor.specs.Calls.{is_own, turn_event, has_no_round, has_no_room}

@@ -7,7 +7,7 @@ use Rattle.paxos_node.specs.declared.event.Event.{Event}
 use Rattle.paxos_node.specs.declared.event.Event.TheVariants.{Take, Tick, Start, Suspect, Deliver, Crash, Restart}
 use Rattle.paxos_node.specs.Events.{taken_by}
 use Rattle.paxos_node.specs.View.{Viewed}
-use Rattle.paxos_turn.specs.Node.{NodeState}
+use Rattle.paxos_planning.specs.Node.{NodeState}
 use Rattle.replica_machine.specs.Replay.{Machine}
 use Rattle.actor_parts.specs.Handing.{handed_by}
 use Rattle.node_actor.specs.Views.{moved_by}

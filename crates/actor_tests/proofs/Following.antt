@@ -7,7 +7,7 @@ use Rattle.paxos_node.specs.Adopting.{Planned}
 use Rattle.paxos_node.specs.Held.{Held}
 use Rattle.paxos_node.specs.declared.event.Event.TheVariants.{Start, Tick}
 use Rattle.paxos_node.specs.declared.outcome.Outcome.{Outcome}
-use Rattle.paxos_turn.specs.Node.{NodeState}
+use Rattle.paxos_planning.specs.Node.{NodeState}
 
 pub follows : (m : Mailed) (s : Seated ℕ) (h : Held ℕ) (o : Outcome ℕ) (me : ℕ) (starts : Bool) → Knows m s h → me ≡ s.part.me
     → h.state.up ≡ true → (starts ≡ true → Planned eqb h.members (Start me) h.state o)

@@ -1,10 +1,10 @@
 // What actors answer, and turns in rotation.
 use crate::check::Check;
 use crate::hearing::{Heard, Told, told};
-use core_stands::{Answer, Station, count_of, told_of};
 use node_actor::{Entry, Keeper, Machine};
 use std::process::Abort;
 use test_checks::check;
+use test_stands::{Answer, Station, count_of, told_of};
 
 // How often each node turns at most.
 const MOST_ROUNDS: u32 = 1_000;

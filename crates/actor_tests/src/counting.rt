@@ -3,13 +3,13 @@ use crate::carrying::{all_turns, at, have_log, hear, number};
 use crate::check::Check;
 use crate::hearing::{Heard, Told};
 use crate::trial::{Trial, tried};
-use acceptor_keeper::MemKeeper;
-use core_bodies::{Count, Number};
-use core_stands::{Answer, Source, Station, close_log};
 use paxos_packets::Transport;
 use std::alloc::Global;
 use std::process::Abort;
+use store_keeper::MemKeeper;
 use test_checks::{check, check_eq};
+use test_machines::{Count, Number};
+use test_stands::{Answer, Source, Station, close_log};
 
 /// An actor that adds up, over a keeper in memory.
 pub type Counting<'a> = Station<'a, Count, MemKeeper<Number>>;

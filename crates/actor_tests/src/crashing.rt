@@ -4,11 +4,11 @@ use crate::check::Check;
 use crate::counting::{ALL, Asked, Counting, Failing, Script, Sum, fault_at, goes};
 use crate::hearing::{Heard, Told};
 use crate::trial::{Trial, tried};
-use core_bodies::Count;
-use core_stands::{again, pop_two, push_two};
 use std::alloc::Global;
 use std::process::Abort;
 use test_checks::{check, check_eq};
+use test_machines::Count;
+use test_stands::{again, pop_two, push_two};
 
 // A node, what it is asked for, and the number of its fault.
 type Row = (u8, Asked, u8);

@@ -2,12 +2,12 @@ ghost use Rattle.std.specs.Prelude.{◌≡◌, ◌≤◌, All};
 ghost use Rattle.mail_table.specs.Seats.{Owns};
 
 use crate::check::Check;
-use core_bodies::Number;
 use mail_table::{Mail, Memory, NodeSeat, Office, Worn, found};
 use paxos_packets::Members;
 use std::process::Abort;
 use std::test::Fail;
 use test_checks::{check, check_eq};
+use test_machines::Number;
 
 // The last seat is node 3's, is the table's, and finds nothing in its boxes.
 fn finds_nothing(rt: &impl Abort, mail: &Mail<Number>, seats: &mut Vec<NodeSeat<Number>>)

@@ -7,7 +7,6 @@ ghost use Rattle.std.specs.Prelude.{◌≡◌, ◌≤◌, All};
 
 use crate::check::Check;
 use crate::posting::{for_second, opened, stepped};
-use core_bodies::Number;
 use mail_table::{Mail, NodeSeat, Office, found};
 use paxos_node::Node;
 use paxos_packets::{Members, Packet};
@@ -17,6 +16,7 @@ use std::test::Fail;
 use std::thread;
 use std::thread::Threads;
 use test_checks::check;
+use test_machines::Number;
 
 // How many packets are posted at most, and how often a post is tried, and a fetch.
 const PACKETS: u64 = 100;

@@ -6,15 +6,15 @@ ghost use Rattle.actor_tests.specs.Fresh.{IsFresh};
 use crate::actors::{gathered, last_seat, opened, put_seat, seat_of};
 use crate::check::Check;
 use crate::hearing::number;
-use acceptor_keeper::MemKeeper;
-use core_bodies::{Count, Number};
 use mail_table::{Mail, NodeSeat, Office, found};
 use node_actor::{Actor, Body, Keeper, Machine, Members, Packet};
 use paxos_packets::Kind;
 use std::alloc::Global;
 use std::panic::Expect;
 use std::process::Abort;
+use store_keeper::MemKeeper;
 use test_checks::{check, check_eq};
+use test_machines::{Count, Number};
 
 // How often the first node turns at most.
 const MOST_TURNS: u32 = 10_000;

@@ -8,7 +8,6 @@ ghost use Rattle.paxos_node.specs.declared.event.Event.TheVariants.{Start, Tick}
 ghost use Rattle.std.specs.Prelude.{◌≡◌, ◌≤◌, ℕ, eqb, All, IfOk, IfSome, OnOk, true, false};
 
 use crate::check::Check;
-use core_bodies::Number;
 use mail_table::{Mail, NodeSeat, Office, found};
 use paxos_node::{Event, Node, Outcome, Packets};
 use paxos_packets::{Kind, Members, Packet, Rows, Votes};
@@ -16,6 +15,7 @@ use std::alloc::Global;
 use std::process::Abort;
 use std::test::Fail;
 use test_checks::check;
+use test_machines::Number;
 
 // The node of this seat, opened for the first time.
 pub(crate) fn opened(

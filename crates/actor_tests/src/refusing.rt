@@ -4,14 +4,14 @@ use crate::check::Check;
 use crate::counting::{Asked, Counting, NONE_FAILS, Sum, ask};
 use crate::crashing::restarted;
 use crate::trial::{Trial, tried};
-use acceptor_keeper::{Keeper, KeeperFault, MemKeeper};
-use core_bodies::{Count, Number};
-use core_stands::{Begun, Left, close, close_left};
 use node_actor::ActorFault;
 use paxos_packets::{Ballot, Change, Votes};
 use std::alloc::Global;
 use std::process::Abort;
+use store_keeper::{Keeper, KeeperFault, MemKeeper};
 use test_checks::{check, check_eq};
+use test_machines::{Count, Number};
+use test_stands::{Begun, Left, close, close_left};
 
 // Acts that are pending.
 

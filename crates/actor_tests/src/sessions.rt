@@ -5,12 +5,12 @@ use crate::actors::{Life, all_turns, live};
 use crate::check::Check;
 use crate::hearing::{Heard, Told, hear, is_log};
 use crate::realms::{are_said, realm, said};
-use acceptor_keeper::MemKeeper;
 use mail_table::Mail;
 use node_actor::{Actor, Keeper, Machine};
 use realm_machine::{Act, Realm, Say};
 use std::alloc::Global;
 use std::process::Abort;
+use store_keeper::MemKeeper;
 use test_checks::check;
 
 type Serving = Actor<Realm, MemKeeper<Act>>;

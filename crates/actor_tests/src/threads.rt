@@ -4,9 +4,7 @@ ghost use Rattle.mail_table.specs.Seats.{Owns};
 use crate::actors::{Life, live};
 use crate::check::Check;
 use crate::hearing::Heard;
-use acceptor_keeper::MemKeeper;
 use actor_run::{Feed, Gate, Seen, run_node};
-use core_bodies::{Count, Number};
 use mail_table::Mail;
 use node_actor::{Actor, Event};
 use paxos_packets::Transport;
@@ -15,7 +13,9 @@ use std::process::Abort;
 use std::sync::atomic::{AtomicU64, Ordering};
 use std::thread;
 use std::thread::{Threads, join_mut};
+use store_keeper::MemKeeper;
 use test_checks::{check, check_eq};
+use test_machines::{Count, Number};
 
 type Adding = Actor<Count, MemKeeper<Number>>;
 

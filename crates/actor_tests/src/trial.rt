@@ -2,11 +2,11 @@
 use crate::counting::{Counting, Failing, fails, serve_and_leave};
 use crate::crashing::outlives;
 use crate::refusing::{begins_again, first_does, refuses};
-use acceptor_keeper::MemKeeper;
-use core_bodies::{Count, Number};
-use core_stands::{Plays, with_stations};
 use std::alloc::Global;
 use std::process::Abort;
+use store_keeper::MemKeeper;
+use test_machines::{Count, Number};
+use test_stands::{Plays, with_stations};
 
 /// What is tried: with all three, or with that of node 1.
 #[derive(Clone, Copy)]

@@ -1,8 +1,8 @@
 use crate::check::Check;
-use act_codec::ActCoder;
 use command_codec::{Entry, put_entry, take_entry};
 use paxos_packets::{Body, Shared};
 use realm_acts::{Act, Read};
+use realm_codec::ActCoder;
 use std::alloc::Global;
 use std::process::Abort;
 use test_checks::{check, check_eq};

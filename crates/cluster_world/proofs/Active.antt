@@ -14,10 +14,10 @@ use Rattle.cluster_world.proofs.AcceptorTests.{from_has, has_from, sent_to_other
 use Rattle.paxos_packets.specs.Ballot.{below}
 use Rattle.paxos_proposer.specs.declared.promises.CountedPromise.{CountedPromise}
 use Rattle.paxos_proposer.specs.Role.{Role, Idle, Preparing, Leading}
-use Rattle.paxos_turn.specs.Node.{NodeState}
+use Rattle.paxos_planning.specs.Node.{NodeState}
 use Rattle.paxos_packets.specs.Packet.{packet, to_others}
 use Rattle.paxos_acceptor.specs.Acceptor.{with_promise, may_promise, may_accept}
-use Rattle.paxos_turn.specs.Turn.{with_role, promised_at, voted_at}
+use Rattle.paxos_planning.specs.Turn.{with_role, promised_at, voted_at}
 use Rattle.paxos_proposer.specs.Proposer.{step_down, next_vote, asking, offered}
 use Rattle.paxos_packets.specs.Vote.{put_vote, votes_from}
 use Rattle.paxos_packets.specs.declared.ballot.Ballot.{Ballot}

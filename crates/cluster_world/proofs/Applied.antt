@@ -12,7 +12,7 @@ use Rattle.cluster_world.specs.Has.{Has, here}
 use Rattle.paxos_packets.specs.declared.entry.Entry.{Entry}
 use Rattle.paxos_packets.specs.declared.packet.Packet.{Packet}
 use Rattle.paxos_node.specs.declared.event.Event.{Event}
-use Rattle.paxos_turn.specs.Node.{NodeState, Turn}
+use Rattle.paxos_planning.specs.Node.{NodeState, Turn}
 use Rattle.paxos_node.specs.Events.{owner, outcome_of}
 use Rattle.cluster_world.specs.World.{Applied, World, node_at, put_node, first_world, done, next, play, played}
 use Rattle.cluster_world.specs.Steps.{may}

@@ -22,9 +22,9 @@ use Rattle.paxos_proposer.specs.Proposer.{slot_end, next_vote}
 use Rattle.paxos_learner.specs.declared.learned.LearnedEntry.{LearnedEntry}
 use Rattle.paxos_learner.specs.Tallies.{place_of, nodes_heard}
 use Rattle.paxos_learner.specs.Learner.{LearnerState, hears, has_most, learn, run_with, run_from}
-use Rattle.paxos_turn.specs.Node.{NodeState, Turn}
-use Rattle.paxos_turn.specs.Turn.{send, vote as vote_at_end, count as count_at_end, cast as cast_at_end}
-use Rattle.paxos_turn.specs.Proposals.{offer, propose_as as propose_as_at_end, propose as propose_at_end, propose_all as propose_all_at_end}
+use Rattle.paxos_planning.specs.Node.{NodeState, Turn}
+use Rattle.paxos_planning.specs.Turn.{send, vote as vote_at_end, count as count_at_end, cast as cast_at_end}
+use Rattle.paxos_planning.specs.Proposals.{offer, propose_as as propose_as_at_end, propose as propose_at_end, propose_all as propose_all_at_end}
 use Rattle.paxos_node.specs.Applying.{note, ends, go_down, apply_all, settle}
 use Rattle.cluster_world.specs.AtOnce as now
 use Rattle.paxos_packets.specs.Body.{IsEquality}

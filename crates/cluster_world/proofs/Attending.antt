@@ -9,12 +9,12 @@ use Rattle.paxos_node.specs.declared.outcome.Outcome.{Outcome}
 use Rattle.paxos_node.specs.Adopting.{adopted, Planned}
 use Rattle.paxos_node.specs.Events.{owner, possible, outcome_of}
 use Rattle.paxos_node.specs.Plans.{is_planned, plans}
-use Rattle.paxos_turn.specs.Node.{NodeState}
+use Rattle.paxos_planning.specs.Node.{NodeState}
 use Rattle.cluster_world.specs.Answers.{log_after}
 use Rattle.paxos_packets.specs.declared.transport.Transport.{Transport}
 use Rattle.replica_machine.specs.Replay.{Machine}
-use Rattle.log_follower.specs.Following.{Followed, Follows, Keeps, AgreesWith, handed_to}
-use Rattle.log_follower.specs.Handed.{said_in}
+use Rattle.replica_follower.specs.Following.{Followed, Follows, Keeps, AgreesWith, handed_to}
+use Rattle.replica_follower.specs.Handed.{said_in}
 use Rattle.cluster_world.specs.Members.{FollowsOn, StaysBehind}
 
 module _ {B M S Y : Type 0} (content : M → S) (m : Machine B S Y) where

@@ -16,12 +16,12 @@ use Rattle.paxos_node.specs.declared.event.Event.{Event}
 use Rattle.paxos_node.specs.Applying.{down, started}
 use Rattle.paxos_node.specs.Events.{owner, possible, outcome_of}
 use Rattle.paxos_node.specs.Plans.{is_planned}
-use Rattle.paxos_turn.specs.Node.{NodeState, Turn}
-use Rattle.world_seats.proofs.Seating.{plans_up}
+use Rattle.paxos_planning.specs.Node.{NodeState, Turn}
+use Rattle.world_nodes.proofs.Seating.{plans_up}
 use Rattle.replica_machine.specs.Replay.{Machine}
-use Rattle.log_follower.specs.Following.{Followed, Follows, Keeps, AgreesWith, handed_to}
-use Rattle.log_follower.specs.Handed.{said_in}
-use Rattle.log_follower.proofs.Keeping.{later_boots}
+use Rattle.replica_follower.specs.Following.{Followed, Follows, Keeps, AgreesWith, handed_to}
+use Rattle.replica_follower.specs.Handed.{said_in}
+use Rattle.replica_follower.proofs.Keeping.{later_boots}
 use Rattle.cluster_world.specs.Answers.{log_after}
 use Rattle.cluster_world.specs.Laws.{IsPrefixOf}
 use Rattle.cluster_world.specs.Members.{MemberState, gone_on, FollowsOn, StaysBehind, Moves, Happens, Rests}

@@ -16,7 +16,7 @@ use Rattle.replica_machine.specs.Roll.{standing, live_in}
 use Rattle.replica_machine.proofs.Places.{live_boot_is}
 use Rattle.paxos_node.specs.declared.event.Event.{Event}
 use Rattle.paxos_node.specs.declared.event.Event.TheVariants.{Take, Tick, Start, Suspect, Deliver, Crash, Restart}
-use Rattle.paxos_turn.specs.Node.{NodeState, Turn}
+use Rattle.paxos_planning.specs.Node.{NodeState, Turn}
 use Rattle.paxos_node.specs.Applying.{started, first_rows}
 use Rattle.paxos_node.specs.Events.{takes, new_item, has_room, is_pending, new_lost_of, new_lost, owner, possible, outcome_of, taken_by}
 use Rattle.paxos_node.specs.Events.{suspected_by, made_by}

@@ -34,13 +34,13 @@ use Rattle.paxos_proposer.specs.Proposer.{round_of, new_ballot, step_down, nacke
 use Rattle.paxos_proposer.specs.Reports.{is_counted, reports, past_reports, called_for}
 use Rattle.paxos_learner.specs.declared.learned.LearnedEntry.{LearnedEntry}
 use Rattle.paxos_learner.specs.Learner.{is_learned, learn, disagrees, vote_disagrees}
-use Rattle.paxos_turn.specs.Node.{NodeState, Turn}
-use Rattle.paxos_turn.specs.Turn.{with_role, with_pending, with_learner, promised_at, counted_at, send, promise, count, hear_learned, cast}
-use Rattle.paxos_turn.specs.Proposals.{propose, lead, stands, propose_new, propose_each, forwarded, push}
-use Rattle.paxos_turn.specs.Replies.{saw, refuse, on_prepare, on_accept, count_promise, on_promise_as, on_nack, on_forward, told_from, on_packet}
+use Rattle.paxos_planning.specs.Node.{NodeState, Turn}
+use Rattle.paxos_planning.specs.Turn.{with_role, with_pending, with_learner, promised_at, counted_at, send, promise, count, hear_learned, cast}
+use Rattle.paxos_planning.specs.Proposals.{propose, lead, stands, propose_new, propose_each, forwarded, push}
+use Rattle.paxos_planning.specs.Replies.{saw, refuse, on_prepare, on_accept, count_promise, on_promise_as, on_nack, on_forward, told_from, on_packet}
 use Rattle.paxos_node.specs.Events.{takes, with_item, on_take, has_room, suspected}
-use Rattle.paxos_turn.specs.Ticking.{accepts_again, again, ask, on_tick}
-use Rattle.paxos_turn.specs.Starting.{begin, starts, on_start}
+use Rattle.paxos_planning.specs.Ticking.{accepts_again, again, ask, on_tick}
+use Rattle.paxos_planning.specs.Starting.{begin, starts, on_start}
 use Rattle.paxos_packets.specs.Body.{IsEquality}
 
 module _ {B : Type 0} (same : B → B → Bool) (equal : IsEquality same) (members : ℕ) (many : 2 ≤ members) (at : ℕ → NodeState B) (n : ℕ)

@@ -33,17 +33,17 @@ use Rattle.paxos_proposer.specs.Reports.{is_counted, reports, past_reports, call
 use Rattle.paxos_learner.specs.Learner.{run_from}
 use Rattle.paxos_node.specs.declared.event.Event.{Event}
 use Rattle.paxos_node.specs.declared.event.Event.TheVariants.{Take, Tick, Start, Suspect, Deliver, Crash, Restart}
-use Rattle.paxos_turn.specs.Node.{NodeState, Turn}
-use Rattle.paxos_turn.specs.Turn.{with_role, with_pending, begun, send, promise, vote as vote_at_end, count as count_at_end, cast as cast_at_end}
-use Rattle.paxos_turn.specs.Proposals.{stands, forwarded, propose as propose_at_end, propose_new as propose_new_at_end, lead as lead_at_end}
-use Rattle.paxos_turn.specs.Proposals.{propose_each as propose_each_at_end, push as push_at_end}
-use Rattle.paxos_turn.specs.Replies.{saw, refuse, told_from, on_nack, count_promise as count_promise_at_end, on_promise_as as on_promise_as_at_end}
-use Rattle.paxos_turn.specs.Replies.{on_packet as on_packet_at_end}
+use Rattle.paxos_planning.specs.Node.{NodeState, Turn}
+use Rattle.paxos_planning.specs.Turn.{with_role, with_pending, begun, send, promise, vote as vote_at_end, count as count_at_end, cast as cast_at_end}
+use Rattle.paxos_planning.specs.Proposals.{stands, forwarded, propose as propose_at_end, propose_new as propose_new_at_end, lead as lead_at_end}
+use Rattle.paxos_planning.specs.Proposals.{propose_each as propose_each_at_end, push as push_at_end}
+use Rattle.paxos_planning.specs.Replies.{saw, refuse, told_from, on_nack, count_promise as count_promise_at_end, on_promise_as as on_promise_as_at_end}
+use Rattle.paxos_planning.specs.Replies.{on_packet as on_packet_at_end}
 use Rattle.paxos_node.specs.Events.{takes, with_item, has_room, new_lost, on_event, owner, possible, outcome_of}
-use Rattle.paxos_turn.specs.Ticking.{again, ask}
-use Rattle.paxos_turn.specs.Starting.{begin, starts, on_start}
+use Rattle.paxos_planning.specs.Ticking.{again, ask}
+use Rattle.paxos_planning.specs.Starting.{begin, starts, on_start}
 use Rattle.paxos_node.specs.Events.{on_take as on_take_at_end, suspected as suspected_at_end}
-use Rattle.paxos_turn.specs.Ticking.{on_tick as on_tick_at_end}
+use Rattle.paxos_planning.specs.Ticking.{on_tick as on_tick_at_end}
 use Rattle.paxos_node.specs.Applying.{settle}
 use Rattle.cluster_world.specs.AtOnce as now
 use Rattle.cluster_world.specs.AtOnce.{AppliesAsAtOnce}

@@ -22,8 +22,8 @@ use Rattle.paxos_packets.specs.declared.packet.Packet.{Packet}
 use Rattle.paxos_proposer.specs.Role.{Role, Idle}
 use Rattle.paxos_node.specs.declared.event.Event.{Event}
 use Rattle.paxos_node.specs.declared.event.Event.TheVariants.{Take, Tick, Start, Suspect, Deliver, Crash, Restart}
-use Rattle.paxos_turn.specs.Node.{NodeState, Turn}
-use Rattle.paxos_turn.specs.Turn.{begun}
+use Rattle.paxos_planning.specs.Node.{NodeState, Turn}
+use Rattle.paxos_planning.specs.Turn.{begun}
 use Rattle.paxos_node.specs.Applying.{started, first_rows, settle}
 use Rattle.paxos_packets.specs.Rows.{last_boot}
 use Rattle.paxos_node.specs.Events.{owner, possible, outcome_of, new_lost}

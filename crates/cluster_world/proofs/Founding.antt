@@ -7,10 +7,10 @@ use Rattle.paxos_packets.specs.declared.entry.Entry.{Entry}
 use Rattle.paxos_packets.specs.declared.entry.Entry.TheVariants.{Boot}
 use Rattle.paxos_packets.specs.declared.transport.Transport.{Transport}
 use Rattle.paxos_node.specs.Applying.{started, first_rows}
-use Rattle.paxos_turn.specs.Node.{NodeState}
+use Rattle.paxos_planning.specs.Node.{NodeState}
 use Rattle.replica_machine.specs.Replay.{Machine}
-use Rattle.log_follower.specs.Following.{Followed}
-use Rattle.log_follower.specs.Handed.{said_in}
+use Rattle.replica_follower.specs.Following.{Followed}
+use Rattle.replica_follower.specs.Handed.{said_in}
 use Rattle.cluster_world.specs.Members.{MemberState, nodes_of, machines_of, AreMembers, held_of}
 use Rattle.cluster_world.specs.StandsAt.{told_by, machine_at, Attends, StandsIn, HaveContent}
 use Rattle.cluster_world.specs.World.{founded, first_boots, first_world}

@@ -15,7 +15,7 @@ use Rattle.paxos_packets.specs.Transport.{same_transport}
 use Rattle.replica_machine.proofs.Replaying.{sayings_append}
 use Rattle.paxos_node.specs.declared.event.Event.{Event}
 use Rattle.paxos_node.specs.declared.event.Event.TheVariants.{Take, Tick, Start, Suspect, Deliver, Crash, Restart}
-use Rattle.paxos_turn.specs.Node.{NodeState, Turn}
+use Rattle.paxos_planning.specs.Node.{NodeState, Turn}
 use Rattle.paxos_packets.specs.Rows.{raised}
 use Rattle.paxos_node.specs.Applying.{started}
 use Rattle.paxos_node.specs.Events.{owner, possible, outcome_of}

@@ -6,7 +6,7 @@ use Rattle.paxos_packets.specs.declared.entry.Entry.{Entry}
 use Rattle.paxos_packets.specs.declared.entry.Entry.TheVariants.{Lost}
 use Rattle.paxos_packets.specs.declared.packet.Packet.{Packet}
 use Rattle.paxos_node.specs.declared.event.Event.{Event}
-use Rattle.paxos_turn.specs.Node.{NodeState}
+use Rattle.paxos_planning.specs.Node.{NodeState}
 use Rattle.replica_machine.specs.Replay.{Machine, said}
 use Rattle.replica_machine.proofs.Numbering.{are_numbered}
 use Rattle.cluster_world.specs.Answers.{IsPresent}

@@ -7,7 +7,7 @@ use Rattle.paxos_proposer.specs.declared.promises.CountedPromise.{CountedPromise
 use Rattle.paxos_proposer.specs.Role.{Role, Idle, Preparing, Leading}
 use Rattle.paxos_learner.specs.declared.tallies.Place.{Place}
 use Rattle.paxos_learner.specs.declared.learned.LearnedEntry.{LearnedEntry}
-use Rattle.paxos_turn.specs.Node.{NodeState}
+use Rattle.paxos_planning.specs.Node.{NodeState}
 use Rattle.paxos_proposer.specs.Proposer.{slot_end, next_vote}
 use Rattle.paxos_packets.specs.declared.ballot.Ballot.{Ballot}
 use Rattle.paxos_packets.specs.declared.packet.Kind.{Kind}

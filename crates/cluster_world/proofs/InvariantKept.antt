@@ -6,7 +6,7 @@ use Rattle.cluster_world.proofs.Lists.{has_left, has_right, has_cases}
 use Rattle.cluster_world.proofs.Invariant.{Sent, Known, Told, RowsOk, RoleOk, Grows, PacketsOk, NodeOk, Inv, promises, KindOk}
 use Rattle.cluster_world.proofs.Growth.{known_grows, safe_grows, told_grows, chosen_grows, vote_of_grows, role_grows}
 use Rattle.paxos_proposer.specs.Role.{Role}
-use Rattle.paxos_turn.specs.Node.{NodeState}
+use Rattle.paxos_planning.specs.Node.{NodeState}
 use Rattle.paxos_packets.specs.declared.ballot.Ballot.{Ballot}
 use Rattle.paxos_packets.specs.declared.packet.Kind.{Kind}
 use Rattle.paxos_packets.specs.declared.packet.Packet.{Packet}

@@ -26,8 +26,8 @@ use Rattle.paxos_learner.specs.declared.learned.LearnedEntry.{LearnedEntry}
 use Rattle.paxos_learner.specs.Learner.{LearnerState}
 use Rattle.paxos_learner.specs.Learner.{learned_at, is_learned, put_learned, learn, hears, is_other, disagrees}
 use Rattle.paxos_learner.specs.Learner.{has_most, learn_chosen, count_vote, vote_disagrees}
-use Rattle.paxos_turn.specs.Turn.{with_learner}
-use Rattle.paxos_turn.specs.Node.{NodeState}
+use Rattle.paxos_planning.specs.Turn.{with_learner}
+use Rattle.paxos_planning.specs.Node.{NodeState}
 
 off : false ≡ true → ⊥
 off e = cc

@@ -24,9 +24,9 @@ use Rattle.paxos_acceptor.specs.Acceptor.{may_accept}
 use Rattle.paxos_proposer.specs.Role.{Role, Idle, Preparing, Leading}
 use Rattle.paxos_proposer.specs.Proposer.{next_vote, offered, slot_end}
 use Rattle.paxos_learner.specs.Learner.{count_vote, vote_disagrees}
-use Rattle.paxos_turn.specs.Node.{NodeState, Turn}
-use Rattle.paxos_turn.specs.Turn.{with_role, voted_at, counted_at, cast}
-use Rattle.paxos_turn.specs.Proposals.{offer, propose_as, propose, propose_all}
+use Rattle.paxos_planning.specs.Node.{NodeState, Turn}
+use Rattle.paxos_planning.specs.Turn.{with_role, voted_at, counted_at, cast}
+use Rattle.paxos_planning.specs.Proposals.{offer, propose_as, propose, propose_all}
 use Rattle.paxos_packets.specs.Body.{IsEquality}
 
 pub below_self : (b : Ballot) → below b b ≡ false

@@ -5,7 +5,7 @@ use Rattle.cluster_world.proofs.Invariant.{Sent, Known, IsChosen, Grows, Packets
 use Rattle.cluster_world.proofs.Growth.{known_grows, safe_grows, chosen_grows, vote_of_grows, role_grows}
 use Rattle.cluster_world.proofs.InvariantKept.{sent_cases, known_cases}
 use Rattle.cluster_world.proofs.WithNode.{with_node, Kept, turn_moved}
-use Rattle.paxos_turn.specs.Node.{NodeState}
+use Rattle.paxos_planning.specs.Node.{NodeState}
 use Rattle.paxos_packets.specs.declared.ballot.Ballot.{Ballot}
 use Rattle.paxos_packets.specs.declared.packet.Kind.{Kind}
 use Rattle.paxos_packets.specs.declared.packet.Packet.{Packet}

@@ -4,9 +4,9 @@ use Rattle.std.specs.Prelude.{slice_get, slice_index_or, Result, Ok, Err, OnOk, 
 use Rattle.std.proofs.lemmas.List.{get_or_past, length-map, append-nil, take_all}
 use Rattle.std.proofs.lemmas.Option.{slice_get_past, slice_get_read}
 use Rattle.paxos_packets.specs.declared.transport.Transport.{Transport}
-use Rattle.paxos_turn.specs.Node.{NodeState}
+use Rattle.paxos_planning.specs.Node.{NodeState}
 use Rattle.replica_machine.specs.Replay.{Machine}
-use Rattle.log_follower.specs.Following.{Followed}
+use Rattle.replica_follower.specs.Following.{Followed}
 use Rattle.cluster_world.specs.Laws.{IsPrefixOf}
 use Rattle.cluster_world.specs.Members.{MemberState, nodes_of, machines_of}
 use Rattle.cluster_world.specs.StandsAt.{Held, told_by, machine_at, StandsIn}

@@ -31,14 +31,14 @@ use Rattle.paxos_learner.specs.Learner.{is_learned, put_learned, learn, hears, h
 use Rattle.replica_machine.specs.Roll.{is_wanted}
 use Rattle.paxos_node.specs.declared.event.Event.{Event}
 use Rattle.paxos_node.specs.declared.event.Event.TheVariants.{Take, Tick, Start, Suspect, Deliver, Crash, Restart}
-use Rattle.paxos_turn.specs.Node.{NodeState, Turn}
-use Rattle.paxos_turn.specs.Turn.{with_role, with_pending, begun, voted_at, counted_at, send, promise, cast}
-use Rattle.paxos_turn.specs.Proposals.{offer, propose_as, propose, propose_all, lead, stands, propose_new, propose_each, forwarded, push}
-use Rattle.paxos_turn.specs.Replies.{saw, refuse, on_prepare, on_accept, count_promise, on_promise_as, told_from, on_packet}
+use Rattle.paxos_planning.specs.Node.{NodeState, Turn}
+use Rattle.paxos_planning.specs.Turn.{with_role, with_pending, begun, voted_at, counted_at, send, promise, cast}
+use Rattle.paxos_planning.specs.Proposals.{offer, propose_as, propose, propose_all, lead, stands, propose_new, propose_each, forwarded, push}
+use Rattle.paxos_planning.specs.Replies.{saw, refuse, on_prepare, on_accept, count_promise, on_promise_as, told_from, on_packet}
 use Rattle.paxos_node.specs.Applying.{note, ends, go_down, apply_all, settle}
 use Rattle.paxos_node.specs.Events.{takes, new_item, with_item, on_take, has_room, new_lost}
-use Rattle.paxos_turn.specs.Ticking.{accepts_again, again, on_tick}
-use Rattle.paxos_turn.specs.Starting.{begin, starts, on_start}
+use Rattle.paxos_planning.specs.Ticking.{accepts_again, again, on_tick}
+use Rattle.paxos_planning.specs.Starting.{begin, starts, on_start}
 use Rattle.paxos_node.specs.Events.{suspected, outcome_of, taken_by, suspected_by, made_by}
 
 take_has : {A : Type 0} (n : ℕ) (xs : List A) (x : A) → Has (take n xs) x → Has xs x

@@ -21,13 +21,13 @@ use Rattle.paxos_proposer.specs.Proposer.{slot_end, next_vote, new_ballot, is_le
 use Rattle.paxos_proposer.specs.Reports.{is_counted, reports, called_for}
 use Rattle.paxos_node.specs.declared.event.Event.{Event}
 use Rattle.paxos_node.specs.declared.event.Event.TheVariants.{Take, Tick, Start, Suspect, Deliver, Crash, Restart}
-use Rattle.paxos_turn.specs.Node.{NodeState, Turn}
-use Rattle.paxos_turn.specs.Turn.{with_role, with_pending, begun, send, promise, cast}
-use Rattle.paxos_turn.specs.Proposals.{offer, propose_as, propose, propose_all, lead, stands, propose_new, propose_each, forwarded, push}
-use Rattle.paxos_turn.specs.Replies.{saw, refuse, count_promise, on_promise_as, on_packet}
+use Rattle.paxos_planning.specs.Node.{NodeState, Turn}
+use Rattle.paxos_planning.specs.Turn.{with_role, with_pending, begun, send, promise, cast}
+use Rattle.paxos_planning.specs.Proposals.{offer, propose_as, propose, propose_all, lead, stands, propose_new, propose_each, forwarded, push}
+use Rattle.paxos_planning.specs.Replies.{saw, refuse, count_promise, on_promise_as, on_packet}
 use Rattle.paxos_node.specs.Events.{takes, with_item, on_take, has_room, suspected, new_lost}
-use Rattle.paxos_turn.specs.Ticking.{again, on_tick}
-use Rattle.paxos_turn.specs.Starting.{begin, starts, on_start}
+use Rattle.paxos_planning.specs.Ticking.{again, on_tick}
+use Rattle.paxos_planning.specs.Starting.{begin, starts, on_start}
 use Rattle.paxos_node.specs.Events.{outcome_of, possible}
 
 abbrev pub Same : {B : Type 0} → Turn B → Turn B → Type 0

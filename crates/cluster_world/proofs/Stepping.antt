@@ -7,8 +7,8 @@ use Rattle.paxos_packets.specs.Packet.{packet_equality, same_packet}
 use Rattle.cluster_world.specs.Has.{Has, here, there}
 use Rattle.paxos_packets.specs.Body.{IsEquality}
 use Rattle.paxos_packets.specs.declared.packet.Packet.{Packet}
-use Rattle.paxos_turn.specs.Node.{Turn}
-use Rattle.paxos_turn.specs.Node.{NodeState}
+use Rattle.paxos_planning.specs.Node.{Turn}
+use Rattle.paxos_planning.specs.Node.{NodeState}
 use Rattle.paxos_node.specs.Events.{owner, possible, outcome_of}
 use Rattle.cluster_world.specs.World.{node_at, first_world, is_among, was_sent, done}
 use Rattle.cluster_world.specs.Steps.{SentIsAmong, NodesAreMembers, OneEventMore, may, Goes, EventGoes, EventStays}

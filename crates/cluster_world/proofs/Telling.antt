@@ -10,9 +10,9 @@ use Rattle.paxos_packets.specs.declared.packet.Packet.{Packet}
 use Rattle.paxos_packets.specs.declared.transport.Transport.{Transport}
 use Rattle.paxos_packets.specs.Transport.{same_transport}
 use Rattle.replica_machine.specs.Replay.{Machine}
-use Rattle.log_follower.specs.Following.{Followed}
-use Rattle.log_follower.specs.Handed.{said_in, told_in, tellings, IsBefore, AreInOrder, TellAll}
-use Rattle.log_follower.proofs.Handing.{transport_is}
+use Rattle.replica_follower.specs.Following.{Followed}
+use Rattle.replica_follower.specs.Handed.{said_in, told_in, tellings, IsBefore, AreInOrder, TellAll}
+use Rattle.replica_follower.proofs.Handing.{transport_is}
 use Rattle.cluster_world.specs.Has.{Has, here, there}
 use Rattle.cluster_world.specs.Members.{MemberState, machines_of, held_of}
 use Rattle.cluster_world.specs.StandsAt.{told_by, machine_at, HandsToOwn, StandsIn}

@@ -15,10 +15,10 @@ use Rattle.paxos_packets.specs.declared.entry.Entry.{Entry}
 use Rattle.paxos_packets.specs.declared.entry.Entry.TheVariants.{Noop, Lost}
 use Rattle.paxos_node.specs.declared.event.Event.{Event}
 use Rattle.paxos_node.specs.declared.event.Event.TheVariants.{Suspect}
-use Rattle.paxos_turn.specs.Node.{NodeState, Turn}
-use Rattle.paxos_turn.specs.Turn.{with_pending, begun}
+use Rattle.paxos_planning.specs.Node.{NodeState, Turn}
+use Rattle.paxos_planning.specs.Turn.{with_pending, begun}
 use Rattle.paxos_node.specs.Applying.{settle}
-use Rattle.paxos_turn.specs.Proposals.{push}
+use Rattle.paxos_planning.specs.Proposals.{push}
 use Rattle.paxos_node.specs.Events.{has_room, new_lost, new_lost_of, suspected, suspected_by, owner, outcome_of, made_by}
 use Rattle.replica_machine.specs.Roll.{standing, live_in}
 use Rattle.cluster_world.specs.World.{World, node_at, put_node, first_world, done, next, played, log_of}

@@ -6,7 +6,7 @@ use Rattle.cluster_world.proofs.Order.{Reaches, Over}
 use Rattle.cluster_world.proofs.Invariant.{Sent, Grows, NodeOk, Inv, promises, KindOk}
 use Rattle.cluster_world.proofs.Growth.{grows_on}
 use Rattle.cluster_world.proofs.InvariantKept.{grows_by, moved}
-use Rattle.paxos_turn.specs.Node.{NodeState}
+use Rattle.paxos_planning.specs.Node.{NodeState}
 use Rattle.paxos_packets.specs.declared.ballot.Ballot.{Ballot}
 use Rattle.paxos_packets.specs.declared.packet.Kind.{Kind}
 use Rattle.paxos_packets.specs.declared.packet.Packet.{Packet}

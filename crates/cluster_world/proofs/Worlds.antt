@@ -13,10 +13,10 @@ use Rattle.paxos_packets.specs.declared.packet.Packet.{Packet}
 use Rattle.paxos_packets.specs.declared.transport.Transport.{Transport}
 use Rattle.paxos_node.specs.declared.event.Event.{Event}
 use Rattle.paxos_node.specs.Events.{owner, possible, outcome_of, made_by}
-use Rattle.paxos_turn.specs.Node.{NodeState, Turn}
+use Rattle.paxos_planning.specs.Node.{NodeState, Turn}
 use Rattle.replica_machine.specs.Replay.{Machine, sayings_behind}
-use Rattle.log_follower.specs.Following.{Followed, AgreesWith, handed_to}
-use Rattle.world_seats.specs.Seated.{IsAtRest}
+use Rattle.replica_follower.specs.Following.{Followed, AgreesWith, handed_to}
+use Rattle.world_nodes.specs.Seated.{IsAtRest}
 use Rattle.cluster_world.specs.Has.{Has, here}
 use Rattle.cluster_world.specs.Answers.{log_after}
 use Rattle.cluster_world.specs.Laws.{IsPrefixOf, applied_behind}

@@ -4,7 +4,7 @@ use Rattle.paxos_packets.specs.declared.entry.Entry.{Entry}
 use Rattle.paxos_packets.specs.declared.transport.Transport.{Transport}
 use Rattle.replica_machine.specs.Replay.{Machine, said}
 use Rattle.paxos_node.specs.declared.event.Event.{Event}
-use Rattle.paxos_turn.specs.Node.{NodeState}
+use Rattle.paxos_planning.specs.Node.{NodeState}
 use Rattle.paxos_node.specs.Events.{outcome_of}
 use Rattle.cluster_world.specs.World.{node_at, played, log_of, handed}
 

@@ -17,14 +17,14 @@ use Rattle.paxos_proposer.specs.Proposer.{slot_end, next_vote, is_leading}
 use Rattle.paxos_proposer.specs.Reports.{is_counted, reports, called_for}
 use Rattle.paxos_node.specs.declared.event.Event.{Event}
 use Rattle.paxos_node.specs.declared.event.Event.TheVariants.{Take, Tick, Start, Suspect, Deliver, Crash, Restart}
-use Rattle.paxos_turn.specs.Node.{NodeState, Turn}
-use Rattle.paxos_turn.specs.Turn.{with_role, with_pending, begun, send, vote, count as count_at_end, hear_learned}
-use Rattle.paxos_turn.specs.Proposals.{offer, stands, forwarded}
-use Rattle.paxos_turn.specs.Replies.{saw, refuse, on_prepare, on_nack, told_from}
+use Rattle.paxos_planning.specs.Node.{NodeState, Turn}
+use Rattle.paxos_planning.specs.Turn.{with_role, with_pending, begun, send, vote, count as count_at_end, hear_learned}
+use Rattle.paxos_planning.specs.Proposals.{offer, stands, forwarded}
+use Rattle.paxos_planning.specs.Replies.{saw, refuse, on_prepare, on_nack, told_from}
 use Rattle.paxos_node.specs.Applying.{started, go_down, settle}
 use Rattle.paxos_node.specs.Events.{takes, with_item, has_room, new_lost, owner, outcome_of}
-use Rattle.paxos_turn.specs.Ticking.{again, ask}
-use Rattle.paxos_turn.specs.Starting.{on_start}
+use Rattle.paxos_planning.specs.Ticking.{again, ask}
+use Rattle.paxos_planning.specs.Starting.{on_start}
 use Rattle.cluster_world.specs.World.{node_at, played}
 use Rattle.cluster_world.specs.Steps.{may}
 

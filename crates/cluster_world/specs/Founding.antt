@@ -2,7 +2,7 @@
 use Rattle.std.specs.Prelude.{◌≡◌, ℕ, suc, false, Some, List, [], slice_get, length}
 use Rattle.paxos_packets.specs.declared.entry.Entry.{Entry}
 use Rattle.replica_machine.specs.Replay.{Machine}
-use Rattle.log_follower.specs.Following.{Followed}
+use Rattle.replica_follower.specs.Following.{Followed}
 use Rattle.cluster_world.specs.Members.{MemberState, nodes_of}
 use Rattle.cluster_world.specs.StandsAt.{Attends}
 use Rattle.cluster_world.specs.World.{founded, first_boots}

@@ -10,7 +10,7 @@ use Rattle.paxos_node.specs.declared.event.Event.{Event}
 use Rattle.paxos_node.specs.Events.{owner, possible, outcome_of}
 use Rattle.replica_machine.specs.Effects.{item_numbers}
 use Rattle.replica_machine.specs.Replay.{Machine, state, said}
-use Rattle.log_follower.specs.Following.{Followed}
+use Rattle.replica_follower.specs.Following.{Followed}
 use Rattle.cluster_world.specs.Answers.{IsPresent}
 use Rattle.cluster_world.specs.Chosen.{Chosen}
 use Rattle.cluster_world.specs.Has.{Has}

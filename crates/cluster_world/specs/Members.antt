@@ -5,10 +5,10 @@ use Rattle.paxos_packets.specs.declared.packet.Packet.{Packet}
 use Rattle.paxos_packets.specs.declared.transport.Transport.{Transport}
 use Rattle.paxos_node.specs.declared.event.Event.{Event}
 use Rattle.paxos_node.specs.Events.{outcome_of, made_by}
-use Rattle.paxos_turn.specs.Node.{NodeState}
+use Rattle.paxos_planning.specs.Node.{NodeState}
 use Rattle.replica_machine.specs.Replay.{Machine}
-use Rattle.log_follower.specs.Following.{Followed, Follows, Keeps, handed_to}
-use Rattle.log_follower.specs.Handed.{said_in}
+use Rattle.replica_follower.specs.Following.{Followed, Follows, Keeps, handed_to}
+use Rattle.replica_follower.specs.Handed.{said_in}
 use Rattle.cluster_world.specs.StandsAt.{Held, Attends}
 use Rattle.cluster_world.specs.World.{absent}
 

@@ -4,10 +4,10 @@ use Rattle.paxos_packets.specs.declared.entry.Entry.{Entry}
 use Rattle.paxos_packets.specs.declared.packet.Packet.{Packet}
 use Rattle.paxos_packets.specs.declared.transport.Transport.{Transport}
 use Rattle.paxos_node.specs.declared.event.Event.{Event}
-use Rattle.paxos_turn.specs.Node.{NodeState}
+use Rattle.paxos_planning.specs.Node.{NodeState}
 use Rattle.replica_machine.specs.Replay.{Machine}
-use Rattle.log_follower.specs.Following.{Followed, Follows, Keeps}
-use Rattle.log_follower.specs.Handed.{said_in}
+use Rattle.replica_follower.specs.Following.{Followed, Follows, Keeps}
+use Rattle.replica_follower.specs.Handed.{said_in}
 use Rattle.cluster_world.specs.Has.{Has}
 use Rattle.cluster_world.specs.Laws.{IsPrefixOf, applied_behind}
 use Rattle.cluster_world.specs.World.{Applied, World, node_at, played, handed}

@@ -3,7 +3,7 @@ use Rattle.std.specs.Prelude.{◌≡◌, ◌≢◌, List, []}
 use Rattle.std.specs.List.{flat_map}
 use Rattle.paxos_packets.specs.declared.transport.Transport.{Transport}
 use Rattle.replica_machine.specs.Replay.{Machine}
-use Rattle.log_follower.specs.Handed.{tellings, AreInOrder}
+use Rattle.replica_follower.specs.Handed.{tellings, AreInOrder}
 use Rattle.cluster_world.specs.Has.{Has}
 use Rattle.cluster_world.specs.Members.{MemberState}
 use Rattle.cluster_world.specs.World.{World, handed}

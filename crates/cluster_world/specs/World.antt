@@ -11,7 +11,7 @@ use Rattle.replica_machine.specs.Replay.{Machine, sayings_behind}
 use Rattle.paxos_packets.specs.Transport.{same_transport}
 use Rattle.paxos_node.specs.declared.event.Event.{Event}
 use Rattle.paxos_node.specs.declared.event.Event.TheVariants.{Take, Tick, Start, Suspect, Deliver, Crash, Restart}
-use Rattle.paxos_turn.specs.Node.{NodeState, Turn}
+use Rattle.paxos_planning.specs.Node.{NodeState, Turn}
 use Rattle.paxos_node.specs.Applying.{down, started, first_rows}
 use Rattle.paxos_packets.specs.Rows.{last_boot}
 use Rattle.paxos_node.specs.Events.{owner, possible, outcome_of, made_by}

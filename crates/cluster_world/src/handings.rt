@@ -2,11 +2,11 @@ ghost use Rattle.std.specs.Prelude.{◌≡◌, ◌<◌, Some, List, MatchOption,
 ghost use Rattle.std.specs.Iterator.{YieldsFirstBy, item_count};
 ghost use Rattle.cluster_world.specs.Members.{MemberState};
 ghost use Rattle.cluster_world.specs.Told.{tell_members};
-ghost use Rattle.log_follower.specs.Handed.{TellAll, tellings};
+ghost use Rattle.replica_follower.specs.Handed.{TellAll, tellings};
 
 use crate::member::Member;
-use log_follower::Tellings;
 use paxos_packets::Transport;
+use replica_follower::Tellings;
 use replica_machine::Machine;
 use std::marker::Model;
 

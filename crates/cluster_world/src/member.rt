@@ -9,24 +9,24 @@ ghost use Rattle.paxos_node.specs.Adopting.{adopted, Fits, Planned};
 ghost use Rattle.paxos_node.specs.Applying.{down, started, first_rows};
 ghost use Rattle.paxos_node.specs.Events.{owner, possible, outcome_of, made_by};
 ghost use Rattle.paxos_node.specs.Plans.{is_planned, plans};
-ghost use Rattle.paxos_turn.specs.Drafting.{listed};
+ghost use Rattle.paxos_planning.specs.Drafting.{listed};
 ghost use Rattle.replica_machine.specs.Log.{machine_from};
-ghost use Rattle.log_follower.specs.Following.{handed_to, Follows, Keeps, AgreesWith};
-ghost use Rattle.log_follower.specs.Handed.{said_in, tellings, TellAll};
-ghost use Rattle.world_seats.specs.Seated.{node_of, HasRoomIn, IsAtRest};
+ghost use Rattle.replica_follower.specs.Following.{handed_to, Follows, Keeps, AgreesWith};
+ghost use Rattle.replica_follower.specs.Handed.{said_in, tellings, TellAll};
+ghost use Rattle.world_nodes.specs.Seated.{node_of, HasRoomIn, IsAtRest};
 ghost use Rattle.cluster_world.specs.Members.{gone_on, FollowsOn, StaysBehind, FollowedSo, Moves, Unmoved, Happens, Rests};
 ghost use Rattle.cluster_world.specs.StandsAt.{Attends};
 ghost use Rattle.cluster_world.specs.Answers.{log_after};
 ghost use Rattle.cluster_world.specs.Laws.{IsPrefixOf};
 
-use log_follower::{Follower, Tellings};
 use paxos_node::{Event, Outcome};
 use paxos_packets::{Body, Entry, Members, Memory, Transport};
+use replica_follower::{Follower, Tellings};
 use replica_machine::Machine;
-use sent_packets::SentPackets;
 use std::alloc::Global;
 use std::marker::Model;
-use world_seats::Seat;
+use world_nodes::Seat;
+use world_packets::SentPackets;
 
 // The greatest boot.
 const LAST_BOOT: u64 = (1 << 48) - 1;
@@ -50,7 +50,7 @@ impl<M: Machine> Drop for Member<M> {
 
 impl<M: Machine> Model for Member<M> {
     ghost use Rattle.std.specs.Prelude.{◌≡◌};
-    ghost use Rattle.world_seats.specs.Seated.{node_of};
+    ghost use Rattle.world_nodes.specs.Seated.{node_of};
     ghost use Rattle.cluster_world.specs.Members.{MemberState};
 
     ghost Value = { MemberState M.Body M M.Say };

@@ -2,8 +2,8 @@ ghost use Rattle.std.specs.Prelude.{◌≡◌, ◌<◌, ◌≤◌, ◌++◌, ◌
 ghost use Rattle.paxos_node.specs.declared.event.Event as occurred;
 ghost use Rattle.paxos_node.specs.Events.{owner, possible, outcome_of};
 ghost use Rattle.replica_machine.specs.Log.{machine_from};
-ghost use Rattle.log_follower.specs.Following.{AgreesWith};
-ghost use Rattle.world_seats.specs.Seated.{IsAtRest};
+ghost use Rattle.replica_follower.specs.Following.{AgreesWith};
+ghost use Rattle.world_nodes.specs.Seated.{IsAtRest};
 ghost use Rattle.cluster_world.specs.Answers.{log_after};
 ghost use Rattle.cluster_world.specs.Laws.{IsPrefixOf};
 ghost use Rattle.cluster_world.specs.Members.{AreMembers, nodes_of, machines_of, held_of, GivenUpStay};
@@ -17,7 +17,7 @@ use crate::world::World;
 use paxos_node::Event;
 use paxos_packets::{Body, Entry, Members};
 use replica_machine::Machine;
-use sent_packets::SentPackets;
+use world_packets::SentPackets;
 
 impl<M: Machine> World<M> {
     /// Lets the events happen, in order. `Memory` comes with the index of the event for which there was none; the events before it were run, and

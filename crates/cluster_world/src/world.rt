@@ -13,9 +13,9 @@ use crate::handings::{Handings, all_tell};
 use crate::member::Member;
 use paxos_packets::{Entry, Members, Packet, Transport};
 use replica_machine::Machine;
-use sent_packets::SentPackets;
 use std::alloc::Global;
 use std::marker::Model;
+use world_packets::SentPackets;
 
 /// A whole cluster under any schedule: all nodes with their machines, and every packet that they ever sent.
 pub struct World<M: Machine> {

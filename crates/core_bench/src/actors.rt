@@ -2,10 +2,10 @@
 use crate::bodies::Numbers;
 use crate::cluster::{Cluster, Counts, Load, measure};
 use crate::fault::BenchFault;
-use acceptor_keeper::MemKeeper;
-use core_bodies::{Count, Number};
-use core_stands::{NODES, Plays, Source, Station, count_of, with_stations};
 use std::alloc::Global;
+use store_keeper::MemKeeper;
+use test_machines::{Count, Number};
+use test_stands::{NODES, Plays, Source, Station, count_of, with_stations};
 
 /// An actor that adds up, over a store in memory.
 pub type Adding<'a> = Station<'a, Count, MemKeeper<Number>>;

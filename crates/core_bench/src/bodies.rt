@@ -1,8 +1,8 @@
 // The bodies of acts: numbers, and a realm's acts, each a PUBLISH whose text has 200 octets.
 use crate::fault::BenchFault;
-use core_bodies::Number;
 use realm_acts::{Act, Id, Shared};
 use std::alloc::{AllocError, Global};
+use test_machines::Number;
 use wamp_messages::{Memory, read};
 
 // A PUBLISH whose text has 200 octets, but for its one argument.

@@ -1,9 +1,9 @@
 // What takes acts by windows: three nodes, or three actors.
 use crate::bodies::Source;
 use crate::fault::BenchFault;
-use core_stands::NODES;
 use std::alloc::Global;
 use std::time::Instant;
+use test_stands::NODES;
 
 // How often a node ticks at most until nothing of its own is pending: at most 1,024 entries are, and a tick forwards 64.
 const MOST_TICKS: u64 = 64;

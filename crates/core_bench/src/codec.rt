@@ -1,8 +1,8 @@
 // Acts as octets: putting one beside writing its message, taking one beside reading its text and writing it.
 use crate::bodies::{act_of, text_of};
 use crate::fault::BenchFault;
-use act_codec::{Act, ActCoder, Coder};
 use realm_acts::Read;
+use realm_codec::{Act, ActCoder, Coder};
 use std::alloc::Global;
 use std::time::Instant;
 use wamp_messages::{Message, read, write};

@@ -1,9 +1,9 @@
-use act_codec::CodecFault;
-use core_stands::Missed;
 use paxos_node::NodeFault;
+use realm_codec::CodecFault;
 use replica_machine::{Failed, LearnFault};
 use std::alloc::{AllocError, AllocFailed};
 use std::io;
+use test_stands::Missed;
 use thiserror::Error;
 use wamp_messages::Memory;
 

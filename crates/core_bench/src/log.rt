@@ -1,10 +1,10 @@
 // The applied log: what learning and applying an entry takes, behind a gap of one slot and of many.
 use crate::cluster::Load;
 use crate::fault::BenchFault;
-use core_bodies::{Count, Number};
-use core_stands::close_log;
 use replica_machine::{AppliedLog, Entry, Slot};
 use std::time::Instant;
+use test_machines::{Count, Number};
+use test_stands::close_log;
 
 // The entry of a slot: the Boot of node 1, then its Items in their order.
 fn entry_of(slot: u64) -> Entry<Number> {

@@ -2,10 +2,10 @@
 use crate::bodies::{Acts, Numbers, Source, text_of};
 use crate::cluster::{Cluster, Counts, Load, measure};
 use crate::fault::BenchFault;
-use core_bodies::Number;
-use core_stands::{Nodes, Passes, with_nodes};
 use paxos_packets::Body;
 use realm_acts::Act;
+use test_machines::Number;
+use test_stands::{Nodes, Passes, with_nodes};
 
 // The nodes, which belong to the stand.
 #[derive(Drop)]

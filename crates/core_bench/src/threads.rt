@@ -2,16 +2,16 @@
 use crate::actors::{Adding, Fresh};
 use crate::cluster::Load;
 use crate::fault::BenchFault;
-use acceptor_keeper::MemKeeper;
 use actor_run::{Feed, Gate, Seen};
-use core_bodies::{Count, Number};
-use core_stands::{NODES, Plays, with_stations};
 use paxos_node::Event;
 use paxos_packets::Transport;
 use std::sync::atomic::{AtomicBool, Ordering};
 use std::thread;
 use std::thread::Threads;
 use std::time::Instant;
+use store_keeper::MemKeeper;
+use test_machines::{Count, Number};
+use test_stands::{NODES, Plays, with_stations};
 
 // After how many turns in which nothing came a node ticks, in a row or not, and after how many its thread gives way each time, so that each
 // node comes to its turns where processors are wanting.

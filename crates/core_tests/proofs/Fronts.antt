@@ -7,7 +7,7 @@ use Rattle.std.proofs.Math.Seq.{take-append-add, drop-append_seam}
 use Rattle.std.proofs.Math.Nat.{min-le_left}
 use Rattle.paxos_packets.specs.declared.entry.Entry.{Entry}
 use Rattle.replica_machine.specs.Log.{Begins}
-use Rattle.log_follower.specs.Following.{AgreesWith}
+use Rattle.replica_follower.specs.Following.{AgreesWith}
 
 module _ {B : Type 0} (log all : List (Entry B)) (from n : ℕ) where
   abbrev left : List (Entry B)

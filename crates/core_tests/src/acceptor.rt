@@ -1,10 +1,10 @@
 use crate::check::Check;
-use core_bodies::Number;
 use paxos_acceptor::{Acceptor, Answer, Memory, Verdict, laws};
 use paxos_packets::{Ballot, Body, Change, Entries, Entry, Kind, Packet, Rows, Slot, Vote, Votes};
 use std::alloc::Global;
 use std::process::Abort;
 use test_checks::{check, check_eq};
+use test_machines::Number;
 
 fn vote_for<B: Body>(rt: &impl Abort, alloc: Global, ballot: Ballot, entry: &Entry<B>) -> Vote<B> {
     Vote {

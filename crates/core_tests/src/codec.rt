@@ -1,9 +1,9 @@
 use crate::check::Check;
 use command_codec::{Entry, put_entry, take_entry};
-use core_bodies::{Number, Octet};
 use std::alloc::Global;
 use std::process::Abort;
 use test_checks::{check, check_eq};
+use test_machines::{Number, Octet};
 
 fn spelled(rt: &impl Abort, alloc: Global, entry: &Entry<Number>) -> Vec<u8> {
     let mut out = Vec::new(alloc);

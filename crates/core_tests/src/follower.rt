@@ -1,11 +1,11 @@
 use crate::check::Check;
-use core_bodies::{Count, Foretells, Number, Refuses};
-use log_follower::{Follower, Transport};
+use replica_follower::{Follower, Transport};
 use replica_machine::{Entry, Machine};
 use std::alloc::Global;
 use std::marker::Model;
 use std::process::Abort;
 use test_checks::check_eq;
+use test_machines::{Count, Foretells, Number, Refuses};
 
 // A node that passes pieces of one log, behind a front of it.
 #[derive(Drop)]

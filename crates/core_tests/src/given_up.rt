@@ -4,10 +4,10 @@ use crate::packet_rows::{FIRST, LOG, PACKETS, SECOND};
 use crate::schedule::SESSION;
 use crate::worlds::{has_log, has_sent, run_rows, turn, world_of};
 use cluster_world::World;
-use core_bodies::Refuses;
 use std::alloc::Global;
 use std::process::Abort;
 use test_checks::{check, check_eq};
+use test_machines::Refuses;
 
 fn refusing(rt: &impl Abort, alloc: Global) -> World<Refuses> {
     world_of(

@@ -4,10 +4,10 @@ use crate::schedule::Turn;
 use crate::session::counts;
 use crate::worlds::{Told, flush, hands_out, turn};
 use cluster_world::World;
-use core_bodies::Count;
 use std::alloc::Global;
 use std::process::Abort;
 use test_checks::check;
+use test_machines::Count;
 
 // Acts of transports of three nodes; each is delivered to its end before the next.
 const ACTS: &[Turn] = &[

@@ -1,10 +1,10 @@
 use crate::check::Check;
-use core_bodies::Number;
 use paxos_learner::{Hearing, Learner, News};
 use paxos_packets::{Ballot, Body, Entry, Members, Slot, Vote};
 use std::alloc::Global;
 use std::process::Abort;
 use test_checks::{check, check_eq};
+use test_machines::Number;
 
 const FIRST: Ballot = Ballot { round: 1, node: 1 };
 

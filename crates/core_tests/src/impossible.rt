@@ -4,10 +4,10 @@ use crate::schedule::{SESSION, Turn};
 use crate::session::{counts, goes, is_behind};
 use crate::worlds::{shown, turn};
 use cluster_world::World;
-use core_bodies::Count;
 use std::alloc::Global;
 use std::process::Abort;
 use test_checks::check;
+use test_machines::Count;
 
 // Of nodes that are up, and of what is no member.
 const UP: &[Turn] = &[

@@ -1,10 +1,10 @@
 use crate::check::Check;
-use acceptor_keeper::{Keeper, KeeperFault, MemKeeper};
-use core_bodies::Number;
 use paxos_packets::{Ballot, Change, Entry, Rows, Slot, Vote, Votes};
 use std::alloc::Global;
 use std::process::Abort;
+use store_keeper::{Keeper, KeeperFault, MemKeeper};
 use test_checks::{check, check_eq};
+use test_machines::Number;
 
 // What a keeper answered: its fault's number or 0, the boot number, the round promised, and the rounds of the votes in slots 1 to 3,
 // each 0 where there is none.

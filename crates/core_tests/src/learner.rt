@@ -2,12 +2,12 @@ ghost use Rattle.std.specs.Prelude.{◌≡◌, ◌<◌, true, IsTrue};
 ghost use Rattle.paxos_learner.specs.Learner.{has_room_at};
 
 use crate::check::Check;
-use core_bodies::Number;
 use paxos_learner::{Learner, LearnerFault};
 use paxos_packets::{Ballot, Body, Entry, Members, Slot, Vote};
 use std::alloc::Global;
 use std::process::Abort;
 use test_checks::{check, check_eq};
+use test_machines::Number;
 
 // The Boot of this node, and a Noop for 0.
 fn entry(node: u8) -> Entry<Number> {

@@ -1,8 +1,8 @@
 use crate::check::Check;
-use core_bodies::{Count, Number, Refuses};
 use replica_machine::{AppliedLog, Entry, LearnFault, Machine, Roll, Slot};
 use std::process::Abort;
 use test_checks::{check, check_eq};
+use test_machines::{Count, Number, Refuses};
 
 // The Boot of node 1, or its Item with this number, which holds ten times the number.
 fn entry(seq: u32) -> Entry<Number> {

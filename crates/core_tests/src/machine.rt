@@ -1,11 +1,11 @@
 ghost use Rattle.std.specs.Prelude.{◌≡◌, OnOk, fold};
 
 use crate::check::Check;
-use core_bodies::{Count, Number};
 use paxos_packets::Transport;
 use replica_machine::{Failed, Input, Machine};
 use std::process::Abort;
 use test_checks::check_eq;
+use test_machines::{Count, Number};
 
 // Applies inputs in order: from the trait alone, a machine folds `next` over them.
 fn follow<M: Machine>(machine: &mut M, inputs: &[Input<M::Body>]) -> Result<(), Failed>

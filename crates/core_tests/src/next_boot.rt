@@ -4,10 +4,10 @@ use crate::packet_rows::{FIRST, FIVE, Held, SECOND, SIX};
 use crate::schedule::{SESSION, Turn};
 use crate::worlds::{Told, flush, hands_out, has_log, run_rows, turn, was_told, world_of};
 use cluster_world::World;
-use core_bodies::Foretells;
 use std::alloc::Global;
 use std::process::Abort;
 use test_checks::{check, check_eq};
+use test_machines::Foretells;
 
 // Three nodes with such machines.
 fn foretelling(rt: &impl Abort, alloc: Global) -> World<Foretells> {

@@ -1,10 +1,10 @@
 use crate::check::Check;
-use core_bodies::Number;
 use paxos_node::{Node, NodeFault};
 use paxos_packets::{Ballot, Members, Rows, Votes};
 use std::alloc::Global;
 use std::process::Abort;
 use test_checks::{check, check_eq};
+use test_machines::Number;
 
 const PROMISED: Ballot = Ballot { round: 4, node: 2 };
 

@@ -1,5 +1,5 @@
 use crate::check::Check;
-use packet_outboxes::Outboxes;
+use actor_outboxes::Outboxes;
 use paxos_packets::{Kind, Members, Packet};
 use std::alloc::Global;
 use std::process::Abort;

@@ -1,9 +1,9 @@
 // Packets and entries as rows of words and numbers, and those of one session through three nodes.
-use core_bodies::Number;
 use paxos_packets::{Ballot, Body, Entries, Entry, Kind, Packet, Slot, Vote, Votes};
 use std::alloc::Global;
 use std::panic::Expect;
 use std::process::Abort;
+use test_machines::Number;
 
 // An entry: its word, its node, its boot, and an Item's number, transport and body.
 pub type Held = (&'static str, u8, u64, u64, u32, u32);

@@ -3,7 +3,6 @@ ghost use Rattle.std.specs.Cmp.Lexicographic.{pointwise, bytes_decides};
 
 use crate::check::Check;
 use crate::votes::{item, slot, vote, votes_of};
-use core_bodies::Number;
 use paxos_packets::{
     Ballot, Body, Change, Entries, Entry, Kind, Members, Memory, NodeSet, Packet, Rows, Shared,
     Slot, Votes, laws,
@@ -12,6 +11,7 @@ use std::alloc::Global;
 use std::marker::Model;
 use std::process::Abort;
 use test_checks::{check, check_eq};
+use test_machines::Number;
 
 // A body with memory of its own.
 #[derive(Drop)]

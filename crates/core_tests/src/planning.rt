@@ -1,10 +1,10 @@
 use crate::check::Check;
-use core_bodies::Number;
 use paxos_node::{Event, Node, NodeFault, Packets};
 use paxos_packets::{Ballot, Body, Entries, Entry, Kind, Members, Packet, Rows, Slot, Vote, Votes};
 use std::alloc::Global;
 use std::process::Abort;
 use test_checks::check;
+use test_machines::Number;
 
 // A word and its numbers. Of an event: the node that it is of, or the sender of what is delivered; of a packet: the node that it is for.
 // Then a ballot, a slot (or the first that is asked for), and an entry.

@@ -1,10 +1,10 @@
 use crate::check::Check;
-use core_bodies::Number;
 use paxos_packets::{Ballot, Body, Entries, Entry, Members, Slot, Vote, Votes};
 use paxos_proposer::{Move, Proposer, ProposerFault};
 use std::alloc::Global;
 use std::process::Abort;
 use test_checks::{check, check_eq};
+use test_machines::Number;
 
 // A vote that a promise reports: for the Boot of this node, in the slot and the ballot.
 #[derive(Clone, Copy)]

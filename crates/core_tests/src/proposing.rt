@@ -1,12 +1,12 @@
 ghost use Rattle.paxos_proposer.specs.Moves.{ArePossible};
 
 use crate::check::Check;
-use core_bodies::Number;
 use paxos_packets::{Ballot, Entry, Members, Votes};
 use paxos_proposer::{Move, Proposer, Proposing};
 use std::alloc::Global;
 use std::process::Abort;
 use test_checks::check;
+use test_machines::Number;
 
 const FIRST: Ballot = Ballot { round: 1, node: 1 };
 

@@ -1,10 +1,10 @@
 // Events as rows of words and numbers, and those of one session through three nodes.
 use crate::packet_rows::{Mail, PACKETS, packet_of};
-use core_bodies::Number;
 use paxos_node::Event;
 use std::alloc::Global;
 use std::panic::Expect;
 use std::process::Abort;
+use test_machines::Number;
 
 // An event: its word, its node or the number of the packet of the session that is delivered, and an act's transport and body, or the other node.
 pub type Turn = (&'static str, u8, u32, u32);

@@ -1,11 +1,11 @@
 use crate::check::Check;
 use crate::packets::{kinds, packet_of};
-use core_bodies::Number;
 use paxos_packets::{Body, Kind, Packet};
-use sent_packets::SentPackets;
 use std::alloc::Global;
 use std::process::Abort;
 use test_checks::check_eq;
+use test_machines::Number;
+use world_packets::SentPackets;
 
 fn push_copy<B: Body>(
     rt: &impl Abort,

@@ -6,13 +6,13 @@ use crate::worlds::{
     Told, deliver, hands_out, happens, has_log, has_sent, run_rows, shown, turn, was_told, world_of,
 };
 use cluster_world::{Memory, World};
-use core_bodies::{Count, Number};
 use paxos_node::Event;
 use paxos_packets::Transport;
 use replica_machine::Machine;
 use std::alloc::Global;
 use std::process::Abort;
 use test_checks::{check, check_eq};
+use test_machines::{Count, Number};
 
 // Three nodes whose machines add up.
 pub fn counts(rt: &impl Abort, alloc: Global) -> World<Count> {

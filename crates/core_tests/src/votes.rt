@@ -1,10 +1,10 @@
 // Votes of numbers that are put, found and copied; rows are a slot, a round and the number that the Item holds.
 use crate::check::Check;
-use core_bodies::Number;
 use paxos_packets::{Ballot, Body, Entry, KeptVotes, Slot, Vote, Votes};
 use std::alloc::Global;
 use std::process::Abort;
 use test_checks::{check, check_eq};
+use test_machines::Number;
 
 pub fn item<B: Drop>(body: B) -> Entry<B> {
     Entry::Item {

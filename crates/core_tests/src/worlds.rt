@@ -4,13 +4,13 @@ ghost use Rattle.std.specs.Prelude.{◌≡◌, false};
 use crate::packet_rows::{Held, Mail, is_log, is_mail};
 use crate::schedule::{Turn, event_of, events_of};
 use cluster_world::World;
-use core_bodies::Number;
 use paxos_node::Event;
 use paxos_packets::{Body, Members, Packet, Transport};
 use replica_machine::Machine;
 use std::alloc::Global;
 use std::panic::Expect;
 use std::process::Abort;
+use test_machines::Number;
 
 // The first world of three nodes with these machines.
 pub fn world_of<M: Machine>(rt: &impl Abort, alloc: Global, one: M, two: M, three: M) -> World<M>

@@ -3,7 +3,7 @@ use crate::check::Check;
 use bytes::Bytes;
 use client_listener::{FromClient, ToClient};
 use rtrb::{Consumer, Producer, RingBuffer};
-use serve_lanes::{Arrival, Line, REQUESTS_WAITING, SAYINGS_WAITING};
+use serve_connections::{Arrival, Line, REQUESTS_WAITING, SAYINGS_WAITING};
 use std::alloc::Global;
 use std::io::Read;
 use std::net::{Net, TcpListener, TcpStream};

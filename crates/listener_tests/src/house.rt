@@ -6,7 +6,7 @@ use crate::writing::{hand, message_of};
 use bytes::Bytes;
 use client_listener::ToClient;
 use rtrb::{Consumer, Producer, RingBuffer};
-use serve_lanes::{Arrival, Door, Lobby, keep_door};
+use serve_connections::{Arrival, Door, Lobby, keep_door};
 use std::alloc::{AllocError, Global};
 use std::io::{Read, Write};
 use std::net::{Net, SocketAddr, TcpListener, TcpStream};

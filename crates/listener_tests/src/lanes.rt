@@ -1,7 +1,7 @@
 // What a porter does for its connections, from the handshake to the end.
 use crate::check::Check;
 use crate::house::{House, comes, hand_close, hand_message, hand_pong, reads, reads_the_end};
-use serve_lanes::{Arrival, REQUESTS_WAITING};
+use serve_connections::{Arrival, REQUESTS_WAITING};
 use std::alloc::Global;
 use std::io::Write;
 use std::net::{Shutdown, TcpStream};

@@ -23,7 +23,7 @@ use Rattle.paxos_packets.specs.Members.{IsMember}
 use Rattle.paxos_packets.specs.declared.entry.Entry.{Entry}
 use Rattle.paxos_packets.specs.declared.packet.Packet.{Packet}
 use Rattle.paxos_packets.specs.declared.rows.Rows.{Rows}
-use Rattle.paxos_turn.specs.Node.{NodeState}
+use Rattle.paxos_planning.specs.Node.{NodeState}
 use Rattle.mail_table.proofs.Covering.{shown}
 use Rattle.mail_table.proofs.Moving.{behind_has}
 use Rattle.mail_table.proofs.Parcels.{box_ahead}

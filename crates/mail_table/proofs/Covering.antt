@@ -20,7 +20,7 @@ use Rattle.paxos_packets.specs.Members.{IsMember}
 use Rattle.paxos_packets.specs.Rows.{last_boot, raised}
 use Rattle.paxos_packets.specs.declared.packet.Packet.{Packet}
 use Rattle.paxos_packets.specs.declared.rows.Rows.{Rows}
-use Rattle.paxos_turn.specs.Node.{NodeState}
+use Rattle.paxos_planning.specs.Node.{NodeState}
 use Rattle.mail_table.proofs.Places.{at_mine, at_other, at_both}
 use Rattle.mail_table.specs.Covered.{Stands, Agreed, Shows, Matches, Covers, Covered, Fed, MayRenew, with_at, with_boot}
 use Rattle.mail_table.specs.Views.{opened_with, reopened}

@@ -20,7 +20,7 @@ use Rattle.paxos_packets.specs.Body.{IsEquality}
 use Rattle.paxos_packets.specs.Members.{IsMember}
 use Rattle.paxos_packets.specs.declared.packet.Packet.{Packet}
 use Rattle.paxos_packets.specs.declared.rows.Rows.{Rows}
-use Rattle.paxos_turn.specs.Node.{NodeState}
+use Rattle.paxos_planning.specs.Node.{NodeState}
 use Rattle.mail_table.proofs.Covering.{covered_advance, covered_renewed}
 use Rattle.mail_table.proofs.Going.{Sends, Takes, Owed, goes, mine, box_taken}
 use Rattle.mail_table.proofs.Parcels.{box_ahead}

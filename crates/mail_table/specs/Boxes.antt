@@ -9,7 +9,7 @@ use Rattle.atomic_table.specs.Table.{State, Step, Me}
 use Rattle.paxos_packets.specs.Members.{IsMember}
 use Rattle.paxos_packets.specs.declared.packet.Packet.{Packet}
 use Rattle.paxos_packets.specs.declared.rows.Rows.{Rows}
-use Rattle.paxos_turn.specs.Node.{NodeState}
+use Rattle.paxos_planning.specs.Node.{NodeState}
 use Rattle.paxos_node.specs.Adopting.{Planned, adopted}
 use Rattle.paxos_node.specs.Events.{owner, possible}
 use Rattle.paxos_node.specs.declared.event.Event.{Event}

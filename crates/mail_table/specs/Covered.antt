@@ -4,7 +4,7 @@ use Rattle.paxos_packets.specs.Members.{IsMember}
 use Rattle.paxos_packets.specs.Rows.{last_boot, raised}
 use Rattle.paxos_packets.specs.declared.packet.Packet.{Packet}
 use Rattle.paxos_packets.specs.declared.rows.Rows.{Rows}
-use Rattle.paxos_turn.specs.Node.{NodeState}
+use Rattle.paxos_planning.specs.Node.{NodeState}
 use Rattle.paxos_node.specs.Applying.{down, started, first_rows}
 use Rattle.paxos_node.specs.View.{Viewed}
 use Rattle.paxos_node.specs.declared.event.Event.{Event}

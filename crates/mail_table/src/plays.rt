@@ -68,7 +68,7 @@ impl<B> Play<Option<Packet<B>>, View<B>> for Clear {
 pub(crate) trait Telling<B> {
     ghost use Rattle.std.specs.Prelude.{List};
     ghost use Rattle.paxos_packets.specs.declared.packet.Packet.{Packet};
-    ghost use Rattle.paxos_turn.specs.Node.{NodeState};
+    ghost use Rattle.paxos_planning.specs.Node.{NodeState};
 
     ghost node: { NodeState B };
 

@@ -3,7 +3,7 @@ use Rattle.std.proofs.Common.{◌≡◌, ℕ, Bool, true, false, Option, None, S
 use Rattle.std.specs.Prelude.{All, Contains}
 use Rattle.std.proofs.lemmas.List.Elements.{All-nil}
 use Rattle.paxos_packets.specs.declared.rows.Rows.{Rows}
-use Rattle.packet_outboxes.specs.Outboxes.{Waiting, waiting}
+use Rattle.actor_outboxes.specs.Outboxes.{Waiting, waiting}
 use Rattle.replica_machine.specs.Log.{Follows}
 use Rattle.replica_machine.specs.Replay.{Machine}
 use Rattle.paxos_node.specs.Applying.{started}

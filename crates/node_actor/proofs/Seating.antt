@@ -10,7 +10,7 @@ use Rattle.std.specs.declared.alloc.Global.{Global}
 use Rattle.paxos_packets.specs.declared.packet.Packet.{Packet}
 use Rattle.paxos_packets.specs.declared.rows.Rows.{Rows}
 use Rattle.replica_machine.specs.Replay.{Machine}
-use Rattle.packet_outboxes.specs.Outboxes.{most_waiting, waiting, to, IsPeer, WaitBehind}
+use Rattle.actor_outboxes.specs.Outboxes.{most_waiting, waiting, to, IsPeer, WaitBehind}
 use Rattle.paxos_node.specs.Adopting.{adopted}
 use Rattle.paxos_node.specs.declared.outcome.Outcome.{Outcome}
 use Rattle.mail_table.specs.Boxes.{Follows}

@@ -8,7 +8,7 @@ use Rattle.cluster_world.specs.Has.{Has, here, there}
 use Rattle.paxos_packets.specs.Members.{IsMember}
 use Rattle.paxos_packets.specs.declared.packet.Packet.{Packet}
 use Rattle.paxos_packets.specs.declared.rows.Rows.{Rows}
-use Rattle.packet_outboxes.specs.Outboxes.{IsPeer, waiting, TakenFor, WaitsFirst}
+use Rattle.actor_outboxes.specs.Outboxes.{IsPeer, waiting, TakenFor, WaitsFirst}
 use Rattle.actor_parts.specs.Parts.{Parted, IsSound}
 use Rattle.actor_parts.specs.Steps.{OnlyWaiting}
 use Rattle.mail_table.specs.Seats.{Seated, knows}

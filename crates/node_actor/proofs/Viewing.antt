@@ -12,11 +12,11 @@ use Rattle.paxos_packets.specs.declared.packet.Packet.{Packet}
 use Rattle.paxos_packets.specs.declared.rows.Rows.{Rows}
 use Rattle.paxos_acceptor.specs.Acceptor as accepting
 use Rattle.replica_machine.specs.Replay.{Machine}
-use Rattle.packet_outboxes.specs.Outboxes.{most_waiting, waiting, to, IsPeer, HasLimits}
+use Rattle.actor_outboxes.specs.Outboxes.{most_waiting, waiting, to, IsPeer, HasLimits}
 use Rattle.paxos_node.specs.declared.event.Event.{Event}
 use Rattle.paxos_node.specs.declared.event.Event.TheVariants.{Take, Tick, Start, Suspect, Deliver, Crash, Restart}
 use Rattle.paxos_node.specs.declared.outcome.Outcome.{Outcome}
-use Rattle.paxos_turn.specs.Node.{NodeState, Turn}
+use Rattle.paxos_planning.specs.Node.{NodeState, Turn}
 use Rattle.paxos_node.specs.Adopting.{adopted, Fits, Planned}
 use Rattle.paxos_node.specs.Events.{owner, possible, outcome_of, is_round_refused, is_full_refused}
 use Rattle.paxos_node.specs.Plans.{plans, is_planned, Answers}

@@ -2,7 +2,7 @@
 use Rattle.std.specs.Prelude.{◌≡◌, ℕ, Bool, Option, Some, All, Contains}
 use Rattle.paxos_packets.specs.declared.rows.Rows.{Rows}
 use Rattle.replica_machine.specs.Log.{LogState}
-use Rattle.packet_outboxes.specs.Outboxes.{Waiting, waiting, IsPeer}
+use Rattle.actor_outboxes.specs.Outboxes.{Waiting, waiting, IsPeer}
 use Rattle.paxos_node.specs.Held.{Held}
 use Rattle.paxos_node.specs.declared.outcome.Outcome.{Outcome}
 use Rattle.paxos_node.specs.declared.view.Opened.TheVariants.{With}

@@ -6,15 +6,15 @@ use Rattle.std.specs.declared.vec.Vec.{Vec}
 use Rattle.std.specs.declared.alloc.Global.{Global}
 use Rattle.paxos_packets.specs.declared.packet.Packet.{Packet}
 use Rattle.paxos_packets.specs.declared.rows.Rows.{Rows}
-use Rattle.acceptor_keeper.specs.declared.fault.KeeperFault.{KeeperFault}
-use Rattle.acceptor_keeper.specs.declared.fault.KeeperFault.TheVariants as store
+use Rattle.store_keeper.specs.declared.fault.KeeperFault.{KeeperFault}
+use Rattle.store_keeper.specs.declared.fault.KeeperFault.TheVariants as store
 use Rattle.replica_machine.specs.Log.{Follows}
 use Rattle.replica_machine.specs.Replay.{Machine}
-use Rattle.packet_outboxes.specs.Outboxes.{IsPeer}
+use Rattle.actor_outboxes.specs.Outboxes.{IsPeer}
 use Rattle.paxos_node.specs.declared.event.Event.{Event}
 use Rattle.paxos_node.specs.declared.event.Event.TheVariants.{Take, Tick, Start, Suspect, Deliver, Crash, Restart}
 use Rattle.paxos_node.specs.Events.{outcome_of, is_round_refused, is_full_refused}
-use Rattle.paxos_turn.specs.Node.{NodeState}
+use Rattle.paxos_planning.specs.Node.{NodeState}
 use Rattle.actor_parts.specs.declared.fault.ActorFault.{ActorFault}
 use Rattle.actor_parts.specs.declared.fault.ActorFault.TheVariants.{Failed, Rounds, Full, Keeper, Disagree, LostHere, Worn, Memory}
 use Rattle.node_actor.specs.Actor.{Acting}

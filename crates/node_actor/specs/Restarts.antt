@@ -1,7 +1,7 @@
 -- An actor begins, and goes on from what is left of one (docs/CONSENSUS.md, "A node with its store").
 use Rattle.std.specs.Prelude.{◌≡◌, ℕ, Bool, false, List, []}
 use Rattle.paxos_packets.specs.declared.rows.Rows.{Rows}
-use Rattle.packet_outboxes.specs.Outboxes.{waiting}
+use Rattle.actor_outboxes.specs.Outboxes.{waiting}
 use Rattle.replica_machine.specs.Log.{Follows}
 use Rattle.replica_machine.specs.Replay.{Machine}
 use Rattle.paxos_node.specs.Applying.{started}

@@ -3,10 +3,10 @@ use Rattle.std.specs.Prelude.{◌≡◌, ◌⊎◌, ℕ, nat_lt, ◌^◌, Bool, 
 use Rattle.std.specs.declared.vec.Vec.{Vec}
 use Rattle.std.specs.declared.alloc.Global.{Global}
 use Rattle.paxos_packets.specs.declared.rows.Rows.{Rows}
-use Rattle.acceptor_keeper.specs.declared.fault.KeeperFault.{KeeperFault}
+use Rattle.store_keeper.specs.declared.fault.KeeperFault.{KeeperFault}
 use Rattle.replica_machine.specs.Log.{Follows}
 use Rattle.replica_machine.specs.Replay.{Machine}
-use Rattle.packet_outboxes.specs.Outboxes.{WaitBehind}
+use Rattle.actor_outboxes.specs.Outboxes.{WaitBehind}
 use Rattle.paxos_node.specs.declared.outcome.Outcome.{Outcome}
 use Rattle.actor_parts.specs.declared.fault.ActorFault.{ActorFault}
 use Rattle.actor_parts.specs.declared.fault.ActorFault.TheVariants.{Failed, Rounds, Full, Keeper, Disagree, LostHere, Worn, Memory}

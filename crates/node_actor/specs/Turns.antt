@@ -9,7 +9,7 @@ use Rattle.cluster_world.specs.Has.{Has}
 use Rattle.paxos_packets.specs.Members.{IsMember}
 use Rattle.paxos_packets.specs.declared.packet.Packet.{Packet}
 use Rattle.paxos_packets.specs.declared.rows.Rows.{Rows}
-use Rattle.packet_outboxes.specs.Outboxes.{IsPeer, waiting}
+use Rattle.actor_outboxes.specs.Outboxes.{IsPeer, waiting}
 use Rattle.paxos_node.specs.declared.event.Event.{Event}
 use Rattle.replica_machine.specs.Replay.{Machine}
 use Rattle.actor_parts.specs.declared.fault.ActorFault.{ActorFault}

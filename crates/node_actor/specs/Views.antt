@@ -3,11 +3,11 @@ use Rattle.std.specs.Prelude.{◌≡◌, ℕ, Bool, ◌==◌, ◌&&◌, not, Opt
 use Rattle.circular_buffer.specs.Buffer.{keep_last}
 use Rattle.paxos_packets.specs.Members.{is_member}
 use Rattle.paxos_packets.specs.declared.packet.Packet.{Packet}
-use Rattle.packet_outboxes.specs.Outboxes.{most_waiting, waiting, to, IsPeer}
+use Rattle.actor_outboxes.specs.Outboxes.{most_waiting, waiting, to, IsPeer}
 use Rattle.paxos_node.specs.declared.event.Event.{Event}
 use Rattle.paxos_node.specs.declared.event.Event.TheVariants.{Take, Tick, Start, Suspect, Deliver, Crash, Restart}
 use Rattle.paxos_node.specs.Events.{outcome_of}
-use Rattle.paxos_turn.specs.Node.{NodeState}
+use Rattle.paxos_planning.specs.Node.{NodeState}
 use Rattle.paxos_node.specs.View.{Viewed, moved}
 use Rattle.mail_table.specs.Seats.{Seated}
 use Rattle.mail_table.specs.Views.{box_of, through}

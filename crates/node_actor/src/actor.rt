@@ -5,7 +5,7 @@ ghost use Rattle.replica_machine.specs.Log.{machine_from, Follows};
 ghost use Rattle.actor_parts.specs.declared.fault.ActorFault.TheVariants.{Failed};
 ghost use Rattle.actor_parts.specs.Parts.{IsPrefixOf, IsSound};
 ghost use Rattle.actor_posts.specs.Posts.{LeftOf};
-ghost use Rattle.packet_outboxes.specs.Outboxes.{waiting};
+ghost use Rattle.actor_outboxes.specs.Outboxes.{waiting};
 ghost use Rattle.mail_table.specs.Seats.{Owns};
 ghost use Rattle.node_actor.specs.Actor.{acting, IsSeated};
 ghost use Rattle.node_actor.specs.Calls.{Acts, Rests, is_own, take_event};
@@ -15,7 +15,6 @@ ghost use Rattle.node_actor.specs.Views.{View, seen, StandsFor};
 use crate::event::{event as make_event, pass};
 use crate::heard::Heard;
 use crate::turning::{Round, turn};
-use acceptor_keeper::Keeper;
 use actor_parts::{ActorFault, Parts};
 use actor_posts::Post;
 use mail_table::{Mail, NodeSeat};
@@ -23,6 +22,7 @@ use paxos_node::Event;
 use paxos_packets::{Ballot, Entry, NodeSet};
 use replica_machine::{AppliedLog, Machine};
 use std::marker::Model;
+use store_keeper::Keeper;
 
 /// One node as it really runs: the node, its store, the machine behind its log, the packets that wait to be posted, and its seat at the
 /// table. Each event is committed before anything of it is seen.

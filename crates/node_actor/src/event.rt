@@ -15,12 +15,12 @@ ghost use Rattle.node_actor.specs.Steps.{CarriesOut, may_advance};
 ghost use Rattle.node_actor.specs.Turns.{Reaches, StaysAt};
 ghost use Rattle.node_actor.specs.Views.{View, is_for};
 
-use acceptor_keeper::Keeper;
 use actor_parts::{ActorFault, Parts};
 use mail_table::{Mail, NodeSeat};
 use paxos_node::{Event, NodeFault, Outcome};
 use paxos_packets::{Body, Packet};
 use replica_machine::Machine;
+use store_keeper::Keeper;
 
 // The event of this node is planned and carried out, unless it is refused.
 pub(crate) fn event<M: Machine, K: Keeper<M::Body>>(

@@ -11,7 +11,6 @@ mod posting;
 mod restart;
 mod turning;
 
-pub use acceptor_keeper::{Keeper, KeeperFault};
 pub use actor::Actor;
 pub use actor_parts::ActorFault;
 pub use actor_posts::Post;
@@ -20,3 +19,4 @@ pub use mail_table::{Mail, NodeSeat};
 pub use paxos_node::{Event, Outcome};
 pub use paxos_packets::{Ballot, Body, Entry, Members, Packet, Rows};
 pub use replica_machine::{AppliedLog, Machine};
+pub use store_keeper::{Keeper, KeeperFault};

@@ -8,11 +8,11 @@ ghost use Rattle.mail_table.specs.Views.{box_of, posting, lost};
 ghost use Rattle.node_actor.specs.Actor.{acting, IsSeated};
 ghost use Rattle.node_actor.specs.Turns.{PostsAlone, PostsOne};
 
-use acceptor_keeper::Keeper;
 use actor_parts::Parts;
 use mail_table::{Mail, NodeSeat};
 use paxos_packets::{Body, NodeSet, Packet};
 use replica_machine::Machine;
+use store_keeper::Keeper;
 
 // For each peer for which packets are due, one try to post the oldest; the peers to which one was posted.
 pub(crate) fn post_all<M: Machine, K: Keeper<M::Body>>(

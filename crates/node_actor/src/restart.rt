@@ -10,13 +10,13 @@ ghost use Rattle.node_actor.specs.Restarts.{Opens, OpensFirst, Resumes, Shuts};
 ghost use Rattle.node_actor.specs.Views.{View};
 
 use crate::actor::Actor;
-use acceptor_keeper::{Keeper, KeeperFault};
 use actor_parts::{ActorFault, Parts};
 use actor_posts::{Begun, Post, begin};
 use mail_table::{Mail, NodeSeat};
 use paxos_packets::Members;
 use replica_machine::Machine;
 use std::alloc::Global;
+use store_keeper::{Keeper, KeeperFault};
 
 impl<M: Machine, K: Keeper<M::Body>> Actor<M, K> {
     /// Opens a node that was never opened, at its seat: begins a boot in the store, and the node of this number, of these members, has the

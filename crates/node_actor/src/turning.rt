@@ -12,11 +12,11 @@ use crate::event::{deliver, pass};
 use crate::fetching::{after, fetch_round};
 use crate::heard::{Heard, heard_in};
 use crate::posting::post_all;
-use acceptor_keeper::Keeper;
 use actor_parts::{ActorFault, Parts};
 use mail_table::{Mail, NodeSeat};
 use paxos_packets::NodeSet;
 use replica_machine::Machine;
+use store_keeper::Keeper;
 
 // From whom the next turn fetches first: the member behind the one whose packet came last, so that each of those that always have one gets
 // as many turns; and of the last turn, whose packet it treated, what that showed, and to whom it posted.

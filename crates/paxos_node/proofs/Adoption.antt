@@ -6,11 +6,11 @@ use Rattle.paxos_learner.specs.declared.learned.LearnedEntry.{LearnedEntry}
 use Rattle.paxos_learner.specs.Learned.{Begins}
 use Rattle.paxos_learner.proofs.Beginning.{entries_are}
 use Rattle.paxos_node.specs.declared.outcome.Outcome.{Outcome}
-use Rattle.paxos_turn.specs.Node.{NodeState}
+use Rattle.paxos_planning.specs.Node.{NodeState}
 use Rattle.paxos_node.specs.Applying.{down}
 use Rattle.paxos_node.specs.Held.{additions}
 use Rattle.paxos_node.specs.Adopting.{stays_up, adopted}
-use Rattle.paxos_turn.specs.Parts.{first_learned}
+use Rattle.paxos_planning.specs.Parts.{first_learned}
 
 -- one entry at most becomes pending
 

@@ -11,19 +11,19 @@ use Rattle.paxos_node.specs.declared.event.Event.{Event}
 use Rattle.paxos_node.specs.declared.event.Event.TheVariants.{Take, Tick, Start, Suspect, Deliver, Crash, Restart}
 use Rattle.paxos_node.specs.declared.fault.NodeFault.{NodeFault}
 use Rattle.paxos_node.specs.declared.outcome.Outcome.{Outcome}
-use Rattle.paxos_turn.specs.Node.{NodeState, Turn}
-use Rattle.paxos_turn.specs.Turn.{begun, with_pending}
-use Rattle.paxos_turn.specs.Parts.{taken_with}
-use Rattle.paxos_turn.proofs.Standing.{no_front}
+use Rattle.paxos_planning.specs.Node.{NodeState, Turn}
+use Rattle.paxos_planning.specs.Turn.{begun, with_pending}
+use Rattle.paxos_planning.specs.Parts.{taken_with}
+use Rattle.paxos_planning.proofs.Standing.{no_front}
 use Rattle.paxos_node.specs.Adopting.{pending_behind, Fits, Settled}
-use Rattle.paxos_turn.specs.Drafting.{with_pending_entry, seeing}
+use Rattle.paxos_planning.specs.Drafting.{with_pending_entry, seeing}
 use Rattle.paxos_node.specs.Events.{last_number, owner, possible, on_event, takes, new_item, with_item, on_take, has_room}
-use Rattle.paxos_turn.specs.Ticking.{on_tick}
-use Rattle.paxos_turn.specs.Starting.{starts, begin, on_start}
+use Rattle.paxos_planning.specs.Ticking.{on_tick}
+use Rattle.paxos_planning.specs.Starting.{starts, begin, on_start}
 use Rattle.paxos_node.specs.Events.{new_lost, new_lost_of, is_pending, suspected, on_suspect, is_round_refused, is_full_refused}
 use Rattle.paxos_node.specs.Plans.{is_planned, plans, unchanged, Answers, Answered}
-use Rattle.paxos_turn.specs.Proposals.{push}
-use Rattle.paxos_turn.specs.Replies.{on_packet, round_in}
+use Rattle.paxos_planning.specs.Proposals.{push}
+use Rattle.paxos_planning.specs.Replies.{on_packet, round_in}
 use Rattle.paxos_proposer.specs.Proposer.{new_ballot}
 
 -- an act is taken under a number below the last

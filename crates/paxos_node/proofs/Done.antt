@@ -6,8 +6,8 @@ use Rattle.paxos_packets.specs.declared.entry.Entry.{Entry}
 use Rattle.paxos_node.specs.declared.fault.NodeFault.{NodeFault}
 use Rattle.paxos_node.specs.declared.fault.NodeFault.TheVariants.{Rounds, Full, Disagree, Memory}
 use Rattle.paxos_node.specs.declared.outcome.Outcome.{Outcome}
-use Rattle.paxos_turn.specs.Drafting.{Known, Drafted, known}
-use Rattle.paxos_turn.specs.Node.{NodeState, Turn}
+use Rattle.paxos_planning.specs.Drafting.{Known, Drafted, known}
+use Rattle.paxos_planning.specs.Node.{NodeState, Turn}
 use Rattle.paxos_node.specs.Adopting.{Settled}
 use Rattle.paxos_node.specs.Applying.{settle}
 use Rattle.paxos_node.specs.Outcome.{with_added}

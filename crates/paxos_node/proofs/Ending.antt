@@ -17,16 +17,16 @@ use Rattle.replica_machine.specs.Roll.{standing, standing_after, is_live}
 use Rattle.paxos_node.specs.declared.fault.NodeFault.{NodeFault}
 use Rattle.paxos_node.specs.declared.fault.NodeFault.TheVariants.{Rounds, Full, Disagree, Memory}
 use Rattle.paxos_node.specs.declared.outcome.Outcome.{Outcome}
-use Rattle.paxos_turn.specs.Node.{NodeState, Turn}
-use Rattle.paxos_turn.specs.Parts.{proposer_of, learner_of, pending_with}
+use Rattle.paxos_planning.specs.Node.{NodeState, Turn}
+use Rattle.paxos_planning.specs.Parts.{proposer_of, learner_of, pending_with}
 use Rattle.paxos_node.specs.Adopting.{pending_behind, front_behind, Settled}
 use Rattle.paxos_node.specs.Applying.{note, ends, down, go_down, apply_all, settle, ends_boot, count_to_end, has_end}
-use Rattle.paxos_turn.specs.Front.{AllStand, IsFront}
-use Rattle.paxos_turn.proofs.Planning.{first_full}
-use Rattle.paxos_turn.proofs.Standing.{no_front}
+use Rattle.paxos_planning.specs.Front.{AllStand, IsFront}
+use Rattle.paxos_planning.proofs.Planning.{first_full}
+use Rattle.paxos_planning.proofs.Standing.{no_front}
 use Rattle.paxos_proposer.specs.Role.{Role}
-use Rattle.paxos_turn.specs.Drafting.{Known, turn_behind}
-use Rattle.paxos_turn.specs.declared.effects.Effects.{Effects}
+use Rattle.paxos_planning.specs.Drafting.{Known, turn_behind}
+use Rattle.paxos_planning.specs.declared.effects.Effects.{Effects}
 use Rattle.paxos_node.specs.Outcome.{outcome_with, with_added, added_in}
 use Rattle.paxos_node.specs.Plans.{Answers}
 use Rattle.paxos_node.proofs.Adoption.{length_both}

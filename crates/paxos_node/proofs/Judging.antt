@@ -13,9 +13,9 @@ use Rattle.paxos_acceptor.specs.declared.verdict.Verdict.{Verdict}
 use Rattle.paxos_acceptor.specs.declared.verdict.Answer.TheVariants.{ToSender, ToOthers}
 use Rattle.paxos_acceptor.specs.Acceptor.{may_promise, may_accept, adopted, answers, judged, refused, promise_change, vote_change}
 use Rattle.paxos_learner.specs.Learner.{run_from}
-use Rattle.paxos_turn.specs.Node.{NodeState, Turn}
-use Rattle.paxos_turn.specs.Turn.{begun, send, promise, cast}
-use Rattle.paxos_turn.specs.Replies.{saw, refuse}
+use Rattle.paxos_planning.specs.Node.{NodeState, Turn}
+use Rattle.paxos_planning.specs.Turn.{begun, send, promise, cast}
+use Rattle.paxos_planning.specs.Replies.{saw, refuse}
 use Rattle.paxos_node.specs.Applying.{note, ends, go_down, apply_all, settle}
 use Rattle.paxos_node.specs.Laws.{IsJudged, JudgesAsAnAcceptor}
 

@@ -8,8 +8,8 @@ use Rattle.paxos_node.specs.declared.event.Event.TheVariants.{Take, Suspect}
 use Rattle.paxos_node.specs.declared.fault.NodeFault.{NodeFault}
 use Rattle.paxos_node.specs.declared.outcome.Outcome.{Outcome}
 use Rattle.paxos_node.specs.Events.{owner, takes, new_item, has_room, new_lost, made_by, taken_by, suspected_by}
-use Rattle.paxos_turn.specs.Drafting.{listed}
-use Rattle.paxos_turn.specs.Node.{NodeState}
+use Rattle.paxos_planning.specs.Drafting.{listed}
+use Rattle.paxos_planning.specs.Node.{NodeState}
 
 -- what becomes pending is this
 abbrev pub Makes : {B : Type 0} → List (Entry B) → Result (Outcome B) NodeFault → Type 0

@@ -8,10 +8,10 @@ use Rattle.paxos_learner.specs.Learned.{Begins}
 use Rattle.replica_machine.specs.Roll.{is_wanted}
 use Rattle.paxos_node.specs.declared.event.Event.{Event}
 use Rattle.paxos_node.specs.declared.outcome.Outcome.{Outcome}
-use Rattle.paxos_turn.specs.Node.{NodeState, Turn}
-use Rattle.paxos_turn.specs.Turn.{begun}
-use Rattle.paxos_turn.specs.Front.{IsFront}
-use Rattle.paxos_turn.specs.Parts.{proposer_of, learner_of, pending_with, counted_with}
+use Rattle.paxos_planning.specs.Node.{NodeState, Turn}
+use Rattle.paxos_planning.specs.Turn.{begun}
+use Rattle.paxos_planning.specs.Front.{IsFront}
+use Rattle.paxos_planning.specs.Parts.{proposer_of, learner_of, pending_with, counted_with}
 use Rattle.paxos_node.specs.Applying.{down, settle}
 use Rattle.paxos_node.specs.Events.{owner, on_event}
 

@@ -8,7 +8,7 @@ use Rattle.paxos_proposer.specs.Proposer.{round_of, resting}
 use Rattle.paxos_learner.specs.Learner.{unheard, run_from}
 use Rattle.replica_machine.specs.declared.roll.Standing.{Standing}
 use Rattle.replica_machine.specs.Roll.{takes_effect, is_wanted, is_live, standing_after}
-use Rattle.paxos_turn.specs.Node.{NodeState, Turn}
+use Rattle.paxos_planning.specs.Node.{NodeState, Turn}
 
 -- a node that has only its rows
 abbrev pub down : {B : Type 0} → Rows B → NodeState B

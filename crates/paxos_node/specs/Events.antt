@@ -7,12 +7,12 @@ use Rattle.paxos_packets.specs.Rows.{last_boot, raised}
 use Rattle.paxos_packets.specs.declared.entry.Entry.{Entry}
 use Rattle.paxos_packets.specs.declared.entry.Entry.TheVariants.{Boot, Lost, Item}
 use Rattle.replica_machine.specs.Roll.{standing, live_in}
-use Rattle.paxos_turn.specs.Node.{NodeState, Turn}
-use Rattle.paxos_turn.specs.Turn.{with_pending, begun}
-use Rattle.paxos_turn.specs.Proposals.{push}
-use Rattle.paxos_turn.specs.Replies.{saw, on_packet}
-use Rattle.paxos_turn.specs.Starting.{starts, on_start}
-use Rattle.paxos_turn.specs.Ticking.{on_tick}
+use Rattle.paxos_planning.specs.Node.{NodeState, Turn}
+use Rattle.paxos_planning.specs.Turn.{with_pending, begun}
+use Rattle.paxos_planning.specs.Proposals.{push}
+use Rattle.paxos_planning.specs.Replies.{saw, on_packet}
+use Rattle.paxos_planning.specs.Starting.{starts, on_start}
+use Rattle.paxos_planning.specs.Ticking.{on_tick}
 use Rattle.paxos_node.specs.declared.event.Event.{Event}
 use Rattle.paxos_node.specs.declared.event.Event.TheVariants.{Take, Tick, Start, Suspect, Deliver, Crash, Restart}
 use Rattle.paxos_node.specs.Applying.{started, go_down, settle}

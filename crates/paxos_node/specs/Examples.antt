@@ -9,8 +9,8 @@ use Rattle.paxos_packets.specs.declared.vote.Vote.{Vote}
 use Rattle.paxos_proposer.specs.Role.{Leading}
 use Rattle.paxos_node.specs.declared.event.Event.{Event}
 use Rattle.paxos_node.specs.declared.event.Event.TheVariants.{Take, Start, Deliver}
-use Rattle.paxos_turn.specs.Node.{NodeState, Turn}
-use Rattle.paxos_turn.specs.Turn.{with_role, with_pending}
+use Rattle.paxos_planning.specs.Node.{NodeState, Turn}
+use Rattle.paxos_planning.specs.Turn.{with_role, with_pending}
 use Rattle.paxos_node.specs.Applying.{started, first_rows}
 use Rattle.paxos_node.specs.Events.{outcome_of, is_full_refused}
 

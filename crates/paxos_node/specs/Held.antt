@@ -6,8 +6,8 @@ use Rattle.paxos_proposer.specs.State as proposing
 use Rattle.paxos_learner.specs.Hearing.{HasRoomFor}
 use Rattle.paxos_learner.specs.Learner as learning
 use Rattle.paxos_node.specs.declared.outcome.Outcome.{Outcome}
-use Rattle.paxos_turn.specs.Node.{NodeState}
-use Rattle.paxos_turn.specs.Parts.{learner_of}
+use Rattle.paxos_planning.specs.Node.{NodeState}
+use Rattle.paxos_planning.specs.Parts.{learner_of}
 
 -- a number for each part, but for the learner, which also has places for slots
 pub record Room : Type 0 where

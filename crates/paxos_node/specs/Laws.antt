@@ -10,7 +10,7 @@ use Rattle.paxos_proposer.specs.Role.{Role, Idle, Preparing, Leading}
 use Rattle.paxos_proposer.specs.Proposer.{round_of}
 use Rattle.paxos_node.specs.declared.event.Event.{Event}
 use Rattle.paxos_node.specs.declared.event.Event.TheVariants.{Deliver}
-use Rattle.paxos_turn.specs.Node.{NodeState}
+use Rattle.paxos_planning.specs.Node.{NodeState}
 use Rattle.paxos_node.specs.Events.{possible, outcome_of}
 
 -- what a node that is up commits in an event is all that changes its rows

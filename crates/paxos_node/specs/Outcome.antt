@@ -1,7 +1,7 @@
 -- Outcomes, from what an event does, what is applied at its end, and the entry that becomes pending.
 use Rattle.std.specs.Prelude.{ℕ, Bool, Option, Some, None, List, Result, Ok, Err}
 use Rattle.paxos_packets.specs.declared.entry.Entry.{Entry}
-use Rattle.paxos_turn.specs.declared.effects.Effects.{Effects}
+use Rattle.paxos_planning.specs.declared.effects.Effects.{Effects}
 use Rattle.paxos_node.specs.declared.fault.NodeFault.{NodeFault}
 use Rattle.paxos_node.specs.declared.outcome.Outcome.{Outcome}
 

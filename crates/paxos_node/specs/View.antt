@@ -2,7 +2,7 @@
 use Rattle.std.specs.Prelude.{List, ◌++◌}
 use Rattle.paxos_packets.specs.declared.packet.Packet.{Packet}
 use Rattle.paxos_node.specs.declared.view.Opened.{Opened}
-use Rattle.paxos_turn.specs.Node.{NodeState}
+use Rattle.paxos_planning.specs.Node.{NodeState}
 
 -- whether it was opened, and with which rows; the node; and every packet that it sent, oldest first
 pub record Viewed (B : Type 0) : Type 0 where

@@ -3,16 +3,16 @@
 ghost use Rattle.std.specs.Prelude.{◌≡◌, true, false, not, ◌&&◌, is_some, length, Some, None, Ok, IfOk};
 ghost use Rattle.paxos_node.specs.Adopting.{Fits, Settled, Planned};
 ghost use Rattle.paxos_node.specs.Applying.{settle};
-ghost use Rattle.paxos_turn.specs.Drafting.{with_pending_entry, seeing, listed};
+ghost use Rattle.paxos_planning.specs.Drafting.{with_pending_entry, seeing, listed};
 ghost use Rattle.paxos_node.specs.Outcome.{with_added, added_in};
 ghost use Rattle.paxos_node.specs.Events.{owner, possible, on_event, on_take, on_suspect, outcome_of, has_room, takes, new_lost, is_pending};
-ghost use Rattle.paxos_turn.specs.Ticking.{on_tick};
-ghost use Rattle.paxos_turn.specs.Starting.{on_start, starts};
+ghost use Rattle.paxos_planning.specs.Ticking.{on_tick};
+ghost use Rattle.paxos_planning.specs.Starting.{on_start, starts};
 ghost use Rattle.paxos_node.specs.Events.{is_round_refused, is_full_refused, made_by, taken_by, suspected_by};
 ghost use Rattle.paxos_node.specs.Plans.{is_planned, plans, unchanged, Answers, Answered};
-ghost use Rattle.paxos_turn.specs.Proposals.{push};
-ghost use Rattle.paxos_turn.specs.Replies.{on_packet, round_in};
-ghost use Rattle.paxos_turn.specs.Turn.{begun};
+ghost use Rattle.paxos_planning.specs.Proposals.{push};
+ghost use Rattle.paxos_planning.specs.Replies.{on_packet, round_in};
+ghost use Rattle.paxos_planning.specs.Turn.{begun};
 ghost use Rattle.replica_machine.specs.Roll.{standing, live_in};
 
 use crate::event::Event;

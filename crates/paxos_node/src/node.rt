@@ -1,7 +1,7 @@
 ghost use Rattle.std.specs.Prelude.{◌≡◌, ◌<◌, ◌≤◌, ◌+◌, ◌^◌, vec_len, vec_capacity, true, false, nat_lt, length, IfOk, IfErr, OnOk, OnErr, IsOkUnless, Err, option_copied};
 ghost use Rattle.paxos_node.specs.declared.fault.NodeFault.TheVariants.{Memory};
 ghost use Rattle.paxos_node.specs.Adopting.{adopted, Fits};
-ghost use Rattle.paxos_turn.specs.Parts.{proposer_of, learner_of};
+ghost use Rattle.paxos_planning.specs.Parts.{proposer_of, learner_of};
 ghost use Rattle.paxos_node.specs.Applying.{down, started};
 ghost use Rattle.paxos_node.specs.Held.{HasRoom};
 ghost use Rattle.paxos_learner.specs.Learned.{Begins};
@@ -9,9 +9,9 @@ ghost use Rattle.paxos_learner.specs.Hearing.{HasRoomFor};
 ghost use Rattle.paxos_proposer.specs.Moves.{promises_in, proposals_in};
 ghost use Rattle.paxos_proposer.specs.State.{HasRoom as HasRoomToPropose};
 ghost use Rattle.paxos_proposer.specs.Proposer.{round_of, is_leading};
-ghost use Rattle.paxos_turn.specs.Drafting.{known, with_pending_entry};
-ghost use Rattle.paxos_turn.specs.Front.{IsFront};
-ghost use Rattle.paxos_turn.specs.Turn.{begun};
+ghost use Rattle.paxos_planning.specs.Drafting.{known, with_pending_entry};
+ghost use Rattle.paxos_planning.specs.Front.{IsFront};
+ghost use Rattle.paxos_planning.specs.Turn.{begun};
 ghost use Rattle.replica_machine.specs.Roll.{IsRollOf};
 
 use crate::fault::NodeFault;
@@ -22,8 +22,8 @@ use crate::waiting::{apply_all, wait};
 use paxos_acceptor::Acceptor;
 use paxos_learner::Learner;
 use paxos_packets::{Ballot, Body, Entries, Entry, Members, Rows, Vote};
+use paxos_planning::{Draft, Parts};
 use paxos_proposer::Proposer;
-use paxos_turn::{Draft, Parts};
 use replica_machine::Roll;
 use std::alloc::Global;
 use std::marker::Model;
@@ -72,8 +72,8 @@ impl<B> Model for Node<B> {
     ghost use Rattle.std.specs.Prelude.{◌≡◌, ◌-◌, ◌<◌, ◌^◌, length, vec_len, vec_capacity};
     ghost use Rattle.paxos_learner.specs.Learned.{Begins};
     ghost use Rattle.replica_machine.specs.Roll.{IsRollOf};
-    ghost use Rattle.paxos_turn.specs.Parts.{first_learned};
-    ghost use Rattle.paxos_turn.specs.Front.{IsFront};
+    ghost use Rattle.paxos_planning.specs.Parts.{first_learned};
+    ghost use Rattle.paxos_planning.specs.Front.{IsFront};
     ghost use Rattle.paxos_node.specs.Held.{Held};
 
     ghost Value = { Held B };
@@ -272,7 +272,7 @@ impl<B: Drop> Node<B> {
     }
 
     /// The same; where there is no memory for it, the rows are given back.
-    #[tactic(auto, using(paxos_turn::proofs::Standing::no_front))]
+    #[tactic(auto, using(paxos_planning::proofs::Standing::no_front))]
     pub fn begin(alloc: Global, me: u8, members: Members, rows: Rows<B>) -> Result<Node<B>, Rows<B>>
         ensures me { IfOk result (λ node. node.me ≡ me) }
         ensures members { IfOk result (λ node. node.members ≡ members) }
@@ -394,7 +394,7 @@ impl<B: Body> Node<B> {
     }
 
     // It has only its rows.
-    #[tactic(auto, using(paxos_turn::proofs::Standing::no_front))]
+    #[tactic(auto, using(paxos_planning::proofs::Standing::no_front))]
     fn go_down(&mut self)
         ensures state { self.new.state ≡ down self.old.state.rows }
         ensures me { self.new.me ≡ self.old.me }

@@ -5,7 +5,7 @@ ghost use Rattle.paxos_node.specs.Plans.{unchanged};
 use crate::moves::Moves;
 use crate::packets::Packets;
 use paxos_packets::{Change, Entries, Entry, Votes};
-use paxos_turn::Effects;
+use paxos_planning::Effects;
 use std::alloc::Global;
 
 /// What an event is to make of a node: it is committed first, and adopted then.

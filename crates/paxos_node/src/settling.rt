@@ -3,8 +3,8 @@
 ghost use Rattle.std.specs.Prelude.{◌≡◌, ◌<◌, ◌≤◌, ◌+◌, ◌^◌, suc, false, length, true, None, Err, IfOk, OnOk, OnErr, take, if◌then◌else◌};
 ghost use Rattle.paxos_learner.specs.Learner.{run_from};
 ghost use Rattle.paxos_node.specs.declared.fault.NodeFault.TheVariants.{Memory as NoMemory};
-ghost use Rattle.paxos_turn.specs.Drafting.{known};
-ghost use Rattle.paxos_turn.specs.Front.{FrontOf};
+ghost use Rattle.paxos_planning.specs.Drafting.{known};
+ghost use Rattle.paxos_planning.specs.Front.{FrontOf};
 ghost use Rattle.replica_machine.specs.Roll.{IsRollOf, standing};
 ghost use Rattle.paxos_node.specs.Adopting.{Settled, front_behind};
 ghost use Rattle.paxos_node.specs.Outcome.{with_added};
@@ -15,7 +15,7 @@ use crate::fault::NodeFault;
 use crate::node::Node;
 use crate::outcome::Outcome;
 use paxos_packets::{Body, Entries, Entry, Memory};
-use paxos_turn::Draft;
+use paxos_planning::Draft;
 use replica_machine::{Roll, Standing};
 
 impl<B: Body> Node<B> {
@@ -47,7 +47,7 @@ impl<B: Body> Node<B> {
     }
 
     // The same, where no entry becomes pending.
-    #[tactic(auto, using(paxos_turn::proofs::Standing::no_front))]
+    #[tactic(auto, using(paxos_planning::proofs::Standing::no_front))]
     pub(crate) fn finish(
         &self,
         draft: Draft<'_, B>,

@@ -3,7 +3,7 @@
 ghost use Rattle.std.specs.Prelude.{◌≡◌, ◌≤◌, ◌-◌, [], ◌∷◌, ◌++◌, List, filter, vec_len, vec_capacity};
 ghost use Rattle.paxos_packets.specs.declared.entry.Entry.{Entry};
 ghost use Rattle.replica_machine.specs.Roll.{IsRollOf, is_wanted};
-ghost use Rattle.paxos_turn.specs.Parts.{pending_with, counted_with, taken_with};
+ghost use Rattle.paxos_planning.specs.Parts.{pending_with, counted_with, taken_with};
 ghost use Rattle.paxos_node.specs.Adopting.{pending_behind};
 ghost use Rattle.paxos_node.specs.Held.{additions};
 

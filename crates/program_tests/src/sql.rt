@@ -1,14 +1,14 @@
 use crate::check::Check;
-use acceptor_keeper::{Keeper, KeeperFault};
 use acceptor_store::SqlKeeper;
 use command_codec::Coder;
-use core_bodies::{Number, Octet};
 use paxos_packets::{Ballot, Body, Change, Entry, Rows, Slot, Vote, Votes};
 use sqlite::{Alter, Connection, FileStore, Files, MemStore, Options};
 use sqlite_disk::{Crash, Memory};
 use std::alloc::Global;
 use std::process::Abort;
+use store_keeper::{Keeper, KeeperFault};
 use test_checks::check_eq;
+use test_machines::{Number, Octet};
 
 pub type Sql<S> = SqlKeeper<Number, Octet, S>;
 

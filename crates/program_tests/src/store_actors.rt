@@ -6,12 +6,12 @@ ghost use Rattle.paxos_node.specs.declared.view.Opened.TheVariants.{Never};
 use crate::check::Check;
 use crate::sql::{Reopens, new_store};
 use crate::station::{Left, Station, again, number_of, opened};
-use core_bodies::{Count, Number};
 use mail_table::{Mail, NodeSeat, Office, found};
 use node_actor::{Keeper, Machine, Members};
 use std::alloc::Global;
 use std::process::Abort;
 use test_checks::check_eq;
+use test_machines::{Count, Number};
 
 // The seat of node 2, one of three.
 fn second(mail: &Mail<Number>, seats: &mut Vec<NodeSeat<Number>>) -> Option<NodeSeat<Number>>

@@ -1,13 +1,13 @@
 use crate::check::Check;
 use crate::sql::{in_memory, opened};
-use acceptor_keeper::{Keeper, KeeperFault};
 use acceptor_store::SqlKeeper;
-use act_codec::ActCoder;
 use paxos_packets::{Ballot, Body, Change, Entry, Rows, Shared, Slot, Vote, Votes};
 use realm_acts::{Act, Id, Read};
+use realm_codec::ActCoder;
 use sqlite::{Alter, Connection};
 use std::alloc::Global;
 use std::process::Abort;
+use store_keeper::{Keeper, KeeperFault};
 use test_checks::check_eq;
 use wamp_messages::{UnfitKind, read};
 

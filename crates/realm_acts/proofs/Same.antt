@@ -3,7 +3,7 @@ use Rattle.std.proofs.Common.{◌≡◌, Bool, true, subst}
 use Rattle.std.specs.Prelude.{IsTrue, ◌↔◌}
 use Rattle.std.specs.Bool.{Decides}
 use Rattle.std.proofs.lemmas.Bool.Decides.{same_from_decides}
-use Rattle.wamp_kinds.specs.declared.read_result.Read.{Read}
+use Rattle.wamp_message_types.specs.declared.read_result.Read.{Read}
 use Rattle.realm_acts.specs.Act.{same_read, read_itself, read_is}
 
 read_decides : (x y : Read) → Decides (same_read x y) (x ≡ y)

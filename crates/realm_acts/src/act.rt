@@ -4,7 +4,7 @@ ghost use Rattle.realm_acts.specs.Act.{same_read};
 use paxos_packets::{Body, Memory, Shared};
 use std::alloc::Global;
 use wamp_ids::Id;
-use wamp_kinds::Read;
+use wamp_message_types::Read;
 
 /// What happens at one client's transport.
 pub enum Act {

@@ -6,4 +6,4 @@ mod act;
 pub use act::Act;
 pub use paxos_packets::{Body, Memory, Shared};
 pub use wamp_ids::Id;
-pub use wamp_kinds::Read;
+pub use wamp_message_types::Read;

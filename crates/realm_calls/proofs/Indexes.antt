@@ -3,14 +3,14 @@ use Rattle.std.proofs.Common.{◌≡◌, ℕ, ◌+◌, ◌-◌, ◌==◌, Bool, 
 use Rattle.std.proofs.Common.{refl, sym, ap, ◌∙◌, arith, if◌then◌else◌, is_some, option_map}
 use Rattle.std.specs.List.{All}
 use Rattle.std.proofs.lemmas.Bool.{and_from, eq-eqb, false≢true}
-use Rattle.keyed_lists.specs.Rows.{IsAbove, members, member_at, without, has_place}
-use Rattle.keyed_lists.specs.Finding.{AreRising, Finds, IsIndex, is_passing}
-use Rattle.keyed_lists.specs.PlaceIndex.{is_key, place_of, places_under}
-use Rattle.keyed_lists.specs.Tally.{count_in}
-use Rattle.keyed_lists.proofs.Members.{count_without, count_pushed, members_pushed}
-use Rattle.keyed_lists.proofs.Telling.{index_came, index_back, index_gone}
-use Rattle.keyed_lists.proofs.Under.{place_is_under}
-use Rattle.keyed_lists.proofs.Keys.{is_key_same}
+use Rattle.realm_lists.specs.Rows.{IsAbove, members, member_at, without, has_place}
+use Rattle.realm_lists.specs.Finding.{AreRising, Finds, IsIndex, is_passing}
+use Rattle.realm_lists.specs.PlaceIndex.{is_key, place_of, places_under}
+use Rattle.realm_lists.specs.Tally.{count_in}
+use Rattle.realm_lists.proofs.Members.{count_without, count_pushed, members_pushed}
+use Rattle.realm_lists.proofs.Telling.{index_came, index_back, index_gone}
+use Rattle.realm_lists.proofs.Under.{place_is_under}
+use Rattle.realm_lists.proofs.Keys.{is_key_same}
 use Rattle.realm_calls.specs.declared.calls.Open.{Open}
 use Rattle.realm_calls.specs.Calls.{has, has_invocation, count_of}
 use Rattle.realm_calls.specs.Indexed.{by_request, by_invocation, AreIndexed, of_caller, of_callee}

@@ -1,9 +1,9 @@
 -- How open calls are kept, so that one is found without a walk over all.
 use Rattle.std.specs.Prelude.{◌≡◌, ℕ, ◌==◌, Bool, true, List, [], ◌∷◌, AllPairs}
-use Rattle.keyed_lists.specs.Rows.{members}
-use Rattle.keyed_lists.specs.Finding.{IsIndex}
-use Rattle.keyed_lists.specs.PlaceIndex.{place_of}
-use Rattle.keyed_lists.specs.Tally.{count_in}
+use Rattle.realm_lists.specs.Rows.{members}
+use Rattle.realm_lists.specs.Finding.{IsIndex}
+use Rattle.realm_lists.specs.PlaceIndex.{place_of}
+use Rattle.realm_lists.specs.Tally.{count_in}
 use Rattle.realm_calls.specs.declared.calls.Open.{Open}
 use Rattle.realm_calls.specs.Calls.{is_call, is_invocation, count_of, end}
 

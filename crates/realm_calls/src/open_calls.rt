@@ -2,15 +2,15 @@
 ghost use Rattle.std.specs.Prelude.{◌≡◌, ◌+◌, ◌-◌, ◌<◌, ◌^◌, ◌==◌, ℕ, false, not, None, Some, if◌then◌else◌, [], ◌∷◌, ◌++◌};
 ghost use Rattle.std.specs.Prelude.{filter, find, option_map, IfOk, OnOk, OnErr, IsOkUnless};
 ghost use Rattle.realm_sessions.specs.declared.fault.RealmFault.TheVariants as fault;
-ghost use Rattle.keyed_lists.specs.Rows.{IsAbove, members};
-ghost use Rattle.keyed_lists.specs.PlaceIndex.{is_key, place_of, places_under};
-ghost use Rattle.keyed_lists.specs.Tally.{count_in};
+ghost use Rattle.realm_lists.specs.Rows.{IsAbove, members};
+ghost use Rattle.realm_lists.specs.PlaceIndex.{is_key, place_of, places_under};
+ghost use Rattle.realm_lists.specs.Tally.{count_in};
 ghost use Rattle.realm_calls.specs.Calls.{is_call, is_invocation, has, has_invocation, call_of, count_of, end, calls_to};
 ghost use Rattle.realm_calls.specs.Calls.{without_callee, without_caller};
 ghost use Rattle.realm_calls.specs.Indexed.{AreApart, of_caller, of_callee, end_all};
 
 use crate::calls::Open;
-use keyed_lists::{PlaceIndex, Rows, Tally};
+use realm_lists::{PlaceIndex, Rows, Tally};
 use realm_sessions::RealmFault;
 use std::alloc::Global;
 use std::marker::Model;
@@ -40,7 +40,7 @@ impl Drop for OpenCalls {
 
 impl Model for OpenCalls {
     ghost use Rattle.std.specs.Prelude.{List};
-    ghost use Rattle.keyed_lists.specs.Rows.{members};
+    ghost use Rattle.realm_lists.specs.Rows.{members};
     ghost use Rattle.realm_calls.specs.declared.calls.Open.{Open};
 
     ghost Value = { List Open };

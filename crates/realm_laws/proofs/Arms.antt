@@ -9,15 +9,15 @@ use Rattle.wamp_ids.specs.declared.policy.Invoke.{Invoke}
 use Rattle.wamp_ids.specs.declared.uri.UriFault.{UriFault}
 use Rattle.wamp_ids.specs.Pattern.{PatternValue, pattern_of}
 use Rattle.wamp_values.specs.declared.args.Args.{Args}
-use Rattle.wamp_elements.specs.declared.request_kind.RequestKind.{RequestKind}
-use Rattle.wamp_elements.specs.declared.request_kind.RequestKind.TheVariants as kind
-use Rattle.wamp_kinds.specs.declared.message.Message.TheVariants as message
-use Rattle.wamp_kinds.specs.declared.publish.Publish.{Publish}
-use Rattle.wamp_kinds.specs.declared.session.Hello.{Hello}
-use Rattle.wamp_kinds.specs.declared.subscribe.Subscribe.{Subscribe}
-use Rattle.wamp_kinds.specs.declared.subscribe.Unsubscribe.{Unsubscribe}
-use Rattle.wamp_kinds.specs.declared.register.Register.{Register}
-use Rattle.wamp_kinds.specs.declared.register.Unregister.{Unregister}
+use Rattle.wamp_message_layouts.specs.declared.request_kind.RequestKind.{RequestKind}
+use Rattle.wamp_message_layouts.specs.declared.request_kind.RequestKind.TheVariants as kind
+use Rattle.wamp_message_types.specs.declared.message.Message.TheVariants as message
+use Rattle.wamp_message_types.specs.declared.publish.Publish.{Publish}
+use Rattle.wamp_message_types.specs.declared.session.Hello.{Hello}
+use Rattle.wamp_message_types.specs.declared.subscribe.Subscribe.{Subscribe}
+use Rattle.wamp_message_types.specs.declared.subscribe.Unsubscribe.{Unsubscribe}
+use Rattle.wamp_message_types.specs.declared.register.Register.{Register}
+use Rattle.wamp_message_types.specs.declared.register.Unregister.{Unregister}
 use Rattle.realm_sessions.specs.declared.fault.RealmFault.{RealmFault}
 use Rattle.realm_sessions.specs.Fault.{uri_of}
 use Rattle.realm_sessions.specs.declared.fault.RealmFault.TheVariants as fault

@@ -11,12 +11,12 @@ use Rattle.wamp_ids.specs.declared.policy.Mode.TheVariants.{Skip, Kill, KillNoWa
 use Rattle.wamp_ids.specs.Uri.{uri_of as read_uri, is_reserved}
 use Rattle.wamp_ids.specs.declared.uri.UriFault.{UriFault}
 use Rattle.wamp_values.specs.declared.args.Args.{Args}
-use Rattle.wamp_elements.specs.declared.request_kind.RequestKind.TheVariants as kind
-use Rattle.wamp_kinds.specs.declared.message.Message.{Message}
-use Rattle.wamp_kinds.specs.declared.message.Message.TheVariants as message
-use Rattle.wamp_kinds.specs.declared.call.Call.{Call}
-use Rattle.wamp_kinds.specs.declared.call.Cancel.{Cancel}
-use Rattle.wamp_kinds.specs.declared.call.Yield.{Yield}
+use Rattle.wamp_message_layouts.specs.declared.request_kind.RequestKind.TheVariants as kind
+use Rattle.wamp_message_types.specs.declared.message.Message.{Message}
+use Rattle.wamp_message_types.specs.declared.message.Message.TheVariants as message
+use Rattle.wamp_message_types.specs.declared.call.Call.{Call}
+use Rattle.wamp_message_types.specs.declared.call.Cancel.{Cancel}
+use Rattle.wamp_message_types.specs.declared.call.Yield.{Yield}
 use Rattle.realm_sessions.specs.declared.links.Session.{Session}
 use Rattle.realm_sessions.specs.declared.links.Link.{Link}
 use Rattle.realm_sessions.specs.Links.{is_taken, announces}

@@ -8,8 +8,8 @@ use Rattle.std.proofs.lemmas.Bool.{cond_both, and_parts, and_from, eq-eqb, both_
 use Rattle.paxos_packets.specs.declared.transport.Transport.{Transport}
 use Rattle.paxos_packets.specs.Transport.{same_transport}
 use Rattle.wamp_ids.specs.declared.policy.Mode.TheVariants.{KillNoWait}
-use Rattle.wamp_elements.specs.declared.request_kind.RequestKind.TheVariants as kind
-use Rattle.wamp_kinds.specs.declared.message.Message.{Message}
+use Rattle.wamp_message_layouts.specs.declared.request_kind.RequestKind.TheVariants as kind
+use Rattle.wamp_message_types.specs.declared.message.Message.{Message}
 use Rattle.realm_sessions.specs.declared.links.Link.{Link}
 use Rattle.realm_sessions.specs.Links.{is_taken, by_transport, transport_of, announces, set_session, without_transport}
 use Rattle.realm_sessions.specs.Laws.{AreSoundLinks}

@@ -3,7 +3,7 @@ use Rattle.std.proofs.Common.{◌≡◌, ℕ, List, Result, Ok, Err}
 use Rattle.std.proofs.Common.{Option, None, Some, refl, ◌∙◌}
 use Rattle.std.proofs.lemmas.Bool.{cond_both}
 use Rattle.wamp_ids.specs.declared.uri.UriFault.{UriFault}
-use Rattle.wamp_kinds.specs.declared.message.Message.{Message}
+use Rattle.wamp_message_types.specs.declared.message.Message.{Message}
 use Rattle.realm_sayings.specs.Sayings.{limit, no_such_procedure}
 use Rattle.realm_machine.specs.declared.requester.Requester.{Requester}
 use Rattle.realm_machine.specs.Config.{Config}
@@ -15,7 +15,7 @@ use Rattle.realm_registrations.specs.Registry as registrations
 use Rattle.realm_registrations.proofs.SoundRegistrations as sound_registry
 use Rattle.wamp_ids.specs.Uri.{uri_of as read_uri}
 use Rattle.wamp_ids.specs.declared.policy.Mode.{Mode}
-use Rattle.wamp_kinds.specs.declared.call.Call.{Call as CallMessage}
+use Rattle.wamp_message_types.specs.declared.call.Call.{Call as CallMessage}
 use Rattle.realm_sessions.specs.Links.{announces, invocation_of, session_with}
 use Rattle.realm_sessions.specs.Sessions.{invoked_with, next_invocation}
 use Rattle.realm_registrations.specs.declared.registration.Chosen.{Chosen}

@@ -5,12 +5,12 @@ use Rattle.std.proofs.lemmas.Bool.{cond_both}
 use Rattle.paxos_packets.specs.declared.transport.Transport.{Transport}
 use Rattle.wamp_ids.specs.declared.uri.UriFault.{UriFault}
 use Rattle.wamp_ids.specs.Pattern.{PatternValue}
-use Rattle.wamp_elements.specs.declared.request_kind.RequestKind.{RequestKind}
-use Rattle.wamp_elements.specs.declared.request_kind.RequestKind.TheVariants as kind
-use Rattle.wamp_kinds.specs.declared.session.Hello.{Hello as HelloMessage}
-use Rattle.wamp_kinds.specs.declared.publish.Publish.{Publish as PublishMessage}
-use Rattle.wamp_kinds.specs.declared.subscribe.Unsubscribe.{Unsubscribe as UnsubscribeMessage}
-use Rattle.wamp_kinds.specs.declared.message.Message.TheVariants as told
+use Rattle.wamp_message_layouts.specs.declared.request_kind.RequestKind.{RequestKind}
+use Rattle.wamp_message_layouts.specs.declared.request_kind.RequestKind.TheVariants as kind
+use Rattle.wamp_message_types.specs.declared.session.Hello.{Hello as HelloMessage}
+use Rattle.wamp_message_types.specs.declared.publish.Publish.{Publish as PublishMessage}
+use Rattle.wamp_message_types.specs.declared.subscribe.Unsubscribe.{Unsubscribe as UnsubscribeMessage}
+use Rattle.wamp_message_types.specs.declared.message.Message.TheVariants as told
 use Rattle.realm_sessions.specs.declared.fault.RealmFault.{RealmFault}
 use Rattle.realm_sessions.specs.declared.fault.RealmFault.TheVariants as fault
 use Rattle.realm_sessions.specs.Laws.{AreSoundLinks}
@@ -36,7 +36,7 @@ use Rattle.realm_subscriptions.specs.Laws.{AreSoundSubscriptions}
 use Rattle.realm_laws.specs.Laws.{IsSound}
 use Rattle.wamp_ids.specs.declared.policy.Invoke.{Invoke}
 use Rattle.wamp_ids.specs.Uri.{is_reserved}
-use Rattle.wamp_kinds.specs.declared.register.Unregister.{Unregister as UnregisterMessage}
+use Rattle.wamp_message_types.specs.declared.register.Unregister.{Unregister as UnregisterMessage}
 use Rattle.realm_sessions.specs.Fault.{uri_of}
 use Rattle.realm_registrations.specs.declared.registration.Registration.{Registration}
 use Rattle.realm_registrations.specs.Registration.{may_join}

@@ -5,16 +5,16 @@ use Rattle.std.proofs.lemmas.Bool.{cond_both, cond-false, not_from_true}
 use Rattle.std.proofs.lemmas.Slice.Eq.{bytes_eq-Decides}
 use Rattle.paxos_packets.specs.declared.transport.Transport.{Transport}
 use Rattle.wamp_ids.specs.Pattern.{pattern_of}
-use Rattle.wamp_elements.specs.declared.request_kind.RequestKind.{RequestKind}
-use Rattle.wamp_elements.specs.declared.request_kind.RequestKind.TheVariants as kind
-use Rattle.wamp_kinds.specs.declared.message.Message.{Message}
-use Rattle.wamp_kinds.specs.declared.message.Message.TheVariants.{Hello, Abort, Goodbye, Error, Publish, Subscribe}
-use Rattle.wamp_kinds.specs.declared.message.Message.TheVariants.{Unsubscribe, Register, Unregister}
-use Rattle.wamp_kinds.specs.declared.message.Message.TheVariants.{Call, Cancel, Yield, Reply}
-use Rattle.wamp_kinds.specs.declared.read_result.UnfitKind.{UnfitKind}
-use Rattle.wamp_kinds.specs.declared.read_result.UnfitKind.TheVariants as unfit
-use Rattle.wamp_kinds.specs.declared.read_result.Read.{Read}
-use Rattle.wamp_kinds.specs.declared.read_result.Read.TheVariants.{Good, Unfit, Bad}
+use Rattle.wamp_message_layouts.specs.declared.request_kind.RequestKind.{RequestKind}
+use Rattle.wamp_message_layouts.specs.declared.request_kind.RequestKind.TheVariants as kind
+use Rattle.wamp_message_types.specs.declared.message.Message.{Message}
+use Rattle.wamp_message_types.specs.declared.message.Message.TheVariants.{Hello, Abort, Goodbye, Error, Publish, Subscribe}
+use Rattle.wamp_message_types.specs.declared.message.Message.TheVariants.{Unsubscribe, Register, Unregister}
+use Rattle.wamp_message_types.specs.declared.message.Message.TheVariants.{Call, Cancel, Yield, Reply}
+use Rattle.wamp_message_types.specs.declared.read_result.UnfitKind.{UnfitKind}
+use Rattle.wamp_message_types.specs.declared.read_result.UnfitKind.TheVariants as unfit
+use Rattle.wamp_message_types.specs.declared.read_result.Read.{Read}
+use Rattle.wamp_message_types.specs.declared.read_result.Read.TheVariants.{Good, Unfit, Bad}
 use Rattle.realm_acts.specs.declared.act.Act.{Act}
 use Rattle.realm_acts.specs.declared.act.Act.TheVariants.{Connect, Said, Hung}
 use Rattle.realm_sessions.specs.Links.{by_transport, of_origin, session_count}
@@ -33,7 +33,7 @@ use Rattle.realm_machine.specs.Step.{on_transport, next, after_input}
 use Rattle.realm_laws.specs.Laws.{IsSound, EmptyIsSound, EachInputKeepsSound, EveryRealmIsSound, OpensWhereRoom, after}
 use Rattle.realm_registrations.proofs.SoundRegistrations as sound_registry
 use Rattle.wamp_values.specs.declared.args.Args.TheVariants.{Nothing}
-use Rattle.wamp_kinds.specs.declared.error.Error as error
+use Rattle.wamp_message_types.specs.declared.error.Error as error
 use Rattle.realm_calls.specs.Calls.{has}
 use Rattle.realm_calls.specs.Calls as calls
 use Rattle.realm_sessions.proofs.SoundLinks as links

@@ -5,9 +5,9 @@ use Rattle.std.proofs.lemmas.Bool.{cond_both, false≢true}
 use Rattle.std.proofs.lemmas.List.Elements.{All-nil, All-cons, All-append}
 use Rattle.paxos_packets.specs.declared.transport.Transport.{Transport}
 use Rattle.paxos_packets.specs.Transport.{same_transport}
-use Rattle.wamp_elements.specs.declared.request_kind.RequestKind.TheVariants as kind
+use Rattle.wamp_message_layouts.specs.declared.request_kind.RequestKind.TheVariants as kind
 use Rattle.wamp_ids.specs.declared.policy.Mode.TheVariants.{KillNoWait}
-use Rattle.wamp_kinds.specs.declared.message.Message.{Message}
+use Rattle.wamp_message_types.specs.declared.message.Message.{Message}
 use Rattle.realm_sessions.specs.declared.links.Link.{Link}
 use Rattle.realm_sessions.specs.Links.{is_of, has_id, by_transport, announces, put_session, set_session}
 use Rattle.realm_calls.specs.declared.calls.Open.{Open}

@@ -6,12 +6,12 @@ use Rattle.wamp_ids.specs.declared.uri.UriFault.{UriFault}
 use Rattle.wamp_ids.specs.Uri.{uri_of, is_reserved}
 use Rattle.wamp_values.specs.declared.args.Args.{Args}
 use Rattle.wamp_values.specs.declared.args.Args.TheVariants.{Nothing}
-use Rattle.wamp_elements.specs.declared.request_kind.RequestKind.TheVariants as kind
-use Rattle.wamp_kinds.specs.declared.message.Message.{Message}
-use Rattle.wamp_kinds.specs.declared.message.Message.TheVariants.{Reply}
-use Rattle.wamp_kinds.specs.declared.call.Call.{Call}
-use Rattle.wamp_kinds.specs.declared.call.Cancel.{Cancel}
-use Rattle.wamp_kinds.specs.declared.call.Yield.{Yield}
+use Rattle.wamp_message_layouts.specs.declared.request_kind.RequestKind.TheVariants as kind
+use Rattle.wamp_message_types.specs.declared.message.Message.{Message}
+use Rattle.wamp_message_types.specs.declared.message.Message.TheVariants.{Reply}
+use Rattle.wamp_message_types.specs.declared.call.Call.{Call}
+use Rattle.wamp_message_types.specs.declared.call.Cancel.{Cancel}
+use Rattle.wamp_message_types.specs.declared.call.Yield.{Yield}
 use Rattle.realm_sessions.specs.Links.{announces}
 use Rattle.realm_sessions.specs.Sessions.{Invoked, next_invocation}
 use Rattle.realm_registrations.specs.declared.registration.Chosen.{Chosen}

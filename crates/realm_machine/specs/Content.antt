@@ -3,8 +3,8 @@ use Rattle.std.specs.Prelude.{◌≡◌, ℕ, List, [], ◌∷◌, ◌++◌, Opt
 use Rattle.std.specs.declared.vec.Vec.{Vec}
 use Rattle.std.specs.declared.alloc.Global.{Global}
 use Rattle.paxos_packets.specs.declared.transport.Transport.{Transport}
-use Rattle.wamp_kinds.specs.declared.message.Message.{Message}
-use Rattle.wamp_elements.specs.declared.request_kind.RequestKind.{RequestKind}
+use Rattle.wamp_message_types.specs.declared.message.Message.{Message}
+use Rattle.wamp_message_layouts.specs.declared.request_kind.RequestKind.{RequestKind}
 use Rattle.realm_sayings.specs.declared.act.Say.{Say}
 use Rattle.realm_sayings.specs.Sayings.{say, refusal}
 use Rattle.realm_sessions.specs.declared.links.Link.{Link}

@@ -2,8 +2,8 @@
 -- docs/PROTOCOL.md, "The realm").
 use Rattle.std.specs.Prelude.{ℕ, not, Result, Ok, Err, bytes_eq, if◌then◌else◌}
 use Rattle.paxos_packets.specs.declared.transport.Transport.{Transport}
-use Rattle.wamp_kinds.specs.declared.session.Hello.{Hello}
-use Rattle.wamp_kinds.specs.declared.message.Message.TheVariants.{Welcome}
+use Rattle.wamp_message_types.specs.declared.session.Hello.{Hello}
+use Rattle.wamp_message_types.specs.declared.message.Message.TheVariants.{Welcome}
 use Rattle.realm_sessions.specs.declared.fault.RealmFault.{RealmFault}
 use Rattle.realm_sessions.specs.Sessions.{Sessions, Opened, open_session}
 use Rattle.realm_sayings.specs.Sayings.{limit, no_such_realm}

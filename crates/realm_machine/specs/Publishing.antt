@@ -2,9 +2,9 @@
 use Rattle.std.specs.Prelude.{ℕ, List, [], ◌∷◌, ◌++◌, Option, None, Some, if◌then◌else◌}
 use Rattle.std.specs.List.{flat_map}
 use Rattle.wamp_values.specs.declared.args.Args.{Args}
-use Rattle.wamp_elements.specs.declared.request_kind.RequestKind.TheVariants as kind
-use Rattle.wamp_kinds.specs.declared.publish.Publish.{Publish}
-use Rattle.wamp_kinds.specs.declared.message.Message.TheVariants as message
+use Rattle.wamp_message_layouts.specs.declared.request_kind.RequestKind.TheVariants as kind
+use Rattle.wamp_message_types.specs.declared.publish.Publish.{Publish}
+use Rattle.wamp_message_types.specs.declared.message.Message.TheVariants as message
 use Rattle.realm_subscriptions.specs.Receiving.{receivers}
 use Rattle.realm_sayings.specs.declared.act.Say.{Say}
 use Rattle.realm_sayings.specs.Sayings.{say, invalid_uri}

@@ -4,10 +4,10 @@ use Rattle.std.specs.Prelude.{ℕ, Result, Ok, Err}
 use Rattle.wamp_ids.specs.declared.policy.Invoke.{Invoke}
 use Rattle.wamp_ids.specs.declared.uri.UriFault.{UriFault}
 use Rattle.wamp_ids.specs.Pattern.{PatternValue, pattern_of}
-use Rattle.wamp_elements.specs.declared.request_kind.RequestKind.TheVariants as kind
-use Rattle.wamp_kinds.specs.declared.register.Register.{Register}
-use Rattle.wamp_kinds.specs.declared.register.Unregister.{Unregister}
-use Rattle.wamp_kinds.specs.declared.message.Message.TheVariants as message
+use Rattle.wamp_message_layouts.specs.declared.request_kind.RequestKind.TheVariants as kind
+use Rattle.wamp_message_types.specs.declared.register.Register.{Register}
+use Rattle.wamp_message_types.specs.declared.register.Unregister.{Unregister}
+use Rattle.wamp_message_types.specs.declared.message.Message.TheVariants as message
 use Rattle.realm_sessions.specs.declared.fault.RealmFault.{RealmFault}
 use Rattle.realm_registrations.specs.Registry.{Registry, Registered, Unregistered}
 use Rattle.realm_registrations.specs.Registry as registrations

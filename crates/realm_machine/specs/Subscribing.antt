@@ -3,9 +3,9 @@
 use Rattle.std.specs.Prelude.{ℕ, Result, Ok, Err}
 use Rattle.wamp_ids.specs.declared.uri.UriFault.{UriFault}
 use Rattle.wamp_ids.specs.Pattern.{PatternValue, pattern_of}
-use Rattle.wamp_elements.specs.declared.request_kind.RequestKind.TheVariants as kind
-use Rattle.wamp_kinds.specs.declared.subscribe.Subscribe.{Subscribe}
-use Rattle.wamp_kinds.specs.declared.message.Message.TheVariants as message
+use Rattle.wamp_message_layouts.specs.declared.request_kind.RequestKind.TheVariants as kind
+use Rattle.wamp_message_types.specs.declared.subscribe.Subscribe.{Subscribe}
+use Rattle.wamp_message_types.specs.declared.message.Message.TheVariants as message
 use Rattle.realm_sessions.specs.declared.fault.RealmFault.{RealmFault}
 use Rattle.realm_subscriptions.specs.Subscriptions.{Subscriptions}
 use Rattle.realm_subscriptions.specs.Subscribing.{Subscribed}

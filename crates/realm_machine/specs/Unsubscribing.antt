@@ -1,8 +1,8 @@
 -- How a client leaves one of its subscriptions (WAMP specification, "Publish and Subscribe"; docs/PROTOCOL.md, "The realm").
 use Rattle.std.specs.Prelude.{if◌then◌else◌}
-use Rattle.wamp_elements.specs.declared.request_kind.RequestKind.TheVariants as kind
-use Rattle.wamp_kinds.specs.declared.subscribe.Unsubscribe.{Unsubscribe}
-use Rattle.wamp_kinds.specs.declared.message.Message.TheVariants as message
+use Rattle.wamp_message_layouts.specs.declared.request_kind.RequestKind.TheVariants as kind
+use Rattle.wamp_message_types.specs.declared.subscribe.Unsubscribe.{Unsubscribe}
+use Rattle.wamp_message_types.specs.declared.message.Message.TheVariants as message
 use Rattle.realm_subscriptions.specs.Leaving.{is_in}
 use Rattle.realm_subscriptions.specs.Leaving as subscriptions
 use Rattle.realm_sayings.specs.Sayings.{no_such_subscription}

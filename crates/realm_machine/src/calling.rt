@@ -18,9 +18,9 @@ use realm_sayings::{
     add_told_canceled, failure, invocation,
 };
 use realm_sessions::laws::invocation_ids_are_found;
-use wamp_elements::RequestKind;
 use wamp_ids::{Id, Uri};
-use wamp_kinds::{Call, Cancel, Message, Reply, Yield};
+use wamp_message_layouts::RequestKind;
+use wamp_message_types::{Call, Cancel, Message, Reply, Yield};
 use wamp_values::Args;
 
 impl Content {

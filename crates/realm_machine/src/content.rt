@@ -11,9 +11,9 @@ use realm_sessions::{RealmFault, Sessions};
 use realm_subscriptions::Subscriptions;
 use std::alloc::Global;
 use std::marker::Model;
-use wamp_elements::RequestKind;
 use wamp_ids::Id;
-use wamp_kinds::Message;
+use wamp_message_layouts::RequestKind;
+use wamp_message_types::Message;
 
 // The content of a realm. What it does for an act comes in parts, each a case of the step. An error, for want of memory alone,
 // may leave a part undone.

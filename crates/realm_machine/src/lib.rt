@@ -26,4 +26,4 @@ pub use realm_acts::Act;
 pub use realm_sayings::{Out, Say};
 pub use replica_machine::Failed;
 pub use wamp_ids::Id;
-pub use wamp_kinds::{Message, Read};
+pub use wamp_message_types::{Message, Read};

@@ -9,7 +9,7 @@ use crate::content::Content;
 use paxos_packets::Transport;
 use realm_sayings::{LIMIT, Memory, NO_SUCH_REALM, Say};
 use wamp_ids::Id;
-use wamp_kinds::{Hello, Message, Welcome};
+use wamp_message_types::{Hello, Message, Welcome};
 
 impl Content {
     // A client at a connected transport without a session asks for one.

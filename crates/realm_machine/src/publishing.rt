@@ -6,9 +6,9 @@ ghost use Rattle.realm_machine.specs.Publishing.{publish, events};
 use crate::content::Content;
 use crate::requester::Requester;
 use realm_sayings::{INVALID_URI, Memory, Say, add_events_to, open_topic};
-use wamp_elements::RequestKind;
 use wamp_ids::{Id, Uri};
-use wamp_kinds::{Message, Publish, Published};
+use wamp_message_layouts::RequestKind;
+use wamp_message_types::{Message, Publish, Published};
 use wamp_values::Args;
 
 impl Content {

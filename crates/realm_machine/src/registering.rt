@@ -6,9 +6,9 @@ use crate::content::Content;
 use crate::requester::Requester;
 use realm_sayings::{INVALID_URI, Memory, Say};
 use realm_sessions::RealmFault;
-use wamp_elements::RequestKind;
 use wamp_ids::Pattern;
-use wamp_kinds::{Message, Register, Registered, Unregister, Unregistered};
+use wamp_message_layouts::RequestKind;
+use wamp_message_types::{Message, Register, Registered, Unregister, Unregistered};
 
 impl Content {
     // A client wants to be called for the procedures that a pattern matches.

@@ -3,7 +3,7 @@ ghost use Rattle.std.specs.Prelude.{◌≡◌, Some, None};
 ghost use Rattle.realm_sessions.specs.Links.{by_transport};
 ghost use Rattle.realm_machine.specs.Content.{Does};
 ghost use Rattle.realm_machine.specs.Calling.{unfit_call};
-ghost use Rattle.wamp_elements.specs.declared.request_kind.RequestKind.TheVariants as kind;
+ghost use Rattle.wamp_message_layouts.specs.declared.request_kind.RequestKind.TheVariants as kind;
 ghost use Rattle.realm_machine.specs.Step.{refuse_unless, on_unfit, on_error, on_request, on_opening, on_message, on_read, on_act};
 
 use crate::config::Config;
@@ -12,9 +12,9 @@ use crate::requester::Requester;
 use paxos_packets::Transport;
 use realm_acts::Act;
 use realm_sayings::{INVALID_ARGUMENT, Memory, Say};
-use wamp_elements::RequestKind;
 use wamp_ids::Id;
-use wamp_kinds::{Error, Message, Read, UnfitKind};
+use wamp_message_layouts::RequestKind;
+use wamp_message_types::{Error, Message, Read, UnfitKind};
 
 impl Content {
     // The step of an act.

@@ -1,15 +1,15 @@
 // How a client subscribes to a pattern of topics.
 ghost use Rattle.realm_machine.specs.Content.{Does, refuse};
-ghost use Rattle.wamp_elements.specs.declared.request_kind.RequestKind.TheVariants as kind;
+ghost use Rattle.wamp_message_layouts.specs.declared.request_kind.RequestKind.TheVariants as kind;
 ghost use Rattle.realm_machine.specs.Subscribing.{subscribe};
 
 use crate::content::Content;
 use crate::requester::Requester;
 use realm_sayings::{INVALID_URI, LIMIT, Memory, Say};
 use realm_sessions::RealmFault;
-use wamp_elements::RequestKind;
 use wamp_ids::{Id, Pattern};
-use wamp_kinds::{Message, Subscribe, Subscribed};
+use wamp_message_layouts::RequestKind;
+use wamp_message_types::{Message, Subscribe, Subscribed};
 
 impl Content {
     // A client asks for the events of the topics that a pattern matches.

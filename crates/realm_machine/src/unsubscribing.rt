@@ -5,8 +5,8 @@ ghost use Rattle.realm_machine.specs.Unsubscribing.{unsubscribe};
 use crate::content::Content;
 use crate::requester::Requester;
 use realm_sayings::{Memory, NO_SUCH_SUBSCRIPTION, Say};
-use wamp_elements::RequestKind;
-use wamp_kinds::{Message, Unsubscribe, Unsubscribed};
+use wamp_message_layouts::RequestKind;
+use wamp_message_types::{Message, Unsubscribe, Unsubscribed};
 
 impl Content {
     // A client asks for no more of a subscription's events.

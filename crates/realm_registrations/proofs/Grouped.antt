@@ -5,7 +5,7 @@ use Rattle.std.specs.List.{All, list_any}
 use Rattle.std.proofs.lemmas.Bool.{cond-true, cond-false, or_parts}
 use Rattle.std.proofs.lemmas.List.Elements.{All-head, All-tail}
 use Rattle.realm_sessions.specs.Members.{has_member, others}
-use Rattle.session_groups.specs.Groups as groups
+use Rattle.realm_groups.specs.Groups as groups
 use Rattle.realm_registrations.specs.declared.registration.Registration.{Registration}
 use Rattle.realm_registrations.specs.Registration.{has_callee, has_callees, without_callee}
 use Rattle.realm_registrations.specs.Registry.{change_first, found_callee}

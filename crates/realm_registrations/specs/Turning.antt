@@ -2,7 +2,7 @@
 use Rattle.std.proofs.Common.{◌≡◌, ℕ, ◌==◌, Bool, true, false, ◌||◌, List, [], ◌∷◌, length, refl, sym, ◌∙◌, arith, lt-ltb}
 use Rattle.std.proofs.lemmas.Bool.{cond_both}
 use Rattle.realm_sessions.specs.Members.{has_member, has_members, rotated}
-use Rattle.session_groups.proofs.Joining.{joined_held, joined_member}
+use Rattle.realm_groups.proofs.Joining.{joined_held, joined_member}
 use Rattle.realm_registrations.specs.declared.registration.Registration.{Registration}
 use Rattle.realm_registrations.specs.Registration.{takes_turns, turned}
 

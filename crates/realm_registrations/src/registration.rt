@@ -2,8 +2,8 @@ ghost use Rattle.std.specs.Prelude.{◌≡◌};
 ghost use Rattle.realm_registrations.specs.Registration.{has_callee, may_join, is_shared, called, chosen, takes_turns, same_invoke};
 
 use crate::callees::Callees;
+use realm_groups::{Group, Turning};
 use realm_sessions::RealmFault;
-use session_groups::{Group, Turning};
 use wamp_ids::{Id, Invoke, Match, Pattern};
 
 /// A registration: which procedures it serves, and the sessions that are called for them.

@@ -7,8 +7,8 @@ ghost use Rattle.realm_registrations.specs.Registry.{with_callee_at, without_cal
 
 use crate::callees::Callees;
 use crate::registration::{Chosen, Registration};
+use realm_groups::Groups;
 use realm_sessions::RealmFault;
-use session_groups::Groups;
 use std::alloc::Global;
 use std::marker::Model;
 use wamp_ids::{Id, Invoke, LAST_ID, Pattern, Uri};

@@ -2,7 +2,7 @@
 use Rattle.std.specs.Prelude.{ℕ, List, [], ◌∷◌, ◌++◌, Option, None, Some, if◌then◌else◌}
 use Rattle.paxos_packets.specs.declared.transport.Transport.{Transport}
 use Rattle.wamp_ids.specs.declared.policy.Mode.TheVariants.{KillNoWait}
-use Rattle.wamp_elements.specs.declared.request_kind.RequestKind.TheVariants as kind
+use Rattle.wamp_message_layouts.specs.declared.request_kind.RequestKind.TheVariants as kind
 use Rattle.realm_sessions.specs.declared.links.Link.{Link}
 use Rattle.realm_sessions.specs.Links.{announces}
 use Rattle.realm_calls.specs.declared.calls.Open.{Open}

@@ -5,8 +5,8 @@ use Rattle.wamp_ids.specs.declared.policy.Match.{Match}
 use Rattle.wamp_ids.specs.declared.policy.Match.TheVariants.{Exact, Prefix, Wildcard}
 use Rattle.wamp_ids.specs.Uri.{uri_of, is_reserved}
 use Rattle.wamp_values.specs.declared.args.Args.{Args}
-use Rattle.wamp_kinds.specs.declared.publish.Event.{Event}
-use Rattle.wamp_kinds.specs.declared.message.Message.TheVariants as message
+use Rattle.wamp_message_types.specs.declared.publish.Event.{Event}
+use Rattle.wamp_message_types.specs.declared.message.Message.TheVariants as message
 use Rattle.realm_subscriptions.specs.declared.receiving.Receiver.{Receiver}
 use Rattle.realm_sessions.specs.declared.links.Link.{Link}
 use Rattle.realm_sayings.specs.declared.act.Say.{Say}

@@ -5,10 +5,10 @@ use Rattle.wamp_ids.specs.declared.policy.Match.{Match}
 use Rattle.wamp_ids.specs.declared.policy.Match.TheVariants.{Exact, Prefix, Wildcard}
 use Rattle.wamp_ids.specs.declared.policy.Mode.{Mode}
 use Rattle.wamp_values.specs.declared.args.Args.{Args}
-use Rattle.wamp_elements.specs.declared.request_kind.RequestKind.TheVariants as kind
-use Rattle.wamp_kinds.specs.declared.message.Message.{Message}
-use Rattle.wamp_kinds.specs.declared.message.Message.TheVariants.{Error, Invocation, Interrupt}
-use Rattle.wamp_kinds.specs.declared.call.Call.{Call}
+use Rattle.wamp_message_layouts.specs.declared.request_kind.RequestKind.TheVariants as kind
+use Rattle.wamp_message_types.specs.declared.message.Message.{Message}
+use Rattle.wamp_message_types.specs.declared.message.Message.TheVariants.{Error, Invocation, Interrupt}
+use Rattle.wamp_message_types.specs.declared.call.Call.{Call}
 use Rattle.realm_sessions.specs.declared.links.Link.{Link}
 use Rattle.realm_registrations.specs.declared.registration.Chosen.{Chosen}
 use Rattle.realm_calls.specs.declared.calls.Open.{Open}

@@ -2,9 +2,9 @@
 use Rattle.std.specs.Prelude.{ℕ, List, [], ◌∷◌, Option, None, Some, codes}
 use Rattle.paxos_packets.specs.declared.transport.Transport.{Transport}
 use Rattle.wamp_values.specs.declared.args.Args.TheVariants.{Nothing}
-use Rattle.wamp_elements.specs.declared.request_kind.RequestKind.{RequestKind}
-use Rattle.wamp_kinds.specs.declared.message.Message.{Message}
-use Rattle.wamp_kinds.specs.declared.message.Message.TheVariants.{Abort, Goodbye, Error}
+use Rattle.wamp_message_layouts.specs.declared.request_kind.RequestKind.{RequestKind}
+use Rattle.wamp_message_types.specs.declared.message.Message.{Message}
+use Rattle.wamp_message_types.specs.declared.message.Message.TheVariants.{Abort, Goodbye, Error}
 use Rattle.realm_sayings.specs.declared.act.Out.TheVariants.{Send, Close}
 use Rattle.realm_sayings.specs.declared.act.Say.{Say}
 use Rattle.realm_sessions.specs.declared.links.Link.{Link}

@@ -1,5 +1,5 @@
 use paxos_packets::Transport;
-use wamp_kinds::Message;
+use wamp_message_types::Message;
 
 /// What is said to a transport.
 #[derive(Drop)]

@@ -14,8 +14,8 @@ use paxos_packets::Transport;
 use realm_calls::Open;
 use realm_sessions::Sessions;
 use std::alloc::Global;
-use wamp_elements::RequestKind;
 use wamp_ids::{Id, Mode};
+use wamp_message_layouts::RequestKind;
 
 /// The transport is sent why, and closed.
 pub fn add_end(

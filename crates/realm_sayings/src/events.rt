@@ -9,7 +9,7 @@ use realm_sessions::Sessions;
 use realm_subscriptions::Receiver;
 use std::alloc::Global;
 use wamp_ids::{Id, Match, Text, Uri};
-use wamp_kinds::{Event, Message};
+use wamp_message_types::{Event, Message};
 use wamp_values::Args;
 
 /// The events for these receivers, in their order. Cost: a look-up for each, and a copy of the topic into those events that name it.

@@ -10,9 +10,9 @@ use realm_calls::{Cancelled, Open};
 use realm_registrations::Chosen;
 use realm_sessions::Sessions;
 use std::alloc::Global;
-use wamp_elements::RequestKind;
 use wamp_ids::{Id, Match, Mode, Text};
-use wamp_kinds::{Call, Error, Interrupt, Invocation, Message};
+use wamp_message_layouts::RequestKind;
+use wamp_message_types::{Call, Error, Interrupt, Invocation, Message};
 use wamp_values::Args;
 
 // The INTERRUPT for a call.

@@ -5,9 +5,9 @@ use crate::act::{Out, Say};
 use crate::memory::Memory;
 use paxos_packets::Transport;
 use std::alloc::Global;
-use wamp_elements::RequestKind;
 use wamp_ids::{Id, Text};
-use wamp_kinds::{Abort, Error, Goodbye, Message};
+use wamp_message_layouts::RequestKind;
+use wamp_message_types::{Abort, Error, Goodbye, Message};
 use wamp_values::Args;
 
 // The URIs of errors (WAMP specification, "Predefined URIs"; the limit's is this profile's).

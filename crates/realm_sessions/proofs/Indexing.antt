@@ -4,12 +4,12 @@ use Rattle.std.proofs.Common.{refl, sym, ap, subst, ◌∙◌, arith, if◌then�
 use Rattle.std.proofs.lemmas.Bool.{eqb-true, false≢true}
 use Rattle.paxos_packets.specs.declared.transport.Transport.{Transport}
 use Rattle.paxos_packets.specs.Transport.{same_transport}
-use Rattle.keyed_lists.specs.Rows.{IsAbove, members, member_at, without, with_member}
-use Rattle.keyed_lists.specs.Finding.{AreRising, IsIndex}
-use Rattle.keyed_lists.proofs.Members.{count_pushed, count_without, members_pushed}
-use Rattle.keyed_lists.proofs.Telling.{index_came, index_back, index_gone}
-use Rattle.keyed_lists.proofs.Told.{told_member}
-use Rattle.keyed_lists.proofs.Changing.{index_changed, index_kept, index_longer, count_with}
+use Rattle.realm_lists.specs.Rows.{IsAbove, members, member_at, without, with_member}
+use Rattle.realm_lists.specs.Finding.{AreRising, IsIndex}
+use Rattle.realm_lists.proofs.Members.{count_pushed, count_without, members_pushed}
+use Rattle.realm_lists.proofs.Telling.{index_came, index_back, index_gone}
+use Rattle.realm_lists.proofs.Told.{told_member}
+use Rattle.realm_lists.proofs.Changing.{index_changed, index_kept, index_longer, count_with}
 use Rattle.realm_sessions.specs.declared.links.Session.{Session}
 use Rattle.realm_sessions.specs.declared.links.Link.{Link}
 use Rattle.realm_sessions.specs.Links.{is_of, is_session, has_id, is_open, has_session, is_connected, is_taken, session_count}

@@ -3,9 +3,9 @@ use Rattle.std.specs.Prelude.{◌≡◌, ℕ, ◌-◌, List, Option, IfSome, if�
 use Rattle.std.specs.declared.cmp.Ordering.{Ordering}
 use Rattle.std.specs.Ordering.{nat_cmp, ordering_then}
 use Rattle.paxos_packets.specs.declared.transport.Transport.{Transport}
-use Rattle.keyed_lists.specs.Rows.{members}
-use Rattle.keyed_lists.specs.Finding.{IsIndex}
-use Rattle.keyed_lists.specs.PlaceIndex.{place_at}
+use Rattle.realm_lists.specs.Rows.{members}
+use Rattle.realm_lists.specs.Finding.{IsIndex}
+use Rattle.realm_lists.specs.PlaceIndex.{place_at}
 use Rattle.realm_sessions.specs.declared.links.Link.{Link}
 use Rattle.realm_sessions.specs.declared.links.Session.{Session}
 use Rattle.realm_sessions.specs.Links.{is_of, has_id, is_open, session_count}

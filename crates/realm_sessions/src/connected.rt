@@ -9,8 +9,8 @@ ghost use Rattle.realm_sessions.specs.Connected.{less_one};
 use crate::fault::RealmFault;
 use crate::links::{Link, Session};
 use crate::session_index::SessionIndex;
-use keyed_lists::{PlaceTable, Rows};
 use paxos_packets::Transport;
+use realm_lists::{PlaceTable, Rows};
 use std::alloc::Global;
 use std::marker::Model;
 use wamp_ids::Id;
@@ -39,7 +39,7 @@ impl Drop for Connected {
 
 impl Model for Connected {
     ghost use Rattle.std.specs.Prelude.{List};
-    ghost use Rattle.keyed_lists.specs.Rows.{members};
+    ghost use Rattle.realm_lists.specs.Rows.{members};
     ghost use Rattle.realm_sessions.specs.declared.links.Link.{Link};
 
     ghost Value = { List Link };

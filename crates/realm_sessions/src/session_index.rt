@@ -1,11 +1,11 @@
 // Where sessions are, by their ids.
 ghost use Rattle.std.specs.Prelude.{◌≡◌, ℕ, ◌==◌, Option, None, Some, if◌then◌else◌};
-ghost use Rattle.keyed_lists.specs.Finding.{IsIndex, place_where};
+ghost use Rattle.realm_lists.specs.Finding.{IsIndex, place_where};
 ghost use Rattle.realm_sessions.specs.Links.{is_session, has_id};
 ghost use Rattle.realm_sessions.specs.Connected.{Follows};
 
 use crate::links::{Link, Session};
-use keyed_lists::{PlaceTable, Rows};
+use realm_lists::{PlaceTable, Rows};
 use std::alloc::Global;
 use wamp_ids::Id;
 

@@ -5,7 +5,7 @@ use Rattle.std.specs.List.{All, list_any}
 use Rattle.std.proofs.lemmas.Bool.{cond-true, cond-false, or_parts, false≢true}
 use Rattle.std.proofs.lemmas.List.Elements.{All-head, All-tail}
 use Rattle.realm_sessions.specs.Members.{has_member, others}
-use Rattle.session_groups.specs.Groups as groups
+use Rattle.realm_groups.specs.Groups as groups
 use Rattle.realm_subscriptions.specs.declared.subscription.Subscription.{Subscription}
 use Rattle.realm_subscriptions.specs.Subscription.{is_held, is_kept, is_member, without_member}
 use Rattle.realm_subscriptions.specs.Subscriptions.{Subscriptions, change_first, put_first, subscription_on}

@@ -6,12 +6,12 @@ use Rattle.std.specs.List.{list_any}
 use Rattle.std.specs.BTreeMap.{is_at}
 use Rattle.std.proofs.lemmas.Bool.{eqb-true, false≢true}
 use Rattle.realm_sessions.specs.Members.{has_member, joined, others}
-use Rattle.keyed_lists.specs.Rows.{IsAbove, member_at, members, without}
-use Rattle.keyed_lists.specs.Finding.{AreRising, IsIndex, is_passing}
-use Rattle.keyed_lists.proofs.Finding.{any_is_find, kept_all}
-use Rattle.keyed_lists.proofs.Members.{members_pushed}
-use Rattle.keyed_lists.proofs.Telling.{index_back, index_came, index_gone}
-use Rattle.keyed_lists.proofs.Told.{told_none, told_without}
+use Rattle.realm_lists.specs.Rows.{IsAbove, member_at, members, without}
+use Rattle.realm_lists.specs.Finding.{AreRising, IsIndex, is_passing}
+use Rattle.realm_lists.proofs.Finding.{any_is_find, kept_all}
+use Rattle.realm_lists.proofs.Members.{members_pushed}
+use Rattle.realm_lists.proofs.Telling.{index_back, index_came, index_gone}
+use Rattle.realm_lists.proofs.Told.{told_none, told_without}
 use Rattle.realm_subscriptions.specs.Members.{is_session, place_of}
 
 either_or : (a b : Bool) → b ≡ true → (a || b) ≡ true

@@ -1,7 +1,7 @@
 -- Members in the order of joining, kept at places that a session tells.
 use Rattle.std.specs.Prelude.{ℕ, ◌==◌, Bool, List, [], ◌∷◌, Option, None, Some}
 use Rattle.std.specs.Ordering.{nat_cmp}
-use Rattle.keyed_lists.specs.PlaceIndex.{place_at}
+use Rattle.realm_lists.specs.PlaceIndex.{place_at}
 
 abbrev pub is_session : ℕ → ℕ → Bool
 is_session session member = member == session

@@ -2,7 +2,7 @@ ghost use Rattle.std.specs.Prelude.{◌≡◌, false, [], OnOk, OnErr, IfOk, IsO
 ghost use Rattle.realm_sessions.specs.declared.fault.RealmFault.TheVariants as fault;
 ghost use Rattle.realm_sessions.specs.Members.{has_member, has_members, joined, others};
 
-use keyed_lists::{PlaceIndex, Rows};
+use realm_lists::{PlaceIndex, Rows};
 use realm_sessions::RealmFault;
 use std::alloc::Global;
 use std::marker::Model;
@@ -27,8 +27,8 @@ impl Drop for Later {
 
 impl Model for Later {
     ghost use Rattle.std.specs.Prelude.{List, ℕ};
-    ghost use Rattle.keyed_lists.specs.Rows.{members};
-    ghost use Rattle.keyed_lists.specs.Finding.{IsIndex};
+    ghost use Rattle.realm_lists.specs.Rows.{members};
+    ghost use Rattle.realm_lists.specs.Finding.{IsIndex};
     ghost use Rattle.realm_subscriptions.specs.Members.{is_session, place_of};
 
     ghost Value = { List ℕ };

@@ -1,6 +1,6 @@
 // How a session leaves a subscription, and all of them.
 ghost use Rattle.std.specs.Prelude.{◌≡◌, ◌==◌, true, find};
-ghost use Rattle.session_groups.specs.Groups.{found_session};
+ghost use Rattle.realm_groups.specs.Groups.{found_session};
 ghost use Rattle.realm_subscriptions.specs.Leaving.{is_in, leave, unsubscribe};
 
 use crate::subscriptions::Subscriptions;

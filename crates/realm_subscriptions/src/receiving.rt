@@ -7,8 +7,8 @@ ghost use Rattle.realm_sessions.specs.declared.fault.RealmFault.TheVariants as f
 ghost use Rattle.realm_subscriptions.specs.Receiving.{is_for, receiver};
 
 use crate::subscription::Subscription;
+use realm_groups::{Group, Groups};
 use realm_sessions::RealmFault;
-use session_groups::{Group, Groups};
 use std::alloc::Global;
 use wamp_ids::{Id, Match, Uri};
 

@@ -2,8 +2,8 @@ ghost use Rattle.std.specs.Prelude.{◌≡◌};
 ghost use Rattle.realm_subscriptions.specs.Subscription.{is_member};
 
 use crate::members::Members;
+use realm_groups::Group;
 use realm_sessions::RealmFault;
-use session_groups::Group;
 use wamp_ids::{Id, Pattern};
 
 /// A subscription, with the sessions that are its members in the order of joining.

@@ -8,8 +8,8 @@ ghost use Rattle.realm_subscriptions.specs.Receiving.{receivers};
 
 use crate::receiving::{Receiver, receivers_in};
 use crate::subscription::Subscription;
+use realm_groups::Groups;
 use realm_sessions::RealmFault;
-use session_groups::Groups;
 use std::alloc::Global;
 use std::marker::Model;
 use wamp_ids::{Id, Pattern, Uri};

@@ -1,7 +1,7 @@
 -- A realm that all nodes of a cluster follow (docs/PROTOCOL.md, "The realm"; docs/CONSENSUS.md, "What holds over every list of events").
 use Rattle.std.specs.Prelude.{◌≡◌, ℕ, suc, false, Some, slice_get}
 use Rattle.paxos_packets.specs.declared.transport.Transport.{Transport}
-use Rattle.log_follower.specs.Following.{Followed}
+use Rattle.replica_follower.specs.Following.{Followed}
 use Rattle.replica_machine.specs.Replay.{state, said}
 use Rattle.realm_registrations.specs.Laws.{AreSoundRegistrations}
 use Rattle.realm_acts.specs.declared.act.Act.{Act}

@@ -1,6 +1,6 @@
 use crate::pace::Pace;
 use paxos_packets::Members;
-use serve_lanes::Lobby;
+use serve_connections::Lobby;
 use std::sync::Arc;
 use std::time::Instant;
 

@@ -1,6 +1,6 @@
 use client_listener::{FromClient, ToClient};
 use rtrb::{Consumer, Producer};
-use serve_lanes::{Arrival, Lobby, SAYINGS_WAITING};
+use serve_connections::{Arrival, Lobby, SAYINGS_WAITING};
 
 /// With room for how many sayings or fewer the ring of a client is nearly full, and with room for how many it is nearly empty.
 const LITTLE_ROOM: usize = SAYINGS_WAITING / 4;

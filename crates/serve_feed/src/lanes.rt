@@ -3,10 +3,10 @@ use crate::look::Look;
 use client_listener::{FromClient, ToClient};
 use paxos_packets::Shared;
 use realm_acts::Act;
+use serve_connections::{Arrival, Lobby};
 use serve_draws::Draws;
-use serve_lanes::{Arrival, Lobby};
 use std::alloc::Global;
-use wamp_kinds::Read;
+use wamp_message_types::Read;
 
 /// How many lanes are looked at for one act at the most.
 const MOST_LOOKS: u16 = 512;

@@ -1,6 +1,6 @@
 use crate::home::Home;
 use actor_run::Gate;
-use serve_lanes::Lobby;
+use serve_connections::Lobby;
 use serve_ticks::BEATS_A_TICK;
 use std::cell::Cell;
 use std::sync::Wait;

@@ -11,7 +11,7 @@ use mail_table::{Mail, NodeSeat, Office, found};
 use node_actor::Members;
 use realm_machine::Act;
 use rtrb::{Consumer, Producer, RingBuffer};
-use serve_lanes::{Arrival, Door, Lobby, keep_door};
+use serve_connections::{Arrival, Door, Lobby, keep_door};
 use serve_stores::Stores;
 use std::alloc::Global;
 use std::io::{Eprint, ErrorKind, Read, Write};

@@ -3,5 +3,5 @@
 
 mod stores;
 
-pub use acceptor_keeper::KeeperFault;
+pub use store_keeper::KeeperFault;
 pub use stores::{Filed, Kept, Stores, open_in};

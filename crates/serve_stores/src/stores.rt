@@ -1,12 +1,12 @@
-use acceptor_keeper::{KeeperFault, MemKeeper};
 use acceptor_store::SqlKeeper;
-use act_codec::ActCoder;
 use command_codec::Coder;
 use paxos_packets::Body;
+use realm_codec::ActCoder;
 use realm_machine::Act;
 use sqlite::{Alter, Connection, File, FileStore};
 use sqlite_disk::Disk;
 use std::alloc::Global;
+use store_keeper::{KeeperFault, MemKeeper};
 
 /// Where the nodes' rows are kept.
 #[derive(Clone, Copy, Drop)]

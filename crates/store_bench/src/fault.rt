@@ -1,7 +1,7 @@
-use acceptor_keeper::KeeperFault;
 use sqlite::Error as SqliteError;
 use std::alloc::AllocError;
 use std::io;
+use store_keeper::KeeperFault;
 use thiserror::Error;
 
 /// Why a run ended before its end.

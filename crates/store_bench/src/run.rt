@@ -1,12 +1,12 @@
 // The runs: commits behind what a store has, and what they take.
 use crate::body::{LENGTH, Octets, Plain};
 use crate::fault::BenchFault;
-use acceptor_keeper::Keeper;
 use acceptor_store::SqlKeeper;
 use paxos_packets::{Ballot, Change, Entry, Rows, Slot, Vote, Votes};
 use sqlite::{Alter, Connection, File, FileStore};
 use std::alloc::Global;
 use std::time::{Duration, Instant};
+use store_keeper::Keeper;
 
 type Store<S> = SqlKeeper<Octets, Plain, S>;
 

@@ -13,8 +13,8 @@ use Rattle.paxos_packets.specs.declared.rows.Rows.{Rows}
 use Rattle.command_codec.specs.declared.fault.CodecFault.{CodecFault}
 use Rattle.command_codec.specs.Number.{Reading}
 use Rattle.command_codec.specs.Entry.{entry_reading}
-use Rattle.acceptor_keeper.specs.declared.fault.KeeperFault.{KeeperFault}
-use Rattle.acceptor_keeper.specs.declared.fault.KeeperFault.TheVariants.{Damaged, Version}
+use Rattle.store_keeper.specs.declared.fault.KeeperFault.{KeeperFault}
+use Rattle.store_keeper.specs.declared.fault.KeeperFault.TheVariants.{Damaged, Version}
 use Rattle.store_rows.specs.declared.rows.Numbers.{Numbers}
 
 -- the natural number that a value is

@@ -2,8 +2,8 @@ ghost use Rattle.std.specs.Prelude.{◌≡◌, ◌≤◌, ◌↔◌, true, OnOk,
 ghost use Rattle.paxos_packets.specs.Rows.{last_boot, raised};
 ghost use Rattle.store_rows.specs.Numbers.{are_numbers, numbers_in_rows};
 
-use acceptor_keeper::KeeperFault;
 use paxos_packets::Rows;
+use store_keeper::KeeperFault;
 
 // The greatest boot number.
 const LAST_BOOT: u64 = (1 << 48) - 1;

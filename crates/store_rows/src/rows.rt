@@ -4,12 +4,12 @@ ghost use Rattle.store_rows.specs.Rows.{number, octets, within, if_within, slot_
 ghost use Rattle.store_rows.specs.Numbers.{are_numbers, numbers_in_rows};
 ghost use Rattle.store_rows.specs.Faults.{LiesBelow};
 
-use acceptor_keeper::KeeperFault;
 use command_codec::{CodecFault, Coder, take_entry};
 use paxos_packets::{Ballot, Entry, Rows, Slot, Vote, Votes};
 use sqlite::Row;
 use sqlite::types::ValueRef;
 use std::alloc::Global;
+use store_keeper::KeeperFault;
 
 /// The numbers that `meta` keeps beside the version.
 #[derive(Clone, Copy, Debug, PartialEq, Eq)]

@@ -3,22 +3,22 @@ use Rattle.std.proofs.Common.{◌≡◌, ◌∙◌, ℕ, ◌==◌, Bool, true, f
 use Rattle.std.specs.Prelude.{Result, Ok, Err, find, if◌then◌else◌}
 use Rattle.serde_json.specs.Data.{unsigned, Data, number, array, Items, no_items, item}
 use Rattle.wamp_values.specs.declared.args.Args.{Args}
-use Rattle.wamp_elements.specs.Codes as code
-use Rattle.wamp_elements.specs.declared.fault.MessageFault.{MessageFault}
-use Rattle.wamp_elements.specs.declared.fault.MessageFault.TheVariants.{Kind}
-use Rattle.wamp_elements.specs.declared.refusal.Refusal.{Refusal}
-use Rattle.wamp_elements.specs.declared.request_kind.RequestKind.{RequestKind}
-use Rattle.wamp_elements.specs.Layouts.{Layout, taken, first_fault, text_dictionary, named_of, id_dictionary, numbered_of}
-use Rattle.wamp_elements.specs.Layouts.{dictionary_text, dictionary_text_args, reason_of, refusal, refusal_of, Asked, asked_of}
-use Rattle.wamp_elements.specs.Layouts.{id_dictionary_text, id_dictionary_text_args, two_ids, two_ids_of, two_ids_label_args, labelled_of}
-use Rattle.wamp_elements.specs.Layouts.{one_id, one_id_of, id_dictionary_args, answer_of, id_mode, stopped_of, Numbered}
-use Rattle.wamp_elements.specs.declared.layouts.Answered.{Answered}
+use Rattle.wamp_message_layouts.specs.Codes as code
+use Rattle.wamp_message_layouts.specs.declared.fault.MessageFault.{MessageFault}
+use Rattle.wamp_message_layouts.specs.declared.fault.MessageFault.TheVariants.{Kind}
+use Rattle.wamp_message_layouts.specs.declared.refusal.Refusal.{Refusal}
+use Rattle.wamp_message_layouts.specs.declared.request_kind.RequestKind.{RequestKind}
+use Rattle.wamp_message_layouts.specs.Layouts.{Layout, taken, first_fault, text_dictionary, named_of, id_dictionary, numbered_of}
+use Rattle.wamp_message_layouts.specs.Layouts.{dictionary_text, dictionary_text_args, reason_of, refusal, refusal_of, Asked, asked_of}
+use Rattle.wamp_message_layouts.specs.Layouts.{id_dictionary_text, id_dictionary_text_args, two_ids, two_ids_of, two_ids_label_args, labelled_of}
+use Rattle.wamp_message_layouts.specs.Layouts.{one_id, one_id_of, id_dictionary_args, answer_of, id_mode, stopped_of, Numbered}
+use Rattle.wamp_message_layouts.specs.declared.layouts.Answered.{Answered}
 use Rattle.wamp_options.specs.Options.{flag_in, match_in, invoke_in, mode_in}
-use Rattle.wamp_elements.proofs.FirstFault.{fault_in, taken_first}
+use Rattle.wamp_message_layouts.proofs.FirstFault.{fault_in, taken_first}
 use Rattle.wamp_ids.specs.declared.policy.Match.{Match}
 use Rattle.wamp_ids.specs.declared.policy.Invoke.{Invoke}
 use Rattle.wamp_ids.specs.declared.policy.Mode.{Mode}
-use Rattle.wamp_kinds.specs.declared.read_result.Read.{Read}
+use Rattle.wamp_message_types.specs.declared.read_result.Read.{Read}
 use Rattle.wamp_messages.specs.ReadResult.{read_as}
 use Rattle.wamp_messages.specs.Session.{hello_read, welcome_read, abort_read, goodbye_read}
 use Rattle.wamp_messages.specs.Error.{error_with, error_read}

@@ -5,11 +5,11 @@ use Rattle.serde_json.specs.Find.{get, as_bool, as_number, as_u64}
 use Rattle.std.specs.Prelude.{option_and_then}
 use Rattle.wamp_values.specs.Options.{bool_at}
 use Rattle.wamp_values.specs.declared.args.Args.{Args}
-use Rattle.wamp_elements.specs.Elements.{args_given, id_of, text_of}
-use Rattle.wamp_elements.specs.Layouts.{checked_with, id_dictionary_text_args, Asked, asked_of, args_taken}
+use Rattle.wamp_message_layouts.specs.Elements.{args_given, id_of, text_of}
+use Rattle.wamp_message_layouts.specs.Layouts.{checked_with, id_dictionary_text_args, Asked, asked_of, args_taken}
 use Rattle.wamp_options.specs.Options.{flag_in}
-use Rattle.wamp_elements.specs.declared.fault.MessageFault.{MessageFault}
-use Rattle.wamp_elements.specs.declared.fault.MessageFault.TheVariants.{Shape, IdRange}
+use Rattle.wamp_message_layouts.specs.declared.fault.MessageFault.{MessageFault}
+use Rattle.wamp_message_layouts.specs.declared.fault.MessageFault.TheVariants.{Shape, IdRange}
 use Rattle.wamp_messages.specs.Flags.{Tells, flag_of, flagged_read, flagged_in}
 use Rattle.wamp_messages.specs.Publish.{publish_with, publish_read, publish_in}
 use Rattle.wamp_messages.specs.ReadResult.{read_as}

@@ -14,18 +14,18 @@ use Rattle.wamp_values.specs.declared.args.Args.{Args}
 use Rattle.wamp_values.specs.Tokens.{data_tokens}
 use Rattle.wamp_values.proofs.Texts.{print_tokens}
 use Rattle.wamp_values.proofs.ReadBack.{reads_back}
-use Rattle.wamp_elements.specs.declared.request_kind.RequestKind.{RequestKind}
-use Rattle.wamp_elements.specs.declared.request_kind.RequestKind.TheVariants as kind
-use Rattle.wamp_kinds.specs.declared.message.Message.{Message}
-use Rattle.wamp_kinds.specs.declared.message.Message.TheVariants.{Hello, Welcome, Abort, Goodbye, Error, Publish, Published}
-use Rattle.wamp_kinds.specs.declared.message.Message.TheVariants.{Subscribe, Subscribed, Event, Unsubscribe, Unsubscribed}
-use Rattle.wamp_kinds.specs.declared.message.Message.TheVariants.{Register, Registered, Unregister, Unregistered}
-use Rattle.wamp_kinds.specs.declared.message.Message.TheVariants.{Call, Cancel, Reply, Invocation, Interrupt, Yield}
-use Rattle.wamp_kinds.specs.declared.read_result.Read.TheVariants.{Good}
+use Rattle.wamp_message_layouts.specs.declared.request_kind.RequestKind.{RequestKind}
+use Rattle.wamp_message_layouts.specs.declared.request_kind.RequestKind.TheVariants as kind
+use Rattle.wamp_message_types.specs.declared.message.Message.{Message}
+use Rattle.wamp_message_types.specs.declared.message.Message.TheVariants.{Hello, Welcome, Abort, Goodbye, Error, Publish, Published}
+use Rattle.wamp_message_types.specs.declared.message.Message.TheVariants.{Subscribe, Subscribed, Event, Unsubscribe, Unsubscribed}
+use Rattle.wamp_message_types.specs.declared.message.Message.TheVariants.{Register, Registered, Unregister, Unregistered}
+use Rattle.wamp_message_types.specs.declared.message.Message.TheVariants.{Call, Cancel, Reply, Invocation, Interrupt, Yield}
+use Rattle.wamp_message_types.specs.declared.read_result.Read.TheVariants.{Good}
 use Rattle.wamp_messages.specs.Writing.{value_of, text_of}
 use Rattle.wamp_messages.specs.Reading.{by_code, read_of, message_in}
 use Rattle.wamp_messages.specs.Message.{HasParts, IsMessage}
-use Rattle.wamp_elements.proofs.ArgsAgain.{args_again}
+use Rattle.wamp_message_layouts.proofs.ArgsAgain.{args_again}
 use Rattle.wamp_messages.proofs.Values.{value_is_plain, value_nests}
 use Rattle.wamp_messages.proofs.Json.{json_read}
 

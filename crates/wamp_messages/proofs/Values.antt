@@ -11,15 +11,15 @@ use Rattle.wamp_ids.specs.declared.policy.Mode.{Mode}
 use Rattle.wamp_ids.specs.declared.policy.Mode.TheVariants.{Skip, Kill, KillNoWait}
 use Rattle.wamp_values.specs.Payload.{IsPlain}
 use Rattle.wamp_values.proofs.Plain.{args_are_plain, args_nest}
-use Rattle.wamp_elements.specs.declared.request_kind.RequestKind.{RequestKind}
-use Rattle.wamp_elements.specs.declared.request_kind.RequestKind.TheVariants as kind
-use Rattle.wamp_elements.specs.RequestKind.{code_of}
-use Rattle.wamp_elements.specs.Parts.{nothing, label_details}
-use Rattle.wamp_kinds.specs.declared.message.Message.{Message}
-use Rattle.wamp_kinds.specs.declared.message.Message.TheVariants.{Hello, Welcome, Abort, Goodbye, Error, Publish, Published}
-use Rattle.wamp_kinds.specs.declared.message.Message.TheVariants.{Subscribe, Subscribed, Event, Unsubscribe, Unsubscribed}
-use Rattle.wamp_kinds.specs.declared.message.Message.TheVariants.{Register, Registered, Unregister, Unregistered}
-use Rattle.wamp_kinds.specs.declared.message.Message.TheVariants.{Call, Cancel, Reply, Invocation, Interrupt, Yield}
+use Rattle.wamp_message_layouts.specs.declared.request_kind.RequestKind.{RequestKind}
+use Rattle.wamp_message_layouts.specs.declared.request_kind.RequestKind.TheVariants as kind
+use Rattle.wamp_message_layouts.specs.RequestKind.{code_of}
+use Rattle.wamp_message_layouts.specs.Parts.{nothing, label_details}
+use Rattle.wamp_message_types.specs.declared.message.Message.{Message}
+use Rattle.wamp_message_types.specs.declared.message.Message.TheVariants.{Hello, Welcome, Abort, Goodbye, Error, Publish, Published}
+use Rattle.wamp_message_types.specs.declared.message.Message.TheVariants.{Subscribe, Subscribed, Event, Unsubscribe, Unsubscribed}
+use Rattle.wamp_message_types.specs.declared.message.Message.TheVariants.{Register, Registered, Unregister, Unregistered}
+use Rattle.wamp_message_types.specs.declared.message.Message.TheVariants.{Call, Cancel, Reply, Invocation, Interrupt, Yield}
 use Rattle.wamp_messages.specs.Session.{hello_details, welcome_details, broker, dealer}
 use Rattle.wamp_messages.specs.Publish.{publish_options}
 use Rattle.wamp_messages.specs.Subscribe.{match_options}

@@ -7,24 +7,24 @@ use Rattle.wamp_ids.specs.declared.policy.Mode.TheVariants.{Skip, Kill, KillNoWa
 use Rattle.wamp_values.specs.Args.{args_items}
 use Rattle.wamp_values.specs.declared.args.Args.{Args}
 use Rattle.wamp_values.specs.declared.args.Args.TheVariants.{Nothing}
-use Rattle.wamp_elements.specs.Codes as code
-use Rattle.wamp_elements.specs.Parts.{whole, only, nothing, label_details}
+use Rattle.wamp_message_layouts.specs.Codes as code
+use Rattle.wamp_message_layouts.specs.Parts.{whole, only, nothing, label_details}
 use Rattle.wamp_options.specs.Options.{mode_in}
-use Rattle.wamp_elements.specs.declared.layouts.Labelled.{Labelled}
-use Rattle.wamp_elements.specs.declared.layouts.Stopped.{Stopped}
-use Rattle.wamp_elements.specs.declared.layouts.Answered.{Answered}
-use Rattle.wamp_elements.specs.Layouts.{taken, id_dictionary_text_args, Asked, asked_of, id_dictionary, Numbered, numbered_of}
-use Rattle.wamp_elements.specs.Layouts.{id_dictionary_args, answer_of, two_ids_label_args, labelled_of, id_mode, stopped_of}
-use Rattle.wamp_kinds.specs.declared.call.Call.{Call}
-use Rattle.wamp_kinds.specs.declared.call.Cancel.{Cancel}
-use Rattle.wamp_kinds.specs.declared.call.Reply.{Reply}
-use Rattle.wamp_kinds.specs.declared.call.Invocation.{Invocation}
-use Rattle.wamp_kinds.specs.declared.call.Interrupt.{Interrupt}
-use Rattle.wamp_kinds.specs.declared.call.Yield.{Yield}
-use Rattle.wamp_kinds.specs.declared.message.Message.TheVariants as message
-use Rattle.wamp_kinds.specs.declared.read_result.UnfitKind.TheVariants as unfit
-use Rattle.wamp_kinds.specs.declared.read_result.Read.{Read}
-use Rattle.wamp_kinds.specs.declared.read_result.Read.TheVariants.{Good, Unfit}
+use Rattle.wamp_message_layouts.specs.declared.layouts.Labelled.{Labelled}
+use Rattle.wamp_message_layouts.specs.declared.layouts.Stopped.{Stopped}
+use Rattle.wamp_message_layouts.specs.declared.layouts.Answered.{Answered}
+use Rattle.wamp_message_layouts.specs.Layouts.{taken, id_dictionary_text_args, Asked, asked_of, id_dictionary, Numbered, numbered_of}
+use Rattle.wamp_message_layouts.specs.Layouts.{id_dictionary_args, answer_of, two_ids_label_args, labelled_of, id_mode, stopped_of}
+use Rattle.wamp_message_types.specs.declared.call.Call.{Call}
+use Rattle.wamp_message_types.specs.declared.call.Cancel.{Cancel}
+use Rattle.wamp_message_types.specs.declared.call.Reply.{Reply}
+use Rattle.wamp_message_types.specs.declared.call.Invocation.{Invocation}
+use Rattle.wamp_message_types.specs.declared.call.Interrupt.{Interrupt}
+use Rattle.wamp_message_types.specs.declared.call.Yield.{Yield}
+use Rattle.wamp_message_types.specs.declared.message.Message.TheVariants as message
+use Rattle.wamp_message_types.specs.declared.read_result.UnfitKind.TheVariants as unfit
+use Rattle.wamp_message_types.specs.declared.read_result.Read.{Read}
+use Rattle.wamp_message_types.specs.declared.read_result.Read.TheVariants.{Good, Unfit}
 use Rattle.wamp_messages.specs.ReadResult.{read_as}
 
 -- ---- CALL: Request, Options, Procedure, Args

@@ -3,17 +3,17 @@ use Rattle.std.specs.Prelude.{ℕ, false, List, Option, Some, None}
 use Rattle.serde_json.specs.Data.{Data, string, array, Items, item}
 use Rattle.wamp_values.specs.Args.{args_items}
 use Rattle.wamp_values.specs.declared.args.Args.{Args}
-use Rattle.wamp_elements.specs.Codes as code
-use Rattle.wamp_elements.specs.Parts.{whole, nothing}
-use Rattle.wamp_elements.specs.RequestKind.{code_of}
-use Rattle.wamp_elements.specs.declared.request_kind.RequestKind.{RequestKind}
-use Rattle.wamp_elements.specs.declared.refusal.Refusal.{Refusal}
-use Rattle.wamp_elements.specs.Layouts.{taken, refusal, refusal_of}
-use Rattle.wamp_kinds.specs.declared.error.Error.{Error}
-use Rattle.wamp_kinds.specs.declared.message.Message.TheVariants as message
-use Rattle.wamp_kinds.specs.declared.read_result.UnfitKind.TheVariants as unfit
-use Rattle.wamp_kinds.specs.declared.read_result.Read.{Read}
-use Rattle.wamp_kinds.specs.declared.read_result.Read.TheVariants.{Good, Unfit}
+use Rattle.wamp_message_layouts.specs.Codes as code
+use Rattle.wamp_message_layouts.specs.Parts.{whole, nothing}
+use Rattle.wamp_message_layouts.specs.RequestKind.{code_of}
+use Rattle.wamp_message_layouts.specs.declared.request_kind.RequestKind.{RequestKind}
+use Rattle.wamp_message_layouts.specs.declared.refusal.Refusal.{Refusal}
+use Rattle.wamp_message_layouts.specs.Layouts.{taken, refusal, refusal_of}
+use Rattle.wamp_message_types.specs.declared.error.Error.{Error}
+use Rattle.wamp_message_types.specs.declared.message.Message.TheVariants as message
+use Rattle.wamp_message_types.specs.declared.read_result.UnfitKind.TheVariants as unfit
+use Rattle.wamp_message_types.specs.declared.read_result.Read.{Read}
+use Rattle.wamp_message_types.specs.declared.read_result.Read.TheVariants.{Good, Unfit}
 use Rattle.wamp_messages.specs.ReadResult.{read_as}
 
 -- ---- ERROR: Type, Request, Details, Error, Args

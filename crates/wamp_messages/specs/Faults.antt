@@ -1,11 +1,11 @@
 -- The faults of octets that are no message, each by itself (docs/PROTOCOL.md, "Reading").
 use Rattle.std.specs.Prelude.{Bool, true, false, not, List, [], ◌∷◌, ℕ, Option, Some, None, is_some}
 use Rattle.serde_json.specs.Data.{unsigned, Data, number, array, Items, no_items, item}
-use Rattle.wamp_elements.specs.declared.fault.MessageFault.{MessageFault}
-use Rattle.wamp_elements.specs.declared.fault.MessageFault.TheVariants.{NotJson, NotArray, Kind, Length, Shape, IdRange}
-use Rattle.wamp_elements.specs.Layouts.{Layout, has_length, has_shape, has_range}
-use Rattle.wamp_kinds.specs.declared.read_result.Read.{Read}
-use Rattle.wamp_kinds.specs.declared.read_result.Read.TheVariants.{Good, Unfit, Bad}
+use Rattle.wamp_message_layouts.specs.declared.fault.MessageFault.{MessageFault}
+use Rattle.wamp_message_layouts.specs.declared.fault.MessageFault.TheVariants.{NotJson, NotArray, Kind, Length, Shape, IdRange}
+use Rattle.wamp_message_layouts.specs.Layouts.{Layout, has_length, has_shape, has_range}
+use Rattle.wamp_message_types.specs.declared.read_result.Read.{Read}
+use Rattle.wamp_message_types.specs.declared.read_result.Read.TheVariants.{Good, Unfit, Bad}
 use Rattle.wamp_messages.specs.Layouts.{layout_of}
 use Rattle.wamp_messages.specs.Reading.{json_of}
 

@@ -5,8 +5,8 @@ use Rattle.serde_json.specs.Find.{as_bool}
 use Rattle.wamp_values.specs.Options.{bool_at, is_or_other}
 use Rattle.wamp_values.specs.declared.options.Found.{Found}
 use Rattle.wamp_values.specs.declared.options.Found.TheVariants.{Absent, Is, Other}
-use Rattle.wamp_elements.specs.Layouts.{taken, id_dictionary_text_args, Asked, asked_of}
-use Rattle.wamp_kinds.specs.declared.read_result.Read.{Read}
+use Rattle.wamp_message_layouts.specs.Layouts.{taken, id_dictionary_text_args, Asked, asked_of}
+use Rattle.wamp_message_types.specs.declared.read_result.Read.{Read}
 use Rattle.wamp_messages.specs.ReadResult.{read_as}
 use Rattle.wamp_messages.specs.Publish.{publish_with}
 use Rattle.wamp_messages.specs.declared.flags.Flags.{Flags}

@@ -1,7 +1,7 @@
 -- What holds of messages and their texts (docs/PROTOCOL.md, "Reading" and "Writing").
 use Rattle.std.specs.Prelude.{◌≡◌, ℕ, List, find}
-use Rattle.wamp_kinds.specs.declared.message.Message.{Message}
-use Rattle.wamp_kinds.specs.declared.read_result.Read.TheVariants.{Good}
+use Rattle.wamp_message_types.specs.declared.message.Message.{Message}
+use Rattle.wamp_message_types.specs.declared.read_result.Read.TheVariants.{Good}
 use Rattle.wamp_messages.specs.Message.{IsMessage}
 use Rattle.wamp_messages.specs.Reading.{read_of}
 use Rattle.wamp_messages.specs.Writing.{text_of}

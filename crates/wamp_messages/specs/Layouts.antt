@@ -2,9 +2,9 @@
 -- this profile: docs/PROTOCOL.md, "Messages").
 use Rattle.std.specs.Prelude.{ℕ, ◌==◌, true, false, Option, Some, None, codes, if◌then◌else◌}
 use Rattle.serde_json.specs.Data.{Items}
-use Rattle.wamp_elements.specs.Codes as code
-use Rattle.wamp_elements.specs.Layouts.{Layout, text_dictionary, id_dictionary, dictionary_text, dictionary_text_args, refusal}
-use Rattle.wamp_elements.specs.Layouts.{id_dictionary_text, id_dictionary_text_args, one_id, two_ids, two_ids_label_args, id_dictionary_args, id_mode}
+use Rattle.wamp_message_layouts.specs.Codes as code
+use Rattle.wamp_message_layouts.specs.Layouts.{Layout, text_dictionary, id_dictionary, dictionary_text, dictionary_text_args, refusal}
+use Rattle.wamp_message_layouts.specs.Layouts.{id_dictionary_text, id_dictionary_text_args, one_id, two_ids, two_ids_label_args, id_dictionary_args, id_mode}
 
 -- by the code and what stands behind it; none where no message has that code
 abbrev pub layout_of : ℕ → Items → Option Layout

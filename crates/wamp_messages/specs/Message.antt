@@ -4,11 +4,11 @@ use Rattle.std.specs.Prelude.{ℕ, IsTrue, ⊤}
 use Rattle.std.specs.Str.{IsUtf8}
 use Rattle.wamp_ids.specs.Id.{is_id}
 use Rattle.wamp_values.specs.Args.{IsArgs}
-use Rattle.wamp_kinds.specs.declared.message.Message.{Message}
-use Rattle.wamp_kinds.specs.declared.message.Message.TheVariants.{Hello, Welcome, Abort, Goodbye, Error, Publish, Published}
-use Rattle.wamp_kinds.specs.declared.message.Message.TheVariants.{Subscribe, Subscribed, Event, Unsubscribe, Unsubscribed}
-use Rattle.wamp_kinds.specs.declared.message.Message.TheVariants.{Register, Registered, Unregister, Unregistered}
-use Rattle.wamp_kinds.specs.declared.message.Message.TheVariants.{Call, Cancel, Reply, Invocation, Interrupt, Yield}
+use Rattle.wamp_message_types.specs.declared.message.Message.{Message}
+use Rattle.wamp_message_types.specs.declared.message.Message.TheVariants.{Hello, Welcome, Abort, Goodbye, Error, Publish, Published}
+use Rattle.wamp_message_types.specs.declared.message.Message.TheVariants.{Subscribe, Subscribed, Event, Unsubscribe, Unsubscribed}
+use Rattle.wamp_message_types.specs.declared.message.Message.TheVariants.{Register, Registered, Unregister, Unregistered}
+use Rattle.wamp_message_types.specs.declared.message.Message.TheVariants.{Call, Cancel, Reply, Invocation, Interrupt, Yield}
 use Rattle.wamp_messages.specs.Writing.{text_of}
 
 abbrev pub IsId : ℕ → Type 0

@@ -6,7 +6,7 @@ use Rattle.serde_json.specs.Data.{Data, Items, item}
 use Rattle.serde_json.specs.Read.{of_items, converted}
 use Rattle.serde_json.specs.View.{view, items_view}
 use Rattle.serde_json.specs.declared.value.Value.{Value}
-use Rattle.wamp_kinds.specs.declared.read_result.Read.{Read}
+use Rattle.wamp_message_types.specs.declared.read_result.Read.{Read}
 use Rattle.wamp_messages.specs.Flags.{flagged_in}
 use Rattle.wamp_messages.specs.Reading.{list_in}
 use Rattle.wamp_messages.specs.declared.outermost.Elements.{Elements}

@@ -4,19 +4,19 @@ use Rattle.std.specs.Prelude.{ℕ, Bool, true, false, not, List, Option, Some, N
 use Rattle.serde_json.specs.Data.{Data, string, boolean, array, object, Items, no_items, item, no_members, member}
 use Rattle.wamp_values.specs.Args.{args_items}
 use Rattle.wamp_values.specs.declared.args.Args.{Args}
-use Rattle.wamp_elements.specs.Codes as code
-use Rattle.wamp_elements.specs.Parts.{whole, only, nothing, label_details}
+use Rattle.wamp_message_layouts.specs.Codes as code
+use Rattle.wamp_message_layouts.specs.Parts.{whole, only, nothing, label_details}
 use Rattle.wamp_options.specs.Options.{flag_in}
-use Rattle.wamp_elements.specs.declared.layouts.TwoIds.{TwoIds}
-use Rattle.wamp_elements.specs.declared.layouts.Labelled.{Labelled}
-use Rattle.wamp_elements.specs.Layouts.{taken, two_ids, two_ids_of, id_dictionary_text_args, Asked, asked_of, two_ids_label_args, labelled_of}
-use Rattle.wamp_kinds.specs.declared.publish.Publish.{Publish}
-use Rattle.wamp_kinds.specs.declared.publish.Published.{Published}
-use Rattle.wamp_kinds.specs.declared.publish.Event.{Event}
-use Rattle.wamp_kinds.specs.declared.message.Message.TheVariants as message
-use Rattle.wamp_kinds.specs.declared.read_result.UnfitKind.TheVariants as unfit
-use Rattle.wamp_kinds.specs.declared.read_result.Read.{Read}
-use Rattle.wamp_kinds.specs.declared.read_result.Read.TheVariants.{Good, Unfit}
+use Rattle.wamp_message_layouts.specs.declared.layouts.TwoIds.{TwoIds}
+use Rattle.wamp_message_layouts.specs.declared.layouts.Labelled.{Labelled}
+use Rattle.wamp_message_layouts.specs.Layouts.{taken, two_ids, two_ids_of, id_dictionary_text_args, Asked, asked_of, two_ids_label_args, labelled_of}
+use Rattle.wamp_message_types.specs.declared.publish.Publish.{Publish}
+use Rattle.wamp_message_types.specs.declared.publish.Published.{Published}
+use Rattle.wamp_message_types.specs.declared.publish.Event.{Event}
+use Rattle.wamp_message_types.specs.declared.message.Message.TheVariants as message
+use Rattle.wamp_message_types.specs.declared.read_result.UnfitKind.TheVariants as unfit
+use Rattle.wamp_message_types.specs.declared.read_result.Read.{Read}
+use Rattle.wamp_message_types.specs.declared.read_result.Read.TheVariants.{Good, Unfit}
 use Rattle.wamp_messages.specs.ReadResult.{read_as}
 
 -- ---- PUBLISH: Request, Options, Topic, Args

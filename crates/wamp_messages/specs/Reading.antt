@@ -4,10 +4,10 @@ use Rattle.std.specs.Prelude.{ℕ, ◌==◌, List, Option, Some, None, if◌then
 use Rattle.std.specs.Str.{is_utf8}
 use Rattle.serde_json.specs.Data.{unsigned, Data, number, array, Items, item}
 use Rattle.serde_json.specs.Read.{read}
-use Rattle.wamp_elements.specs.Codes as code
-use Rattle.wamp_elements.specs.declared.fault.MessageFault.TheVariants.{NotJson, NotArray, Kind}
-use Rattle.wamp_kinds.specs.declared.read_result.Read.{Read}
-use Rattle.wamp_kinds.specs.declared.read_result.Read.TheVariants.{Bad}
+use Rattle.wamp_message_layouts.specs.Codes as code
+use Rattle.wamp_message_layouts.specs.declared.fault.MessageFault.TheVariants.{NotJson, NotArray, Kind}
+use Rattle.wamp_message_types.specs.declared.read_result.Read.{Read}
+use Rattle.wamp_message_types.specs.declared.read_result.Read.TheVariants.{Bad}
 use Rattle.wamp_messages.specs.Session.{hello_in, welcome_in, abort_in, goodbye_in}
 use Rattle.wamp_messages.specs.Error.{error_in}
 use Rattle.wamp_messages.specs.Publish.{publish_in, published_in, event_in}

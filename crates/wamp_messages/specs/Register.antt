@@ -6,19 +6,19 @@ use Rattle.wamp_ids.specs.declared.policy.Match.{Match}
 use Rattle.wamp_ids.specs.declared.policy.Match.TheVariants.{Exact, Prefix, Wildcard}
 use Rattle.wamp_ids.specs.declared.policy.Invoke.{Invoke}
 use Rattle.wamp_ids.specs.declared.policy.Invoke.TheVariants.{Single, First, Last, RoundRobin}
-use Rattle.wamp_elements.specs.Codes as code
-use Rattle.wamp_elements.specs.Parts.{whole, only}
+use Rattle.wamp_message_layouts.specs.Codes as code
+use Rattle.wamp_message_layouts.specs.Parts.{whole, only}
 use Rattle.wamp_options.specs.Options.{match_in, invoke_in}
-use Rattle.wamp_elements.specs.declared.layouts.TwoIds.{TwoIds}
-use Rattle.wamp_elements.specs.Layouts.{taken, one_id, one_id_of, two_ids, two_ids_of, id_dictionary_text, Asked, asked_of}
-use Rattle.wamp_kinds.specs.declared.register.Register.{Register}
-use Rattle.wamp_kinds.specs.declared.register.Registered.{Registered}
-use Rattle.wamp_kinds.specs.declared.register.Unregister.{Unregister}
-use Rattle.wamp_kinds.specs.declared.register.Unregistered.{Unregistered}
-use Rattle.wamp_kinds.specs.declared.message.Message.TheVariants as message
-use Rattle.wamp_kinds.specs.declared.read_result.UnfitKind.TheVariants as unfit
-use Rattle.wamp_kinds.specs.declared.read_result.Read.{Read}
-use Rattle.wamp_kinds.specs.declared.read_result.Read.TheVariants.{Good, Unfit}
+use Rattle.wamp_message_layouts.specs.declared.layouts.TwoIds.{TwoIds}
+use Rattle.wamp_message_layouts.specs.Layouts.{taken, one_id, one_id_of, two_ids, two_ids_of, id_dictionary_text, Asked, asked_of}
+use Rattle.wamp_message_types.specs.declared.register.Register.{Register}
+use Rattle.wamp_message_types.specs.declared.register.Registered.{Registered}
+use Rattle.wamp_message_types.specs.declared.register.Unregister.{Unregister}
+use Rattle.wamp_message_types.specs.declared.register.Unregistered.{Unregistered}
+use Rattle.wamp_message_types.specs.declared.message.Message.TheVariants as message
+use Rattle.wamp_message_types.specs.declared.read_result.UnfitKind.TheVariants as unfit
+use Rattle.wamp_message_types.specs.declared.read_result.Read.{Read}
+use Rattle.wamp_message_types.specs.declared.read_result.Read.TheVariants.{Good, Unfit}
 use Rattle.wamp_messages.specs.ReadResult.{read_as}
 use Rattle.wamp_messages.specs.Subscribe.{match_options}
 

@@ -3,19 +3,19 @@
 use Rattle.std.specs.Prelude.{Bool, true, false, codes}
 use Rattle.serde_json.specs.Data.{Data, string, boolean, array, object, Items, no_items, item, no_members, member}
 use Rattle.wamp_values.specs.Args.{args_items}
-use Rattle.wamp_elements.specs.Codes as code
-use Rattle.wamp_elements.specs.Parts.{whole, only, nothing}
+use Rattle.wamp_message_layouts.specs.Codes as code
+use Rattle.wamp_message_layouts.specs.Parts.{whole, only, nothing}
 use Rattle.wamp_options.specs.Options.{is_canceling}
-use Rattle.wamp_elements.specs.declared.layouts.Reason.{Reason}
-use Rattle.wamp_elements.specs.Layouts.{taken, text_dictionary, Named, named_of, id_dictionary, Numbered, numbered_of}
-use Rattle.wamp_elements.specs.Layouts.{dictionary_text, dictionary_text_args, reason_of}
-use Rattle.wamp_kinds.specs.declared.session.Hello.{Hello}
-use Rattle.wamp_kinds.specs.declared.session.Welcome.{Welcome}
-use Rattle.wamp_kinds.specs.declared.session.Abort.{Abort}
-use Rattle.wamp_kinds.specs.declared.session.Goodbye.{Goodbye}
-use Rattle.wamp_kinds.specs.declared.message.Message.TheVariants as message
-use Rattle.wamp_kinds.specs.declared.read_result.Read.{Read}
-use Rattle.wamp_kinds.specs.declared.read_result.Read.TheVariants.{Good}
+use Rattle.wamp_message_layouts.specs.declared.layouts.Reason.{Reason}
+use Rattle.wamp_message_layouts.specs.Layouts.{taken, text_dictionary, Named, named_of, id_dictionary, Numbered, numbered_of}
+use Rattle.wamp_message_layouts.specs.Layouts.{dictionary_text, dictionary_text_args, reason_of}
+use Rattle.wamp_message_types.specs.declared.session.Hello.{Hello}
+use Rattle.wamp_message_types.specs.declared.session.Welcome.{Welcome}
+use Rattle.wamp_message_types.specs.declared.session.Abort.{Abort}
+use Rattle.wamp_message_types.specs.declared.session.Goodbye.{Goodbye}
+use Rattle.wamp_message_types.specs.declared.message.Message.TheVariants as message
+use Rattle.wamp_message_types.specs.declared.read_result.Read.{Read}
+use Rattle.wamp_message_types.specs.declared.read_result.Read.TheVariants.{Good}
 use Rattle.wamp_messages.specs.ReadResult.{read_as}
 
 -- ---- HELLO: Realm, Details

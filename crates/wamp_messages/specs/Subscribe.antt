@@ -4,19 +4,19 @@ use Rattle.std.specs.Prelude.{ℕ, false, List, Option, Some, None, codes}
 use Rattle.serde_json.specs.Data.{Data, string, array, Items, no_items, item}
 use Rattle.wamp_ids.specs.declared.policy.Match.{Match}
 use Rattle.wamp_ids.specs.declared.policy.Match.TheVariants.{Exact, Prefix, Wildcard}
-use Rattle.wamp_elements.specs.Codes as code
-use Rattle.wamp_elements.specs.Parts.{whole, only, nothing}
+use Rattle.wamp_message_layouts.specs.Codes as code
+use Rattle.wamp_message_layouts.specs.Parts.{whole, only, nothing}
 use Rattle.wamp_options.specs.Options.{match_in}
-use Rattle.wamp_elements.specs.declared.layouts.TwoIds.{TwoIds}
-use Rattle.wamp_elements.specs.Layouts.{taken, one_id, one_id_of, two_ids, two_ids_of, id_dictionary_text, Asked, asked_of}
-use Rattle.wamp_kinds.specs.declared.subscribe.Subscribe.{Subscribe}
-use Rattle.wamp_kinds.specs.declared.subscribe.Subscribed.{Subscribed}
-use Rattle.wamp_kinds.specs.declared.subscribe.Unsubscribe.{Unsubscribe}
-use Rattle.wamp_kinds.specs.declared.subscribe.Unsubscribed.{Unsubscribed}
-use Rattle.wamp_kinds.specs.declared.message.Message.TheVariants as message
-use Rattle.wamp_kinds.specs.declared.read_result.UnfitKind.TheVariants as unfit
-use Rattle.wamp_kinds.specs.declared.read_result.Read.{Read}
-use Rattle.wamp_kinds.specs.declared.read_result.Read.TheVariants.{Good, Unfit}
+use Rattle.wamp_message_layouts.specs.declared.layouts.TwoIds.{TwoIds}
+use Rattle.wamp_message_layouts.specs.Layouts.{taken, one_id, one_id_of, two_ids, two_ids_of, id_dictionary_text, Asked, asked_of}
+use Rattle.wamp_message_types.specs.declared.subscribe.Subscribe.{Subscribe}
+use Rattle.wamp_message_types.specs.declared.subscribe.Subscribed.{Subscribed}
+use Rattle.wamp_message_types.specs.declared.subscribe.Unsubscribe.{Unsubscribe}
+use Rattle.wamp_message_types.specs.declared.subscribe.Unsubscribed.{Unsubscribed}
+use Rattle.wamp_message_types.specs.declared.message.Message.TheVariants as message
+use Rattle.wamp_message_types.specs.declared.read_result.UnfitKind.TheVariants as unfit
+use Rattle.wamp_message_types.specs.declared.read_result.Read.{Read}
+use Rattle.wamp_message_types.specs.declared.read_result.Read.TheVariants.{Good, Unfit}
 use Rattle.wamp_messages.specs.ReadResult.{read_as}
 
 -- ---- SUBSCRIBE: Request, Options, Topic

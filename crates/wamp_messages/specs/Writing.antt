@@ -2,11 +2,11 @@
 use Rattle.std.specs.Prelude.{ℕ, List}
 use Rattle.serde_json.specs.Written.{compact_text}
 use Rattle.serde_json.specs.Data.{Data}
-use Rattle.wamp_kinds.specs.declared.message.Message.{Message}
-use Rattle.wamp_kinds.specs.declared.message.Message.TheVariants.{Hello, Welcome, Abort, Goodbye, Error, Publish, Published}
-use Rattle.wamp_kinds.specs.declared.message.Message.TheVariants.{Subscribe, Subscribed, Event, Unsubscribe, Unsubscribed}
-use Rattle.wamp_kinds.specs.declared.message.Message.TheVariants.{Register, Registered, Unregister, Unregistered}
-use Rattle.wamp_kinds.specs.declared.message.Message.TheVariants.{Call, Cancel, Reply, Invocation, Interrupt, Yield}
+use Rattle.wamp_message_types.specs.declared.message.Message.{Message}
+use Rattle.wamp_message_types.specs.declared.message.Message.TheVariants.{Hello, Welcome, Abort, Goodbye, Error, Publish, Published}
+use Rattle.wamp_message_types.specs.declared.message.Message.TheVariants.{Subscribe, Subscribed, Event, Unsubscribe, Unsubscribed}
+use Rattle.wamp_message_types.specs.declared.message.Message.TheVariants.{Register, Registered, Unregister, Unregistered}
+use Rattle.wamp_message_types.specs.declared.message.Message.TheVariants.{Call, Cancel, Reply, Invocation, Interrupt, Yield}
 use Rattle.wamp_messages.specs.Session.{hello_value, welcome_value, abort_value, goodbye_value}
 use Rattle.wamp_messages.specs.Error.{error_value}
 use Rattle.wamp_messages.specs.Publish.{publish_value, published_value, event_value}

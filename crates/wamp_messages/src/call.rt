@@ -2,8 +2,8 @@
 ghost use Rattle.std.specs.Prelude.{◌≡◌, OnOk};
 ghost use Rattle.wamp_values.specs.Args.{IsArgs};
 ghost use Rattle.wamp_values.specs.Tokens.{data_tokens, Appends};
-ghost use Rattle.wamp_elements.specs.Elements.{elements};
-ghost use Rattle.wamp_elements.specs.Layouts.{seen_asked};
+ghost use Rattle.wamp_message_layouts.specs.Elements.{elements};
+ghost use Rattle.wamp_message_layouts.specs.Layouts.{seen_asked};
 ghost use Rattle.wamp_messages.specs.Message.{IsId};
 ghost use Rattle.wamp_messages.specs.Call.{call_in, call_read, call_value, cancel_in, cancel_with, cancel_value, cancel_options};
 ghost use Rattle.wamp_messages.specs.Call.{reply_in, reply_value, invocation_in, invocation_value, interrupt_in, interrupt_value};
@@ -14,12 +14,14 @@ use json::Writer;
 use serde_json::Value;
 use std::alloc::AllocError;
 use std::vec::IntoIter;
-use wamp_elements::{
+use wamp_ids::{Id, Mode};
+use wamp_message_layouts::{
     Answered, UriRequest, codes, end, id_dictionary, id_dictionary_args, id_dictionary_text_args,
     id_mode, put_label, put_nothing, put_text_option, two_ids_label_args,
 };
-use wamp_ids::{Id, Mode};
-use wamp_kinds::{Call, Cancel, Interrupt, Invocation, Message, Read, Reply, UnfitKind, Yield};
+use wamp_message_types::{
+    Call, Cancel, Interrupt, Invocation, Message, Read, Reply, UnfitKind, Yield,
+};
 use wamp_options::mode_in;
 use wamp_values::Args;
 

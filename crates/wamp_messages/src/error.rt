@@ -2,7 +2,7 @@
 ghost use Rattle.std.specs.Prelude.{◌≡◌, OnOk};
 ghost use Rattle.wamp_values.specs.Args.{IsArgs};
 ghost use Rattle.wamp_values.specs.Tokens.{data_tokens, Appends};
-ghost use Rattle.wamp_elements.specs.Elements.{elements};
+ghost use Rattle.wamp_message_layouts.specs.Elements.{elements};
 ghost use Rattle.wamp_messages.specs.Message.{IsId};
 ghost use Rattle.wamp_messages.specs.Error.{error_in, error_read, error_value};
 
@@ -11,8 +11,8 @@ use json::Writer;
 use serde_json::Value;
 use std::alloc::AllocError;
 use std::vec::IntoIter;
-use wamp_elements::{Refusal, RequestKind, begin, codes, put_nothing, refused};
-use wamp_kinds::{Error, Message, Read, UnfitKind};
+use wamp_message_layouts::{Refusal, RequestKind, begin, codes, put_nothing, refused};
+use wamp_message_types::{Error, Message, Read, UnfitKind};
 
 // What the elements behind the code of ERROR are read as.
 pub(crate) fn read_error(rest: IntoIter<Value>) -> Read

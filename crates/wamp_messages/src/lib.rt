@@ -17,9 +17,9 @@ mod writing;
 
 pub use parser::Parser;
 pub use reading::{read, read_by};
-pub use wamp_elements::{MessageFault, RequestKind};
 pub use wamp_ids::{Id, Invoke, Match, Mode, Text};
-pub use wamp_kinds::{
+pub use wamp_message_layouts::{MessageFault, RequestKind};
+pub use wamp_message_types::{
     Abort, Call, Cancel, Error, Event, Goodbye, Hello, Interrupt, Invocation, Memory, Message,
     Publish, Published, Read, Register, Registered, Reply, Subscribe, Subscribed, UnfitKind,
     Unregister, Unregistered, Unsubscribe, Unsubscribed, Welcome, Yield,

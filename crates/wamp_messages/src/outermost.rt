@@ -4,7 +4,7 @@ ghost use Rattle.std.specs.Bool.{OnTrue};
 ghost use Rattle.serde_json.specs.Data.{unsigned, number, object, Members};
 ghost use Rattle.serde_json.specs.Read.{read as read_text};
 ghost use Rattle.serde_json.specs.View.{view};
-ghost use Rattle.wamp_elements.specs.Codes as code;
+ghost use Rattle.wamp_message_layouts.specs.Codes as code;
 ghost use Rattle.wamp_messages.specs.Flags.{Tells};
 ghost use Rattle.wamp_messages.specs.Outermost.{IsNext, Reads, read_from};
 ghost use Rattle.wamp_messages.specs.Reading.{json_read_as};
@@ -17,8 +17,8 @@ use json::{Reader, Scratch, Token};
 use serde_json::Value;
 use serde_json::value::Map;
 use std::alloc::Global;
-use wamp_elements::codes;
-use wamp_kinds::Read;
+use wamp_message_layouts::codes;
+use wamp_message_types::Read;
 
 // The elements of a message's array.
 #[derive(Drop)]

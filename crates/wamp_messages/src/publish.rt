@@ -2,10 +2,10 @@
 ghost use Rattle.std.specs.Prelude.{◌≡◌, true, false, codes, OnOk};
 ghost use Rattle.wamp_values.specs.Args.{IsArgs};
 ghost use Rattle.wamp_values.specs.Tokens.{data_tokens, Appends};
-ghost use Rattle.wamp_elements.specs.Elements.{elements};
-ghost use Rattle.wamp_elements.specs.Layouts.{seen_asked};
-ghost use Rattle.wamp_kinds.specs.declared.read_result.Read.TheVariants.{Unfit};
-ghost use Rattle.wamp_kinds.specs.declared.read_result.UnfitKind.TheVariants as unfit;
+ghost use Rattle.wamp_message_layouts.specs.Elements.{elements};
+ghost use Rattle.wamp_message_layouts.specs.Layouts.{seen_asked};
+ghost use Rattle.wamp_message_types.specs.declared.read_result.Read.TheVariants.{Unfit};
+ghost use Rattle.wamp_message_types.specs.declared.read_result.UnfitKind.TheVariants as unfit;
 ghost use Rattle.wamp_messages.specs.Message.{IsId};
 ghost use Rattle.wamp_messages.specs.Flags.{flagged_in, flagged_read};
 ghost use Rattle.wamp_messages.specs.Publish.{publish_in, publish_with, publish_read, publish_value, publish_options, published_in, published_value};
@@ -17,12 +17,12 @@ use json::Writer;
 use serde_json::Value;
 use std::alloc::AllocError;
 use std::vec::IntoIter;
-use wamp_elements::{
+use wamp_ids::{Id, Text};
+use wamp_message_layouts::{
     UriRequest, codes, end, id_dictionary_text_args, open, put_flag_option, put_label, put_nothing,
     two_ids, two_ids_label_args,
 };
-use wamp_ids::{Id, Text};
-use wamp_kinds::{Event, Message, Publish, Published, Read, UnfitKind};
+use wamp_message_types::{Event, Message, Publish, Published, Read, UnfitKind};
 use wamp_options::flag_in;
 use wamp_values::Args;
 

@@ -1,7 +1,7 @@
 // From octets to a message.
 ghost use Rattle.std.specs.Prelude.{◌≡◌, IfOk};
 ghost use Rattle.serde_json.specs.View.{view, items_view};
-ghost use Rattle.wamp_elements.specs.Elements.{elements};
+ghost use Rattle.wamp_message_layouts.specs.Elements.{elements};
 ghost use Rattle.wamp_messages.specs.Reading.{read_of, message_in, list_in, by_code};
 
 use crate::call::{
@@ -17,8 +17,8 @@ use crate::subscribe::{read_subscribe, read_subscribed, read_unsubscribe, read_u
 use serde_json::Value;
 use std::alloc::Global;
 use std::vec::IntoIter;
-use wamp_elements::{MessageFault, codes};
-use wamp_kinds::{Memory, Read};
+use wamp_message_layouts::{MessageFault, codes};
+use wamp_message_types::{Memory, Read};
 
 /// What these octets are read as: a message, a request that is unfit, or why they are no message.
 ///

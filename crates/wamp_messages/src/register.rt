@@ -1,8 +1,8 @@
 // The messages of registrations.
 ghost use Rattle.std.specs.Prelude.{◌≡◌, option_map, OnOk};
 ghost use Rattle.wamp_values.specs.Tokens.{data_tokens, Appends};
-ghost use Rattle.wamp_elements.specs.Elements.{elements};
-ghost use Rattle.wamp_elements.specs.Layouts.{seen_asked};
+ghost use Rattle.wamp_message_layouts.specs.Elements.{elements};
+ghost use Rattle.wamp_message_layouts.specs.Layouts.{seen_asked};
 ghost use Rattle.wamp_messages.specs.Message.{IsId};
 ghost use Rattle.wamp_messages.specs.Register.{register_in, register_read, register_value, register_options, unfit_register};
 ghost use Rattle.wamp_messages.specs.Register.{told_match, shared_options, invoke_and_match, registered_in, registered_value, unregister_in, unregister_value};
@@ -14,11 +14,13 @@ use json::Writer;
 use serde_json::Value;
 use std::alloc::AllocError;
 use std::vec::IntoIter;
-use wamp_elements::{
+use wamp_ids::{Id, Invoke, Match};
+use wamp_message_layouts::{
     UriRequest, codes, id_dictionary_text, one_id, open, put_text_option, two_ids,
 };
-use wamp_ids::{Id, Invoke, Match};
-use wamp_kinds::{Message, Read, Register, Registered, UnfitKind, Unregister, Unregistered};
+use wamp_message_types::{
+    Message, Read, Register, Registered, UnfitKind, Unregister, Unregistered,
+};
 use wamp_options::{invoke_in, match_in};
 
 // What the elements behind the code of REGISTER are read as.

@@ -3,7 +3,7 @@ ghost use Rattle.std.specs.Prelude.{◌≡◌, ◌∷◌, [], true, codes, OnOk}
 ghost use Rattle.json.specs.Token.{key, begin_object};
 ghost use Rattle.wamp_values.specs.Args.{IsArgs};
 ghost use Rattle.wamp_values.specs.Tokens.{data_tokens, Appends};
-ghost use Rattle.wamp_elements.specs.Elements.{elements};
+ghost use Rattle.wamp_message_layouts.specs.Elements.{elements};
 ghost use Rattle.wamp_messages.specs.Message.{IsId};
 ghost use Rattle.wamp_messages.specs.Session.{hello_in, hello_value, hello_details, callee, welcome_in, welcome_value};
 ghost use Rattle.wamp_messages.specs.Session.{welcome_details, broker, dealer, abort_in, abort_value, goodbye_in, goodbye_value};
@@ -13,11 +13,11 @@ use json::Writer;
 use serde_json::Value;
 use std::alloc::AllocError;
 use std::vec::IntoIter;
-use wamp_elements::{
+use wamp_message_layouts::{
     Reason, begin, close_two, codes, dictionary_text, dictionary_text_args, id_dictionary, open,
     open_within, put_feature, put_nothing, text_dictionary,
 };
-use wamp_kinds::{Abort, Goodbye, Hello, Message, Read, Welcome};
+use wamp_message_types::{Abort, Goodbye, Hello, Message, Read, Welcome};
 use wamp_options::is_canceling;
 
 // What the elements behind the code of HELLO are read as.

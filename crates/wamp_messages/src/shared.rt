@@ -4,13 +4,13 @@ ghost use Rattle.json.specs.Token.{begin_array, number};
 ghost use Rattle.serde_json.specs.Data.{string, array, no_items, item};
 ghost use Rattle.wamp_values.specs.Args.{IsArgs, args_items};
 ghost use Rattle.wamp_values.specs.Tokens.{data_tokens, list_tokens, Appends};
-ghost use Rattle.wamp_elements.specs.Parts.{whole, nothing};
+ghost use Rattle.wamp_message_layouts.specs.Parts.{whole, nothing};
 ghost use Rattle.wamp_messages.specs.Message.{IsId};
 
 use json::Writer;
 use std::alloc::AllocError;
-use wamp_elements::{begin, end, put_nothing};
 use wamp_ids::{Id, Text};
+use wamp_message_layouts::{begin, end, put_nothing};
 use wamp_values::Args;
 
 // The array's bracket, the message's code and an id.

@@ -1,8 +1,8 @@
 // The messages of subscriptions.
 ghost use Rattle.std.specs.Prelude.{◌≡◌, OnOk};
 ghost use Rattle.wamp_values.specs.Tokens.{data_tokens, Appends};
-ghost use Rattle.wamp_elements.specs.Elements.{elements};
-ghost use Rattle.wamp_elements.specs.Layouts.{seen_asked};
+ghost use Rattle.wamp_message_layouts.specs.Elements.{elements};
+ghost use Rattle.wamp_message_layouts.specs.Layouts.{seen_asked};
 ghost use Rattle.wamp_messages.specs.Message.{IsId};
 ghost use Rattle.wamp_messages.specs.Subscribe.{subscribe_in, subscribe_read, subscribe_value, match_options};
 ghost use Rattle.wamp_messages.specs.Subscribe.{subscribed_in, subscribed_value, unsubscribe_in, unsubscribe_value};
@@ -13,11 +13,13 @@ use json::Writer;
 use serde_json::Value;
 use std::alloc::AllocError;
 use std::vec::IntoIter;
-use wamp_elements::{
+use wamp_ids::Match;
+use wamp_message_layouts::{
     UriRequest, codes, id_dictionary_text, one_id, put_nothing, put_text_option, two_ids,
 };
-use wamp_ids::Match;
-use wamp_kinds::{Message, Read, Subscribe, Subscribed, UnfitKind, Unsubscribe, Unsubscribed};
+use wamp_message_types::{
+    Message, Read, Subscribe, Subscribed, UnfitKind, Unsubscribe, Unsubscribed,
+};
 use wamp_options::match_in;
 
 // What the elements behind the code of SUBSCRIBE are read as.

@@ -4,7 +4,7 @@ ghost use Rattle.wamp_values.specs.Tokens.{data_tokens, Appends};
 ghost use Rattle.wamp_messages.specs.Writing.{text_of, value_of};
 ghost use Rattle.wamp_messages.specs.Message.{HasParts};
 ghost use Rattle.wamp_messages.specs.Reading.{read_of};
-ghost use Rattle.wamp_kinds.specs.declared.read_result.Read.TheVariants.{Good};
+ghost use Rattle.wamp_message_types.specs.declared.read_result.Read.TheVariants.{Good};
 
 use crate::call::{put_call, put_cancel, put_interrupt, put_invocation, put_reply, put_yield};
 use crate::error::put_error;
@@ -15,7 +15,7 @@ use crate::subscribe::{put_subscribe, put_subscribed, put_unsubscribe, put_unsub
 use json::Writer;
 use std::alloc::{AllocError, Global};
 use std::mem;
-use wamp_kinds::{Memory, Message};
+use wamp_message_types::{Memory, Message};
 
 /// The message's one canonical text: compact JSON, in the order of its layout. Where memory runs out there is none, and nothing
 /// has changed.

@@ -1,7 +1,7 @@
 use Rattle.std.proofs.Common.{◌≡◌, ⊎_elim, subst, ap, Err, Result}
 use Rattle.paxos_packets.specs.declared.rows.Rows.{Rows}
-use Rattle.acceptor_keeper.specs.declared.fault.KeeperFault.{KeeperFault}
-use Rattle.acceptor_keeper.specs.declared.fault.KeeperFault.TheVariants.{Failed, Boots}
+use Rattle.store_keeper.specs.declared.fault.KeeperFault.{KeeperFault}
+use Rattle.store_keeper.specs.declared.fault.KeeperFault.TheVariants.{Failed, Boots}
 use Rattle.acceptor_store.proofs.Refusing.{told_damaged}
 use Rattle.acceptor_store.proofs.calls.boot_from.Goals as goal
 

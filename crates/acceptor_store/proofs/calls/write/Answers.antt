@@ -9,7 +9,7 @@ use Rattle.store_rows.specs.Changes.{is_placed}
 use Rattle.acceptor_store.specs.Calls.{AreKnown}
 use Rattle.acceptor_store.proofs.Changing.{places}
 use Rattle.acceptor_store.proofs.Calling.{earlier, adopts, not_lower, found_or, found_no_more}
-use Rattle.acceptor_keeper.specs.declared.fault.KeeperFault.TheVariants.{Damaged}
+use Rattle.store_keeper.specs.declared.fault.KeeperFault.TheVariants.{Damaged}
 use Rattle.acceptor_store.specs.Answers.{Refuses, are_spelled, has_place}
 use Rattle.acceptor_store.proofs.Refusing.{placed, unplaced, unspelled, refuses_for, same_fault}
 use Rattle.acceptor_store.proofs.calls.write.Goals as goal

@@ -1,6 +1,6 @@
 use Rattle.std.proofs.Common.{◌≡◌, ◌<◌, ◌∙◌, ap, rules}
 use Rattle.std.specs.Prelude.{Err}
-use Rattle.acceptor_keeper.specs.declared.fault.KeeperFault.TheVariants as store
+use Rattle.store_keeper.specs.declared.fault.KeeperFault.TheVariants as store
 use Rattle.actor_posts.specs.Compare.{fit_of}
 use Rattle.actor_posts.specs.Restarts.{Loads, unread, unjudged}
 use Rattle.actor_posts.proofs.Booting.{found_of, refused_of}

@@ -3,7 +3,7 @@ use Rattle.std.proofs.Common.{◌≡◌, refl, sym, ap, ◌∙◌, subst, arith,
 use Rattle.std.specs.Prelude.{slice_get}
 use Rattle.std.proofs.lemmas.Bool.{cases_lt}
 use Rattle.std.proofs.lemmas.Option.{slice_get_past, slice_get_read}
-use Rattle.log_follower.specs.Handed.{tellings, TellAll}
+use Rattle.replica_follower.specs.Handed.{tellings, TellAll}
 use Rattle.cluster_world.specs.Members.{MemberState}
 use Rattle.cluster_world.proofs.Replacing.{some_same}
 use Rattle.cluster_world.proofs.handings.all_tell.Goals as goal

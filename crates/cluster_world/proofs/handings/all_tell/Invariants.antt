@@ -1,7 +1,7 @@
 use Rattle.std.proofs.Common.{◌≡◌, ◌<◌, ℕ, Some}
 use Rattle.std.specs.Prelude.{slice_get}
 use Rattle.cluster_world.specs.Members.{MemberState}
-use Rattle.log_follower.specs.Handed.{TellAll, tellings}
+use Rattle.replica_follower.specs.Handed.{TellAll, tellings}
 use Rattle.cluster_world.proofs.handings.all_tell.Given as goal
 
 -- so does each one so far

@@ -1,9 +1,9 @@
 -- The node as it was before room was made.
 use Rattle.std.proofs.Common.{◌≤◌, ◌<◌, ◌^◌, ℕ, ◌+◌, sym, ap, ◌∙◌, subst, length}
-use Rattle.paxos_turn.specs.Node.{NodeState}
+use Rattle.paxos_planning.specs.Node.{NodeState}
 use Rattle.paxos_node.specs.Adopting.{Fits}
 use Rattle.replica_machine.specs.Log.{machine_from}
-use Rattle.world_seats.specs.Seated.{node_of}
+use Rattle.world_nodes.specs.Seated.{node_of}
 use Rattle.cluster_world.proofs.Attending.{carried, kept_back, stays_here, agrees_so}
 use Rattle.cluster_world.proofs.member.carry_out.Goals as goal
 

@@ -4,7 +4,7 @@ use Rattle.std.proofs.lemmas.Result.{on_ok_weaker}
 use Rattle.std.specs.Prelude.{IfSome}
 use Rattle.paxos_node.specs.Adopting.{Planned}
 use Rattle.replica_machine.specs.Log.{machine_from}
-use Rattle.world_seats.specs.Seated.{node_of}
+use Rattle.world_nodes.specs.Seated.{node_of}
 use Rattle.cluster_world.specs.Members.{FollowsOn}
 use Rattle.cluster_world.proofs.Attending.{stays_here, node_planned, agrees_planned}
 use Rattle.cluster_world.proofs.member.turn.Goals as goal

@@ -1,7 +1,7 @@
 use denote.Param.Send.{sendable}
 use Rattle.std.proofs.Crossing as heap
 use Rattle.rtrb.proofs.end.End.TheSendSync as end
-use Rattle.serve_lanes.proofs.Crossing.{arrival_send, door_send}
+use Rattle.serve_connections.proofs.Crossing.{arrival_send, door_send}
 use Rattle.listener_tests.proofs.house.start.Goals as goal
 
 pub spawn-requires-send-F : goal.spawn-requires-send-F

@@ -1,7 +1,7 @@
 use Rattle.std.proofs.Common.{◌≡◌, List, sym, ap, subst}
 use Rattle.std.specs.Prelude.{All, Contains}
 use Rattle.paxos_packets.specs.declared.packet.Packet.{Packet}
-use Rattle.packet_outboxes.specs.Outboxes.{TakenFor}
+use Rattle.actor_outboxes.specs.Outboxes.{TakenFor}
 use Rattle.mail_table.specs.Seats.{Seated, knows}
 use Rattle.mail_table.specs.Views.{posting, lost}
 use Rattle.node_actor.proofs.Tries.{post_box, only_on, peer_there, posts_won}

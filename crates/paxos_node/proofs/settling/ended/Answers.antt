@@ -4,11 +4,11 @@ use Rattle.paxos_proposer.specs.Moves.{after_moves}
 use Rattle.paxos_learner.specs.Hearing.{hear_all}
 use Rattle.paxos_learner.specs.Learner.{run_from}
 use Rattle.replica_machine.specs.Roll.{standing}
-use Rattle.paxos_turn.specs.declared.effects.Effects.{Effects}
-use Rattle.paxos_turn.specs.Drafting.{Known}
-use Rattle.paxos_turn.specs.Node.{Turn}
-use Rattle.paxos_turn.specs.Front.{IsFront}
-use Rattle.paxos_turn.specs.Parts.{proposer_of, learner_of}
+use Rattle.paxos_planning.specs.declared.effects.Effects.{Effects}
+use Rattle.paxos_planning.specs.Drafting.{Known}
+use Rattle.paxos_planning.specs.Node.{Turn}
+use Rattle.paxos_planning.specs.Front.{IsFront}
+use Rattle.paxos_planning.specs.Parts.{proposer_of, learner_of}
 use Rattle.paxos_node.specs.declared.outcome.Outcome.{Outcome}
 use Rattle.paxos_node.specs.Adopting.{front_behind, Settled}
 use Rattle.paxos_node.specs.Applying.{count_to_end, has_end}

@@ -1,5 +1,5 @@
 use Rattle.std.proofs.Common.{◌≡◌}
-use Rattle.keyed_lists.specs.Finding.{place_where}
+use Rattle.realm_lists.specs.Finding.{place_where}
 use Rattle.realm_sessions.specs.Links.{has_id}
 use Rattle.realm_sessions.proofs.session_index.walk.Given as goal
 

@@ -1,6 +1,6 @@
 use Rattle.std.proofs.Common.{is_some, sym, ap, ◌∙◌}
-use Rattle.keyed_lists.proofs.Finding.{any_is_find}
-use Rattle.keyed_lists.proofs.Told.{is_some_mapped}
+use Rattle.realm_lists.proofs.Finding.{any_is_find}
+use Rattle.realm_lists.proofs.Told.{is_some_mapped}
 use Rattle.realm_sessions.specs.Links.{has_id}
 use Rattle.realm_sessions.proofs.sessions.is_taken.Goals as goal
 

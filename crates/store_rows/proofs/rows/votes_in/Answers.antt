@@ -7,8 +7,8 @@ use Rattle.sqlite_value.specs.Order.{Row}
 use Rattle.paxos_packets.specs.declared.ballot.Ballot.{Ballot}
 use Rattle.paxos_packets.specs.declared.vote.Vote.{Vote}
 use Rattle.command_codec.specs.Number.{Reading}
-use Rattle.acceptor_keeper.specs.declared.fault.KeeperFault.{KeeperFault}
-use Rattle.acceptor_keeper.specs.declared.fault.KeeperFault.TheVariants.{Damaged, Memory}
+use Rattle.store_keeper.specs.declared.fault.KeeperFault.{KeeperFault}
+use Rattle.store_keeper.specs.declared.fault.KeeperFault.TheVariants.{Damaged, Memory}
 use Rattle.store_rows.specs.Rows.{vote_of, with_row, votes_after}
 use Rattle.store_rows.proofs.rows.votes_in.Goals as goal
 

@@ -1,6 +1,6 @@
 use Rattle.std.proofs.Common.{List, refl, subst, ◌∙◌, rules}
 use Rattle.paxos_packets.specs.declared.packet.Packet.{Packet}
-use Rattle.packet_outboxes.specs.Outboxes.{WaitBehind}
+use Rattle.actor_outboxes.specs.Outboxes.{WaitBehind}
 use Rattle.actor_parts.specs.Parts.{Parted}
 use Rattle.actor_parts.specs.Steps.{Adopts}
 use Rattle.actor_parts.proofs.parts.Parts.adopt.Goals as goal

@@ -3,8 +3,8 @@ use Rattle.std.proofs.Common.{◌≡◌, true, subst}
 use Rattle.std.specs.Prelude.{OnOk, OnErr}
 use Rattle.paxos_node.specs.Events.{possible}
 use Rattle.replica_machine.specs.Log.{machine_from}
-use Rattle.log_follower.specs.Following.{AgreesWith}
-use Rattle.world_seats.specs.Seated.{node_of}
+use Rattle.replica_follower.specs.Following.{AgreesWith}
+use Rattle.world_nodes.specs.Seated.{node_of}
 use Rattle.cluster_world.specs.Answers.{log_after}
 use Rattle.cluster_world.specs.Laws.{IsPrefixOf}
 use Rattle.cluster_world.specs.Members.{MemberState, Happens, Rests}

@@ -1,7 +1,7 @@
 -- What its members were handed, in turn.
 use Rattle.std.proofs.Common.{◌≡◌, sym, subst, ap, ◌∙◌, List, ℕ, Some}
 use Rattle.std.specs.Prelude.{slice_get}
-use Rattle.log_follower.specs.Handed.{tellings, TellAll}
+use Rattle.replica_follower.specs.Handed.{tellings, TellAll}
 use Rattle.replica_machine.specs.Log.{machine_from}
 use Rattle.cluster_world.specs.Members.{MemberState}
 use Rattle.cluster_world.specs.StandsAt.{Held, StandsAt}

@@ -2,7 +2,7 @@ use Rattle.std.proofs.Common.{sym, ap, subst, ◌-◌, ◌≤◌, ◌++◌, arit
 use Rattle.paxos_packets.specs.declared.entry.Entry.{Entry}
 use Rattle.std.proofs.Common.{List}
 use Rattle.replica_machine.specs.Log.{Begins}
-use Rattle.log_follower.specs.Following.{AgreesWith}
+use Rattle.replica_follower.specs.Following.{AgreesWith}
 use Rattle.core_tests.proofs.Fronts.{agree, front, passed}
 use Rattle.core_tests.proofs.follower.Walk.pass.Goals as goal
 

@@ -7,14 +7,14 @@ use Rattle.paxos_learner.specs.Hearing.{hear_all, HasRoomFor}
 use Rattle.paxos_learner.specs.Learned.{Begins}
 use Rattle.paxos_learner.specs.Learner as learning
 use Rattle.replica_machine.specs.Roll.{IsRollOf}
-use Rattle.paxos_turn.specs.Node.{NodeState}
-use Rattle.paxos_turn.specs.Front.{IsFront}
+use Rattle.paxos_planning.specs.Node.{NodeState}
+use Rattle.paxos_planning.specs.Front.{IsFront}
 use Rattle.paxos_node.specs.Steps.{Steps}
 use Rattle.paxos_node.specs.Held.{Held, learner_in}
-use Rattle.paxos_turn.specs.Parts.{proposer_of, learner_of, pending_with, counted_with, first_learned}
+use Rattle.paxos_planning.specs.Parts.{proposer_of, learner_of, pending_with, counted_with, first_learned}
 use Rattle.paxos_node.specs.Adopting.{pending_behind, adopted}
 use Rattle.paxos_node.proofs.Parts.{proposer_is, learner_is, held_is}
-use Rattle.paxos_turn.proofs.Staying.{me_stays, members_stay, heard_stay}
+use Rattle.paxos_planning.proofs.Staying.{me_stays, members_stay, heard_stay}
 use Rattle.paxos_node.proofs.Adoption.{length_both, first_both, goes_on}
 use Rattle.paxos_node.proofs.node.Node.adopt_in_room.Goals as goal
 

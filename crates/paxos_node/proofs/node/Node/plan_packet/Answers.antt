@@ -1,11 +1,11 @@
 use Rattle.std.proofs.Common.{◌≡◌, ℕ, sym, ◌∙◌}
 use Rattle.std.proofs.lemmas.Result.{on_ok_weaker}
 use Rattle.std.specs.Prelude.{OnOk}
-use Rattle.paxos_turn.specs.Node.{NodeState, Turn}
-use Rattle.paxos_turn.specs.Turn.{begun}
+use Rattle.paxos_planning.specs.Node.{NodeState, Turn}
+use Rattle.paxos_planning.specs.Turn.{begun}
 use Rattle.paxos_packets.specs.declared.packet.Kind.{Kind}
-use Rattle.paxos_turn.specs.Drafting.{seeing}
-use Rattle.paxos_turn.specs.Replies.{on_packet, round_in}
+use Rattle.paxos_planning.specs.Drafting.{seeing}
+use Rattle.paxos_planning.specs.Replies.{on_packet, round_in}
 use Rattle.paxos_node.proofs.Done.{done_turn}
 use Rattle.paxos_node.proofs.node.Node.plan_packet.Goals as goal
 

@@ -1,11 +1,11 @@
 use Rattle.std.proofs.Common.{◌≡◌, ◌≤◌, ℕ, Some, length, sym, subst, ◌∙◌}
 use Rattle.std.proofs.lemmas.Result.{on_ok_weaker}
 use Rattle.std.specs.Prelude.{OnOk}
-use Rattle.paxos_turn.specs.Node.{NodeState, Turn}
-use Rattle.paxos_turn.specs.Turn.{begun}
-use Rattle.paxos_turn.specs.Drafting.{Known, known, with_pending_entry}
-use Rattle.paxos_turn.specs.Front.{IsFront}
-use Rattle.paxos_turn.specs.Proposals.{push}
+use Rattle.paxos_planning.specs.Node.{NodeState, Turn}
+use Rattle.paxos_planning.specs.Turn.{begun}
+use Rattle.paxos_planning.specs.Drafting.{Known, known, with_pending_entry}
+use Rattle.paxos_planning.specs.Front.{IsFront}
+use Rattle.paxos_planning.specs.Proposals.{push}
 use Rattle.paxos_node.proofs.Done.{done_pending}
 use Rattle.paxos_node.proofs.node.Node.plan_pending.Goals as goal
 

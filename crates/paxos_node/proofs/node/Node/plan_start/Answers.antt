@@ -1,11 +1,11 @@
 use Rattle.std.proofs.Common.{◌≡◌, ℕ, suc, true, length, sym, ◌∙◌}
 use Rattle.std.proofs.lemmas.Result.{on_ok_weaker}
 use Rattle.std.specs.Prelude.{OnOk}
-use Rattle.paxos_turn.specs.Node.{NodeState, Turn}
-use Rattle.paxos_turn.specs.Turn.{begun}
+use Rattle.paxos_planning.specs.Node.{NodeState, Turn}
+use Rattle.paxos_planning.specs.Turn.{begun}
 use Rattle.paxos_proposer.specs.Proposer.{new_ballot}
-use Rattle.paxos_turn.specs.Drafting.{Known}
-use Rattle.paxos_turn.specs.Starting.{begin, starts}
+use Rattle.paxos_planning.specs.Drafting.{Known}
+use Rattle.paxos_planning.specs.Starting.{begin, starts}
 use Rattle.paxos_node.proofs.Answering.{start_answered}
 use Rattle.paxos_node.proofs.Done.{done_turn}
 use Rattle.paxos_node.proofs.node.Node.plan_start.Goals as goal

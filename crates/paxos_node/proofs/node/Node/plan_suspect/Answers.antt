@@ -1,6 +1,6 @@
 use Rattle.std.proofs.Common.{◌≡◌, ℕ, true, false, subst, Option, Some, None, sym, ◌∙◌, rules}
 use Rattle.paxos_packets.specs.declared.entry.Entry.{Entry}
-use Rattle.paxos_turn.specs.Node.{NodeState, Turn}
+use Rattle.paxos_planning.specs.Node.{NodeState, Turn}
 use Rattle.paxos_node.specs.Plans.{Answered}
 use Rattle.paxos_node.specs.Events.{has_room, new_lost}
 use Rattle.paxos_node.proofs.Answering.{none_answered, lost_answered}

@@ -1,6 +1,6 @@
 use Rattle.std.proofs.Common.{◌≡◌, ◌<◌, ◌+◌, suc, true, sym, ◌∙◌, arith, rules}
 use Rattle.paxos_packets.specs.declared.entry.Entry.TheVariants.{Item}
-use Rattle.paxos_turn.specs.Node.{NodeState}
+use Rattle.paxos_planning.specs.Node.{NodeState}
 use Rattle.paxos_node.specs.Events.{takes}
 use Rattle.paxos_node.proofs.Answering.{take_answered, takes_below}
 use Rattle.paxos_node.proofs.Making.{take_makes}

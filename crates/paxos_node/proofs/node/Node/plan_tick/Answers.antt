@@ -1,9 +1,9 @@
 use Rattle.std.proofs.Common.{◌≡◌, ℕ, sym, ◌∙◌}
 use Rattle.std.proofs.lemmas.Result.{on_ok_weaker}
 use Rattle.std.specs.Prelude.{OnOk}
-use Rattle.paxos_turn.specs.Node.{NodeState, Turn}
-use Rattle.paxos_turn.specs.Turn.{begun}
-use Rattle.paxos_turn.specs.Ticking.{on_tick}
+use Rattle.paxos_planning.specs.Node.{NodeState, Turn}
+use Rattle.paxos_planning.specs.Turn.{begun}
+use Rattle.paxos_planning.specs.Ticking.{on_tick}
 use Rattle.paxos_node.proofs.Done.{done_turn}
 use Rattle.paxos_node.proofs.node.Node.plan_tick.Goals as goal
 

@@ -1,13 +1,13 @@
 use Rattle.std.proofs.Common.{ℕ, Some, Result, false, sym, subst}
 use Rattle.paxos_node.specs.declared.fault.NodeFault.{NodeFault}
 use Rattle.paxos_node.specs.declared.outcome.Outcome.{Outcome}
-use Rattle.paxos_turn.specs.Node.{NodeState, Turn}
-use Rattle.paxos_turn.specs.Turn.{begun}
+use Rattle.paxos_planning.specs.Node.{NodeState, Turn}
+use Rattle.paxos_planning.specs.Turn.{begun}
 use Rattle.paxos_node.specs.Adopting.{Settled}
 use Rattle.paxos_node.specs.Applying.{settle}
-use Rattle.paxos_turn.specs.Drafting.{with_pending_entry}
+use Rattle.paxos_planning.specs.Drafting.{with_pending_entry}
 use Rattle.paxos_node.specs.Plans.{Answered}
-use Rattle.paxos_turn.specs.Proposals.{push}
+use Rattle.paxos_planning.specs.Proposals.{push}
 use Rattle.paxos_node.proofs.Ending.{with_entry}
 use Rattle.paxos_node.proofs.node.Node.plan_with.Goals as goal
 

@@ -2,7 +2,7 @@ use Rattle.std.proofs.Common.{◌≡◌, suc, length, Result, Ok, Err, sym, subs
 use Rattle.paxos_packets.specs.declared.entry.Entries.{Entries}
 use Rattle.replica_machine.specs.Roll.{IsRollOf}
 use Rattle.paxos_learner.specs.Learner.{run_from}
-use Rattle.paxos_turn.specs.Drafting.{Known}
+use Rattle.paxos_planning.specs.Drafting.{Known}
 use Rattle.paxos_node.specs.declared.fault.NodeFault.{NodeFault}
 use Rattle.paxos_node.specs.declared.fault.NodeFault.TheVariants.{Memory}
 use Rattle.paxos_node.specs.declared.outcome.Outcome.{Outcome}

@@ -1,7 +1,7 @@
 use Rattle.std.proofs.Common.{is_some, sym, ap, ◌∙◌}
-use Rattle.keyed_lists.proofs.Finding.{any_is_find}
+use Rattle.realm_lists.proofs.Finding.{any_is_find}
 use Rattle.realm_calls.specs.Calls.{is_call}
-use Rattle.keyed_lists.proofs.Told.{is_some_mapped}
+use Rattle.realm_lists.proofs.Told.{is_some_mapped}
 use Rattle.realm_calls.proofs.calls.Calls.has.Goals as goal
 
 pub returns : goal.returns

@@ -1,6 +1,6 @@
 use Rattle.std.proofs.Common.{is_some, sym, ap, ◌∙◌}
-use Rattle.keyed_lists.proofs.Finding.{any_is_find}
-use Rattle.keyed_lists.proofs.Told.{is_some_mapped}
+use Rattle.realm_lists.proofs.Finding.{any_is_find}
+use Rattle.realm_lists.proofs.Told.{is_some_mapped}
 use Rattle.realm_calls.specs.Calls.{is_invocation}
 use Rattle.realm_calls.proofs.SoundCalls.{number_is}
 use Rattle.realm_calls.proofs.calls.Calls.is_invoked.Goals as goal

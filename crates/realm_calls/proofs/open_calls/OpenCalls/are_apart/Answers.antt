@@ -1,5 +1,5 @@
-use Rattle.keyed_lists.specs.PlaceIndex.{place_of}
-use Rattle.keyed_lists.proofs.Members.{all_apart}
+use Rattle.realm_lists.specs.PlaceIndex.{place_of}
+use Rattle.realm_lists.proofs.Members.{all_apart}
 use Rattle.realm_calls.specs.Indexed.{by_request}
 use Rattle.realm_calls.proofs.open_calls.OpenCalls.are_apart.Goals as goal
 

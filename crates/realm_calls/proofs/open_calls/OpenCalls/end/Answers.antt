@@ -1,9 +1,9 @@
 use Rattle.std.proofs.Common.{ℕ, sym, ap, ◌∙◌}
-use Rattle.keyed_lists.specs.Finding.{is_passing}
-use Rattle.keyed_lists.specs.Rows.{member_at}
-use Rattle.keyed_lists.specs.PlaceIndex.{place_of}
-use Rattle.keyed_lists.proofs.Finding.{kept_all}
-use Rattle.keyed_lists.proofs.Told.{told_none, told_without}
+use Rattle.realm_lists.specs.Finding.{is_passing}
+use Rattle.realm_lists.specs.Rows.{member_at}
+use Rattle.realm_lists.specs.PlaceIndex.{place_of}
+use Rattle.realm_lists.proofs.Finding.{kept_all}
+use Rattle.realm_lists.proofs.Told.{told_none, told_without}
 use Rattle.realm_calls.specs.Calls.{is_call}
 use Rattle.realm_calls.proofs.Indexes.{indexed_without, nothing_untold}
 use Rattle.realm_calls.proofs.open_calls.OpenCalls.end.Goals as goal

@@ -1,6 +1,6 @@
 use Rattle.std.proofs.Common.{ℕ, sym, ◌∙◌}
-use Rattle.keyed_lists.specs.PlaceIndex.{place_of}
-use Rattle.keyed_lists.proofs.Told.{told_none, told_member}
+use Rattle.realm_lists.specs.PlaceIndex.{place_of}
+use Rattle.realm_lists.proofs.Told.{told_none, told_member}
 use Rattle.realm_calls.specs.Calls.{is_call}
 use Rattle.realm_calls.proofs.open_calls.OpenCalls.find_call.Goals as goal
 

@@ -1,7 +1,7 @@
 use Rattle.std.proofs.Common.{ℕ, List, filter, ap, ◌∙◌}
-use Rattle.keyed_lists.specs.Rows.{members, members_at, has_place}
-use Rattle.keyed_lists.specs.PlaceIndex.{places_under}
-use Rattle.keyed_lists.proofs.Finding.{among_is}
+use Rattle.realm_lists.specs.Rows.{members, members_at, has_place}
+use Rattle.realm_lists.specs.PlaceIndex.{places_under}
+use Rattle.realm_lists.proofs.Finding.{among_is}
 use Rattle.realm_calls.specs.Indexed.{of_callee}
 use Rattle.realm_calls.proofs.Indexes.{callees_are_under}
 use Rattle.realm_calls.proofs.open_calls.OpenCalls.of_callee.Goals as goal

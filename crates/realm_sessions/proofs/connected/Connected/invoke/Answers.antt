@@ -1,5 +1,5 @@
 use Rattle.std.proofs.Common.{option_copied, sym, ap, ◌∙◌}
-use Rattle.keyed_lists.proofs.Told.{told_somebody, told_changed, told_unchanged}
+use Rattle.realm_lists.proofs.Told.{told_somebody, told_changed, told_unchanged}
 use Rattle.realm_sessions.specs.Links.{has_id}
 use Rattle.realm_sessions.proofs.Indexing.{indexed_invoked, with_last}
 use Rattle.realm_sessions.proofs.connected.Connected.invoke.Goals as goal

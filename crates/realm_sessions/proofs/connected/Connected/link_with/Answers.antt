@@ -1,5 +1,5 @@
 use Rattle.std.proofs.Common.{sym, ◌∙◌}
-use Rattle.keyed_lists.proofs.Told.{told_none, told_member}
+use Rattle.realm_lists.proofs.Told.{told_none, told_member}
 use Rattle.realm_sessions.specs.Links.{has_id}
 use Rattle.realm_sessions.proofs.connected.Connected.link_with.Goals as goal
 

@@ -1,5 +1,5 @@
 use Rattle.std.proofs.Common.{Some, option_copied, sym, ap, ◌∙◌}
-use Rattle.keyed_lists.proofs.Told.{told_somebody, told_changed, told_unchanged}
+use Rattle.realm_lists.proofs.Told.{told_somebody, told_changed, told_unchanged}
 use Rattle.realm_sessions.specs.Links.{is_of}
 use Rattle.realm_sessions.specs.Connected.{place_of}
 use Rattle.realm_sessions.proofs.Indexing.{indexed_opened, with_this, is_without}

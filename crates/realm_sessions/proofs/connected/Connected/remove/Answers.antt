@@ -1,6 +1,6 @@
 use Rattle.std.proofs.Common.{sym, ◌∙◌}
-use Rattle.keyed_lists.proofs.Finding.{kept_all}
-use Rattle.keyed_lists.proofs.Told.{told_none, told_somebody, told_passes, told_without}
+use Rattle.realm_lists.proofs.Finding.{kept_all}
+use Rattle.realm_lists.proofs.Told.{told_none, told_somebody, told_passes, told_without}
 use Rattle.realm_sessions.specs.Links.{is_of}
 use Rattle.realm_sessions.specs.Connected.{place_of}
 use Rattle.realm_sessions.proofs.SoundLinks.{same_is}

@@ -1,5 +1,5 @@
 use Rattle.std.proofs.Common.{◌∙◌}
-use Rattle.keyed_lists.proofs.Walking.{walked}
+use Rattle.realm_lists.proofs.Walking.{walked}
 use Rattle.realm_sessions.specs.Links.{has_id}
 use Rattle.realm_sessions.proofs.session_index.SessionIndex.find.Goals as goal
 

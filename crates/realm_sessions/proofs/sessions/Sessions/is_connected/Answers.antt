@@ -1,6 +1,6 @@
 use Rattle.std.proofs.Common.{is_some, sym, ap, ◌∙◌}
-use Rattle.keyed_lists.proofs.Finding.{any_is_find}
-use Rattle.keyed_lists.proofs.Told.{is_some_mapped}
+use Rattle.realm_lists.proofs.Finding.{any_is_find}
+use Rattle.realm_lists.proofs.Told.{is_some_mapped}
 use Rattle.realm_sessions.specs.Links.{is_of}
 use Rattle.realm_sessions.proofs.sessions.Sessions.is_connected.Goals as goal
 

@@ -1,5 +1,0 @@
-use Rattle.act_codec.proofs.Spelled.{messages_are_spelled}
-use Rattle.act_codec.proofs.laws.messages_are_spelled.Goals as goal
-
-pub returns : goal.returns
-returns c = messages_are_spelled c.read_again.ensures

@@ -1,5 +1,0 @@
-use Rattle.std.proofs.Common.{rules}
-use Rattle.log_follower.proofs.tellings.next_in.Goals as goal
-
-pub loop-turn-preserved : goal.loop-turn-preserved
-loop-turn-preserved g c = search rules

@@ -1,8 +1,0 @@
-use Rattle.std.proofs.Common.{subst}
-use Rattle.packet_outboxes.specs.Outboxes.{Waiting, HasLimits}
-use Rattle.packet_outboxes.proofs.Filing.{limited}
-use Rattle.packet_outboxes.proofs.outboxes.Outboxes.limits.Goals as goal
-
-pub returns : goal.returns
-returns g c =
-    subst (λ (w : Waiting g.row.B.Denot). HasLimits w) c.self.view_is (λ k peer. limited _ _ _ c.self.invariant k peer)

@@ -1,6 +1,0 @@
-use Rattle.std.proofs.Common.{◌≡◌, ◌≤◌}
-use Rattle.packet_outboxes.specs.Outboxes.{empty_boxes}
-use Rattle.packet_outboxes.proofs.outboxes.empty_boxes.Given as goal
-
-abbrev pub invariant-loop-number : goal.invariant-loop-number
-invariant-loop-number g l = (l.boxes.items ≡ empty_boxes l.me l.number) × (l.number ≤ l.number-end)

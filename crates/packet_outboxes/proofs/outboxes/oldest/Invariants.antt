@@ -1,5 +1,0 @@
-use Rattle.packet_outboxes.specs.Outboxes.{IsOldestBelow}
-use Rattle.packet_outboxes.proofs.outboxes.oldest.Given as goal
-
-abbrev pub invariant-loop-place : goal.invariant-loop-place
-invariant-loop-place g l = IsOldestBelow l.place l.boxes l.best

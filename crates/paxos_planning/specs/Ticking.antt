@@ -1,0 +1,33 @@
+-- Tick: what waits for an answer is sent again, and what a node lacks is asked for (docs/CONSENSUS.md, "Events").
+use Rattle.std.specs.Prelude.{ℕ, suc, Bool, not, List, [], map, filter, length, if◌then◌else◌}
+use Rattle.std.specs.List.{flat_map}
+use Rattle.paxos_packets.specs.Members.{others}
+use Rattle.paxos_packets.specs.Packet.{packet, to_others}
+use Rattle.paxos_packets.specs.declared.vote.Vote.{Vote}
+use Rattle.paxos_packets.specs.declared.packet.Kind.TheVariants.{Prepare, Accept, Ask}
+use Rattle.paxos_packets.specs.declared.packet.Packet.{Packet}
+use Rattle.paxos_proposer.specs.Role.{Role, Idle, Preparing, Leading}
+use Rattle.paxos_proposer.specs.Reports.{is_counted}
+use Rattle.paxos_learner.specs.declared.learned.LearnedEntry.{LearnedEntry}
+use Rattle.paxos_learner.specs.Learner.{is_learned}
+use Rattle.paxos_planning.specs.Node.{Turn}
+use Rattle.paxos_planning.specs.Turn.{send}
+use Rattle.paxos_planning.specs.Proposals.{push}
+
+-- the votes proposed in slots that aren't learned, slot by slot
+abbrev pub accepts_again : {B : Type 0} → ℕ → ℕ → List (LearnedEntry B) → List (Vote B) → List (Packet B)
+accepts_again members me learned votes =
+    flat_map (λ v. if is_learned v.slot learned then [] else to_others members me (Accept v)) votes
+
+abbrev pub again : {B : Type 0} → ℕ → ℕ → Role B → List (LearnedEntry B) → List (Packet B)
+again members me Idle learned = []
+again members me (Preparing b first promises) learned =
+    map (packet me (Prepare b first)) (filter (λ k. not (is_counted promises k)) (others me members))
+again members me (Leading b next proposed) learned = accepts_again members me learned proposed
+
+-- it asks the others for the slots that it lacks
+abbrev pub ask : {B : Type 0} → ℕ → ℕ → Turn B → Turn B
+ask members me o = send (to_others members me (Ask (suc (length o.node.applied)))) o
+
+abbrev pub on_tick : {B : Type 0} → (B → B → Bool) → ℕ → ℕ → Turn B → Turn B
+on_tick same members me o = ask members me (push same members me (send (again members me o.node.proposer.role o.node.learner.learned) o))

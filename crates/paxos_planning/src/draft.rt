@@ -1,0 +1,383 @@
+//! What an event makes of a node, so far.
+
+ghost use Rattle.std.specs.Prelude.{◌≡◌, ◌<◌, ◌^◌, suc, List, ◌∷◌, [], ◌++◌, length, map, OnOk, IfOk, option_copied};
+ghost use Rattle.paxos_packets.specs.Packet.{packet, to_others};
+ghost use Rattle.paxos_packets.specs.Vote.{put_vote, put_votes, votes_from};
+ghost use Rattle.paxos_packets.specs.declared.vote.Vote.{Vote};
+ghost use Rattle.paxos_learner.specs.Hearing.{after, hear_all};
+ghost use Rattle.paxos_learner.specs.Learned.{Begins, Rises};
+ghost use Rattle.paxos_learner.specs.Learner.{run_from, learn, count_vote, disagrees, vote_disagrees};
+ghost use Rattle.paxos_acceptor.specs.Acceptor.{may_promise, may_accept};
+ghost use Rattle.paxos_proposer.specs.Moves.{ArePossible};
+ghost use Rattle.paxos_proposer.specs.Proposer.{is_leading};
+ghost use Rattle.paxos_planning.specs.Parts.{proposer_of, learner_of};
+ghost use Rattle.paxos_planning.specs.Drafting.{known, with_pending_entry, and_kept, turn_behind};
+ghost use Rattle.paxos_planning.specs.Turn.{begun, send, promise, vote, count, hear_learned, cast};
+
+use crate::effects::Effects;
+use crate::parts::Parts;
+use paxos_learner::Hearing;
+use paxos_packets::{
+    Ballot, Body, Change, Entries, Entry, Kind, Memory, Packet, Slot, Vote, Votes,
+};
+use paxos_proposer::Proposing;
+use std::alloc::Global;
+use std::marker::Model;
+
+/// A node by reference, and what an event makes of it so far: what it commits and sends, what is done to its proposer, what its learner
+/// hears, and the entry that becomes pending. A fault leaves it open, and the event is planned no further.
+#[derive(Drop)]
+pub struct Draft<'a, B> {
+    pub(crate) alloc: Global,
+    pub(crate) node: Parts<'a, B>,
+    pub(crate) added: Option<&'a Entry<B>>,
+    pub(crate) change: Change<B>,
+    pub(crate) packets: Vec<Packet<B>>,
+    pub(crate) proposing: Proposing<'a, B>,
+    pub(crate) hearing: Hearing<'a, B>,
+    pub(crate) disagrees: bool,
+}
+
+impl<'a, B> Model for Draft<'a, B> {
+    ghost use Rattle.std.specs.Prelude.{◌≡◌, [], option_copied};
+    ghost use Rattle.paxos_acceptor.specs.Acceptor.{adopted};
+    ghost use Rattle.paxos_learner.specs.Hearing as to_hear;
+    ghost use Rattle.paxos_proposer.specs.Proposing as to_do;
+    ghost use Rattle.paxos_planning.specs.Parts.{proposer_of, learner_of, pending_with, counted_with};
+    ghost use Rattle.paxos_planning.specs.Drafting.{Drafted};
+
+    ghost Value = { Drafted B };
+
+    ghost view = { λ d. record {
+      of = record { me = d.node.me; members = d.node.members; state = d.node.state; added = option_copied d.added };
+      turn = record {
+        node = record {
+          rows = adopted d.node.state.rows d.change;
+          up = d.node.state.up;
+          proposer = (to_do.after d.proposing).proposer;
+          learner = (to_hear.after d.hearing).learner;
+          applied = d.node.state.applied;
+          pending = pending_with (option_copied d.added) d.node.state.pending;
+          taken = counted_with (option_copied d.added) d.node.state.taken;
+        };
+        change = d.change;
+        packets = d.packets.items;
+        applied = [];
+        disagrees = d.disagrees;
+      };
+    } };
+
+    ghost invariant = { λ d. (d.proposing.before ≡ proposer_of d.node.me d.node.members d.node.state)
+        × (d.hearing.before ≡ learner_of d.node.members d.node.state) };
+}
+
+impl<'a, B> Draft<'a, B> {
+    /// Nothing happened yet; this entry becomes pending. Takes no memory; the other calls will, from `alloc`.
+    pub fn of(alloc: Global, node: Parts<'a, B>, added: Option<&'a Entry<B>>) -> Draft<'a, B>
+        ensures of { result.of ≡ known node.entry.me node.entry.members node.entry.state (option_copied added.entry) }
+        ensures turn { result.turn ≡ begun (with_pending_entry (option_copied added.entry) node.entry.state) }
+    {
+        let proposing = node.proposing(alloc);
+        let hearing = node.hearing(alloc);
+        Draft {
+            alloc,
+            node,
+            added,
+            change: Change {
+                promised: None,
+                votes: Votes::new(alloc),
+            },
+            packets: Vec::new(alloc),
+            proposing,
+            hearing,
+            disagrees: false,
+        }
+    }
+
+    // Where its memory comes from.
+    pub(crate) fn alloc(&self) -> Global {
+        self.alloc
+    }
+
+    /// Whose event it is.
+    pub fn me(&self) -> u8
+        ensures { result ≡ self.now.of.me }
+    {
+        self.node.me()
+    }
+
+    /// How often its node was started.
+    pub fn boot(&self) -> u64
+        ensures { result ≡ self.now.of.state.rows.boot }
+    {
+        self.node.boot()
+    }
+
+    /// What its node learned begins with its log.
+    pub fn begins(&self)
+        ensures { Begins self.now.of.state.applied self.now.of.state.learner.learned }
+    {
+        self.node.begins();
+    }
+
+    /// Whether it was told another entry of a slot that it had learned.
+    pub fn disagrees(&self) -> bool
+        ensures { result ≡ self.now.turn.disagrees }
+    {
+        self.disagrees
+    }
+
+    /// How many entries are applied.
+    pub fn applied(&self) -> u64
+        ensures length { result ≡ length self.now.of.state.applied }
+        ensures turn { result ≡ length self.now.turn.node.applied }
+        ensures within { result < 2 ^ 40 }
+    {
+        self.node.applied()
+    }
+
+    // Whether it would lead.
+    pub(crate) fn is_leading(&self) -> bool
+        ensures { result ≡ is_leading self.now.turn.node.proposer.role }
+    {
+        self.proposing.is_leading()
+    }
+
+    // What it promised, with what it promises now.
+    pub(crate) fn promised(&self) -> Option<Ballot>
+        ensures { result ≡ self.now.turn.node.rows.promised }
+    {
+        self.change.promised.or(self.node.promised())
+    }
+
+    // Whether the ballot may be promised.
+    pub(crate) fn may_promise(&self, ballot: Ballot) -> bool
+        ensures { result ≡ may_promise self.now.turn.node.rows.promised ballot }
+    {
+        match self.promised() {
+            Some(promised) => promised.is_below(&ballot),
+            None => true,
+        }
+    }
+
+    // Whether a vote in the ballot may be cast.
+    pub(crate) fn may_accept(&self, ballot: Ballot) -> bool
+        ensures { result ≡ may_accept self.now.turn.node.rows.promised ballot }
+    {
+        match self.promised() {
+            Some(promised) => !ballot.is_below(&promised),
+            None => true,
+        }
+    }
+}
+
+impl<'a, B: Drop> Draft<'a, B> {
+    /// What the event does, in all.
+    pub fn into_effects(self) -> Effects<B>
+        ensures turn { self.entry.turn ≡ turn_behind self.entry.of self.entry.turn.disagrees result }
+        ensures moves { ArePossible result.moves.items (proposer_of self.entry.of.me self.entry.of.members self.entry.of.state) }
+        ensures rises { Rises 0 (hear_all result.news.items (learner_of self.entry.of.members self.entry.of.state)).learner.learned }
+    {
+        let Draft {
+            change,
+            packets,
+            proposing,
+            hearing,
+            ..
+        } = self;
+        Effects {
+            change,
+            packets,
+            moves: proposing.into_moves(),
+            news: hearing.into_news(),
+        }
+    }
+}
+
+impl<'a, B: Body> Draft<'a, B> {
+    /// Copies of what would be learned behind its log, up to the first slot that would have none.
+    pub fn run(&self) -> Result<Entries<B>, Memory>
+        ensures { IfOk result (λ run. run ≡ run_from (suc (length self.now.of.state.applied)) self.now.turn.node.learner.learned) }
+    {
+        let Ok(run) = self.hearing.run_behind(self.node.applied()) else {
+            return Err(Memory);
+        };
+        Ok(run)
+    }
+
+    // It promises the ballot, which may end one of its own.
+    pub(crate) fn promise(&mut self, ballot: Ballot) -> Result<(), Memory>
+        ensures of { self.new.of ≡ self.old.of }
+        ensures turn { OnOk result (self.new.turn ≡ promise ballot self.old.turn) }
+    {
+        let Ok(()) = self.proposing.step_down(ballot) else {
+            return Err(Memory);
+        };
+        self.change.promised = Some(ballot);
+        Ok(())
+    }
+
+    // The vote is committed, in its slot.
+    fn keep(&mut self, voted: &Vote<B>) -> Result<(), Memory>
+        ensures of { self.new.of ≡ self.old.of }
+        ensures turn { OnOk result (self.new.turn ≡ and_kept voted.now self.old.turn) }
+    {
+        put_copy(self.alloc, &mut self.change.votes, voted)?;
+        Ok(())
+    }
+
+    // It votes, which may end a ballot of its own.
+    fn vote(&mut self, voted: &Vote<B>) -> Result<(), Memory>
+        ensures of { self.new.of ≡ self.old.of }
+        ensures turn { OnOk result (self.new.turn ≡ vote voted.now self.old.turn) }
+    {
+        self.promise(voted.ballot)?;
+        self.keep(voted)?;
+        Ok(())
+    }
+
+    // A member's vote is counted.
+    pub(crate) fn count(&mut self, node: u8, vote: &Vote<B>) -> Result<(), Memory>
+        ensures of { self.new.of ≡ self.old.of }
+        ensures turn { OnOk result (self.new.turn ≡ count B.same self.old.of.members node vote.now self.old.turn) }
+    {
+        let other = count_in(&mut self.hearing, node, vote)?;
+        self.disagrees = self.disagrees || other;
+        Ok(())
+    }
+
+    // It is told what a slot holds.
+    pub(crate) fn hear_learned(&mut self, slot: Slot, entry: &Entry<B>) -> Result<(), Memory>
+        ensures of { self.new.of ≡ self.old.of }
+        ensures turn { OnOk result (self.new.turn ≡ hear_learned B.same slot entry.now self.old.turn) }
+    {
+        let other = tell_in(&mut self.hearing, slot, entry)?;
+        self.disagrees = self.disagrees || other;
+        Ok(())
+    }
+
+    // This is sent to the member.
+    pub(crate) fn send_to(&mut self, kind: Kind<B>, addressee: u8) -> Result<(), Memory>
+        ensures of { self.new.of ≡ self.old.of }
+        ensures turn { OnOk result (self.new.turn ≡ send (packet self.old.of.me kind addressee ∷ []) self.old.turn) }
+    {
+        let Ok(()) = self.packets.reserve(1) else {
+            return Err(Memory);
+        };
+        self.packets.push_reserved(Packet {
+            sender: self.node.me(),
+            addressee,
+            kind,
+        });
+        Ok(())
+    }
+
+    // This is sent to each other member.
+    pub(crate) fn send_to_others(&mut self, kind: &Kind<B>) -> Result<(), Memory>
+        ensures of { self.new.of ≡ self.old.of }
+        ensures turn { OnOk result (self.new.turn ≡ send (to_others self.old.of.members self.old.of.me kind.now) self.old.turn) }
+    {
+        let me = self.node.me();
+        let others = self.node.members().others(me);
+        put_to_each(self.alloc, &mut self.packets, me, others.as_slice(), kind)?;
+        Ok(())
+    }
+
+    // A vote is cast: committed, counted, and told to the others.
+    pub(crate) fn cast(&mut self, vote: &Vote<B>) -> Result<(), Memory>
+        ensures of { self.new.of ≡ self.old.of }
+        ensures turn { OnOk result (self.new.turn ≡ cast B.same self.old.of.members self.old.of.me vote.now self.old.turn) }
+    {
+        let Ok(copy) = vote.copy(self.alloc()) else {
+            return Err(Memory);
+        };
+        let me = self.me();
+        self.vote(vote)?;
+        self.count(me, vote)?;
+        self.send_to_others(&Kind::Accepted { vote: copy })?;
+        Ok(())
+    }
+
+    // Copies of its votes from the slot on, where none is new.
+    pub(crate) fn votes_from(&self, first: u64) -> Result<Votes<B>, Memory>
+        requires { self.now.turn.change.votes ≡ [] }
+        ensures votes { IfOk result (λ votes. votes ≡ votes_from first self.now.turn.node.rows.votes) }
+    {
+        self.node.votes_from(self.alloc, first)
+    }
+}
+
+// This is sent by the node to each of the others.
+pub(crate) fn put_to_each<B: Body>(
+    alloc: Global,
+    packets: &mut Vec<Packet<B>>,
+    me: u8,
+    others: &[u8],
+    kind: &Kind<B>,
+) -> Result<(), Memory>
+    ensures ok { OnOk result (packets.new.items ≡ packets.old.items ++ map (packet me kind.now) others.now) }
+{
+    for other in others {
+        let Ok(copy) = kind.copy(alloc) else {
+            return Err(Memory);
+        };
+        let Ok(()) = packets.reserve(1) else {
+            return Err(Memory);
+        };
+        packets.push_reserved(Packet {
+            sender: me,
+            addressee: *other,
+            kind: copy,
+        });
+    }
+    Ok(())
+}
+
+// A copy of the vote is put among those that are committed.
+fn put_copy<B: Body>(alloc: Global, votes: &mut Votes<B>, vote: &Vote<B>) -> Result<(), Memory>
+    ensures ok { OnOk result (votes.new ≡ put_vote vote.now votes.old) }
+    ensures rows { OnOk result ((rows : List (Vote B)) → put_votes votes.new rows ≡ put_vote vote.now (put_votes votes.old rows)) }
+{
+    let _before = votes.as_slice().len();
+    let Ok(copy) = vote.copy(alloc) else {
+        return Err(Memory);
+    };
+    let Ok(()) = votes.put(copy) else {
+        return Err(Memory);
+    };
+    Ok(())
+}
+
+// A member's vote is to be heard. Whether another entry would be learned in its slot.
+fn count_in<'a, B: Body>(
+    hearing: &mut Hearing<'a, B>,
+    node: u8,
+    vote: &Vote<B>,
+) -> Result<bool, Memory>
+    ensures before { hearing.new.before ≡ hearing.old.before }
+    ensures learner { OnOk result ((after hearing.new).learner
+        ≡ count_vote hearing.old.before.members node vote.now (after hearing.old).learner) }
+    ensures other { IfOk result (λ other. other
+        ≡ vote_disagrees B.same hearing.old.before.members node vote.now (after hearing.old).learner) }
+{
+    let Ok(other) = hearing.vote(node, vote) else {
+        return Err(Memory);
+    };
+    Ok(other)
+}
+
+// What a member tells is to be heard. Whether another entry would be learned in the slot.
+fn tell_in<'a, B: Body>(
+    hearing: &mut Hearing<'a, B>,
+    slot: Slot,
+    entry: &Entry<B>,
+) -> Result<bool, Memory>
+    ensures before { hearing.new.before ≡ hearing.old.before }
+    ensures learner { OnOk result ((after hearing.new).learner ≡ learn slot entry.now (after hearing.old).learner) }
+    ensures other { IfOk result (λ other. other ≡ disagrees B.same slot entry.now (after hearing.old).learner) }
+{
+    let Ok(other) = hearing.tell(slot, entry) else {
+        return Err(Memory);
+    };
+    Ok(other)
+}

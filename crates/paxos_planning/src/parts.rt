@@ -1,0 +1,179 @@
+ghost use Rattle.std.specs.Prelude.{◌≡◌, ◌<◌, ◌^◌, [], length, IfOk};
+ghost use Rattle.paxos_learner.specs.Learned.{Begins};
+ghost use Rattle.paxos_packets.specs.Vote.{votes_from};
+ghost use Rattle.paxos_planning.specs.Parts.{proposer_of, learner_of, first_learned, whole};
+
+use paxos_acceptor::Acceptor;
+use paxos_learner::{Hearing, Learner};
+use paxos_packets::{Ballot, Body, Entry, Members, Memory, Votes};
+use paxos_proposer::{Proposer, Proposing};
+use std::alloc::Global;
+use std::marker::Model;
+
+/// The parts of a node that is up, by reference.
+#[derive(Drop)]
+pub struct Parts<'a, B> {
+    me: u8,
+    members: Members,
+    acceptor: &'a Acceptor<B>,
+    proposer: &'a Proposer<B>,
+    learner: &'a Learner<B>,
+    // How many of the first slots that the learner learned are applied.
+    applied: usize,
+    pending: &'a [Entry<B>],
+    taken: u64,
+}
+
+impl<'a, B> Model for Parts<'a, B> {
+    ghost use Rattle.std.specs.Prelude.{◌≡◌, ◌<◌, ◌^◌, true, length};
+    ghost use Rattle.paxos_learner.specs.Learned.{Begins};
+    ghost use Rattle.paxos_planning.specs.Parts.{Whole, first_learned};
+
+    ghost Value = { Whole B };
+
+    ghost view = { λ p. record {
+      me = p.me;
+      members = p.members;
+      state = record {
+        rows = p.acceptor.now.rows;
+        up = true;
+        proposer = p.proposer.now.state.proposer;
+        learner = p.learner.now.state.learner;
+        applied = first_learned p.applied p.learner.now.state.learner.learned;
+        pending = p.pending.now;
+        taken = p.taken;
+      };
+    } };
+
+    ghost invariant = { λ p. (p.proposer.now.state.me ≡ p.me) × (p.proposer.now.state.members ≡ p.members)
+        × (p.learner.now.state.members ≡ p.members)
+        × (length (first_learned p.applied p.learner.now.state.learner.learned) ≡ p.applied)
+        × Begins (first_learned p.applied p.learner.now.state.learner.learned) p.learner.now.state.learner.learned
+        × (p.applied < 2 ^ 40) };
+}
+
+impl<'a, B> Parts<'a, B> {
+    /// The parts of the node with this number, of these members, which has applied what its learner learned in so many of the first slots.
+    pub fn of(
+        me: u8,
+        members: Members,
+        acceptor: &'a Acceptor<B>,
+        proposer: &'a Proposer<B>,
+        learner: &'a Learner<B>,
+        applied: usize,
+        pending: &'a [Entry<B>],
+        taken: u64,
+    ) -> Parts<'a, B>
+        requires me { proposer.now.state.me ≡ me }
+        requires members { proposer.now.state.members ≡ members }
+        requires learner_members { learner.now.state.members ≡ members }
+        requires length { length (first_learned applied learner.now.state.learner.learned) ≡ applied }
+        requires begins { Begins (first_learned applied learner.now.state.learner.learned) learner.now.state.learner.learned }
+        requires within { applied < 2 ^ 40 }
+        ensures { result ≡ whole me members acceptor.now.rows proposer.now.state.proposer learner.now.state.learner
+            (first_learned applied learner.now.state.learner.learned) pending.now taken }
+    {
+        Parts {
+            me,
+            members,
+            acceptor,
+            proposer,
+            learner,
+            applied,
+            pending,
+            taken,
+        }
+    }
+
+    // The node's number.
+    pub(crate) fn me(&self) -> u8
+        ensures { result ≡ self.now.me }
+    {
+        self.me
+    }
+
+    // The members.
+    pub(crate) fn members(&self) -> Members
+        ensures { result ≡ self.now.members }
+    {
+        self.members
+    }
+
+    // How often the node was started.
+    pub(crate) fn boot(&self) -> u64
+        ensures { result ≡ self.now.state.rows.boot }
+    {
+        self.acceptor.boot()
+    }
+
+    // The greatest ballot that the node has promised, if any.
+    pub(crate) fn promised(&self) -> Option<Ballot>
+        ensures { result ≡ self.now.state.rows.promised }
+    {
+        self.acceptor.promised()
+    }
+
+    // Its proposer.
+    pub(crate) fn proposer(&self) -> &'a Proposer<B>
+        ensures { result.now.state ≡ proposer_of self.now.me self.now.members self.now.state }
+    {
+        self.proposer
+    }
+
+    // Its learner.
+    pub(crate) fn learner(&self) -> &'a Learner<B>
+        ensures { result.now.state ≡ learner_of self.now.members self.now.state }
+    {
+        self.learner
+    }
+
+    // How many entries it has applied.
+    pub(crate) fn applied(&self) -> u64
+        ensures length { result ≡ length self.now.state.applied }
+        ensures within { result < 2 ^ 40 }
+    {
+        self.applied as u64
+    }
+
+    // What it learned begins with its log.
+    pub(crate) fn begins(&self)
+        ensures { Begins self.now.state.applied self.now.state.learner.learned }
+    {
+        let _ = &self.learner;
+    }
+
+    // The entries that wait for a slot.
+    pub(crate) fn pending(&self) -> &'a [Entry<B>]
+        ensures { result.now ≡ self.now.state.pending }
+    {
+        self.pending
+    }
+
+    // Its proposer, to which nothing is to be done.
+    pub(crate) fn proposing(&self, alloc: Global) -> Proposing<'a, B>
+        ensures before { result.before ≡ proposer_of self.now.me self.now.members self.now.state }
+        ensures moves { result.moves ≡ [] }
+    {
+        Proposing::of(alloc, self.proposer)
+    }
+
+    // Its learner, which is to hear nothing.
+    pub(crate) fn hearing(&self, alloc: Global) -> Hearing<'a, B>
+        ensures before { result.before ≡ learner_of self.now.members self.now.state }
+        ensures news { result.news ≡ [] }
+    {
+        Hearing::of(alloc, self.learner)
+    }
+}
+
+impl<'a, B: Body> Parts<'a, B> {
+    // Copies of its votes from the slot with this number on.
+    pub(crate) fn votes_from(&self, alloc: Global, first: u64) -> Result<Votes<B>, Memory>
+        ensures { IfOk result (λ votes. votes ≡ votes_from first self.now.state.rows.votes) }
+    {
+        let Ok(votes) = self.acceptor.votes_from(alloc, first) else {
+            return Err(Memory);
+        };
+        Ok(votes)
+    }
+}

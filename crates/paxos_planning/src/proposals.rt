@@ -1,0 +1,277 @@
+//! What a leader proposes, and what another node forwards.
+
+ghost use Rattle.std.specs.Prelude.{◌≡◌, ◌≤◌, drop, ◌∷◌, [], ◌++◌, length, true, is_some, OnOk, IfOk, option_copied, take};
+ghost use Rattle.paxos_packets.specs.Packet.{to_others};
+ghost use Rattle.paxos_proposer.specs.Proposer.{submitted};
+ghost use Rattle.paxos_proposer.specs.Proposing.{offer_of};
+ghost use Rattle.paxos_planning.specs.Parts.{pending_with};
+ghost use Rattle.paxos_planning.specs.Drafting.{in_role, listed};
+ghost use Rattle.paxos_planning.specs.Front.{AllStand, FrontOf};
+ghost use Rattle.paxos_planning.specs.Proposals.{stands, propose, propose_all, propose_new, propose_each, forwarded, push};
+ghost use Rattle.paxos_planning.specs.Turn.{send, cast};
+ghost use Rattle.paxos_packets.specs.declared.packet.Kind.TheVariants.{Accept};
+
+use crate::draft::Draft;
+use paxos_packets::{Body, Entries, Entry, Kind, Memory, Vote};
+use paxos_proposer::Offer;
+use std::alloc::Global;
+
+impl<'a, B: Body> Draft<'a, B> {
+    // A leader proposes the entry, and votes for it; where no slot is left it does nothing.
+    pub(crate) fn propose(&mut self, entry: &Entry<B>) -> Result<(), Memory>
+        ensures of { self.new.of ≡ self.old.of }
+        ensures turn { OnOk result (self.new.turn ≡ propose B.same self.old.of.members self.old.of.me entry.now self.old.turn) }
+    {
+        let Some(offer) = self.offer() else {
+            return Ok(());
+        };
+        self.submit(entry)?;
+        let Ok(copy) = entry.copy(self.alloc()) else {
+            return Err(Memory);
+        };
+        self.propose_vote(&Vote {
+            slot: offer.slot,
+            ballot: offer.ballot,
+            entry: copy,
+        })?;
+        Ok(())
+    }
+
+    // The others are asked for this vote, and it is cast.
+    fn propose_vote(&mut self, vote: &Vote<B>) -> Result<(), Memory>
+        ensures of { self.new.of ≡ self.old.of }
+        ensures turn { OnOk result (self.new.turn ≡ cast B.same self.old.of.members self.old.of.me vote.now
+            (send (to_others self.old.of.members self.old.of.me (Accept vote.now)) self.old.turn)) }
+    {
+        let Ok(copy) = vote.copy(self.alloc()) else {
+            return Err(Memory);
+        };
+        self.send_to_others(&Kind::Accept { vote: copy })?;
+        self.cast(vote)?;
+        Ok(())
+    }
+
+    // It proposes the entry, unless that stands already in a slot that is not applied.
+    fn propose_new(&mut self, entry: &Entry<B>) -> Result<(), Memory>
+        ensures of { self.new.of ≡ self.old.of }
+        ensures turn { OnOk result (self.new.turn ≡ propose_new B.same self.old.of.members self.old.of.me entry.now self.old.turn) }
+    {
+        if self.stands(entry) {
+            return Ok(());
+        }
+        self.propose(entry)?;
+        Ok(())
+    }
+
+    // It proposes these entries, each unless it stands already.
+    pub(crate) fn propose_each(&mut self, entries: &[Entry<B>]) -> Result<(), Memory>
+        ensures of { self.new.of ≡ self.old.of }
+        ensures turn { OnOk result (self.new.turn ≡ propose_each B.same self.old.of.members self.old.of.me entries.now self.old.turn) }
+    {
+        for entry in entries {
+            self.propose_new(entry)?;
+        }
+        Ok(())
+    }
+
+    // It proposes these entries.
+    pub(crate) fn propose_all(&mut self, entries: &[Entry<B>]) -> Result<(), Memory>
+        ensures of { self.new.of ≡ self.old.of }
+        ensures turn { OnOk result (self.new.turn ≡ propose_all B.same self.old.of.members self.old.of.me entries.now self.old.turn) }
+    {
+        for entry in entries {
+            self.propose(entry)?;
+        }
+        Ok(())
+    }
+
+    /// A leader proposes what is pending, and another node forwards it. The first `front` that were pending before are not looked at: they stand.
+    pub fn push(&mut self, front: usize) -> Result<(), Memory>
+        requires { FrontOf front self.old }
+        ensures of { self.new.of ≡ self.old.of }
+        ensures turn { OnOk result (self.new.turn ≡ push B.same self.old.of.members self.old.of.me self.old.turn) }
+        ensures front { OnOk result (FrontOf front self.new) }
+    {
+        if !self.is_leading() {
+            self.forward()?;
+            return Ok(());
+        }
+        self.propose_each(self.behind(front))?;
+        self.propose_added()?;
+        Ok(())
+    }
+
+    /// How many of those that were pending before stand at the front, where the first `from` do. Looks at those alone, and at the first that
+    /// does not stand.
+    pub fn front(&self, from: usize) -> usize
+        requires { FrontOf from self.now }
+        ensures front { FrontOf result self.now }
+        ensures most { result ≤ length self.now.of.state.pending }
+    {
+        let pending = self.node.pending();
+        if pending.len() < from {
+            return 0;
+        }
+        from + self.count_standing(&pending[from..])
+    }
+
+    // How many of the entries stand, up to the first that does not.
+    fn count_standing(&self, entries: &[Entry<B>]) -> usize
+        ensures stand { AllStand B.same (length self.now.turn.node.applied) self.now.turn.node.proposer.role (take result entries.now) }
+        ensures most { result ≤ length entries.now }
+    {
+        let mut count = 0;
+        for entry in entries {
+            if !self.stands(entry) {
+                return count;
+            }
+            count += 1;
+        }
+        count
+    }
+
+    // What was pending before, behind the first `front`.
+    fn behind(&self, front: usize) -> &'a [Entry<B>]
+        ensures rest { result.now ≡ drop front self.now.of.state.pending }
+        ensures pending { self.now.turn.node.pending ≡ pending_with self.now.of.added self.now.of.state.pending }
+    {
+        let pending = self.node.pending();
+        &pending[front.min(pending.len())..]
+    }
+
+    // It proposes the entry that becomes pending, unless it stands already.
+    fn propose_added(&mut self) -> Result<(), Memory>
+        ensures of { self.new.of ≡ self.old.of }
+        ensures turn { OnOk result (self.new.turn
+            ≡ propose_each B.same self.old.of.members self.old.of.me (listed self.old.of.added) self.old.turn) }
+    {
+        let Some(entry) = self.added() else {
+            return Ok(());
+        };
+        self.propose_new(entry)?;
+        Ok(())
+    }
+
+    // The first pending entries go to the node whose ballot is promised.
+    fn forward(&mut self) -> Result<(), Memory>
+        ensures of { self.new.of ≡ self.old.of }
+        ensures turn { OnOk result (self.new.turn
+            ≡ send (forwarded self.old.of.me self.old.turn.node.rows.promised self.old.turn.node.pending) self.old.turn) }
+    {
+        let Some(promised) = self.promised() else {
+            return Ok(());
+        };
+        if promised.node == self.me() {
+            return Ok(());
+        }
+        let entries = first_pending(self.alloc(), self.pending(), self.added())?;
+        if entries.as_slice().is_empty() {
+            return Ok(());
+        }
+        self.send_to(Kind::Forward { entries }, promised.node)?;
+        Ok(())
+    }
+
+    // Where it would propose next, if it leads and a slot is left.
+    fn offer(&self) -> Option<Offer>
+        ensures { result ≡ offer_of self.now.turn.node.proposer.role }
+    {
+        self.proposing.offer()
+    }
+
+    // Whether an equal entry stands in a slot of its ballot that is not applied.
+    fn stands(&self, entry: &Entry<B>) -> bool
+        ensures { result ≡ stands B.same (length self.now.turn.node.applied) self.now.turn.node.proposer.role entry.now }
+    {
+        self.proposing.stands(self.node.applied(), entry)
+    }
+
+    // The entry is proposed in a leader's next slot.
+    fn submit(&mut self, entry: &Entry<B>) -> Result<(), Memory>
+        requires { is_some (offer_of self.old.turn.node.proposer.role) ≡ true }
+        ensures of { self.new.of ≡ self.old.of }
+        ensures turn { OnOk result (self.new.turn ≡ in_role (submitted entry.now self.old.turn.node.proposer.role) self.old.turn) }
+    {
+        let Ok(()) = self.proposing.submit(entry) else {
+            return Err(Memory);
+        };
+        Ok(())
+    }
+
+    // What is pending, but for the entry that becomes so.
+    fn pending(&self) -> &'a [Entry<B>]
+        ensures { self.now.turn.node.pending ≡ pending_with self.now.of.added result.now }
+    {
+        self.node.pending()
+    }
+
+    // The entry that becomes pending.
+    fn added(&self) -> Option<&'a Entry<B>>
+        ensures { option_copied result ≡ self.now.of.added }
+    {
+        self.added
+    }
+}
+
+// Copies of the first 64 pending entries.
+fn first_pending<B: Body>(
+    alloc: Global,
+    pending: &[Entry<B>],
+    added: Option<&Entry<B>>,
+) -> Result<Entries<B>, Memory>
+    ensures ok { IfOk result (λ entries. entries ≡ take 64 (pending_with (option_copied added.entry) pending.now)) }
+{
+    let mut entries = Entries::new(alloc);
+    copy_first(alloc, &mut entries, first_64(pending))?;
+    if pending.len() >= 64 {
+        return Ok(entries);
+    }
+    match added {
+        None => Ok(entries),
+        Some(entry) => {
+            push_copy(alloc, &mut entries, entry)?;
+            Ok(entries)
+        }
+    }
+}
+
+// The first 64 of them.
+fn first_64<B>(entries: &[Entry<B>]) -> &[Entry<B>]
+    ensures { result.now ≡ take 64 entries.now }
+{
+    if entries.len() < 64 {
+        return entries;
+    }
+    &entries[..64]
+}
+
+// Copies of these are put at the end.
+fn copy_first<B: Body>(
+    alloc: Global,
+    entries: &mut Entries<B>,
+    more: &[Entry<B>],
+) -> Result<(), Memory>
+    ensures ok { OnOk result (entries.new ≡ entries.old ++ more.now) }
+{
+    for entry in more {
+        push_copy(alloc, entries, entry)?;
+    }
+    Ok(())
+}
+
+// A copy of it is put at the end.
+fn push_copy<B: Body>(
+    alloc: Global,
+    entries: &mut Entries<B>,
+    entry: &Entry<B>,
+) -> Result<(), Memory>
+    ensures ok { OnOk result (entries.new ≡ entries.old ++ entry.now ∷ []) }
+{
+    let Ok(copy) = entry.copy(alloc) else {
+        return Err(Memory);
+    };
+    let Ok(()) = entries.push(copy) else {
+        return Err(Memory);
+    };
+    Ok(())
+}

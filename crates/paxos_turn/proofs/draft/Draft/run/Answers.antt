@@ -1,5 +1,0 @@
-use Rattle.std.proofs.Common.{rules}
-use Rattle.paxos_turn.proofs.draft.Draft.run.Goals as goal
-
-pub returns : goal.returns
-returns g c = search rules

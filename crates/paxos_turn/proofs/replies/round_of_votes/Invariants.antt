@@ -1,7 +1,0 @@
-use Rattle.std.proofs.Common.{◌≡◌, max, drop}
-use Rattle.paxos_turn.specs.Replies.{round_of_votes}
-use Rattle.paxos_turn.proofs.replies.round_of_votes.Given as goal
-
--- with the rest's rounds it is the greatest of all
-abbrev pub invariant-loop-vote : goal.invariant-loop-vote
-invariant-loop-vote g l = max l.round (round_of_votes (drop l.vote-index l.votes)) ≡ round_of_votes l.votes

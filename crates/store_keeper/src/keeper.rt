@@ -1,0 +1,88 @@
+ghost use Rattle.std.specs.Prelude.{◌≡◌, ◌≢◌, ◌⊎◌, ◌-◌, ◌^◌, ◌<◌, ◌≤◌, ℕ, Bool, true, false, is_err, IfOk, OnOk, IsErrOf, Err};
+ghost use Rattle.paxos_packets.specs.declared.rows.Rows.{Rows};
+ghost use Rattle.paxos_acceptor.specs.Acceptor.{adopted};
+ghost use Rattle.paxos_packets.specs.Rows.{last_boot, raised};
+ghost use Rattle.store_keeper.specs.Keeper.{FindsOr, FindsNoMore};
+
+use crate::fault::KeeperFault;
+use paxos_packets::{Body, Change, Rows};
+
+/// A store of one acceptor's rows: what a node has promised and voted, and how often it was started, found again after a crash
+/// (Lamport 2001, section 2.5).
+///
+/// After a fault of `commit` or `boot` the keeper is failed, and answers nothing else until it is opened again; what it finds then is
+/// what it held before that call, or what it was to hold after it.
+pub trait Keeper<B: Body> {
+    // What a load gives.
+    ghost holds: { Self → Rows B → Type 0 };
+
+    // What it may find when it is opened again, stopped at this moment.
+    ghost finds: { Self → Rows B → Type 0 };
+
+    // What lies below has returned what was written, so far.
+    ghost is_faithful: { Self → Type 0 };
+
+    // A commit or a boot has answered a fault.
+    ghost is_failed: { Self → Bool };
+
+    // How often what lies below refused a call for another cause than memory.
+    ghost failures: { Self → ℕ };
+
+    /// The committed rows. Changes nothing, whatever it answers.
+    ///
+    /// `Failed` on a failed keeper, and where no more failures can be counted; `Store` where what lies below failed; `Version` and
+    /// `Damaged` where what is stored are no rows of this version, so `Damaged` never where rows are held and what lies below returned what
+    /// was written; `Memory` where there is none for the rows.
+    fn load(&mut self) -> Result<Rows<B>, KeeperFault>
+        ensures held { IfOk result (holds self.new) }
+        ensures right { is_faithful self.new → (r : Rows B) → holds self.old r → IfOk result (λ x. x ≡ r) }
+        ensures sound { is_faithful self.new → (r : Rows B) → holds self.old r → IsErrOf result KeeperFault.Damaged → ⊥ }
+        ensures same { (r : Rows B) → holds self.old r → holds self.new r }
+        ensures found { FindsNoMore finds self.old self.new }
+        ensures stays { is_failed self.new ≡ is_failed self.old }
+        ensures again { is_failed self.old ≡ true → result ≡ Err KeeperFault.Failed }
+        ensures spent { IsErrOf result KeeperFault.Failed → (is_failed self.old ≡ true) ⊎ (failures self.old ≡ 2 ^ 64 - 1) }
+        ensures store { IsErrOf result KeeperFault.Store → failures self.old < failures self.new }
+        ensures counts { failures self.old ≤ failures self.new };
+
+    /// Commits the change in one step: after Ok the rows are those with the change, and are found again. After a fault the keeper is
+    /// failed, and what is found is what was held before, or that with the change.
+    ///
+    /// `Failed` on a failed keeper, and where no more failures can be counted; `Store` where what lies below failed; `Damaged` where
+    /// the change has no place among the rows that are held; `Memory` where there was none.
+    fn commit(&mut self, change: &Change<B>) -> Result<(), KeeperFault>
+        ensures ok { OnOk result ((r : Rows B) → holds self.old r → holds self.new (adopted r change.now)) }
+        ensures found { (r : Rows B) → holds self.old r → FindsOr finds self.old self.new (adopted r change.now) }
+        ensures fails { is_failed self.new ≡ is_err result }
+        ensures again { is_failed self.old ≡ true → result ≡ Err KeeperFault.Failed }
+        ensures unchanged { is_failed self.old ≡ true → FindsNoMore finds self.old self.new }
+        ensures spent { IsErrOf result KeeperFault.Failed → (is_failed self.old ≡ true) ⊎ (failures self.old ≡ 2 ^ 64 - 1) }
+        ensures store { IsErrOf result KeeperFault.Store → failures self.old < failures self.new }
+        ensures counts { failures self.old ≤ failures self.new };
+
+    /// Begins a boot: raises the boot number by one, commits that, and gives the rows with it. After a fault the keeper is failed, and
+    /// what is found is what was held before, or that with the new boot number.
+    ///
+    /// `Boots` where the boot number is 2^48 - 1; beside that the faults of `load`, `Damaged` where `load` may answer it, and of `commit`.
+    fn boot(&mut self) -> Result<Rows<B>, KeeperFault>
+        ensures held { IfOk result (holds self.new) }
+        ensures right { is_faithful self.new → (r : Rows B) → holds self.old r → IfOk result (λ x. x ≡ raised r) }
+        ensures faithful { is_faithful self.new → is_faithful self.old }
+        ensures sound { is_faithful self.new → (r : Rows B) → holds self.old r → IsErrOf result KeeperFault.Damaged → ⊥ }
+        ensures within { IfOk result (λ x. x.boot ≤ last_boot) }
+        ensures last { is_faithful self.new → (r : Rows B) → holds self.old r → IsErrOf result KeeperFault.Boots → last_boot ≤ r.boot }
+        ensures found { (r : Rows B) → holds self.old r → FindsOr finds self.old self.new (raised r) }
+        ensures fails { is_failed self.new ≡ is_err result }
+        ensures again { is_failed self.old ≡ true → result ≡ Err KeeperFault.Failed }
+        ensures unchanged { is_failed self.old ≡ true → FindsNoMore finds self.old self.new }
+        ensures spent { IsErrOf result KeeperFault.Failed → (is_failed self.old ≡ true) ⊎ (failures self.old ≡ 2 ^ 64 - 1) }
+        ensures store { IsErrOf result KeeperFault.Store → failures self.old < failures self.new }
+        ensures counts { failures self.old ≤ failures self.new };
+
+    /// How often what lies below refused a call for another cause than memory. Takes no memory.
+    fn failures(&self) -> u64
+        ensures { result ≡ failures self.now };
+
+    // A store finds what it holds, and nothing else.
+    ghost only: { (k : Self) (r x : Rows B) → holds k r → finds k x → x ≡ r };
+}

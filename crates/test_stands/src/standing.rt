@@ -1,0 +1,98 @@
+// A table with an actor at each seat, lent to what is done with them.
+ghost use Rattle.std.specs.Prelude.{◌≡◌, All, false};
+ghost use Rattle.test_stands.specs.Fresh.{IsFresh};
+
+use crate::closing::push;
+use crate::station::{Station, opened};
+use mail_table::{Mail, NodeSeat, Office, found};
+use node_actor::{Keeper, Machine, Members};
+use std::alloc::Global;
+
+/// How many nodes a table has here.
+pub const NODES: u8 = 3;
+
+/// Where the machine and the store of each node come from.
+pub trait Source<M: Machine, K: Keeper<M::Body>> {
+    /// A machine in its first content.
+    fn machine(&self, alloc: Global) -> M
+        ensures { M.has_failed result ≡ false };
+
+    /// The store of the node with this number.
+    fn keeper(&self, alloc: Global, node: u8) -> K;
+}
+
+/// What is done with the actors of a table.
+pub trait Plays<M: Machine, K: Keeper<M::Body>> {
+    /// What comes of it.
+    type End;
+
+    /// Goes over the actors, that of the last node first.
+    fn play(&mut self, stations: &mut Vec<Station<'_, M, K>>) -> Self::End;
+}
+
+// The actors of these seats, that of the last node first. Whether each was opened.
+fn open_all<'a, M: Machine, K: Keeper<M::Body> + Drop, S: Source<M, K>>(
+    alloc: Global,
+    mail: &'a Mail<M::Body>,
+    seats: &mut Vec<NodeSeat<M::Body>>,
+    members: Members,
+    source: &S,
+    stations: &mut Vec<Station<'a, M, K>>,
+) -> bool
+    requires fresh { All (IsFresh mail.now) seats.old.items }
+    requires members { members ≡ mail.now.members }
+{
+    for _ in 0..members.count() {
+        let Some(seat) = seats.pop() else {
+            return false;
+        };
+        let (machine, keeper) = (source.machine(alloc), source.keeper(alloc, seat.node()));
+        let Some(station) = opened(alloc, mail, seat, members, machine, keeper) else {
+            return false;
+        };
+        if !push(stations, station) {
+            return false;
+        }
+    }
+    true
+}
+
+// What comes of it at this table.
+fn played<M: Machine, K: Keeper<M::Body> + Drop, S: Source<M, K>, P: Plays<M, K>>(
+    alloc: Global,
+    mail: &Mail<M::Body>,
+    seats: &mut Vec<NodeSeat<M::Body>>,
+    members: Members,
+    source: &S,
+    plays: &mut P,
+) -> Option<P::End>
+    requires fresh { All (IsFresh mail.now) seats.old.items }
+    requires members { members ≡ mail.now.members }
+{
+    let mut stations = Vec::new(alloc);
+    let end = if open_all(alloc, mail, seats, members, source, &mut stations) {
+        Some(plays.play(&mut stations))
+    } else {
+        None
+    };
+    drop(stations);
+    end
+}
+
+/// Founds a table of three nodes, opens an actor at each seat, with a machine and a store of this source, and lends them to what is done
+/// with them. Gives what comes of it; none where an actor could not be opened.
+pub fn with_stations<M: Machine, K: Keeper<M::Body> + Drop, S: Source<M, K>, P: Plays<M, K>>(
+    alloc: Global,
+    source: &S,
+    plays: &mut P,
+) -> Option<P::End> {
+    let members = Members::new(NODES)?;
+    let mut office = Office::new();
+    let Ok((mail, mut seats)) = found::<M::Body>(alloc, &mut office, members) else {
+        return None;
+    };
+    let end = played(alloc, &mail, &mut seats, members, source, plays);
+    drop(seats);
+    drop(mail);
+    end
+}

@@ -1,5 +1,0 @@
-use Rattle.std.proofs.Common.{rules}
-use Rattle.wamp_elements.proofs.parts.put_label.Goals as goal
-
-pub returns-in-None : goal.returns-in-None
-returns-in-None c = search rules

@@ -1,0 +1,98 @@
+// Parts of messages, written.
+ghost use Rattle.std.specs.Prelude.{◌≡◌, ◌∷◌, [], true, codes, OnOk, decimal};
+ghost use Rattle.json.specs.Token.{begin_array, begin_object, end_object, number, key, boolean};
+ghost use Rattle.serde_json.specs.Data.{string, boolean as boolean_value};
+ghost use Rattle.wamp_values.specs.Args.{IsArgs, args_items};
+ghost use Rattle.wamp_values.specs.Tokens.{data_tokens, list_tokens, Appends};
+ghost use Rattle.wamp_message_layouts.specs.Parts.{nothing, only, label_details};
+
+use json::Writer;
+use std::alloc::AllocError;
+use wamp_ids::Text;
+use wamp_values::Args;
+
+/// The array's bracket and the message's code.
+pub fn begin(code: u64, out: &mut Writer) -> Result<(), AllocError>
+    ensures { Appends result out.old out.new (begin_array ∷ number (decimal code) ∷ []) }
+{
+    out.begin_array()?;
+    out.u64(code)
+}
+
+/// The arguments, and the bracket that ends the message.
+#[tactic(auto, using(wamp_values::proofs::Texts::close_args))]
+pub fn end(args: &Args, out: &mut Writer) -> Result<(), AllocError>
+    ensures tokens { Appends result out.old out.new (list_tokens (args_items args.now)) }
+    ensures parts { OnOk result (IsArgs args.now) }
+{
+    args.put(out)?;
+    out.end_array()
+}
+
+/// An object up to its first value.
+pub fn open(name: &str, out: &mut Writer) -> Result<(), AllocError>
+    ensures { Appends result out.old out.new (begin_object ∷ key name.now ∷ []) }
+{
+    out.begin_object()?;
+    out.key(name)
+}
+
+/// An object in an object, up to the inner one's first key.
+pub fn open_within(name: &str, out: &mut Writer) -> Result<(), AllocError>
+    ensures { Appends result out.old out.new (begin_object ∷ key name.now ∷ begin_object ∷ []) }
+{
+    open(name, out)?;
+    out.begin_object()
+}
+
+/// The brackets of two objects.
+pub fn close_two(out: &mut Writer) -> Result<(), AllocError>
+    ensures { Appends result out.old out.new (end_object ∷ end_object ∷ []) }
+{
+    out.end_object()?;
+    out.end_object()
+}
+
+/// An empty dictionary.
+pub fn put_nothing(out: &mut Writer) -> Result<(), AllocError>
+    ensures { Appends result out.old out.new (data_tokens nothing) }
+{
+    out.begin_object()?;
+    out.end_object()
+}
+
+/// A dictionary of one text.
+pub fn put_text_option(name: &str, text: &str, out: &mut Writer) -> Result<(), AllocError>
+    ensures { Appends result out.old out.new (data_tokens (only name.now (string text.now))) }
+{
+    open(name, out)?;
+    out.string(text)?;
+    out.end_object()
+}
+
+/// A dictionary of one truth value.
+pub fn put_flag_option(name: &str, flag: bool, out: &mut Writer) -> Result<(), AllocError>
+    ensures { Appends result out.old out.new (data_tokens (only name.now (boolean_value flag))) }
+{
+    open(name, out)?;
+    out.boolean(flag)?;
+    out.end_object()
+}
+
+/// A feature that is announced.
+pub fn put_feature(name: &str, out: &mut Writer) -> Result<(), AllocError>
+    ensures { Appends result out.old out.new (key name.now ∷ boolean true ∷ []) }
+{
+    out.key(name)?;
+    out.boolean(true)
+}
+
+/// The dictionary that names this text at that key, if there is a text.
+pub fn put_label(name: &str, label: &Option<Text>, out: &mut Writer) -> Result<(), AllocError>
+    ensures { Appends result out.old out.new (data_tokens (label_details name.now label.now)) }
+{
+    match label {
+        Some(label) => put_text_option(name, label.as_str(), out),
+        None => put_nothing(out),
+    }
+}

@@ -1,0 +1,96 @@
+ghost use Rattle.std.specs.Prelude.{◌≡◌, ◌↔◌, IfOk, IsTrue};
+
+use crate::memory::Memory;
+use crate::message::Message;
+use wamp_ids::Id;
+use wamp_message_layouts::MessageFault;
+
+/// The kinds of message that may be unfit: of the right form, with an option or a payload that this router refuses.
+#[derive(Clone, Copy, Debug, PartialEq, Eq, Hash)]
+pub enum UnfitKind {
+    Publish,
+    Subscribe,
+    Register,
+    Call,
+    Cancel,
+    /// What answers an invocation: a YIELD, or an ERROR on one.
+    Yield,
+}
+
+/// What was read of the octets of one message.
+pub enum Read {
+    /// The message.
+    Good(Message),
+    /// A request that has the right form, but an option or a payload that is unfit. It is answered by an ERROR,
+    /// or by nothing where it is `quiet`.
+    Unfit {
+        kind: UnfitKind,
+        request: Id,
+        quiet: bool,
+    },
+    /// No message: its sender breaks the protocol.
+    Bad(MessageFault),
+}
+
+impl Drop for Read {
+    fn drop(self) {
+        match self {
+            Read::Good(_good) => {},
+            Read::Unfit {
+                kind: _,
+                request: _,
+                quiet: _,
+            } => {},
+            Read::Bad(_) => {},
+        }
+    }
+}
+
+impl Read {
+    /// An equal one. Where memory runs out there is none, and nothing has changed.
+    pub fn copy(&self) -> Result<Read, Memory>
+        ensures { IfOk result (λ made. made ≡ self.now) }
+    {
+        Ok(match self {
+            Read::Good(message) => Read::Good(message.copy()?),
+            Read::Unfit {
+                kind,
+                request,
+                quiet,
+            } => Read::Unfit {
+                kind: *kind,
+                request: *request,
+                quiet: *quiet,
+            },
+            Read::Bad(fault) => Read::Bad(*fault),
+        })
+    }
+
+    /// Whether the two are equal; takes no memory.
+    pub fn same(&self, other: &Read) -> bool
+        ensures { IsTrue result ↔ (self.now ≡ other.now) }
+    {
+        match self {
+            Read::Good(message) => match other {
+                Read::Good(other) => message.same(other),
+                _ => false,
+            },
+            Read::Unfit {
+                kind,
+                request,
+                quiet,
+            } => match other {
+                Read::Unfit {
+                    kind: other_kind,
+                    request: other_request,
+                    quiet: other_quiet,
+                } => *kind == *other_kind && *request == *other_request && *quiet == *other_quiet,
+                _ => false,
+            },
+            Read::Bad(fault) => match other {
+                Read::Bad(other) => *fault == *other,
+                _ => false,
+            },
+        }
+    }
+}
