@@ -1,29 +1,23 @@
 // A served cluster: its nodes step on threads of their own, and what a client of one node publishes reaches a client of another.
 use crate::check::Check;
-use cluster_program::{Gate, Members, RunFault, serve_run};
+use cluster_program::{Gate, Members, serve_run};
 use std::alloc::{AllocError, Global};
-use std::io::{Eprint, Read, Write};
-use std::net::{Ipv4Addr, Net, TcpListener, TcpStream};
-use std::process::Abort;
+use std::io::{Read, Write};
+use std::net::{Ipv4Addr, Net, TcpStream};
+use std::sync::Arc;
 use std::sync::atomic::{AtomicBool, Ordering};
-use std::sync::{Arc, Wait};
-use std::thread::Threads;
 use std::time::{Clock, Duration};
 use std::{io, thread};
-use test_checks::check;
+use test_checks::{check, check_eq};
 
-// How often a flag is looked at, a millisecond apart.
+// How often something is looked for, a millisecond apart.
 const POLLS: u32 = 10_000;
 
-// How often ports are drawn of which one is in use, and how often a cluster is begun at ports that another program has taken meanwhile.
-const TRIES: u32 = 32;
-
-// The number of the fault of a port that cannot be listened on.
-const PORT_TAKEN: u8 = 83;
+const PORT: u16 = 24_871;
 
 const HELLO: &str = r#"[1,"realm1",{"roles":{"subscriber":{},"publisher":{}}}]"#;
 
-// Looks until the flag is set. Returns whether it was.
+// Looks until the flag is set; whether it was.
 fn is_set_in_time<R: Clock>(rt: &R, flag: &AtomicBool) -> bool {
     for _ in 0..POLLS {
         if flag.load(Ordering::SeqCst) {
@@ -75,67 +69,15 @@ impl<R: Clock> Read for Input<R> {
     }
 }
 
-// Output that sets the flag as it is flushed: the cluster has written where its nodes listen, and they do.
-#[derive(Drop)]
-struct Output<'a> {
-    octets: Vec<u8>,
-    is_up: &'a AtomicBool,
-}
-
-impl Write for Output<'_> {
-    fn write(&mut self, buf: &[u8]) -> io::Result<usize> {
-        self.octets.extend_from_slice(buf)?;
-        Ok(buf.len())
-    }
-
-    fn flush(&mut self) -> io::Result<()> {
-        self.is_up.store(true, Ordering::SeqCst);
-        Ok(())
-    }
-}
-
-// Waits until a cluster listens, or has ended. Returns whether it listens.
-fn is_up_in_time<R: Clock>(rt: &R, is_up: &AtomicBool, over: &AtomicBool) -> bool {
+// A stream to this port, as soon as it is listened on.
+fn connected<R: Net<Stream = TcpStream> + Clock>(rt: &R, port: u16) -> io::Result<TcpStream> {
     for _ in 0..POLLS {
-        if is_up.load(Ordering::SeqCst) {
-            return true;
-        }
-        if over.load(Ordering::SeqCst) {
-            return false;
+        if let Ok(stream) = TcpStream::connect(rt, (Ipv4Addr::LOCALHOST, port)) {
+            return Ok(stream);
         }
         thread::sleep(rt, Duration::from_millis(1));
     }
-    false
-}
-
-// Whether nothing listens at this port.
-fn is_free<R: Net<Listener = TcpListener, Stream = TcpStream>>(rt: &R, port: u16) -> bool {
-    TcpListener::bind(rt, (Ipv4Addr::LOCALHOST, port)).is_ok()
-}
-
-// Returns a port that the system has chosen, if the next two are free as well.
-fn draw_port<R: Net<Listener = TcpListener, Stream = TcpStream>>(
-    rt: &R,
-) -> io::Result<Option<u16>> {
-    let listener = TcpListener::bind(rt, (Ipv4Addr::LOCALHOST, 0))?;
-    let address = listener.local_addr();
-    let port = address?.port();
-    let (Some(second), Some(third)) = (port.checked_add(1), port.checked_add(2)) else {
-        return Ok(None);
-    };
-    let are_free = is_free(rt, second) && is_free(rt, third);
-    drop(listener);
-    if are_free { Ok(Some(port)) } else { Ok(None) }
-}
-
-// Returns the first of three successive ports that are free.
-fn free_port<R: Net<Listener = TcpListener, Stream = TcpStream> + Abort>(rt: &R) -> u16 {
-    for _ in 0..TRIES {
-        if let Some(port) = draw_port(rt).expect(rt, "a port") {
-            return port;
-        }
-    }
-    rt.panic("no three successive ports are free")
+    Err(io::ErrorKind::TimedOut.into())
 }
 
 // A client, which has done the handshake.
@@ -145,9 +87,10 @@ struct Client {
 }
 
 impl Client {
-    fn open<R: Net<Stream = TcpStream>>(rt: &R, port: u16) -> io::Result<Client> {
+    // Connects as soon as the port is listened on.
+    fn open<R: Net<Stream = TcpStream> + Clock>(rt: &R, port: u16) -> io::Result<Client> {
         let mut client = Client {
-            stream: TcpStream::connect(rt, (Ipv4Addr::LOCALHOST, port))?,
+            stream: connected(rt, port)?,
         };
         match client.greet() {
             Ok(()) => Ok(client),
@@ -174,14 +117,14 @@ impl Client {
         self.stream.write_all(text.as_bytes())
     }
 
-    // Sends a message, and reads its answer.
+    // Sends a message, and takes its answer.
     fn ask(&mut self, alloc: Global, text: &str) -> io::Result<()> {
         self.say(text)?;
         drop(self.hear(alloc)?);
         Ok(())
     }
 
-    // Reads the next message, which fails if it has 256 octets or more.
+    // The next message; empty where it has 256 octets or more.
     fn hear(&mut self, alloc: Global) -> io::Result<String> {
         let mut head = [0u8; 4];
         self.stream.read_exact(&mut head)?;
@@ -198,23 +141,22 @@ impl Client {
     }
 }
 
-// A client of node 1, which listens at this port, subscribes, and once it is answered one of node 2 publishes. Returns what the first one reads.
-fn event_at<R: Net<Stream = TcpStream>>(rt: &R, alloc: Global, port: u16) -> io::Result<String> {
-    let mut first = Client::open(rt, port)?;
-    let heard = event_of(rt, alloc, port, &mut first);
+// A client of node 1 subscribes, and once it is answered one of node 2 publishes: what the first one is told.
+fn event_of<R: Net<Stream = TcpStream> + Clock>(rt: &R, alloc: Global) -> io::Result<String> {
+    let mut first = Client::open(rt, PORT)?;
+    let heard = event_at(rt, alloc, &mut first);
     drop(first);
     heard
 }
 
-fn event_of<R: Net<Stream = TcpStream>>(
+fn event_at<R: Net<Stream = TcpStream> + Clock>(
     rt: &R,
     alloc: Global,
-    port: u16,
     first: &mut Client,
 ) -> io::Result<String> {
     first.ask(alloc, HELLO)?;
     first.ask(alloc, r#"[32,1,{},"a.b"]"#)?;
-    let mut second = Client::open(rt, port.saturating_add(1))?;
+    let mut second = Client::open(rt, PORT + 1)?;
     let heard = event_between(alloc, first, &mut second);
     drop(second);
     heard
@@ -226,104 +168,36 @@ fn event_between(alloc: Global, first: &mut Client, second: &mut Client) -> io::
     first.hear(alloc)
 }
 
-// Such an event of a cluster at this port, once it is up.
-fn event_in_time<R: Net<Stream = TcpStream> + Clock>(
-    rt: &R,
-    alloc: Global,
-    port: u16,
-    is_up: &AtomicBool,
-    over: &AtomicBool,
-) -> io::Result<String> {
-    if !is_up_in_time(rt, is_up, over) {
-        return Err(io::ErrorKind::TimedOut.into());
-    }
-    event_at(rt, alloc, port)
-}
-
-fn is_event(rt: &impl Abort, heard: io::Result<String>) -> bool {
-    let heard = heard.expect(rt, "an event");
-    heard.as_str().starts_with("[36,1,") && heard.as_str().ends_with(r#",{},["hi"]]"#)
-}
-
-// Whether these octets say that the nodes listen at this port and the next two.
-fn are_ports(rt: &impl Abort, alloc: Global, octets: &[u8], port: u16) -> bool {
-    let (second, third) = (port.saturating_add(1), port.saturating_add(2));
-    let wanted = format!(in alloc;
-        "node 1 listens on 127.0.0.1:{port}\nnode 2 listens on 127.0.0.1:{second}\nnode 3 listens on 127.0.0.1:{third}\n"
-    ).expect(rt, "room for a text");
-    wanted.as_str().as_bytes() == octets
-}
-
-// Serves a cluster at this port, in which an event crosses. Returns `false` if another program has taken one of its ports meanwhile.
-fn crosses<R>(rt: &R, host: &HostRuntime, alloc: Global, port: u16) -> bool
-where
-    R: Net<Listener = TcpListener, Stream = TcpStream>
-        + Abort
-        + Threads
-        + Wait
-        + Clock
-        + Eprint
-        + Clone
-        + Drop
-        + Send
-        + Sync
-        + 'static,
-{
-    let members = Members::new(3).expect(rt, "three nodes");
-    let over = Arc::new(alloc, AtomicBool::new(false)).expect(rt, "room for a flag");
+#[test]
+fn an_event_crosses_nodes_that_step_on_threads_of_their_own(rt: HostRuntime) {
+    let alloc = rt.alloc();
+    let members = Members::new(3).expect(&rt, "three nodes");
+    let over = Arc::new(alloc, AtomicBool::new(false)).expect(&rt, "room for a flag");
     let input = Input {
-        rt: rt.clone().expect(rt, "the same handle"),
-        over: Arc::try_clone(&over).expect(rt, "the same flag"),
+        rt: rt.clone().expect(&rt, "the same handle"),
+        over: Arc::try_clone(&over).expect(&rt, "the same flag"),
     };
     let gate = InTurn {
-        rt,
+        rt: &rt,
         second: AtomicBool::new(false),
     };
-    let is_up = AtomicBool::new(false);
-    let mut output = Output {
-        octets: Vec::new(alloc),
-        is_up: &is_up,
-    };
+    let mut told = Vec::new(alloc);
     let (served, heard) = thread::join(
-        rt,
+        &rt,
+        || serve_run(
+            &rt, &rt, input, &mut told, members, PORT, 7, None, "realm1", &gate,
+        ),
         || {
-            let served = serve_run(
-                rt,
-                host,
-                input,
-                &mut output,
-                members,
-                port,
-                7,
-                None,
-                "realm1",
-                &gate,
-            );
-            over.store(true, Ordering::SeqCst);
-            served
-        },
-        || {
-            let heard = event_in_time(rt, alloc, port, &is_up, &over);
+            let heard = event_of(&rt, alloc);
             over.store(true, Ordering::SeqCst);
             heard
         },
     );
-    if served == Err(RunFault::Transport(PORT_TAKEN)) {
-        return false;
-    }
-    check!(rt; served.is_ok());
-    check!(rt; gate.second.load(Ordering::SeqCst));
-    check!(rt; is_event(rt, heard));
-    check!(rt; are_ports(rt, alloc, &output.octets, port));
-    true
-}
-
-#[test]
-fn an_event_crosses_nodes_that_step_on_threads_of_their_own(rt: HostRuntime) {
-    for _ in 0..TRIES {
-        if crosses(&rt, &rt, rt.alloc(), free_port(&rt)) {
-            return;
-        }
-    }
-    rt.panic("each time a port was taken");
+    check!(&rt; served.is_ok());
+    check!(&rt; gate.second.load(Ordering::SeqCst));
+    let heard = heard.expect(&rt, "an event");
+    check!(&rt; heard.as_str().starts_with("[36,1,"));
+    check!(&rt; heard.as_str().ends_with(r#",{},["hi"]]"#));
+    let told = str::from_utf8(told.as_slice()).expect(&rt, "text");
+    check_eq!(&rt; told, "node 1 listens on 127.0.0.1:24871\nnode 2 listens on 127.0.0.1:24872\nnode 3 listens on 127.0.0.1:24873\n");
 }
