@@ -1,4 +1,3 @@
-// The calls of a keeper, over its connection and the numbers that it knows.
 ghost use Rattle.std.specs.Prelude.{◌≡◌, ◌⊎◌, ◌<◌, ◌≤◌, ◌-◌, ◌^◌, ◌≢◌, Some, [], IsTrue, IfOk, IfErr, OnOk, IsErrOf, true, false};
 ghost use Rattle.std.specs.List.{AllByRecursion};
 ghost use Rattle.sqlite_trees.specs.Tree.{Trees};
@@ -28,6 +27,8 @@ use std::alloc::Global;
 use store_keeper::KeeperFault;
 use store_rows::{Numbers, numbers_after, raise_boot};
 
+// The calls of a keeper, over its connection and the numbers that it knows.
+
 // Makes the tables of an empty database.
 fn found_anew<B, C: Coder<B>, S: Alter>(conn: &mut Connection<S>) -> Result<(), KeeperFault>
     requires alone { conn.old.in_transaction ≡ false }
@@ -39,11 +40,11 @@ fn found_anew<B, C: Coder<B>, S: Alter>(conn: &mut Connection<S>) -> Result<(), 
     ensures fault { IfErr result (λ e. (e ≡ KeeperFault.Memory) ⊎ (e ≡ KeeperFault.Store)) }
 {
     found_store(conn)?;
-    settle(conn); // for the proof
+    settle(conn);
     Ok(())
 }
 
-// Makes the tables, if the database is empty.
+// Makes the tables where there is nothing yet.
 pub(crate) fn found_where_empty<B, C: Coder<B>, S: Alter>(
     conn: &mut Connection<S>,
 ) -> Result<(), KeeperFault>
@@ -57,14 +58,14 @@ pub(crate) fn found_where_empty<B, C: Coder<B>, S: Alter>(
         (λ trees. (db : Database) × (conn.old.schema ≡ empty_schema → IsFounded db) × (trees ≡ db.trees)) }
     ensures fault { IfErr result (λ e. (e ≡ KeeperFault.Memory) ⊎ (e ≡ KeeperFault.Store)) }
 {
-    settle(conn); // for the proof
+    settle(conn);
     if is_empty(conn.schema()) {
         return found_anew::<B, C, S>(conn);
     }
     Ok(())
 }
 
-// Returns the numbers among the rows.
+// The numbers among the rows.
 fn numbers_in<B>(rows: &Rows<B>) -> Numbers
     ensures { result ≡ numbers_in_rows rows.now }
 {
@@ -74,7 +75,7 @@ fn numbers_in<B>(rows: &Rows<B>) -> Numbers
     }
 }
 
-// Reads the rows, whose numbers are known from then on.
+// The rows, whose numbers are known from then on.
 fn read<B: Body, C: Coder<B>, S: Alter>(
     alloc: Global,
     conn: &mut Connection<S>,
@@ -97,13 +98,13 @@ fn read<B: Body, C: Coder<B>, S: Alter>(
         → IsErrOf result KeeperFault.Damaged → ⊥ }
     ensures fault { IfErr result LiesBelow }
 {
-    settle(conn); // for the proof
+    settle(conn);
     let rows = read_store::<B, C, S>(alloc, conn)?;
     *known = Some(numbers_in(&rows));
     Ok(rows)
 }
 
-// Returns the numbers that the store has; reads the rows if they are not known.
+// The numbers that the store has.
 fn numbers<B: Body, C: Coder<B>, S: Alter>(
     alloc: Global,
     conn: &mut Connection<S>,
@@ -124,19 +125,19 @@ fn numbers<B: Body, C: Coder<B>, S: Alter>(
     if let Some(numbers) = *known {
         return Ok(numbers);
     }
-    settle(conn); // for the proof
+    settle(conn);
     let rows = read::<B, C, S>(alloc, conn, known)?;
     Ok(numbers_in(&rows))
 }
 
-// Returns whether these are the same numbers.
+// Whether these are the same numbers.
 fn are_same(left: &Numbers, right: &Numbers) -> bool
     ensures { IsTrue result → left.now ≡ right.now }
 {
     left == right
 }
 
-// Commits the votes, and the numbers if they differ from those that are known.
+// Commits the numbers, where they are not those that are known, and the votes.
 fn commit_over<B, C: Coder<B>, S: Alter>(
     conn: &mut Connection<S>,
     known: &Numbers,
@@ -193,7 +194,7 @@ fn put_numbers<B: Body, C: Coder<B>, S: Alter>(
     commit_rows::<B, C, S>(conn, true, numbers, none.as_slice(), octets)
 }
 
-// Commits the change, if it has a place.
+// Commits the change, where it has a place.
 fn write<B: Body, C: Coder<B>, S: Alter>(
     alloc: Global,
     conn: &mut Connection<S>,
@@ -259,8 +260,8 @@ fn raise<B: Body, C: Coder<B>, S: Alter>(
     Ok(rows)
 }
 
-// Counts a refusal of the connection, and returns the fault.
-fn count_refusal(fault: KeeperFault, failures: &mut u64) -> KeeperFault
+// Counts a refusal of the connection, and tells the fault.
+fn told(fault: KeeperFault, failures: &mut u64) -> KeeperFault
     ensures fault { (result ≡ fault) ⊎ (result ≡ KeeperFault.Failed) }
     ensures store { result ≡ KeeperFault.Store → failures.old < failures.new }
     ensures counts { failures.old ≤ failures.new }
@@ -276,7 +277,7 @@ fn count_refusal(fault: KeeperFault, failures: &mut u64) -> KeeperFault
     KeeperFault::Store
 }
 
-// Reads the rows; counts refusals of the connection.
+// The rows; refusals of the connection are counted.
 pub(crate) fn load_from<B: Body, C: Coder<B>, S: Alter>(
     alloc: Global,
     conn: &mut Connection<S>,
@@ -302,11 +303,11 @@ pub(crate) fn load_from<B: Body, C: Coder<B>, S: Alter>(
 {
     match read::<B, C, S>(alloc, conn, known) {
         Ok(rows) => Ok(rows),
-        Err(fault) => Err(count_refusal(fault, failures)),
+        Err(fault) => Err(told(fault, failures)),
     }
 }
 
-// Commits the change; counts refusals of the connection.
+// Commits the change; refusals of the connection are counted.
 pub(crate) fn commit_to<B: Body, C: Coder<B>, S: Alter>(
     alloc: Global,
     conn: &mut Connection<S>,
@@ -336,11 +337,11 @@ pub(crate) fn commit_to<B: Body, C: Coder<B>, S: Alter>(
 {
     match write::<B, C, S>(alloc, conn, known, change, octets) {
         Ok(()) => Ok(()),
-        Err(fault) => Err(count_refusal(fault, failures)),
+        Err(fault) => Err(told(fault, failures)),
     }
 }
 
-// Begins a boot; counts refusals of the connection.
+// Begins a boot; refusals of the connection are counted.
 pub(crate) fn boot_from<B: Body, C: Coder<B>, S: Alter>(
     alloc: Global,
     conn: &mut Connection<S>,
@@ -369,6 +370,6 @@ pub(crate) fn boot_from<B: Body, C: Coder<B>, S: Alter>(
 {
     match raise::<B, C, S>(alloc, conn, known, octets) {
         Ok(rows) => Ok(rows),
-        Err(fault) => Err(count_refusal(fault, failures)),
+        Err(fault) => Err(told(fault, failures)),
     }
 }

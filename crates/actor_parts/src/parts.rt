@@ -24,8 +24,8 @@ use std::alloc::Global;
 use std::marker::Model;
 use store_keeper::{Keeper, KeeperFault};
 
-/// What an actor is made of: a node, its store, the packets that wait to go out, and the machine that follows its log. What holds of an
-/// actor need not hold between the steps of an event, so the calls require it.
+/// What an actor is made of: a node, its store, the packets that wait to go out, the machine behind its log. What holds of an actor need not
+/// hold between the steps of an event, so it is asked for by the calls.
 pub struct Parts<M: Machine, K> {
     alloc: Global,
     node: Node<M::Body>,
@@ -61,7 +61,7 @@ impl<M: Machine, K> Model for Parts<M, K> {
 }
 
 impl<M: Machine, K: Keeper<M::Body>> Parts<M, K> {
-    /// Creates the parts of an actor that has just begun.
+    /// The parts of an actor that has just begun.
     pub fn of(
         alloc: Global,
         node: Node<M::Body>,
@@ -83,98 +83,98 @@ impl<M: Machine, K: Keeper<M::Body>> Parts<M, K> {
         }
     }
 
-    /// Returns whether a fault has ended the actor.
+    /// Whether a fault has ended the actor.
     pub fn is_spoiled(&self) -> bool
         ensures { result ≡ self.now.spoiled }
     {
         self.spoiled
     }
 
-    /// Returns its node's number.
+    /// Its node's number.
     pub fn me(&self) -> u8
         ensures { result ≡ self.now.waiting.me }
     {
         self.outboxes.me()
     }
 
-    /// Returns the members.
+    /// The members.
     pub fn members(&self) -> Members
         ensures { result ≡ self.now.waiting.members }
     {
         self.outboxes.members()
     }
 
-    /// Returns the present boot of its node.
+    /// The present boot of its node.
     pub fn boot(&self) -> u64
         ensures { result ≡ self.now.node.state.rows.boot }
     {
         self.node.boot()
     }
 
-    /// Returns whether its node is up.
+    /// Whether its node is up.
     pub fn is_up(&self) -> bool
         ensures { result ≡ self.now.node.state.up }
     {
         self.node.is_up()
     }
 
-    /// Returns how many entries its node has applied.
+    /// How many entries its node has applied.
     pub fn applied(&self) -> u64
         ensures { result ≡ length self.now.node.state.applied }
     {
         self.node.applied()
     }
 
-    /// Returns whether entries of its node wait for a slot.
+    /// Whether entries of its node wait for a slot.
     pub fn has_pending(&self) -> bool
         ensures { result ≡ nat_lt 0 (length self.now.node.state.pending) }
     {
         self.node.has_pending()
     }
 
-    /// Returns whether its node leads.
+    /// Whether its node leads.
     pub fn is_leading(&self) -> bool
         ensures { result ≡ is_leading self.now.node.state.proposer.role }
     {
         self.node.is_leading()
     }
 
-    /// Returns the greatest ballot that its node has promised, if any.
+    /// The greatest ballot that its node has promised, if any.
     pub fn promised(&self) -> Option<Ballot>
         ensures { result ≡ self.now.node.state.rows.promised }
     {
         self.node.promised()
     }
 
-    /// Returns how many packets wait to be posted to this node.
+    /// How many packets wait to be posted to this node.
     pub fn waiting_for(&self, peer: u8) -> usize
         ensures { result ≡ length (waiting peer self.now.waiting) }
     {
         self.outboxes.waiting_for(peer)
     }
 
-    /// Does nothing. Its contract says that no more packets wait for a member than may.
+    /// No more packets wait for a member than may.
     pub fn limits(&self)
         ensures { HasLimits self.now.waiting }
     {
-        self.outboxes.limits(); // for the proof
+        self.outboxes.limits();
     }
 
-    /// Returns no sayings.
+    /// No sayings.
     pub fn silence(&self) -> Vec<M::Say>
         ensures { result.items ≡ [] }
     {
         Vec::new(self.alloc)
     }
 
-    /// Marks the actor as ended by a fault.
+    /// It answers nothing else any more.
     pub fn spoil(&mut self)
         ensures { self.new ≡ record self.old { spoiled = true } }
     {
         self.spoiled = true;
     }
 
-    /// Marks the actor as ended by the failed commit of this outcome, which is kept.
+    /// It answers nothing else any more, since the commit of this outcome failed.
     pub fn spoil_at(&mut self, outcome: Outcome<M::Body>)
         ensures { self.new ≡ record self.old { failed = Some outcome; spoiled = true } }
     {
@@ -182,7 +182,7 @@ impl<M: Machine, K: Keeper<M::Body>> Parts<M, K> {
         self.spoiled = true;
     }
 
-    /// Plans what the event makes of the node.
+    /// What the event makes of the node.
     pub fn plan(&self, event: &Event<M::Body>) -> Result<Outcome<M::Body>, NodeFault>
         requires { plans self.now.node.me event.now self.now.node.state ≡ true }
         ensures planned { Answers (is_round_refused event.now self.now.node.state) (is_full_refused M.Body.same event.now self.now.node.state)
@@ -193,7 +193,7 @@ impl<M: Machine, K: Keeper<M::Body>> Parts<M, K> {
         self.node.plan(event)
     }
 
-    /// Allocates all memory that adopting the outcome needs.
+    /// Takes all memory that adopting the outcome needs.
     pub fn make_room(&mut self, outcome: &Outcome<M::Body>) -> Result<(), NodeFault>
         ensures ok { OnOk result (HasRoom outcome.now self.new.node) }
         ensures state { self.new.node.state ≡ self.old.node.state }
@@ -216,7 +216,7 @@ impl<M: Machine, K: Keeper<M::Body>> Parts<M, K> {
         commit(&mut self.keeper, &outcome.change)
     }
 
-    // Makes the node adopt the outcome, whose packets wait then. Returns the entries that it applied.
+    // The node adopts the outcome, whose packets wait then; answers the entries that it applied.
     pub(crate) fn adopt(&mut self, outcome: Outcome<M::Body>) -> Entries<M::Body>
         requires room { HasRoom outcome self.old.node }
         requires fits { Fits self.old.node.me self.old.node.members outcome self.old.node.state }
@@ -228,7 +228,7 @@ impl<M: Machine, K: Keeper<M::Body>> Parts<M, K> {
         applied
     }
 
-    // Makes the machine follow these entries. Returns what it says at them to the node's transports of this boot.
+    // The machine follows these entries; what it says at them to the node's transports of this boot.
     pub(crate) fn apply(
         &mut self,
         boot: u64,
@@ -270,7 +270,7 @@ impl<M: Machine, K: Keeper<M::Body>> Parts<M, K> {
         self.outboxes.put_back(packet);
     }
 
-    /// Returns the log; none of it once the node is down.
+    /// The log; none of it once the node is down.
     pub fn log(&self) -> &[Entry<M::Body>]
         ensures { result.now ≡ (if self.now.node.state.up then self.now.log.applied else []) }
     {
@@ -281,7 +281,7 @@ impl<M: Machine, K: Keeper<M::Body>> Parts<M, K> {
         }
     }
 
-    /// Returns what is left of the node: its rows, the outcome whose commit failed, and the store.
+    /// What is left of the node: its rows, the outcome whose commit failed, and the store.
     pub fn leave_rows(self) -> (Rows<M::Body>, Option<Outcome<M::Body>>, K)
         ensures rows { result.0 ≡ self.node.state.rows }
         ensures failed { result.1 ≡ self.failed }
@@ -301,7 +301,7 @@ impl<M: Machine, K: Keeper<M::Body>> Parts<M, K> {
 }
 
 impl<M: Machine, K: Keeper<M::Body> + Drop> Parts<M, K> {
-    /// Returns the log, and the machine that has followed it.
+    /// The log, and the machine that has followed it.
     pub fn leave(self) -> AppliedLog<M>
         ensures { result ≡ self.log }
     {

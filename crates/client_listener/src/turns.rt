@@ -3,10 +3,10 @@ ghost use Rattle.client_listener.specs.Turns.{Spends};
 
 use crate::fault::ListenFault;
 
-/// The most turns of a call.
+/// How many turns there are at the most.
 pub(crate) const MOST_TURNS: u64 = 1 << 32;
 
-// Spends one turn. `Turns` if none is left.
+// One turn is spent, if one is left.
 pub(crate) fn spend(turns: &mut u64) -> Result<(), ListenFault>
     ensures { Spends result turns.old turns.new }
 {

@@ -2,13 +2,13 @@ ghost use Rattle.std.specs.Prelude.{◌≡◌};
 
 use thiserror::Error;
 
-/// Memory ran out for a world, or for an event in it.
+/// There was no memory for a world, or for an event in it.
 #[derive(Clone, Copy, Debug, PartialEq, Eq, Drop, Error)]
 #[error("no memory for the world")]
 pub struct Memory;
 
 impl Memory {
-    /// Returns the fault's number.
+    /// The number of the fault.
     pub fn number(self) -> u8
         ensures { result ≡ 60 }
     {

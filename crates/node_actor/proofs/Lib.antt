@@ -1,7 +1,3 @@
-mod Renewing
-mod Booting
-mod Restarting
-mod Sound
 mod Carrying
 mod Seating
 mod Viewing

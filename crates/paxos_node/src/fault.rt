@@ -15,13 +15,13 @@ pub enum NodeFault {
     /// Another entry was learned in a slot.
     #[error("another entry was learned in the slot")]
     Disagree,
-    /// Memory ran out.
+    /// There was no memory.
     #[error("no memory for the node")]
     Memory,
 }
 
 impl NodeFault {
-    /// Returns the fault's number.
+    /// The number of the fault.
     pub fn number(self) -> u8
         ensures { result ≡ number_of self }
     {

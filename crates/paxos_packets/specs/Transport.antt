@@ -1,4 +1,4 @@
--- The test of transports for equality.
+-- Transports, told apart by a test.
 use Rattle.std.specs.Prelude.{Bool, ◌&&◌, ◌==◌}
 use Rattle.paxos_packets.specs.declared.transport.Transport.{Transport}
 

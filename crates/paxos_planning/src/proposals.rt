@@ -1,5 +1,4 @@
-//! What a leader proposes, and what another node forwards. An entry *stands* if an equal one is proposed in the leader's ballot, in a slot
-//! that is not applied yet.
+//! What a leader proposes, and what another node forwards.
 
 ghost use Rattle.std.specs.Prelude.{◌≡◌, ◌≤◌, drop, ◌∷◌, [], ◌++◌, length, true, is_some, OnOk, IfOk, option_copied, take};
 ghost use Rattle.paxos_packets.specs.Packet.{to_others};
@@ -9,7 +8,7 @@ ghost use Rattle.paxos_planning.specs.Parts.{pending_with};
 ghost use Rattle.paxos_planning.specs.Drafting.{in_role, listed};
 ghost use Rattle.paxos_planning.specs.Front.{AllStand, FrontOf};
 ghost use Rattle.paxos_planning.specs.Proposals.{stands, propose, propose_all, propose_new, propose_each, forwarded, push};
-ghost use Rattle.paxos_planning.specs.Plan.{send, cast};
+ghost use Rattle.paxos_planning.specs.Turn.{send, cast};
 ghost use Rattle.paxos_packets.specs.declared.packet.Kind.TheVariants.{Accept};
 
 use crate::draft::Draft;
@@ -18,10 +17,10 @@ use paxos_proposer::Offer;
 use std::alloc::Global;
 
 impl<'a, B: Body> Draft<'a, B> {
-    // Proposes the entry as a leader, and votes for it; does nothing if no slot is left.
+    // A leader proposes the entry, and votes for it; where no slot is left it does nothing.
     pub(crate) fn propose(&mut self, entry: &Entry<B>) -> Result<(), Memory>
         ensures of { self.new.of ≡ self.old.of }
-        ensures plan { OnOk result (self.new.plan ≡ propose B.same self.old.of.members self.old.of.me entry.now self.old.plan) }
+        ensures turn { OnOk result (self.new.turn ≡ propose B.same self.old.of.members self.old.of.me entry.now self.old.turn) }
     {
         let Some(offer) = self.offer() else {
             return Ok(());
@@ -38,11 +37,11 @@ impl<'a, B: Body> Draft<'a, B> {
         Ok(())
     }
 
-    // Asks the others for this vote, and casts it.
+    // The others are asked for this vote, and it is cast.
     fn propose_vote(&mut self, vote: &Vote<B>) -> Result<(), Memory>
         ensures of { self.new.of ≡ self.old.of }
-        ensures plan { OnOk result (self.new.plan ≡ cast B.same self.old.of.members self.old.of.me vote.now
-            (send (to_others self.old.of.members self.old.of.me (Accept vote.now)) self.old.plan)) }
+        ensures turn { OnOk result (self.new.turn ≡ cast B.same self.old.of.members self.old.of.me vote.now
+            (send (to_others self.old.of.members self.old.of.me (Accept vote.now)) self.old.turn)) }
     {
         let Ok(copy) = vote.copy(self.alloc()) else {
             return Err(Memory);
@@ -52,10 +51,10 @@ impl<'a, B: Body> Draft<'a, B> {
         Ok(())
     }
 
-    // Proposes the entry, unless it stands.
+    // It proposes the entry, unless that stands already in a slot that is not applied.
     fn propose_new(&mut self, entry: &Entry<B>) -> Result<(), Memory>
         ensures of { self.new.of ≡ self.old.of }
-        ensures plan { OnOk result (self.new.plan ≡ propose_new B.same self.old.of.members self.old.of.me entry.now self.old.plan) }
+        ensures turn { OnOk result (self.new.turn ≡ propose_new B.same self.old.of.members self.old.of.me entry.now self.old.turn) }
     {
         if self.stands(entry) {
             return Ok(());
@@ -64,10 +63,10 @@ impl<'a, B: Body> Draft<'a, B> {
         Ok(())
     }
 
-    // Proposes each of these entries, unless it stands.
+    // It proposes these entries, each unless it stands already.
     pub(crate) fn propose_each(&mut self, entries: &[Entry<B>]) -> Result<(), Memory>
         ensures of { self.new.of ≡ self.old.of }
-        ensures plan { OnOk result (self.new.plan ≡ propose_each B.same self.old.of.members self.old.of.me entries.now self.old.plan) }
+        ensures turn { OnOk result (self.new.turn ≡ propose_each B.same self.old.of.members self.old.of.me entries.now self.old.turn) }
     {
         for entry in entries {
             self.propose_new(entry)?;
@@ -75,10 +74,10 @@ impl<'a, B: Body> Draft<'a, B> {
         Ok(())
     }
 
-    // Proposes these entries.
+    // It proposes these entries.
     pub(crate) fn propose_all(&mut self, entries: &[Entry<B>]) -> Result<(), Memory>
         ensures of { self.new.of ≡ self.old.of }
-        ensures plan { OnOk result (self.new.plan ≡ propose_all B.same self.old.of.members self.old.of.me entries.now self.old.plan) }
+        ensures turn { OnOk result (self.new.turn ≡ propose_all B.same self.old.of.members self.old.of.me entries.now self.old.turn) }
     {
         for entry in entries {
             self.propose(entry)?;
@@ -86,12 +85,11 @@ impl<'a, B: Body> Draft<'a, B> {
         Ok(())
     }
 
-    /// Proposes what is pending as a leader, and forwards it as another node. The first `front` entries that were pending before stand, and
-    /// are not looked at.
+    /// A leader proposes what is pending, and another node forwards it. The first `front` that were pending before are not looked at: they stand.
     pub fn push(&mut self, front: usize) -> Result<(), Memory>
         requires { FrontOf front self.old }
         ensures of { self.new.of ≡ self.old.of }
-        ensures plan { OnOk result (self.new.plan ≡ push B.same self.old.of.members self.old.of.me self.old.plan) }
+        ensures turn { OnOk result (self.new.turn ≡ push B.same self.old.of.members self.old.of.me self.old.turn) }
         ensures front { OnOk result (FrontOf front self.new) }
     {
         if !self.is_leading() {
@@ -103,8 +101,8 @@ impl<'a, B: Body> Draft<'a, B> {
         Ok(())
     }
 
-    /// Returns how many of the entries that were pending before stand at the front, given that the first `from` do. Looks only at those
-    /// after them, up to the first that does not stand.
+    /// How many of those that were pending before stand at the front, where the first `from` do. Looks at those alone, and at the first that
+    /// does not stand.
     pub fn front(&self, from: usize) -> usize
         requires { FrontOf from self.now }
         ensures front { FrontOf result self.now }
@@ -117,9 +115,9 @@ impl<'a, B: Body> Draft<'a, B> {
         from + self.count_standing(&pending[from..])
     }
 
-    // Returns how many of the entries stand, up to the first that does not.
+    // How many of the entries stand, up to the first that does not.
     fn count_standing(&self, entries: &[Entry<B>]) -> usize
-        ensures stand { AllStand B.same (length self.now.plan.node.applied) self.now.plan.node.proposer.role (take result entries.now) }
+        ensures stand { AllStand B.same (length self.now.turn.node.applied) self.now.turn.node.proposer.role (take result entries.now) }
         ensures most { result ≤ length entries.now }
     {
         let mut count = 0;
@@ -132,20 +130,20 @@ impl<'a, B: Body> Draft<'a, B> {
         count
     }
 
-    // Returns what was pending before, after the first `front`.
+    // What was pending before, behind the first `front`.
     fn behind(&self, front: usize) -> &'a [Entry<B>]
         ensures rest { result.now ≡ drop front self.now.of.state.pending }
-        ensures pending { self.now.plan.node.pending ≡ pending_with self.now.of.added self.now.of.state.pending }
+        ensures pending { self.now.turn.node.pending ≡ pending_with self.now.of.added self.now.of.state.pending }
     {
         let pending = self.node.pending();
         &pending[front.min(pending.len())..]
     }
 
-    // Proposes the entry that becomes pending, unless it stands.
+    // It proposes the entry that becomes pending, unless it stands already.
     fn propose_added(&mut self) -> Result<(), Memory>
         ensures of { self.new.of ≡ self.old.of }
-        ensures plan { OnOk result (self.new.plan
-            ≡ propose_each B.same self.old.of.members self.old.of.me (listed self.old.of.added) self.old.plan) }
+        ensures turn { OnOk result (self.new.turn
+            ≡ propose_each B.same self.old.of.members self.old.of.me (listed self.old.of.added) self.old.turn) }
     {
         let Some(entry) = self.added() else {
             return Ok(());
@@ -154,11 +152,11 @@ impl<'a, B: Body> Draft<'a, B> {
         Ok(())
     }
 
-    // Sends the first pending entries to the node whose ballot is promised.
+    // The first pending entries go to the node whose ballot is promised.
     fn forward(&mut self) -> Result<(), Memory>
         ensures of { self.new.of ≡ self.old.of }
-        ensures plan { OnOk result (self.new.plan
-            ≡ send (forwarded self.old.of.me self.old.plan.node.rows.promised self.old.plan.node.pending) self.old.plan) }
+        ensures turn { OnOk result (self.new.turn
+            ≡ send (forwarded self.old.of.me self.old.turn.node.rows.promised self.old.turn.node.pending) self.old.turn) }
     {
         let Some(promised) = self.promised() else {
             return Ok(());
@@ -174,25 +172,25 @@ impl<'a, B: Body> Draft<'a, B> {
         Ok(())
     }
 
-    // Returns where it would propose next, if it leads and a slot is left.
+    // Where it would propose next, if it leads and a slot is left.
     fn offer(&self) -> Option<Offer>
-        ensures { result ≡ offer_of self.now.plan.node.proposer.role }
+        ensures { result ≡ offer_of self.now.turn.node.proposer.role }
     {
         self.proposing.offer()
     }
 
-    // Returns whether the entry stands.
+    // Whether an equal entry stands in a slot of its ballot that is not applied.
     fn stands(&self, entry: &Entry<B>) -> bool
-        ensures { result ≡ stands B.same (length self.now.plan.node.applied) self.now.plan.node.proposer.role entry.now }
+        ensures { result ≡ stands B.same (length self.now.turn.node.applied) self.now.turn.node.proposer.role entry.now }
     {
         self.proposing.stands(self.node.applied(), entry)
     }
 
-    // Proposes the entry in a leader's next slot.
+    // The entry is proposed in a leader's next slot.
     fn submit(&mut self, entry: &Entry<B>) -> Result<(), Memory>
-        requires { is_some (offer_of self.old.plan.node.proposer.role) ≡ true }
+        requires { is_some (offer_of self.old.turn.node.proposer.role) ≡ true }
         ensures of { self.new.of ≡ self.old.of }
-        ensures plan { OnOk result (self.new.plan ≡ in_role (submitted entry.now self.old.plan.node.proposer.role) self.old.plan) }
+        ensures turn { OnOk result (self.new.turn ≡ in_role (submitted entry.now self.old.turn.node.proposer.role) self.old.turn) }
     {
         let Ok(()) = self.proposing.submit(entry) else {
             return Err(Memory);
@@ -200,14 +198,14 @@ impl<'a, B: Body> Draft<'a, B> {
         Ok(())
     }
 
-    // Returns what is pending, without the entry that becomes pending.
+    // What is pending, but for the entry that becomes so.
     fn pending(&self) -> &'a [Entry<B>]
-        ensures { self.now.plan.node.pending ≡ pending_with self.now.of.added result.now }
+        ensures { self.now.turn.node.pending ≡ pending_with self.now.of.added result.now }
     {
         self.node.pending()
     }
 
-    // Returns the entry that becomes pending.
+    // The entry that becomes pending.
     fn added(&self) -> Option<&'a Entry<B>>
         ensures { option_copied result ≡ self.now.of.added }
     {
@@ -215,7 +213,7 @@ impl<'a, B: Body> Draft<'a, B> {
     }
 }
 
-// Copies the first 64 pending entries.
+// Copies of the first 64 pending entries.
 fn first_pending<B: Body>(
     alloc: Global,
     pending: &[Entry<B>],
@@ -237,7 +235,7 @@ fn first_pending<B: Body>(
     }
 }
 
-// Returns the first 64 of them.
+// The first 64 of them.
 fn first_64<B>(entries: &[Entry<B>]) -> &[Entry<B>]
     ensures { result.now ≡ take 64 entries.now }
 {
@@ -247,7 +245,7 @@ fn first_64<B>(entries: &[Entry<B>]) -> &[Entry<B>]
     &entries[..64]
 }
 
-// Appends copies of these.
+// Copies of these are put at the end.
 fn copy_first<B: Body>(
     alloc: Global,
     entries: &mut Entries<B>,
@@ -261,7 +259,7 @@ fn copy_first<B: Body>(
     Ok(())
 }
 
-// Appends a copy of it.
+// A copy of it is put at the end.
 fn push_copy<B: Body>(
     alloc: Global,
     entries: &mut Entries<B>,

@@ -1,7 +1,6 @@
-//! Reads the words of the program's command line as an order.
+//! What the words of the program's command line ask for.
 #![tactic(auto)]
 
-mod args;
 mod command;
 mod number;
 mod order;

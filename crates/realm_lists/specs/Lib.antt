@@ -1,4 +1,4 @@
-pub mod OrderedList
+pub mod Rows
 pub mod Finding
 pub mod PlaceIndex
 pub mod Tally

@@ -1,5 +1,4 @@
 pub mod Config
-pub mod Sayings
 pub mod Content
 pub mod Leaving
 pub mod Opening

@@ -1,4 +1,4 @@
-//! How a client leaves or is made to leave, and how the transports of a node go.
+// How a client leaves, why it is made to, and how a node's transports go.
 ghost use Rattle.std.specs.Prelude.{Some, Option};
 ghost use Rattle.realm_sessions.specs.Links.{of_origin};
 ghost use Rattle.realm_machine.specs.Content.{Does};
@@ -7,16 +7,15 @@ ghost use Rattle.realm_machine.specs.Leaving.{leave_session};
 ghost use Rattle.realm_machine.specs.Leaving.{remove, stop, violation, aborted, goodbye, one_gone, all_gone, gone};
 
 use crate::content::Content;
-use crate::memory::Memory;
-use crate::sayings::{
-    GOODBYE_AND_OUT, PROTOCOL_VIOLATION, Say, add_close, add_end, add_farewell, add_goodbye,
-    end_for_callees, end_for_callers,
-};
 use paxos_packets::Transport;
+use realm_sayings::{
+    GOODBYE_AND_OUT, Memory, PROTOCOL_VIOLATION, Say, add_close, add_end, add_farewell,
+    add_goodbye, end_for_callees, end_for_callers,
+};
 use wamp_ids::Id;
 
 impl Content {
-    // Ends the calls to the session by others, and sends their callers an ERROR.
+    // The calls to the session by others end, and their callers are told.
     fn end_calls_to(&mut self, session: Id) -> Result<Vec<Say>, Memory>
         ensures { Does result self.new (end_calls_to self.old session) }
     {
@@ -24,7 +23,7 @@ impl Content {
         end_for_callers(self.alloc, &self.sessions, &ended)
     }
 
-    // Ends the session's calls to others, and interrupts the callees that announced canceling; its calls to itself end silently.
+    // The session's calls to others end, and the callees that announced canceling are told; those to itself end silently.
     fn end_calls_by(&mut self, session: Id) -> Result<Vec<Say>, Memory>
         ensures { Does result self.new (end_calls_by self.old session) }
     {
@@ -32,7 +31,7 @@ impl Content {
         end_for_callees(self.alloc, &self.sessions, &ended)
     }
 
-    // Ends the transport's session with its calls, registrations and subscriptions; the transport stays.
+    // The transport's session leaves its calls, its registrations and its subscriptions, and is no more; the transport stays.
     pub fn leave(&mut self, transport: Transport) -> Result<Vec<Say>, Memory>
         ensures { Does result self.new (leave self.old transport) }
     {
@@ -49,7 +48,7 @@ impl Content {
         self.end_session(session)
     }
 
-    // Ends the session's calls, then its registrations and its subscriptions.
+    // The session's calls end, then its registrations and its subscriptions.
     fn end_session(&mut self, session: Id) -> Result<Vec<Say>, Memory>
         ensures { Does result self.new (end_session self.old session) }
     {
@@ -57,13 +56,13 @@ impl Content {
         let mut interrupts = self.end_calls_by(session)?;
         let done = says.append(&mut interrupts);
         drop(interrupts);
-        self.registrations.leave(session);
-        self.subscriptions.leave(session);
+        self.registry.leave(session);
+        self.topics.leave(session);
         done?;
         Ok(says)
     }
 
-    // Removes the transport, after its session has left.
+    // The transport goes, after its session has left.
     pub fn remove(&mut self, transport: Transport) -> Result<Vec<Say>, Memory>
         ensures { Does result self.new (remove self.old transport) }
     {
@@ -72,7 +71,7 @@ impl Content {
         Ok(says)
     }
 
-    // Removes the transport, sends it an ABORT with this reason, and closes it.
+    // The transport is sent why, and closed.
     pub fn stop(&mut self, transport: Transport, reason: &str) -> Result<Vec<Say>, Memory>
         ensures { Does result self.new (stop self.old transport reason.now) }
     {
@@ -81,14 +80,14 @@ impl Content {
         Ok(says)
     }
 
-    // Stops a client that broke the protocol.
+    // The client broke the protocol.
     pub fn violation(&mut self, transport: Transport) -> Result<Vec<Say>, Memory>
         ensures { Does result self.new (violation self.old transport) }
     {
         self.stop(transport, PROTOCOL_VIOLATION)
     }
 
-    // Removes the transport of a client that aborted, and closes it.
+    // The client aborted.
     pub fn aborted(&mut self, transport: Transport) -> Result<Vec<Say>, Memory>
         ensures { Does result self.new (aborted self.old transport) }
     {
@@ -97,7 +96,7 @@ impl Content {
         Ok(says)
     }
 
-    // Ends the session at the request of its client, and answers with a GOODBYE.
+    // The client ends its session.
     pub fn goodbye(&mut self, transport: Transport) -> Result<Vec<Say>, Memory>
         ensures { Does result self.new (goodbye self.old transport) }
     {
@@ -106,7 +105,7 @@ impl Content {
         Ok(says)
     }
 
-    // Removes one transport of a node that is gone.
+    // One transport of a node that is gone goes.
     fn one_gone(&mut self, transport: Transport) -> Result<Vec<Say>, Memory>
         ensures { Does result self.new (one_gone self.old transport) }
     {
@@ -117,7 +116,7 @@ impl Content {
         Ok(says)
     }
 
-    // Removes the transports that the node took, one after the other.
+    // The transports that the node took go, one after the other.
     pub fn gone(&mut self, node: u8) -> Result<Vec<Say>, Memory>
         ensures { Does result self.new (gone self.old node) }
     {

@@ -3,26 +3,25 @@ ghost use Rattle.realm_sessions.specs.declared.fault.RealmFault.TheVariants as f
 ghost use Rattle.realm_sessions.specs.Members.{has_member, has_members, joined, others, rotated};
 ghost use Rattle.realm_registrations.specs.Callees.{one};
 
-use crate::rotation::Rotation;
+use crate::turns::Turns;
 use realm_sessions::RealmFault;
 use std::alloc::Global;
 use std::marker::Model;
 use wamp_ids::Id;
 
-/// The sessions that are called under a registration, in the order of their turns. A single callee is stored inline, and takes no
-/// allocation.
+/// The sessions that are called under a registration, in the order of their turns. One who is alone takes no memory.
 ///
-/// Cost: `turn`, `first` and `last` take one step; `has`, `join` and `leave` go over the callees of this registration.
+/// Cost: `turn` and who is called take one step, `has`, `join` and `leave` go over the callees of this registration.
 pub struct Callees {
     alone: Option<Id>,
-    rotation: Rotation,
+    turns: Turns,
 }
 
 impl Drop for Callees {
     fn drop(self) {
         let Callees {
             alone: _,
-            rotation: _rotation,
+            turns: _turns,
         } = self;
     }
 }
@@ -33,83 +32,83 @@ impl Model for Callees {
 
     ghost Value = { List ℕ };
 
-    ghost view = { λ a. one a.alone ++ a.rotation };
+    ghost view = { λ a. one a.alone ++ a.turns };
 
-    ghost invariant = { λ a. (session : ℕ) → a.alone ≡ Some session → a.rotation ≡ [] };
+    ghost invariant = { λ a. (session : ℕ) → a.alone ≡ Some session → a.turns ≡ [] };
 }
 
 impl Callees {
-    /// Creates it with this session alone. Does not allocate.
+    /// The session alone. Takes no memory.
     pub fn of(alloc: Global, session: Id) -> Callees
         ensures { result ≡ session ∷ [] }
     {
         Callees {
             alone: Some(session),
-            rotation: Rotation::new(alloc),
+            turns: Turns::new(alloc),
         }
     }
 
-    /// Returns the first in turn. Does not allocate.
+    /// The first in turn. Takes no memory.
     pub fn first(&self) -> Option<Id>
         ensures { result ≡ slice_get self.now 0 }
     {
         match self.alone {
             Some(session) => Some(session),
-            None => self.rotation.first(),
+            None => self.turns.first(),
         }
     }
 
-    /// Returns the last in turn. Does not allocate.
+    /// The last in turn. Takes no memory.
     pub fn last(&self) -> Option<Id>
         ensures { result ≡ slice_get self.now (length self.now - 1) }
     {
         match self.alone {
             Some(session) => Some(session),
-            None => self.rotation.last(),
+            None => self.turns.last(),
         }
     }
 
-    /// Returns whether the session is a callee. Does not allocate.
+    /// Whether the session is one of them. Takes no memory.
     pub fn has(&self, session: Id) -> bool
         ensures { result ≡ has_member session self.now }
     {
         match self.alone {
             Some(member) => member == session,
-            None => self.rotation.has(session),
+            None => self.turns.has(session),
         }
     }
 
-    /// Returns whether there is a callee. Does not allocate.
+    /// Whether there is one. Takes no memory.
     pub fn has_some(&self) -> bool
         ensures { result ≡ has_members self.now }
     {
         match self.alone {
             Some(_) => true,
-            None => self.rotation.has_some(),
+            None => self.turns.has_some(),
         }
     }
 
-    /// Adds the session as the last in turn. The only fault is `Memory`; nothing has changed then.
+    /// The session is the last in turn now. The only fault is `Memory`; nothing has changed then.
     pub fn join(&mut self, session: Id) -> Result<(), RealmFault>
         ensures ok { OnOk result (self.new ≡ joined session self.old) }
         ensures err { OnErr result (self.new ≡ self.old) }
         ensures fault { IsOkUnless result fault.Memory }
     {
         let Some(member) = self.alone else {
-            return self.rotation.join(session);
+            return self.turns.join(session);
         };
-        let rotation = self.rotation.of_two(member, session)?;
+        let turns = self.turns.of_two(member, session)?;
         self.alone = None;
-        self.rotation = rotation;
+        self.turns = turns;
         Ok(())
     }
 
-    /// Removes the session, if it is a callee. Does not allocate.
+    /// The session is none of them any more. Takes no memory.
     pub fn leave(&mut self, session: Id)
         ensures { self.new ≡ others session self.old }
     {
         let Some(member) = self.alone else {
-            self.rotation.leave(session);
+            self.turns.leave(session);
             return;
         };
         if member == session {
@@ -117,13 +116,13 @@ impl Callees {
         }
     }
 
-    /// Makes the first in turn the last. Does not allocate.
+    /// The first in turn is the last now. Takes no memory.
     pub fn turn(&mut self)
         ensures { self.new ≡ rotated self.old }
     {
         let None = self.alone else {
             return;
         };
-        self.rotation.turn();
+        self.turns.turn();
     }
 }

@@ -5,9 +5,9 @@
 mod callees;
 pub mod laws;
 mod registration;
-mod registrations;
-mod rotation;
+mod registry;
+mod turns;
 
 pub use callees::Callees;
 pub use registration::{Chosen, Registration};
-pub use registrations::Registrations;
+pub use registry::Registrations;

@@ -1,4 +1,4 @@
-pub mod Subscribers
+pub mod Members
 pub mod Subscription
 pub mod Subscriptions
 pub mod Subscribing

@@ -1,3 +1,3 @@
-pub mod Deferred
+pub mod Kept
 pub mod Handed
 pub mod Following

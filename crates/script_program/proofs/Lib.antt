@@ -1,9 +1,3 @@
-mod Cutting
-mod Numbers
-mod Words
-mod Firsts
-mod Pairs
-mod Queues
 mod Waits
 mod Dues
 mod Steps
@@ -11,7 +5,6 @@ mod Turns
 mod Handing
 mod Intake
 mod Pages
-mod Appending
 mod Texts
 mod Nodes
 mod Ending

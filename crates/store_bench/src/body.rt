@@ -23,7 +23,7 @@ impl Model for Octets {
 }
 
 impl Octets {
-    /// Returns the body of these octets, copied; `Memory` if memory runs out.
+    /// The body of these octets, copied; `Memory` where there is no memory for them.
     pub fn of(alloc: Global, octets: &[u8]) -> Result<Octets, Memory>
         ensures { IfOk result (λ body. body ≡ octets.now) }
     {

@@ -22,7 +22,7 @@ impl Model for Count {
 }
 
 impl Count {
-    /// Returns a machine that has added nothing up.
+    /// A machine that has added nothing up.
     pub fn new(alloc: Global) -> Count
         ensures { result ≡ (0, false) }
     {
@@ -33,7 +33,7 @@ impl Count {
         }
     }
 
-    /// Returns the sum so far.
+    /// The sum so far.
     pub fn sum(&self) -> u64
         ensures { result ≡ self.now.0 }
     {

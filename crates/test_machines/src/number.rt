@@ -20,14 +20,14 @@ impl Model for Number {
 }
 
 impl Number {
-    /// Returns the body of this value.
+    /// The body of this value.
     pub fn new(value: u32) -> Number
         ensures { result ≡ value }
     {
         Number { value }
     }
 
-    /// Returns its value.
+    /// Its value.
     pub fn get(self) -> u32
         ensures { result ≡ self }
     {

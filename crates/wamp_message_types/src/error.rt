@@ -2,8 +2,8 @@
 ghost use Rattle.std.specs.Prelude.{◌≡◌, ◌↔◌, IfOk, IsTrue};
 
 use crate::memory::Memory;
-use crate::request_kind::RequestKind;
 use wamp_ids::{Id, Text};
+use wamp_message_layouts::RequestKind;
 use wamp_values::Args;
 
 /// A request is refused.
@@ -16,7 +16,7 @@ pub struct Error {
 }
 
 impl Error {
-    /// Returns a copy, as `Message::copy` does.
+    /// An equal one, as `Message::copy`.
     pub fn copy(&self) -> Result<Error, Memory>
         ensures { IfOk result (λ made. made ≡ self.now) }
     {
@@ -28,7 +28,7 @@ impl Error {
         })
     }
 
-    /// Returns whether the two are equal, as `Message::same` does.
+    /// Whether the two are equal, as `Message::same`.
     pub fn same(&self, other: &Error) -> bool
         ensures { IsTrue result ↔ (self.now ≡ other.now) }
     {

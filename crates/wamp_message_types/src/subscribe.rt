@@ -33,7 +33,7 @@ pub struct Unsubscribed {
 }
 
 impl Subscribe {
-    /// Returns a copy, as `Message::copy` does.
+    /// An equal one, as `Message::copy`.
     pub fn copy(&self) -> Result<Subscribe, Memory>
         ensures { IfOk result (λ made. made ≡ self.now) }
     {
@@ -44,7 +44,7 @@ impl Subscribe {
         })
     }
 
-    /// Returns whether the two are equal, as `Message::same` does.
+    /// Whether the two are equal, as `Message::same`.
     pub fn same(&self, other: &Subscribe) -> bool
         ensures { IsTrue result ↔ (self.now ≡ other.now) }
     {

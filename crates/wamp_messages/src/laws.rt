@@ -1,13 +1,13 @@
-//! Laws of the definitions. Each is the contract of a function that does nothing.
+//! What holds of the definitions alone.
 ghost use Rattle.wamp_messages.specs.Laws.{ReadsAgain, FirstFaultIsTold};
 
-/// A message is read back from what is written of it.
+/// What is written of a message is read as that message.
 #[tactic(auto, using(crate::proofs::RoundTrip::read_again))]
 pub fn read_again()
     ensures { ReadsAgain }
 {}
 
-/// For octets that are no message, the reported fault is the first that they have, in the order of the faults' numbers.
+/// Octets that are no message are told by the first of their faults, in the order of their numbers.
 #[tactic(auto, using(crate::proofs::FirstFault::first_fault_is_told))]
 pub fn first_fault_is_told()
     ensures { FirstFaultIsTold }

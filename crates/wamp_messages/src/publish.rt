@@ -19,31 +19,32 @@ use std::alloc::AllocError;
 use std::vec::IntoIter;
 use wamp_ids::{Id, Text};
 use wamp_message_layouts::{
-    UriRequest, end, id_dictionary_text_args, open, put_flag_option, put_label, put_nothing,
+    UriRequest, codes, end, id_dictionary_text_args, open, put_flag_option, put_label, put_nothing,
     two_ids, two_ids_label_args,
 };
-use wamp_message_types::{Event, Message, Publish, Published, Read, UnfitKind, codes};
-use wamp_values::{Args, flag_in};
+use wamp_message_types::{Event, Message, Publish, Published, Read, UnfitKind};
+use wamp_options::flag_in;
+use wamp_values::Args;
 
-// Reads the elements after the code of PUBLISH.
+// What the elements behind the code of PUBLISH are read as.
 pub(crate) fn read_publish(rest: IntoIter<Value>) -> Read
     ensures { result ≡ publish_in (elements rest) }
 {
     match id_dictionary_text_args(rest) {
-        Ok(uri_request) => publish_of(uri_request),
+        Ok(asked) => publish_of(asked),
         Err(fault) => Read::Bad(fault),
     }
 }
 
-fn publish_of(uri_request: UriRequest) -> Read
-    ensures { result ≡ publish_read (seen_asked uri_request) }
+fn publish_of(asked: UriRequest) -> Read
+    ensures { result ≡ publish_read (seen_asked asked) }
 {
     let UriRequest {
         request,
         options,
         uri,
         args,
-    } = uri_request;
+    } = asked;
     let acknowledge = flag_in(&options, "acknowledge", false);
     let exclude_me = flag_in(&options, "exclude_me", true);
     drop(options);
@@ -91,27 +92,27 @@ fn unfit(request: Id, quiet: bool) -> Read
     }
 }
 
-// Reads the elements after the code of PUBLISH if its options were read before: `flags` has them, and an empty object is in their place.
+// The same of elements whose options were read before: flags stand for them, and an object without members in their place.
 #[inline(always)]
 pub(crate) fn read_flagged(rest: IntoIter<Value>, flags: Flags) -> Read
     ensures { result ≡ flagged_in flags (elements rest) }
 {
     match id_dictionary_text_args(rest) {
-        Ok(uri_request) => flagged_of(uri_request, flags),
+        Ok(asked) => flagged_of(asked, flags),
         Err(fault) => Read::Bad(fault),
     }
 }
 
 #[inline(always)]
-fn flagged_of(uri_request: UriRequest, flags: Flags) -> Read
-    ensures { result ≡ flagged_read flags (seen_asked uri_request) }
+fn flagged_of(asked: UriRequest, flags: Flags) -> Read
+    ensures { result ≡ flagged_read flags (seen_asked asked) }
 {
     let UriRequest {
         request,
         options,
         uri,
         args,
-    } = uri_request;
+    } = asked;
     drop(options);
     let acknowledge = flag_of(flags.acknowledge, false);
     let exclude_me = flag_of(flags.exclude_me, true);
@@ -127,7 +128,7 @@ pub(crate) fn put_publish(publish: &Publish, out: &mut Writer) -> Result<(), All
     end_with_args(&publish.topic, &publish.args, out)
 }
 
-// Reads the elements after the code of PUBLISHED.
+// What the elements behind the code of PUBLISHED are read as.
 pub(crate) fn read_published(rest: IntoIter<Value>) -> Read
     ensures { result ≡ published_in (elements rest) }
 {
@@ -152,7 +153,7 @@ pub(crate) fn put_published(published: Published, out: &mut Writer) -> Result<()
     )
 }
 
-// Reads the elements after the code of EVENT.
+// What the elements behind the code of EVENT are read as.
 pub(crate) fn read_event(rest: IntoIter<Value>) -> Read
     ensures { result ≡ event_in (elements rest) }
 {

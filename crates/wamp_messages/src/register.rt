@@ -16,32 +16,32 @@ use std::alloc::AllocError;
 use std::vec::IntoIter;
 use wamp_ids::{Id, Invoke, Match};
 use wamp_message_layouts::{
-    UriRequest, id_dictionary_text, one_id, open, put_text_option, two_ids,
+    UriRequest, codes, id_dictionary_text, one_id, open, put_text_option, two_ids,
 };
 use wamp_message_types::{
-    Message, Read, Register, Registered, UnfitKind, Unregister, Unregistered, codes,
+    Message, Read, Register, Registered, UnfitKind, Unregister, Unregistered,
 };
-use wamp_values::{invoke_in, match_in};
+use wamp_options::{invoke_in, match_in};
 
-// Reads the elements after the code of REGISTER.
+// What the elements behind the code of REGISTER are read as.
 pub(crate) fn read_register(rest: IntoIter<Value>) -> Read
     ensures { result ≡ register_in (elements rest) }
 {
     match id_dictionary_text(rest) {
-        Ok(uri_request) => register_of(uri_request),
+        Ok(asked) => register_of(asked),
         Err(fault) => Read::Bad(fault),
     }
 }
 
-fn register_of(uri_request: UriRequest) -> Read
-    ensures { result ≡ register_read (seen_asked uri_request) }
+fn register_of(asked: UriRequest) -> Read
+    ensures { result ≡ register_read (seen_asked asked) }
 {
     let UriRequest {
         request,
         options,
         uri,
         args,
-    } = uri_request;
+    } = asked;
     let modes = (match_in(&options), invoke_in(&options));
     drop((options, args));
     let (Some(matching), Some(invoke)) = modes else {
@@ -65,7 +65,7 @@ pub(crate) fn put_register(register: &Register, out: &mut Writer) -> Result<(), 
     end_with_text(&register.procedure, out)
 }
 
-// Reads the elements after the code of REGISTERED.
+// What the elements behind the code of REGISTERED are read as.
 pub(crate) fn read_registered(rest: IntoIter<Value>) -> Read
     ensures { result ≡ registered_in (elements rest) }
 {
@@ -90,7 +90,7 @@ pub(crate) fn put_registered(registered: Registered, out: &mut Writer) -> Result
     )
 }
 
-// Reads the elements after the code of UNREGISTER.
+// What the elements behind the code of UNREGISTER are read as.
 pub(crate) fn read_unregister(rest: IntoIter<Value>) -> Read
     ensures { result ≡ unregister_in (elements rest) }
 {
@@ -115,7 +115,7 @@ pub(crate) fn put_unregister(unregister: Unregister, out: &mut Writer) -> Result
     )
 }
 
-// Reads the elements after the code of UNREGISTERED.
+// What the elements behind the code of UNREGISTERED are read as.
 pub(crate) fn read_unregistered(rest: IntoIter<Value>) -> Read
     ensures { result ≡ unregistered_in (elements rest) }
 {
@@ -156,7 +156,7 @@ fn put_register_options(invoke: Invoke, matching: Match, out: &mut Writer) -> Re
     }
 }
 
-// Writes the options of a shared registration.
+// The options of a shared registration.
 fn put_shared_options(invoke: &str, matching: Match, out: &mut Writer) -> Result<(), AllocError>
     ensures { Appends result out.old out.new (data_tokens (shared_options invoke.now matching)) }
 {
@@ -166,7 +166,7 @@ fn put_shared_options(invoke: &str, matching: Match, out: &mut Writer) -> Result
     }
 }
 
-// Returns the name of a match that is written: of each but the exact one.
+// The match that is told: every one but the exact one.
 fn told_match(matching: Match) -> Option<&'static str>
     ensures { option_map (λ name. name.now) result ≡ told_match matching }
 {

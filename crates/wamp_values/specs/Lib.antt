@@ -1,7 +1,6 @@
 pub mod Payload
 pub mod Fitness
 pub mod Tokens
-pub mod Found
 pub mod Options
 pub mod Args
 pub mod Equal

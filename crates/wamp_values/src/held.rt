@@ -1,4 +1,4 @@
-// A payload that its copies share: a copy is one more holder of one allocation.
+// A payload in the memory of one allocation, of which a copy is one holder more.
 ghost use Rattle.std.specs.Prelude.{◌≡◌, IfOk};
 
 use crate::memory::Memory;
@@ -8,16 +8,16 @@ use std::alloc::Global;
 use std::marker::Model;
 use std::sync::Arc;
 
-// How a payload is held.
+// Who holds a payload.
 #[derive(Debug, Drop)]
 enum Held {
-    // Shared by all copies.
+    // All copies: it is held once.
     Together(Arc<Payload>),
-    // Unshared: the payload keeps no allocator, or there was no memory to share it.
+    // This one alone: the payload keeps no allocator, or there was no memory to hold it once.
     Alone(Payload),
 }
 
-// A payload that all its copies share.
+// A payload that is held once, however many copies there are.
 #[derive(Debug, Drop)]
 pub(crate) struct HeldPayload {
     held: Held,
@@ -36,7 +36,7 @@ impl Model for HeldPayload {
 }
 
 impl HeldPayload {
-    // Makes the payload shared, which allocates once; if it keeps no allocator, or memory runs out, it stays unshared.
+    // Holds the payload once, which takes one allocation; where it keeps no allocator, or memory is missing, as it is.
     pub fn of(payload: Payload) -> HeldPayload
         ensures { result ≡ payload }
     {
@@ -57,7 +57,7 @@ impl HeldPayload {
         }
     }
 
-    // Adds a holder; does not allocate if the payload is shared.
+    // One holder more, which takes no memory where the payload is held once.
     pub fn copy(&self) -> Result<HeldPayload, Memory>
         ensures { IfOk result (λ made. made ≡ self.now) }
     {
@@ -70,7 +70,7 @@ impl HeldPayload {
     }
 }
 
-// Returns the payload shared, or unshared if memory runs out.
+// The payload held once, or alone where memory is missing.
 fn together(alloc: Global, payload: Payload) -> HeldPayload
     ensures { result ≡ payload }
 {
@@ -84,7 +84,7 @@ fn together(alloc: Global, payload: Payload) -> HeldPayload
     }
 }
 
-// Returns the allocator that the value keeps, if any: an object without members keeps none that can be asked for.
+// The allocator that the value keeps, if it keeps one: an object without members keeps none that can be asked for.
 fn allocator_of(value: &Value) -> Option<Global> {
     match value {
         Value::Array(items) => Some(*items.allocator()),

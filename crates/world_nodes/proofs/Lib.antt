@@ -1,1 +1,1 @@
-pub mod Planning
+pub mod Seating

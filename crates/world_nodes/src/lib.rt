@@ -1,6 +1,6 @@
-//! One member's node in a world: a node that runs, or what one that is down has committed (docs/CONSENSUS.md, "The world").
+//! One member of a cluster in its seat: a node that runs, or what one that is down has committed (docs/CONSENSUS.md, "The world").
 #![tactic(auto)]
 
-mod world_node;
+mod seat;
 
-pub use world_node::{NodeStatus, WorldNode};
+pub use seat::{Place, Seat};

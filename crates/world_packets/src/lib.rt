@@ -1,5 +1,4 @@
-//! Every packet that the nodes of a cluster ever sent, in order, with an index that decides whether an equal one was sent
-//! (docs/CONSENSUS.md, "The world").
+//! Every packet that the nodes of a cluster ever sent, in order, with an index that tells whether an equal one was sent (docs/CONSENSUS.md).
 #![tactic(auto)]
 
 mod numbers;

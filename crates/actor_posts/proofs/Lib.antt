@@ -1,0 +1,4 @@
+pub mod Renewing
+pub mod Booting
+pub mod Restarting
+pub mod Sound

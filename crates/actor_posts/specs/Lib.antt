@@ -1,0 +1,4 @@
+pub mod Compare
+pub mod Posts
+pub mod Beginning
+pub mod Restarts

@@ -1,0 +1,4 @@
+pub mod Sayings
+pub mod Invocations
+pub mod Endings
+pub mod Events

@@ -1,0 +1,5 @@
+pub mod Number
+pub mod Line
+pub mod Lines
+pub mod Putting
+pub mod Examples

@@ -1,0 +1,11 @@
+use Rattle.std.proofs.Common.{◌≡◌, ◌+◌, ◌++◌, take, drop}
+use Rattle.replica_machine.specs.Effects.{effects_from}
+use Rattle.replica_machine.specs.Roll.{IsRollOf}
+use Rattle.script_text.specs.Text.{log_from, log_text}
+use Rattle.script_text.proofs.text.put_log.Given as goal
+
+abbrev pub invariant-loop-entry : goal.invariant-loop-entry
+invariant-loop-entry g l =
+    (l.slot ≡ l.entry-index) × IsRollOf (take l.entry-index l.log) l.roll
+    × (l.out.items ++ log_from (l.slot + 1) (drop l.entry-index l.log) (effects_from (take l.entry-index l.log) (drop l.entry-index l.log))
+    ≡ l.fn.out.items ++ log_text l.log)

@@ -1,0 +1,5 @@
+use Rattle.std.proofs.Common.{rules}
+use Rattle.wamp_values.proofs.options.text_at.Goals as goal
+
+pub returns-in-Some-as_str : goal.returns-in-Some-as_str
+returns-in-Some-as_str c = search rules
