@@ -2,7 +2,7 @@ use mio::{Registry, Token, Waker};
 use std::io;
 use std::sync::atomic::{AtomicBool, Ordering};
 
-// Where a porter rests, and how its node lets it go on. No call takes memory or waits.
+// How a node wakes its porter. No call allocates or waits.
 #[derive(Drop)]
 pub(crate) struct Bell {
     waker: Waker,
@@ -11,7 +11,7 @@ pub(crate) struct Bell {
 }
 
 impl Bell {
-    // A bell that ends rests at this registry, by an event with this token.
+    // Returns a bell that ends rests at this registry by an event with this token.
     pub fn at(registry: &Registry, token: Token) -> io::Result<Bell> {
         Ok(Bell {
             waker: Waker::new(registry, token)?,
@@ -20,7 +20,7 @@ impl Bell {
         })
     }
 
-    // Lets the porter go on: it rests no longer, or its next rest ends at once.
+    // Wakes the porter: it rests no longer, or its next rest ends at once.
     pub fn ring(&self) {
         if self.is_rung.load(Ordering::SeqCst) {
             return;
@@ -31,14 +31,14 @@ impl Bell {
         }
     }
 
-    // A rest begins; answers whether somebody has rung since the last one, so that it is to end at once.
-    pub fn lie_down(&self) -> bool {
+    // Begins a rest. Returns whether the bell was rung since the last one, so that this one is to end at once.
+    pub fn begin_rest(&self) -> bool {
         self.is_resting.store(true, Ordering::SeqCst);
         self.is_rung.load(Ordering::SeqCst)
     }
 
-    // A rest has ended. Answers whether somebody has rung since the last one; what was put before that is found from now on.
-    pub fn get_up(&self) -> bool {
+    // Ends a rest. Returns whether the bell was rung since the last one; what was put before that is found from now on.
+    pub fn end_rest(&self) -> bool {
         self.is_resting.store(false, Ordering::SeqCst);
         self.is_rung.load(Ordering::SeqCst) && self.is_rung.swap(false, Ordering::SeqCst)
     }

@@ -1,5 +1,5 @@
-use crate::hall::Hall;
-use crate::ties::Ties;
+use crate::buffers::Buffers;
+use crate::shared::SharedConnection;
 use client_listener::{FromClient, Inlet, ListenFault};
 use rtrb::Producer;
 use std::alloc::Global;
@@ -27,7 +27,7 @@ pub(crate) struct Incoming {
 }
 
 impl Incoming {
-    // Nothing came yet. Takes no memory.
+    // Returns the way in of a connection before its first octet. Does not allocate.
     pub fn new(alloc: Global, items: Producer<FromClient>) -> Incoming {
         Incoming {
             inlet: Inlet::new(alloc),
@@ -39,27 +39,32 @@ impl Incoming {
         }
     }
 
-    // Why nothing more comes, if that is no end of the stream.
+    // Returns why nothing more comes, if the stream did not simply end.
     pub fn fault(&self) -> Option<ListenFault> {
         self.fault
     }
 
-    // Whether something waits for room in the ring.
+    // Returns whether something waits for room in the ring.
     pub fn is_full(&self) -> bool {
         self.is_full
     }
 
-    // Reads once, if something may be there to be read, and puts what came. Whether something may still be there is noted.
-    pub fn go_on(&mut self, ties: &Ties, is_readable: &mut bool, hall: &mut Hall) -> Inward {
-        if self.is_full && !self.put(hall) {
+    // Reads once, if something may be there to be read, and puts what came. Notes in `is_readable` whether more may be there.
+    pub fn advance(
+        &mut self,
+        shared: &SharedConnection,
+        is_readable: &mut bool,
+        buffers: &mut Buffers,
+    ) -> Inward {
+        if self.is_full && !self.put(buffers) {
             return self.wait();
         }
-        if ties.is_let_go() {
+        if shared.is_released() {
             self.is_ended = true;
         }
         if !self.is_ended && *is_readable {
-            *is_readable = self.read(ties, hall);
-            if !self.put(hall) {
+            *is_readable = self.read(shared, buffers);
+            if !self.put(buffers) {
                 return self.wait();
             }
         }
@@ -76,7 +81,7 @@ impl Incoming {
         self.wait()
     }
 
-    // There is no room. Where the node is gone, nobody makes any.
+    // Waits for room, unless the node is gone, so that no room will come.
     fn wait(&mut self) -> Inward {
         if self.items.is_abandoned() {
             Inward::Done
@@ -85,9 +90,9 @@ impl Incoming {
         }
     }
 
-    // Puts what waits. Answers whether there was room for all of it.
-    fn put(&mut self, hall: &mut Hall) -> bool {
-        match self.inlet.put(&mut hall.parser, &mut self.items) {
+    // Puts what waits. Returns whether there was room for all of it.
+    fn put(&mut self, buffers: &mut Buffers) -> bool {
+        match self.inlet.put(&mut buffers.parser, &mut self.items) {
             Ok(done) => {
                 self.is_full = !done;
                 done
@@ -100,19 +105,19 @@ impl Incoming {
         }
     }
 
-    // Reads once. Answers whether more may be there: where a read did not fill its room nothing is, until the stream tells so.
-    fn read(&mut self, ties: &Ties, hall: &mut Hall) -> bool {
-        let mut stream = ties.stream();
-        match stream.read(hall.room.as_mut_slice()) {
+    // Reads once. Returns whether more may be there: after a read that did not fill its buffer nothing is, until the stream reports more.
+    fn read(&mut self, shared: &SharedConnection, buffers: &mut Buffers) -> bool {
+        let mut stream = shared.stream();
+        match stream.read(buffers.room.as_mut_slice()) {
             Ok(0) => {
                 self.is_ended = true;
                 false
             }
             Ok(count) => {
-                if let Err(fault) = self.inlet.feed(&hall.room.as_slice()[..count]) {
+                if let Err(fault) = self.inlet.feed(&buffers.room.as_slice()[..count]) {
                     self.fail(fault);
                 }
-                count == hall.room.len()
+                count == buffers.room.len()
             }
             Err(error) if error.kind() == ErrorKind::WouldBlock => false,
             Err(error) if error.kind() == ErrorKind::Interrupted => true,
@@ -123,7 +128,7 @@ impl Incoming {
         }
     }
 
-    // Nothing more comes, by this fault. Behind a want of memory nothing is put either, and the node takes `Hung` by itself.
+    // Ends the way in by this fault. If memory ran out nothing more is put either, and the node takes `Hung` by itself.
     fn fail(&mut self, fault: ListenFault) {
         self.is_ended = true;
         self.is_lost = self.is_lost || fault == ListenFault::Memory;

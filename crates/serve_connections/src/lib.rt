@@ -1,18 +1,17 @@
-//! What stands between a client's TCP connection and its node's thread: a
-//! thread a node, the porter of all of its connections, and two rings a connection.
+//! The clients' TCP connections of a node: one thread, the porter, serves all of them, and each has two rings to and from the node's thread.
 #![tactic(auto)]
 
 mod bell;
-mod desk;
+mod buffers;
 mod door;
-mod hall;
 mod incoming;
-mod line;
 mod lobby;
+mod node_connection;
 mod outgoing;
 mod porter;
-mod ties;
+mod porter_connection;
+mod shared;
 
-pub use door::{Door, keep_door};
-pub use line::{Arrival, Line, REQUESTS_WAITING, SAYINGS_WAITING};
+pub use door::{Door, run_porter};
 pub use lobby::{Lobby, MOST_CONNECTIONS};
+pub use node_connection::{Arrival, NodeConnection, REQUESTS_WAITING, SAYINGS_WAITING};

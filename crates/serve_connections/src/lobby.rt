@@ -4,21 +4,22 @@ use std::sync::{Arc, Wait};
 use std::thread::Parker;
 use std::time::Duration;
 
-/// How many connections a node has at a time, at the most.
+/// How many connections a node has at a time, at most.
 pub const MOST_CONNECTIONS: u64 = 256;
 
-/// How often a node's thread that expects it looks whether it was woken, before it rests: for about as long as to rest and to be woken takes.
+/// How often a node's thread that expects to be woken looks whether it was, before it rests: for about as long as a rest and a wake-up take.
 const LOOKS: u32 = 10_000;
 
-/// What a node's thread shares with the threads of its clients and with those of its peers: where it rests, who wakes it, for whom its
-/// packets wait, and how many connections there are. One thread alone rests in it. No call takes memory, and but for [`Lobby::rest`] none waits.
+/// What a node's thread shares with its porter and with the threads of its peers: where it rests and how it is woken, for which nodes its packets
+/// wait, how many connections there are, and how many of its clients are slow. Only the node's thread rests in it. No call allocates, and only
+/// [`Lobby::rest`] waits.
 pub struct Lobby {
     bell: Parker,
     is_woken: AtomicBool,
     is_resting: AtomicBool,
     is_stirred: AtomicBool,
     taken: AtomicU64,
-    // For whom its packets wait: a bit for each node.
+    // For which nodes its packets wait: a bit for each.
     waits: AtomicU64,
     // How many of its clients are slow.
     slow: AtomicU64,
@@ -38,13 +39,13 @@ impl Drop for Lobby {
     }
 }
 
-// The bit of a node; those above 7 have none.
+// Returns the bit of a node; a node above 7 has none.
 fn bit_of(node: u8) -> u64 {
     if node < 8 { 1 << node } else { 0 }
 }
 
 impl Lobby {
-    /// Nobody has woken anybody, and there are no connections.
+    /// Returns the lobby of a node without connections that no thread has woken.
     pub const fn new() -> Lobby {
         Lobby {
             bell: Parker::new(),
@@ -57,10 +58,10 @@ impl Lobby {
         }
     }
 
-    /// Lets the node's thread go on: it rests no longer, or its next rest ends at once. For who put something into the node's mail, or
-    /// ends its run.
+    /// Wakes the node's thread: it rests no longer, or its next rest ends at once. For a thread that has put something into the node's mail, or
+    /// that ends its run.
     pub fn wake(&self) {
-        // Where it is woken already, whoever woke it rings; and it takes that before it looks again.
+        // If it is woken already, the thread that woke it rings; and the node takes that before it looks again.
         if self.is_woken.load(Ordering::SeqCst) {
             return;
         }
@@ -70,7 +71,7 @@ impl Lobby {
         }
     }
 
-    /// The same, for who put something into one of the node's rings: it looks there.
+    /// Wakes the node's thread as [`Lobby::wake`] does, and makes it look into its rings.
     pub fn stir(&self) {
         if !self.is_stirred.load(Ordering::SeqCst) {
             self.is_stirred.store(true, Ordering::SeqCst);
@@ -78,13 +79,13 @@ impl Lobby {
         self.wake();
     }
 
-    /// Whether somebody has stirred since the last call. Where nobody has, there is nothing new in the node's rings.
+    /// Returns whether the node was stirred since the last call. If not, there is nothing new in its rings.
     pub fn take_stirred(&self) -> bool {
         self.is_stirred.load(Ordering::SeqCst) && self.is_stirred.swap(false, Ordering::SeqCst)
     }
 
-    /// Says whether packets of the node wait for this other one. For the node's thread, at least one turn before it rests: whoever takes a
-    /// packet out of the box between the two either sees it then, or has made room for that turn. Nodes above 7 are none.
+    /// Notes whether packets of the node wait for the node `peer`. For the node's thread, at least one turn before it rests: a peer that takes a
+    /// packet out of the box between the two either sees the note then, or has made room for that turn. A peer above 7 changes nothing.
     pub fn set_waits(&self, peer: u8, waits: bool) {
         let kept = self.waits.load(Ordering::SeqCst);
         let told = if waits {
@@ -97,14 +98,14 @@ impl Lobby {
         }
     }
 
-    /// Whether packets of the node wait for this other one, as the node said last. For the other one, once it has taken a packet.
+    /// Returns whether packets of the node wait for the node `peer`, as noted last. For that peer, after it has taken a packet.
     pub fn waits_for(&self, peer: u8) -> bool {
         self.waits.load(Ordering::SeqCst) & bit_of(peer) != 0
     }
 
-    /// Rests until somebody wakes or stirs, or for so long; at once where somebody did since the last rest. It may return early.
+    /// Rests until the node is woken or stirred, for at most `longest`; not at all if it was since the last rest. May return early.
     pub fn rest<R: Wait>(&self, rt: &R, longest: Duration) {
-        // Whoever wakes from here on rings: either this load sees that it was woken, or who wakes sees that it rests.
+        // From here on a waker rings: either this load sees that the node was woken, or the waker sees that it rests.
         self.is_resting.store(true, Ordering::SeqCst);
         if !self.is_woken.load(Ordering::SeqCst) {
             self.bell.park_timeout(rt, longest);
@@ -113,8 +114,8 @@ impl Lobby {
         self.is_woken.store(false, Ordering::SeqCst);
     }
 
-    /// Whether somebody wakes or stirs within some microseconds, or did since the last rest: as a rest without the cost of one, for a node
-    /// that expects it. It does not give the processor away.
+    /// Returns whether the node is woken or stirred within some microseconds, or was since the last rest: a rest without the cost of one, for a
+    /// node that expects it. Does not give the processor away.
     pub fn is_woken_soon(&self) -> bool {
         for _ in 0..LOOKS {
             if self.is_woken.load(Ordering::SeqCst) {
@@ -125,23 +126,23 @@ impl Lobby {
         false
     }
 
-    /// Whether a client of the node is slow: many sayings wait in its ring, and its porter has not taken them yet.
+    /// Returns whether a client of the node is slow: many sayings wait in its ring, and its porter has not taken them yet.
     pub fn has_slow(&self) -> bool {
         self.slow.load(Ordering::SeqCst) > 0
     }
 
-    // One client more is slow.
+    // Counts one more slow client.
     pub(crate) fn add_slow(&self) {
         self.slow.fetch_add(1, Ordering::SeqCst);
     }
 
-    // One client less is slow: the node, which may rest until none is, looks.
+    // Counts one slow client less, and wakes the node, which may rest until none is left.
     pub(crate) fn remove_slow(&self) {
         self.slow.fetch_sub(1, Ordering::SeqCst);
         self.wake();
     }
 
-    /// Takes a place for a connection. Answers false where all 256 are taken.
+    /// Takes one of the 256 permits for a connection. Returns false if none is left.
     pub fn enter(&self) -> bool {
         if self.taken.fetch_add(1, Ordering::SeqCst) < MOST_CONNECTIONS {
             return true;
@@ -150,25 +151,25 @@ impl Lobby {
         false
     }
 
-    /// Gives a place back that was taken.
+    /// Gives back a permit that was taken.
     pub fn leave(&self) {
         self.taken.fetch_sub(1, Ordering::SeqCst);
     }
 }
 
-// A place that a connection has taken in a lobby. It is given back where this is dropped.
-pub(crate) struct Place {
+// A permit for a connection, taken from a lobby, which gets it back when this is dropped.
+pub(crate) struct ConnectionPermit {
     lobby: Arc<Lobby, Global>,
 }
 
-impl Place {
-    // `None` where there is none left.
-    pub fn take(lobby: &Arc<Lobby, Global>) -> Result<Option<Place>, AllocError> {
+impl ConnectionPermit {
+    // Takes a permit. Returns `None` if none is left.
+    pub fn take(lobby: &Arc<Lobby, Global>) -> Result<Option<ConnectionPermit>, AllocError> {
         let lobby = Arc::try_clone(lobby)?;
         if !lobby.enter() {
             return Ok(None);
         }
-        Ok(Some(Place { lobby }))
+        Ok(Some(ConnectionPermit { lobby }))
     }
 
     pub fn lobby(&self) -> &Lobby {
@@ -176,9 +177,9 @@ impl Place {
     }
 }
 
-impl Drop for Place {
+impl Drop for ConnectionPermit {
     fn drop(self) {
-        let Place { lobby } = self;
+        let ConnectionPermit { lobby } = self;
         lobby.leave();
         drop(lobby);
     }

@@ -1,23 +1,22 @@
-use crate::hall::Hall;
-use crate::ties::Ties;
+use crate::buffers::Buffers;
+use crate::shared::SharedConnection;
 use client_listener::{ListenFault, Outbox, ToClient};
 use rtrb::Consumer;
 use std::alloc::Global;
 use std::collections::VecDeque;
 use std::io::ErrorKind;
 
-/// How many octets may wait for one client's stream, and for the streams of all clients of a node, while further sayings are taken.
+/// How many octets may wait for one client's stream, and for the streams of all clients of a node, while more sayings are taken.
 const MOST_WAITING: usize = 1 << 20;
 
 const MOST_WAITING_IN_ALL: usize = 64 << 20;
 
-/// How many times sayings are taken in a row at the most, and how many octets one outbox gets.
+/// How many times sayings are taken in a row at most, and after how many octets an outbox is full.
 const MOST_GATHERED: u8 = 32;
 
 const FULL: usize = 1 << 16;
 
-// How far what a client is sent has come: what can be written is, or more can be at once, or all is written up to a `Close`, or nothing more is
-// written.
+// How far the way out has come: what can be written is, or more can be at once, or all is written up to a `Close`, or nothing more is written.
 #[derive(Clone, Copy, Drop)]
 pub(crate) enum Outward {
     Written,
@@ -26,7 +25,7 @@ pub(crate) enum Outward {
     Over,
 }
 
-// What a client is sent, on its way out of its node's ring.
+// What a client is sent, on its way from its node's ring to its stream.
 #[derive(Drop)]
 pub(crate) struct Outgoing {
     alloc: Global,
@@ -42,7 +41,7 @@ pub(crate) struct Outgoing {
 }
 
 impl Outgoing {
-    // Nothing is sent yet, to a client that has not said what payloads it takes. Does not allocate.
+    // Returns the way out to a client that has not said yet what payloads it takes. Does not allocate.
     pub fn new(alloc: Global, replies: Consumer<ToClient>) -> Outgoing {
         Outgoing {
             alloc,
@@ -56,39 +55,44 @@ impl Outgoing {
         }
     }
 
-    // The client takes payloads of up to `limit` octets.
+    // Notes that the client takes payloads of up to `limit` octets.
     pub fn open(&mut self, limit: u32) {
         self.limit = limit;
         self.outbox = Outbox::new(self.alloc, limit);
     }
 
-    // Why nothing more is written, if that is no end.
+    // Returns why nothing more is written, if that is a fault.
     pub fn fault(&self) -> Option<ListenFault> {
         self.fault
     }
 
-    // How many octets wait for the stream.
+    // Returns how many octets wait for the stream.
     pub fn waiting(&self) -> usize {
         self.waiting
     }
 
-    // Takes what is there, as far as it may wait, and writes once, if the stream has room. Notes whether the stream still has.
-    pub fn go_on(&mut self, ties: &Ties, is_writable: &mut bool, hall: &mut Hall) -> Outward {
-        // The node puts nothing after letting go.
-        let is_let_go = ties.is_let_go();
+    // Takes the sayings that are there, as far as they may wait, and writes once if the stream has room. Notes whether it still has.
+    pub fn advance(
+        &mut self,
+        shared: &SharedConnection,
+        is_writable: &mut bool,
+        buffers: &mut Buffers,
+    ) -> Outward {
+        // After it has released the connection the node puts nothing more.
+        let is_released = shared.is_released();
         let before = self.waiting;
-        self.gather_all(hall.waiting);
-        let written = self.write(ties, is_writable);
-        hall.waiting = hall
+        self.gather_all(buffers.waiting);
+        let written = self.write(shared, is_writable);
+        buffers.waiting = buffers
             .waiting
             .saturating_sub(before)
             .saturating_add(self.waiting);
         let is_empty = self.replies.is_empty();
         if is_empty {
-            ties.clear_slow(&hall.lobby);
+            shared.clear_slow(&buffers.lobby);
         }
         match written {
-            Ok(()) => self.course(is_let_go, is_empty, *is_writable),
+            Ok(()) => self.course(is_released, is_empty, *is_writable),
             Err(ErrorKind::Interrupted) => Outward::More,
             Err(_) => {
                 self.fault = self.fault.or(Some(ListenFault::Write));
@@ -97,8 +101,8 @@ impl Outgoing {
         }
     }
 
-    // How far it has come, by whether the node has let go, the ring is empty, and the stream has room.
-    fn course(&self, is_let_go: bool, is_empty: bool, is_writable: bool) -> Outward {
+    // Returns how far it has come, by whether the node has released the connection, the ring is empty, and the stream has room.
+    fn course(&self, is_released: bool, is_empty: bool, is_writable: bool) -> Outward {
         if self.waiting > 0 {
             return if is_writable {
                 Outward::More
@@ -115,14 +119,14 @@ impl Outgoing {
         if !is_empty {
             return Outward::More;
         }
-        if is_let_go {
+        if is_released {
             Outward::Over
         } else {
             Outward::Written
         }
     }
 
-    // Takes what is there, as far as it may wait.
+    // Takes the sayings that are there, as far as they may wait.
     fn gather_all(&mut self, in_all: usize) {
         for _ in 0..MOST_GATHERED {
             if self.is_closed || self.fault.is_some() || !self.has_room(in_all) {
@@ -138,12 +142,12 @@ impl Outgoing {
         }
     }
 
-    // Whether more may wait, where this many octets wait for all clients.
+    // Returns whether more may wait if `in_all` octets wait for all clients.
     fn has_room(&self, in_all: usize) -> bool {
         self.waiting == 0 || self.waiting < MOST_WAITING && in_all < MOST_WAITING_IN_ALL
     }
 
-    // Takes what is there, into the last outbox, or into one more where that is full.
+    // Takes sayings into the last outbox, or into one more if that is full.
     fn gather(&mut self) -> Result<(), ListenFault> {
         if self.last_len() > FULL {
             let next = Outbox::new(self.alloc, self.limit);
@@ -162,7 +166,7 @@ impl Outgoing {
         Ok(())
     }
 
-    // How many octets wait in the last outbox.
+    // Returns how many octets wait in the last outbox.
     fn last_len(&self) -> usize {
         match self.later.back() {
             Some(last) => last.len(),
@@ -171,12 +175,16 @@ impl Outgoing {
     }
 
     // Writes once, if something waits and the stream has room.
-    fn write(&mut self, ties: &Ties, is_writable: &mut bool) -> Result<(), ErrorKind> {
+    fn write(
+        &mut self,
+        shared: &SharedConnection,
+        is_writable: &mut bool,
+    ) -> Result<(), ErrorKind> {
         if self.waiting == 0 || !*is_writable {
             return Ok(());
         }
         let before = self.outbox.len();
-        let mut stream = ties.stream();
+        let mut stream = shared.stream();
         match self.outbox.write_some(&mut stream) {
             Ok(()) => {}
             Err(error) if error.kind() == ErrorKind::WouldBlock => {

@@ -1,12 +1,12 @@
 use crate::bell::Bell;
-use crate::desk::{Desk, Next};
+use crate::buffers::Buffers;
 use crate::door::Door;
-use crate::hall::Hall;
 use crate::incoming::Incoming;
-use crate::line::{Arrival, Line, REQUESTS_WAITING, SAYINGS_WAITING};
-use crate::lobby::Place;
+use crate::lobby::ConnectionPermit;
+use crate::node_connection::{Arrival, NodeConnection, REQUESTS_WAITING, SAYINGS_WAITING};
 use crate::outgoing::Outgoing;
-use crate::ties::Ties;
+use crate::porter_connection::{Next, PorterConnection};
+use crate::shared::SharedConnection;
 use client_listener::ListenFault;
 use mio::event::Event;
 use mio::unix::SourceFd;
@@ -27,15 +27,15 @@ const BELL: usize = 1;
 
 const FIRST: usize = 2;
 
-/// How many events are told at a time at the most.
+/// How many events the kernel reports at a time, at most.
 const EVENTS: usize = 512;
 
-/// How many clients are taken in a turn at the most, and how many connections there are at the most, those to be refused among them.
+/// How many clients are accepted in a turn at most, and how many connections there are at most, those to be refused among them.
 const ADMITTED: u32 = 16;
 
-const MOST_DESKS: usize = 320;
+const MOST_PORTER_CONNECTIONS: usize = 320;
 
-/// How long a tick is, in milliseconds, and how long a porter rests at most where a ring is full.
+/// The length of a tick in milliseconds, and of the longest rest while a ring is full.
 const TICK_MILLIS: u64 = 100;
 
 const FULL_MILLIS: u64 = 1;
@@ -50,9 +50,9 @@ pub(crate) struct Porter {
     listener: TcpListener,
     arrivals: Producer<Arrival>,
     // By rising number.
-    desks: Vec<Desk>,
+    connections: Vec<PorterConnection>,
     number: usize,
-    hall: Hall,
+    buffers: Buffers,
     // Whether a client may be there to be accepted, and whether an accept failed since the last tick.
     is_called: bool,
     is_refused: bool,
@@ -63,18 +63,18 @@ pub(crate) struct Porter {
     ticked: Option<Instant>,
 }
 
-// Want of memory, as the other errors are told.
+// Returns the error of the system that says that memory ran out.
 fn no_memory<E: Drop>(error: E) -> io::Error {
     drop(error);
     ErrorKind::OutOfMemory.into()
 }
 
 impl Porter {
-    // A porter of no connection yet.
+    // Returns a porter without connections.
     pub fn new(
         door: Door,
         arrivals: Producer<Arrival>,
-        hall: Hall,
+        buffers: Buffers,
         node: u8,
     ) -> io::Result<Porter> {
         let Door { listener, poll } = door;
@@ -83,9 +83,9 @@ impl Porter {
         poll.registry()
             .register(&mut SourceFd(&fd), Token(LISTENER), Interest::READABLE)?;
         let bell = Bell::at(poll.registry(), Token(BELL))?;
-        let bell = Arc::new(hall.alloc, bell).map_err(no_memory)?;
-        let events = Events::with_capacity(hall.alloc, EVENTS).map_err(no_memory)?;
-        let desks = Vec::new(hall.alloc);
+        let bell = Arc::new(buffers.alloc, bell).map_err(no_memory)?;
+        let events = Events::with_capacity(buffers.alloc, EVENTS).map_err(no_memory)?;
+        let connections = Vec::new(buffers.alloc);
         Ok(Porter {
             node,
             poll,
@@ -93,9 +93,9 @@ impl Porter {
             bell,
             listener,
             arrivals,
-            desks,
+            connections,
             number: FIRST,
-            hall,
+            buffers,
             is_called: true,
             is_refused: false,
             is_busy: false,
@@ -105,23 +105,23 @@ impl Porter {
         })
     }
 
-    // Whether the node is gone, and all of its connections with it.
+    // Returns whether the node is gone, and all of its connections with it.
     pub fn is_done(&mut self) -> bool {
-        self.desks.is_empty() && self.arrivals.is_abandoned()
+        self.connections.is_empty() && self.arrivals.is_abandoned()
     }
 
-    // Rests until something happens, takes those in who knock, and goes on with each connection.
+    // Rests until something happens, accepts clients, and goes on with each connection.
     pub fn turn<R: Clock + Eprint>(&mut self, rt: &R) {
         let is_rung = self.rest();
-        note_all(&self.events, &mut self.desks, &mut self.is_called);
+        note_all(&self.events, &mut self.connections, &mut self.is_called);
         self.tick(rt);
         self.admit_all(rt);
-        self.go_round(rt, is_rung);
+        self.advance_all(rt, is_rung);
     }
 
-    // Rests until something happens, or the next turn is due. Answers whether somebody has rung.
+    // Rests until something happens or the next turn is due. Returns whether the node has rung.
     fn rest(&mut self) -> bool {
-        let longest = if self.bell.lie_down() || self.is_busy {
+        let longest = if self.bell.begin_rest() || self.is_busy {
             Some(Duration::ZERO)
         } else if self.is_soon {
             Some(Duration::from_millis(FULL_MILLIS))
@@ -131,10 +131,10 @@ impl Porter {
             None
         };
         let _polled = self.poll.poll(&mut self.events, longest);
-        self.bell.get_up()
+        self.bell.end_rest()
     }
 
-    // Where ticks are counted and one has passed since the last, it is.
+    // Counts a tick, if ticks are counted and one has passed since the last.
     fn tick<R: Clock>(&mut self, rt: &R) {
         if !self.is_timed {
             self.ticked = None;
@@ -153,12 +153,12 @@ impl Porter {
         self.ticked = Some(now);
         self.is_called = self.is_called || self.is_refused;
         self.is_refused = false;
-        for desk in &mut self.desks {
-            desk.tick();
+        for connection in &mut self.connections {
+            connection.tick();
         }
     }
 
-    // Takes those in who knock, as long as the node takes arrivals.
+    // Accepts the clients that have connected, as long as there is room in the ring of arrivals.
     fn admit_all<R: Eprint>(&mut self, rt: &R) {
         for _ in 0..ADMITTED {
             if !self.is_called || self.arrivals.is_full() {
@@ -181,9 +181,9 @@ impl Porter {
         }
     }
 
-    // Takes a client in that has connected. Where all places are taken, it is refused once it has sent its handshake.
+    // Admits a client that has connected. If no permit is left, the client is refused once it has sent its handshake.
     fn admit(&mut self, stream: TcpStream) -> io::Result<()> {
-        if self.arrivals.is_abandoned() || self.desks.len() >= MOST_DESKS {
+        if self.arrivals.is_abandoned() || self.connections.len() >= MOST_PORTER_CONNECTIONS {
             return Ok(());
         }
         stream.set_nodelay(true)?;
@@ -195,18 +195,22 @@ impl Porter {
             .registry()
             .register(&mut SourceFd(&fd), Token(number), both)?;
         self.number = number.saturating_add(1);
-        let desk = self.seat(stream, number).map_err(no_memory)?;
-        self.desks.push(desk).map_err(no_memory)
+        let connection = self.open_connection(stream, number).map_err(no_memory)?;
+        self.connections.push(connection).map_err(no_memory)
     }
 
-    // A connection's two ends; the node is told of it, if there is a place.
-    fn seat(&mut self, stream: TcpStream, number: usize) -> Result<Desk, AllocError> {
-        let alloc = self.hall.alloc;
+    // Makes a connection's two ends, and hands the node its own if there is a permit.
+    fn open_connection(
+        &mut self,
+        stream: TcpStream,
+        number: usize,
+    ) -> Result<PorterConnection, AllocError> {
+        let alloc = self.buffers.alloc;
         let bell = Arc::try_clone(&self.bell)?;
-        let line = Line::tied(alloc, Ties::new(stream, Some(bell)))?;
-        let ties = line.ties()?;
-        let Some(place) = Place::take(&self.hall.lobby)? else {
-            return Ok(Desk::new(number, None, ties, None, None));
+        let held = NodeConnection::over_shared(alloc, SharedConnection::new(stream, Some(bell)))?;
+        let shared = held.shared()?;
+        let Some(permit) = ConnectionPermit::take(&self.buffers.lobby)? else {
+            return Ok(PorterConnection::new(number, None, shared, None, None));
         };
         let (into_items, items) = RingBuffer::new(alloc, REQUESTS_WAITING)?;
         let (replies, from_replies) = RingBuffer::new(alloc, SAYINGS_WAITING)?;
@@ -215,31 +219,31 @@ impl Porter {
             Arrival {
                 items,
                 replies,
-                line,
+                connection: held,
             },
         );
-        self.hall.lobby.stir();
+        self.buffers.lobby.stir();
         let incoming = Incoming::new(alloc, into_items);
         let outgoing = Outgoing::new(alloc, from_replies);
-        Ok(Desk::new(number, Some(place), ties, Some(incoming), Some(outgoing)))
+        Ok(PorterConnection::new(number, Some(permit), shared, Some(incoming), Some(outgoing)))
     }
 
-    // Goes on with each connection for which something has happened; with all of them where somebody has rung.
-    fn go_round<R: Eprint>(&mut self, rt: &R, is_rung: bool) {
+    // Goes on with each connection that something has happened to; with all of them if the node has rung.
+    fn advance_all<R: Eprint>(&mut self, rt: &R, is_rung: bool) {
         self.is_busy = self.is_called && !self.arrivals.is_full();
         self.is_soon = self.is_called;
         self.is_timed = self.is_refused;
         let mut at = 0;
-        for _ in 0..self.desks.len() {
-            let Some(desk) = self.desks.get_mut(at) else {
+        for _ in 0..self.connections.len() {
+            let Some(connection) = self.connections.get_mut(at) else {
                 return;
             };
-            let next = if is_rung || desk.is_due() {
-                desk.go_on(&mut self.hall)
+            let next = if is_rung || connection.is_due() {
+                connection.advance(&mut self.buffers)
             } else {
                 Next::Rest
             };
-            self.is_timed = self.is_timed || desk.is_timed();
+            self.is_timed = self.is_timed || connection.is_timed();
             match next {
                 Next::Rest => at = at.saturating_add(1),
                 Next::Again => {
@@ -251,8 +255,8 @@ impl Porter {
                     at = at.saturating_add(1);
                 }
                 Next::Gone => {
-                    tell(rt, self.node, desk);
-                    drop(self.desks.remove(at));
+                    report(rt, self.node, connection);
+                    drop(self.connections.remove(at));
                 }
             }
         }
@@ -265,35 +269,36 @@ fn announce(arrivals: &mut Producer<Arrival>, arrival: Arrival) {
     drop(pushed);
 }
 
-// Takes note of what has happened.
-fn note_all(events: &Events, desks: &mut Vec<Desk>, is_called: &mut bool) {
+// Notes what has happened to each connection, and whether a client may be there.
+fn note_all(events: &Events, connections: &mut Vec<PorterConnection>, is_called: &mut bool) {
     for event in events.iter() {
         match event.token() {
             Token(LISTENER) => *is_called = true,
             Token(BELL) => {}
-            Token(number) => note(desks, number, event),
+            Token(number) => note(connections, number, event),
         }
     }
 }
 
-// Takes note of what has happened to the connection of this number, if it is still there.
-fn note(desks: &mut Vec<Desk>, number: usize, event: &Event) {
-    let Ok(place) = desks.binary_search_by_key(&number, |desk| desk.number()) else {
+// Notes what has happened to the connection with this number, if it is still there.
+fn note(connections: &mut Vec<PorterConnection>, number: usize, event: &Event) {
+    let Ok(permit) = connections.binary_search_by_key(&number, |connection| connection.number())
+    else {
         return;
     };
-    if let Some(desk) = desks.get_mut(place) {
+    if let Some(connection) = connections.get_mut(permit) {
         let is_ending = event.is_error() || event.is_read_closed();
-        desk.note(event.is_readable(), event.is_writable(), is_ending);
+        connection.on_ready(event.is_readable(), event.is_writable(), is_ending);
     }
 }
 
-// Says why a client was refused or closed. A stream that failed is no such cause: the client is gone, or the node has let it go.
-fn tell<R: Eprint>(rt: &R, node: u8, desk: &Desk) {
-    if desk.is_surplus() {
+// Reports why a client was refused or closed. A stream that failed is no such cause: the client is gone, or the node has released it.
+fn report<R: Eprint>(rt: &R, node: u8, connection: &PorterConnection) {
+    if connection.is_surplus() {
         let _told = eprintln!(rt; "node {node}: a client was refused: 256 connections are open");
         return;
     }
-    let _told = match desk.fault() {
+    let _told = match connection.fault() {
         None | Some(ListenFault::Read | ListenFault::Write) => return,
         Some(ListenFault::Handshake) => {
             eprintln!(rt;

@@ -11,28 +11,19 @@ use realm_acts::Act;
 use realm_machine::{Out, Say};
 use rtrb::Consumer;
 use serve_connections::{Arrival, Lobby};
-use serve_draws::Draws;
-use serve_ticks::{Due, Sign, Ticks};
+use serve_policy::{Admission, Draws, Due, Sign, Ticks};
 use std::alloc::Global;
 use std::sync::Arc;
 
-/// How many acts are given while entries are pending, at a node that leads. A node has room for 1,024 pending entries; so it always has some
-/// for those of its own.
-const MOST_UNDER_WAY: u32 = 1000;
-
-/// The same at a node that does not lead. It forwards all its pending entries with each act, and a leader that has applied one by then proposes
-/// it again, in vain: with many under way nearly all slots would go so, with these one in a hundred.
-const MOST_FORWARDED: u32 = 4;
-
-/// How many arrivals are taken in a round at the most; their ring has room for so many.
+/// How many arrivals are taken in a round at the most: as many as their ring has room for.
 const MOST_ARRIVALS: u8 = 64;
 
 /// The events of a node in one boot: what its clients do, ticks, ballots and suspicions; and the way of its sayings to their clients.
 ///
-/// A round in which nobody stirred costs some loads. An item of a client's costs constant time, and a removed connection as many moves as there
-/// are connections; each time that somebody stirred each connection's ring is asked once. Messages are moved, not copied. Behind an idle turn, where
-/// entries or many packets moved since the last tick, it looks for some microseconds whether the node is woken: who waits for a packet has it
-/// sooner than the node could rest and be woken.
+/// A round in which no thread stirred the node costs some loads. A client's item costs constant time, and a removed connection as many moves
+/// as there are connections; each time the node was stirred, each connection's ring is asked once. Messages are moved, not copied. After an
+/// idle turn, if entries or many packets moved since the last tick, the feed looks for some microseconds whether the node is woken: a thread
+/// that waits for a packet has it sooner than the node could rest and be woken.
 pub struct ClientFeed<'a> {
     node: u8,
     members: Members,
@@ -45,22 +36,25 @@ pub struct ClientFeed<'a> {
     lanes: Lanes,
     draws: Draws,
     ticks: Ticks,
-    // The round whose turn was counted last.
-    round: u64,
-    // Whether something happened since.
+    admission: Admission,
+    peers: Peers,
+    last: LastTurn,
+    // Whether something happened since the last turn.
     is_busy: bool,
     // Whether a tick while nothing moved was all that happened since.
     is_ticked: bool,
     // Whether something may be due that was not asked for yet.
     may_be_due: bool,
-    // How many acts were given since no entry was pending, and how many may be.
-    under_way: u32,
-    most: u32,
-    // How many entries the last turn had applied, and what the node had promised then.
+}
+
+// What is known of the turn that was counted last.
+#[derive(Drop)]
+struct LastTurn {
+    round: u64,
+    // How many entries it had applied.
     applied: u64,
+    // What the node had promised after it.
     promised: Option<Ballot>,
-    // How the other members get on.
-    peers: Peers,
 }
 
 impl Drop for ClientFeed<'_> {
@@ -77,21 +71,18 @@ impl Drop for ClientFeed<'_> {
             lanes: _lanes,
             draws: _draws,
             ticks: _ticks,
-            round: _,
+            admission: _admission,
+            peers: _peers,
+            last: _last,
             is_busy: _,
             is_ticked: _,
             may_be_due: _,
-            under_way: _,
-            most: _,
-            applied: _,
-            promised: _,
-            peers: _peers,
         } = self;
     }
 }
 
 impl<'a> ClientFeed<'a> {
-    /// No connection yet. Takes no memory.
+    /// Returns the feed of a node without connections. Does not allocate.
     pub fn new(
         alloc: Global,
         home: Home<'a>,
@@ -119,15 +110,16 @@ impl<'a> ClientFeed<'a> {
             lanes: Lanes::new(alloc),
             draws: Draws::new(key, node, boot),
             ticks: Ticks::new(node, members, true),
-            round: 0,
+            admission: Admission::new(),
+            peers: Peers::new(members),
+            last: LastTurn {
+                round: 0,
+                applied: 0,
+                promised: None,
+            },
             is_busy: true,
             is_ticked: false,
             may_be_due: true,
-            under_way: 0,
-            most: MOST_FORWARDED,
-            applied: 0,
-            promised: None,
-            peers: Peers::new(members),
         }
     }
 
@@ -136,23 +128,23 @@ impl<'a> ClientFeed<'a> {
         self.begin_boot(boot, true);
     }
 
-    /// Begins anew in another boot of the node: every connection ends, transports are numbered from 1, the draws are those of the boot, and
-    /// nothing is counted yet. Arrivals that were not taken yet stay.
+    /// Begins another boot of the node: every connection ends, transports are numbered from 1, the draws are those of the boot, and nothing is
+    /// counted yet. Arrivals that were not taken yet stay.
     pub fn restart(&mut self, boot: u64) {
         self.begin_boot(boot, false);
     }
 
-    // A boot begins, which is the first one of the run or a later one.
+    // Begins a boot, which is the first one of the run or a later one.
     fn begin_boot(&mut self, boot: u64, is_first: bool) {
         self.lanes.end_all(self.lobby);
         self.boot = boot;
         self.draws = Draws::new(self.key, self.node, boot);
         self.ticks = Ticks::new(self.node, self.members, is_first);
+        self.admission = Admission::new();
         self.peers = Peers::new(self.members);
-        self.promised = None;
+        self.last.promised = None;
         self.may_be_due = true;
         self.is_busy = true;
-        self.under_way = 0;
         self.lanes.stir();
     }
 
@@ -162,7 +154,7 @@ impl<'a> ClientFeed<'a> {
         self.lanes.end_all(self.lobby);
     }
 
-    // Connections that came have lanes from now on.
+    // Gives lanes to the connections that came.
     fn take_arrivals(&mut self) {
         for _ in 0..MOST_ARRIVALS {
             let Ok(arrival) = self.arrivals.pop() else {
@@ -172,27 +164,39 @@ impl<'a> ClientFeed<'a> {
         }
     }
 
-    // Counts the last turn, and wakes whom it concerns. Once a round.
+    // Counts the last turn, and wakes the nodes that it concerns. Once a round.
     fn count(&mut self, seen: &Seen) {
         // What a tick alone has posted waits for the peers' own ticks.
-        let is_quiet = self.is_ticked && *self.peers.waiting() == [0; 7];
+        let may_wait = self.is_ticked && !self.peers.has_waiting();
         self.is_ticked = false;
         self.watch(seen);
-        let moved = wake_peers(self.node, self.members, self.lobbies, seen, is_quiet);
-        // Nothing came, and all that was due is posted.
-        let is_still = !moved || seen.from.is_none() && seen.waiting == [0; 7];
+        let moved = wake_peers(self.node, self.members, self.lobbies, seen, may_wait);
         self.take_stirred();
-        if seen.pending || seen.applied != self.applied {
+        self.judge(seen, moved);
+        self.count_time(seen);
+        if self.pace.take_waited() {
+            self.lanes.ignore_slow(self.lobby);
+        }
+    }
+
+    // Judges whether the last turn was idle: nothing came, all that could be posted is, and no event is at hand.
+    fn judge(&mut self, seen: &Seen, moved: bool) {
+        if seen.pending || seen.applied != self.last.applied {
             self.pace.moved();
         } else if moved {
             self.pace.stirred();
         }
-        self.applied = seen.applied;
+        self.last.applied = seen.applied;
+        let is_still = !moved || seen.from.is_none() && seen.waiting == [0; 7];
         let is_idle = is_still && !self.is_busy && !self.may_act();
         self.pace.judge(is_idle && !self.is_woken_soon());
         self.is_busy = false;
-        let turn = turn_of(seen, self.promised, self.pace.due());
-        self.promised = seen.promised;
+    }
+
+    // Counts time by what the last turn brought.
+    fn count_time(&mut self, seen: &Seen) {
+        let turn = turn_of(seen, self.last.promised, self.pace.due());
+        self.last.promised = seen.promised;
         if self.ticks.count(turn) {
             self.pace.counted();
             self.may_be_due = true;
@@ -201,12 +205,9 @@ impl<'a> ClientFeed<'a> {
             self.may_be_due = true;
         }
         self.pace.set_quick(seen.pending || self.peers.holds_acts());
-        if self.pace.take_waited() {
-            self.lanes.ignore_slow(self.lobby);
-        }
     }
 
-    // Where somebody has put something into the node's rings, it is looked for.
+    // Looks into the node's rings if a thread has put something there.
     fn take_stirred(&mut self) {
         if self.lobby.take_stirred() {
             self.take_arrivals();
@@ -214,8 +215,8 @@ impl<'a> ClientFeed<'a> {
         }
     }
 
-    // Whether the node is woken within some microseconds, where that is expected: the turn that follows finds what it was woken for, and no
-    // idle one comes between.
+    // Returns whether the node is woken within some microseconds, if that is expected. The turn that follows then finds what it was woken for,
+    // and no idle one comes between.
     fn is_woken_soon(&mut self) -> bool {
         let is_woken = self.pace.expects_more() && self.lobby.is_woken_soon();
         if is_woken {
@@ -224,38 +225,31 @@ impl<'a> ClientFeed<'a> {
         is_woken
     }
 
-    // Notes how the other members get on, and says in the node's lobby for whom its packets wait.
+    // Notes how the other members get on, and says in the node's lobby for which of them its packets wait.
     fn watch(&mut self, seen: &Seen) {
         if self.peers.watch(self.ticks.beats(), seen) {
-            tell_waits(self.lobby, self.members, &seen.waiting);
+            say_waits(self.lobby, self.members, &seen.waiting);
         }
     }
 
-    // Something happens in this round: no rest comes before the turn behind it is counted.
+    // Notes that something happens in this round: no rest comes before the turn that follows is counted.
     fn stay(&mut self) {
         self.is_busy = true;
         self.is_ticked = false;
         self.pace.judge(false);
     }
 
-    // Takes note of what the node has come to.
+    // Notes what the node has come to.
     fn see(&mut self, seen: &Seen) {
-        self.most = if seen.leads {
-            MOST_UNDER_WAY
-        } else {
-            MOST_FORWARDED
-        };
-        if !seen.pending {
-            self.under_way = 0;
-        }
+        self.admission.see(seen.leads, seen.pending);
         let round = self.pace.round();
-        if round != self.round {
-            self.round = round;
+        if round != self.last.round {
+            self.last.round = round;
             self.count(seen);
         }
     }
 
-    // What time has brought.
+    // Returns the event that time has brought.
     fn due(&mut self, due: Due) -> Event<Act> {
         self.stay();
         let node = self.node;
@@ -264,24 +258,24 @@ impl<'a> ClientFeed<'a> {
                 self.is_ticked = !self.pace.is_moving();
                 self.pace.ticked();
                 Event::Tick { node }
-            },
+            }
             Due::Start => Event::Start { node },
             Due::Suspect(other) => Event::Suspect { node, other },
         }
     }
 
-    // Whether a client may do something next, and may have done it.
+    // Returns whether a client may do something next, and may have done it.
     fn may_act(&self) -> bool {
-        !self.peers.holds_acts() && self.under_way < self.most && self.lanes.is_on()
+        !self.peers.holds_acts() && self.admission.has_room() && self.lanes.is_on()
     }
 
-    // What a client does.
+    // Returns what a client does next.
     fn act(&mut self) -> Option<Event<Act>> {
         let next = self.lanes.next(self.lobby, &mut self.draws);
         self.lanes.wake_told();
         let (transport, body) = next?;
         self.stay();
-        self.under_way = self.under_way.saturating_add(1);
+        self.admission.give();
         Some(Event::Take {
             node: self.node,
             transport,
@@ -289,7 +283,7 @@ impl<'a> ClientFeed<'a> {
         })
     }
 
-    // A saying, to its transport; one for another boot's is dropped.
+    // Passes a saying to its transport; one for another boot's is dropped.
     fn tell(&mut self, say: Say) {
         let Say { transport, out } = say;
         let saying = saying_of(out);
@@ -334,8 +328,8 @@ impl Feed<Act, Say> for ClientFeed<'_> {
     }
 }
 
-// Says in the node's lobby for whom its packets wait.
-fn tell_waits(lobby: &Lobby, members: Members, waiting: &[u16; 7]) {
+// Says in the node's lobby for which members its packets wait.
+fn say_waits(lobby: &Lobby, members: Members, waiting: &[u16; 7]) {
     for below in 0..members.count() {
         if let Some(count) = waiting.get(usize::from(below)) {
             lobby.set_waits(below + 1, *count > 0);
@@ -343,8 +337,8 @@ fn tell_waits(lobby: &Lobby, members: Members, waiting: &[u16; 7]) {
     }
 }
 
-// Wakes those to whom the last turn of this node posted, unless what it posted is to wait, and the one whose packet it took, if packets of that
-// one wait for room. Answers whether it posted or took any.
+// Wakes the nodes that the last turn of this node posted to, unless what it posted may wait, and the node whose packet it took, if packets of
+// that node wait for room. Returns whether the turn posted or took any packet.
 fn wake_peers(
     node: u8,
     members: Members,
@@ -368,7 +362,7 @@ fn wake_peers(
     true
 }
 
-// What a transport is told, as its porter takes it.
+// Returns a saying in the form in which a porter takes it.
 fn saying_of(out: Out) -> ToClient {
     match out {
         Out::Send(message) => ToClient::Send(message),

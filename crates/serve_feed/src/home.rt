@@ -4,7 +4,7 @@ use serve_connections::Lobby;
 use std::sync::Arc;
 use std::time::Instant;
 
-/// Which node it is, and what the gate and the feed of its thread stand on.
+/// What the gate and the feed of a node's thread share with it: the node's number, its cluster, and where nodes rest.
 #[derive(Clone, Copy)]
 pub struct Home<'a> {
     /// The node's number.
@@ -17,7 +17,7 @@ pub struct Home<'a> {
     pub lobby: &'a Lobby,
     /// Where each node rests, node 1 first.
     pub lobbies: &'a [Arc<Lobby>],
-    /// What the gate and the feed of the thread tell each other.
+    /// What the gate and the feed of the thread share.
     pub pace: &'a Pace,
     /// When the cluster began, if the clock could be read.
     pub began: Option<Instant>,

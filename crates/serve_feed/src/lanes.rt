@@ -4,11 +4,11 @@ use client_listener::{FromClient, ToClient};
 use paxos_packets::Shared;
 use realm_acts::Act;
 use serve_connections::{Arrival, Lobby};
-use serve_draws::Draws;
+use serve_policy::Draws;
 use std::alloc::Global;
 use wamp_message_types::Read;
 
-/// How many lanes are looked at for one act at the most.
+/// How many lanes are looked at for one act, at most.
 const MOST_LOOKS: u16 = 512;
 
 // The connections of a node, by ascending number of their transports.
@@ -19,7 +19,7 @@ pub(crate) struct Lanes {
     // The last number that was given.
     last: u32,
     look: Look,
-    // Those of which the porter is to be told.
+    // The lanes whose porter is to be told of sayings.
     told: Vec<u32>,
 }
 
@@ -32,7 +32,7 @@ enum Step {
 }
 
 impl Lanes {
-    // No connection. Takes no memory.
+    // Returns the lanes of a node without connections. Does not allocate.
     pub fn new(alloc: Global) -> Lanes {
         Lanes {
             alloc,
@@ -43,17 +43,17 @@ impl Lanes {
         }
     }
 
-    // Something may lie in any lane.
+    // Notes that any lane may have something.
     pub fn stir(&mut self) {
         self.look.stir();
     }
 
-    // Whether a lane is left to be looked at.
+    // Returns whether a lane is left to be looked at.
     pub fn is_on(&self) -> bool {
         self.look.is_on()
     }
 
-    // A connection came, which gets the next number; where there is none left, or no memory, it ends.
+    // Gives the next number to a connection that came. If no number or no memory is left, the connection ends.
     pub fn come(&mut self, arrival: Arrival) {
         let Some(number) = self.last.checked_add(1) else {
             drop(arrival);
@@ -64,7 +64,7 @@ impl Lanes {
         drop(pushed);
     }
 
-    // The next act of a client, and its transport's number.
+    // Returns the next act of a client, and its transport's number.
     pub fn next(&mut self, lobby: &Lobby, draws: &mut Draws) -> Option<(u32, Act)> {
         for _ in 0..MOST_LOOKS {
             match self.step(lobby, draws) {
@@ -95,16 +95,16 @@ impl Lanes {
         }
     }
 
-    // The lane is left; its porter may have waited for the room of what was taken.
+    // Leaves the lane. Its porter may wait for the room of what was taken.
     fn leave(&mut self, place: usize) {
         if self.look.leave()
             && let Some(lane) = self.lanes.get(place)
         {
-            lane.tell_room();
+            lane.announce_room();
         }
     }
 
-    // The lane is no more, and its client is not waited for. A Hung is due, if a Connect was taken.
+    // Removes the lane, and takes its client out of the slow ones. A Hung is due if a Connect was taken.
     fn remove(&mut self, lobby: &Lobby, place: usize) -> Step {
         if place >= self.lanes.len() {
             return Step::On;
@@ -122,7 +122,7 @@ impl Lanes {
         }
     }
 
-    // What comes of an item of the lane, whose transport has this number.
+    // Treats an item of the lane, whose transport has this number.
     fn treat(
         &mut self,
         lobby: &Lobby,
@@ -151,7 +151,7 @@ impl Lanes {
         }
     }
 
-    // The client of the lane is greeted.
+    // Notes that the client of the lane has connected.
     fn connect(&mut self, place: usize) {
         if let Some(lane) = self.lanes.get_mut(place) {
             lane.open();
@@ -159,7 +159,7 @@ impl Lanes {
         self.took(place);
     }
 
-    // There is no memory for what the client of the lane sent: the connection ends.
+    // Ends the connection: there is no memory for what its client sent.
     fn refuse(&mut self, lobby: &Lobby, place: usize) -> Step {
         if let Some(lane) = self.lanes.get_mut(place) {
             lane.end(lobby);
@@ -168,7 +168,7 @@ impl Lanes {
         Step::On
     }
 
-    // The node itself answers the client of the lane.
+    // Answers the client of the lane without the log.
     fn answer(&mut self, lobby: &Lobby, place: usize, saying: ToClient) {
         if let Some(lane) = self.lanes.get_mut(place) {
             put(lobby, lane, &mut self.told, &mut self.look, saying);
@@ -178,16 +178,16 @@ impl Lanes {
         self.took(place);
     }
 
-    // An item of the lane was taken; it is left after some.
+    // Notes that an item of the lane was taken. The lane is left after some items.
     fn took(&mut self, place: usize) {
         if self.look.took()
             && let Some(lane) = self.lanes.get(place)
         {
-            lane.tell_room();
+            lane.announce_room();
         }
     }
 
-    // Puts a saying behind the others for the transport with this number, if it is there.
+    // Puts a saying after the others for the transport with this number, if it is there.
     pub fn reply(&mut self, lobby: &Lobby, number: u32, saying: ToClient) {
         match lane_of(&mut self.lanes, number) {
             Some(lane) => put(lobby, lane, &mut self.told, &mut self.look, saying),
@@ -195,24 +195,24 @@ impl Lanes {
         }
     }
 
-    // Tells the porter of all lanes into which something was put since the last call.
+    // Tells the porter of all lanes that got a saying since the last call.
     pub fn wake_told(&mut self) {
         for number in &self.told {
             if let Some(lane) = lane_of(&mut self.lanes, *number) {
-                lane.tell_said();
+                lane.announce_sayings();
             }
         }
         self.told.clear();
     }
 
-    // The node has waited for slow clients in vain.
+    // Ignores the slow clients, for which the node has waited in vain, until they have caught up.
     pub fn ignore_slow(&mut self, lobby: &Lobby) {
         for lane in &mut self.lanes {
             lane.ignore_slow(lobby);
         }
     }
 
-    // Every connection ends, and numbers begin anew.
+    // Ends every connection. Numbers begin at 1 again.
     pub fn end_all(&mut self, lobby: &Lobby) {
         for lane in &mut self.lanes {
             lane.end(lobby);
@@ -224,7 +224,7 @@ impl Lanes {
     }
 }
 
-// A value that is to be shared; none where there is no memory for it.
+// Returns the value, shared; `None` if memory runs out.
 fn share<T: Drop>(alloc: Global, value: T) -> Option<Shared<T>> {
     match Shared::new(alloc, value) {
         Ok(shared) => Some(shared),
@@ -235,7 +235,7 @@ fn share<T: Drop>(alloc: Global, value: T) -> Option<Shared<T>> {
     }
 }
 
-// That a client said so, with the next draw.
+// Returns the `Said` act for a client's message, with the next draw.
 fn said(read: Shared<Read>, draws: &mut Draws) -> Act {
     Act::Said {
         draw: draws.next(),
@@ -243,7 +243,7 @@ fn said(read: Shared<Read>, draws: &mut Draws) -> Act {
     }
 }
 
-// The lane of the transport with this number.
+// Returns the lane of the transport with this number, if it is there.
 fn lane_of(lanes: &mut Vec<Lane>, number: u32) -> Option<&mut Lane> {
     let place = lanes
         .binary_search_by_key(&number, |lane| lane.number())
@@ -251,13 +251,14 @@ fn lane_of(lanes: &mut Vec<Lane>, number: u32) -> Option<&mut Lane> {
     lanes.get_mut(place)
 }
 
-// Puts a saying behind the others for the lane, whose porter is to be told then. Where there is no room it ends, which is found at a look.
+// Puts a saying after the others for the lane, and notes that its porter is to be told. If there is no room the lane ends, which the next look
+// finds.
 fn put(lobby: &Lobby, lane: &mut Lane, told: &mut Vec<u32>, look: &mut Look, saying: ToClient) {
     if !lane.reply(lobby, saying) {
         look.stir();
         return;
     }
     if !lane.tell() && told.push(lane.number()).is_err() {
-        lane.tell_said();
+        lane.announce_sayings();
     }
 }

@@ -1,19 +1,19 @@
-//! What a node's thread stands on in a served cluster: a gate that rests while nothing happens, and a feed out of the rings of the node's
-//! clients (docs/CONSENSUS.md, "Threads").
+//! What the thread of a node in a served cluster runs on: a gate that rests while nothing happens, and a feed of what the node's clients do and
+//! of what time brings (docs/THREADS.md). The rules of pacing are `serve_policy`'s.
 //!
-//! **No wake-up is lost.** Who puts something where a node looks for it, wakes the node behind that: its porter behind a push, a peer
-//! behind the turn that posted to it, or that took a packet of it, so that a box is free again, where the node has said that packets wait for
-//! the peer. It says so a turn before it rests: so the peer sees it, or the turn finds the box free. A wake-up that comes while the node does
-//! not rest ends its next rest at once. So before it rests a turn behind its last rest has found every box empty, and left nothing to post but
-//! what its boxes have no room for; and every ring that was stirred was looked into. What came since has its wake-up before it.
+//! **No wake-up is lost.** A thread that puts something where a node looks for it wakes the node afterwards: the porter after a push; a peer after
+//! a turn in which it posted to the node, or took a packet of the node, so that a box is free again, if the node has said that packets wait for
+//! that peer. The node says so a turn before it rests, so the peer sees it, or the turn finds the box free. A wake-up that comes while the node
+//! does not rest ends its next rest at once. So before the node rests, a turn after its last rest has found every box empty and has left nothing
+//! to post but what its boxes have no room for, and every ring that was stirred was looked into. Whatever came since brings its own wake-up.
 //!
-//! **Wake-ups do not breed others.** A round in which nothing came, and nothing could be posted, wakes nobody; so there are at most two wake-ups
-//! for each packet that moves, one each way, and two idle rounds for each wake-up. Turns count towards a tick only once 10 ms have passed since the
-//! last one was due; so idle rounds, however many wake-ups make them, bring forth no tick.
+//! **Wake-ups cause no further wake-ups.** A round that moves no packet wakes nobody. So there are at most two wake-ups for each packet that moves,
+//! one each way, and two idle rounds for each wake-up. Turns count towards a tick only while beats are due by the clock, so idle rounds, however
+//! many, bring no tick.
 //!
-//! **No node falls far behind.** A majority goes on as fast as it can, and what waits for a slower node is lost once its outbox is full; then it
-//! learns what it lacks tick by tick, and its clients wait. So acts are held back while more than 256 packets wait for a node, for 8 ticks at
-//! the most: a node that stands still holds nobody up for longer.
+//! **No node falls far behind.** A majority goes on as fast as it can. What waits for a slower node is lost once that node's outbox is full; then
+//! the node learns what it lacks tick by tick, and its clients wait. So acts are held back while more than 256 packets wait for a node, for at
+//! most 40 beats: a node that does not run holds nobody up for longer.
 #![tactic(auto)]
 
 mod feed;

@@ -1,10 +1,10 @@
-// Which lane is looked at next. A look goes round all lanes once; a lane in which more may lie is left after some items, and looked at anew
-// behind the others.
+// Which lane is looked at next. A look goes round all lanes once; a lane that may have more is left after some items, and looked at again after
+// the others.
 
 /// How many items in a row are taken out of one lane.
 const ITEMS_A_VISIT: u8 = 8;
 
-// A look: which lane it is at, how many lanes are left in this round, how many items were taken at this one, and whether a further round is due.
+// A look: which lane it is at, how many lanes are left in this round, how many items were taken at this one, and whether one more round is due.
 #[derive(Clone, Copy, Drop)]
 pub(crate) struct Look {
     place: usize,
@@ -14,7 +14,7 @@ pub(crate) struct Look {
 }
 
 impl Look {
-    // No lane is looked at.
+    // Returns a look at no lane.
     pub fn new() -> Look {
         Look {
             place: 0,
@@ -24,17 +24,17 @@ impl Look {
         }
     }
 
-    // Something may lie in any lane.
+    // Begins a new round: any lane may have something.
     pub fn stir(&mut self) {
         self.again = true;
     }
 
-    // Whether a lane is left to be looked at.
+    // Returns whether a lane is left to be looked at.
     pub fn is_on(&self) -> bool {
         self.again || self.left > 0
     }
 
-    // The lane at which it is, of so many; none where it is through.
+    // Returns the lane to look at, of this many; `None` once all were looked at.
     pub fn place(&mut self, lanes: usize) -> Option<usize> {
         if self.left == 0 {
             if !self.again {
@@ -53,7 +53,7 @@ impl Look {
         }
     }
 
-    // An item was taken; answers whether the lane is left for now.
+    // Notes that an item was taken. Returns whether the lane is left for now.
     pub fn took(&mut self) -> bool {
         self.taken = self.taken.saturating_add(1);
         if self.taken < ITEMS_A_VISIT {
@@ -64,7 +64,7 @@ impl Look {
         true
     }
 
-    // The lane is left; answers whether an item was taken there.
+    // Leaves the lane. Returns whether an item was taken there.
     pub fn leave(&mut self) -> bool {
         let took = self.taken > 0;
         self.taken = 0;
@@ -73,7 +73,7 @@ impl Look {
         took
     }
 
-    // The lane is no more; the one behind it has its place.
+    // Notes that the lane was removed: the next one has its place.
     pub fn removed(&mut self) {
         self.taken = 0;
         self.left = self.left.saturating_sub(1);

@@ -1,44 +1,39 @@
 use crate::home::Home;
 use actor_run::Gate;
 use serve_connections::Lobby;
-use serve_ticks::BEATS_A_TICK;
+use serve_policy::{BEAT_MICROS, BEATS_A_TICK, Passed, beats_due, left_to_wait};
 use std::cell::Cell;
 use std::sync::Wait;
 use std::time::{Clock, Duration, Instant};
 
-/// How long a beat is, in milliseconds.
-const BEAT_MILLIS: u64 = 2;
-
-/// How near the end of a beat is to count as reached: a node that is awake then counts together with those that woke it.
-const NEAR_MICROS: u64 = 500;
-
-/// How many rounds with packets make a node expect more before the next tick. A few come with each tick.
+/// After how many rounds with packets a node expects more before the next tick. A few come with each tick.
 const ROUNDS_MOVING: u8 = 16;
 
-/// Each how many rounds a node that does not rest looks at the clock.
+/// After how many rounds each a node that does not rest looks at the clock.
 const ROUNDS_A_LOOK: u64 = 64;
 
-/// For how many milliseconds at the most a node waits for clients that are slow.
-const SLOW_MILLIS: u64 = 80;
-
-/// What the gate and the feed of one node's thread tell each other: which round it is, whether the turn that was judged last was idle, whether
-/// none was judged since the last rest, how many beats are due, how many the feed has counted, whether beats are counted one by one, whether
-/// entries or many packets moved since the last tick, and whether the node has waited for slow clients in vain. It stays on its thread.
+/// What the gate and the feed of one node's thread share. It stays on its thread.
 #[derive(Drop)]
 pub struct Pace {
+    // The number of the round.
     round: Cell<u64>,
+    // Whether the turn that was judged last was idle, and whether none was judged since the last rest.
     is_idle: Cell<bool>,
     is_rested: Cell<bool>,
+    // How many beats are due, and how many the feed has counted since the gate looked at the clock.
     due: Cell<u64>,
     counted: Cell<u64>,
+    // Whether beats are counted one by one.
     is_quick: Cell<bool>,
+    // Whether entries or many packets moved since the last tick, and in how many rounds packets did.
     is_moving: Cell<bool>,
     stirs: Cell<u8>,
+    // Whether the node has waited for slow clients in vain.
     has_waited: Cell<bool>,
 }
 
 impl Pace {
-    /// Before the first round; a tick is due.
+    /// Returns the pace before the first round: a tick is due.
     pub const fn new() -> Pace {
         Pace {
             round: Cell::new(0),
@@ -53,68 +48,68 @@ impl Pace {
         }
     }
 
-    // A round begins.
+    // Begins a round.
     fn begin(&self) {
         self.round.set(self.round.get().wrapping_add(1));
     }
 
-    // The number of the round that began last.
+    // Returns the number of the round that began last.
     pub(crate) fn round(&self) -> u64 {
         self.round.get()
     }
 
-    // The last turn was idle, or it was not. One that came before a rest says nothing of what came since.
+    // Notes whether the last turn was idle. One that came before a rest says nothing of what came since.
     pub(crate) fn judge(&self, is_idle: bool) {
         self.is_idle.set(is_idle && !self.is_rested.get());
         self.is_rested.set(false);
     }
 
-    // The node has rested: what was judged before says nothing of what it was woken for.
+    // Notes that the node has rested: what was judged before says nothing of what it was woken for.
     fn rested(&self) {
         self.is_idle.set(false);
         self.is_rested.set(true);
     }
 
-    // Whether the node is likely to be woken before beats are due: entries or many packets moved since the last tick. The first turn after a
-    // rest comes before any look.
+    // Returns whether the node is likely to be woken before beats are due: entries or many packets moved since the last tick. The first turn
+    // after a rest comes before any look.
     pub(crate) fn expects_more(&self) -> bool {
         self.is_moving() && self.due.get() == 0 && !self.is_rested.get()
     }
 
-    // How many beats are due: turns without a packet count while some are.
+    // Returns how many beats are due: turns without a packet count while some are.
     pub(crate) fn due(&self) -> u64 {
         self.due.get()
     }
 
-    // The beats that were due are counted.
+    // Notes that the beats that were due are counted.
     pub(crate) fn counted(&self) {
         self.counted
             .set(self.counted.get().saturating_add(self.due.get()));
         self.due.set(0);
     }
 
-    // Whether beats are counted one by one, or a tick's together.
+    // Sets whether beats are counted one by one, or a tick's together.
     pub(crate) fn set_quick(&self, is_quick: bool) {
         self.is_quick.set(is_quick);
     }
 
-    // A tick was given.
+    // Notes that a tick was given.
     pub(crate) fn ticked(&self) {
         self.is_moving.set(false);
         self.stirs.set(0);
     }
 
-    // Whether entries or many packets moved since the last tick.
+    // Returns whether entries or many packets moved since the last tick.
     pub(crate) fn is_moving(&self) -> bool {
         self.is_moving.get()
     }
 
-    // Entries are pending, or were applied.
+    // Notes that entries are pending, or were applied.
     pub(crate) fn moved(&self) {
         self.is_moving.set(true);
     }
 
-    // Packets were posted or taken.
+    // Notes that packets were posted or taken.
     pub(crate) fn stirred(&self) {
         let stirs = self.stirs.get().saturating_add(1);
         self.stirs.set(stirs);
@@ -123,34 +118,34 @@ impl Pace {
         }
     }
 
-    // Whether the node has waited in vain for clients that are slow, since the last call.
+    // Returns whether the node has waited in vain for slow clients since the last call.
     pub(crate) fn take_waited(&self) -> bool {
         self.has_waited.replace(false)
     }
 }
 
-/// The gate of a node's thread: it rests if a turn since the last rest was idle and no beats are due, until somebody wakes the node or the
-/// next beats are due; then it asks the caller's gate. One more turn comes between the idle one and the rest; what it may take was put there
-/// after the idle one, and who put it there wakes the node. If entries or many packets moved since the last tick the feed looks first,
-/// between the two, whether the node is woken.
+/// The gate of a node's thread. If a turn since the last rest was idle and no beats are due, it rests until another thread wakes the node or
+/// the next beats are due; then it asks the caller's gate. One more turn comes between the idle one and the rest: what that turn may take was
+/// put there after the idle one, and the thread that put it there wakes the node. If entries or many packets moved since the last tick, the
+/// feed first looks, between the two, whether the node is woken.
 ///
-/// While a client of the node is slow it rests for at most 80 ms, so that the porter takes what waits for the client.
+/// While a client of the node is slow the gate rests for at most 80 ms, so that the porter takes what waits for the client.
 ///
-/// A round costs it some loads, and each 64th one a look at the clock. If the clock cannot be read a tick is always due.
+/// A round costs some loads, and each 64th one a look at the clock. If the clock cannot be read a tick is always due.
 #[derive(Drop)]
 pub struct Paced<'a, R: Wait + Clock, G: Gate> {
     rt: &'a R,
     pace: &'a Pace,
     lobby: &'a Lobby,
     gate: &'a G,
-    // When the beats ended that were counted, and how many did, by the clock.
+    // When the last counted beat ended, and its number since the cluster began.
     last: Cell<Option<Instant>>,
     beat: Cell<u64>,
 }
 
 impl<'a, R: Wait + Clock, G: Gate> Paced<'a, R, G> {
-    /// Over the caller's gate. Beats end each 2 ms from the cluster's beginning on, or from now on if that is not known: nodes that tick
-    /// together wake each other less often.
+    /// Returns a gate that rests before it asks the caller's gate. Beats of 2 ms are counted from the cluster's beginning, or from now if that is
+    /// not known: nodes that tick together wake each other less often.
     pub fn new(rt: &'a R, home: Home<'a>, gate: &'a G) -> Paced<'a, R, G> {
         Paced {
             rt,
@@ -162,33 +157,32 @@ impl<'a, R: Wait + Clock, G: Gate> Paced<'a, R, G> {
         }
     }
 
-    // How long it is until beats are due; zero if some are, which is noted then.
+    // Notes how many beats are due. Returns the time until some are: zero if some are due now.
     fn left(&self) -> Duration {
         let (Ok(now), Some(last)) = (Instant::now(self.rt), self.since()) else {
             self.pace.due.set(BEATS_A_TICK);
             return Duration::ZERO;
         };
-        let passed = now.saturating_duration_since(last);
-        let ended = beats_in(passed);
-        let wanted = self.wanted();
-        if ended < wanted {
-            return time_of(wanted).saturating_sub(passed);
+        let micros = micros_of(now.saturating_duration_since(last));
+        match beats_due(micros, self.beat.get(), self.pace.is_quick.get()) {
+            Passed::Early { left } => Duration::from_micros(left),
+            Passed::Due { skipped, beats } => {
+                self.skip(last, skipped);
+                self.pace.due.set(beats);
+                Duration::ZERO
+            }
         }
-        // Time in which the node stood still is not counted.
-        self.go_on(last, ended.saturating_sub(BEATS_A_TICK));
-        self.pace.due.set(ended.min(BEATS_A_TICK));
-        Duration::ZERO
     }
 
-    // Since when no beat is counted, which the feed may have put off.
+    // Returns the end of the last beat that is counted, those that the feed has counted among them.
     fn since(&self) -> Option<Instant> {
         let last = self.last.get()?;
         let counted = self.pace.counted.replace(0);
-        Some(self.go_on(last, counted))
+        Some(self.skip(last, counted))
     }
 
-    // No beat is counted since so many beats after that moment, which is returned.
-    fn go_on(&self, last: Instant, beats: u64) -> Instant {
+    // Counts `beats` after the end of the last one. Returns their end.
+    fn skip(&self, last: Instant, beats: u64) -> Instant {
         if beats == 0 {
             return last;
         }
@@ -196,15 +190,6 @@ impl<'a, R: Wait + Clock, G: Gate> Paced<'a, R, G> {
         self.last.set(Some(next));
         self.beat.set(self.beat.get().wrapping_add(beats));
         next
-    }
-
-    // How many beats make some due: one, or those that are left of a tick of the cluster.
-    fn wanted(&self) -> u64 {
-        if self.pace.is_quick.get() {
-            1
-        } else {
-            BEATS_A_TICK - self.beat.get() % BEATS_A_TICK
-        }
     }
 
     // Rests until somebody wakes the node or beats are due; at least two turns follow.
@@ -233,24 +218,23 @@ impl<'a, R: Wait + Clock, G: Gate> Paced<'a, R, G> {
         self.pace.rested();
     }
 
-    // How long a wait that began then may go on; not at all if the clock cannot be read.
+    // Returns how long a wait that began then may go on: not at all if the clock cannot be read.
     fn left_of_wait(&self, began: Option<Instant>) -> Duration {
         let (Some(began), Ok(now)) = (began, Instant::now(self.rt)) else {
             return Duration::ZERO;
         };
-        Duration::from_millis(SLOW_MILLIS).saturating_sub(now.saturating_duration_since(began))
+        Duration::from_micros(left_to_wait(micros_of(now.saturating_duration_since(began))))
     }
 }
 
-// How many beats end within this time, one that is near among them.
-fn beats_in(passed: Duration) -> u64 {
-    let near = passed.saturating_add(Duration::from_micros(NEAR_MICROS));
-    u64::try_from(near.as_millis()).unwrap_or(u64::MAX) / BEAT_MILLIS
+// Returns this time in microseconds.
+fn micros_of(time: Duration) -> u64 {
+    u64::try_from(time.as_micros()).unwrap_or(u64::MAX)
 }
 
-// How long this many beats take.
+// Returns how long this many beats take.
 fn time_of(beats: u64) -> Duration {
-    Duration::from_millis(beats.saturating_mul(BEAT_MILLIS))
+    Duration::from_micros(beats.saturating_mul(BEAT_MICROS))
 }
 
 impl<R: Wait + Clock, G: Gate> Gate for Paced<'_, R, G> {

@@ -1,0 +1,85 @@
+// For how many beats acts and ticks are held back for another node.
+use crate::check::Check;
+use serve_policy::{Backpressure, Draining, Gaining};
+use test_checks::check_eq;
+
+// At which beat how many packets wait, and whether acts are held back.
+const BACKPRESSURE: &[(u64, usize, bool)] = &[
+    (0, 256, false),
+    (0, 257, true),
+    (39, 257, true),
+    (40, 257, false),
+    (41, 256, false),
+    (80, 4096, true),
+    (81, 4096, false),
+    (500, 257, false),
+];
+
+#[test]
+fn acts_wait_40_beats_for_a_node_that_falls_behind(rt: HostRuntime) {
+    let mut backpressure = Backpressure::new();
+    for row in BACKPRESSURE {
+        let (beat, waiting, holds) = *row;
+        check_eq!(&rt; backpressure.holds(beat, waiting), holds, *row);
+    }
+}
+
+// At which beat how many packets wait, whether one of them was posted, and whether ticks are held back.
+const DRAINING: &[(u64, usize, bool, bool)] = &[
+    (0, 64, false, false),
+    (39, 65, false, true),
+    (40, 65, false, false),
+    (41, 65, true, true),
+    (80, 4096, false, true),
+    (81, 4096, false, false),
+    (90, 4096, true, true),
+    (91, 64, false, false),
+    (130, 65, false, true),
+    (131, 65, false, false),
+];
+
+#[test]
+fn ticks_wait_40_beats_after_the_last_packet_that_a_node_took(rt: HostRuntime) {
+    let mut draining = Draining::new();
+    for row in DRAINING {
+        let (beat, waiting, is_posted, holds) = *row;
+        check_eq!(&rt; draining.holds(beat, waiting, is_posted), holds, *row);
+    }
+}
+
+// From which slot on a node asks, of one whose log is how long, if it asks; at which beat; and whether acts are held back then.
+const GAINING: &[(Option<(u64, u64)>, u64, bool)] = &[
+    (None, 0, false),
+    (Some((1, 1024)), 5, false),
+    (Some((101, 8292)), 10, true),
+    // Acts are given in one beat of four.
+    (None, 11, true),
+    (None, 12, false),
+    (None, 13, true),
+    (None, 521, true),
+    (Some((201, 9392)), 521, true),
+    (None, 522, false),
+    // It lacks 7,169 of 8,192, and then an eighth less.
+    (Some((1101, 8269)), 530, false),
+    (Some((1101, 8268)), 531, true),
+    (None, 1042, true),
+    (None, 1043, false),
+    // Its log begins anew.
+    (Some((1, 9000)), 1050, true),
+    (Some((7977, 9000)), 1051, false),
+    (Some((7976, 9000)), 1053, true),
+    (None, 1563, true),
+    (None, 1565, false),
+];
+
+#[test]
+fn acts_wait_512_beats_after_a_node_that_lacks_many_has_gained(rt: HostRuntime) {
+    let mut gaining = Gaining::new();
+    for row in GAINING {
+        let (asks, beat, holds) = *row;
+        if let Some((first, applied)) = asks {
+            gaining.asks(beat, first, applied);
+        }
+        check_eq!(&rt; gaining.holds(beat), holds, *row);
+    }
+}

@@ -1,0 +1,22 @@
+//! Tests of the rules by which a served node counts time, over public calls: rows worked out by hand, and three nodes that go by these rules
+//! under drawn delays.
+#![tactic(auto)]
+
+#[cfg(test)]
+mod check;
+#[cfg(test)]
+mod cluster;
+#[cfg(test)]
+mod counting;
+#[cfg(test)]
+mod draws;
+#[cfg(test)]
+mod electing;
+#[cfg(test)]
+mod holding;
+#[cfg(test)]
+mod pacing;
+#[cfg(test)]
+mod timed;
+#[cfg(test)]
+mod voter;

@@ -1,0 +1,132 @@
+// How time becomes beats, how many acts a node gives, and which of its clients it waits for.
+use crate::check::Check;
+use serve_policy::{Admission, Passed, Reader, beats_due, left_to_wait};
+use test_checks::{check, check_eq};
+
+// Beats that are due, of which none was skipped.
+const ONE: Passed = Passed::Due {
+    skipped: 0,
+    beats: 1,
+};
+
+const TWO: Passed = Passed::Due {
+    skipped: 0,
+    beats: 2,
+};
+
+const THREE: Passed = Passed::Due {
+    skipped: 0,
+    beats: 3,
+};
+
+const FIVE: Passed = Passed::Due {
+    skipped: 0,
+    beats: 5,
+};
+
+// How many microseconds passed since the beat with this number; whether beats are counted one by one; and what is due.
+const CLOCK: &[(u64, u64, bool, Passed)] = &[
+    (0, 0, true, Passed::Early { left: 2_000 }),
+    (1_499, 7, true, Passed::Early { left: 501 }),
+    (1_500, 7, true, ONE),
+    (3_499, 7, true, ONE),
+    (3_500, 7, true, TWO),
+    (9_500, 0, true, FIVE),
+    (
+        11_500,
+        0,
+        true,
+        Passed::Due {
+            skipped: 1,
+            beats: 5,
+        },
+    ),
+    (
+        2_000_000,
+        0,
+        true,
+        Passed::Due {
+            skipped: 995,
+            beats: 5,
+        },
+    ),
+    // A tick of the cluster ends with each fifth beat.
+    (1_500, 0, false, Passed::Early { left: 8_500 }),
+    (9_499, 0, false, Passed::Early { left: 501 }),
+    (9_500, 0, false, FIVE),
+    (1_499, 4, false, Passed::Early { left: 501 }),
+    (1_500, 4, false, ONE),
+    (5_499, 12, false, Passed::Early { left: 501 }),
+    (5_500, 12, false, THREE),
+    (
+        u64::MAX,
+        3,
+        false,
+        Passed::Due {
+            skipped: 9_223_372_036_854_771,
+            beats: 5,
+        },
+    ),
+];
+
+#[test]
+fn counts_at_most_five_beats_of_two_milliseconds(rt: HostRuntime) {
+    for row in CLOCK {
+        let (micros, beat, is_quick, wanted) = *row;
+        check_eq!(&rt; beats_due(micros, beat, is_quick), wanted, (micros, beat, is_quick));
+    }
+}
+
+#[test]
+fn waits_for_slow_clients_for_80_milliseconds(rt: HostRuntime) {
+    check_eq!(&rt; left_to_wait(0), 80_000);
+    check_eq!(&rt; left_to_wait(79_999), 1);
+    check_eq!(&rt; left_to_wait(80_000), 0);
+    check_eq!(&rt; left_to_wait(u64::MAX), 0);
+}
+
+#[test]
+fn gives_1000_acts_if_it_leads_and_else_4(rt: HostRuntime) {
+    for (leads, most) in [(true, 1000), (false, 4)] {
+        let mut admission = Admission::new();
+        for _ in 0..2 {
+            for _ in 0..most {
+                admission.see(leads, true);
+                check!(&rt; admission.has_room());
+                admission.give();
+            }
+            check!(&rt; !admission.has_room());
+            // Nothing is pending, so all that was given is done.
+            admission.see(leads, false);
+        }
+    }
+}
+
+// The room for sayings that is left after 64 more were put, whether the node then waits for the client, and whether it has done so in vain.
+const ROOM: &[(usize, bool, bool)] = &[
+    (1024, false, false),
+    (257, false, false),
+    (256, true, false),
+    (0, true, true),
+    (0, false, false),
+    (511, false, false),
+    (256, false, false),
+    (512, false, false),
+    (256, true, false),
+];
+
+#[test]
+fn waits_once_for_a_client_until_it_has_caught_up(rt: HostRuntime) {
+    let mut reader = Reader::new();
+    for row in ROOM {
+        let (room, waits, is_vain) = *row;
+        for _ in 1..64 {
+            check!(&rt; !reader.put());
+        }
+        check!(&rt; reader.put());
+        check_eq!(&rt; reader.judge(room), waits, room);
+        if is_vain {
+            reader.ignore();
+        }
+    }
+}

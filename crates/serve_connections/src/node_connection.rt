@@ -1,0 +1,86 @@
+use crate::lobby::Lobby;
+use crate::shared::SharedConnection;
+use client_listener::{FromClient, ToClient};
+use rtrb::{Consumer, Producer};
+use std::alloc::{AllocError, Global};
+use std::net::TcpStream;
+use std::sync::Arc;
+
+/// The number of a client's items that may wait for its node.
+pub const REQUESTS_WAITING: usize = 64;
+
+/// The number of sayings that may wait for a client.
+pub const SAYINGS_WAITING: usize = 1024;
+
+/// A connection that came, as its node gets it: the ring of what the client sends, the ring of what the client is sent, and the node's hold on
+/// the connection, which is dropped with the arrival.
+///
+/// The first item is `Connect`, once the handshake is done. If the handshake fails, the ring of items is abandoned with nothing in it.
+#[derive(Drop)]
+pub struct Arrival {
+    pub items: Consumer<FromClient>,
+    pub replies: Producer<ToClient>,
+    pub connection: NodeConnection,
+}
+
+/// A node's hold on a client's connection. Only [`NodeConnection::over`] allocates, and no call waits.
+///
+/// After it is dropped, what waits in the ring of sayings is still written, and then the connection ends.
+pub struct NodeConnection {
+    shared: Arc<SharedConnection, Global>,
+}
+
+impl NodeConnection {
+    /// Returns a hold on a connection that no porter serves.
+    pub fn over(alloc: Global, stream: TcpStream) -> Result<NodeConnection, AllocError> {
+        NodeConnection::over_shared(alloc, SharedConnection::new(stream, None))
+    }
+
+    // Returns a hold on a connection that shares this with its porter.
+    pub(crate) fn over_shared(
+        alloc: Global,
+        shared: SharedConnection,
+    ) -> Result<NodeConnection, AllocError> {
+        let shared = Arc::new(alloc, shared)?;
+        Ok(NodeConnection { shared })
+    }
+
+    // Returns what the connection's porter shares with the node.
+    pub(crate) fn shared(&self) -> Result<Arc<SharedConnection, Global>, AllocError> {
+        Arc::try_clone(&self.shared)
+    }
+
+    /// Wakes the porter. For a node that has put sayings into the ring: once after all of a turn.
+    pub fn announce_sayings(&self) {
+        self.shared.ring();
+    }
+
+    /// Wakes the porter if it waits for room in the ring of items. For a node that has taken some.
+    pub fn announce_room(&self) {
+        self.shared.announce_room();
+    }
+
+    /// Counts the client as slow in the lobby of its node, until its porter has taken the sayings that wait. For a node that has put many.
+    pub fn mark_slow(&self, lobby: &Lobby) {
+        self.shared.mark_slow(lobby);
+    }
+
+    /// Counts the client as slow no longer. Returns whether it was.
+    pub fn clear_slow(&self, lobby: &Lobby) -> bool {
+        self.shared.clear_slow(lobby)
+    }
+
+    /// Ends the connection at once: nothing more is read or written.
+    pub fn hang_up(&self) {
+        self.shared.release();
+        self.shared.shut();
+    }
+}
+
+impl Drop for NodeConnection {
+    fn drop(self) {
+        let NodeConnection { shared } = self;
+        shared.release();
+        drop(shared);
+    }
+}

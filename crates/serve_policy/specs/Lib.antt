@@ -1,0 +1,9 @@
+pub mod Admission
+pub mod Backpressure
+pub mod Clock
+pub mod Draining
+pub mod Draws
+pub mod Gaining
+pub mod Reader
+pub mod Signs
+pub mod Ticks

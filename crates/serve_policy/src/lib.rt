@@ -1,0 +1,25 @@
+//! The rules by which a node of a served cluster paces itself: when it ticks, begins a ballot and suspects another node, when it holds acts or
+//! ticks back, how many acts it gives, how long it waits for slow clients, and what it draws. Each rule is a definition in `specs/`.
+//!
+//! The rules see the node's turns and measured times alone: nothing here reads a clock, waits or allocates. Time is counted in *beats* of 2 ms.
+#![tactic(auto)]
+
+mod admission;
+mod backpressure;
+mod clock;
+mod draining;
+mod draws;
+mod gaining;
+mod reader;
+mod ticks;
+mod turn;
+
+pub use admission::Admission;
+pub use backpressure::Backpressure;
+pub use clock::{BEAT_MICROS, BEATS_A_TICK, Passed, beats_due, left_to_wait};
+pub use draining::Draining;
+pub use draws::Draws;
+pub use gaining::Gaining;
+pub use reader::Reader;
+pub use ticks::{Due, Ticks};
+pub use turn::{Sign, Turn};

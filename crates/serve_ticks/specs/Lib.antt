@@ -1,5 +1,0 @@
-pub mod Draining
-pub mod Gaining
-pub mod Keeping
-pub mod Signs
-pub mod Ticks
