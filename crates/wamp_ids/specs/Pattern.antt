@@ -9,7 +9,7 @@ pub record PatternValue : Type 0 where
   pub text : List ℕ
   pub matching : Match
 
--- the pattern of a text and a match, or why there is none
+-- the pattern of a text and a match, or why it is no pattern
 abbrev pub pattern_of : List ℕ → Match → Result PatternValue UriFault
 pattern_of text matching = unless_faulty matching text (record { text = text; matching = matching })
 

@@ -48,14 +48,14 @@ unless_faulty matching text value =
     else (if is_exact matching && has_empty_part text then Err EmptyPart
     else Ok value)))
 
--- the URI of a text, or why there is none: a URI is what an exact pattern is
+-- the URI of a text, or why it is no URI: a URI is what an exact pattern is
 abbrev pub uri_of : List ℕ → Result (List ℕ) UriFault
 uri_of text = unless_faulty Exact text text
 
 abbrev pub IsUri : List ℕ → Type 0
 IsUri text = uri_of text ≡ Ok text
 
--- what is answered is what is wanted; where memory runs out, a URI was wanted
+-- the result is what is wanted; if memory runs out, a URI was wanted
 abbrev pub Reads : {A : Type 0} → Result A UriFault → Result A UriFault → Type 0
 Reads (Err Memory) wanted = IsOk wanted
 Reads given wanted = wanted ≡ given

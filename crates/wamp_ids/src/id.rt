@@ -23,7 +23,7 @@ impl Model for Id {
 }
 
 impl Id {
-    /// The id of this number, or `None` where no id has it.
+    /// Returns the id with this number, or `None` if the number is 0 or above 2^53.
     pub fn new(number: u64) -> Option<Id>
         ensures { result ≡ (if is_id number then Some number else None) }
     {
@@ -34,7 +34,7 @@ impl Id {
         }
     }
 
-    /// The id's number.
+    /// Returns the id's number.
     pub fn get(self) -> u64
         ensures value { result ≡ self }
         ensures range { IsTrue (is_id result) }
@@ -43,7 +43,7 @@ impl Id {
         number
     }
 
-    /// The id that is handed out next: ids go round, after 2^53 comes 1.
+    /// Returns the id to hand out next: one more than this, or 1 after 2^53.
     pub fn next(self) -> Id
         ensures { result ≡ id_after self }
     {

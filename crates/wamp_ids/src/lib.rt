@@ -1,4 +1,4 @@
-//! Ids, URIs, patterns, texts and the words for policies: what every message of WAMP is made of.
+//! Ids, URIs, patterns, texts and policies: what the messages of WAMP are made of.
 #![tactic(auto)]
 
 mod id;

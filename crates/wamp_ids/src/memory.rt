@@ -3,13 +3,13 @@ ghost use Rattle.std.specs.Prelude.{◌≡◌};
 use std::alloc::AllocError;
 use thiserror::Error;
 
-/// No memory was left: the only error of the calls that answer it.
+/// Memory ran out: the only error of the calls that return it.
 #[derive(Clone, Copy, Debug, PartialEq, Eq, Hash, Error)]
 #[error("out of memory")]
 pub struct Memory;
 
 impl Memory {
-    /// The fault's number, 5.
+    /// Returns the fault's number, 5.
     pub fn number(self) -> u8
         ensures { result ≡ 5 }
     {

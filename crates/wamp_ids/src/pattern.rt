@@ -5,15 +5,15 @@ ghost use Rattle.wamp_ids.specs.Pattern.{IsPattern, pattern_of};
 
 use crate::memory::Memory;
 use crate::policy::Match;
-use crate::uri::{UriFault, begins_as_own, check, is_wamp};
+use crate::uri::{UriFault, check, first_part_is_wamp, starts_with_w};
 use std::alloc::Global;
 use std::borrow::CowStr;
 use std::marker::Model;
 use std::str::Split;
 
-/// A text of which URIs are matched, and how: a URI for `Exact`; 0 to 1,024 octets of components joined by `.` for
-/// `Prefix` and `Wildcard`, where components may be empty (WAMP specification, "Pattern-based Subscriptions"). It borrows
-/// its text or owns a copy.
+/// A pattern of URIs: a text, and how it matches. The text is a URI for `Exact`, and for `Prefix` and `Wildcard` 0 to 1,024 octets of
+/// components joined by `.`, where components may be empty (WAMP specification, "Pattern-based Subscriptions"). Borrows its text or owns a
+/// copy.
 #[derive(Debug, Drop)]
 pub struct Pattern<'a> {
     text: CowStr<'a>,
@@ -32,8 +32,8 @@ impl<'a> Model for Pattern<'a> {
 }
 
 impl<'a> Pattern<'a> {
-    /// This text with this match as a pattern that borrows it; takes no memory. The faults come in the order of their numbers,
-    /// without `Memory`; `EmptyPart` comes for `Exact` alone.
+    /// Returns this text with this match as a pattern that borrows the text; does not allocate. An error is the first fault in the order of
+    /// their numbers, never `Memory`; `EmptyPart` comes for `Exact` alone.
     pub fn of(text: &'a str, matching: Match) -> Result<Pattern<'a>, UriFault>
         ensures { result ≡ pattern_of text.now matching }
     {
@@ -44,8 +44,8 @@ impl<'a> Pattern<'a> {
         })
     }
 
-    /// The pattern of this text and match, copied. The faults come in the order of their numbers, `Memory` last. After an
-    /// error there is no pattern, and nothing has changed.
+    /// Returns a pattern with a copy of this text, and with this match. An error is the first fault in the order of their numbers, `Memory`
+    /// last, and changes nothing.
     pub fn read(alloc: Global, text: &str, matching: Match) -> Result<Pattern<'a>, UriFault>
         ensures { Reads result (pattern_of text.now matching) }
     {
@@ -56,7 +56,7 @@ impl<'a> Pattern<'a> {
         })
     }
 
-    /// The pattern's text.
+    /// Returns the pattern's text.
     pub fn as_str(&self) -> &str
         ensures text { result.now ≡ self.now.text }
         ensures pattern { IsPattern self.now }
@@ -64,14 +64,14 @@ impl<'a> Pattern<'a> {
         self.text.as_str()
     }
 
-    /// How the pattern matches.
+    /// Returns how the pattern matches.
     pub fn matching(&self) -> Match
         ensures { result ≡ self.now.matching }
     {
         self.matching
     }
 
-    /// The components, which dots part, first one first.
+    /// Returns the components, which dots separate, in their order.
     pub fn parts(&self) -> Split<'_, char>
         ensures text { split_text result ≡ self.now.text }
         ensures whole { IsTrue (split_has_more result) }
@@ -80,21 +80,21 @@ impl<'a> Pattern<'a> {
         self.text.as_str().split('.')
     }
 
-    /// The component at this place, counted from 0.
+    /// Returns the component at this place, counted from 0; `None` if there are not as many.
     pub fn part(&self, place: usize) -> Option<&str>
         ensures { option_map (λ part. part.now) result ≡ slice_get (parts self.now.text) place }
     {
         self.parts().nth(place)
     }
 
-    /// Whether the first component is `wamp`: such patterns are the router's own.
+    /// Returns whether the first component is `wamp`: such patterns are reserved for the router.
     pub fn is_reserved(&self) -> bool
         ensures { result ≡ is_reserved self.now.text }
     {
-        begins_as_own(self.as_str()) && is_wamp(self.part(0))
+        starts_with_w(self.as_str()) && first_part_is_wamp(self.part(0))
     }
 
-    /// An equal pattern with a text of its own. Where memory runs out there is none, and nothing has changed.
+    /// Returns an equal pattern that owns its text. If memory runs out, returns `Memory` and changes nothing.
     pub fn copy(&self, alloc: Global) -> Result<Pattern<'static>, Memory>
         ensures { IfOk result (λ made. made ≡ self.now) }
     {
@@ -104,7 +104,7 @@ impl<'a> Pattern<'a> {
         })
     }
 
-    /// Whether the two have one text and one match; takes no memory.
+    /// Returns whether the two have the same text and the same match; does not allocate.
     pub fn same(&self, other: &Pattern<'_>) -> bool
         ensures { IsTrue result ↔ (self.now ≡ other.now) }
     {

@@ -4,7 +4,7 @@ use crate::memory::Memory;
 use std::alloc::Global;
 use std::marker::Model;
 
-/// A text of a message, that contracts see as its octets.
+/// A text of a message. Contracts see its octets.
 #[derive(Debug)]
 pub struct Text {
     text: String,
@@ -23,7 +23,7 @@ impl Model for Text {
 }
 
 impl Text {
-    /// The text of these characters, copied. Where memory runs out there is none, and nothing has changed.
+    /// Returns a copy of this text. If memory runs out, returns `Memory` and changes nothing.
     pub fn new(alloc: Global, text: &str) -> Result<Text, Memory>
         ensures { IfOk result (λ made. made ≡ text.now) }
     {
@@ -32,14 +32,14 @@ impl Text {
         })
     }
 
-    /// The text as `str`; takes no memory.
+    /// Returns the text as `str`; does not allocate.
     pub fn as_str(&self) -> &str
         ensures { result.now ≡ self.now }
     {
         self.text.as_str()
     }
 
-    /// An equal text, in memory of the same allocator. Where memory runs out there is none, and nothing has changed.
+    /// Returns an equal text in memory of the same allocator. If memory runs out, returns `Memory` and changes nothing.
     pub fn copy(&self) -> Result<Text, Memory>
         ensures { IfOk result (λ made. made ≡ self.now) }
     {
@@ -48,7 +48,7 @@ impl Text {
         })
     }
 
-    /// Whether the two are equal; takes no memory.
+    /// Returns whether the two are equal; does not allocate.
     pub fn same(&self, other: &Text) -> bool
         ensures { IsTrue result ↔ (self.now ≡ other.now) }
     {

@@ -33,7 +33,7 @@ pub enum UriFault {
 }
 
 impl UriFault {
-    /// The fault's number, 1 to 5.
+    /// Returns the fault's number, 1 to 5.
     pub fn number(self) -> u8
         ensures { result ≡ number_of self }
     {
@@ -57,9 +57,8 @@ impl From<AllocError> for UriFault {
     }
 }
 
-/// A URI of WAMP by the loose rules: 1 to 1,024 octets of components joined by `.`, a component being one or more
-/// characters that are not white space, `.` or `#` (WAMP specification, "URIs"). It borrows its text or owns a
-/// copy.
+/// A URI of WAMP by the loose rules: 1 to 1,024 octets of components joined by `.`, a component being one or more characters that are not
+/// white space, `.` or `#` (WAMP specification, "URIs"). Borrows its text or owns a copy.
 #[derive(Debug, Drop)]
 pub struct Uri<'a> {
     text: CowStr<'a>,
@@ -74,7 +73,8 @@ impl<'a> Model for Uri<'a> {
 }
 
 impl<'a> Uri<'a> {
-    /// This text as a URI that borrows it; takes no memory. The faults come in the order of their numbers, without `Memory`.
+    /// Returns this text as a URI that borrows it; does not allocate. An error is the first fault in the order of their numbers, never
+    /// `Memory`.
     pub fn of(text: &'a str) -> Result<Uri<'a>, UriFault>
         ensures { result ≡ uri_of text.now }
     {
@@ -84,8 +84,8 @@ impl<'a> Uri<'a> {
         })
     }
 
-    /// The URI of this text, copied. The faults come in the order of their numbers, `Memory` last. After an error there is
-    /// no URI, and nothing has changed.
+    /// Returns a URI with a copy of this text. An error is the first fault in the order of their numbers, `Memory` last, and changes
+    /// nothing.
     pub fn read(alloc: Global, text: &str) -> Result<Uri<'a>, UriFault>
         ensures { Reads result (uri_of text.now) }
     {
@@ -95,7 +95,7 @@ impl<'a> Uri<'a> {
         })
     }
 
-    /// The URI's text.
+    /// Returns the URI's text.
     pub fn as_str(&self) -> &str
         ensures text { result.now ≡ self.now }
         ensures uri { IsUri result.now }
@@ -103,7 +103,7 @@ impl<'a> Uri<'a> {
         self.text.as_str()
     }
 
-    /// The components, which dots part, first one first.
+    /// Returns the components, which dots separate, in their order.
     pub fn parts(&self) -> Split<'_, char>
         ensures text { split_text result ≡ self.now }
         ensures whole { IsTrue (split_has_more result) }
@@ -112,21 +112,21 @@ impl<'a> Uri<'a> {
         self.text.as_str().split('.')
     }
 
-    /// The component at this place, counted from 0.
+    /// Returns the component at this place, counted from 0; `None` if there are not as many.
     pub fn part(&self, place: usize) -> Option<&str>
         ensures { option_map (λ part. part.now) result ≡ slice_get (parts self.now) place }
     {
         self.parts().nth(place)
     }
 
-    /// Whether the first component is `wamp`: such URIs are the router's own.
+    /// Returns whether the first component is `wamp`: such URIs are reserved for the router.
     pub fn is_reserved(&self) -> bool
         ensures { result ≡ is_reserved self.now }
     {
-        begins_as_own(self.as_str()) && is_wamp(self.part(0))
+        starts_with_w(self.as_str()) && first_part_is_wamp(self.part(0))
     }
 
-    /// An equal URI with a text of its own. Where memory runs out there is none, and nothing has changed.
+    /// Returns an equal URI that owns its text. If memory runs out, returns `Memory` and changes nothing.
     pub fn copy(&self, alloc: Global) -> Result<Uri<'static>, Memory>
         ensures { IfOk result (λ made. made ≡ self.now) }
     {
@@ -135,7 +135,7 @@ impl<'a> Uri<'a> {
         })
     }
 
-    /// Whether the two are equal; takes no memory.
+    /// Returns whether the two are equal; does not allocate.
     pub fn same(&self, other: &Uri<'_>) -> bool
         ensures { IsTrue result ↔ (self.now ≡ other.now) }
     {
@@ -143,7 +143,7 @@ impl<'a> Uri<'a> {
     }
 }
 
-// Whether a text with this match is a pattern, or the first cause why it is none; takes no memory.
+// Judges a text with this match: an error is the first cause why it is no pattern, never `Memory`. Does not allocate.
 pub(crate) fn check(text: &str, matching: Match) -> Result<(), UriFault>
     ensures { result ≡ unless_faulty matching text.now tt }
 {
@@ -165,17 +165,17 @@ pub(crate) fn check(text: &str, matching: Match) -> Result<(), UriFault>
     Ok(())
 }
 
-// Whether a text begins with the octet of the router's own; of nearly all others it tells that they are not.
+// Returns whether a text starts with `w`, as every reserved one does: one look rules out nearly all others.
 #[tactic(auto, using(crate::proofs::Glance::not_own))]
-pub(crate) fn begins_as_own(text: &str) -> bool
+pub(crate) fn starts_with_w(text: &str) -> bool
     ensures { result ≡ false → is_reserved text.now ≡ false }
 {
     let octets = text.as_bytes();
     !octets.is_empty() && octets[0] == b'w'
 }
 
-// Whether this first component makes a text the router's own.
-pub(crate) fn is_wamp(part: Option<&str>) -> bool
+// Returns whether this first component makes a text reserved.
+pub(crate) fn first_part_is_wamp(part: Option<&str>) -> bool
     ensures { result ≡ is_wamp (option_map (λ text. text.now) part.entry) }
 {
     match part {
@@ -184,34 +184,34 @@ pub(crate) fn is_wamp(part: Option<&str>) -> bool
     }
 }
 
-// Whether one glance at the text shows that it breaks no rule of any match, as with nearly all texts.
+// Returns whether one pass over the text shows that it breaks no rule of any match, as it does for nearly all texts.
 #[tactic(auto, using(crate::proofs::Glance::glance_shows))]
 fn is_plain(text: &str) -> bool
     ensures { OnTrue result ((has_space text.now ≡ false)
         × (has_hash text.now ≡ false) × (has_empty_part text.now ≡ false)) }
 {
-    are_plain(text.as_bytes())
+    is_plain_ascii(text.as_bytes())
 }
 
-// Whether all are visible octets of ASCII without `#`, and none of the components that dots part is empty.
-fn are_plain(octets: &[u8]) -> bool
+// Returns whether all octets are visible ASCII other than `#`, and none of the components that dots separate is empty.
+fn is_plain_ascii(octets: &[u8]) -> bool
     ensures { result ≡ is_plain true octets.now }
 {
-    let mut begins = true;
+    let mut at_start = true;
     for octet in octets {
         if *octet == b'.' {
-            if begins {
+            if at_start {
                 return false;
             }
-            begins = true;
+            at_start = true;
         } else {
             if !is_visible(*octet) {
                 return false;
             }
-            begins = false;
+            at_start = false;
         }
     }
-    !begins
+    !at_start
 }
 
 fn is_visible(octet: u8) -> bool

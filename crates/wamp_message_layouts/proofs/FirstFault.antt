@@ -5,13 +5,13 @@ use Rattle.serde_json.specs.Data.{Items, no_items, item}
 use Rattle.wamp_values.specs.declared.args.Args.{Args}
 use Rattle.wamp_message_layouts.specs.declared.elements.Given.{Given}
 use Rattle.wamp_message_layouts.specs.declared.elements.Given.TheVariants.{TooMany, Misshapen, Inexact, Fit}
-use Rattle.wamp_message_layouts.specs.declared.fault.MessageFault.{MessageFault}
-use Rattle.wamp_message_layouts.specs.declared.fault.MessageFault.TheVariants.{Length, Shape, IdRange}
+use Rattle.wamp_message_types.specs.declared.fault.MessageFault.{MessageFault}
+use Rattle.wamp_message_types.specs.declared.fault.MessageFault.TheVariants.{Length, Shape, IdRange}
 use Rattle.wamp_message_layouts.specs.Elements.{args_given}
 use Rattle.wamp_message_layouts.specs.Layouts.{Kind, Tail, nothing_more, arguments, Layout, has_front, behind, are_shaped, are_in_range, args_taken}
 use Rattle.wamp_message_layouts.specs.Layouts.{tail_taken, are_few, are_args, checked, checked_with, taken, first_fault}
 
--- the fault that was answered
+-- the fault that was returned
 abbrev pub fault_in : {T : Type 0} → Result T MessageFault → Option MessageFault
 fault_in (Ok x) = None
 fault_in (Err fault) = Some fault
@@ -23,7 +23,7 @@ abbrev behind_tail : Result (Option Args) MessageFault → Option MessageFault �
 behind_tail (Err fault) more = Some fault
 behind_tail (Ok args) more = more
 
--- the first fault, by the tests that stand in its definition
+-- the first fault, by the tests in its definition
 abbrev first : Bool → Bool → Bool → Bool → Bool → Option MessageFault
 first front few shaped args ranged =
     if not (front && few) then Some Length

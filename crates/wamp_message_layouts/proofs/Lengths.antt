@@ -3,7 +3,7 @@ use Rattle.std.proofs.Common.{◌≡◌, ℕ, Bool, false, refl, List}
 use Rattle.std.specs.Prelude.{Err}
 use Rattle.serde_json.specs.Data.{Data, Items, no_items, item}
 use Rattle.wamp_message_layouts.specs.declared.elements.Given.{Given}
-use Rattle.wamp_message_layouts.specs.declared.fault.MessageFault.TheVariants.{Length}
+use Rattle.wamp_message_types.specs.declared.fault.MessageFault.TheVariants.{Length}
 use Rattle.wamp_message_layouts.specs.Elements.{is_one, is_two, is_three, has_two, has_three, has_four, args_given}
 use Rattle.wamp_message_layouts.specs.Layouts.{taken, checked_with, args_taken, two_ids, two_ids_of, text_dictionary, named_of, id_dictionary, numbered_of}
 use Rattle.wamp_message_layouts.specs.Layouts.{dictionary_text, dictionary_text_args, reason_of, id_dictionary_text, id_dictionary_text_args}
@@ -82,7 +82,7 @@ id_dictionary_args_length may_be_inexact no_items h = refl
 id_dictionary_args_length may_be_inexact (item a no_items) h = refl
 id_dictionary_args_length may_be_inexact (item a (item b ds)) h = cc
 
--- the first two elements and what is given behind them are all that is taken
+-- the first two elements and what is given after them are all that is taken
 pub id_dictionary_args_taken : (may_be_inexact : Bool) (ds es : Items) (a b : Data) (given : Given)
     → ds ≡ item a (item b es) → given ≡ args_given es
     → checked_with (id_dictionary_args may_be_inexact).kinds (answer_of (item a (item b no_items))) (item a (item b no_items))

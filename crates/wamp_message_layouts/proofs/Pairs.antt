@@ -1,4 +1,4 @@
--- What is given where two elements are left, a list and a dictionary.
+-- What is given if two elements are left, a list and a dictionary.
 use Rattle.std.proofs.Common.{◌≡◌, Bool, true, false, refl}
 use Rattle.std.specs.Prelude.{not, ◌&&◌, nat_le, Result, Ok, Err, if◌then◌else◌}
 use Rattle.serde_json.specs.Data.{Data, no_items, item, depth}
@@ -10,7 +10,7 @@ use Rattle.wamp_values.specs.declared.fault.ValueFault.TheVariants.{Number, Deep
 use Rattle.wamp_message_layouts.specs.declared.elements.Given.TheVariants.{Misshapen, Inexact, Fit}
 use Rattle.wamp_message_layouts.specs.Elements.{is_list, is_dictionary, args_given}
 
--- the payload, by the two tests that stand in its definition
+-- the payload, by the two tests in its definition
 abbrev judged : Bool → Bool → Data → Result Data ValueFault
 judged float near d = if float then Err Number else (if near then Ok d else Err Deep)
 

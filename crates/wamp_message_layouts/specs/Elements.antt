@@ -10,6 +10,8 @@ use Rattle.serde_json.specs.declared.value.Value.{Value}
 use Rattle.wamp_ids.specs.Id.{is_id}
 use Rattle.wamp_values.specs.declared.args.Args.TheVariants.{Nothing, List as Listed, Both}
 use Rattle.wamp_values.specs.Payload.{is_fit}
+use Rattle.wamp_message_types.specs.declared.request_kind.RequestKind.{RequestKind}
+use Rattle.wamp_message_types.specs.RequestKind.{kind_of}
 use Rattle.wamp_message_layouts.specs.declared.elements.Given.{Given}
 use Rattle.wamp_message_layouts.specs.declared.elements.Given.TheVariants.{TooMany, Misshapen, Inexact, Fit}
 
@@ -25,7 +27,7 @@ nth (suc n) (item d ds) = nth n ds
 
 -- ---- one element
 
--- a whole number, as far as one is kept exactly: what may stand in the place of an id
+-- a whole number, as far as one is kept exactly: what may be in the place of an id
 abbrev pub is_whole : Data → Bool
 is_whole (number (unsigned n)) = true
 is_whole (number (negative z)) = true
@@ -50,6 +52,11 @@ is_dictionary d = is_some (as_object d)
 
 abbrev pub is_list : Data → Bool
 is_list d = is_some (as_array d)
+
+-- the kind of request that an ERROR names
+abbrev pub kind_in : Data → Option RequestKind
+kind_in (number (unsigned n)) = kind_of n
+kind_in d = None
 
 -- ---- Arguments and ArgumentsKw, at the end of a message: nothing, a list, or a list and a dictionary
 

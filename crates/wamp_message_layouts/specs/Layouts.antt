@@ -1,5 +1,5 @@
--- Layouts as data: which kinds of elements a message has behind its code, and what is taken of an array of that layout (WAMP
--- specification, "Message Definitions"; the faults and their order are this profile's: docs/PROTOCOL.md, "Reading").
+-- Layouts as data: which kinds of elements a message has after its code, and what is taken of an array of that layout (WAMP specification,
+-- "Message Definitions"; the faults and their order are this profile's: docs/PROTOCOL.md, "Reading").
 use Rattle.std.specs.Prelude.{ℕ, zero, suc, Bool, true, false, not, ◌&&◌, List, [], ◌∷◌, Option, Some, None, Result, Ok, Err}
 use Rattle.std.specs.Prelude.{is_some, option_and_then, unwrap_or, if◌then◌else◌}
 use Rattle.serde_json.specs.Data.{Data, Items, no_items, item}
@@ -11,10 +11,10 @@ use Rattle.wamp_values.specs.declared.args.Args.{Args}
 use Rattle.wamp_values.specs.declared.args.Args.TheVariants.{Nothing}
 use Rattle.wamp_message_layouts.specs.declared.elements.Given.{Given}
 use Rattle.wamp_message_layouts.specs.declared.elements.Given.TheVariants.{TooMany, Misshapen, Inexact, Fit}
-use Rattle.wamp_message_layouts.specs.declared.fault.MessageFault.{MessageFault}
-use Rattle.wamp_message_layouts.specs.declared.fault.MessageFault.TheVariants.{Length, Shape, IdRange}
-use Rattle.wamp_message_layouts.specs.declared.request_kind.RequestKind.{RequestKind}
-use Rattle.wamp_message_layouts.specs.declared.request_kind.RequestKind.TheVariants as kind
+use Rattle.wamp_message_types.specs.declared.fault.MessageFault.{MessageFault}
+use Rattle.wamp_message_types.specs.declared.fault.MessageFault.TheVariants.{Length, Shape, IdRange}
+use Rattle.wamp_message_types.specs.declared.request_kind.RequestKind.{RequestKind}
+use Rattle.wamp_message_types.specs.declared.request_kind.RequestKind.TheVariants as kind
 use Rattle.wamp_message_layouts.specs.declared.layouts.TwoIds.{TwoIds}
 use Rattle.wamp_message_layouts.specs.declared.layouts.NamedDetails.{NamedDetails}
 use Rattle.wamp_message_layouts.specs.declared.layouts.NumberedDetails.{NumberedDetails}
@@ -24,26 +24,26 @@ use Rattle.wamp_message_layouts.specs.declared.layouts.Reason.{Reason}
 use Rattle.wamp_message_layouts.specs.declared.layouts.UriRequest.{UriRequest}
 use Rattle.wamp_message_layouts.specs.declared.layouts.Labelled.{Labelled}
 use Rattle.wamp_message_layouts.specs.declared.refusal.Refusal.{Refusal}
-use Rattle.wamp_message_layouts.specs.RequestKind.{kind_in, is_invocation}
-use Rattle.wamp_options.specs.Options.{mode_named}
-use Rattle.wamp_message_layouts.specs.Elements.{nth, is_whole, id_in, id_of, is_text, text_of, is_dictionary, args_given}
+use Rattle.wamp_message_types.specs.RequestKind.{is_invocation}
+use Rattle.wamp_values.specs.Options.{mode_named}
+use Rattle.wamp_message_layouts.specs.Elements.{nth, is_whole, id_in, id_of, is_text, text_of, is_dictionary, kind_in, args_given}
 
--- what stands in one place
+-- what is in one place
 pub data Kind : Type 0 where
   id : Kind
   text : Kind
   dictionary : Kind
-  -- a dictionary in which a text may stand at this key, and nothing else
+  -- a dictionary that may have a text at this key, and nothing else there
   labelled : (key : List ℕ) → Kind
   -- the code of a kind of request
   request : Kind
   -- a dictionary whose `mode` is the name of one
   mode : Kind
 
--- what stands behind those
+-- what follows those
 pub data Tail : Type 0 where
   nothing_more : Tail
-  -- Arguments and ArgumentsKw; a number that is not kept exactly may stand there, or counts as another type
+  -- Arguments and ArgumentsKw; a number that is not kept exactly is allowed there, or counts as another type
   arguments : (may_be_inexact : Bool) → Tail
 
 pub record Layout : Type 0 where
@@ -79,7 +79,7 @@ has_front [] ds = true
 has_front (k ∷ ks) no_items = false
 has_front (k ∷ ks) (item d ds) = has_front ks ds
 
--- the elements behind those places
+-- the elements after those places
 abbrev pub behind : List Kind → Items → Items
 behind [] ds = ds
 behind (k ∷ ks) no_items = no_items
@@ -97,7 +97,7 @@ are_in_range (k ∷ ks) (item d ds) = is_in_range k d && are_in_range ks ds
 
 -- ---- what is taken
 
--- the arguments at the end, None where there is no place for any or some number is not kept exactly
+-- the arguments at the end; None if there is no place for any, or some number is not kept exactly
 abbrev pub args_taken : Bool → Given → Result (Option Args) MessageFault
 args_taken may_be_inexact TooMany = Err Length
 args_taken may_be_inexact Misshapen = Err Shape
@@ -203,7 +203,7 @@ pub record Numbered : Type 0 where
 abbrev pub numbered_of : Items → Option Args → Numbered
 numbered_of ds given = record { id = id_of (nth 0 ds); details = nth 1 ds }
 
--- Request, Options whose mode is told
+-- Request, Options that name a mode
 abbrev pub id_mode : Layout
 id_mode = record { kinds = id ∷ mode ∷ []; tail = nothing_more }
 
@@ -260,7 +260,7 @@ labelled_of key ds given = record {
   args = unwrap_or given Nothing;
 }
 
--- Type, Request, Details, Error, and Args, which may be unfit where the ERROR answers an invocation
+-- Type, Request, Details, Error, and Args, which may be unfit if the ERROR answers an invocation
 abbrev pub answers_invocation : Option RequestKind → Bool
 answers_invocation None = false
 answers_invocation (Some kind) = is_invocation kind

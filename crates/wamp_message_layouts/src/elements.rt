@@ -1,18 +1,19 @@
-// The elements of a message's array are taken out of it one after another; none is copied.
+// Readers of the elements of a message's array. They are moved out one after another; none is copied.
 ghost use Rattle.std.specs.Prelude.{◌≡◌, ◌&&◌, MatchOption, false, if◌then◌else◌};
 ghost use Rattle.serde_json.specs.Data.{no_items, item};
 ghost use Rattle.serde_json.specs.View.{view};
 ghost use Rattle.wamp_message_layouts.specs.Elements.{elements, is_one, is_two, is_three, has_two, has_three, has_four};
-ghost use Rattle.wamp_message_layouts.specs.Elements.{args_given, is_list, is_dictionary, is_whole, id_in};
+ghost use Rattle.wamp_message_layouts.specs.Elements.{args_given, is_list, is_dictionary, is_whole, id_in, kind_in};
 ghost use Rattle.wamp_message_layouts.specs.declared.elements.Given.TheVariants.{Misshapen, Fit};
 ghost use Rattle.wamp_values.specs.declared.args.Args.TheVariants.{Both};
 
 use serde_json::Value;
 use std::vec::IntoIter;
 use wamp_ids::Id;
+use wamp_message_types::RequestKind;
 use wamp_values::{Args, Arguments, ArgumentsKw, Payload};
 
-// What stands in the place of arguments, at a message's end.
+// What a message has at its end, in the place of arguments.
 #[derive(Drop)]
 pub(crate) enum Given {
     // More elements than a list and a dictionary.
@@ -24,7 +25,7 @@ pub(crate) enum Given {
     Fit(Args),
 }
 
-// The element that is left, if there is one.
+// Takes the one element that is left; `None` if there is none, or more than one.
 pub(crate) fn exactly_one(mut rest: IntoIter<Value>) -> Option<Value>
     ensures { MatchOption result (is_one (elements rest) ≡ false)
         (λ only. elements rest ≡ item (view only) no_items) }
@@ -37,7 +38,7 @@ pub(crate) fn exactly_one(mut rest: IntoIter<Value>) -> Option<Value>
     Some(first)
 }
 
-// The two elements that are left, if there are two.
+// Takes the two elements that are left; `None` if there are fewer or more.
 pub(crate) fn exactly_two(mut rest: IntoIter<Value>) -> Option<(Value, Value)>
     ensures { MatchOption result (is_two (elements rest) ≡ false)
         (λ all. elements rest ≡ item (view all.0) (item (view all.1) no_items)) }
@@ -54,7 +55,7 @@ pub(crate) fn exactly_two(mut rest: IntoIter<Value>) -> Option<(Value, Value)>
     Some((first, second))
 }
 
-// The three elements that are left, if there are three.
+// Takes the three elements that are left; `None` if there are fewer or more.
 pub(crate) fn exactly_three(mut rest: IntoIter<Value>) -> Option<(Value, Value, Value)>
     ensures { MatchOption result (is_three (elements rest) ≡ false)
         (λ all. elements rest ≡ item (view all.0) (item (view all.1) (item (view all.2) no_items))) }
@@ -76,7 +77,7 @@ pub(crate) fn exactly_three(mut rest: IntoIter<Value>) -> Option<(Value, Value, 
     Some((first, second, third))
 }
 
-// The next two elements.
+// Takes the next two elements.
 pub(crate) fn two(rest: &mut IntoIter<Value>) -> Option<(Value, Value)>
     ensures { MatchOption result (has_two (elements rest.old) ≡ false)
         (λ some. elements rest.old ≡ item (view some.0) (item (view some.1) (elements rest.new))) }
@@ -86,7 +87,7 @@ pub(crate) fn two(rest: &mut IntoIter<Value>) -> Option<(Value, Value)>
     Some((first, second))
 }
 
-// The next three elements.
+// Takes the next three elements.
 #[inline(always)]
 pub(crate) fn three(rest: &mut IntoIter<Value>) -> Option<(Value, Value, Value)>
     ensures { MatchOption result (has_three (elements rest.old) ≡ false)
@@ -99,7 +100,7 @@ pub(crate) fn three(rest: &mut IntoIter<Value>) -> Option<(Value, Value, Value)>
     Some((first, second, third))
 }
 
-// The next four elements.
+// Takes the next four elements.
 pub(crate) fn four(rest: &mut IntoIter<Value>) -> Option<(Value, Value, Value, Value)>
     ensures { MatchOption result (has_four (elements rest.old) ≡ false)
         (λ some. elements rest.old
@@ -122,7 +123,7 @@ pub(crate) fn four(rest: &mut IntoIter<Value>) -> Option<(Value, Value, Value, V
     Some((first, second, third, fourth))
 }
 
-// The elements that are left, as arguments.
+// Takes the elements that are left, as arguments.
 #[inline(always)]
 pub(crate) fn arguments(mut rest: IntoIter<Value>) -> Given
     ensures { result ≡ args_given (elements rest) }
@@ -175,7 +176,7 @@ fn both(list: Value, dictionary: Value) -> Given
     both_fit(list, dictionary)
 }
 
-// Two payloads, as arguments where they have the shape of these.
+// Returns two payloads as arguments, if they are a list and a dictionary.
 fn both_fit(list: Payload, dictionary: Payload) -> Given
     ensures { result ≡ (if is_list list && is_dictionary dictionary then Fit (Both list dictionary) else Misshapen) }
 {
@@ -200,4 +201,11 @@ pub(crate) fn id_in(value: &Value) -> Option<Id>
     ensures { result ≡ id_in (view value.now) }
 {
     Id::new(value.as_u64()?)
+}
+
+// Returns the kind of request whose code the element is.
+pub(crate) fn kind_in(value: &Value) -> Option<RequestKind>
+    ensures { result ≡ kind_in (view value.now) }
+{
+    RequestKind::of_code(value.as_u64()?)
 }

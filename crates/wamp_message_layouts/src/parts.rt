@@ -1,4 +1,4 @@
-// Parts of messages, written.
+// Writers of the parts of messages.
 ghost use Rattle.std.specs.Prelude.{◌≡◌, ◌∷◌, [], true, codes, OnOk, decimal};
 ghost use Rattle.json.specs.Token.{begin_array, begin_object, end_object, number, key, boolean};
 ghost use Rattle.serde_json.specs.Data.{string, boolean as boolean_value};
@@ -11,7 +11,7 @@ use std::alloc::AllocError;
 use wamp_ids::Text;
 use wamp_values::Args;
 
-/// The array's bracket and the message's code.
+/// Writes the array's bracket and the message's code.
 pub fn begin(code: u64, out: &mut Writer) -> Result<(), AllocError>
     ensures { Appends result out.old out.new (begin_array ∷ number (decimal code) ∷ []) }
 {
@@ -19,7 +19,7 @@ pub fn begin(code: u64, out: &mut Writer) -> Result<(), AllocError>
     out.u64(code)
 }
 
-/// The arguments, and the bracket that ends the message.
+/// Writes the arguments, and the bracket that ends the message.
 #[tactic(auto, using(wamp_values::proofs::Texts::close_args))]
 pub fn end(args: &Args, out: &mut Writer) -> Result<(), AllocError>
     ensures tokens { Appends result out.old out.new (list_tokens (args_items args.now)) }
@@ -29,7 +29,7 @@ pub fn end(args: &Args, out: &mut Writer) -> Result<(), AllocError>
     out.end_array()
 }
 
-/// An object up to its first value.
+/// Writes an object up to its first value.
 pub fn open(name: &str, out: &mut Writer) -> Result<(), AllocError>
     ensures { Appends result out.old out.new (begin_object ∷ key name.now ∷ []) }
 {
@@ -37,7 +37,7 @@ pub fn open(name: &str, out: &mut Writer) -> Result<(), AllocError>
     out.key(name)
 }
 
-/// An object in an object, up to the inner one's first key.
+/// Writes an object in an object, up to the inner one's first key.
 pub fn open_within(name: &str, out: &mut Writer) -> Result<(), AllocError>
     ensures { Appends result out.old out.new (begin_object ∷ key name.now ∷ begin_object ∷ []) }
 {
@@ -45,7 +45,7 @@ pub fn open_within(name: &str, out: &mut Writer) -> Result<(), AllocError>
     out.begin_object()
 }
 
-/// The brackets of two objects.
+/// Closes two objects.
 pub fn close_two(out: &mut Writer) -> Result<(), AllocError>
     ensures { Appends result out.old out.new (end_object ∷ end_object ∷ []) }
 {
@@ -53,7 +53,7 @@ pub fn close_two(out: &mut Writer) -> Result<(), AllocError>
     out.end_object()
 }
 
-/// An empty dictionary.
+/// Writes an empty dictionary.
 pub fn put_nothing(out: &mut Writer) -> Result<(), AllocError>
     ensures { Appends result out.old out.new (data_tokens nothing) }
 {
@@ -61,7 +61,7 @@ pub fn put_nothing(out: &mut Writer) -> Result<(), AllocError>
     out.end_object()
 }
 
-/// A dictionary of one text.
+/// Writes a dictionary of one text.
 pub fn put_text_option(name: &str, text: &str, out: &mut Writer) -> Result<(), AllocError>
     ensures { Appends result out.old out.new (data_tokens (only name.now (string text.now))) }
 {
@@ -70,7 +70,7 @@ pub fn put_text_option(name: &str, text: &str, out: &mut Writer) -> Result<(), A
     out.end_object()
 }
 
-/// A dictionary of one truth value.
+/// Writes a dictionary of one truth value.
 pub fn put_flag_option(name: &str, flag: bool, out: &mut Writer) -> Result<(), AllocError>
     ensures { Appends result out.old out.new (data_tokens (only name.now (boolean_value flag))) }
 {
@@ -79,7 +79,7 @@ pub fn put_flag_option(name: &str, flag: bool, out: &mut Writer) -> Result<(), A
     out.end_object()
 }
 
-/// A feature that is announced.
+/// Writes a feature as announced.
 pub fn put_feature(name: &str, out: &mut Writer) -> Result<(), AllocError>
     ensures { Appends result out.old out.new (key name.now ∷ boolean true ∷ []) }
 {
@@ -87,7 +87,7 @@ pub fn put_feature(name: &str, out: &mut Writer) -> Result<(), AllocError>
     out.boolean(true)
 }
 
-/// The dictionary that names this text at that key, if there is a text.
+/// Writes a dictionary with this text at that key, or an empty one if there is no text.
 pub fn put_label(name: &str, label: &Option<Text>, out: &mut Writer) -> Result<(), AllocError>
     ensures { Appends result out.old out.new (data_tokens (label_details name.now label.now)) }
 {

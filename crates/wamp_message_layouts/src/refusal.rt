@@ -1,18 +1,16 @@
-// What is taken of the array of a message that refuses a request.
+// The reader of the layout of ERROR, which refuses a request.
 ghost use Rattle.std.specs.Prelude.{◌≡◌};
 ghost use Rattle.serde_json.specs.Data.{no_items, item};
 ghost use Rattle.serde_json.specs.View.{view};
-ghost use Rattle.wamp_message_layouts.specs.RequestKind.{kind_in};
-ghost use Rattle.wamp_message_layouts.specs.Elements.{elements};
+ghost use Rattle.wamp_message_layouts.specs.Elements.{elements, kind_in};
 ghost use Rattle.wamp_message_layouts.specs.Layouts as layout;
 ghost use Rattle.wamp_message_layouts.specs.Layouts.{taken, checked, checked_with, args_taken, refusal_of, answers_invocation};
 
-use crate::elements::{Given, arguments, four, id_in, is_whole};
-use crate::fault::MessageFault;
-use crate::request_kind::RequestKind;
+use crate::elements::{Given, arguments, four, id_in, is_whole, kind_in};
 use serde_json::Value;
 use std::vec::IntoIter;
 use wamp_ids::{Id, Text};
+use wamp_message_types::{MessageFault, RequestKind};
 use wamp_values::Args;
 
 /// The refusal of a request.
@@ -21,11 +19,11 @@ pub struct Refusal {
     pub kind: RequestKind,
     pub request: Id,
     pub error: Text,
-    /// `None` where some number is not kept exactly, in the answer to an invocation.
+    /// `None` if some number is not kept exactly, in the answer to an invocation.
     pub args: Option<Args>,
 }
 
-/// The kind of a request, its id, a dictionary, a text, and arguments.
+/// Reads the kind of a request, its id, a dictionary, a text, and arguments.
 #[tactic(auto, using(crate::proofs::Lengths::refusal_length))]
 pub fn refused(mut rest: IntoIter<Value>) -> Result<Refusal, MessageFault>
     ensures { result ≡ taken (layout.refusal (elements rest)) refusal_of (elements rest) }
@@ -74,7 +72,7 @@ fn refusal_given(
 fn answers_invocation(kind: &Value) -> bool
     ensures { result ≡ answers_invocation (kind_in (view kind.now)) }
 {
-    match RequestKind::in_element(kind) {
+    match kind_in(kind) {
         Some(kind) => kind.is_invocation(),
         None => false,
     }
@@ -93,7 +91,7 @@ fn refusal_with(
         (item (view kind.now)
         (item (view request.now) (item (view details.now) (item (view error) no_items)))) }
 {
-    let Some(kind) = RequestKind::in_element(kind) else {
+    let Some(kind) = kind_in(kind) else {
         drop((error, args));
         return Err(MessageFault::Shape);
     };

@@ -23,12 +23,12 @@ pub struct Cancel {
 
 /// The call's result: the message RESULT.
 #[derive(Drop)]
-pub struct Reply {
+pub struct CallResult {
     pub request: Id,
     pub args: Args,
 }
 
-/// A callee is asked for a call's result; `procedure` where the registration is not an exact one.
+/// A callee is asked for a call's result; `procedure` is given if the registration is not an exact one.
 #[derive(Drop)]
 pub struct Invocation {
     pub request: Id,
@@ -37,7 +37,7 @@ pub struct Invocation {
     pub args: Args,
 }
 
-/// A callee is told that the call is canceled.
+/// A callee is notified that the call is canceled.
 #[derive(Clone, Copy, Debug, PartialEq, Eq, Drop)]
 pub struct Interrupt {
     pub request: Id,
@@ -52,7 +52,7 @@ pub struct Yield {
 }
 
 impl Call {
-    /// An equal one, as `Message::copy`.
+    /// Returns a copy, as `Message::copy` does.
     pub fn copy(&self) -> Result<Call, Memory>
         ensures { IfOk result (λ made. made ≡ self.now) }
     {
@@ -63,7 +63,7 @@ impl Call {
         })
     }
 
-    /// Whether the two are equal, as `Message::same`.
+    /// Returns whether the two are equal, as `Message::same` does.
     pub fn same(&self, other: &Call) -> bool
         ensures { IsTrue result ↔ (self.now ≡ other.now) }
     {
@@ -73,19 +73,19 @@ impl Call {
     }
 }
 
-impl Reply {
-    /// An equal one, as `Message::copy`.
-    pub fn copy(&self) -> Result<Reply, Memory>
+impl CallResult {
+    /// Returns a copy, as `Message::copy` does.
+    pub fn copy(&self) -> Result<CallResult, Memory>
         ensures { IfOk result (λ made. made ≡ self.now) }
     {
-        Ok(Reply {
+        Ok(CallResult {
             request: self.request,
             args: self.args.copy()?,
         })
     }
 
-    /// Whether the two are equal, as `Message::same`.
-    pub fn same(&self, other: &Reply) -> bool
+    /// Returns whether the two are equal, as `Message::same` does.
+    pub fn same(&self, other: &CallResult) -> bool
         ensures { IsTrue result ↔ (self.now ≡ other.now) }
     {
         self.request == other.request && self.args.same(&other.args)
@@ -93,7 +93,7 @@ impl Reply {
 }
 
 impl Invocation {
-    /// An equal one, as `Message::copy`.
+    /// Returns a copy, as `Message::copy` does.
     pub fn copy(&self) -> Result<Invocation, Memory>
         ensures { IfOk result (λ made. made ≡ self.now) }
     {
@@ -105,7 +105,7 @@ impl Invocation {
         })
     }
 
-    /// Whether the two are equal, as `Message::same`.
+    /// Returns whether the two are equal, as `Message::same` does.
     pub fn same(&self, other: &Invocation) -> bool
         ensures { IsTrue result ↔ (self.now ≡ other.now) }
     {
@@ -117,7 +117,7 @@ impl Invocation {
 }
 
 impl Yield {
-    /// An equal one, as `Message::copy`.
+    /// Returns a copy, as `Message::copy` does.
     pub fn copy(&self) -> Result<Yield, Memory>
         ensures { IfOk result (λ made. made ≡ self.now) }
     {
@@ -127,7 +127,7 @@ impl Yield {
         })
     }
 
-    /// Whether the two are equal, as `Message::same`.
+    /// Returns whether the two are equal, as `Message::same` does.
     pub fn same(&self, other: &Yield) -> bool
         ensures { IsTrue result ↔ (self.now ≡ other.now) }
     {

@@ -2,8 +2,8 @@
 ghost use Rattle.std.specs.Prelude.{◌≡◌, ◌↔◌, IfOk, IsTrue};
 
 use crate::memory::Memory;
+use crate::request_kind::RequestKind;
 use wamp_ids::{Id, Text};
-use wamp_message_layouts::RequestKind;
 use wamp_values::Args;
 
 /// A request is refused.
@@ -16,7 +16,7 @@ pub struct Error {
 }
 
 impl Error {
-    /// An equal one, as `Message::copy`.
+    /// Returns a copy, as `Message::copy` does.
     pub fn copy(&self) -> Result<Error, Memory>
         ensures { IfOk result (λ made. made ≡ self.now) }
     {
@@ -28,7 +28,7 @@ impl Error {
         })
     }
 
-    /// Whether the two are equal, as `Message::same`.
+    /// Returns whether the two are equal, as `Message::same` does.
     pub fn same(&self, other: &Error) -> bool
         ensures { IsTrue result ↔ (self.now ≡ other.now) }
     {

@@ -1,6 +1,6 @@
 ghost use Rattle.std.specs.Prelude.{◌≡◌, ◌↔◌, IfOk, IsTrue};
 
-use crate::call::{Call, Cancel, Interrupt, Invocation, Reply, Yield};
+use crate::call::{Call, CallResult, Cancel, Interrupt, Invocation, Yield};
 use crate::error::Error;
 use crate::memory::Memory;
 use crate::publish::{Event, Publish, Published};
@@ -28,7 +28,7 @@ pub enum Message {
     Unregistered(Unregistered),
     Call(Call),
     Cancel(Cancel),
-    Reply(Reply),
+    CallResult(CallResult),
     Invocation(Invocation),
     Interrupt(Interrupt),
     Yield(Yield),
@@ -55,7 +55,7 @@ impl Drop for Message {
             Message::Unregistered(_unregistered) => {},
             Message::Call(_call) => {},
             Message::Cancel(_cancel) => {},
-            Message::Reply(_reply) => {},
+            Message::CallResult(_reply) => {},
             Message::Invocation(_invocation) => {},
             Message::Interrupt(_interrupt) => {},
             Message::Yield(_yield) => {},
@@ -64,7 +64,7 @@ impl Drop for Message {
 }
 
 impl Message {
-    /// An equal message. Where memory runs out there is none, and nothing has changed.
+    /// Returns an equal message. If memory runs out, returns `Memory` and changes nothing.
     pub fn copy(&self) -> Result<Message, Memory>
         ensures { IfOk result (λ made. made ≡ self.now) }
     {
@@ -87,14 +87,14 @@ impl Message {
             Message::Unregistered(unregistered) => Message::Unregistered(*unregistered),
             Message::Call(call) => Message::Call(call.copy()?),
             Message::Cancel(cancel) => Message::Cancel(*cancel),
-            Message::Reply(reply) => Message::Reply(reply.copy()?),
+            Message::CallResult(reply) => Message::CallResult(reply.copy()?),
             Message::Invocation(invocation) => Message::Invocation(invocation.copy()?),
             Message::Interrupt(interrupt) => Message::Interrupt(*interrupt),
             Message::Yield(yielded) => Message::Yield(yielded.copy()?),
         })
     }
 
-    /// Whether the two are equal; takes no memory.
+    /// Returns whether the two are equal; does not allocate.
     pub fn same(&self, other: &Message) -> bool
         ensures { IsTrue result ↔ (self.now ≡ other.now) }
     {
@@ -171,8 +171,8 @@ impl Message {
                 Message::Cancel(other) => *cancel == *other,
                 _ => false,
             },
-            Message::Reply(reply) => match other {
-                Message::Reply(other) => reply.same(other),
+            Message::CallResult(reply) => match other {
+                Message::CallResult(other) => reply.same(other),
                 _ => false,
             },
             Message::Invocation(invocation) => match other {

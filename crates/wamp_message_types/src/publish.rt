@@ -22,7 +22,7 @@ pub struct Published {
     pub publication: Id,
 }
 
-/// An event for a subscriber; `topic` where the subscription is not an exact one.
+/// An event for a subscriber; `topic` is given if the subscription is not an exact one.
 #[derive(Drop)]
 pub struct Event {
     pub subscription: Id,
@@ -32,7 +32,7 @@ pub struct Event {
 }
 
 impl Publish {
-    /// An equal one, as `Message::copy`.
+    /// Returns a copy, as `Message::copy` does.
     pub fn copy(&self) -> Result<Publish, Memory>
         ensures { IfOk result (λ made. made ≡ self.now) }
     {
@@ -45,7 +45,7 @@ impl Publish {
         })
     }
 
-    /// Whether the two are equal, as `Message::same`.
+    /// Returns whether the two are equal, as `Message::same` does.
     pub fn same(&self, other: &Publish) -> bool
         ensures { IsTrue result ↔ (self.now ≡ other.now) }
     {
@@ -58,7 +58,7 @@ impl Publish {
 }
 
 impl Event {
-    /// An equal one, as `Message::copy`.
+    /// Returns a copy, as `Message::copy` does.
     pub fn copy(&self) -> Result<Event, Memory>
         ensures { IfOk result (λ made. made ≡ self.now) }
     {
@@ -70,7 +70,7 @@ impl Event {
         })
     }
 
-    /// Whether the two are equal, as `Message::same`.
+    /// Returns whether the two are equal, as `Message::same` does.
     pub fn same(&self, other: &Event) -> bool
         ensures { IsTrue result ↔ (self.now ≡ other.now) }
     {
@@ -81,7 +81,7 @@ impl Event {
     }
 }
 
-// An equal text, where there is one.
+// Copies the text, if there is one.
 pub(crate) fn copy_label(label: &Option<Text>) -> Result<Option<Text>, Memory>
     ensures { IfOk result (λ made. made ≡ label.now) }
 {

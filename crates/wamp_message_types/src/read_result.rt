@@ -1,11 +1,11 @@
 ghost use Rattle.std.specs.Prelude.{◌≡◌, ◌↔◌, IfOk, IsTrue};
 
+use crate::fault::MessageFault;
 use crate::memory::Memory;
 use crate::message::Message;
 use wamp_ids::Id;
-use wamp_message_layouts::MessageFault;
 
-/// The kinds of message that may be unfit: of the right form, with an option or a payload that this router refuses.
+/// The kinds of message that may be unfit: of the right form, but with an option or a payload that this router refuses.
 #[derive(Clone, Copy, Debug, PartialEq, Eq, Hash)]
 pub enum UnfitKind {
     Publish,
@@ -17,12 +17,11 @@ pub enum UnfitKind {
     Yield,
 }
 
-/// What was read of the octets of one message.
+/// What the octets of one message are read as.
 pub enum Read {
     /// The message.
     Good(Message),
-    /// A request that has the right form, but an option or a payload that is unfit. It is answered by an ERROR,
-    /// or by nothing where it is `quiet`.
+    /// A request of the right form with an unfit option or payload. It is answered by an ERROR, or not at all if it is `quiet`.
     Unfit {
         kind: UnfitKind,
         request: Id,
@@ -47,7 +46,7 @@ impl Drop for Read {
 }
 
 impl Read {
-    /// An equal one. Where memory runs out there is none, and nothing has changed.
+    /// Returns an equal value. If memory runs out, returns `Memory` and changes nothing.
     pub fn copy(&self) -> Result<Read, Memory>
         ensures { IfOk result (λ made. made ≡ self.now) }
     {
@@ -66,7 +65,7 @@ impl Read {
         })
     }
 
-    /// Whether the two are equal; takes no memory.
+    /// Returns whether the two are equal; does not allocate.
     pub fn same(&self, other: &Read) -> bool
         ensures { IsTrue result ↔ (self.now ≡ other.now) }
     {

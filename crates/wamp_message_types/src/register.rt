@@ -34,7 +34,7 @@ pub struct Unregistered {
 }
 
 impl Register {
-    /// An equal one, as `Message::copy`.
+    /// Returns a copy, as `Message::copy` does.
     pub fn copy(&self) -> Result<Register, Memory>
         ensures { IfOk result (λ made. made ≡ self.now) }
     {
@@ -46,7 +46,7 @@ impl Register {
         })
     }
 
-    /// Whether the two are equal, as `Message::same`.
+    /// Returns whether the two are equal, as `Message::same` does.
     pub fn same(&self, other: &Register) -> bool
         ensures { IsTrue result ↔ (self.now ≡ other.now) }
     {

@@ -5,7 +5,7 @@ use crate::memory::Memory;
 use wamp_ids::{Id, Text};
 use wamp_values::Args;
 
-/// A client asks for a session in a realm; `canceling` where it announces call canceling as a callee.
+/// A client asks for a session in a realm; `canceling` is set if it announces call canceling as a callee.
 #[derive(Drop)]
 pub struct Hello {
     pub realm: Text,
@@ -25,14 +25,14 @@ pub struct Abort {
     pub args: Args,
 }
 
-/// Either side asks for the session's end, or answers that.
+/// Either side asks for the session's end, or answers such a request.
 #[derive(Drop)]
 pub struct Goodbye {
     pub reason: Text,
 }
 
 impl Hello {
-    /// An equal one, as `Message::copy`.
+    /// Returns a copy, as `Message::copy` does.
     pub fn copy(&self) -> Result<Hello, Memory>
         ensures { IfOk result (λ made. made ≡ self.now) }
     {
@@ -42,7 +42,7 @@ impl Hello {
         })
     }
 
-    /// Whether the two are equal, as `Message::same`.
+    /// Returns whether the two are equal, as `Message::same` does.
     pub fn same(&self, other: &Hello) -> bool
         ensures { IsTrue result ↔ (self.now ≡ other.now) }
     {
@@ -51,7 +51,7 @@ impl Hello {
 }
 
 impl Abort {
-    /// An equal one, as `Message::copy`.
+    /// Returns a copy, as `Message::copy` does.
     pub fn copy(&self) -> Result<Abort, Memory>
         ensures { IfOk result (λ made. made ≡ self.now) }
     {
@@ -61,7 +61,7 @@ impl Abort {
         })
     }
 
-    /// Whether the two are equal, as `Message::same`.
+    /// Returns whether the two are equal, as `Message::same` does.
     pub fn same(&self, other: &Abort) -> bool
         ensures { IsTrue result ↔ (self.now ≡ other.now) }
     {
@@ -70,7 +70,7 @@ impl Abort {
 }
 
 impl Goodbye {
-    /// An equal one, as `Message::copy`.
+    /// Returns a copy, as `Message::copy` does.
     pub fn copy(&self) -> Result<Goodbye, Memory>
         ensures { IfOk result (λ made. made ≡ self.now) }
     {
@@ -79,7 +79,7 @@ impl Goodbye {
         })
     }
 
-    /// Whether the two are equal, as `Message::same`.
+    /// Returns whether the two are equal, as `Message::same` does.
     pub fn same(&self, other: &Goodbye) -> bool
         ensures { IsTrue result ↔ (self.now ≡ other.now) }
     {

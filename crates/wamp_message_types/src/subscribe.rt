@@ -33,7 +33,7 @@ pub struct Unsubscribed {
 }
 
 impl Subscribe {
-    /// An equal one, as `Message::copy`.
+    /// Returns a copy, as `Message::copy` does.
     pub fn copy(&self) -> Result<Subscribe, Memory>
         ensures { IfOk result (λ made. made ≡ self.now) }
     {
@@ -44,7 +44,7 @@ impl Subscribe {
         })
     }
 
-    /// Whether the two are equal, as `Message::same`.
+    /// Returns whether the two are equal, as `Message::same` does.
     pub fn same(&self, other: &Subscribe) -> bool
         ensures { IsTrue result ↔ (self.now ≡ other.now) }
     {

@@ -1,19 +1,19 @@
--- Octets that are no message are told by the first of their faults.
+-- For octets that are no message the first of their faults is reported.
 use Rattle.std.proofs.Common.{◌≡◌, ◌∙◌, ℕ, ◌==◌, Bool, true, false, List, Option, Some, None, codes, refl}
 use Rattle.std.specs.Prelude.{Result, Ok, Err, find, if◌then◌else◌}
 use Rattle.serde_json.specs.Data.{unsigned, Data, number, array, Items, no_items, item}
 use Rattle.wamp_values.specs.declared.args.Args.{Args}
-use Rattle.wamp_message_layouts.specs.Codes as code
-use Rattle.wamp_message_layouts.specs.declared.fault.MessageFault.{MessageFault}
-use Rattle.wamp_message_layouts.specs.declared.fault.MessageFault.TheVariants.{Kind}
+use Rattle.wamp_message_types.specs.Codes as code
+use Rattle.wamp_message_types.specs.declared.fault.MessageFault.{MessageFault}
+use Rattle.wamp_message_types.specs.declared.fault.MessageFault.TheVariants.{Kind}
 use Rattle.wamp_message_layouts.specs.declared.refusal.Refusal.{Refusal}
-use Rattle.wamp_message_layouts.specs.declared.request_kind.RequestKind.{RequestKind}
+use Rattle.wamp_message_types.specs.declared.request_kind.RequestKind.{RequestKind}
 use Rattle.wamp_message_layouts.specs.Layouts.{Layout, taken, first_fault, text_dictionary, named_of, id_dictionary, numbered_of}
 use Rattle.wamp_message_layouts.specs.Layouts.{dictionary_text, dictionary_text_args, reason_of, refusal, refusal_of, Asked, asked_of}
 use Rattle.wamp_message_layouts.specs.Layouts.{id_dictionary_text, id_dictionary_text_args, two_ids, two_ids_of, two_ids_label_args, labelled_of}
 use Rattle.wamp_message_layouts.specs.Layouts.{one_id, one_id_of, id_dictionary_args, answer_of, id_mode, stopped_of, Numbered}
 use Rattle.wamp_message_layouts.specs.declared.layouts.Answered.{Answered}
-use Rattle.wamp_options.specs.Options.{flag_in, match_in, invoke_in, mode_in}
+use Rattle.wamp_values.specs.Options.{flag_in, match_in, invoke_in, mode_in}
 use Rattle.wamp_message_layouts.proofs.FirstFault.{fault_in, taken_first}
 use Rattle.wamp_ids.specs.declared.policy.Match.{Match}
 use Rattle.wamp_ids.specs.declared.policy.Invoke.{Invoke}
@@ -25,14 +25,14 @@ use Rattle.wamp_messages.specs.Error.{error_with, error_read}
 use Rattle.wamp_messages.specs.Publish.{publish_with, publish_read, published_read, event_read}
 use Rattle.wamp_messages.specs.Subscribe.{subscribe_with, subscribe_read, subscribed_read, unsubscribe_read, unsubscribed_read}
 use Rattle.wamp_messages.specs.Register.{register_with, register_read, registered_read, unregister_read, unregistered_read}
-use Rattle.wamp_messages.specs.Call.{call_with, call_read, cancel_with, cancel_read, reply_read, invocation_read, interrupt_read}
+use Rattle.wamp_messages.specs.Call.{call_with, call_read, cancel_with, cancel_read, call_result_read, invocation_read, interrupt_read}
 use Rattle.wamp_messages.specs.Call.{yield_with, yield_read}
 use Rattle.wamp_messages.specs.Layouts.{layout_of}
 use Rattle.wamp_messages.specs.Reading.{by_code, json_of, json_read_as}
 use Rattle.wamp_messages.specs.Faults.{faults, has_fault_in, fault_of}
 use Rattle.wamp_messages.specs.Laws.{FirstFaultIsTold}
 
--- the first fault of what stands behind a code
+-- the first fault of what follows a code
 abbrev first_of : Option Layout → Items → Option MessageFault
 first_of None ds = Some Kind
 first_of (Some layout) ds = first_fault layout ds
@@ -115,7 +115,7 @@ by_code_told n ds =
     (either (n == code.unregistered) _ _ one_id _ ds (told unregistered_read one_id one_id_of ds (λ x. refl))
     (either (n == code.call) _ _ id_dictionary_text_args _ ds (told call_read id_dictionary_text_args asked_of ds (λ (x : Asked). call_good x x.args))
     (either (n == code.cancel) _ _ id_dictionary _ ds (told cancel_read id_dictionary numbered_of ds (λ (x : Numbered). cancel_good x.id (mode_in x.details)))
-    (either (n == code.result) _ _ (id_dictionary_args false) _ ds (told reply_read (id_dictionary_args false) answer_of ds (λ x. refl))
+    (either (n == code.result) _ _ (id_dictionary_args false) _ ds (told call_result_read (id_dictionary_args false) answer_of ds (λ x. refl))
     (either (n == code.invocation) _ _ (two_ids_label_args (codes "procedure")) _ ds (told invocation_read (two_ids_label_args (codes "procedure")) (labelled_of (codes "procedure")) ds (λ x. refl))
     (either (n == code.interrupt) _ _ id_mode _ ds (told interrupt_read id_mode stopped_of ds (λ x. refl))
     (either (n == code.yield) _ _ (id_dictionary_args true) _ ds (told yield_read (id_dictionary_args true) answer_of ds (λ (x : Answered). yield_good x.request x.args)) refl)))))))))))))))))))))

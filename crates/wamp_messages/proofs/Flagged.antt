@@ -1,15 +1,15 @@
--- A publication whose options are told by flags is read as one whose options are an object.
+-- A publication whose options are given by flags is read as one whose options are an object.
 use Rattle.std.proofs.Common.{◌≡◌, ℕ, Bool, true, false, List, Option, Some, None, Result, Ok, Err, if◌then◌else◌, codes, refl, ap, ◌∙◌}
 use Rattle.serde_json.specs.Data.{unsigned, negative, float, Data, null, boolean, number, string, array, object, Items, no_items, item, Members, no_members}
 use Rattle.serde_json.specs.Find.{get, as_bool, as_number, as_u64}
 use Rattle.std.specs.Prelude.{option_and_then}
-use Rattle.wamp_values.specs.Options.{bool_at}
+use Rattle.wamp_values.specs.Found.{bool_at}
 use Rattle.wamp_values.specs.declared.args.Args.{Args}
 use Rattle.wamp_message_layouts.specs.Elements.{args_given, id_of, text_of}
 use Rattle.wamp_message_layouts.specs.Layouts.{checked_with, id_dictionary_text_args, Asked, asked_of, args_taken}
-use Rattle.wamp_options.specs.Options.{flag_in}
-use Rattle.wamp_message_layouts.specs.declared.fault.MessageFault.{MessageFault}
-use Rattle.wamp_message_layouts.specs.declared.fault.MessageFault.TheVariants.{Shape, IdRange}
+use Rattle.wamp_values.specs.Options.{flag_in}
+use Rattle.wamp_message_types.specs.declared.fault.MessageFault.{MessageFault}
+use Rattle.wamp_message_types.specs.declared.fault.MessageFault.TheVariants.{Shape, IdRange}
 use Rattle.wamp_messages.specs.Flags.{Tells, flag_of, flagged_read, flagged_in}
 use Rattle.wamp_messages.specs.Publish.{publish_with, publish_read, publish_in}
 use Rattle.wamp_messages.specs.ReadResult.{read_as}

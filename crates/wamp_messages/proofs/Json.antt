@@ -4,7 +4,7 @@ use Rattle.std.specs.Str.{IsUtf8, is_utf8}
 use Rattle.std.proofs.lemmas.Str.{is_utf8-from_IsUtf8, IsUtf8-from_is_utf8}
 use Rattle.serde_json.specs.Data.{Data}
 use Rattle.serde_json.specs.Read.{read}
-use Rattle.wamp_message_layouts.specs.declared.fault.MessageFault.TheVariants.{NotJson}
+use Rattle.wamp_message_types.specs.declared.fault.MessageFault.TheVariants.{NotJson}
 use Rattle.wamp_message_types.specs.declared.read_result.Read.TheVariants.{Bad}
 use Rattle.wamp_messages.specs.Reading.{read_of, json_read_as, message_in}
 

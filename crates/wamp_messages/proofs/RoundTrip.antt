@@ -1,4 +1,4 @@
--- What is written of a message is read as that message.
+-- A message is read back from what is written of it.
 use Rattle.std.proofs.Common.{◌≡◌, ◌∙◌, ℕ, Bool, true, false, List, Option, Some, None, sym, refl}
 use Rattle.std.specs.Str.{IsUtf8}
 use Rattle.json.specs.Token.{Token}
@@ -14,13 +14,13 @@ use Rattle.wamp_values.specs.declared.args.Args.{Args}
 use Rattle.wamp_values.specs.Tokens.{data_tokens}
 use Rattle.wamp_values.proofs.Texts.{print_tokens}
 use Rattle.wamp_values.proofs.ReadBack.{reads_back}
-use Rattle.wamp_message_layouts.specs.declared.request_kind.RequestKind.{RequestKind}
-use Rattle.wamp_message_layouts.specs.declared.request_kind.RequestKind.TheVariants as kind
+use Rattle.wamp_message_types.specs.declared.request_kind.RequestKind.{RequestKind}
+use Rattle.wamp_message_types.specs.declared.request_kind.RequestKind.TheVariants as kind
 use Rattle.wamp_message_types.specs.declared.message.Message.{Message}
 use Rattle.wamp_message_types.specs.declared.message.Message.TheVariants.{Hello, Welcome, Abort, Goodbye, Error, Publish, Published}
 use Rattle.wamp_message_types.specs.declared.message.Message.TheVariants.{Subscribe, Subscribed, Event, Unsubscribe, Unsubscribed}
 use Rattle.wamp_message_types.specs.declared.message.Message.TheVariants.{Register, Registered, Unregister, Unregistered}
-use Rattle.wamp_message_types.specs.declared.message.Message.TheVariants.{Call, Cancel, Reply, Invocation, Interrupt, Yield}
+use Rattle.wamp_message_types.specs.declared.message.Message.TheVariants.{Call, Cancel, CallResult, Invocation, Interrupt, Yield}
 use Rattle.wamp_message_types.specs.declared.read_result.Read.TheVariants.{Good}
 use Rattle.wamp_messages.specs.Writing.{value_of, text_of}
 use Rattle.wamp_messages.specs.Reading.{by_code, read_of, message_in}
@@ -127,7 +127,7 @@ message_again (Unregister unregister) h = rw (h.0, h.1) refl
 message_again (Unregistered unregistered) h = rw h refl
 message_again (Call call) h = rw (args_again call.args h.1, h.0) refl
 message_again (Cancel cancel) h = cancel_again cancel.request cancel.mode h
-message_again (Reply reply) h = rw (args_again reply.args h.1, h.0) refl
+message_again (CallResult reply) h = rw (args_again reply.args h.1, h.0) refl
 message_again (Invocation invocation) h = invocation_again invocation.request invocation.registration invocation.procedure invocation.args h
 message_again (Interrupt interrupt) h = interrupt_again interrupt.request interrupt.mode h
 message_again (Yield yielded) h = rw (args_again yielded.args h.1, h.0) refl

@@ -11,15 +11,15 @@ use Rattle.wamp_ids.specs.declared.policy.Mode.{Mode}
 use Rattle.wamp_ids.specs.declared.policy.Mode.TheVariants.{Skip, Kill, KillNoWait}
 use Rattle.wamp_values.specs.Payload.{IsPlain}
 use Rattle.wamp_values.proofs.Plain.{args_are_plain, args_nest}
-use Rattle.wamp_message_layouts.specs.declared.request_kind.RequestKind.{RequestKind}
-use Rattle.wamp_message_layouts.specs.declared.request_kind.RequestKind.TheVariants as kind
-use Rattle.wamp_message_layouts.specs.RequestKind.{code_of}
+use Rattle.wamp_message_types.specs.declared.request_kind.RequestKind.{RequestKind}
+use Rattle.wamp_message_types.specs.declared.request_kind.RequestKind.TheVariants as kind
+use Rattle.wamp_message_types.specs.RequestKind.{code_of}
 use Rattle.wamp_message_layouts.specs.Parts.{nothing, label_details}
 use Rattle.wamp_message_types.specs.declared.message.Message.{Message}
 use Rattle.wamp_message_types.specs.declared.message.Message.TheVariants.{Hello, Welcome, Abort, Goodbye, Error, Publish, Published}
 use Rattle.wamp_message_types.specs.declared.message.Message.TheVariants.{Subscribe, Subscribed, Event, Unsubscribe, Unsubscribed}
 use Rattle.wamp_message_types.specs.declared.message.Message.TheVariants.{Register, Registered, Unregister, Unregistered}
-use Rattle.wamp_message_types.specs.declared.message.Message.TheVariants.{Call, Cancel, Reply, Invocation, Interrupt, Yield}
+use Rattle.wamp_message_types.specs.declared.message.Message.TheVariants.{Call, Cancel, CallResult, Invocation, Interrupt, Yield}
 use Rattle.wamp_messages.specs.Session.{hello_details, welcome_details, broker, dealer}
 use Rattle.wamp_messages.specs.Publish.{publish_options}
 use Rattle.wamp_messages.specs.Subscribe.{match_options}
@@ -145,7 +145,7 @@ value_is_plain (Unregistered unregistered) h = (omega arith, (id_is_held unregis
 value_is_plain (Call call) h =
     (omega arith, (id_is_held call.request h.0, (nothing_is_plain, (tt, args_are_plain call.args h.1))))
 value_is_plain (Cancel cancel) h = (omega arith, (id_is_held cancel.request h, (cancel_is_plain cancel.mode, tt)))
-value_is_plain (Reply reply) h = (omega arith, (id_is_held reply.request h.0, (nothing_is_plain, args_are_plain reply.args h.1)))
+value_is_plain (CallResult reply) h = (omega arith, (id_is_held reply.request h.0, (nothing_is_plain, args_are_plain reply.args h.1)))
 value_is_plain (Invocation invocation) h = (
   omega arith,
   (
@@ -221,7 +221,7 @@ value_nests (Unregister unregister) h = omega arith
 value_nests (Unregistered unregistered) h = omega arith
 value_nests (Call call) h = omega (arith, args_nest call.args h.1)
 value_nests (Cancel cancel) h = omega (arith, cancel_nests cancel.mode)
-value_nests (Reply reply) h = omega (arith, args_nest reply.args h.1)
+value_nests (CallResult reply) h = omega (arith, args_nest reply.args h.1)
 value_nests (Invocation invocation) h =
     omega (arith, args_nest invocation.args h.1.1, label_nests (codes "procedure") invocation.procedure)
 value_nests (Interrupt interrupt) h = omega (arith, mode_nests interrupt.mode)

@@ -1,5 +1,5 @@
--- The messages of calls (WAMP specification, "Remote Procedure Calls" and "Call Canceling"; the keys, and what is taken where one is
--- missing: docs/PROTOCOL.md, "Messages").
+-- The messages of calls (WAMP specification, "Remote Procedure Calls" and "Call Canceling"; the keys and their defaults:
+-- docs/PROTOCOL.md, "Messages").
 use Rattle.std.specs.Prelude.{ℕ, true, false, List, Option, Some, None, codes, unwrap_or}
 use Rattle.serde_json.specs.Data.{Data, string, array, Items, no_items, item}
 use Rattle.wamp_ids.specs.declared.policy.Mode.{Mode}
@@ -7,9 +7,9 @@ use Rattle.wamp_ids.specs.declared.policy.Mode.TheVariants.{Skip, Kill, KillNoWa
 use Rattle.wamp_values.specs.Args.{args_items}
 use Rattle.wamp_values.specs.declared.args.Args.{Args}
 use Rattle.wamp_values.specs.declared.args.Args.TheVariants.{Nothing}
-use Rattle.wamp_message_layouts.specs.Codes as code
+use Rattle.wamp_message_types.specs.Codes as code
 use Rattle.wamp_message_layouts.specs.Parts.{whole, only, nothing, label_details}
-use Rattle.wamp_options.specs.Options.{mode_in}
+use Rattle.wamp_values.specs.Options.{mode_in}
 use Rattle.wamp_message_layouts.specs.declared.layouts.Labelled.{Labelled}
 use Rattle.wamp_message_layouts.specs.declared.layouts.Stopped.{Stopped}
 use Rattle.wamp_message_layouts.specs.declared.layouts.Answered.{Answered}
@@ -17,7 +17,7 @@ use Rattle.wamp_message_layouts.specs.Layouts.{taken, id_dictionary_text_args, A
 use Rattle.wamp_message_layouts.specs.Layouts.{id_dictionary_args, answer_of, two_ids_label_args, labelled_of, id_mode, stopped_of}
 use Rattle.wamp_message_types.specs.declared.call.Call.{Call}
 use Rattle.wamp_message_types.specs.declared.call.Cancel.{Cancel}
-use Rattle.wamp_message_types.specs.declared.call.Reply.{Reply}
+use Rattle.wamp_message_types.specs.declared.call.CallResult.{CallResult}
 use Rattle.wamp_message_types.specs.declared.call.Invocation.{Invocation}
 use Rattle.wamp_message_types.specs.declared.call.Interrupt.{Interrupt}
 use Rattle.wamp_message_types.specs.declared.call.Yield.{Yield}
@@ -50,11 +50,11 @@ mode_name Skip = codes "skip"
 mode_name Kill = codes "kill"
 mode_name KillNoWait = codes "killnowait"
 
--- the options that tell a mode
+-- the options that name a mode
 abbrev pub mode_options : Mode → Data
 mode_options mode = only (codes "mode") (string (mode_name mode))
 
--- options hold exactly the keys that differ from what is taken where they are missing
+-- options hold exactly the keys whose values differ from their defaults
 abbrev pub cancel_options : Mode → Data
 cancel_options Skip = mode_options Skip
 cancel_options Kill = mode_options Kill
@@ -75,14 +75,14 @@ cancel_in ds = read_as cancel_read (taken id_dictionary numbered_of ds)
 
 -- ---- RESULT: Request, Details, Args
 
-abbrev pub reply_value : Reply → Data
-reply_value reply = array (item (whole code.result) (item (whole reply.request) (item nothing (args_items reply.args))))
+abbrev pub call_result_value : CallResult → Data
+call_result_value reply = array (item (whole code.result) (item (whole reply.request) (item nothing (args_items reply.args))))
 
-abbrev pub reply_read : Answered → Read
-reply_read answered = Good (message.Reply (record { request = answered.request; args = unwrap_or answered.args Nothing }))
+abbrev pub call_result_read : Answered → Read
+call_result_read answered = Good (message.CallResult (record { request = answered.request; args = unwrap_or answered.args Nothing }))
 
-abbrev pub reply_in : Items → Read
-reply_in ds = read_as reply_read (taken (id_dictionary_args false) answer_of ds)
+abbrev pub call_result_in : Items → Read
+call_result_in ds = read_as call_result_read (taken (id_dictionary_args false) answer_of ds)
 
 -- ---- INVOCATION: Request, Registration, Details, Args
 

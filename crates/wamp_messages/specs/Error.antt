@@ -3,10 +3,10 @@ use Rattle.std.specs.Prelude.{ℕ, false, List, Option, Some, None}
 use Rattle.serde_json.specs.Data.{Data, string, array, Items, item}
 use Rattle.wamp_values.specs.Args.{args_items}
 use Rattle.wamp_values.specs.declared.args.Args.{Args}
-use Rattle.wamp_message_layouts.specs.Codes as code
+use Rattle.wamp_message_types.specs.Codes as code
 use Rattle.wamp_message_layouts.specs.Parts.{whole, nothing}
-use Rattle.wamp_message_layouts.specs.RequestKind.{code_of}
-use Rattle.wamp_message_layouts.specs.declared.request_kind.RequestKind.{RequestKind}
+use Rattle.wamp_message_types.specs.RequestKind.{code_of}
+use Rattle.wamp_message_types.specs.declared.request_kind.RequestKind.{RequestKind}
 use Rattle.wamp_message_layouts.specs.declared.refusal.Refusal.{Refusal}
 use Rattle.wamp_message_layouts.specs.Layouts.{taken, refusal, refusal_of}
 use Rattle.wamp_message_types.specs.declared.error.Error.{Error}
@@ -24,7 +24,7 @@ error_value error =
     (item (whole code.error)
     (item (whole (code_of error.kind)) (item (whole error.request) (item nothing (item (string error.error) (args_items error.args))))))
 
--- without arguments that are kept exactly it is unfit: it answers an invocation
+-- without exactly kept arguments it is unfit: it answers an invocation
 abbrev pub error_with : RequestKind → ℕ → List ℕ → Option Args → Read
 error_with kind request error (Some args) = Good (message.Error (record { kind = kind; request = request; error = error; args = args }))
 error_with kind request error None = Unfit unfit.Yield request false

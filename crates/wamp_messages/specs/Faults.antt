@@ -1,8 +1,8 @@
 -- The faults of octets that are no message, each by itself (docs/PROTOCOL.md, "Reading").
 use Rattle.std.specs.Prelude.{Bool, true, false, not, List, [], ◌∷◌, ℕ, Option, Some, None, is_some}
 use Rattle.serde_json.specs.Data.{unsigned, Data, number, array, Items, no_items, item}
-use Rattle.wamp_message_layouts.specs.declared.fault.MessageFault.{MessageFault}
-use Rattle.wamp_message_layouts.specs.declared.fault.MessageFault.TheVariants.{NotJson, NotArray, Kind, Length, Shape, IdRange}
+use Rattle.wamp_message_types.specs.declared.fault.MessageFault.{MessageFault}
+use Rattle.wamp_message_types.specs.declared.fault.MessageFault.TheVariants.{NotJson, NotArray, Kind, Length, Shape, IdRange}
 use Rattle.wamp_message_layouts.specs.Layouts.{Layout, has_length, has_shape, has_range}
 use Rattle.wamp_message_types.specs.declared.read_result.Read.{Read}
 use Rattle.wamp_message_types.specs.declared.read_result.Read.TheVariants.{Good, Unfit, Bad}
@@ -22,7 +22,7 @@ abbrev pub is_array : Option Data → Bool
 is_array (Some (array ds)) = true
 is_array d = false
 
--- the layout of the message whose code stands first, if one does
+-- the layout of the message whose code is first, if one is
 abbrev pub layout_in : Items → Option Layout
 layout_in (item (number (unsigned n)) ds) = layout_of n ds
 layout_in ds = None
@@ -31,7 +31,7 @@ abbrev pub behind_code : Items → Items
 behind_code no_items = no_items
 behind_code (item d ds) = ds
 
--- where there is a layout, the test of it fails
+-- if there is a layout, its test fails
 abbrev pub fails : (Layout → Items → Bool) → Option Layout → Items → Bool
 fails test None ds = false
 fails test (Some layout) ds = not (test layout ds)
@@ -47,7 +47,7 @@ has_fault_in IdRange json = fails has_range (layout_in (elements_in json)) (behi
 abbrev pub has_fault : List ℕ → MessageFault → Bool
 has_fault octets fault = has_fault_in fault (json_of octets)
 
--- the fault that is told
+-- the fault that is reported
 abbrev pub fault_of : Read → Option MessageFault
 fault_of (Good message) = None
 fault_of (Unfit kind request quiet) = None

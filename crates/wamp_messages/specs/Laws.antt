@@ -11,6 +11,6 @@ use Rattle.wamp_messages.specs.Faults.{faults, has_fault, fault_of}
 abbrev pub ReadsAgain : Type 0
 ReadsAgain = (m : Message) → IsMessage m → read_of (text_of m) ≡ Good m
 
--- octets that are no message are told by the first of their faults, and octets with none are told none
+-- for octets that are no message the first of their faults is reported, and for octets without a fault none
 abbrev pub FirstFaultIsTold : Type 0
 FirstFaultIsTold = (octets : List ℕ) → fault_of (read_of octets) ≡ find (has_fault octets) faults

@@ -1,12 +1,12 @@
--- The layout of each message: what stands behind its code (WAMP specification, "Message Definitions" and "Message Codes"; the layouts of
+-- The layout of each message: what follows its code (WAMP specification, "Message Definitions" and "Message Codes"; the layouts of
 -- this profile: docs/PROTOCOL.md, "Messages").
 use Rattle.std.specs.Prelude.{ℕ, ◌==◌, true, false, Option, Some, None, codes, if◌then◌else◌}
 use Rattle.serde_json.specs.Data.{Items}
-use Rattle.wamp_message_layouts.specs.Codes as code
+use Rattle.wamp_message_types.specs.Codes as code
 use Rattle.wamp_message_layouts.specs.Layouts.{Layout, text_dictionary, id_dictionary, dictionary_text, dictionary_text_args, refusal}
 use Rattle.wamp_message_layouts.specs.Layouts.{id_dictionary_text, id_dictionary_text_args, one_id, two_ids, two_ids_label_args, id_dictionary_args, id_mode}
 
--- by the code and what stands behind it; none where no message has that code
+-- by the code and what follows it; none if no message has that code
 abbrev pub layout_of : ℕ → Items → Option Layout
 layout_of n ds =
     if n == code.hello then Some text_dictionary

@@ -8,7 +8,7 @@ use Rattle.wamp_message_types.specs.declared.message.Message.{Message}
 use Rattle.wamp_message_types.specs.declared.message.Message.TheVariants.{Hello, Welcome, Abort, Goodbye, Error, Publish, Published}
 use Rattle.wamp_message_types.specs.declared.message.Message.TheVariants.{Subscribe, Subscribed, Event, Unsubscribe, Unsubscribed}
 use Rattle.wamp_message_types.specs.declared.message.Message.TheVariants.{Register, Registered, Unregister, Unregistered}
-use Rattle.wamp_message_types.specs.declared.message.Message.TheVariants.{Call, Cancel, Reply, Invocation, Interrupt, Yield}
+use Rattle.wamp_message_types.specs.declared.message.Message.TheVariants.{Call, Cancel, CallResult, Invocation, Interrupt, Yield}
 use Rattle.wamp_messages.specs.Writing.{text_of}
 
 abbrev pub IsId : ℕ → Type 0
@@ -34,7 +34,7 @@ HasParts (Unregister unregister) = IsId unregister.request × IsId unregister.re
 HasParts (Unregistered unregistered) = IsId unregistered.request
 HasParts (Call call) = IsId call.request × IsArgs call.args
 HasParts (Cancel cancel) = IsId cancel.request
-HasParts (Reply reply) = IsId reply.request × IsArgs reply.args
+HasParts (CallResult reply) = IsId reply.request × IsArgs reply.args
 HasParts (Invocation invocation) = IsId invocation.request × (IsId invocation.registration × IsArgs invocation.args)
 HasParts (Interrupt interrupt) = IsId interrupt.request
 HasParts (Yield yielded) = IsId yielded.request × IsArgs yielded.args

@@ -28,7 +28,7 @@ abbrev pub read_from : Elements → Read
 read_from (Publication rest flags) = flagged_in flags (items_view rest.items)
 read_from (All all) = list_in (items_view all.items)
 
--- the elements behind this code end at `new`, and are read as those that were found
+-- the elements after this code end at `new`, and are read as those that were found
 abbrev pub Reads : Elements → Data → List Token → List Token → Type 0
 Reads found code old new =
     (n : ℕ) → length old ≤ n

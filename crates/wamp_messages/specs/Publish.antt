@@ -1,12 +1,12 @@
--- The messages of publications and events (WAMP specification, "Publish and Subscribe"; the keys, and what is taken where one is
--- missing: docs/PROTOCOL.md, "Messages").
+-- The messages of publications and events (WAMP specification, "Publish and Subscribe"; the keys and their defaults:
+-- docs/PROTOCOL.md, "Messages").
 use Rattle.std.specs.Prelude.{ℕ, Bool, true, false, not, List, Option, Some, None, codes, unwrap_or}
 use Rattle.serde_json.specs.Data.{Data, string, boolean, array, object, Items, no_items, item, no_members, member}
 use Rattle.wamp_values.specs.Args.{args_items}
 use Rattle.wamp_values.specs.declared.args.Args.{Args}
-use Rattle.wamp_message_layouts.specs.Codes as code
+use Rattle.wamp_message_types.specs.Codes as code
 use Rattle.wamp_message_layouts.specs.Parts.{whole, only, nothing, label_details}
-use Rattle.wamp_options.specs.Options.{flag_in}
+use Rattle.wamp_values.specs.Options.{flag_in}
 use Rattle.wamp_message_layouts.specs.declared.layouts.TwoIds.{TwoIds}
 use Rattle.wamp_message_layouts.specs.declared.layouts.Labelled.{Labelled}
 use Rattle.wamp_message_layouts.specs.Layouts.{taken, two_ids, two_ids_of, id_dictionary_text_args, Asked, asked_of, two_ids_label_args, labelled_of}
@@ -21,7 +21,7 @@ use Rattle.wamp_messages.specs.ReadResult.{read_as}
 
 -- ---- PUBLISH: Request, Options, Topic, Args
 
--- options hold exactly the keys that differ from what is taken where they are missing
+-- options hold exactly the keys whose values differ from their defaults
 abbrev pub publish_options : Bool → Bool → Data
 publish_options false true = nothing
 publish_options true true = only (codes "acknowledge") (boolean true)

@@ -1,6 +1,6 @@
 -- What is read with the parts that were taken of a message's array.
 use Rattle.std.specs.Prelude.{Result, Ok, Err}
-use Rattle.wamp_message_layouts.specs.declared.fault.MessageFault.{MessageFault}
+use Rattle.wamp_message_types.specs.declared.fault.MessageFault.{MessageFault}
 use Rattle.wamp_message_types.specs.declared.read_result.Read.{Read}
 use Rattle.wamp_message_types.specs.declared.read_result.Read.TheVariants.{Bad}
 

@@ -4,8 +4,8 @@ use Rattle.std.specs.Prelude.{ℕ, ◌==◌, List, Option, Some, None, if◌then
 use Rattle.std.specs.Str.{is_utf8}
 use Rattle.serde_json.specs.Data.{unsigned, Data, number, array, Items, item}
 use Rattle.serde_json.specs.Read.{read}
-use Rattle.wamp_message_layouts.specs.Codes as code
-use Rattle.wamp_message_layouts.specs.declared.fault.MessageFault.TheVariants.{NotJson, NotArray, Kind}
+use Rattle.wamp_message_types.specs.Codes as code
+use Rattle.wamp_message_types.specs.declared.fault.MessageFault.TheVariants.{NotJson, NotArray, Kind}
 use Rattle.wamp_message_types.specs.declared.read_result.Read.{Read}
 use Rattle.wamp_message_types.specs.declared.read_result.Read.TheVariants.{Bad}
 use Rattle.wamp_messages.specs.Session.{hello_in, welcome_in, abort_in, goodbye_in}
@@ -13,9 +13,9 @@ use Rattle.wamp_messages.specs.Error.{error_in}
 use Rattle.wamp_messages.specs.Publish.{publish_in, published_in, event_in}
 use Rattle.wamp_messages.specs.Subscribe.{subscribe_in, subscribed_in, unsubscribe_in, unsubscribed_in}
 use Rattle.wamp_messages.specs.Register.{register_in, registered_in, unregister_in, unregistered_in}
-use Rattle.wamp_messages.specs.Call.{call_in, cancel_in, reply_in, invocation_in, interrupt_in, yield_in}
+use Rattle.wamp_messages.specs.Call.{call_in, cancel_in, call_result_in, invocation_in, interrupt_in, yield_in}
 
--- by the code, what is read of the elements behind it
+-- by the code, what is read of the elements after it
 unfoldable pub by_code : ℕ → Items → Read
 by_code n ds =
     if n == code.hello then hello_in ds
@@ -36,7 +36,7 @@ by_code n ds =
     else (if n == code.unregistered then unregistered_in ds
     else (if n == code.call then call_in ds
     else (if n == code.cancel then cancel_in ds
-    else (if n == code.result then reply_in ds
+    else (if n == code.result then call_result_in ds
     else (if n == code.invocation then invocation_in ds
     else (if n == code.interrupt then interrupt_in ds
     else (if n == code.yield then yield_in ds

@@ -1,4 +1,4 @@
--- The messages of registrations (WAMP specification, "Remote Procedure Calls"; the keys, and what is taken where one is missing:
+-- The messages of registrations (WAMP specification, "Remote Procedure Calls"; the keys and their defaults:
 -- docs/PROTOCOL.md, "Messages").
 use Rattle.std.specs.Prelude.{ℕ, false, List, Option, Some, None, codes}
 use Rattle.serde_json.specs.Data.{Data, string, array, object, Items, no_items, item, no_members, member}
@@ -6,9 +6,9 @@ use Rattle.wamp_ids.specs.declared.policy.Match.{Match}
 use Rattle.wamp_ids.specs.declared.policy.Match.TheVariants.{Exact, Prefix, Wildcard}
 use Rattle.wamp_ids.specs.declared.policy.Invoke.{Invoke}
 use Rattle.wamp_ids.specs.declared.policy.Invoke.TheVariants.{Single, First, Last, RoundRobin}
-use Rattle.wamp_message_layouts.specs.Codes as code
+use Rattle.wamp_message_types.specs.Codes as code
 use Rattle.wamp_message_layouts.specs.Parts.{whole, only}
-use Rattle.wamp_options.specs.Options.{match_in, invoke_in}
+use Rattle.wamp_values.specs.Options.{match_in, invoke_in}
 use Rattle.wamp_message_layouts.specs.declared.layouts.TwoIds.{TwoIds}
 use Rattle.wamp_message_layouts.specs.Layouts.{taken, one_id, one_id_of, two_ids, two_ids_of, id_dictionary_text, Asked, asked_of}
 use Rattle.wamp_message_types.specs.declared.register.Register.{Register}
@@ -28,7 +28,7 @@ abbrev pub invoke_and_match : List ℕ → List ℕ → Data
 invoke_and_match invoke matching =
     object (member (codes "invoke") (string invoke) (member (codes "match") (string matching) no_members))
 
--- the match that is told: every one but the exact one
+-- the match that is written: every one but the exact one
 abbrev pub told_match : Match → Option (List ℕ)
 told_match Exact = None
 told_match Prefix = Some (codes "prefix")
@@ -42,7 +42,7 @@ shared_options invoke matching = shared_with invoke (told_match matching)
     shared_with invoke None = only (codes "invoke") (string invoke)
     shared_with invoke (Some name) = invoke_and_match invoke name
 
--- options hold exactly the keys that differ from what is taken where they are missing
+-- options hold exactly the keys whose values differ from their defaults
 abbrev pub register_options : Invoke → Match → Data
 register_options Single matching = match_options matching
 register_options First matching = shared_options (codes "first") matching

@@ -3,9 +3,9 @@
 use Rattle.std.specs.Prelude.{Bool, true, false, codes}
 use Rattle.serde_json.specs.Data.{Data, string, boolean, array, object, Items, no_items, item, no_members, member}
 use Rattle.wamp_values.specs.Args.{args_items}
-use Rattle.wamp_message_layouts.specs.Codes as code
+use Rattle.wamp_message_types.specs.Codes as code
 use Rattle.wamp_message_layouts.specs.Parts.{whole, only, nothing}
-use Rattle.wamp_options.specs.Options.{is_canceling}
+use Rattle.wamp_values.specs.Options.{is_canceling}
 use Rattle.wamp_message_layouts.specs.declared.layouts.Reason.{Reason}
 use Rattle.wamp_message_layouts.specs.Layouts.{taken, text_dictionary, Named, named_of, id_dictionary, Numbered, numbered_of}
 use Rattle.wamp_message_layouts.specs.Layouts.{dictionary_text, dictionary_text_args, reason_of}

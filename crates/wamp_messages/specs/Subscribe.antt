@@ -1,12 +1,12 @@
--- The messages of subscriptions (WAMP specification, "Publish and Subscribe"; the keys, and what is taken where one is missing:
+-- The messages of subscriptions (WAMP specification, "Publish and Subscribe"; the keys and their defaults:
 -- docs/PROTOCOL.md, "Messages").
 use Rattle.std.specs.Prelude.{ℕ, false, List, Option, Some, None, codes}
 use Rattle.serde_json.specs.Data.{Data, string, array, Items, no_items, item}
 use Rattle.wamp_ids.specs.declared.policy.Match.{Match}
 use Rattle.wamp_ids.specs.declared.policy.Match.TheVariants.{Exact, Prefix, Wildcard}
-use Rattle.wamp_message_layouts.specs.Codes as code
+use Rattle.wamp_message_types.specs.Codes as code
 use Rattle.wamp_message_layouts.specs.Parts.{whole, only, nothing}
-use Rattle.wamp_options.specs.Options.{match_in}
+use Rattle.wamp_values.specs.Options.{match_in}
 use Rattle.wamp_message_layouts.specs.declared.layouts.TwoIds.{TwoIds}
 use Rattle.wamp_message_layouts.specs.Layouts.{taken, one_id, one_id_of, two_ids, two_ids_of, id_dictionary_text, Asked, asked_of}
 use Rattle.wamp_message_types.specs.declared.subscribe.Subscribe.{Subscribe}

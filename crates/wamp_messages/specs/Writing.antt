@@ -6,13 +6,13 @@ use Rattle.wamp_message_types.specs.declared.message.Message.{Message}
 use Rattle.wamp_message_types.specs.declared.message.Message.TheVariants.{Hello, Welcome, Abort, Goodbye, Error, Publish, Published}
 use Rattle.wamp_message_types.specs.declared.message.Message.TheVariants.{Subscribe, Subscribed, Event, Unsubscribe, Unsubscribed}
 use Rattle.wamp_message_types.specs.declared.message.Message.TheVariants.{Register, Registered, Unregister, Unregistered}
-use Rattle.wamp_message_types.specs.declared.message.Message.TheVariants.{Call, Cancel, Reply, Invocation, Interrupt, Yield}
+use Rattle.wamp_message_types.specs.declared.message.Message.TheVariants.{Call, Cancel, CallResult, Invocation, Interrupt, Yield}
 use Rattle.wamp_messages.specs.Session.{hello_value, welcome_value, abort_value, goodbye_value}
 use Rattle.wamp_messages.specs.Error.{error_value}
 use Rattle.wamp_messages.specs.Publish.{publish_value, published_value, event_value}
 use Rattle.wamp_messages.specs.Subscribe.{subscribe_value, subscribed_value, unsubscribe_value, unsubscribed_value}
 use Rattle.wamp_messages.specs.Register.{register_value, registered_value, unregister_value, unregistered_value}
-use Rattle.wamp_messages.specs.Call.{call_value, cancel_value, reply_value, invocation_value, interrupt_value, yield_value}
+use Rattle.wamp_messages.specs.Call.{call_value, cancel_value, call_result_value, invocation_value, interrupt_value, yield_value}
 
 abbrev pub value_of : Message → Data
 value_of (Hello hello) = hello_value hello
@@ -33,7 +33,7 @@ value_of (Unregister unregister) = unregister_value unregister
 value_of (Unregistered unregistered) = unregistered_value unregistered
 value_of (Call call) = call_value call
 value_of (Cancel cancel) = cancel_value cancel
-value_of (Reply reply) = reply_value reply
+value_of (CallResult reply) = call_result_value reply
 value_of (Invocation invocation) = invocation_value invocation
 value_of (Interrupt interrupt) = interrupt_value interrupt
 value_of (Yield yielded) = yield_value yielded

@@ -6,7 +6,7 @@ ghost use Rattle.wamp_message_layouts.specs.Elements.{elements};
 ghost use Rattle.wamp_message_layouts.specs.Layouts.{seen_asked};
 ghost use Rattle.wamp_messages.specs.Message.{IsId};
 ghost use Rattle.wamp_messages.specs.Call.{call_in, call_read, call_value, cancel_in, cancel_with, cancel_value, cancel_options};
-ghost use Rattle.wamp_messages.specs.Call.{reply_in, reply_value, invocation_in, invocation_value, interrupt_in, interrupt_value};
+ghost use Rattle.wamp_messages.specs.Call.{call_result_in, call_result_value, invocation_in, invocation_value, interrupt_in, interrupt_value};
 ghost use Rattle.wamp_messages.specs.Call.{mode_name, mode_options, yield_in, yield_read, yield_value};
 
 use crate::shared::{begin_with_id, begin_with_ids, end_with_args, put_answer};
@@ -16,34 +16,33 @@ use std::alloc::AllocError;
 use std::vec::IntoIter;
 use wamp_ids::{Id, Mode};
 use wamp_message_layouts::{
-    Answered, UriRequest, codes, end, id_dictionary, id_dictionary_args, id_dictionary_text_args,
-    id_mode, put_label, put_nothing, put_text_option, two_ids_label_args,
+    Answered, UriRequest, end, id_dictionary, id_dictionary_args, id_dictionary_text_args, id_mode,
+    put_label, put_nothing, put_text_option, two_ids_label_args,
 };
 use wamp_message_types::{
-    Call, Cancel, Interrupt, Invocation, Message, Read, Reply, UnfitKind, Yield,
+    Call, CallResult, Cancel, Interrupt, Invocation, Message, Read, UnfitKind, Yield, codes,
 };
-use wamp_options::mode_in;
-use wamp_values::Args;
+use wamp_values::{Args, mode_in};
 
-// What the elements behind the code of CALL are read as.
+// Reads the elements after the code of CALL.
 pub(crate) fn read_call(rest: IntoIter<Value>) -> Read
     ensures { result ≡ call_in (elements rest) }
 {
     match id_dictionary_text_args(rest) {
-        Ok(asked) => call_of(asked),
+        Ok(uri_request) => call_of(uri_request),
         Err(fault) => Read::Bad(fault),
     }
 }
 
-fn call_of(asked: UriRequest) -> Read
-    ensures { result ≡ call_read (seen_asked asked) }
+fn call_of(uri_request: UriRequest) -> Read
+    ensures { result ≡ call_read (seen_asked uri_request) }
 {
     let UriRequest {
         request,
         options,
         uri,
         args,
-    } = asked;
+    } = uri_request;
     drop(options);
     let Some(args) = args else {
         drop(uri);
@@ -69,7 +68,7 @@ pub(crate) fn put_call(call: &Call, out: &mut Writer) -> Result<(), AllocError>
     end_with_args(&call.procedure, &call.args, out)
 }
 
-// What the elements behind the code of CANCEL are read as.
+// Reads the elements after the code of CANCEL.
 pub(crate) fn read_cancel(rest: IntoIter<Value>) -> Read
     ensures { result ≡ cancel_in (elements rest) }
 {
@@ -101,12 +100,12 @@ pub(crate) fn put_cancel(cancel: Cancel, out: &mut Writer) -> Result<(), AllocEr
     out.end_array()
 }
 
-// What the elements behind the code of RESULT are read as.
-pub(crate) fn read_reply(rest: IntoIter<Value>) -> Read
-    ensures { result ≡ reply_in (elements rest) }
+// Reads the elements after the code of RESULT.
+pub(crate) fn read_call_result(rest: IntoIter<Value>) -> Read
+    ensures { result ≡ call_result_in (elements rest) }
 {
     match id_dictionary_args(rest, false) {
-        Ok(taken) => Read::Good(Message::Reply(Reply {
+        Ok(taken) => Read::Good(Message::CallResult(CallResult {
             request: taken.request,
             args: taken.args.unwrap_or(Args::Nothing),
         })),
@@ -114,14 +113,14 @@ pub(crate) fn read_reply(rest: IntoIter<Value>) -> Read
     }
 }
 
-pub(crate) fn put_reply(reply: &Reply, out: &mut Writer) -> Result<(), AllocError>
-    ensures tokens { Appends result out.old out.new (data_tokens (reply_value reply.now)) }
+pub(crate) fn put_call_result(reply: &CallResult, out: &mut Writer) -> Result<(), AllocError>
+    ensures tokens { Appends result out.old out.new (data_tokens (call_result_value reply.now)) }
     ensures parts { OnOk result (IsId reply.now.request × IsArgs reply.now.args) }
 {
     put_answer(codes::RESULT, reply.request, &reply.args, out)
 }
 
-// What the elements behind the code of INVOCATION are read as.
+// Reads the elements after the code of INVOCATION.
 pub(crate) fn read_invocation(rest: IntoIter<Value>) -> Read
     ensures { result ≡ invocation_in (elements rest) }
 {
@@ -151,7 +150,7 @@ pub(crate) fn put_invocation(invocation: &Invocation, out: &mut Writer) -> Resul
     end(&invocation.args, out)
 }
 
-// What the elements behind the code of INTERRUPT are read as.
+// Reads the elements after the code of INTERRUPT.
 pub(crate) fn read_interrupt(rest: IntoIter<Value>) -> Read
     ensures { result ≡ interrupt_in (elements rest) }
 {
@@ -173,7 +172,7 @@ pub(crate) fn put_interrupt(interrupt: Interrupt, out: &mut Writer) -> Result<()
     out.end_array()
 }
 
-// What the elements behind the code of YIELD are read as.
+// Reads the elements after the code of YIELD.
 pub(crate) fn read_yield(rest: IntoIter<Value>) -> Read
     ensures { result ≡ yield_in (elements rest) }
 {

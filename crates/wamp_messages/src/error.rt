@@ -11,10 +11,10 @@ use json::Writer;
 use serde_json::Value;
 use std::alloc::AllocError;
 use std::vec::IntoIter;
-use wamp_message_layouts::{Refusal, RequestKind, begin, codes, put_nothing, refused};
-use wamp_message_types::{Error, Message, Read, UnfitKind};
+use wamp_message_layouts::{Refusal, begin, put_nothing, refused};
+use wamp_message_types::{Error, Message, Read, RequestKind, UnfitKind, codes};
 
-// What the elements behind the code of ERROR are read as.
+// Reads the elements after the code of ERROR.
 pub(crate) fn read_error(rest: IntoIter<Value>) -> Read
     ensures { result ≡ error_in (elements rest) }
 {
@@ -24,7 +24,7 @@ pub(crate) fn read_error(rest: IntoIter<Value>) -> Read
     }
 }
 
-// Without arguments that are kept exactly it is unfit: it answers an invocation.
+// Without exactly kept arguments it is unfit; only the answer to an invocation comes here without.
 fn error_of(refusal: Refusal) -> Read
     ensures { result ≡ error_read refusal }
 {

@@ -1,10 +1,10 @@
-// What the options of a publication say, read from their tokens: no object is made of them.
+// Reads the options of a publication from their tokens, without making an object of them.
 ghost use Rattle.std.specs.Prelude.{◌≡◌, ◌<◌, length, IfOk, OnOk};
 ghost use Rattle.json.specs.Json.{members, value};
 ghost use Rattle.serde_json.specs.Data.{Members, no_members, object, put};
 ghost use Rattle.serde_json.specs.Read.{of_members, converted};
 ghost use Rattle.serde_json.specs.View.{view};
-ghost use Rattle.wamp_values.specs.Options.{bool_at};
+ghost use Rattle.wamp_values.specs.Found.{bool_at};
 ghost use Rattle.wamp_messages.specs.Flags.{Tells, truth_of, flag_of};
 
 use crate::parser::{Untaken, value_in};
@@ -13,7 +13,7 @@ use serde_json::Value;
 use std::alloc::Global;
 use wamp_values::Found;
 
-// What stands at the two keys that the options of a publication may have.
+// What the options of a publication hold at the two keys that they may have.
 #[derive(Clone, Copy, Drop)]
 pub(crate) struct Flags {
     pub acknowledge: Found<bool>,
@@ -21,7 +21,7 @@ pub(crate) struct Flags {
 }
 
 impl Flags {
-    // The flags once this member is put among those that they tell.
+    // Returns the flags after this member is added to those that they show.
     #[inline(always)]
     fn with(self, name: &str, member: &Value) -> Flags
         ensures { (ms : Members) → Tells self ms
@@ -34,7 +34,7 @@ impl Flags {
     }
 }
 
-// What stands at this key once this member is put among the others.
+// Returns what is at this key after this member is added to the others.
 #[inline(always)]
 fn found_with(found: Found<bool>, key: &str, name: &str, member: &Value) -> Found<bool>
     ensures { (ms : Members) → found ≡ bool_at key.now (object ms)
@@ -53,7 +53,7 @@ fn truth_of(value: &Value) -> Found<bool>
     }
 }
 
-// The truth value of a flag, or what is taken where it is missing; `None` where it has another type.
+// Returns the truth value of a flag, or `missing` if it is absent; `None` if it has another type.
 #[inline(always)]
 pub(crate) fn flag_of(found: Found<bool>, missing: bool) -> Option<bool>
     ensures { result ≡ flag_of missing found }
@@ -65,7 +65,7 @@ pub(crate) fn flag_of(found: Found<bool>, missing: bool) -> Option<bool>
     }
 }
 
-// The flags of an object whose brace was passed, and its end. Of members with one key the last counts.
+// Reads the flags of an object whose brace was passed, and the object's end. Of members with the same key the last counts.
 pub(crate) fn flags_in(
     alloc: Global,
     reader: &mut Reader<'_>,

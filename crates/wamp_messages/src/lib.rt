@@ -18,11 +18,10 @@ mod writing;
 pub use parser::Parser;
 pub use reading::{read, read_by};
 pub use wamp_ids::{Id, Invoke, Match, Mode, Text};
-pub use wamp_message_layouts::{MessageFault, RequestKind};
 pub use wamp_message_types::{
-    Abort, Call, Cancel, Error, Event, Goodbye, Hello, Interrupt, Invocation, Memory, Message,
-    Publish, Published, Read, Register, Registered, Reply, Subscribe, Subscribed, UnfitKind,
-    Unregister, Unregistered, Unsubscribe, Unsubscribed, Welcome, Yield,
+    Abort, Call, CallResult, Cancel, Error, Event, Goodbye, Hello, Interrupt, Invocation, Memory,
+    Message, MessageFault, Publish, Published, Read, Register, Registered, RequestKind, Subscribe,
+    Subscribed, UnfitKind, Unregister, Unregistered, Unsubscribe, Unsubscribed, Welcome, Yield,
 };
 pub use wamp_values::{Args, Arguments, ArgumentsKw, Payload};
 pub use writing::{write, write_into};

@@ -1,10 +1,10 @@
-// From tokens to a message: the outermost array is read element by element, and the options of a publication become no object.
+// From tokens to a message: the outermost array is read element by element, and no object is made of a publication's options.
 ghost use Rattle.std.specs.Prelude.{◌≡◌, ◌<◌, length, Some, IfOk, OnOk};
 ghost use Rattle.std.specs.Bool.{OnTrue};
 ghost use Rattle.serde_json.specs.Data.{unsigned, number, object, Members};
 ghost use Rattle.serde_json.specs.Read.{read as read_text};
 ghost use Rattle.serde_json.specs.View.{view};
-ghost use Rattle.wamp_message_layouts.specs.Codes as code;
+ghost use Rattle.wamp_message_types.specs.Codes as code;
 ghost use Rattle.wamp_messages.specs.Flags.{Tells};
 ghost use Rattle.wamp_messages.specs.Outermost.{IsNext, Reads, read_from};
 ghost use Rattle.wamp_messages.specs.Reading.{json_read_as};
@@ -17,19 +17,18 @@ use json::{Reader, Scratch, Token};
 use serde_json::Value;
 use serde_json::value::Map;
 use std::alloc::Global;
-use wamp_message_layouts::codes;
-use wamp_message_types::Read;
+use wamp_message_types::{Read, codes};
 
 // The elements of a message's array.
 #[derive(Drop)]
 pub(crate) enum Elements {
-    // Those behind the code of a publication, an object without members in the place of its options, and what those say.
+    // Those after the code of a publication, with an empty object in the place of its options, and what the options say.
     Publication(Vec<Value>, Flags),
     // All, the code first.
     All(Vec<Value>),
 }
 
-// The elements of this text, where it is an array of JSON with no number but integers of 64 bits, and memory suffices.
+// Reads the elements of this text, if it is a JSON array whose numbers are all integers of 64 bits, and memory suffices.
 pub(crate) fn elements_of(
     alloc: Global,
     text: &str,
@@ -51,7 +50,7 @@ pub(crate) fn elements_of(
     Ok(found)
 }
 
-// What these elements are read as.
+// Makes a message of these elements.
 #[inline(always)]
 pub(crate) fn read_from(found: Elements) -> Read
     ensures { result ≡ read_from found }
@@ -62,7 +61,7 @@ pub(crate) fn read_from(found: Elements) -> Read
     }
 }
 
-// The elements whose first is this one, and the end of their array.
+// Reads the elements that begin with this one, which was read, and the end of their array.
 #[inline(always)]
 fn elements_behind(
     alloc: Global,
@@ -112,7 +111,7 @@ fn publication(alloc: Global, reader: &mut Reader<'_>) -> Result<Elements, Untak
     Ok(Elements::Publication(rest, flags))
 }
 
-// The next element of the outermost array, where one stands.
+// Reads the next element of the outermost array, if there is one.
 fn element(alloc: Global, reader: &mut Reader<'_>) -> Result<Value, Untaken>
     ensures value { IfOk result (λ found. IsNext (view found) reader.old reader.new) }
     ensures shorter { OnOk result (length reader.new < length reader.old) }
@@ -124,7 +123,7 @@ fn element(alloc: Global, reader: &mut Reader<'_>) -> Result<Value, Untaken>
     Ok(found)
 }
 
-// The flags of the next element, where it is an object.
+// Reads the flags of the next element, if it is an object.
 #[inline(always)]
 fn options(alloc: Global, reader: &mut Reader<'_>) -> Result<Flags, Untaken>
     ensures value { IfOk result (λ flags. (ms : Members)

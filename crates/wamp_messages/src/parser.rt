@@ -1,4 +1,4 @@
-// From octets to a JSON value, in room that is kept from text to text.
+// From octets to a JSON value, in a buffer that is reused from text to text.
 ghost use Rattle.std.specs.Prelude.{◌≡◌, ◌<◌, ◌≤◌, ◌==◌, ℕ, length, slice_index, true, false, Some, IfSome, IfOk, OnOk, IsTrue, IsUtf8};
 ghost use Rattle.json.specs.Json.{value, items, members, parse_map};
 ghost use Rattle.serde_json.specs.Data.{no_members};
@@ -18,10 +18,10 @@ use std::alloc::{AllocError, AllocFailed, Global};
 // How deep a value may nest, as in `serde_json`.
 pub(crate) const DEPTH: usize = 127;
 
-// Room for the elements of a message, which are seven at the most, and for the first items of any array that has one.
+// The initial capacity of an array that has an item: a message has at most seven elements.
 pub(crate) const ROOM: usize = 8;
 
-/// What reading needs: the allocator, and room that is kept from message to message.
+/// What reading needs: the allocator, and a buffer that is reused from message to message.
 pub struct Parser {
     pub(crate) alloc: Global,
     scratch: Scratch,
@@ -36,7 +36,7 @@ impl Drop for Parser {
     }
 }
 
-// The text is not taken here: it is no JSON, has a number that is no integer of 64 bits, or memory is missing.
+// The text is not taken here: it is no JSON, has a number that is no integer of 64 bits, or memory ran out.
 #[derive(Clone, Copy, Drop)]
 pub(crate) struct Untaken;
 
@@ -59,7 +59,7 @@ impl From<Invalid> for Untaken {
 }
 
 impl Parser {
-    /// A parser with no room yet beyond its own 16 KiB; it takes memory when it reads.
+    /// Returns a parser that holds 16 KiB in itself; it allocates only when it reads.
     pub fn new(alloc: Global) -> Parser {
         Parser {
             alloc,
@@ -67,7 +67,7 @@ impl Parser {
         }
     }
 
-    // The elements of these octets, where they are an array of JSON with no number but integers of 64 bits, and memory suffices.
+    // Reads the elements of these octets, if they are a JSON array whose numbers are all integers of 64 bits, and memory suffices.
     #[tactic(auto, using(crate::proofs::Json::octets_read))]
     pub(crate) fn elements(&mut self, octets: &[u8]) -> Result<Elements, Untaken>
         ensures { IfOk result (λ found. read_from found ≡ read_of octets.now) }
@@ -80,7 +80,7 @@ impl Parser {
     }
 }
 
-// The next value, nested no deeper than this.
+// Reads the next value, nested no deeper than this.
 #[cycle(value_in)]
 #[inline(always)]
 pub(crate) fn value_in(
@@ -117,7 +117,7 @@ pub(crate) fn value_in(
     }
 }
 
-// The items of an array whose bracket was passed, and its end.
+// Reads the items of an array whose bracket was passed, and its end.
 #[cycle(value_in)]
 #[inline(never)]
 fn items_in(alloc: Global, reader: &mut Reader<'_>, depth: usize) -> Result<Vec<Value>, Untaken>
@@ -132,7 +132,7 @@ fn items_in(alloc: Global, reader: &mut Reader<'_>, depth: usize) -> Result<Vec<
     more_items(alloc, reader, depth, Vec::with_capacity(alloc, ROOM)?)
 }
 
-// These items and those that follow, up to the end of the array.
+// Adds the items that follow these, up to the end of the array.
 #[cycle(value_in)]
 #[inline(never)]
 pub(crate) fn more_items(
@@ -154,7 +154,7 @@ pub(crate) fn more_items(
     Ok(all)
 }
 
-// The members of an object whose brace was passed, and its end. Of members with one key the last stays.
+// Reads the members of an object whose brace was passed, and its end. Of members with the same key the last stays.
 #[cycle(value_in)]
 #[inline(never)]
 fn members_in(
@@ -177,7 +177,7 @@ fn members_in(
     Ok(found)
 }
 
-// The number of a token, where it is an integer of 64 bits.
+// Returns the number of a token, if it is an integer of 64 bits.
 fn integer_in(text: &str) -> Option<Number>
     ensures { IfSome result (λ number. number_of text.now ≡ Some (number_view number)) }
 {
@@ -202,7 +202,7 @@ fn positive_in(digits: &Numeral<'_>) -> Option<Number>
     Some(Number::from(digits.to_u64()?))
 }
 
-// The number below zero whose digits follow the sign; zero itself has none.
+// Returns the negative number with these digits after the sign; `None` for zero, or if an i64 does not hold it.
 fn negative_in(digits: &Numeral<'_>) -> Option<Number>
     ensures { IfSome result (λ number. number_from true digits.now ≡ Some (number_view number)) }
 {

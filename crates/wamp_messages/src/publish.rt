@@ -19,32 +19,31 @@ use std::alloc::AllocError;
 use std::vec::IntoIter;
 use wamp_ids::{Id, Text};
 use wamp_message_layouts::{
-    UriRequest, codes, end, id_dictionary_text_args, open, put_flag_option, put_label, put_nothing,
+    UriRequest, end, id_dictionary_text_args, open, put_flag_option, put_label, put_nothing,
     two_ids, two_ids_label_args,
 };
-use wamp_message_types::{Event, Message, Publish, Published, Read, UnfitKind};
-use wamp_options::flag_in;
-use wamp_values::Args;
+use wamp_message_types::{Event, Message, Publish, Published, Read, UnfitKind, codes};
+use wamp_values::{Args, flag_in};
 
-// What the elements behind the code of PUBLISH are read as.
+// Reads the elements after the code of PUBLISH.
 pub(crate) fn read_publish(rest: IntoIter<Value>) -> Read
     ensures { result ≡ publish_in (elements rest) }
 {
     match id_dictionary_text_args(rest) {
-        Ok(asked) => publish_of(asked),
+        Ok(uri_request) => publish_of(uri_request),
         Err(fault) => Read::Bad(fault),
     }
 }
 
-fn publish_of(asked: UriRequest) -> Read
-    ensures { result ≡ publish_read (seen_asked asked) }
+fn publish_of(uri_request: UriRequest) -> Read
+    ensures { result ≡ publish_read (seen_asked uri_request) }
 {
     let UriRequest {
         request,
         options,
         uri,
         args,
-    } = asked;
+    } = uri_request;
     let acknowledge = flag_in(&options, "acknowledge", false);
     let exclude_me = flag_in(&options, "exclude_me", true);
     drop(options);
@@ -92,27 +91,27 @@ fn unfit(request: Id, quiet: bool) -> Read
     }
 }
 
-// The same of elements whose options were read before: flags stand for them, and an object without members in their place.
+// Reads the elements after the code of PUBLISH if its options were read before: `flags` has them, and an empty object is in their place.
 #[inline(always)]
 pub(crate) fn read_flagged(rest: IntoIter<Value>, flags: Flags) -> Read
     ensures { result ≡ flagged_in flags (elements rest) }
 {
     match id_dictionary_text_args(rest) {
-        Ok(asked) => flagged_of(asked, flags),
+        Ok(uri_request) => flagged_of(uri_request, flags),
         Err(fault) => Read::Bad(fault),
     }
 }
 
 #[inline(always)]
-fn flagged_of(asked: UriRequest, flags: Flags) -> Read
-    ensures { result ≡ flagged_read flags (seen_asked asked) }
+fn flagged_of(uri_request: UriRequest, flags: Flags) -> Read
+    ensures { result ≡ flagged_read flags (seen_asked uri_request) }
 {
     let UriRequest {
         request,
         options,
         uri,
         args,
-    } = asked;
+    } = uri_request;
     drop(options);
     let acknowledge = flag_of(flags.acknowledge, false);
     let exclude_me = flag_of(flags.exclude_me, true);
@@ -128,7 +127,7 @@ pub(crate) fn put_publish(publish: &Publish, out: &mut Writer) -> Result<(), All
     end_with_args(&publish.topic, &publish.args, out)
 }
 
-// What the elements behind the code of PUBLISHED are read as.
+// Reads the elements after the code of PUBLISHED.
 pub(crate) fn read_published(rest: IntoIter<Value>) -> Read
     ensures { result ≡ published_in (elements rest) }
 {
@@ -153,7 +152,7 @@ pub(crate) fn put_published(published: Published, out: &mut Writer) -> Result<()
     )
 }
 
-// What the elements behind the code of EVENT are read as.
+// Reads the elements after the code of EVENT.
 pub(crate) fn read_event(rest: IntoIter<Value>) -> Read
     ensures { result ≡ event_in (elements rest) }
 {

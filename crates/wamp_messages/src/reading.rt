@@ -5,7 +5,7 @@ ghost use Rattle.wamp_message_layouts.specs.Elements.{elements};
 ghost use Rattle.wamp_messages.specs.Reading.{read_of, message_in, list_in, by_code};
 
 use crate::call::{
-    read_call, read_cancel, read_interrupt, read_invocation, read_reply, read_yield,
+    read_call, read_call_result, read_cancel, read_interrupt, read_invocation, read_yield,
 };
 use crate::error::read_error;
 use crate::outermost::read_from;
@@ -17,13 +17,12 @@ use crate::subscribe::{read_subscribe, read_subscribed, read_unsubscribe, read_u
 use serde_json::Value;
 use std::alloc::Global;
 use std::vec::IntoIter;
-use wamp_message_layouts::{MessageFault, codes};
-use wamp_message_types::{Memory, Read};
+use wamp_message_types::{Memory, MessageFault, Read, codes};
 
-/// What these octets are read as: a message, a request that is unfit, or why they are no message.
+/// Reads these octets: a message, a request that is unfit, or why they are no message.
 ///
-/// The octets are gone over once, as JSON; texts and arguments are moved out of what was parsed (WAMP specification, "Message
-/// Definitions"; the order of faults is this profile's). Where memory runs out nothing was read, and nothing has changed.
+/// Parses the octets once, as JSON, and moves texts and arguments out of what was parsed (WAMP specification, "Message Definitions"; the
+/// order of faults is this profile's). If memory runs out, returns `Memory` and changes nothing.
 #[tactic(auto, using(crate::proofs::Json::json_read, crate::proofs::Json::no_json))]
 pub fn read(alloc: Global, octets: &[u8]) -> Result<Read, Memory>
     ensures { IfOk result (λ done. done ≡ read_of octets.now) }
@@ -38,10 +37,10 @@ pub fn read(alloc: Global, octets: &[u8]) -> Result<Read, Memory>
     }
 }
 
-/// The same over room that is kept from message to message, which takes less time.
+/// Reads these octets as `read` does, in a buffer that is reused from message to message, which is faster.
 ///
-/// Nearly all messages are read in that room. What is not (no JSON, a number that is no integer of 64 bits, no memory) is gone
-/// over once more, by `read`.
+/// Nearly all messages are read in that buffer. If the octets are no JSON, have a number that is no integer of 64 bits, or memory runs out,
+/// `read` reads them once more.
 pub fn read_by(parser: &mut Parser, octets: &[u8]) -> Result<Read, Memory>
     ensures { IfOk result (λ done. done ≡ read_of octets.now) }
 {
@@ -60,7 +59,7 @@ fn read_value(value: Value) -> Read
     read_elements(elements)
 }
 
-// What the elements of a message's array are read as.
+// Reads the elements of a message's array.
 pub(crate) fn read_elements(all: Vec<Value>) -> Read
     ensures { result ≡ list_in (items_view all.items) }
 {
@@ -97,7 +96,7 @@ fn read_kind(code: u64, rest: IntoIter<Value>) -> Read
         codes::UNREGISTERED => read_unregistered(rest),
         codes::CALL => read_call(rest),
         codes::CANCEL => read_cancel(rest),
-        codes::RESULT => read_reply(rest),
+        codes::RESULT => read_call_result(rest),
         codes::INVOCATION => read_invocation(rest),
         codes::INTERRUPT => read_interrupt(rest),
         codes::YIELD => read_yield(rest),

@@ -16,32 +16,32 @@ use std::alloc::AllocError;
 use std::vec::IntoIter;
 use wamp_ids::{Id, Invoke, Match};
 use wamp_message_layouts::{
-    UriRequest, codes, id_dictionary_text, one_id, open, put_text_option, two_ids,
+    UriRequest, id_dictionary_text, one_id, open, put_text_option, two_ids,
 };
 use wamp_message_types::{
-    Message, Read, Register, Registered, UnfitKind, Unregister, Unregistered,
+    Message, Read, Register, Registered, UnfitKind, Unregister, Unregistered, codes,
 };
-use wamp_options::{invoke_in, match_in};
+use wamp_values::{invoke_in, match_in};
 
-// What the elements behind the code of REGISTER are read as.
+// Reads the elements after the code of REGISTER.
 pub(crate) fn read_register(rest: IntoIter<Value>) -> Read
     ensures { result ≡ register_in (elements rest) }
 {
     match id_dictionary_text(rest) {
-        Ok(asked) => register_of(asked),
+        Ok(uri_request) => register_of(uri_request),
         Err(fault) => Read::Bad(fault),
     }
 }
 
-fn register_of(asked: UriRequest) -> Read
-    ensures { result ≡ register_read (seen_asked asked) }
+fn register_of(uri_request: UriRequest) -> Read
+    ensures { result ≡ register_read (seen_asked uri_request) }
 {
     let UriRequest {
         request,
         options,
         uri,
         args,
-    } = asked;
+    } = uri_request;
     let modes = (match_in(&options), invoke_in(&options));
     drop((options, args));
     let (Some(matching), Some(invoke)) = modes else {
@@ -65,7 +65,7 @@ pub(crate) fn put_register(register: &Register, out: &mut Writer) -> Result<(), 
     end_with_text(&register.procedure, out)
 }
 
-// What the elements behind the code of REGISTERED are read as.
+// Reads the elements after the code of REGISTERED.
 pub(crate) fn read_registered(rest: IntoIter<Value>) -> Read
     ensures { result ≡ registered_in (elements rest) }
 {
@@ -90,7 +90,7 @@ pub(crate) fn put_registered(registered: Registered, out: &mut Writer) -> Result
     )
 }
 
-// What the elements behind the code of UNREGISTER are read as.
+// Reads the elements after the code of UNREGISTER.
 pub(crate) fn read_unregister(rest: IntoIter<Value>) -> Read
     ensures { result ≡ unregister_in (elements rest) }
 {
@@ -115,7 +115,7 @@ pub(crate) fn put_unregister(unregister: Unregister, out: &mut Writer) -> Result
     )
 }
 
-// What the elements behind the code of UNREGISTERED are read as.
+// Reads the elements after the code of UNREGISTERED.
 pub(crate) fn read_unregistered(rest: IntoIter<Value>) -> Read
     ensures { result ≡ unregistered_in (elements rest) }
 {
@@ -156,7 +156,7 @@ fn put_register_options(invoke: Invoke, matching: Match, out: &mut Writer) -> Re
     }
 }
 
-// The options of a shared registration.
+// Writes the options of a shared registration.
 fn put_shared_options(invoke: &str, matching: Match, out: &mut Writer) -> Result<(), AllocError>
     ensures { Appends result out.old out.new (data_tokens (shared_options invoke.now matching)) }
 {
@@ -166,7 +166,7 @@ fn put_shared_options(invoke: &str, matching: Match, out: &mut Writer) -> Result
     }
 }
 
-// The match that is told: every one but the exact one.
+// Returns the name of a match that is written: of each but the exact one.
 fn told_match(matching: Match) -> Option<&'static str>
     ensures { option_map (λ name. name.now) result ≡ told_match matching }
 {

@@ -14,13 +14,13 @@ use serde_json::Value;
 use std::alloc::AllocError;
 use std::vec::IntoIter;
 use wamp_message_layouts::{
-    Reason, begin, close_two, codes, dictionary_text, dictionary_text_args, id_dictionary, open,
+    Reason, begin, close_two, dictionary_text, dictionary_text_args, id_dictionary, open,
     open_within, put_feature, put_nothing, text_dictionary,
 };
-use wamp_message_types::{Abort, Goodbye, Hello, Message, Read, Welcome};
-use wamp_options::is_canceling;
+use wamp_message_types::{Abort, Goodbye, Hello, Message, Read, Welcome, codes};
+use wamp_values::is_canceling;
 
-// What the elements behind the code of HELLO are read as.
+// Reads the elements after the code of HELLO.
 pub(crate) fn read_hello(rest: IntoIter<Value>) -> Read
     ensures { result ≡ hello_in (elements rest) }
 {
@@ -42,7 +42,7 @@ pub(crate) fn put_hello(hello: &Hello, out: &mut Writer) -> Result<(), AllocErro
     out.end_array()
 }
 
-// What the elements behind the code of WELCOME are read as.
+// Reads the elements after the code of WELCOME.
 pub(crate) fn read_welcome(rest: IntoIter<Value>) -> Read
     ensures { result ≡ welcome_in (elements rest) }
 {
@@ -63,7 +63,7 @@ pub(crate) fn put_welcome(welcome: Welcome, out: &mut Writer) -> Result<(), Allo
     out.end_array()
 }
 
-// What the elements behind the code of ABORT are read as.
+// Reads the elements after the code of ABORT.
 pub(crate) fn read_abort(rest: IntoIter<Value>) -> Read
     ensures { result ≡ abort_in (elements rest) }
 {
@@ -85,7 +85,7 @@ pub(crate) fn put_abort(abort: &Abort, out: &mut Writer) -> Result<(), AllocErro
     end_with_args(&abort.reason, &abort.args, out)
 }
 
-// What the elements behind the code of GOODBYE are read as.
+// Reads the elements after the code of GOODBYE.
 pub(crate) fn read_goodbye(rest: IntoIter<Value>) -> Read
     ensures { result ≡ goodbye_in (elements rest) }
 {
@@ -142,7 +142,7 @@ fn put_welcome_details(out: &mut Writer) -> Result<(), AllocError>
     close_two(out)
 }
 
-// A role up to its first feature.
+// Writes a role up to its first feature.
 fn open_role(name: &str, out: &mut Writer) -> Result<(), AllocError>
     ensures { Appends result out.old out.new
         (key name.now ∷ begin_object ∷ key (codes "features") ∷ begin_object ∷ []) }

@@ -1,4 +1,4 @@
-// What the layouts of several kinds have in common, written.
+// Writers of what the layouts of several kinds have in common.
 ghost use Rattle.std.specs.Prelude.{◌∷◌, [], OnOk, decimal};
 ghost use Rattle.json.specs.Token.{begin_array, number};
 ghost use Rattle.serde_json.specs.Data.{string, array, no_items, item};
@@ -13,7 +13,7 @@ use wamp_ids::{Id, Text};
 use wamp_message_layouts::{begin, end, put_nothing};
 use wamp_values::Args;
 
-// The array's bracket, the message's code and an id.
+// Writes the array's bracket, the message's code and an id.
 pub(crate) fn begin_with_id(code: u64, id: Id, out: &mut Writer) -> Result<(), AllocError>
     ensures tokens { Appends result out.old out.new
         (begin_array ∷ number (decimal code) ∷ number (decimal id) ∷ []) }
@@ -23,7 +23,7 @@ pub(crate) fn begin_with_id(code: u64, id: Id, out: &mut Writer) -> Result<(), A
     out.u64(id.get())
 }
 
-// The array's bracket, the message's code and two ids.
+// Writes the array's bracket, the message's code and two ids.
 pub(crate) fn begin_with_ids(
     code: u64,
     first: Id,
@@ -38,7 +38,7 @@ pub(crate) fn begin_with_ids(
     out.u64(second.get())
 }
 
-// A message of one id.
+// Writes a message of one id.
 pub(crate) fn put_id(code: u64, id: Id, out: &mut Writer) -> Result<(), AllocError>
     ensures tokens { Appends result out.old out.new
         (data_tokens (array (item (whole code) (item (whole id) no_items)))) }
@@ -48,7 +48,7 @@ pub(crate) fn put_id(code: u64, id: Id, out: &mut Writer) -> Result<(), AllocErr
     out.end_array()
 }
 
-// A message of two ids.
+// Writes a message of two ids.
 pub(crate) fn put_ids(code: u64, first: Id, second: Id, out: &mut Writer) -> Result<(), AllocError>
     ensures tokens { Appends result out.old out.new
         (data_tokens (array (item (whole code) (item (whole first) (item (whole second) no_items))))) }
@@ -58,7 +58,7 @@ pub(crate) fn put_ids(code: u64, first: Id, second: Id, out: &mut Writer) -> Res
     out.end_array()
 }
 
-// A message of an id, a dictionary without members, and arguments.
+// Writes a message of an id, an empty dictionary, and arguments.
 pub(crate) fn put_answer(code: u64, id: Id, args: &Args, out: &mut Writer) -> Result<(), AllocError>
     ensures tokens { Appends result out.old out.new
         (data_tokens (array (item (whole code) (item (whole id) (item nothing (args_items args.now)))))) }
@@ -69,7 +69,7 @@ pub(crate) fn put_answer(code: u64, id: Id, args: &Args, out: &mut Writer) -> Re
     end(args, out)
 }
 
-// A text, and the bracket that ends the message.
+// Writes a text, and the bracket that ends the message.
 pub(crate) fn end_with_text(text: &Text, out: &mut Writer) -> Result<(), AllocError>
     ensures { Appends result out.old out.new (list_tokens (item (string text.now) no_items)) }
 {
@@ -77,7 +77,7 @@ pub(crate) fn end_with_text(text: &Text, out: &mut Writer) -> Result<(), AllocEr
     out.end_array()
 }
 
-// A text, the arguments, and the bracket that ends the message.
+// Writes a text, the arguments, and the bracket that ends the message.
 pub(crate) fn end_with_args(text: &Text, args: &Args, out: &mut Writer) -> Result<(), AllocError>
     ensures tokens { Appends result out.old out.new
         (list_tokens (item (string text.now) (args_items args.now))) }

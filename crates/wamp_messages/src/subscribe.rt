@@ -15,32 +15,32 @@ use std::alloc::AllocError;
 use std::vec::IntoIter;
 use wamp_ids::Match;
 use wamp_message_layouts::{
-    UriRequest, codes, id_dictionary_text, one_id, put_nothing, put_text_option, two_ids,
+    UriRequest, id_dictionary_text, one_id, put_nothing, put_text_option, two_ids,
 };
 use wamp_message_types::{
-    Message, Read, Subscribe, Subscribed, UnfitKind, Unsubscribe, Unsubscribed,
+    Message, Read, Subscribe, Subscribed, UnfitKind, Unsubscribe, Unsubscribed, codes,
 };
-use wamp_options::match_in;
+use wamp_values::match_in;
 
-// What the elements behind the code of SUBSCRIBE are read as.
+// Reads the elements after the code of SUBSCRIBE.
 pub(crate) fn read_subscribe(rest: IntoIter<Value>) -> Read
     ensures { result ≡ subscribe_in (elements rest) }
 {
     match id_dictionary_text(rest) {
-        Ok(asked) => subscribe_of(asked),
+        Ok(uri_request) => subscribe_of(uri_request),
         Err(fault) => Read::Bad(fault),
     }
 }
 
-fn subscribe_of(asked: UriRequest) -> Read
-    ensures { result ≡ subscribe_read (seen_asked asked) }
+fn subscribe_of(uri_request: UriRequest) -> Read
+    ensures { result ≡ subscribe_read (seen_asked uri_request) }
 {
     let UriRequest {
         request,
         options,
         uri,
         args,
-    } = asked;
+    } = uri_request;
     let matching = match_in(&options);
     drop((options, args));
     let Some(matching) = matching else {
@@ -67,7 +67,7 @@ pub(crate) fn put_subscribe(subscribe: &Subscribe, out: &mut Writer) -> Result<(
     end_with_text(&subscribe.topic, out)
 }
 
-// What the elements behind the code of SUBSCRIBED are read as.
+// Reads the elements after the code of SUBSCRIBED.
 pub(crate) fn read_subscribed(rest: IntoIter<Value>) -> Read
     ensures { result ≡ subscribed_in (elements rest) }
 {
@@ -92,7 +92,7 @@ pub(crate) fn put_subscribed(subscribed: Subscribed, out: &mut Writer) -> Result
     )
 }
 
-// What the elements behind the code of UNSUBSCRIBE are read as.
+// Reads the elements after the code of UNSUBSCRIBE.
 pub(crate) fn read_unsubscribe(rest: IntoIter<Value>) -> Read
     ensures { result ≡ unsubscribe_in (elements rest) }
 {
@@ -117,7 +117,7 @@ pub(crate) fn put_unsubscribe(unsubscribe: Unsubscribe, out: &mut Writer) -> Res
     )
 }
 
-// What the elements behind the code of UNSUBSCRIBED are read as.
+// Reads the elements after the code of UNSUBSCRIBED.
 pub(crate) fn read_unsubscribed(rest: IntoIter<Value>) -> Read
     ensures { result ≡ unsubscribed_in (elements rest) }
 {

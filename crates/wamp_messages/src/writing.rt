@@ -6,7 +6,9 @@ ghost use Rattle.wamp_messages.specs.Message.{HasParts};
 ghost use Rattle.wamp_messages.specs.Reading.{read_of};
 ghost use Rattle.wamp_message_types.specs.declared.read_result.Read.TheVariants.{Good};
 
-use crate::call::{put_call, put_cancel, put_interrupt, put_invocation, put_reply, put_yield};
+use crate::call::{
+    put_call, put_call_result, put_cancel, put_interrupt, put_invocation, put_yield,
+};
 use crate::error::put_error;
 use crate::publish::{put_event, put_publish, put_published};
 use crate::register::{put_register, put_registered, put_unregister, put_unregistered};
@@ -17,8 +19,8 @@ use std::alloc::{AllocError, Global};
 use std::mem;
 use wamp_message_types::{Memory, Message};
 
-/// The message's one canonical text: compact JSON, in the order of its layout. Where memory runs out there is none, and nothing
-/// has changed.
+/// Returns the message's canonical text: compact JSON, in the order of its layout. If memory runs out, returns `Memory` and changes
+/// nothing.
 pub fn write(alloc: Global, message: &Message) -> Result<Vec<u8>, Memory>
     ensures spelled { IfOk result (λ octets. octets.items ≡ text_of message.now) }
     ensures read_again { IfOk result (λ octets. read_of octets.items ≡ Good message.now) }
@@ -28,8 +30,7 @@ pub fn write(alloc: Global, message: &Message) -> Result<Vec<u8>, Memory>
     Ok(out)
 }
 
-/// Appends the message's canonical text, as `write` gives it, with no memory but what `out` grows by. Where memory runs out
-/// `out` is as it was.
+/// Appends the message's canonical text, as `write` returns it; allocates only as `out` grows. If memory runs out, `out` is unchanged.
 #[tactic(auto, using(wamp_values::proofs::Texts::print_tokens, crate::proofs::RoundTrip::written_again))]
 pub fn write_into(message: &Message, out: &mut Vec<u8>) -> Result<(), Memory>
     ensures spelled { OnOk result (out.new.items ≡ out.old.items ++ text_of message.now) }
@@ -71,7 +72,7 @@ fn put_message(message: &Message, out: &mut Writer) -> Result<(), AllocError>
         Message::Unregistered(unregistered) => put_unregistered(*unregistered, out),
         Message::Call(call) => put_call(call, out),
         Message::Cancel(cancel) => put_cancel(*cancel, out),
-        Message::Reply(reply) => put_reply(reply, out),
+        Message::CallResult(reply) => put_call_result(reply, out),
         Message::Invocation(invocation) => put_invocation(invocation, out),
         Message::Interrupt(interrupt) => put_interrupt(*interrupt, out),
         Message::Yield(yielded) => put_yield(yielded, out),

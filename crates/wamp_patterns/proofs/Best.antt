@@ -50,7 +50,7 @@ module _ {X : Type 0} (beats : X → X → Bool) where
         ∙ found_alike (is_free (b ∷ x ∷ rest)) (is_free (x ∷ rest)) (x ∷ rest)
         (λ y. ap not (skipped (beats b y) (list_any (λ z. beats z y) (x ∷ rest)) (λ k. or_first (beats x y) _ (through x b y h k))))
 
-    -- whoever beats the best so far beats what was not better
+    -- what beats the best so far beats what was not better
     beaten_too : (b x : X) (rest : List X) → P b → P x → beats x b ≡ false → list_any (λ y. beats y b) rest ≡ true
         → list_any (λ y. beats y x) (b ∷ x ∷ rest) ≡ true
     beaten_too b x rest pb px h any = either (beats b x)

@@ -278,7 +278,7 @@ each_sorted a b c s =
 
 module _ {V : Type 0} (a b c : List (List ℕ × V)) (u : List ℕ) (ordered : AreInOrder (all_entries a b c)) (short : length u ≤ 1024)
     (ka kb kc : List (List ℕ × ℕ)) (ta : Tells Exact a ka) (tb : Tells Prefix b kb) (tc : Tells Wildcard c kc) where
-  -- the three lists give all that match, one behind the other
+  -- the three lists give all that match, one after the other
   pub all_told : (none one two three : List V) → none ≡ [] → one ≡ none ++ values_of (all_found Exact a u [] (keys_of ka))
       → two ≡ one ++ values_of (all_found Prefix b u [] (keys_of kb)) → three ≡ two ++ values_of (all_found Wildcard c u [] (keys_of kc))
       → three ≡ values_of (matching (λ e. e.0) (all_entries a b c) u)

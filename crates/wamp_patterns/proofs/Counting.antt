@@ -1,4 +1,4 @@
--- How many patterns of each kind stand, as patterns come and go.
+-- How many patterns of each kind there are, as patterns come and go.
 use Rattle.std.proofs.Common.{◌≡◌, ℕ, ◌+◌, ◌-◌, Bool, true, false, cond, Some, None, unwrap_or, Ordering}
 use Rattle.std.proofs.Common.{List, [], ◌∷◌, eqb, ltb, refl, ap, sym, ◌∙◌, arith, add-zero}
 use Rattle.std.specs.declared.cmp.Ordering.TheVariants.{Less, Equal, Greater}
@@ -15,7 +15,7 @@ use Rattle.wamp_patterns.specs.Kinds.{Tells, count_of, how_many, kind, lowered, 
 use Rattle.wamp_patterns.specs.Texts.{AreTextsInOrder, same_text, text_cmp}
 use Rattle.wamp_patterns.proofs.Keyed.{lookup_put, lookup_removed, same_itself, same_turned, the_same, written_put}
 
--- each kind stands as often as h says
+-- each kind occurs as often as h says
 abbrev pub Counts : List (List ℕ × ℕ) → (List ℕ → ℕ) → Type 0
 Counts kinds h = (q : List ℕ) → lookup (same_text q) kinds ≡ positive (h q)
 
@@ -153,7 +153,7 @@ module _ {V : Type 0} (p : List ℕ → Bool) where
           ∙ along (bit (p e.0)) (count es) (count (remove_entry (same_text t) es)) (bit (p t)) (rest h)
           ∙ ap (λ n. n + bit (p t)) (sym (cons e (remove_entry (same_text t) es)))
 
--- ---- the kinds that an index tells
+-- ---- the kinds that an index counts
 
 removed_none : {V : Type 0} (test : List ℕ → Bool) (es : List (List ℕ × V)) → lookup test es ≡ None → remove_entry test es ≡ es
 removed_none test [] h = refl

@@ -118,7 +118,7 @@ mask_matches gs (u ∷ us) = go (is_named gs) (mask_matches (behind gs) us)
         ∙ ap (λ c. c && pointwise part_matches (mask (behind gs) us) us) (either_true (is_empty u)) ∙ h
     go false h = h
 
--- of components that are not empty, those are empty behind a mask that it tells
+-- of components that are not empty, those are empty after masking that the mask says
 gaps_masked : (ws us : List (List ℕ)) → length ws ≡ length us → list_any is_empty us ≡ false → map gap (mask (map gap ws) us) ≡ map gap ws
 gaps_masked [] [] l h = refl
 gaps_masked [] (u ∷ us) l h = absurd (omega arith)
@@ -146,7 +146,7 @@ bits true false = refl
 bits false true = refl
 bits false false = refl
 
--- kinds of wildcards stand in the order in which these serve
+-- kinds of wildcards are ordered as these serve
 gaps_order : (ps qs : List (List ℕ)) → slice_cmp nat_cmp (map gap ps) (map gap qs) ≡ slice_cmp bool_cmp (map is_empty ps) (map is_empty qs)
 gaps_order [] [] = refl
 gaps_order [] (q ∷ qs) = refl
@@ -363,7 +363,7 @@ of_its_kind Exact w t u named h = refl
 of_its_kind Prefix w t u named h = prefix_kind w t u h
 of_its_kind Wildcard w t u named h = wildcard_kind w t u named h
 
--- of two that match, one whose kind does not stand before is not better
+-- of two that match, one whose kind does not come first is not better
 pub no_better : (m : Match) (q t u : List ℕ) → length u ≤ 1024 → text_matches m q u ≡ true → text_matches m t u ≡ true
     → is_lt (text_cmp (kind m q) (kind m t)) ≡ false → text_is_better m q m t ≡ false
 no_better Exact q t u l h k order = refl

@@ -38,7 +38,7 @@ is_among k ks = list_any (same_text k) ks
 pub not_some : {P A : Type 0} (x : A) → None ≡ Some x → P
 not_some x h = cc
 
--- ---- which kinds stand
+-- ---- which kinds occur
 
 among_keys : {W : Type 0} (k : List ℕ) (es : List (List ℕ × W)) → is_among k (keys_of es) ≡ is_some (lookup (same_text k) es)
 among_keys k [] = refl
@@ -93,7 +93,7 @@ is_less Less h = refl
 is_less Equal h = cc
 is_less Greater h = cc
 
--- what stands before a kind is none of those behind it
+-- what comes before a kind is none of those after it
 none_before : (j k : List ℕ) → text_cmp j k ≡ Less → (xs : List (List ℕ)) → AllByRecursion (λ y. text_cmp k y ≡ Less) xs
     → list_any (same_text j) xs ≡ true → false ≡ true
 none_before j k less [] all a = a
@@ -167,14 +167,14 @@ module _ {V : Type 0} (m : Match) (texts : List (List ℕ × V)) (u : List ℕ) 
           earlier j false s a rest l = rest.before j a l
 
 module _ {V : Type 0} (m : Match) (texts : List (List ℕ × V)) (kinds : List (List ℕ × ℕ)) (u : List ℕ) (tells : Tells m texts kinds) where
-  -- the kind of a text stands
+  -- the kind of a text occurs
   stands : (q : List ℕ) (v : V) → lookup (same_text q) texts ≡ Some v → is_among (kind m q) (keys_of kinds) ≡ true
   stands q v h =
       among_keys (kind m q) kinds ∙ ap is_some (tells (kind m q))
       ∙ positive_some (how_many m texts (kind m q))
       (at_least_one (λ x. same_text (kind m q) (kind m x)) texts q v h (same_itself (kind m q)))
 
-  -- what stands is the kind of a text
+  -- what occurs is the kind of a text
   of_some : (k : List ℕ) → is_among k (keys_of kinds) ≡ true → (w : List ℕ) × (k ≡ kind m w)
   of_some k a =
       let one : (w : List ℕ) × (same_text k (kind m w) ≡ true) = some_one (λ x. same_text k (kind m x)) texts
@@ -186,7 +186,7 @@ module _ {V : Type 0} (m : Match) (texts : List (List ℕ × V)) (kinds : List (
     by_kind : (q : List ℕ) → text_matches m q u ≡ true → found_kind m texts u (kind m q) ≡ lookup (same_text q) texts
     by_kind q h = ap (found_text m texts) (only_one m q u short h)
 
-    -- where nothing is found, nothing matches
+    -- if nothing is found, nothing matches
     pub nothing : first_found m texts u (keys_of kinds) ≡ None → (q : List ℕ) (v : V) → lookup (same_text q) texts ≡ Some v
         → text_matches m q u ≡ false
     nothing h q v f = bool_cases (text_matches m q u)
@@ -231,7 +231,7 @@ abbrev pub hits : {V : Type 0} → Match → List ℕ → List (List ℕ × V) �
 hits m u es = filter (λ e. text_matches m e.0 u) es
 
 module _ {V : Type 0} (m : Match) (texts : List (List ℕ × V)) (u : List ℕ) where
-  -- what was found stands and matches
+  -- what was found is there and matches
   abbrev pub Good : List (List ℕ × V) → Type 0
   Good found = (q : List ℕ) (v : V) → lookup (same_text q) found ≡ Some v → (lookup (same_text q) texts ≡ Some v) × (text_matches m q u ≡ true)
 

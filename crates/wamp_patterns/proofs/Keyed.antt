@@ -80,7 +80,7 @@ pub none_found : {K V : Type 0} (test : K → Bool) (es : List (K × V)) → All
 none_found test [] all = refl
 none_found test (e ∷ es) all = ap (λ b. cond b (Some e.1) (lookup test es)) all.0 ∙ none_found test es all.1
 
--- to write the value of a key that stands is to put it
+-- to write the value of a key that is there is to put it
 pub written_put : {K V : Type 0} {cmp : K → K → Ordering} (total : IsTotalOrder cmp) (k : K) (v : V) (es : List (K × V))
     → IsStrictlySortedBy cmp (keys_of es) → IsSome (lookup (λ x. is_eq (cmp k x)) es)
     → set_value (λ x. is_eq (cmp k x)) es v ≡ insert_entry cmp es k v

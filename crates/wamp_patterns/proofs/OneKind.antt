@@ -1,4 +1,4 @@
--- Where one kind stands at the most, what the first that matches has is all there is.
+-- If there is at most one kind, the value of the first that matches is all there is.
 use Rattle.std.proofs.Common.{◌≡◌, ℕ, ◌≤◌, Option, None, Some, List, [], ◌∷◌, ◌++◌, length, map, refl, sym, ap, ◌∙◌, arith}
 use denote.Ref.{Bor}
 use Rattle.std.specs.Map.{keys_of, lookup, values_of}

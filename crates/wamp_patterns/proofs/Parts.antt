@@ -1,4 +1,4 @@
--- A table's entries are those of three lists, one behind the other: what is looked up, put and removed there.
+-- A table's entries are those of three lists, one after the other: what is looked up, put and removed there.
 use Rattle.std.proofs.Common.{◌≡◌, ℕ, Bool, true, false, cond, Some, Ordering, List, [], ◌∷◌, ◌++◌, refl, ap, sym, ◌∙◌}
 use Rattle.std.specs.declared.cmp.Ordering.TheVariants.{Less, Equal, Greater}
 use Rattle.std.specs.Ordering.{is_eq, match_ordering, nat_cmp, ordering_then}
@@ -11,7 +11,7 @@ use Rattle.wamp_ids.specs.Pattern.{PatternValue}
 use Rattle.wamp_patterns.specs.Table.{all_entries, pattern_cmp, rank, same_pattern, with_match}
 use Rattle.wamp_patterns.specs.Texts.{same_text, text_cmp}
 
--- ---- a part, with others in front of it and behind it
+-- ---- a part, with others before it and after it
 
 module _ {K V : Type 0} (test : K → Bool) where
   skip_found : (front es : List (K × V)) → AllByRecursion (λ k. test k ≡ false) (keys_of front) → lookup test (front ++ es) ≡ lookup test es

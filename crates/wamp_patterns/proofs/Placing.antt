@@ -1,4 +1,4 @@
--- The keys of entries stay in order where one is put or taken out.
+-- The keys of entries stay in order if one is put or taken out.
 use Rattle.std.proofs.Common.{◌≡◌, Bool, true, false, cond, Ordering, List, [], ◌∷◌, refl, ap, ◌∙◌}
 use Rattle.std.specs.declared.cmp.Ordering.TheVariants.{Less, Equal, Greater}
 use Rattle.std.specs.Ordering.{ordering_reverse, match_ordering}

@@ -1,4 +1,4 @@
--- Shapes of one number of components stand together, and those of another leave no text.
+-- Shapes of one number of components are next to each other, and those of another leave no text.
 use Rattle.std.proofs.Common.{◌≡◌, ℕ, zero, suc, ◌+◌, Bool, true, false, cond, ◌&&◌, not, Some, None, List, [], ◌∷◌, ◌++◌}
 use Rattle.std.proofs.Common.{drop, filter, replicate, refl, ap, ◌∙◌, arith}
 use Rattle.std.specs.Ordering.{is_le, is_gt}
@@ -33,7 +33,7 @@ together n none ones some pushed all gaps e f g h k =
     k ∙ (λ i. h i ++ gaps) ∙ (λ i. (g i ++ 0 ∷ []) ++ gaps) ∙ (λ i. ((e i ++ f i) ++ 0 ∷ []) ++ gaps)
     ∙ append_assoc (replicate n 1) (0 ∷ []) gaps
 
--- ---- where a shape stands
+-- ---- where a shape is
 
 pub shaped_own : (n : ℕ) (gaps : List ℕ) → is_shaped n (shape n gaps) ≡ true
 shaped_own zero gaps = refl

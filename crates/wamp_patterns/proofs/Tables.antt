@@ -1,4 +1,4 @@
--- What a table answers and becomes, told by the list of the match that is asked.
+-- What a table returns and becomes, by the list of the match that is asked for.
 use Rattle.std.proofs.Common.{◌≡◌, ℕ, Option, None, Result, Ok, Err, IfOk, OnOk, OnErr, List, refl, ap, sym, subst, ◌∙◌}
 use Rattle.std.specs.Map.{lookup, remove_entry}
 use Rattle.std.specs.BTreeMap.{insert_entry}

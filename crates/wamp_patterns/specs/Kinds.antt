@@ -1,5 +1,5 @@
--- Kinds of patterns of one match. A URI and a kind leave one text that a pattern of this kind may have to match the URI: so a search
--- asks once for each kind that stands. Kinds stand in the order in which their patterns serve.
+-- Kinds of patterns of one match. A URI and a kind leave one text that a pattern of this kind may have to match the URI: so a search asks
+-- once for each kind that occurs. Kinds are ordered as their patterns serve.
 use Rattle.std.specs.Prelude.{◌≡◌, ℕ, ◌+◌, ◌-◌, ◌*◌, ◌/◌, ◌%◌, ◌==◌, nat_le, nat_lt, Bool, true, List, [], ◌∷◌, ◌++◌, length, map, take, drop, replicate}
 use Rattle.std.specs.Prelude.{Option, Some, None, slice_get, if◌then◌else◌}
 use Rattle.std.specs.List.{count_by}
@@ -17,7 +17,7 @@ gap part = if is_empty part then 1 else 0
 abbrev pub two_octets : ℕ → List ℕ
 two_octets n = n / 256 ∷ n % 256 ∷ []
 
--- the last octet, 0 where there is none
+-- the last octet, 0 if the text is empty
 abbrev pub ending : List ℕ → ℕ
 ending text = unwrap_or (slice_get text (length text - 1)) 0
 
@@ -25,8 +25,8 @@ ending text = unwrap_or (slice_get text (length text - 1)) 0
 abbrev pub components : List ℕ → ℕ
 components text = count_by (λ c. c == 46) text + 1
 
--- as many ones as there are components, then 0, then of each component whether it is empty: so the shapes of one number of components
--- stand together
+-- as many ones as there are components, then 0, then of each component whether it is empty: so the shapes of one number of components are
+-- next to each other
 abbrev pub shape : ℕ → List ℕ → List ℕ
 shape number gaps = replicate number 1 ++ 0 ∷ gaps
 
@@ -41,7 +41,7 @@ kind Wildcard text = shape (components text) (map gap (parts text))
 abbrev pub ended : ℕ → List ℕ → Option (List ℕ)
 ended end text = if ending text == end then Some text else None
 
--- as many first octets of the URI as the prefixes of this kind have, where they end as these do
+-- as many first octets of the URI as the prefixes of this kind have, if they end as these do
 abbrev pub front : List ℕ → List ℕ → Option (List ℕ)
 front (high ∷ low ∷ end ∷ []) uri =
     if nat_le (65535 - (high * 256 + low)) (length uri) then ended end (take (65535 - (high * 256 + low)) uri) else None
@@ -60,7 +60,7 @@ abbrev pub masked : List ℕ → List ℕ → List ℕ
 masked gaps [] = []
 masked gaps (c ∷ cs) = if c == 46 then 46 ∷ masked (behind gaps) cs else (if is_named gaps then c ∷ masked gaps cs else masked gaps cs)
 
--- it stands where the shapes of so many components do
+-- it is in the range of the shapes of `number` components
 abbrev pub is_shaped : ℕ → List ℕ → Bool
 is_shaped number kind = is_between (replicate number 1) (1 ∷ replicate number 1) kind
 
@@ -70,7 +70,7 @@ filled Exact kind uri = Some uri
 filled Prefix kind uri = front kind uri
 filled Wildcard kind uri = if is_shaped (components uri) kind then Some (masked (drop (components uri + 1) kind) uri) else None
 
--- which components are empty, where the first one is told so far to be so or not
+-- which components are empty, given whether the first one is empty so far
 abbrev pub gaps_from : ℕ → List ℕ → List ℕ
 gaps_from g [] = g ∷ []
 gaps_from g (c ∷ cs) = if c == 46 then g ∷ gaps_from 1 cs else gaps_from 0 cs
@@ -116,10 +116,10 @@ positive n = if n == 0 then None else Some n
 abbrev pub Tells : {V : Type 0} → Match → List (List ℕ × V) → List (List ℕ × ℕ) → Type 0
 Tells matching texts kinds = (k : List ℕ) → lookup (same_text k) kinds ≡ positive (how_many matching texts k)
 
--- how many of this kind are told
+-- how many of this kind are counted
 abbrev pub count_of : List (List ℕ × ℕ) → List ℕ → ℕ
 count_of kinds k = unwrap_or (lookup (same_text k) kinds) 0
 
--- one less of a kind, which does not stand any more once there is none
+-- one less of a kind, which is removed once none is left
 abbrev pub lowered : List (List ℕ × ℕ) → List ℕ → List (List ℕ × ℕ)
 lowered kinds k = if nat_lt 1 (count_of kinds k) then insert_entry text_cmp kinds k (count_of kinds k - 1) else remove_entry (same_text k) kinds

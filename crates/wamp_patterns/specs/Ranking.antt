@@ -14,7 +14,7 @@ use Rattle.wamp_patterns.specs.Matching.{matches}
 abbrev pub gaps : List ℕ → List Bool
 gaps text = map is_empty (parts text)
 
--- at the first component at which just one of the two is empty, it is not the first one's (false stands before true)
+-- at the first component at which just one of the two is empty, it is not the first one's (false comes before true)
 abbrev pub is_named_first : List ℕ → List ℕ → Bool
 is_named_first text other = is_lt (slice_cmp bool_cmp (gaps text) (gaps other))
 

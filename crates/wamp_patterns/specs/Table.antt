@@ -16,7 +16,7 @@ rank Exact = 0
 rank Prefix = 1
 rank Wildcard = 2
 
--- patterns of one match stand by their texts, in byte order
+-- patterns of one match are ordered by their texts, in byte order
 abbrev pub pattern_cmp : PatternValue → PatternValue → Ordering
 pattern_cmp pattern other = ordering_then (nat_cmp (rank pattern.matching) (rank other.matching)) (slice_cmp nat_cmp pattern.text other.text)
 

@@ -13,7 +13,7 @@ use std::collections::BTreeMap;
 use std::collections::btree_map::Range;
 use wamp_ids::Match;
 
-/// Values by the texts of the patterns of one match, and beside them how many patterns there are of each kind that stands.
+/// Values by the texts of the patterns of one match, and how many patterns there are of each kind that occurs.
 #[derive(Debug, Drop)]
 pub(crate) struct Index<V> {
     pub(crate) texts: Texts<V>,
@@ -21,7 +21,7 @@ pub(crate) struct Index<V> {
 }
 
 impl<V> Index<V> {
-    /// No patterns. Takes no memory.
+    /// Returns an index without patterns. Does not allocate.
     pub(crate) fn new(alloc: Global) -> Index<V>
         ensures texts { result.texts ≡ [] }
         ensures kinds { result.kinds ≡ [] }
@@ -32,8 +32,8 @@ impl<V> Index<V> {
         }
     }
 
-    /// Puts the value for this text, and gives back the one that stood there. Only a new one takes memory. After `Memory` the texts are
-    /// as they were, and the value comes back.
+    /// Inserts the value for this text, and returns the previous one, if any. Allocates only for a new text. After `Memory` the texts are
+    /// unchanged, and the value is returned.
     pub(crate) fn put(
         &mut self,
         alloc: Global,
@@ -56,7 +56,7 @@ impl<V> Index<V> {
         }
     }
 
-    // Puts a text that does not stand.
+    // Adds a text that is absent.
     fn add(
         &mut self,
         alloc: Global,
@@ -86,7 +86,7 @@ impl<V> Index<V> {
         }
     }
 
-    /// Takes the value for this text out, if there is one. Takes no memory.
+    /// Removes and returns the value for this text, if any. Does not allocate.
     pub(crate) fn remove(&mut self, matching: Match, text: &[u8]) -> Option<V>
         requires within { length text.now ≤ 1024 }
         requires tells { Tells matching self.old.texts self.old.kinds }
@@ -102,8 +102,8 @@ impl<V> Index<V> {
         Some(value)
     }
 
-    /// The value of the first kind, in their order, of which a pattern matches the URI. Takes no memory, and for each kind that stands a
-    /// look-up: of wildcards for each that has as many components as the URI, and no other is met.
+    /// Returns the value of the first kind, in their order, of which a pattern matches the URI. Does not allocate. Does one look-up for
+    /// each kind that occurs; of wildcards only for those with as many components as the URI, and the others are not visited.
     #[tactic(auto, using(crate::proofs::OneKind::none_first))]
     pub(crate) fn first(&self, matching: Match, uri: &[u8]) -> Option<&V>
         requires { length uri.now ≤ 1024 }
@@ -119,7 +119,7 @@ impl<V> Index<V> {
         }
     }
 
-    // The same for wildcards.
+    // As `first`, for wildcards.
     fn first_shape(&self, uri: &[u8]) -> Option<&V>
         requires { length uri.now ≤ 1024 }
         ensures found { option_copied result ≡ first_found Match.Wildcard self.now.texts uri.now (keys_of self.now.kinds) }
@@ -134,7 +134,7 @@ impl<V> Index<V> {
         None
     }
 
-    // The same for all kinds, each of which is met.
+    // As `first`, for exact patterns and prefixes: visits every kind.
     fn first_kind(&self, matching: Match, uri: &[u8]) -> Option<&V>
         requires { length uri.now ≤ 1024 }
         ensures found { option_copied result ≡ first_found matching self.now.texts uri.now (keys_of self.now.kinds) }
@@ -148,7 +148,7 @@ impl<V> Index<V> {
         None
     }
 
-    // The value of the one pattern of this kind that matches the URI.
+    // Returns the value of the one pattern of this kind that matches the URI, if any.
     fn of_kind(&self, matching: Match, kind: &[u8], uri: &[u8]) -> Option<&V>
         requires { length uri.now ≤ 1024 }
         ensures { option_copied result ≡ found_kind matching self.now.texts uri.now kind.now }
@@ -160,7 +160,7 @@ impl<V> Index<V> {
         }
     }
 
-    // The same for prefixes.
+    // As `of_kind`, for prefixes.
     fn of_ending(&self, kind: &[u8], uri: &[u8]) -> Option<&V>
         ensures { option_copied result ≡ found_kind Match.Prefix self.now.texts uri.now kind.now }
     {
@@ -170,7 +170,7 @@ impl<V> Index<V> {
         self.texts.get(text)
     }
 
-    // The same for wildcards, where the URI has so many components.
+    // As `of_kind`, for wildcards; the URI has `number` components.
     fn of_shape(&self, kind: &[u8], number: usize, uri: &[u8]) -> Option<&V>
         requires short { length uri.now ≤ 1024 }
         requires number { number ≡ components uri.now }
@@ -183,8 +183,8 @@ impl<V> Index<V> {
         self.texts.get(text.as_slice())
     }
 
-    /// The list with the values of all patterns that match the URI behind it, by text in byte order. Takes a look-up for each kind that
-    /// stands, and a number of steps for each value found that is logarithmic in the number of these.
+    /// Appends to the list the values of all patterns that match the URI, by text in byte order. Does one look-up for each kind that
+    /// occurs, and for each value found a number of steps that is logarithmic in the number of these.
     #[tactic(auto, using(crate::proofs::Keyed::values_shown))]
     pub(crate) fn with_all<'a>(
         &'a self,
@@ -207,7 +207,7 @@ impl<V> Index<V> {
         Ok(found)
     }
 
-    // The same where one kind stands at the most.
+    // As `with_all`, if there is at most one kind.
     #[tactic(auto, using(crate::proofs::OneKind::none_more, crate::proofs::OneKind::one_more))]
     fn with_first<'a>(
         &'a self,
@@ -227,7 +227,7 @@ impl<V> Index<V> {
         Ok(found)
     }
 
-    // The texts of the patterns that match the URI, with their values.
+    // Returns the texts of the patterns that match the URI, with their values.
     fn hits<'a>(
         &'a self,
         alloc: Global,
@@ -243,7 +243,7 @@ impl<V> Index<V> {
         }
     }
 
-    // The same for wildcards.
+    // As `hits`, for wildcards.
     fn shape_hits<'a>(
         &'a self,
         alloc: Global,
@@ -259,7 +259,7 @@ impl<V> Index<V> {
         Ok(hits)
     }
 
-    // The same for all kinds, each of which is met.
+    // As `hits`, for exact patterns and prefixes: visits every kind.
     fn kind_hits<'a>(
         &'a self,
         alloc: Global,
@@ -276,7 +276,7 @@ impl<V> Index<V> {
         Ok(hits)
     }
 
-    // Puts the one pattern of this kind that matches the URI, if there is one.
+    // Adds the one pattern of this kind that matches the URI, if any.
     fn add_hit<'a>(
         &'a self,
         matching: Match,
@@ -304,7 +304,7 @@ impl<V> Index<V> {
         }
     }
 
-    // Puts the pattern of this text, if there is one.
+    // Adds the pattern with this text, if any.
     fn add_text<'a>(
         &'a self,
         text: &[u8],
@@ -320,7 +320,7 @@ impl<V> Index<V> {
     }
 }
 
-// The kinds of wildcards of so many components.
+// Returns the kinds of wildcards with `number` components.
 fn shapes(kinds: &Texts<usize>, number: usize) -> Range<'_, CowSlice<'static, u8>, usize>
     requires { number ≤ 1025 }
     ensures shapes { texts_of result ≡ filter (λ entry. is_shaped number entry.0) kinds.now }
@@ -352,7 +352,7 @@ fn raise(kinds: &mut Texts<usize>, alloc: Global, kind: &[u8]) -> Result<(), Mem
     }
 }
 
-// One less of this kind, which does not stand any more once there is none.
+// Counts one less of this kind, and removes it once none is left.
 fn lower(kinds: &mut Texts<usize>, kind: &[u8])
     ensures lowered { kinds.new ≡ lowered kinds.old kind.now }
     ensures was_ordered { AreTextsInOrder kinds.old }

@@ -1,3 +1,14 @@
+// Lookup keys of patterns. A pattern's *kind* is a key made of its match and text. A URI and a kind leave one text that a pattern of
+// this kind may have to match the URI: so a search does one look-up for each kind that the table has, and visits no pattern that does not
+// match.
+//
+// - All exact patterns have the empty kind. The text to look up is the URI.
+// - The prefix `com.app.` has the kind `FF F7 2E`: 65,535 less its length 8, in two octets, and its last octet, a dot. The text to look up
+//   is the URI's first 8 octets, if they end with a dot. The longer a prefix, the lower its kind.
+// - The wildcard `com..log` has the kind `01 01 01 00 00 01 00`: a one for each of its three components, a zero, and for each component
+//   whether it is empty. Of the URI `com.app.log` the text to look up is `com..log`.
+//
+// Kinds of one match are ordered as their patterns serve.
 ghost use Rattle.std.specs.Prelude.{◌≡◌, ◌≤◌, ◌-◌, ◌+◌, ◌++◌, not, ◌&&◌, length, option_map, drop, replicate};
 ghost use Rattle.std.specs.Ordering.{is_le};
 ghost use Rattle.wamp_patterns.specs.Kinds.{behind, components, ended, ending, filled, front, gaps_from, is_named, is_shaped, kind, masked};
@@ -6,12 +17,15 @@ ghost use Rattle.wamp_patterns.specs.Texts.{text_cmp};
 use arrayvec::ArrayVec;
 use wamp_ids::Match;
 
-// As many ones as a text of 1,024 octets may have components, and one more.
+/// The kind of a pattern: the key by which a search finds it.
+pub(crate) type LookupKey = ArrayVec<u8, 2051>;
+
+// As many ones as a text of 1,024 octets may have components, plus one.
 const ONES: &[u8; 1026] = &[1; 1026];
 
-/// The kind of a pattern with this match and text: for exact patterns one, for prefixes their length and last octet, for wildcards how
-/// many components they have and which are empty. Kinds of one match stand in the order in which their patterns serve. Takes no memory.
-pub(crate) fn kind_of(matching: Match, text: &[u8]) -> ArrayVec<u8, 2051>
+/// Returns the kind of a pattern with this match and text: one for all exact patterns, for prefixes their length and last octet, for
+/// wildcards how many components they have and which are empty. Kinds of one match are ordered as their patterns serve. Does not allocate.
+pub(crate) fn kind_of(matching: Match, text: &[u8]) -> LookupKey
     requires { length text.now ≤ 1024 }
     ensures { result.items ≡ kind matching text.now }
 {
@@ -22,8 +36,8 @@ pub(crate) fn kind_of(matching: Match, text: &[u8]) -> ArrayVec<u8, 2051>
     }
 }
 
-// The longest first.
-fn by_length(text: &[u8]) -> ArrayVec<u8, 2051>
+// Returns the kind of a prefix; the longest prefix comes first.
+fn by_length(text: &[u8]) -> LookupKey
     requires { length text.now ≤ 1024 }
     ensures { result.items ≡ kind Match.Prefix text.now }
 {
@@ -35,14 +49,14 @@ fn by_length(text: &[u8]) -> ArrayVec<u8, 2051>
     kind
 }
 
-// The last octet, 0 where there is none.
+// Returns the last octet, or 0 if the text is empty.
 fn ending(text: &[u8]) -> u8
     ensures { result ≡ ending text.now }
 {
     text.last().copied().unwrap_or(0)
 }
 
-/// How many components the text has. Takes no memory, and steps linear in the text.
+/// Returns how many components the text has. Does not allocate; linear in the text.
 pub(crate) fn components(text: &[u8]) -> usize
     requires { length text.now ≤ 1024 }
     ensures number { result ≡ components text.now }
@@ -51,7 +65,7 @@ pub(crate) fn components(text: &[u8]) -> usize
     text.iter().filter(|octet| **octet == b'.').count() + 1
 }
 
-/// So many ones. The kinds of wildcards of so many components are those from these on, and before one more.
+/// Returns `number` ones. The kinds of wildcards of `number` components are those from here on and before one more one.
 pub(crate) fn ones(number: usize) -> &'static [u8]
     requires { number ≤ 1026 }
     ensures { result.now ≡ replicate number 1 }
@@ -59,8 +73,8 @@ pub(crate) fn ones(number: usize) -> &'static [u8]
     &ONES[..number]
 }
 
-// As many ones as there are components, then 0, then of each component 1 if it is empty, or else 0.
-fn shape(text: &[u8]) -> ArrayVec<u8, 2051>
+// Returns the kind of a wildcard: as many ones as it has components, then 0, then for each component 1 if it is empty, else 0.
+fn shape(text: &[u8]) -> LookupKey
     requires { length text.now ≤ 1024 }
     ensures { result.items ≡ kind Match.Wildcard text.now }
 {
@@ -73,8 +87,8 @@ fn shape(text: &[u8]) -> ArrayVec<u8, 2051>
     shape
 }
 
-// Adds for each component 1 if it is empty, or else 0.
-fn add_gaps(text: &[u8], gaps: &mut ArrayVec<u8, 2051>)
+// Adds for each component 1 if it is empty, else 0.
+fn add_gaps(text: &[u8], gaps: &mut LookupKey)
     requires short { length text.now ≤ 1024 }
     requires room { length gaps.old.items ≤ 1026 }
     ensures { gaps.new.items ≡ gaps.old.items ++ gaps_from 1 text.now }
@@ -91,7 +105,7 @@ fn add_gaps(text: &[u8], gaps: &mut ArrayVec<u8, 2051>)
     gaps.push(gap);
 }
 
-/// The one text that a prefix of this kind may have to match the URI. Takes no memory.
+/// Returns the one text that a prefix of this kind may have to match the URI, if any. Does not allocate.
 pub(crate) fn front<'a>(kind: &[u8], uri: &'a [u8]) -> Option<&'a [u8]>
     ensures { option_map (λ text. text.now) result ≡ front kind.now uri.now }
 {
@@ -105,7 +119,7 @@ pub(crate) fn front<'a>(kind: &[u8], uri: &'a [u8]) -> Option<&'a [u8]>
     None
 }
 
-// The text, if it ends so.
+// Returns the text if this is its last octet.
 fn ended(end: u8, text: &[u8]) -> Option<&[u8]>
     ensures { option_map (λ text. text.now) result ≡ ended end text.now }
 {
@@ -115,8 +129,8 @@ fn ended(end: u8, text: &[u8]) -> Option<&[u8]>
     None
 }
 
-/// The one text that a wildcard of this kind may have to match the URI, which has so many components. Takes no memory, and steps linear in
-/// the URI.
+/// Returns the one text that a wildcard of this kind may have to match the URI, which has `number` components, if any. Does not allocate;
+/// linear in the URI.
 pub(crate) fn masked_if_fit(kind: &[u8], number: usize, uri: &[u8]) -> Option<ArrayVec<u8, 1024>>
     requires short { length uri.now ≤ 1024 }
     requires number { number ≡ components uri.now }
@@ -129,7 +143,7 @@ pub(crate) fn masked_if_fit(kind: &[u8], number: usize, uri: &[u8]) -> Option<Ar
     None
 }
 
-// Whether the kind stands where those of wildcards of so many components do.
+// Returns whether the kind is in the range of those of wildcards with `number` components.
 fn is_shaped(number: usize, kind: &[u8]) -> bool
     requires { number ≤ 1025 }
     ensures { result ≡ is_shaped number kind.now }
@@ -139,28 +153,28 @@ fn is_shaped(number: usize, kind: &[u8]) -> bool
     is_within(starts, ends)
 }
 
-// Whether the kind stands at the first one or behind it.
+// Returns whether the kind is the first one or comes after it.
 fn is_from(first: &[u8], kind: &[u8]) -> bool
     ensures { result ≡ is_le (text_cmp first.now kind.now) }
 {
     first.cmp(kind).is_le()
 }
 
-// Whether it is behind where these start and not behind where they end.
+// Returns whether it is past the range's start and not past its end.
 fn is_within(starts: bool, ends: bool) -> bool
     ensures { result ≡ (starts && not ends) }
 {
     starts && !ends
 }
 
-// What stands behind so many octets.
+// Returns what follows the first `count` octets.
 fn past(count: usize, kind: &[u8]) -> &[u8]
     ensures { result.now ≡ drop count kind.now }
 {
     kind.get(count..).unwrap_or(&[])
 }
 
-// The URI without the octets of the components that are to be empty.
+// Returns the URI without the octets of the components that are to be empty.
 fn masked(gaps: &[u8], uri: &[u8]) -> ArrayVec<u8, 1024>
     requires { length uri.now ≤ 1024 }
     ensures { result.items ≡ masked gaps.now uri.now }

@@ -33,8 +33,8 @@ pub fn one_pass_finds_who_serves<X>()
         → fold (best_so_far pattern_of) None (matching pattern_of entries uri) ≡ serves pattern_of entries uri }
 {}
 
-/// One pattern serves exactly where one matches: some entry serves where an entry matches, and any two of those that match and that
-/// no other beats have one pattern.
+/// One pattern serves exactly if one matches: some entry serves if an entry matches, and any two of those that match and that no other
+/// beats have the same pattern.
 pub fn one_pattern_serves<X>()
     ensures some { (pattern_of : X → PatternValue) (entries : List X) (uri : List ℕ)
         → is_some (serves pattern_of entries uri) ≡ list_any (λ entry. matches (pattern_of entry) uri) entries }
@@ -45,7 +45,7 @@ pub fn one_pattern_serves<X>()
         → pattern_of x ≡ pattern_of y }
 {}
 
-/// A table keeps two patterns apart exactly where their texts or matches differ.
+/// A table keeps two patterns apart exactly if their texts or matches differ.
 pub fn equal_patterns_are_kept_as_one()
     ensures { (a b : PatternValue) → IsTrue (same_pattern a b) ↔ (a ≡ b) }
 {}

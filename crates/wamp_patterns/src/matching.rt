@@ -6,9 +6,8 @@ ghost use Rattle.wamp_patterns.specs.Matching.{matches, part_matches};
 
 use wamp_ids::{Match, Pattern, Uri};
 
-/// Whether the pattern matches the URI: the equal text for `Exact`, one that begins with the pattern's for `Prefix`, and
-/// for `Wildcard` one of as many components, of which each that the pattern names is equal. Takes no memory, and steps
-/// linear in the two texts.
+/// Returns whether the pattern matches the URI: an equal text for `Exact`, a text that begins with the pattern's for `Prefix`, and for
+/// `Wildcard` a text of as many components, of which each that the pattern names is equal. Does not allocate; linear in the two texts.
 #[inline(always)]
 pub fn matches(pattern: &Pattern, uri: &Uri) -> bool
     ensures { result ≡ matches pattern.now uri.now }

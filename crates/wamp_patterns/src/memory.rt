@@ -9,7 +9,7 @@ use thiserror::Error;
 pub struct Memory;
 
 impl Memory {
-    /// The fault's number, 36.
+    /// Returns the fault's number, 36.
     pub fn number(self) -> u8
         ensures { result ≡ 36 }
     {

@@ -3,9 +3,9 @@ ghost use Rattle.wamp_patterns.specs.Ranking.{better, is_named_first};
 
 use wamp_ids::{Match, Pattern};
 
-/// Of two patterns that match one URI, whether the first serves it before the other: exact before prefix before wildcard;
-/// the longer of two prefixes; of two wildcards the one that names the first component which only one of them names.
-/// Takes no memory, and steps linear in the two texts.
+/// Returns whether, of two patterns that match one URI, the first serves it before the other: exact before prefix before wildcard; the
+/// longer of two prefixes; of two wildcards the one that names the first component which only one of them names. Does not allocate; linear
+/// in the two texts.
 pub fn better(pattern: &Pattern, other: &Pattern) -> bool
     ensures { result ≡ better pattern.now other.now }
 {

@@ -12,8 +12,8 @@ use std::alloc::Global;
 use std::marker::Model;
 use wamp_ids::{Match, Pattern, Uri};
 
-/// Values by patterns, one at most for each text and match. Contracts see the entries in one order: exact, then prefix, then
-/// wildcard, each by text in byte order.
+/// Values by patterns, at most one for each text and match. Contracts see the entries in one order: exact, then prefix, then wildcard, each
+/// by text in byte order.
 #[derive(Debug)]
 pub struct PatternTable<V> {
     exact: Index<V>,
@@ -51,7 +51,7 @@ impl<V> Model for PatternTable<V> {
 }
 
 impl<V> PatternTable<V> {
-    /// A table without entries. Takes no memory; `put` and `all` will, from `alloc`.
+    /// Returns an empty table. Does not allocate; `put` and `all` will, from `alloc`.
     pub fn new(alloc: Global) -> PatternTable<V>
         ensures { result ≡ [] }
     {
@@ -63,9 +63,9 @@ impl<V> PatternTable<V> {
         }
     }
 
-    /// Puts the value for this pattern, and gives back the one that stood there. Takes a number of steps that is logarithmic in the
-    /// number of entries of this match; only a new one takes memory, for a copy of its text and an entry, and for its kind (see `best`)
-    /// if none of it stood. After `Memory` the table is as it was, and the value comes back.
+    /// Inserts the value for this pattern, and returns the previous one, if any. Takes a number of steps that is logarithmic in the number
+    /// of entries of this match. Allocates only for a new pattern: a copy of its text and an entry, and an entry for its kind (see `best`)
+    /// if that is new too. After `Memory` the table is unchanged, and the value is returned.
     pub fn put(&mut self, pattern: &Pattern<'_>, value: V) -> Result<Option<V>, (V, Memory)>
         ensures old { IfOk result (λ old. old ≡ lookup (same_pattern pattern.now) self.old) }
         ensures entries { OnOk result (self.new ≡ insert_entry pattern_cmp self.old pattern.now value) }
@@ -84,7 +84,7 @@ impl<V> PatternTable<V> {
         }
     }
 
-    /// The value for this pattern, if there is one. Takes no memory, and a number of steps that is logarithmic in the number of entries
+    /// Returns the value for this pattern, if any. Does not allocate; takes a number of steps that is logarithmic in the number of entries
     /// of this match.
     pub fn get(&self, pattern: &Pattern<'_>) -> Option<&V>
         ensures value { option_copied result ≡ lookup (same_pattern pattern.now) self.now }
@@ -98,8 +98,8 @@ impl<V> PatternTable<V> {
         }
     }
 
-    /// Takes the value for this pattern out of the table, if there is one. Takes no memory, and a number of steps that is logarithmic in
-    /// the number of entries of this match.
+    /// Removes and returns the value for this pattern, if any. Does not allocate; takes a number of steps that is logarithmic in the number
+    /// of entries of this match.
     pub fn remove(&mut self, pattern: &Pattern<'_>) -> Option<V>
         ensures value { result ≡ lookup (same_pattern pattern.now) self.old }
         ensures entries { self.new ≡ remove_entry (same_pattern pattern.now) self.old }
@@ -113,10 +113,11 @@ impl<V> PatternTable<V> {
         }
     }
 
-    /// The value whose pattern serves the URI: of the patterns that match it the one that no other beats (`better`). Takes no memory. A
-    /// look-up for the exact pattern, then one for each length of prefixes that stands with the octet which the URI has at their end, the
-    /// longest first, then one for each shape of wildcards that stands (how many components, and which of them are empty), until one is
-    /// found; each takes a number of steps that is logarithmic in the number of entries. Entries that do not match are not met.
+    /// Returns the value whose pattern serves the URI: of the patterns that match it the one that no other beats (`better`). Does not
+    /// allocate. Does a look-up for the exact pattern, then one for each length of the prefixes in the table that end with the octet which
+    /// the URI has there, the longest first, then one for each shape of the wildcards in the table (how many components, and which of them
+    /// are empty), until one is found; each takes a number of steps that is logarithmic in the number of entries. Entries that do not match
+    /// are not visited.
     pub fn best(&self, uri: &Uri<'_>) -> Option<&V>
         ensures { option_copied result ≡ option_map (λ entry. entry.1) (serves (λ entry. entry.0) self.now uri.now) }
     {
@@ -130,8 +131,8 @@ impl<V> PatternTable<V> {
         self.wildcard.first(Match::Wildcard, text)
     }
 
-    /// The values whose patterns match the URI: exact, then prefix, then wildcard, each by text in byte order. Takes the look-ups of
-    /// `best`, all of them, and memory and steps for what is found. After `Memory` there is no list, and nothing has changed.
+    /// Returns the values whose patterns match the URI: exact, then prefix, then wildcard, each by text in byte order. Does all the
+    /// look-ups of `best`, and takes memory and steps for what is found. If memory runs out, returns `Memory` and changes nothing.
     pub fn all(&self, uri: &Uri<'_>) -> Result<Vec<&V>, Memory>
         ensures found { IfOk result (λ found. map (λ value. value.now) found.items ≡ values_of (matching (λ entry. entry.0) self.now uri.now)) }
         ensures ordered { AreInOrder self.now }

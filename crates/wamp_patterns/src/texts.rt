@@ -13,8 +13,8 @@ use std::collections::btree_map::{Iter, Range};
 use std::marker::Model;
 use std::mem;
 
-/// Values by texts, one at most for each text, in byte order. Each call but `iter` takes a number of steps that is logarithmic in the
-/// number of texts, each step linear in the text that is asked for.
+/// Values by texts, at most one for each text, in byte order. Each call but `iter` takes a number of steps that is logarithmic in the
+/// number of texts, each step linear in the given text.
 #[derive(Debug, Drop)]
 pub(crate) struct Texts<V> {
     map: BTreeMap<CowSlice<'static, u8>, V>,
@@ -30,7 +30,7 @@ impl<V> Model for Texts<V> {
 }
 
 impl<V> Texts<V> {
-    /// No texts. Takes no memory.
+    /// Returns an empty map. Does not allocate.
     pub(crate) fn new(alloc: Global) -> Texts<V>
         ensures { result ≡ [] }
     {
@@ -39,7 +39,7 @@ impl<V> Texts<V> {
         }
     }
 
-    /// How many texts.
+    /// Returns how many texts there are.
     pub(crate) fn len(&self) -> usize
         ensures len { result ≡ length self.now }
         ensures small { result < 2 ^ 63 }
@@ -48,14 +48,14 @@ impl<V> Texts<V> {
         self.map.len()
     }
 
-    /// The value of this text.
+    /// Returns the value of this text.
     pub(crate) fn get(&self, text: &[u8]) -> Option<&V>
         ensures { option_copied result ≡ lookup (same_text text.now) self.now }
     {
         self.map.get(text)
     }
 
-    /// The text as it is kept, with its value.
+    /// Returns the stored text, with its value.
     pub(crate) fn stored(&self, text: &[u8]) -> Option<(&[u8], &V)>
         ensures { MatchOption result (lookup (same_text text.now) self.now ≡ None)
             (λ stored. (stored.0.now ≡ text.now) × (lookup (same_text text.now) self.now ≡ Some stored.1.now)) }
@@ -66,7 +66,8 @@ impl<V> Texts<V> {
         }
     }
 
-    /// Writes the value of a text that stands, and gives back the one that it had; or else the value comes back. Takes no memory.
+    /// Replaces the value of a text that is there, and returns the previous one; otherwise returns the value as the error. Does not
+    /// allocate.
     pub(crate) fn replace(&mut self, text: &[u8], value: V) -> Result<V, V>
         ensures old { IfOk result (λ old. lookup (same_text text.now) self.old ≡ Some old) }
         ensures entries { OnOk result (self.new ≡ insert_entry text_cmp self.old text.now value) }
@@ -81,8 +82,7 @@ impl<V> Texts<V> {
         Ok(mem::replace(slot, value))
     }
 
-    /// Puts a text that does not stand. Takes memory for a copy of it and an entry; after `Memory` all is as it was, and the value
-    /// comes back.
+    /// Adds a text that is absent. Allocates a copy of it and an entry; after `Memory` nothing has changed, and the value is returned.
     pub(crate) fn add(
         &mut self,
         alloc: Global,
@@ -107,7 +107,7 @@ impl<V> Texts<V> {
         }
     }
 
-    /// Puts the value for this text, whether it stands or not.
+    /// Inserts the value for this text, whether it is there or not.
     pub(crate) fn put(
         &mut self,
         alloc: Global,
@@ -123,7 +123,7 @@ impl<V> Texts<V> {
         }
     }
 
-    /// Takes the value of this text out, if there is one. Takes no memory.
+    /// Removes and returns the value of this text, if any. Does not allocate.
     pub(crate) fn remove(&mut self, text: &[u8]) -> Option<V>
         ensures value { result ≡ lookup (same_text text.now) self.old }
         ensures entries { self.new ≡ remove_entry (same_text text.now) self.old }
@@ -133,7 +133,7 @@ impl<V> Texts<V> {
         self.map.remove(text)
     }
 
-    /// The texts with their values, in order.
+    /// Returns the texts with their values, in order.
     pub(crate) fn iter(&self) -> Iter<'_, CowSlice<'static, u8>, V>
         ensures rest { texts_of result ≡ self.now }
         ensures ordered { AreTextsInOrder self.now }
@@ -141,7 +141,7 @@ impl<V> Texts<V> {
         self.map.iter()
     }
 
-    /// The texts from the first on and before the last with their values, in order.
+    /// Returns the texts from `first` on and before `last` with their values, in order.
     pub(crate) fn between(
         &self,
         first: &'static [u8],
@@ -156,7 +156,7 @@ impl<V> Texts<V> {
     }
 }
 
-// A text of one's own.
+// Returns a copy of the text.
 fn copied(alloc: Global, text: &[u8]) -> Result<CowSlice<'static, u8>, Memory>
     ensures { IfOk result (λ copy. cow_slice_items copy ≡ text.now) }
 {

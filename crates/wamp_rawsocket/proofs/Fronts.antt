@@ -1,4 +1,4 @@
--- What stands at the front of a stream.
+-- What is at the front of a stream.
 use Rattle.std.proofs.Common.{◌≡◌, ℕ, ◌/◌, ◌%◌, ◌<◌, ◌≤◌, ◌^◌, List, [], ◌∷◌, ◌++◌, length, Result, Ok, Err, refl, sym, subst, arith}
 use Rattle.std.proofs.lemmas.List.{take-append-le, drop-append-le, length-append, take-append-drop, length-take-le}
 use Rattle.std.proofs.Math.Seq.{take-append_seam, drop-append_seam}
@@ -57,7 +57,7 @@ front_read_back kind payload rest fits =
     let n : ℕ = length payload in
     rw (length_of-length_octets n, header_of-code_of kind n fits) (behind-payload kind n payload rest refl)
 
--- what a whole frame at the front says of the octets behind the first four, and of what those show
+-- what a whole frame at the front says of the octets after the first four, and of what those show
 behind_whole-kind : (header : Result FrameKind FrameFault) (len : ℕ) (held payload rest : List ℕ) (kind : FrameKind)
     → behind header len held ≡ whole kind payload rest → header ≡ Ok kind
 behind_whole-kind (Err fault) len held payload rest kind e = cc
@@ -73,7 +73,7 @@ behind_whole-held : (header : Result FrameKind FrameFault) (len : ℕ) (held pay
 behind_whole-held (Err fault) len held payload rest kind e = cc
 behind_whole-held (Ok told) len held payload rest kind e = grind (arith, take-append-drop)
 
--- what a header that tells a kind says of its octet and its length
+-- what a header that shows a kind says of its octet and its length
 header_of_ok-octet : (octet len : ℕ) (kind : FrameKind) → header_of octet len ≡ Ok kind → octet ≡ code_of kind
 header_of_ok-octet octet len Message e = grind arith
 header_of_ok-octet octet len Ping e = grind arith

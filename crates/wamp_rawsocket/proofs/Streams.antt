@@ -43,7 +43,7 @@ cut_within-enough (suc n) zero (octet ∷ octets) short enough = absurd (omega a
 cut_within-enough (suc n) (suc m) octets short enough =
     cut_at-agree octets (front_of octets) refl (cut_within n) (cut_within m) (λ rest less. cut_within-enough n m rest (omega arith) (omega arith))
 
--- the frames of a stream are what its front tells, with the frames of what follows
+-- the frames of a stream are what its front shows, with the frames of what follows
 pub frames_of-front : (octets : List ℕ) → frames_of octets ≡ cut_at (front_of octets) frames_of
 unfolding frames_of
 frames_of-front [] = refl

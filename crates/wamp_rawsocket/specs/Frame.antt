@@ -28,7 +28,7 @@ frame_octets kind payload = code_of kind ∷ length_octets (length payload) ++ p
 abbrev pub longest_payload : ℕ
 longest_payload = 2 ^ 24 - 1
 
--- the longest payload that is put into a frame for a receiver that takes payloads of so many octets
+-- the longest payload that is put into a frame for a receiver that takes payloads of `limit` octets
 abbrev pub outbound_limit : ℕ → ℕ
 outbound_limit limit = min limit longest_payload
 
@@ -36,7 +36,7 @@ outbound_limit limit = min limit longest_payload
 abbrev pub inbound_limit : ℕ
 inbound_limit = 2 ^ 20
 
--- the kind that a first octet of 0, 1 or 2 tells
+-- the kind that a first octet of 0, 1 or 2 encodes
 abbrev pub kind_of : ℕ → FrameKind
 kind_of octet = if octet == 0 then Message else (if octet == 1 then Ping else Pong)
 

@@ -6,7 +6,7 @@ use Rattle.wamp_rawsocket.specs.Frame.{frame_octets, inbound_limit}
 use Rattle.wamp_rawsocket.specs.Handshake.{limit_of, terms}
 use Rattle.wamp_rawsocket.specs.Splitter.{partial, whole, faulty, front_of, ended, broken, frame, frames_of, octets_of, end_of}
 
--- the octets that take a client on tell it the limit that is kept
+-- the octets that accept a client announce the limit that is kept
 abbrev pub TermsTellTheLimit : Type 0
 TermsTellTheLimit = limit_of (slice_index terms 1) ≡ inbound_limit
 
@@ -28,7 +28,7 @@ WholeStays =
     (octets payload rest more : List ℕ) (kind : FrameKind) → front_of octets ≡ whole kind payload rest
     → front_of (octets ++ more) ≡ whole kind payload (rest ++ more)
 
--- what stands behind a whole frame is shorter than the stream that begins with it
+-- what follows a whole frame is shorter than the stream that begins with it
 abbrev pub WholeLeavesLess : Type 0
 WholeLeavesLess =
     (octets payload rest : List ℕ) (kind : FrameKind) → front_of octets ≡ whole kind payload rest → length rest < length octets
@@ -59,7 +59,7 @@ FramesReadBack =
     (kind : FrameKind) (payload more : List ℕ) → length payload ≤ inbound_limit
     → frames_of (frame_octets kind payload ++ more) ≡ frame kind payload (frames_of more)
 
--- a stream is its frames, followed by a rest at whose front no whole frame stands
+-- a stream is its frames, followed by a rest that has no whole frame at its front
 abbrev pub StreamIsItsFrames : Type 0
 StreamIsItsFrames =
     (octets : List ℕ) → All (λ octet. octet < 2 ^ 8) octets

@@ -9,18 +9,18 @@ use Rattle.wamp_rawsocket.specs.declared.frame.FrameRef.{FrameRef}
 use Rattle.wamp_rawsocket.specs.declared.splitter.Measured.{Measured}
 use Rattle.wamp_rawsocket.specs.Frame.{frame_octets, header_of, length_of}
 
--- what stands at the front of a stream: too few octets to tell, a whole frame and the octets behind it, or a fault
+-- what is at the front of a stream: too few octets to know, a whole frame and the octets after it, or a fault
 pub data Front : Type 0 where
   partial : Front
   whole : (kind : FrameKind) (payload rest : List ℕ) → Front
   faulty : (fault : FrameFault) → Front
 
--- the front, given what its first four octets show and the octets behind those
+-- the front, given what its first four octets show and the octets after those
 abbrev pub behind : Result FrameKind FrameFault → ℕ → List ℕ → Front
 behind (Err fault) len rest = faulty fault
 behind (Ok kind) len rest = if nat_lt (length rest) len then partial else whole kind (take len rest) (drop len rest)
 
--- what stands at the front of these octets; a fault is shown by the first four alone
+-- what is at the front of these octets; a fault is shown by the first four alone
 abbrev pub front_of : List ℕ → Front
 front_of (octet ∷ high ∷ middle ∷ low ∷ rest) = let len = length_of high middle low in behind (header_of octet len) len rest
 front_of _ = partial
@@ -36,7 +36,7 @@ abbrev pub next_of : Option (List ℕ) → Result (Option Frame) FrameFault × O
 next_of None = (Err Failed, None)
 next_of (Some octets) = given (front_of octets) octets
 
--- a whole frame stands at this front
+-- a whole frame is at this front
 abbrev pub IsWhole : Front → Type 0
 IsWhole partial = ⊥
 IsWhole (whole kind payload rest) = Unit {0}
@@ -47,7 +47,7 @@ abbrev pub HoldsFrame : Option (List ℕ) → Type 0
 HoldsFrame None = ⊥
 HoldsFrame (Some octets) = IsWhole (front_of octets)
 
--- what `next` does; want of memory comes only in the place of a whole frame, and changes nothing
+-- what `next` does; running out of memory comes only in the place of a whole frame, and changes nothing
 abbrev pub Gives : Result (Option Frame) FrameFault → Option (List ℕ) → Option (List ℕ) → Type 0
 Gives (Err Memory) old new = HoldsFrame old × (new ≡ old)
 Gives result old new = next_of old ≡ (result, new)
@@ -58,13 +58,13 @@ shown (Ok None) = Ok None
 shown (Ok (Some front)) = Ok (Some (record { kind = front.kind; payload = front.payload.now }))
 shown (Err fault) = Err fault
 
--- what is left behind the frame at this front of these octets, if one is there
+-- what is left after the frame at this front of these octets, if one is there
 abbrev pub left_at : Front → List ℕ → List ℕ
 left_at partial octets = octets
 left_at (whole kind payload rest) octets = rest
 left_at (faulty fault) octets = octets
 
--- what a splitter holds once it went behind the frame at its front
+-- what a splitter holds once it skipped the frame at its front
 abbrev pub passed : List ℕ → List ℕ
 passed octets = left_at (front_of octets) octets
 
@@ -76,19 +76,19 @@ Measures (Ok (Some frame)) octets =
     × (4 + frame.length ≤ length octets)
 Measures (Err fault) octets = front_of octets ≡ faulty fault
 
--- a stream cut into frames: up to a rest that is no whole frame, or up to a fault, behind which nothing is read
+-- a stream cut into frames: up to a rest that is no whole frame, or up to a fault, after which nothing is read
 pub data Frames : Type 0 where
   ended : Frames
   broken : (fault : FrameFault) → Frames
   frame : (kind : FrameKind) (payload : List ℕ) (others : Frames) → Frames
 
--- the stream with this front, given how the octets behind a frame are cut
+-- the stream with this front, given how the octets after a frame are cut
 abbrev pub cut_at : Front → (List ℕ → Frames) → Frames
 cut_at partial cut = ended
 cut_at (whole kind payload rest) cut = frame kind payload (cut rest)
 cut_at (faulty fault) cut = broken fault
 
--- the stream cut into its frames, where there are at most so many
+-- the stream cut into its frames, if there are at most `most`
 abbrev pub cut_within : ℕ → List ℕ → Frames
 cut_within zero octets = ended
 cut_within (suc most) octets = cut_at (front_of octets) (cut_within most)
@@ -97,13 +97,13 @@ cut_within (suc most) octets = cut_at (front_of octets) (cut_within most)
 unfoldable pub frames_of : List ℕ → Frames
 frames_of octets = cut_within (length octets) octets
 
--- the octets of a stream's frames, one behind another
+-- the octets of a stream's frames, one after another
 abbrev pub octets_of : Frames → List ℕ
 octets_of ended = []
 octets_of (broken fault) = []
 octets_of (frame kind payload others) = frame_octets kind payload ++ octets_of others
 
--- what stands behind a stream's frames
+-- what follows a stream's frames
 abbrev pub end_of : Frames → Front
 end_of ended = partial
 end_of (broken fault) = faulty fault

@@ -20,7 +20,7 @@ pub enum FrameFault {
 }
 
 impl FrameFault {
-    /// The number by which the program reports this fault: 31 to 35, in the order of the variants.
+    /// Returns the number by which the program reports this fault: 31 to 35, in the order of the variants.
     pub fn number(self) -> u8
         ensures { result ≡ number_of self }
     {

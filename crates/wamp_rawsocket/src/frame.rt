@@ -5,10 +5,10 @@ use crate::fault::FrameFault;
 use bytes::Bytes;
 use std::alloc::Global;
 
-// The octets in front of a frame's payload.
+// The number of octets before a frame's payload.
 pub(crate) const HEADER_LEN: usize = 4;
 
-// The longest payload whose length the three octets of a frame can say.
+// The longest payload whose length fits a frame's three octets.
 pub(crate) const LONGEST_PAYLOAD: u32 = (1 << 24) - 1;
 
 /// What a frame is for.
@@ -23,7 +23,7 @@ pub enum FrameKind {
 }
 
 impl FrameKind {
-    // The type by which a frame's first octet tells this kind.
+    // Returns the type by which a frame's first octet encodes this kind.
     fn code(self) -> u8
         ensures { result ≡ code_of self }
     {
@@ -35,28 +35,25 @@ impl FrameKind {
     }
 }
 
-/// One frame of a RawSocket stream. Its payload shares the memory of the octets that were fed.
+/// A frame of a RawSocket stream. Its payload shares the memory of the octets that were fed.
 #[derive(Debug, Drop)]
 pub struct Frame {
     pub kind: FrameKind,
     pub payload: Bytes,
 }
 
-/// A frame that still lies among the octets that were fed.
+/// A frame that is still among the octets that were fed.
 #[derive(Clone, Copy, Debug)]
 pub struct FrameRef<'a> {
     pub kind: FrameKind,
     pub payload: &'a [u8],
 }
 
-/// Appends a frame to `out`: the octet of its kind, its payload's length in three octets, the
-/// highest first, and the payload.
+/// Appends a frame to `out`: the octet of its kind, its payload's length in three octets, highest first, and the payload.
 ///
-/// A payload of more than `limit` octets is `TooLong`; the limit is the one that `answer` found in
-/// the receiver's handshake, and a greater one than a frame can say, 2^24 - 1, counts as that.
-/// `Memory` comes only where the frame fits. After an error `out` holds what it held before. The
-/// cost is that of copying the payload once.
-/// (WAMP specification, "RawSocket Transport", "Framing".)
+/// Returns `TooLong` if the payload has more than `limit` octets; the limit is the one that `answer` found in the receiver's handshake, and
+/// one above 2^24 - 1, which is the most that a frame can hold, counts as that. Returns `Memory` only if the frame fits. After an error
+/// `out` is unchanged. Copies the payload once. (WAMP specification, "RawSocket Transport", "Framing".)
 pub fn append_frame(
     out: &mut Vec<u8>,
     kind: FrameKind,
@@ -78,7 +75,7 @@ pub fn append_frame(
     Ok(())
 }
 
-/// The octets of a frame alone, by the rules of [`append_frame`].
+/// Returns the octets of one frame, by the rules of [`append_frame`].
 pub fn put_frame(
     alloc: Global,
     kind: FrameKind,

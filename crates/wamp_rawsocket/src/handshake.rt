@@ -10,21 +10,21 @@ const MAGIC: u8 = 0x7F;
 // The serializer number of JSON.
 const JSON: u8 = 1;
 
-// Frames of up to 2^20 octets of payload are received, in JSON.
+// The terms: frames of up to 2^20 octets of payload are received, in JSON.
 const TERMS: [u8; 4] = [MAGIC, 0xB1, 0, 0];
 
-// The refusals, each with its error code in the high half of the second octet.
+// The refusals. The high half of the second octet is the error code.
 const SERIALIZER_UNSUPPORTED: [u8; 4] = [MAGIC, 0x10, 0, 0];
 
 const RESERVED_OCTETS_USED: [u8; 4] = [MAGIC, 0x30, 0, 0];
 
 const TOO_MANY_CONNECTIONS: [u8; 4] = [MAGIC, 0x40, 0, 0];
 
-/// The answer to a client's handshake, where `room` says whether one more connection is taken on.
+/// Returns the answer to a client's handshake; `room` says whether one more connection is accepted.
 ///
-/// A first octet other than `7F` gets no answer at all. Then these are refused, in this order:
-/// reserved octets that are not zero, a serializer other than JSON, and a client for whom there is
-/// no room. It takes no memory. (WAMP specification, "RawSocket Transport", "Handshake".)
+/// A first octet other than `7F` gets no answer at all. Then these are refused, in this order: reserved octets that are not zero, a
+/// serializer other than JSON, and a client for which there is no room. Does not allocate. (WAMP specification, "RawSocket Transport",
+/// "Handshake".)
 pub fn answer(octets: [u8; 4], room: bool) -> Answer
     ensures answer { result ≡ answer_of octets room }
     ensures limit { HasFramedLimit result }

@@ -2,7 +2,7 @@
 ghost use Rattle.wamp_rawsocket.specs.Laws.{TermsTellTheLimit, WholeIsItsOctets, FrameIsReadBack, WholeStays, WholeLeavesLess};
 ghost use Rattle.wamp_rawsocket.specs.Laws.{FaultStays, FramesAtWhole, FramesAtFault, FramesAtEnd, FramesReadBack, StreamIsItsFrames};
 
-/// The octets that take a client on tell it the limit that the splitter keeps.
+/// The octets that accept a client announce the limit that the splitter keeps.
 pub fn terms_tell_the_limit()
     ensures { TermsTellTheLimit }
 {}
@@ -13,7 +13,7 @@ pub fn whole_is_its_octets()
     ensures { WholeIsItsOctets }
 {}
 
-/// A frame's octets are read back as that frame, whatever follows them.
+/// A frame's octets are read back as that frame, whatever follows.
 #[tactic(auto, using(crate::proofs::Fronts::front_read_back))]
 pub fn frame_is_read_back()
     ensures { FrameIsReadBack }
@@ -25,7 +25,7 @@ pub fn whole_stays()
     ensures { WholeStays }
 {}
 
-/// What stands behind a whole frame is shorter than the stream that begins with it, so taking frames comes to an end.
+/// What follows a whole frame is shorter than the stream that begins with it, so taking frames comes to an end.
 #[tactic(auto, using(crate::proofs::Streams::whole_leaves_less))]
 pub fn whole_leaves_less()
     ensures { WholeLeavesLess }
@@ -56,7 +56,7 @@ pub fn frames_at_end()
     ensures { FramesAtEnd }
 {}
 
-/// Frames that are written one behind another are read back as those frames.
+/// Frames that are written one after another are read back as those frames.
 #[tactic(auto, using(crate::proofs::Streams::frames_read_back))]
 pub fn frames_read_back()
     ensures { FramesReadBack }

@@ -1,5 +1,4 @@
-//! The RawSocket transport of WAMP: the handshake's answer, and frames cut out of octets that
-//! come in any pieces.
+//! The RawSocket transport of WAMP: the answer to a handshake, and frames cut out of octets that come in any pieces.
 #![tactic(auto)]
 
 mod fault;

@@ -11,10 +11,10 @@ use std::marker::Model;
 // The longest payload that is received, as the handshake's answer says.
 const INBOUND_LIMIT: u32 = 1 << 20;
 
-/// Cuts the octets of a stream into frames, however they come.
+/// Cuts the octets of a stream into frames, in whatever pieces they come.
 ///
-/// A clause sees the octets that were fed and not yet given as a frame, or `None` once they showed
-/// a fault: nothing is read from then on.
+/// Contracts see the octets that were fed and not yet returned as a frame, or `None` once they showed a fault: nothing is read from then
+/// on.
 #[derive(Debug, Drop)]
 pub struct Splitter {
     octets: Option<BytesMut>,
@@ -27,7 +27,7 @@ impl Model for Splitter {
 }
 
 impl Splitter {
-    /// A splitter that was fed nothing. It takes no memory.
+    /// Returns an empty splitter. Does not allocate.
     pub fn new(alloc: Global) -> Splitter
         ensures { result ≡ Some [] }
     {
@@ -38,10 +38,9 @@ impl Splitter {
 
     /// Takes the stream's next octets.
     ///
-    /// After a fault of `next` it answers `Failed`; else only `Memory` refuses. After an error the
-    /// splitter is as it was. It copies `octets`; where `next` is called until it answers `None`
-    /// before the next octets are fed, and frames are dropped soon, a stream of N octets costs a
-    /// number of steps in proportion to N, however it is cut.
+    /// Returns `Failed` after a fault of `next`; otherwise the only error is `Memory`. After an error the splitter is unchanged. Copies
+    /// `octets`. If `next` is called until it returns `None` before the next octets are fed, and frames are dropped soon, a stream of N
+    /// octets costs a number of steps in proportion to N, however it is cut.
     pub fn feed(&mut self, octets: &[u8]) -> Result<(), FrameFault>
         ensures ok { OnOk result (self.new ≡ option_map (λ held. held ++ octets.now) self.old) }
         ensures err { OnErr result (self.new ≡ self.old) }
@@ -55,14 +54,12 @@ impl Splitter {
         Ok(())
     }
 
-    /// The next whole frame of the octets fed so far, or `None` where more are needed.
+    /// Returns the next whole frame of the octets fed so far, or `None` if more are needed.
     ///
-    /// Once four octets of a frame are there they are judged, before any of its payload: `Reserved`
-    /// for a reserved bit, `BadType`, and `TooLong` for more than 2^20 octets of payload, in this
-    /// order. These spoil the splitter: each later call of `feed` or `next` answers `Failed`.
-    /// `Memory` comes only where a whole frame is there, and leaves it there. The payload is cut
-    /// out with no copy, and nor is what lies behind it copied.
-    /// (WAMP specification, "RawSocket Transport", "Framing".)
+    /// Judges a frame once its first four octets are there, before any of its payload: `Reserved` for a reserved bit, `BadType`, and
+    /// `TooLong` for more than 2^20 octets of payload, in this order. These spoil the splitter: each later call of `feed` or `next` returns
+    /// `Failed`. Returns `Memory` only if a whole frame is there, and leaves the frame there. Copies neither the payload nor what follows
+    /// it. (WAMP specification, "RawSocket Transport", "Framing".)
     pub fn next(&mut self) -> Result<Option<Frame>, FrameFault>
         ensures { Gives result self.old self.new }
     {
@@ -83,9 +80,9 @@ impl Splitter {
         }
     }
 
-    /// The frame that `next` would give, left where it lies, or `None`, or the fault that `next`
-    /// would answer. It takes no memory, and changes nothing: [`pass`](Splitter::pass) goes on.
-    pub fn front(&self) -> Result<Option<FrameRef<'_>>, FrameFault>
+    /// Returns the frame that `next` would return, without taking it out, or `None`, or the fault that `next` would return. Does not
+    /// allocate and changes nothing: [`pass`](Splitter::pass) goes on.
+    pub fn peek(&self) -> Result<Option<FrameRef<'_>>, FrameFault>
         ensures { shown result ≡ (next_of self.now).0 }
     {
         let Some(held) = &self.octets else {
@@ -101,8 +98,8 @@ impl Splitter {
         }
     }
 
-    /// Goes behind the frame that `front` shows; where it shows none, nothing changes. It takes no
-    /// memory, and copies nothing: the next octets that are fed take the place of what was passed.
+    /// Skips the frame that `peek` shows; if it shows none, nothing changes. Does not allocate and copies nothing: the next octets that
+    /// are fed take the place of what was skipped.
     pub fn pass(&mut self)
         ensures { self.new ≡ option_map passed self.old }
     {
@@ -115,14 +112,14 @@ impl Splitter {
     }
 }
 
-// What a whole frame's first four octets say.
+// What the first four octets of a whole frame say.
 #[derive(Clone, Copy)]
 struct Measured {
     kind: FrameKind,
     length: usize,
 }
 
-// What the first four octets say of the frame that they begin, where it is whole.
+// Reads the header that the octets begin with; `None` if its frame is not whole yet.
 fn measure(octets: &[u8]) -> Result<Option<Measured>, FrameFault>
     ensures { Measures result octets.now }
 {

@@ -1,4 +1,4 @@
--- Where the walk over two values finds no difference they are equal, and where they are equal, and plain, it finds none.
+-- If the walk over two values finds no difference they are equal, and if they are equal, and plain, it finds none.
 use Rattle.std.proofs.Common.{◌≡◌, pos, negsuc, Bool, true, false, refl, ap, ap₂, subst, eq-eqb}
 use Rattle.std.specs.Prelude.{◌↔◌, ◌&&◌}
 use Rattle.std.proofs.lemmas.Bool.{and_parts}

@@ -1,4 +1,4 @@
--- What stands in the place of arguments in a message: nothing, an array, or an array and an object
+-- The arguments of a message: nothing, an array, or an array and an object
 -- (WAMP specification, "Protocol Messages": Arguments|list, ArgumentsKw|dict).
 use Rattle.std.specs.Prelude.{List, [], ◌++◌, IsTrue, is_some, ⊤}
 use Rattle.json.specs.Token.{Token}

@@ -1,4 +1,4 @@
--- for private clauses: whether two values that have no floats are equal, told by a walk over both
+-- for private clauses: whether two values that have no floats are equal, by a walk over both
 use Rattle.std.specs.Prelude.{Bool, true, false, ◌&&◌, ◌==◌, pos, negsuc, bytes_eq}
 use Rattle.serde_json.specs.Data.{Num, unsigned, negative, Data, null, boolean, number, string, array, object, Items, no_items}
 use Rattle.serde_json.specs.Data.{item, Members, no_members, member}

@@ -1,6 +1,7 @@
 pub mod Payload
 pub mod Fitness
 pub mod Tokens
+pub mod Found
 pub mod Options
 pub mod Args
 pub mod Equal

@@ -21,7 +21,7 @@ dict_tokens ms = members_tokens (members_outline ms)
 abbrev pub number_token : Num → Token
 number_token n = number (number_text n)
 
--- unless there is an error, a writer has these tokens behind its own; the text that it began with stays in either case
+-- unless there is an error, a writer has these tokens after its own; the text that it began with stays in either case
 pub record Appends {E : Type 0} (result : Result (Unit {0}) E) (old new : Written) (more : List Token) : Type 0 where
   pub ok : OnOk result (new.tokens ≡ old.tokens ++ more)
   pub before : new.before ≡ old.before

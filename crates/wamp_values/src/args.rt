@@ -39,8 +39,8 @@ impl Model for Arguments {
 }
 
 impl Arguments {
-    /// The payload as arguments, where it is an array. It is held once from there on, which takes one allocation; where there is no
-    /// memory for that, it is held as it is.
+    /// Returns the payload as arguments if it is an array, else `None`. Later copies share it, for which this allocates once; without
+    /// memory for that, the payload is held unshared.
     pub fn of(payload: Payload) -> Option<Arguments>
         ensures { result ≡ (if is_some (as_array payload) then Some payload else None) }
     {
@@ -53,7 +53,7 @@ impl Arguments {
         }
     }
 
-    /// The array; takes no memory.
+    /// Returns the array; does not allocate.
     pub fn value(&self) -> &Value
         ensures value { view result.now ≡ self.now }
         ensures arguments { IsArguments self.now }
@@ -61,8 +61,8 @@ impl Arguments {
         self.list.get().value()
     }
 
-    /// An equal array: one holder more of what is held once, in constant time and without memory. One that is held alone is copied;
-    /// where memory runs out there is none, and nothing has changed.
+    /// Returns an equal array. A shared one gets one more holder, in constant time and without an allocation; an unshared one is copied. If
+    /// memory runs out, returns `Memory` and changes nothing.
     pub fn copy(&self) -> Result<Arguments, Memory>
         ensures { IfOk result (λ made. made ≡ self.now) }
     {
@@ -71,7 +71,7 @@ impl Arguments {
         })
     }
 
-    /// Whether the two are equal; takes no memory.
+    /// Returns whether the two are equal; does not allocate.
     pub fn same(&self, other: &Arguments) -> bool
         ensures { IsTrue result ↔ (self.now ≡ other.now) }
     {
@@ -115,7 +115,7 @@ impl Model for ArgumentsKw {
 }
 
 impl ArgumentsKw {
-    /// The payload as arguments by name, where it is an object, held as [`Arguments::of`] holds an array.
+    /// Returns the payload as arguments by name if it is an object, else `None`; shared as [`Arguments::of`] shares an array.
     pub fn of(payload: Payload) -> Option<ArgumentsKw>
         ensures { result ≡ (if is_some (as_object payload) then Some payload else None) }
     {
@@ -128,7 +128,7 @@ impl ArgumentsKw {
         }
     }
 
-    /// The object; takes no memory.
+    /// Returns the object; does not allocate.
     pub fn value(&self) -> &Value
         ensures value { view result.now ≡ self.now }
         ensures arguments { IsArgumentsKw self.now }
@@ -136,7 +136,7 @@ impl ArgumentsKw {
         self.dict.get().value()
     }
 
-    /// An equal object, as [`Arguments::copy`] makes an equal array.
+    /// Returns an equal object, as [`Arguments::copy`] returns an equal array.
     pub fn copy(&self) -> Result<ArgumentsKw, Memory>
         ensures { IfOk result (λ made. made ≡ self.now) }
     {
@@ -145,7 +145,7 @@ impl ArgumentsKw {
         })
     }
 
-    /// Whether the two are equal; takes no memory.
+    /// Returns whether the two are equal; does not allocate.
     pub fn same(&self, other: &ArgumentsKw) -> bool
         ensures { IsTrue result ↔ (self.now ≡ other.now) }
     {
@@ -161,7 +161,7 @@ impl ArgumentsKw {
     }
 }
 
-/// What stands in the place of arguments in a message.
+/// The arguments of a message: none, a list, or a list and a dictionary.
 #[derive(Debug)]
 pub enum Args {
     Nothing,
@@ -180,7 +180,7 @@ impl Drop for Args {
 }
 
 impl Args {
-    /// Equal arguments, as [`Arguments::copy`] makes them.
+    /// Returns equal arguments, as [`Arguments::copy`] does.
     pub fn copy(&self) -> Result<Args, Memory>
         ensures { IfOk result (λ made. made ≡ self.now) }
     {
@@ -198,7 +198,7 @@ impl Args {
         }
     }
 
-    /// Whether the two are equal; takes no memory.
+    /// Returns whether the two are equal; does not allocate.
     pub fn same(&self, other: &Args) -> bool
         ensures { IsTrue result ↔ (self.now ≡ other.now) }
     {
@@ -212,7 +212,7 @@ impl Args {
         }
     }
 
-    /// Writes the tokens of the last items of a message's array, with no bracket, as `Payload::put` does.
+    /// Writes the arguments' tokens as the last items of a message's array, without a bracket, as `Payload::put` does.
     pub fn put(&self, out: &mut Writer) -> Result<(), Memory>
         ensures tokens { Appends result out.old out.new (args_tokens self.now) }
         ensures args { OnOk result (IsArgs self.now) }

@@ -1,4 +1,4 @@
-// Whether two values are equal.
+// The comparison of two values.
 ghost use Rattle.std.specs.Prelude.{◌≡◌};
 ghost use Rattle.serde_json.specs.View.{view, number_view, items_view, members_view};
 ghost use Rattle.wamp_values.specs.Equal.{same_data, same_items, same_members, same_num};

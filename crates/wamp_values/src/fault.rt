@@ -4,7 +4,7 @@ ghost use Rattle.wamp_values.specs.Fault.{number_of};
 use std::alloc::AllocError;
 use thiserror::Error;
 
-/// Why a JSON value is no payload, or none was made of it.
+/// Why a JSON value is no payload, or why no payload was made of it.
 #[derive(Clone, Copy, Debug, PartialEq, Eq, Hash, Error)]
 pub enum ValueFault {
     #[error("a payload's numbers are whole numbers from -2^63 to 2^64-1")]
@@ -16,7 +16,7 @@ pub enum ValueFault {
 }
 
 impl ValueFault {
-    /// The fault's number: 11, 13 or 12.
+    /// Returns the fault's number: 11, 13 or 12.
     pub fn number(self) -> u8
         ensures { result ≡ number_of self }
     {

@@ -1,4 +1,4 @@
-// Whether a value is fit to be a payload: one walk over it for both tests, its numbers and how deep it nests.
+// Judges whether a value is fit to be a payload: one walk over it for both tests, its numbers and how deep it nests.
 ghost use Rattle.std.specs.Prelude.{◌≡◌, suc, not, if◌then◌else◌};
 ghost use Rattle.std.specs.Bool.{OnTrue};
 ghost use Rattle.std.specs.List.Sorted.{IsStrictlySortedBy};
@@ -24,7 +24,7 @@ pub(crate) enum Fitness {
     Fit,
 }
 
-// The value's fitness where its arrays and objects may nest `room` deep.
+// Returns the value's fitness if its arrays and objects may nest `room` deep.
 #[cycle(fitness)]
 #[inline(always)]
 pub(crate) fn fitness_of(value: &Value, room: usize) -> Fitness
@@ -43,7 +43,7 @@ pub(crate) fn fitness_of(value: &Value, room: usize) -> Fitness
     }
 }
 
-// The fitness of the array of these items.
+// Returns the fitness of the array of these items.
 #[cycle(fitness)]
 #[inline(never)]
 fn items_fitness(items: &Vec<Value>, room: usize) -> Fitness
@@ -62,7 +62,7 @@ fn items_fitness(items: &Vec<Value>, room: usize) -> Fitness
     exact(within)
 }
 
-// The fitness of the object of these members.
+// Returns the fitness of the object of these members.
 #[cycle(fitness)]
 #[inline(never)]
 #[tactic(auto, using(crate::proofs::Plain::keys_in_order))]
@@ -83,7 +83,7 @@ fn members_fitness(members: &Map<String, Value>, room: usize) -> Fitness
     exact(within)
 }
 
-// The fitness of a value whose numbers are all held.
+// Returns the fitness of a value whose numbers are all held exactly.
 fn exact(within: bool) -> Fitness
     ensures { result ≡ (if within then Fit else TooDeep) }
 {

@@ -1,4 +1,4 @@
-// A payload in the memory of one allocation, of which a copy is one holder more.
+// A payload that its copies share: a copy is one more holder of one allocation.
 ghost use Rattle.std.specs.Prelude.{◌≡◌, IfOk};
 
 use crate::memory::Memory;
@@ -8,16 +8,16 @@ use std::alloc::Global;
 use std::marker::Model;
 use std::sync::Arc;
 
-// Who holds a payload.
+// How a payload is held.
 #[derive(Debug, Drop)]
 enum Held {
-    // All copies: it is held once.
+    // Shared by all copies.
     Together(Arc<Payload>),
-    // This one alone: the payload keeps no allocator, or there was no memory to hold it once.
+    // Unshared: the payload keeps no allocator, or there was no memory to share it.
     Alone(Payload),
 }
 
-// A payload that is held once, however many copies there are.
+// A payload that all its copies share.
 #[derive(Debug, Drop)]
 pub(crate) struct HeldPayload {
     held: Held,
@@ -36,7 +36,7 @@ impl Model for HeldPayload {
 }
 
 impl HeldPayload {
-    // Holds the payload once, which takes one allocation; where it keeps no allocator, or memory is missing, as it is.
+    // Makes the payload shared, which allocates once; if it keeps no allocator, or memory runs out, it stays unshared.
     pub fn of(payload: Payload) -> HeldPayload
         ensures { result ≡ payload }
     {
@@ -57,7 +57,7 @@ impl HeldPayload {
         }
     }
 
-    // One holder more, which takes no memory where the payload is held once.
+    // Adds a holder; does not allocate if the payload is shared.
     pub fn copy(&self) -> Result<HeldPayload, Memory>
         ensures { IfOk result (λ made. made ≡ self.now) }
     {
@@ -70,7 +70,7 @@ impl HeldPayload {
     }
 }
 
-// The payload held once, or alone where memory is missing.
+// Returns the payload shared, or unshared if memory runs out.
 fn together(alloc: Global, payload: Payload) -> HeldPayload
     ensures { result ≡ payload }
 {
@@ -84,7 +84,7 @@ fn together(alloc: Global, payload: Payload) -> HeldPayload
     }
 }
 
-// The allocator that the value keeps, if it keeps one: an object without members keeps none that can be asked for.
+// Returns the allocator that the value keeps, if any: an object without members keeps none that can be asked for.
 fn allocator_of(value: &Value) -> Option<Global> {
     match value {
         Value::Array(items) => Some(*items.allocator()),

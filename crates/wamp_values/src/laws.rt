@@ -1,7 +1,7 @@
-//! What holds of the definitions alone.
+//! Laws of the definitions. Each is the contract of a function that does nothing.
 ghost use Rattle.wamp_values.specs.Laws.{ReadsBack, FitAreTaken};
 
-/// What is written of a value with held numbers and ordered keys is read as that value.
+/// A value whose numbers are held exactly and whose keys are ordered is read back from what is written of it.
 #[tactic(auto, using(crate::proofs::ReadBack::reads_back))]
 pub fn reads_back()
     ensures { ReadsBack }

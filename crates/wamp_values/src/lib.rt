@@ -1,10 +1,11 @@
-//! The JSON values that messages of WAMP carry: payloads, arguments and options.
+//! The JSON values that messages of WAMP carry: payloads, arguments, and what the router reads of options and details.
 #![tactic(auto)]
 
 mod args;
 mod equal;
 mod fault;
 mod fitness;
+mod found;
 mod held;
 pub mod laws;
 mod memory;
@@ -14,6 +15,7 @@ mod tokens;
 
 pub use args::{Args, Arguments, ArgumentsKw};
 pub use fault::ValueFault;
+pub use found::{Found, bool_option, text_at, text_option};
 pub use memory::Memory;
-pub use options::{Found, bool_option, text_at, text_option};
+pub use options::{flag_in, invoke_in, is_canceling, match_in, mode_in, mode_named};
 pub use payload::Payload;

@@ -17,8 +17,7 @@ use std::mem;
 /// How deep the arrays and objects of a payload may nest.
 const DEEPEST: usize = 126;
 
-/// A JSON value that a message may carry: each of its numbers is held as an i64 or a u64, and its arrays and objects
-/// nest at most 126 deep.
+/// A JSON value that a message may carry. Each of its numbers is held as an i64 or a u64, and its arrays and objects nest at most 126 deep.
 #[derive(Debug)]
 pub struct Payload {
     value: Value,
@@ -45,10 +44,10 @@ impl Model for Payload {
 }
 
 impl Payload {
-    /// The payload that this value is; takes no memory, and goes over the value once.
+    /// Returns this value as a payload; walks it once, and does not allocate.
     ///
-    /// `Number` where a number is not held as an i64 or a u64, as one with a fraction, an exponent or out of range,
-    /// and `-0`. Else `Deep` where arrays and objects nest more than 126 deep.
+    /// `Number` if a number is not held as an i64 or a u64: one with a fraction, an exponent or out of range, or `-0`. Else `Deep` if
+    /// arrays and objects nest more than 126 deep.
     pub fn check(value: Value) -> Result<Payload, ValueFault>
         ensures { result ≡ payload_of (view value) }
     {
@@ -59,7 +58,7 @@ impl Payload {
         }
     }
 
-    /// The value; takes no memory.
+    /// Returns the value; does not allocate.
     pub fn value(&self) -> &Value
         ensures value { view result.now ≡ self.now }
         ensures payload { IsPayload self.now }
@@ -67,7 +66,7 @@ impl Payload {
         &self.value
     }
 
-    /// An equal payload. Where memory runs out there is none, and nothing has changed.
+    /// Returns an equal payload. If memory runs out, returns `Memory` and changes nothing.
     pub fn copy(&self) -> Result<Payload, Memory>
         ensures { IfOk result (λ made. made ≡ self.now) }
     {
@@ -76,7 +75,7 @@ impl Payload {
         })
     }
 
-    /// Whether the two are equal; takes no memory, and stops at the first difference.
+    /// Returns whether the two are equal; stops at the first difference, and does not allocate.
     #[tactic(auto, using(crate::proofs::Sameness::same_decides))]
     pub fn same(&self, other: &Payload) -> bool
         ensures { IsTrue result ↔ (self.now ≡ other.now) }
@@ -84,9 +83,9 @@ impl Payload {
         same_values(&self.value, &other.value)
     }
 
-    /// Writes the payload's tokens: with these, the writer's text is the compact text of the payload.
+    /// Writes the payload's tokens, which print as its compact text.
     ///
-    /// After an error some of them may have been written, and what the writer began with stays.
+    /// After an error some tokens may have been written; what the writer held before stays.
     #[tactic(auto, using(crate::proofs::Plain::plain_has_no_float))]
     pub fn put(&self, out: &mut Writer) -> Result<(), Memory>
         ensures tokens { Appends result out.old out.new (data_tokens self.now) }
@@ -95,7 +94,7 @@ impl Payload {
         Ok(put(&self.value, out)?)
     }
 
-    /// Appends the compact text: no space, an object's keys in byte order. An error leaves `out` as it was.
+    /// Appends the payload's compact text, without spaces and with an object's keys in byte order. An error leaves `out` unchanged.
     #[tactic(auto, using(crate::proofs::Texts::print_tokens))]
     pub fn write_into(&self, out: &mut Vec<u8>) -> Result<(), Memory>
         ensures ok { OnOk result (out.new.items ≡ out.old.items ++ compact_text self.now) }

@@ -31,7 +31,7 @@ pub(crate) fn put(value: &Value, out: &mut Writer) -> Result<(), AllocError>
     }
 }
 
-// The items and the closing bracket.
+// Writes the items and the closing bracket.
 #[cycle(put)]
 #[inline(never)]
 fn put_items(items: &Vec<Value>, out: &mut Writer) -> Result<(), AllocError>
@@ -44,7 +44,7 @@ fn put_items(items: &Vec<Value>, out: &mut Writer) -> Result<(), AllocError>
     out.end_array()
 }
 
-// The members and the closing brace.
+// Writes the members and the closing brace.
 #[cycle(put)]
 #[inline(never)]
 fn put_members(members: &Map<String, Value>, out: &mut Writer) -> Result<(), AllocError>

@@ -4,7 +4,7 @@ use Rattle.serde_json.specs.View.{view}
 use Rattle.serde_json.specs.Find.{get_member, as_bool}
 use Rattle.serde_json.specs.Data.{put}
 use Rattle.serde_json.proofs.Views.{get_member-put, get_member-put_other}
-use Rattle.wamp_values.specs.Options.{found_by}
+use Rattle.wamp_values.specs.Found.{found_by}
 use Rattle.wamp_messages.proofs.flags.found_with.Goals as goal
 
 pub returns-then-eq : goal.returns-then-eq

@@ -5,7 +5,7 @@ use Rattle.serde_json.specs.Read.{of_items, converted}
 use Rattle.serde_json.specs.View.{view, members_view}
 use Rattle.serde_json.specs.declared.value.Value.{Object}
 use Rattle.serde_json.proofs.Views.{view-Object}
-use Rattle.wamp_message_layouts.specs.Codes as code
+use Rattle.wamp_message_types.specs.Codes as code
 use Rattle.wamp_messages.specs.Flags.{flagged_in}
 use Rattle.wamp_messages.specs.Outermost.{before}
 use Rattle.wamp_messages.specs.Publish.{publish_in}

@@ -1,4 +1,4 @@
--- Where there are equally many components, the pairs of the two iterators are tested.
+-- If there are equally many components, the pairs of the two iterators are tested.
 use Rattle.std.proofs.Common.{lit<, rules, sym, ◌∙◌}
 use borrow.Author.Tests.{tests}
 use Rattle.std.proofs.lemmas.Iterator.{YieldsList-from_zip}

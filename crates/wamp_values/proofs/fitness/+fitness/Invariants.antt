@@ -1,4 +1,4 @@
--- What was seen so far, with the rest, answers as the whole does.
+-- What was seen so far, with the rest, gives what the whole gives.
 use Rattle.std.proofs.Common.{◌≡◌, ◌-◌, suc, drop}
 use Rattle.std.specs.Prelude.{◌&&◌, nat_le}
 use Rattle.serde_json.specs.Data.{items_depth, members_depth}

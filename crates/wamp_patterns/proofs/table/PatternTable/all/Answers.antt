@@ -1,4 +1,4 @@
--- The three indexes give all that match, one behind the other.
+-- The three indexes give all that match, one after the other.
 use Rattle.std.proofs.Common.{◌∙◌, ap, map}
 use Rattle.std.proofs.lemmas.Result.{IfOk-weaker}
 use Rattle.std.specs.Map.{values_of}

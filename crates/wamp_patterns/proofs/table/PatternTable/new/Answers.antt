@@ -1,4 +1,4 @@
--- Without entries all is in order, and no kind stands.
+-- Without entries all is in order, and no kind occurs.
 use Rattle.wamp_patterns.proofs.Chosen.{nothing_tells, nothing_ordered}
 use Rattle.wamp_ids.specs.declared.policy.Match.TheVariants.{Exact, Prefix, Wildcard}
 use Rattle.wamp_patterns.proofs.table.PatternTable.new.Goals as goal

@@ -1,10 +1,9 @@
 -- The kinds of request that an ERROR answers, and their codes (WAMP specification, "Message Codes"; that 49 is among them is this
 -- profile's: docs/PROTOCOL.md, "Messages").
 use Rattle.std.specs.Prelude.{ℕ, ◌==◌, Bool, true, false, Option, Some, None, if◌then◌else◌}
-use Rattle.serde_json.specs.Data.{unsigned, Data, number}
-use Rattle.wamp_message_layouts.specs.Codes as code
-use Rattle.wamp_message_layouts.specs.declared.request_kind.RequestKind.{RequestKind}
-use Rattle.wamp_message_layouts.specs.declared.request_kind.RequestKind.TheVariants as kind
+use Rattle.wamp_message_types.specs.Codes as code
+use Rattle.wamp_message_types.specs.declared.request_kind.RequestKind.{RequestKind}
+use Rattle.wamp_message_types.specs.declared.request_kind.RequestKind.TheVariants as kind
 
 abbrev pub code_of : RequestKind → ℕ
 code_of kind.Publish = code.publish
@@ -28,11 +27,6 @@ kind_of n =
     else (if n == code.unregister then Some kind.Unregister
     else (if n == code.invocation then Some kind.Invocation
     else None)))))))
-
--- the kind of request that an ERROR names
-abbrev pub kind_in : Data → Option RequestKind
-kind_in (number (unsigned n)) = kind_of n
-kind_in d = None
 
 -- whether an ERROR on such a request answers an invocation
 abbrev pub is_invocation : RequestKind → Bool

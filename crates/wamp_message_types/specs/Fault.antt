@@ -1,7 +1,7 @@
 -- The numbers of the faults of messages (docs/PROTOCOL.md, "Reading").
 use Rattle.std.specs.Prelude.{ℕ}
-use Rattle.wamp_message_layouts.specs.declared.fault.MessageFault.{MessageFault}
-use Rattle.wamp_message_layouts.specs.declared.fault.MessageFault.TheVariants.{NotJson, NotArray, Kind, Length, Shape, IdRange}
+use Rattle.wamp_message_types.specs.declared.fault.MessageFault.{MessageFault}
+use Rattle.wamp_message_types.specs.declared.fault.MessageFault.TheVariants.{NotJson, NotArray, Kind, Length, Shape, IdRange}
 
 abbrev pub number_of : MessageFault → ℕ
 number_of NotJson = 21

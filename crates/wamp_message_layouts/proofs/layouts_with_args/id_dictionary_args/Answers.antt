@@ -2,7 +2,7 @@ use Rattle.std.proofs.Common.{◌∙◌}
 use Rattle.serde_json.specs.View.{view}
 use Rattle.wamp_message_layouts.specs.Elements.{elements}
 use Rattle.wamp_message_layouts.proofs.Lengths.{id_dictionary_args_length, id_dictionary_args_taken}
-use Rattle.wamp_message_layouts.proofs.layouts.id_dictionary_args.Goals as goal
+use Rattle.wamp_message_layouts.proofs.layouts_with_args.id_dictionary_args.Goals as goal
 
 pub returns-in_default : goal.returns-in_default
 returns-in_default c = id_dictionary_args_length c.args.may_be_inexact (elements c.args.rest) c.in_default.ensures

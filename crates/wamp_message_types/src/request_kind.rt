@@ -1,9 +1,7 @@
 ghost use Rattle.std.specs.Prelude.{◌≡◌};
-ghost use Rattle.serde_json.specs.View.{view};
-ghost use Rattle.wamp_message_layouts.specs.RequestKind.{code_of, kind_in, is_invocation};
+ghost use Rattle.wamp_message_types.specs.RequestKind.{code_of, kind_of, is_invocation};
 
 use crate::codes;
-use serde_json::Value;
 
 /// The kind of request that an ERROR answers: its element `REQUEST.Type` (WAMP specification, "Message Codes").
 #[derive(Clone, Copy, Debug, PartialEq, Eq, Hash)]
@@ -19,7 +17,7 @@ pub enum RequestKind {
 }
 
 impl RequestKind {
-    /// The request's code.
+    /// Returns the request's code.
     pub fn code(self) -> u64
         ensures { result ≡ code_of self }
     {
@@ -35,11 +33,11 @@ impl RequestKind {
         }
     }
 
-    // The kind of the request of this code.
-    pub(crate) fn in_element(value: &Value) -> Option<RequestKind>
-        ensures { result ≡ kind_in (view value.now) }
+    /// Returns the kind of request of this code; `None` if no request has it.
+    pub fn of_code(code: u64) -> Option<RequestKind>
+        ensures { result ≡ kind_of code }
     {
-        match value.as_u64()? {
+        match code {
             codes::PUBLISH => Some(RequestKind::Publish),
             codes::SUBSCRIBE => Some(RequestKind::Subscribe),
             codes::UNSUBSCRIBE => Some(RequestKind::Unsubscribe),
@@ -52,8 +50,8 @@ impl RequestKind {
         }
     }
 
-    // Whether an ERROR on such a request answers an invocation.
-    pub(crate) fn is_invocation(self) -> bool
+    /// Returns whether an ERROR on such a request answers an invocation.
+    pub fn is_invocation(self) -> bool
         ensures { result ≡ is_invocation self }
     {
         match self {

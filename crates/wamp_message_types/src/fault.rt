@@ -1,9 +1,9 @@
 ghost use Rattle.std.specs.Prelude.{◌≡◌};
-ghost use Rattle.wamp_message_layouts.specs.Fault.{number_of};
+ghost use Rattle.wamp_message_types.specs.Fault.{number_of};
 
 use thiserror::Error;
 
-/// Why octets are no message. Where several causes hold, the one with the least number is told.
+/// Why octets are no message. If several causes hold, the one with the least number is reported.
 #[derive(Clone, Copy, Debug, PartialEq, Eq, Hash, Error)]
 pub enum MessageFault {
     #[error("the message is not JSON")]
@@ -21,7 +21,7 @@ pub enum MessageFault {
 }
 
 impl MessageFault {
-    /// The fault's number, 21 to 26.
+    /// Returns the fault's number, 21 to 26.
     pub fn number(self) -> u8
         ensures { result ≡ number_of self }
     {
