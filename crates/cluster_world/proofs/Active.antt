@@ -8,7 +8,7 @@ use Rattle.cluster_world.proofs.Invariant.{Sent, Known, Safe, Tops, Tells, Told,
 use Rattle.cluster_world.proofs.Invariant.{KindOk}
 use Rattle.cluster_world.proofs.Growth.{known_grows, safe_grows, chosen_grows, vote_of_grows, role_grows}
 use Rattle.cluster_world.proofs.InvariantKept.{sent_cases, known_cases, sent_right}
-use Rattle.cluster_world.proofs.WithNode.{with_node, with_node_promised, Kept, mine_ok, turn_moved}
+use Rattle.cluster_world.proofs.WithNode.{with_node, with_node_promised, Kept, mine_ok, plan_moved}
 use Rattle.cluster_world.proofs.AcceptorTests.{accept_le, accept_up, accept_over, promise_lt, promise_up, put_has, put_cases, put_keeps}
 use Rattle.cluster_world.proofs.AcceptorTests.{from_has, has_from, sent_to_others, sent_one, others_sent}
 use Rattle.paxos_packets.specs.Ballot.{below}
@@ -17,7 +17,7 @@ use Rattle.paxos_proposer.specs.Role.{Role, Idle, Preparing, Leading}
 use Rattle.paxos_planning.specs.Node.{NodeState}
 use Rattle.paxos_packets.specs.Packet.{packet, to_others}
 use Rattle.paxos_acceptor.specs.Acceptor.{with_promise, may_promise, may_accept}
-use Rattle.paxos_planning.specs.Turn.{with_role, promised_at, voted_at}
+use Rattle.paxos_planning.specs.Plan.{with_role, promised_at, voted_at}
 use Rattle.paxos_proposer.specs.Proposer.{step_down, next_vote, asking, offered}
 use Rattle.paxos_packets.specs.Vote.{put_vote, votes_from}
 use Rattle.paxos_packets.specs.declared.ballot.Ballot.{Ballot}
@@ -41,7 +41,7 @@ same_accept v w e = cc
 same_accepted : {B : Type 0} (v w : Vote B) → Accepted v ≡ Accepted w → v ≡ w
 same_accepted v w e = cc
 
--- the rows where the promise rises and no vote is cast
+-- the rows if the promise rises and no vote is cast
 rows_up : {B : Type 0} {promised now : ℕ → Option Ballot} {sent later : List (Packet B)} → Grows promised now sent later
     → (n : ℕ) (rows : Rows B) (boot : ℕ) (mine : Option Ballot) → ((a : Ballot) → Reaches rows.promised a → Reaches mine a)
     → ((w : Vote B) → Sent later n (Accepted w) → Sent sent n (Accepted w)) → RowsOk sent n rows
@@ -54,7 +54,7 @@ rows_up g n rows boot mine up none ok =
       known = λ u h. known_grows g (ok.known u h);
     }
 
--- what a node tells of itself
+-- what a node reports of itself
 own_tells : {B : Type 0} {promised now : ℕ → Option Ballot} {sent later : List (Packet B)} → Grows promised now sent later
     → (n : ℕ) (rows : Rows B) (b : Ballot) (floor : ℕ) → Reaches (now n) b → ((a : Ballot) → Reaches rows.promised a → Lt a b)
     → ((w : Vote B) → Sent later n (Accepted w) → Sent sent n (Accepted w)) → RowsOk sent n rows
@@ -90,7 +90,7 @@ pub promise_moved : {B : Type 0} (members : ℕ) (at : ℕ → NodeState B) (n :
     → Inv members (with_node at n x) sent → may_promise x.rows.promised b ≡ true → Known sent (Prepare b floor)
     → Kept members at n x sent (promised_at b x) (sent ++ packet n (Promise b (votes_from floor x.rows.votes)) to ∷ [])
 promise_moved {B} members at n x sent to b floor inv may asked =
-    turn_moved members at n x y sent new inv (promise_up x.rows.promised b may)
+    plan_moved members at n x y sent new inv (promise_up x.rows.promised b may)
     (λ k v s. absurd (not_accepted b (votes_from floor x.rows.votes) v (one k (Accepted v) s).1))
     (λ g k kind s. (
       (one k kind s).0,
@@ -173,7 +173,7 @@ pub accept_moved : {B : Type 0} (members : ℕ) (at : ℕ → NodeState B) (n : 
     → Inv members (with_node at n x) sent → may_accept x.rows.promised v.ballot ≡ true → Known sent (Accept v)
     → Kept members at n x sent (voted_at v x) (sent ++ to_others members n (Accepted v))
 accept_moved {B} members at n x sent v inv may known =
-    turn_moved members at n x y sent new inv (accept_up x.rows.promised v.ballot may)
+    plan_moved members at n x y sent new inv (accept_up x.rows.promised v.ballot may)
     (λ k w s. (
       (one k (Accepted w) s).0,
       subst (λ (z : Vote B). Over x.rows.promised z.ballot → ⊥) (voted k w s)
@@ -274,7 +274,7 @@ pub begin_moved : {B : Type 0} (members : ℕ) (at : ℕ → NodeState B) (n : �
     → 2 ≤ members → Inv members (with_node at n x) sent → may_promise x.rows.promised b ≡ true → b.node ≡ n
     → Kept members at n x sent (begun_at n b floor x) (sent ++ to_others members n (Prepare b floor))
 begin_moved {B} members at n x sent b floor many inv may owner =
-    turn_moved members at n x y sent new inv (promise_up x.rows.promised b may)
+    plan_moved members at n x y sent new inv (promise_up x.rows.promised b may)
     (λ k v s. absurd (differ v (one k (Accepted v) s).1))
     (λ g k kind s. (
       (one k kind s).0,
@@ -349,7 +349,7 @@ pub offer_moved : {B : Type 0} (members : ℕ) (at : ℕ → NodeState B) (n : �
     → Safe members (promises (with_node at n x)) sent (next_vote b next e)
     → Kept members at n x sent (with_role (offered b next table e) x) (sent ++ to_others members n (Accept (next_vote b next e)))
 offer_moved {B} members at n x sent b next table e many inv lead safe =
-    turn_moved members at n x y sent new inv (λ a h. h)
+    plan_moved members at n x y sent new inv (λ a h. h)
     (λ k w s. absurd (differ w (one k (Accepted w) s).1))
     (λ g k kind s. (
       (one k kind s).0,

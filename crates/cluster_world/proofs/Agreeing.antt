@@ -23,7 +23,7 @@ chosen_in : {B : Type 0} (members : ℕ) (sent : List (Packet B)) (slot : ℕ) (
 chosen_in members sent slot e c =
     record { ballot = c.0; quorum = c.1; most = c.2; voted = λ k m q. let s = c.3 k m q in record { to = s.0; is = s.1 } }
 
--- lists that agree where both have an element
+-- lists that agree wherever both have an element
 pub prefixes : {A : Type 0} (xs ys : List A) → ((i : ℕ) (d e : A) → slice_get xs i ≡ Some d → slice_get ys i ≡ Some e → d ≡ e)
     → IsPrefixOf xs ys ⊎ IsPrefixOf ys xs
 prefixes [] ys h = inl (ys, refl)

@@ -12,7 +12,7 @@ use Rattle.cluster_world.specs.Has.{Has, here}
 use Rattle.paxos_packets.specs.declared.entry.Entry.{Entry}
 use Rattle.paxos_packets.specs.declared.packet.Packet.{Packet}
 use Rattle.paxos_node.specs.declared.event.Event.{Event}
-use Rattle.paxos_planning.specs.Node.{NodeState, Turn}
+use Rattle.paxos_planning.specs.Node.{NodeState, Plan}
 use Rattle.paxos_node.specs.Events.{owner, outcome_of}
 use Rattle.cluster_world.specs.World.{Applied, World, node_at, put_node, first_world, done, next, play, played}
 use Rattle.cluster_world.specs.Steps.{may}
@@ -112,7 +112,7 @@ module _ {B : Type 0} (same : B → B → Bool) where
         x : NodeState B
         x = node_at w.nodes (owner e)
 
-        o : Turn B
+        o : Plan B
         o = outcome_of same members e x
 
         later : List (Applied B)

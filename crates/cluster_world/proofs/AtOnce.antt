@@ -22,8 +22,8 @@ use Rattle.paxos_proposer.specs.Proposer.{slot_end, next_vote}
 use Rattle.paxos_learner.specs.declared.learned.LearnedEntry.{LearnedEntry}
 use Rattle.paxos_learner.specs.Tallies.{place_of, nodes_heard}
 use Rattle.paxos_learner.specs.Learner.{LearnerState, hears, has_most, learn, run_with, run_from}
-use Rattle.paxos_planning.specs.Node.{NodeState, Turn}
-use Rattle.paxos_planning.specs.Turn.{send, vote as vote_at_end, count as count_at_end, cast as cast_at_end}
+use Rattle.paxos_planning.specs.Node.{NodeState, Plan}
+use Rattle.paxos_planning.specs.Plan.{send, vote as vote_at_end, count as count_at_end, cast as cast_at_end}
 use Rattle.paxos_planning.specs.Proposals.{offer, propose_as as propose_as_at_end, propose as propose_at_end, propose_all as propose_all_at_end}
 use Rattle.paxos_node.specs.Applying.{note, ends, go_down, apply_all, settle}
 use Rattle.cluster_world.specs.AtOnce as now
@@ -33,7 +33,7 @@ use Rattle.paxos_packets.specs.Body.{IsEquality}
 abbrev pub AtRest : {B : Type 0} → NodeState B → Type 0
 AtRest x = run_from (suc (length x.applied)) x.learner.learned ≡ []
 
-pub settle_rest : {B : Type 0} (n : ℕ) (t : Turn B) → AtRest t.node → settle n t ≡ t
+pub settle_rest : {B : Type 0} (n : ℕ) (t : Plan B) → AtRest t.node → settle n t ≡ t
 settle_rest n t r = ap (λ es. apply_all n es t) r
 
 -- at the end of an event it is so
@@ -69,7 +69,7 @@ run_tail {B} (f ∷ fs) s e es h = go (λ k. run_tail fs s e es k) (eqb f.slot s
     go more false true p q k = passed f fs (suc s) (below_too (ltb-true f.slot s q)) ∙ more k
     go more false false p q k = absurd (nothing k)
 
-rest_applied : {B : Type 0} (n : ℕ) (es : List (Entry B)) (o : Turn B)
+rest_applied : {B : Type 0} (n : ℕ) (es : List (Entry B)) (o : Plan B)
     → run_from (suc (length o.node.applied)) o.node.learner.learned ≡ es → AtRest (apply_all n es o).node
 rest_applied n [] o h = h
 rest_applied n (e ∷ es) o h =
@@ -78,11 +78,11 @@ rest_applied n (e ∷ es) o h =
     (ap (λ k. run_from (suc k) o.node.learner.learned) (longer o.node.applied e)
     ∙ run_tail o.node.learner.learned (suc (length o.node.applied)) e es h))
 
-pub rest_settled : {B : Type 0} (n : ℕ) (o : Turn B) → AtRest (settle n o).node
+pub rest_settled : {B : Type 0} (n : ℕ) (o : Plan B) → AtRest (settle n o).node
 rest_settled n o = rest_applied n (run_from (suc (length o.node.applied)) o.node.learner.learned) o refl
 
--- packets may be sent before or behind it
-pub apply_send : {B : Type 0} (n : ℕ) (ps : List (Packet B)) (es : List (Entry B)) (o : Turn B)
+-- packets may be sent before or after it
+pub apply_send : {B : Type 0} (n : ℕ) (ps : List (Packet B)) (es : List (Entry B)) (o : Plan B)
     → apply_all n es (send ps o) ≡ send ps (apply_all n es o)
 apply_send n ps [] o = refl
 apply_send {B} n ps (e ∷ es) o = go (ends n o.node e) (apply_send n ps es (note e o))
@@ -94,26 +94,26 @@ apply_send {B} n ps (e ∷ es) o = go (ends n o.node e) (apply_send n ps es (not
     go false h = h
 
 -- a step that teaches nothing
-pub record Calm {B : Type 0} (t u : Turn B) : Type 0 where
+pub record Calm {B : Type 0} (t u : Plan B) : Type 0 where
   pub learned : u.node.learner.learned ≡ t.node.learner.learned
   pub log : u.node.applied ≡ t.node.applied
   pub pending : u.node.pending ≡ t.node.pending
 
-pub calm_here : {B : Type 0} (t : Turn B) → Calm t t
+pub calm_here : {B : Type 0} (t : Plan B) → Calm t t
 calm_here t = record { learned = refl; log = refl; pending = refl }
 
-pub calm_rest : {B : Type 0} {t u : Turn B} → Calm t u → AtRest t.node → AtRest u.node
+pub calm_rest : {B : Type 0} {t u : Plan B} → Calm t u → AtRest t.node → AtRest u.node
 calm_rest c r = (λ i. run_from (suc (length (c.log i))) (c.learned i)) ∙ r
 
 -- it is the same at once and at the end
-pub record Agrees {B : Type 0} (t u v : Turn B) : Type 0 where
+pub record Agrees {B : Type 0} (t u v : Plan B) : Type 0 where
   pub is : u ≡ v
   pub calm : Calm t v
 
-pub agrees_here : {B : Type 0} (t : Turn B) → Agrees t t t
+pub agrees_here : {B : Type 0} (t : Plan B) → Agrees t t t
 agrees_here t = record { is = refl; calm = calm_here t }
 
-pub then_agrees : {B : Type 0} {t u v w : Turn B} (go : Turn B → Turn B) → Agrees t u v → Agrees v (go v) w → Agrees t (go u) w
+pub then_agrees : {B : Type 0} {t u v w : Plan B} (go : Plan B → Plan B) → Agrees t u v → Agrees v (go v) w → Agrees t (go u) w
 then_agrees go a b =
     record {
       is = ap go a.is ∙ b.is;
@@ -125,7 +125,7 @@ then_agrees go a b =
           };
     }
 
-pub end_agrees : {B : Type 0} {t u v : Turn B} (n : ℕ) → AtRest t.node → Agrees t u v → settle n v ≡ u
+pub end_agrees : {B : Type 0} {t u v : Plan B} (n : ℕ) → AtRest t.node → Agrees t u v → settle n v ≡ u
 end_agrees {v = v} n r a = settle_rest n v (calm_rest a.calm r) ∙ sym a.is
 
 -- one node is no majority
@@ -164,11 +164,11 @@ alone_is_few members many test k h = go (is_majority members test) refl
 
 module _ {B : Type 0} (same : B → B → Bool) (equal : IsEquality same) (members : ℕ) (many : 2 ≤ members) (at : ℕ → NodeState B) (n : ℕ)
     (before : List (Packet B)) where
-  abbrev St : Turn B → Type 0
+  abbrev St : Plan B → Type 0
   St t = State same equal members many at n before t
 
-  -- nobody else can have voted for that slot in that ballot
-  own_calm : (t : Turn B) (b : Ballot) (next : ℕ) (table : List (Vote B)) (e : Entry B) → St t → t.node.proposer.role ≡ Leading b next table
+  -- no other can have voted for that slot in that ballot
+  own_calm : (t : Plan B) (b : Ballot) (next : ℕ) (table : List (Vote B)) (e : Entry B) → St t → t.node.proposer.role ≡ Leading b next table
       → Calm t (cast_at_end same members n (next_vote b next e) (offer members n b next table e t))
   own_calm t b next table e inv is =
       record {
@@ -199,7 +199,7 @@ module _ {B : Type 0} (same : B → B → Bool) (equal : IsEquality same) (membe
           (heard_alone members (promises (with_node at n t.node)) all n t.node.learner n v
           (learner_of members (promises (with_node at n t.node)) all n t.node (mine same equal members many at n before t inv)) nobody)
 
-  proposes_as : (r : Role B) (e : Entry B) (t : Turn B) → t.node.proposer.role ≡ r → St t → AtRest t.node
+  proposes_as : (r : Role B) (e : Entry B) (t : Plan B) → t.node.proposer.role ≡ r → St t → AtRest t.node
       → Agrees t (now.propose_as same members n r e t) (propose_as_at_end same members n r e t)
   proposes_as Idle e t is inv rest = agrees_here t
   proposes_as (Preparing b floor cs) e t is inv rest = agrees_here t
@@ -214,18 +214,18 @@ module _ {B : Type 0} (same : B → B → Bool) (equal : IsEquality same) (membe
       v : Vote B
       v = next_vote b next e
 
-      counted : Turn B
+      counted : Plan B
       counted = count_at_end same members n v (vote_at_end v (offer members n b next table e t))
 
       calm : Calm t (cast_at_end same members n v (offer members n b next table e t))
       calm = own_calm t b next table e inv is
 
-  pub proposes : (e : Entry B) (t : Turn B) → St t → AtRest t.node
+  pub proposes : (e : Entry B) (t : Plan B) → St t → AtRest t.node
       → Agrees t (now.propose same members n e t) (propose_at_end same members n e t)
   proposes e t inv rest = proposes_as t.node.proposer.role e t refl inv rest
 
   -- what a new leader is called to propose
-  pub recovers : (es : List (Entry B)) (t : Turn B) (b : Ballot) (next : ℕ) (table : List (Vote B)) → St t
+  pub recovers : (es : List (Entry B)) (t : Plan B) (b : Ballot) (next : ℕ) (table : List (Vote B)) → St t
       → t.node.proposer.role ≡ Leading b next table
       → AllSafe members (promises (with_node at n t.node)) (before ++ t.packets) b next es → AtRest t.node
       → Agrees t (now.propose_all same members n es t) (propose_all_at_end same members n es t)
@@ -239,7 +239,7 @@ module _ {B : Type 0} (same : B → B → Bool) (equal : IsEquality same) (membe
       (all_safe_grows members path.going.grows b (suc next) es safe.1) (calm_rest (own_calm t b next table e inv is) rest)))
       full (cases_Bool (nat_lt next slot_end)))
     where
-      u : Turn B
+      u : Plan B
       u = cast_at_end same members n (next_vote b next e) (offer members n b next table e t)
 
       a : Agrees t (now.propose same members n e t) (propose_at_end same members n e t)

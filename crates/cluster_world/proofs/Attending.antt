@@ -61,14 +61,14 @@ module _ {B M S Y : Type 0} (content : M → S) (m : Machine B S Y) where
   stays_here (Ok x) boot log f h = tt
   stays_here (Err e) boot log f h = record { handed = λ t. refl; follows = h.0; keeps = h.1 }
 
--- the log where the node stands, as the machine's log has it
+-- the log of the node, as the machine's log has it
 pub agrees_so : {B : Type 0} (from : ℕ) (log stood entries es : List (Entry B)) → from ≡ length log → entries ≡ es → log ≡ take (length log) stood
     → AgreesWith (log ++ es) stood → AgreesWith (take from stood ++ entries) stood
 agrees_so {B} from log stood entries es n e front h =
     subst (λ (z : List (Entry B) × List (Entry B)). AgreesWith (z.0 ++ z.1) stood)
     (λ i. ((front ∙ ap (λ k. take k stood) (sym n)) i, sym e i)) h
 
--- where nothing is applied
+-- if nothing is applied
 
 pub gone_nowhere : {B : Type 0} (stood log : List (Entry B)) → stood ≡ stood ++ drop (length stood - length log) []
 gone_nowhere {B} stood log = sym (ap (λ l. stood ++ l) (none (length stood - length log)) ∙ append-nil stood)

@@ -16,8 +16,8 @@ use Rattle.paxos_node.specs.declared.event.Event.{Event}
 use Rattle.paxos_node.specs.Applying.{down, started}
 use Rattle.paxos_node.specs.Events.{owner, possible, outcome_of}
 use Rattle.paxos_node.specs.Plans.{is_planned}
-use Rattle.paxos_planning.specs.Node.{NodeState, Turn}
-use Rattle.world_nodes.proofs.Seating.{plans_up}
+use Rattle.paxos_planning.specs.Node.{NodeState, Plan}
+use Rattle.world_nodes.proofs.Planning.{plans_up}
 use Rattle.replica_machine.specs.Replay.{Machine}
 use Rattle.replica_follower.specs.Following.{Followed, Follows, Keeps, AgreesWith, handed_to}
 use Rattle.replica_follower.specs.Handed.{said_in}
@@ -39,7 +39,7 @@ front_is log stood p = sym (take-append_seam log p.0) ∙ ap (λ l. take (length
 pub front_within : {E : Type 0} (log stood : List E) → IsPrefixOf log stood → length log ≤ length stood
 front_within log stood p = let n = length-append log p.0 in let k : length (log ++ p.0) ≡ length stood = ap (λ l. length l) p.1 in omega arith
 
--- either it stands where it stood, and the node's log is a front of that, or it stands at the node's log
+-- either it has followed what it had, and the node's log is a prefix of that, or it has followed the node's log
 pub gone : {B : Type 0} (stood log es : List (Entry B)) → IsPrefixOf log stood → AgreesWith (log ++ es) stood
     → ((gone_on stood log es ≡ stood) × IsPrefixOf (log ++ es) stood) ⊎ (gone_on stood log es ≡ log ++ es)
 gone {B} stood log es p a = ⊎_elim (λ h. inl (inside h, h)) (λ h. inr (past h)) a
@@ -93,7 +93,7 @@ module _ {B M S Y : Type 0} (content : M → S) (m : Machine B S Y) where
       (λ i. (cond-false x.up x.rows.boot (suc x.rows.boot) u i, cond-false x.up (length x.applied) 0 u i)) a.keeps
 
   module _ (same : B → B → Bool) (members : ℕ) (e : Event B) (x : NodeState B) where
-    abbrev pub o : Turn B
+    abbrev pub o : Plan B
     o = outcome_of same members e x
 
     -- an event at a node that was up

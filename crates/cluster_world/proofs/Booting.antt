@@ -16,7 +16,7 @@ use Rattle.replica_machine.specs.Roll.{standing, live_in}
 use Rattle.replica_machine.proofs.Places.{live_boot_is}
 use Rattle.paxos_node.specs.declared.event.Event.{Event}
 use Rattle.paxos_node.specs.declared.event.Event.TheVariants.{Take, Tick, Start, Suspect, Deliver, Crash, Restart}
-use Rattle.paxos_planning.specs.Node.{NodeState, Turn}
+use Rattle.paxos_planning.specs.Node.{NodeState, Plan}
 use Rattle.paxos_node.specs.Applying.{started, first_rows}
 use Rattle.paxos_node.specs.Events.{takes, new_item, has_room, is_pending, new_lost_of, new_lost, owner, possible, outcome_of, taken_by}
 use Rattle.paxos_node.specs.Events.{suspected_by, made_by}
@@ -153,7 +153,7 @@ module _ {B : Type 0} (same : B → B → Bool) where
     abbrev at' : World B → Event B → NodeState B
     at' w e = node_at w.nodes (owner e)
 
-    abbrev goes : World B → Event B → Turn B
+    abbrev goes : World B → Event B → Plan B
     goes w e = outcome_of same members e (at' w e)
 
     -- boots

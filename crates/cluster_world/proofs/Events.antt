@@ -34,8 +34,8 @@ use Rattle.paxos_proposer.specs.Proposer.{round_of, new_ballot, step_down, nacke
 use Rattle.paxos_proposer.specs.Reports.{is_counted, reports, past_reports, called_for}
 use Rattle.paxos_learner.specs.declared.learned.LearnedEntry.{LearnedEntry}
 use Rattle.paxos_learner.specs.Learner.{is_learned, learn, disagrees, vote_disagrees}
-use Rattle.paxos_planning.specs.Node.{NodeState, Turn}
-use Rattle.paxos_planning.specs.Turn.{with_role, with_pending, with_learner, promised_at, counted_at, send, promise, count, hear_learned, cast}
+use Rattle.paxos_planning.specs.Node.{NodeState, Plan}
+use Rattle.paxos_planning.specs.Plan.{with_role, with_pending, with_learner, promised_at, counted_at, send, promise, count, hear_learned, cast}
 use Rattle.paxos_planning.specs.Proposals.{propose, lead, stands, propose_new, propose_each, forwarded, push}
 use Rattle.paxos_planning.specs.Replies.{saw, refuse, on_prepare, on_accept, count_promise, on_promise_as, on_nack, on_forward, told_from, on_packet}
 use Rattle.paxos_node.specs.Events.{takes, with_item, on_take, has_room, suspected}
@@ -45,42 +45,42 @@ use Rattle.paxos_packets.specs.Body.{IsEquality}
 
 module _ {B : Type 0} (same : B → B → Bool) (equal : IsEquality same) (members : ℕ) (many : 2 ≤ members) (at : ℕ → NodeState B) (n : ℕ)
     (before : List (Packet B)) where
-  abbrev St : Turn B → Type 0
+  abbrev St : Plan B → Type 0
   St t = State same equal members many at n before t
 
-  abbrev Fr : Turn B → Type 0
+  abbrev Fr : Plan B → Type 0
   Fr t = FreeAt same equal members many at n before t
 
-  abbrev Go : Turn B → Turn B → Type 0
+  abbrev Go : Plan B → Plan B → Type 0
   Go t u = Going same equal members many at n before t u
 
-  abbrev pub Way : ℕ → Turn B → Turn B → Type 0
+  abbrev pub Way : ℕ → Plan B → Plan B → Type 0
   Way k t u = Path same equal members many at n before k t u
 
-  abbrev pub ToBy : ℕ → Turn B → Turn B → Type 0
+  abbrev pub ToBy : ℕ → Plan B → Plan B → Type 0
   ToBy k t u = StepTo same equal members many at n before k t u
 
-  abbrev pub To : Turn B → Turn B → Type 0
+  abbrev pub To : Plan B → Plan B → Type 0
   To t u = Step same equal members many at n before t u
 
-  abbrev all : Turn B → List (Packet B)
+  abbrev all : Plan B → List (Packet B)
   all t = before ++ t.packets
 
-  abbrev now : Turn B → ℕ → Option Ballot
+  abbrev now : Plan B → ℕ → Option Ballot
   now t = promises (with_node at n t.node)
 
-  stood : (t : Turn B) → St t → Fr t → To t t
+  stood : (t : Plan B) → St t → Fr t → To t t
   stood t inv free = stay same equal members many at n before t inv free
 
-  pub then_to : {k : ℕ} {t u v : Turn B} → ToBy k t u → To u v → ToBy k t v
+  pub then_to : {k : ℕ} {t u v : Plan B} → ToBy k t u → To u v → ToBy k t v
   then_to s r = step_on same equal members many at n before s.path r
 
   -- a role that is no leader's, or the same
-  pub free_same : (t u : Turn B) → Go t u → u.node.proposer.role ≡ t.node.proposer.role → Fr t → Fr u
+  pub free_same : (t u : Plan B) → Go t u → u.node.proposer.role ≡ t.node.proposer.role → Fr t → Fr u
   free_same t u g e f = subst (λ r. RoleFree members (now u) (all u) r) (sym e) (role_free_grows members g.grows t.node.proposer.role f)
 
   -- packets that promise and propose nothing new
-  pub sends : (t : Turn B) (new : List (Packet B)) → St t → Fr t → ((k : ℕ) (kind : Kind B) → Sent new k kind → (k ≡ n) × QuietKind members (all t) n kind)
+  pub sends : (t : Plan B) (new : List (Packet B)) → St t → Fr t → ((k : ℕ) (kind : Kind B) → Sent new k kind → (k ≡ n) × QuietKind members (all t) n kind)
       → To t (send new t)
   sends t new inv free quiet =
       let g : Go t (send new t) = subst (λ l. Kept members at n t.node (all t) t.node l) (append_assoc before t.packets new)
@@ -91,19 +91,19 @@ module _ {B : Type 0} (same : B → B → Bool) (equal : IsEquality same) (membe
       }
 
   -- another node, and nothing sent
-  pub turns : (t : Turn B) (y : NodeState B) → St t → t.node.rows.promised ≡ y.rows.promised → NodeOk members (now t) (all t) n y
+  pub turns : (t : Plan B) (y : NodeState B) → St t → t.node.rows.promised ≡ y.rows.promised → NodeOk members (now t) (all t) n y
       → Go t (record t { node = y })
   turns t y inv same_promise ok = silent members many at n t.node y (all t) inv same_promise ok
 
-  pub mine : (t : Turn B) → St t → NodeOk members (now t) (all t) n t.node
+  pub mine : (t : Plan B) → St t → NodeOk members (now t) (all t) n t.node
   mine t inv = mine_ok members at n t.node (all t) inv
 
   -- another role
-  with_role_ok : (t : Turn B) → St t → (r : Role B) (seen : ℕ) → RoleOk (now t) t.node.rows.promised (all t) n r
+  with_role_ok : (t : Plan B) → St t → (r : Role B) (seen : ℕ) → RoleOk (now t) t.node.rows.promised (all t) n r
       → NodeOk members (now t) (all t) n (record t.node { proposer = record { role = r; seen = seen } })
   with_role_ok t inv r seen ok = let m = mine t inv in record { rows = m.rows; role = ok; heard = m.heard; learned = m.learned }
 
-  pub role_path : (t : Turn B) → St t → (r : Role B) (seen : ℕ) → RoleOk (now t) t.node.rows.promised (all t) n r
+  pub role_path : (t : Plan B) → St t → (r : Role B) (seen : ℕ) → RoleOk (now t) t.node.rows.promised (all t) n r
       → Way t.node.taken t (record t { node = record t.node { proposer = record { role = r; seen = seen } } })
   role_path t inv r seen ok =
       record {
@@ -113,11 +113,11 @@ module _ {B : Type 0} (same : B → B → Bool) (equal : IsEquality same) (membe
       }
 
   -- other pending entries
-  pending_ok : (t : Turn B) → St t → (pending : List (Entry B)) (taken : ℕ)
+  pending_ok : (t : Plan B) → St t → (pending : List (Entry B)) (taken : ℕ)
       → NodeOk members (now t) (all t) n (record t.node { pending = pending; taken = taken })
   pending_ok t inv pending taken = let m = mine t inv in record { rows = m.rows; role = m.role; heard = m.heard; learned = m.learned }
 
-  pub pending_step : (t : Turn B) → St t → Fr t → (pending : List (Entry B)) (taken : ℕ)
+  pub pending_step : (t : Plan B) → St t → Fr t → (pending : List (Entry B)) (taken : ℕ)
       → ToBy taken t (record t { node = record t.node { pending = pending; taken = taken } })
   pending_step t inv free pending taken =
       let g : Go t (record t { node = record t.node { pending = pending; taken = taken } }) =
@@ -137,7 +137,7 @@ module _ {B : Type 0} (same : B → B → Bool) (equal : IsEquality same) (membe
   step_down_free promised sent b (Leading c next table) f =
       cond_both (below c b) Idle (Leading c next table) (λ r. RoleFree members promised sent r) (λ e. tt) (λ e. f)
 
-  refuse_step : (t : Turn B) (from : ℕ) (b : Ballot) → St t → Fr t → To t (refuse n from b t)
+  refuse_step : (t : Plan B) (from : ℕ) (b : Ballot) → St t → Fr t → To t (refuse n from b t)
   refuse_step t from b inv free =
       sends t (packet n (Nack b p) from ∷ []) inv free
       (λ k kind s. let o = sent_one n from (Nack b p) k kind s in (o.0, subst (λ z. QuietKind members (all t) n z) o.1 tt))
@@ -145,7 +145,7 @@ module _ {B : Type 0} (same : B → B → Bool) (equal : IsEquality same) (membe
       p : Ballot
       p = unwrap_or t.node.rows.promised b
 
-  prepare_step : (t : Turn B) (from : ℕ) (b : Ballot) (floor : ℕ) → St t → Fr t → Known (all t) (Prepare b floor) → To t (on_prepare n from b floor t)
+  prepare_step : (t : Plan B) (from : ℕ) (b : Ballot) (floor : ℕ) → St t → Fr t → Known (all t) (Prepare b floor) → To t (on_prepare n from b floor t)
   prepare_step t from b floor inv free known =
       cond_both (may_promise t.node.rows.promised b) u (refuse n from b t) (λ v. To t v)
       (λ e.
@@ -158,12 +158,12 @@ module _ {B : Type 0} (same : B → B → Bool) (equal : IsEquality same) (membe
       })
       (λ e. refuse_step t from b inv free)
     where
-      u : Turn B
+      u : Plan B
       u = send (packet n (Promise b (votes_from floor t.node.rows.votes)) from ∷ []) (promise b t)
 
   -- Accept
 
-  cast_step : (t : Turn B) (v : Vote B) → St t → Fr t → may_accept t.node.rows.promised v.ballot ≡ true → Known (all t) (Accept v)
+  cast_step : (t : Plan B) (v : Vote B) → St t → Fr t → may_accept t.node.rows.promised v.ballot ≡ true → Known (all t) (Accept v)
       → To t (cast same members n v t)
   cast_step t v inv free may known =
       let g : Go t (cast same members n v t) =
@@ -183,7 +183,7 @@ module _ {B : Type 0} (same : B → B → Bool) (equal : IsEquality same) (membe
             (role_free_grows members g.grows t.node.proposer.role free);
       }
 
-  accept_step : (t : Turn B) (from : ℕ) (v : Vote B) → St t → Fr t → Known (all t) (Accept v) → To t (on_accept same members n from v t)
+  accept_step : (t : Plan B) (from : ℕ) (v : Vote B) → St t → Fr t → Known (all t) (Accept v) → To t (on_accept same members n from v t)
   accept_step t from v inv free known =
       cond_both (may_accept t.node.rows.promised v.ballot) (cast same members n v t) (refuse n from v.ballot t) (λ u. To t u)
       (λ e. cast_step t v inv free e known)
@@ -191,13 +191,13 @@ module _ {B : Type 0} (same : B → B → Bool) (equal : IsEquality same) (membe
 
   -- proposals and push
 
-  pub propose_new_step : (e : Entry B) (t : Turn B) → St t → Fr t → To t (propose_new same members n e t)
+  pub propose_new_step : (e : Entry B) (t : Plan B) → St t → Fr t → To t (propose_new same members n e t)
   propose_new_step e t inv free =
       cond_both (stands same (length t.node.applied) t.node.proposer.role e) t (propose same members n e t) (λ z. To t z)
       (λ d. stood t inv free)
       (λ d. propose_step same equal members many at n before t e inv free)
 
-  propose_each_step : (es : List (Entry B)) (t : Turn B) → St t → Fr t → To t (propose_each same members n es t)
+  propose_each_step : (es : List (Entry B)) (t : Plan B) → St t → Fr t → To t (propose_each same members n es t)
   propose_each_step [] t inv free = stood t inv free
   propose_each_step (e ∷ es) t inv free =
       let a = propose_new_step e t inv free in then_to a (propose_each_step es (propose_new same members n e t) a.path.going.inv a.free)
@@ -212,7 +212,7 @@ module _ {B : Type 0} (same : B → B → Bool) (equal : IsEquality same) (membe
       (λ t z. let o = sent_one n p.node (Forward (take 64 (e ∷ es))) k kind z in (o.0, subst (λ y. QuietKind members sent n y) o.1 tt))
       s
 
-  pub push_step : (t : Turn B) → St t → Fr t → To t (push same members n t)
+  pub push_step : (t : Plan B) → St t → Fr t → To t (push same members n t)
   push_step t inv free =
       cond_both (is_leading t.node.proposer.role) (propose_each same members n t.node.pending t) (send (forwarded n t.node.rows.promised t.node.pending) t)
       (λ z. To t z)
@@ -221,7 +221,7 @@ module _ {B : Type 0} (same : B → B → Bool) (equal : IsEquality same) (membe
 
   -- Promise
 
-  pub lead_step : (t : Turn B) (b : Ballot) (floor : ℕ) (cs : List (CountedPromise B)) → St t → PreparingOk (now t) t.node.rows.promised (all t) n b floor cs
+  pub lead_step : (t : Plan B) (b : Ballot) (floor : ℕ) (cs : List (CountedPromise B)) → St t → PreparingOk (now t) t.node.rows.promised (all t) n b floor cs
       → is_majority members (is_counted cs) ≡ true → To t (lead same members n b floor (reports cs) t)
   lead_step t b floor cs inv ok most =
       step_on same equal members many at n before g
@@ -230,7 +230,7 @@ module _ {B : Type 0} (same : B → B → Bool) (equal : IsEquality same) (membe
       (λ slot a z. past_free members (now u) (all u) b floor cs most kept slot (omega arith)
       (past slot (subst (λ l. floor + l ≤ slot) (length-called_in (reports cs) floor (past_reports floor (reports cs) - floor)) a))))
     where
-      u : Turn B
+      u : Plan B
       u = record t { node = with_role (Leading b floor []) t.node }
 
       g : Way t.node.taken t u
@@ -250,7 +250,7 @@ module _ {B : Type 0} (same : B → B → Bool) (equal : IsEquality same) (membe
       past : (slot : ℕ) → floor + (past_reports floor (reports cs) - floor) ≤ slot → past_reports floor (reports cs) ≤ slot
       past slot a = omega arith
 
-  count_promise_step : (t : Turn B) (b : Ballot) (floor : ℕ) (cs : List (CountedPromise B)) → St t
+  count_promise_step : (t : Plan B) (b : Ballot) (floor : ℕ) (cs : List (CountedPromise B)) → St t
       → PreparingOk (now t) t.node.rows.promised (all t) n b floor cs → To t (count_promise same members n b floor cs t)
   count_promise_step t b floor cs inv ok =
       cond_both (is_majority members (is_counted cs)) (push same members n (lead same members n b floor (reports cs) t))
@@ -259,7 +259,7 @@ module _ {B : Type 0} (same : B → B → Bool) (equal : IsEquality same) (membe
       (λ e. record { path = role_path t inv (Preparing b floor cs) t.node.proposer.seen ok; free = tt })
 
   -- one promise more
-  pub promised_ok : (t : Turn B) (from : ℕ) (b : Ballot) (votes : List (Vote B)) → St t → Sent (all t) from (Promise b votes) → (c : Ballot) (floor : ℕ)
+  pub promised_ok : (t : Plan B) (from : ℕ) (b : Ballot) (votes : List (Vote B)) → St t → Sent (all t) from (Promise b votes) → (c : Ballot) (floor : ℕ)
       (cs : List (CountedPromise B)) → t.node.proposer.role ≡ Preparing c floor cs → b ≡ c
       → PreparingOk (now t) t.node.rows.promised (all t) n c floor (cs ++ record { node = from; votes = votes } ∷ [])
   promised_ok t from b votes inv s c floor cs is e =
@@ -284,7 +284,7 @@ module _ {B : Type 0} (same : B → B → Bool) (equal : IsEquality same) (membe
           subst (λ f. Tells (now t) (all t) from c f votes) (ok.only told.floor here')
           (subst (λ z. Tells (now t) (all t) from z told.floor votes) e told.tells)
 
-  promise_step : (t : Turn B) (from : ℕ) (b : Ballot) (votes : List (Vote B)) → St t → Fr t → Sent (all t) from (Promise b votes) → (r : Role B)
+  promise_step : (t : Plan B) (from : ℕ) (b : Ballot) (votes : List (Vote B)) → St t → Fr t → Sent (all t) from (Promise b votes) → (r : Role B)
       → t.node.proposer.role ≡ r → To t (on_promise_as same members n from b votes r t)
   promise_step t from b votes inv free s Idle is = stood t inv free
   promise_step t from b votes inv free s (Leading c next table) is = stood t inv free
@@ -313,7 +313,7 @@ module _ {B : Type 0} (same : B → B → Bool) (equal : IsEquality same) (membe
   nacked_free promised sent b p (Leading c next table) f =
       cond_both (same_ballot b c && below c p) Idle (Leading c next table) (λ r. RoleFree members promised sent r) (λ e. tt) (λ e. f)
 
-  nack_step : (t : Turn B) (b p : Ballot) → St t → Fr t → To t (on_nack b p t)
+  nack_step : (t : Plan B) (b p : Ballot) → St t → Fr t → To t (on_nack b p t)
   nack_step t b p inv free =
       let g =
       role_path t inv (nacked b p t.node.proposer.role) t.node.proposer.seen
@@ -325,7 +325,7 @@ module _ {B : Type 0} (same : B → B → Bool) (equal : IsEquality same) (membe
 
   -- Accepted, Learned, Ask, Forward
 
-  accepted_step : (t : Turn B) (from : ℕ) (v : Vote B) → St t → Fr t → Sent (all t) from (Accepted v) → To t (count same members from v t)
+  accepted_step : (t : Plan B) (from : ℕ) (v : Vote B) → St t → Fr t → Sent (all t) from (Accepted v) → To t (count same members from v t)
   accepted_step t from v inv free s =
       let g : Go t (count same members from v t) =
       turns t (counted_at members from v t.node) inv refl (counted_ok members many at n t.node (all t) from v inv s) in
@@ -342,7 +342,7 @@ module _ {B : Type 0} (same : B → B → Bool) (equal : IsEquality same) (membe
         free = free_same t (count same members from v t) g refl free;
       }
 
-  learned_step : (t : Turn B) (slot : ℕ) (e : Entry B) → St t → Fr t → Known (all t) (Learned slot e) → To t (hear_learned same slot e t)
+  learned_step : (t : Plan B) (slot : ℕ) (e : Entry B) → St t → Fr t → Known (all t) (Learned slot e) → To t (hear_learned same slot e t)
   learned_step t slot e inv free known =
       let chosen = inv.packets.learned slot e known in
       let lo = learner_of members (now t) (all t) n t.node (mine t inv) in
@@ -376,16 +376,16 @@ module _ {B : Type 0} (same : B → B → Bool) (equal : IsEquality same) (membe
       (λ b. told_quiet sent to slot fs (λ g h. ok g (there h)) k kind b)
       (sent_cases (if nat_le slot f.slot && nat_lt f.slot (slot + 64) then packet n (Learned f.slot f.entry) to ∷ [] else []) (told_from n to slot fs) s)
 
-  ask_step : (t : Turn B) (from slot : ℕ) → St t → Fr t → To t (send (told_from n from slot t.node.learner.learned) t)
+  ask_step : (t : Plan B) (from slot : ℕ) → St t → Fr t → To t (send (told_from n from slot t.node.learner.learned) t)
   ask_step t from slot inv free =
       sends t (told_from n from slot t.node.learner.learned) inv free (told_quiet (all t) from slot t.node.learner.learned (mine t inv).learned)
 
-  forward_step : (t : Turn B) (es : List (Entry B)) → St t → Fr t → To t (on_forward same members n es t)
+  forward_step : (t : Plan B) (es : List (Entry B)) → St t → Fr t → To t (on_forward same members n es t)
   forward_step t es inv free =
       cond_both (is_leading t.node.proposer.role) (propose_each same members n es t) t (λ z. To t z) (λ d. propose_each_step es t inv free)
       (λ d. stood t inv free)
 
-  packet_step : (t : Turn B) (from : ℕ) (kind : Kind B) → St t → Fr t → Sent (all t) from kind → To t (on_packet same members n from kind t)
+  packet_step : (t : Plan B) (from : ℕ) (kind : Kind B) → St t → Fr t → Sent (all t) from kind → To t (on_packet same members n from kind t)
   packet_step t from (Prepare b floor) inv free s = prepare_step t from b floor inv free (record { by = from; is = s })
   packet_step t from (Promise b votes) inv free s = promise_step t from b votes inv free s t.node.proposer.role refl
   packet_step t from (Accept v) inv free s = accept_step t from v inv free (record { by = from; is = s })
@@ -396,7 +396,7 @@ module _ {B : Type 0} (same : B → B → Bool) (equal : IsEquality same) (membe
   packet_step t from (Learned slot e) inv free s = learned_step t slot e inv free (record { by = from; is = s })
 
   -- Deliver
-  pub deliver_step : (t : Turn B) (from : ℕ) (kind : Kind B) → St t → Fr t → Sent (all t) from kind
+  pub deliver_step : (t : Plan B) (from : ℕ) (kind : Kind B) → St t → Fr t → Sent (all t) from kind
       → To t (on_packet same members n from kind (record t { node = saw kind t.node }))
   deliver_step t from kind inv free s =
       let g = role_path t inv t.node.proposer.role (saw kind t.node).proposer.seen (mine t inv).role in
@@ -412,7 +412,7 @@ module _ {B : Type 0} (same : B → B → Bool) (equal : IsEquality same) (membe
       or_left' : {a : Bool} (b : Bool) → a ≡ true → (a || b) ≡ true
       or_left' b e = rw e refl
 
-  pub start_step : (t : Turn B) → St t → Fr t → To t (on_start members n t)
+  pub start_step : (t : Plan B) → St t → Fr t → To t (on_start members n t)
   start_step t inv free =
       cond_both (starts n t.node) (begin members n b floor t) t (λ u. To t u)
       (λ e. record {
@@ -456,7 +456,7 @@ module _ {B : Type 0} (same : B → B → Bool) (equal : IsEquality same) (membe
   again_quiet promised o sent learned (Leading b next table) ok k kind s =
       offers_quiet sent learned table (λ v h. (ap (λ (z : Ballot). z.node) (ok.owned v h) ∙ ok.owner, ok.own v h)) k kind s
 
-  asks_step : (t : Turn B) → St t → Fr t → To t (ask members n t)
+  asks_step : (t : Plan B) → St t → Fr t → To t (ask members n t)
   asks_step t inv free =
       sends t (to_others members n (Ask slot)) inv free
       (λ k kind s. let o = sent_to_others members n (Ask slot) k kind s in (o.0, subst (λ y. QuietKind members (all t) n y) o.1 tt))
@@ -464,7 +464,7 @@ module _ {B : Type 0} (same : B → B → Bool) (equal : IsEquality same) (membe
       slot : ℕ
       slot = suc (length t.node.applied)
 
-  pub tick_step : (t : Turn B) → St t → Fr t → To t (on_tick same members n t)
+  pub tick_step : (t : Plan B) → St t → Fr t → To t (on_tick same members n t)
   tick_step t inv free =
       let a =
       sends t (again members n t.node.proposer.role t.node.learner.learned) inv free
@@ -474,11 +474,11 @@ module _ {B : Type 0} (same : B → B → Bool) (equal : IsEquality same) (membe
 
   -- Take and Suspect
 
-  pub take_step : (t : Turn B) (transport : ℕ) (body : B) → St t → Fr t
+  pub take_step : (t : Plan B) (transport : ℕ) (body : B) → St t → Fr t
       → ToBy (if takes t.node then suc t.node.taken else t.node.taken) t (on_take same members n transport body t)
   take_step t transport body inv free = go (takes t.node) refl
     where
-      u : Turn B
+      u : Plan B
       u = record t { node = with_item n transport body t.node }
 
       go : (b : Bool) → takes t.node ≡ b → ToBy (if b then suc t.node.taken else t.node.taken) t (if b then push same members n u else t)
@@ -486,12 +486,12 @@ module _ {B : Type 0} (same : B → B → Bool) (equal : IsEquality same) (membe
           let a = pending_step t inv free (with_item n transport body t.node).pending (suc t.node.taken) in then_to a (push_step u a.path.going.inv a.free)
       go false e = stood t inv free
 
-  pub suspect_step : (t : Turn B) (lost : Option (Entry B)) → St t → Fr t → To t (suspected same members n lost t)
+  pub suspect_step : (t : Plan B) (lost : Option (Entry B)) → St t → Fr t → To t (suspected same members n lost t)
   suspect_step t None inv free = stood t inv free
   suspect_step t (Some lost) inv free =
       cond_both (has_room t.node) (push same members n u) t (λ z. To t z)
       (λ d. let a = pending_step t inv free (t.node.pending ++ lost ∷ []) t.node.taken in then_to a (push_step u a.path.going.inv a.free))
       (λ d. stood t inv free)
     where
-      u : Turn B
+      u : Plan B
       u = record t { node = with_pending (t.node.pending ++ lost ∷ []) t.node }

@@ -33,8 +33,8 @@ use Rattle.paxos_proposer.specs.Reports.{is_counted, reports, past_reports, call
 use Rattle.paxos_learner.specs.Learner.{run_from}
 use Rattle.paxos_node.specs.declared.event.Event.{Event}
 use Rattle.paxos_node.specs.declared.event.Event.TheVariants.{Take, Tick, Start, Suspect, Deliver, Crash, Restart}
-use Rattle.paxos_planning.specs.Node.{NodeState, Turn}
-use Rattle.paxos_planning.specs.Turn.{with_role, with_pending, begun, send, promise, vote as vote_at_end, count as count_at_end, cast as cast_at_end}
+use Rattle.paxos_planning.specs.Node.{NodeState, Plan}
+use Rattle.paxos_planning.specs.Plan.{with_role, with_pending, begun, send, promise, vote as vote_at_end, count as count_at_end, cast as cast_at_end}
 use Rattle.paxos_planning.specs.Proposals.{stands, forwarded, propose as propose_at_end, propose_new as propose_new_at_end, lead as lead_at_end}
 use Rattle.paxos_planning.specs.Proposals.{propose_each as propose_each_at_end, push as push_at_end}
 use Rattle.paxos_planning.specs.Replies.{saw, refuse, told_from, on_nack, count_promise as count_promise_at_end, on_promise_as as on_promise_as_at_end}
@@ -52,16 +52,16 @@ use Rattle.paxos_packets.specs.Body.{IsEquality}
 
 module _ {B : Type 0} (same : B → B → Bool) (equal : IsEquality same) (members : ℕ) (many : 2 ≤ members) (at : ℕ → NodeState B) (n : ℕ)
     (before : List (Packet B)) where
-  abbrev St : Turn B → Type 0
+  abbrev St : Plan B → Type 0
   St t = State same equal members many at n before t
 
-  abbrev Fr : Turn B → Type 0
+  abbrev Fr : Plan B → Type 0
   Fr t = FreeAt same equal members many at n before t
 
-  abbrev all : Turn B → List (Packet B)
+  abbrev all : Plan B → List (Packet B)
   all t = before ++ t.packets
 
-  proposes_new : (e : Entry B) (t : Turn B) → St t → AtRest t.node
+  proposes_new : (e : Entry B) (t : Plan B) → St t → AtRest t.node
       → Agrees t (now.propose_new same members n e t) (propose_new_at_end same members n e t)
   proposes_new e t inv rest =
       let a = proposes same equal members many at n before e t inv rest in
@@ -71,7 +71,7 @@ module _ {B : Type 0} (same : B → B → Bool) (equal : IsEquality same) (membe
             (λ d. calm_here t) (λ d. a.calm);
       }
 
-  proposes_each : (es : List (Entry B)) (t : Turn B) → St t → Fr t → AtRest t.node
+  proposes_each : (es : List (Entry B)) (t : Plan B) → St t → Fr t → AtRest t.node
       → Agrees t (now.propose_each same members n es t) (propose_each_at_end same members n es t)
   proposes_each [] t inv free rest = agrees_here t
   proposes_each (e ∷ es) t inv free rest =
@@ -80,7 +80,7 @@ module _ {B : Type 0} (same : B → B → Bool) (equal : IsEquality same) (membe
       then_agrees (λ z. now.propose_each same members n es z) a
       (proposes_each es (propose_new_at_end same members n e t) s.path.going.inv s.free (calm_rest a.calm rest))
 
-  pub pushes : (t : Turn B) → St t → Fr t → AtRest t.node → Agrees t (now.push same members n t) (push_at_end same members n t)
+  pub pushes : (t : Plan B) → St t → Fr t → AtRest t.node → Agrees t (now.push same members n t) (push_at_end same members n t)
   pushes t inv free rest =
       let a = proposes_each t.node.pending t inv free rest in
       record {
@@ -92,7 +92,7 @@ module _ {B : Type 0} (same : B → B → Bool) (equal : IsEquality same) (membe
 
   -- packets
 
-  leads : (t : Turn B) (b : Ballot) (floor : ℕ) (cs : List (CountedPromise B)) → St t
+  leads : (t : Plan B) (b : Ballot) (floor : ℕ) (cs : List (CountedPromise B)) → St t
       → PreparingOk (promises (with_node at n t.node)) t.node.rows.promised (all t) n b floor cs → is_majority members (is_counted cs) ≡ true
       → AtRest t.node → Agrees t (now.lead same members n b floor (reports cs) t) (lead_at_end same members n b floor (reports cs) t)
   leads t b floor cs inv ok most rest =
@@ -102,7 +102,7 @@ module _ {B : Type 0} (same : B → B → Bool) (equal : IsEquality same) (membe
       (past_reports floor (reports cs) - floor) floor (omega arith)) rest in
       record { is = a.is; calm = record { learned = a.calm.learned; log = a.calm.log; pending = a.calm.pending } }
     where
-      u : Turn B
+      u : Plan B
       u = record t { node = with_role (Leading b floor []) t.node }
 
       g : Way same equal members many at n before t.node.taken t u
@@ -116,7 +116,7 @@ module _ {B : Type 0} (same : B → B → Bool) (equal : IsEquality same) (membe
             owned = λ v h. absurd (elim h [ ]);
           })
 
-  counts_promise : (t : Turn B) (b : Ballot) (floor : ℕ) (cs : List (CountedPromise B)) → St t
+  counts_promise : (t : Plan B) (b : Ballot) (floor : ℕ) (cs : List (CountedPromise B)) → St t
       → PreparingOk (promises (with_node at n t.node)) t.node.rows.promised (all t) n b floor cs → AtRest t.node
       → Agrees t (now.count_promise same members n b floor cs t) (count_promise_at_end same members n b floor cs t)
   counts_promise t b floor cs inv ok rest = go (is_majority members (is_counted cs)) refl
@@ -134,7 +134,7 @@ module _ {B : Type 0} (same : B → B → Bool) (equal : IsEquality same) (membe
           (pushes (lead_at_end same members n b floor (reports cs) t) s.path.going.inv s.free (calm_rest a.calm rest))
       go false e = record { is = refl; calm = record { learned = refl; log = refl; pending = refl } }
 
-  hears_promise : (t : Turn B) (from : ℕ) (b : Ballot) (votes : List (Vote B)) → St t → Sent (all t) from (Promise b votes) → AtRest t.node
+  hears_promise : (t : Plan B) (from : ℕ) (b : Ballot) (votes : List (Vote B)) → St t → Sent (all t) from (Promise b votes) → AtRest t.node
       → (r : Role B) → t.node.proposer.role ≡ r
       → Agrees t (now.on_promise_as same members n from b votes r t) (on_promise_as_at_end same members n from b votes r t)
   hears_promise t from b votes inv s rest Idle is = agrees_here t
@@ -154,13 +154,13 @@ module _ {B : Type 0} (same : B → B → Bool) (equal : IsEquality same) (membe
       go false e = agrees_here t
 
   -- at the end it is the same
-  abbrev Ends : Turn B → Turn B → Type 0
+  abbrev Ends : Plan B → Plan B → Type 0
   Ends u v = settle n v ≡ u
 
-  refuses : (t : Turn B) (from : ℕ) (b : Ballot) → AtRest t.node → Ends (refuse n from b t) (refuse n from b t)
+  refuses : (t : Plan B) (from : ℕ) (b : Ballot) → AtRest t.node → Ends (refuse n from b t) (refuse n from b t)
   refuses t from b rest = settle_rest n (refuse n from b t) rest
 
-  ends_packet : (t : Turn B) (from : ℕ) (kind : Kind B) → St t → Fr t → Sent (all t) from kind → AtRest t.node
+  ends_packet : (t : Plan B) (from : ℕ) (kind : Kind B) → St t → Fr t → Sent (all t) from kind → AtRest t.node
       → Ends (now.on_packet same members n from kind t) (on_packet_at_end same members n from kind t)
   ends_packet t from (Prepare b floor) inv free s rest =
       cond_both (may_promise t.node.rows.promised b)
@@ -170,7 +170,7 @@ module _ {B : Type 0} (same : B → B → Bool) (equal : IsEquality same) (membe
   ends_packet t from (Promise b votes) inv free s rest = end_agrees n rest (hears_promise t from b votes inv s rest t.node.proposer.role refl)
   ends_packet t from (Accept v) inv free s rest = go (may_accept t.node.rows.promised v.ballot)
     where
-      counted : Turn B
+      counted : Plan B
       counted = count_at_end same members n v (vote_at_end v t)
 
       go : (m : Bool) → Ends (if m then now.cast same members n v t else refuse n from v.ballot t)
@@ -191,7 +191,7 @@ module _ {B : Type 0} (same : B → B → Bool) (equal : IsEquality same) (membe
   ends_packet t from (Ask slot) inv free s rest = settle_rest n (send (told_from n from slot t.node.learner.learned) t) rest
   ends_packet t from (Learned slot e) inv free s rest = refl
 
-  pub ends_deliver : (t : Turn B) (from : ℕ) (kind : Kind B) → St t → Fr t → Sent (all t) from kind → AtRest t.node
+  pub ends_deliver : (t : Plan B) (from : ℕ) (kind : Kind B) → St t → Fr t → Sent (all t) from kind → AtRest t.node
       → Ends (now.on_packet same members n from kind (record t { node = saw kind t.node }))
       (on_packet_at_end same members n from kind (record t { node = saw kind t.node }))
   ends_deliver t from kind inv free s rest =
@@ -203,7 +203,7 @@ module _ {B : Type 0} (same : B → B → Bool) (equal : IsEquality same) (membe
 
   -- other events
 
-  pub ends_start : (t : Turn B) → AtRest t.node → Ends (on_start members n t) (on_start members n t)
+  pub ends_start : (t : Plan B) → AtRest t.node → Ends (on_start members n t) (on_start members n t)
   ends_start t rest =
       cond_both (starts n t.node) (begin members n b floor t) t (λ u. Ends u u) (λ e. settle_rest n (begin members n b floor t) rest)
       (λ e. settle_rest n t rest)
@@ -214,7 +214,7 @@ module _ {B : Type 0} (same : B → B → Bool) (equal : IsEquality same) (membe
       floor : ℕ
       floor = suc (length t.node.applied)
 
-  pub ends_tick : (t : Turn B) → St t → Fr t → AtRest t.node
+  pub ends_tick : (t : Plan B) → St t → Fr t → AtRest t.node
       → Ends (now.on_tick same members n t) (on_tick_at_end same members n t)
   ends_tick t inv free rest =
       let a =
@@ -228,7 +228,7 @@ module _ {B : Type 0} (same : B → B → Bool) (equal : IsEquality same) (membe
       (record { is = refl; calm = record { learned = refl; log = refl; pending = refl } }))
 
   -- more is pending, and pushed
-  pub ends_pending : (t : Turn B) (pending : List (Entry B)) (taken : ℕ) → St t → Fr t → AtRest t.node
+  pub ends_pending : (t : Plan B) (pending : List (Entry B)) (taken : ℕ) → St t → Fr t → AtRest t.node
       → Agrees (record t { node = record t.node { pending = pending; taken = taken } })
       (now.push same members n (record t { node = record t.node { pending = pending; taken = taken } }))
       (push_at_end same members n (record t { node = record t.node { pending = pending; taken = taken } }))
@@ -236,23 +236,23 @@ module _ {B : Type 0} (same : B → B → Bool) (equal : IsEquality same) (membe
       let a = pending_step same equal members many at n before t inv free pending taken in
       pushes (record t { node = record t.node { pending = pending; taken = taken } }) a.path.going.inv a.free rest
 
-  pub ends_take : (t : Turn B) (transport : ℕ) (body : B) → St t → Fr t → AtRest t.node
+  pub ends_take : (t : Plan B) (transport : ℕ) (body : B) → St t → Fr t → AtRest t.node
       → Ends (now.on_take same members n transport body t) (on_take_at_end same members n transport body t)
   ends_take t transport body inv free rest = go (takes t.node)
     where
-      u : Turn B
+      u : Plan B
       u = record t { node = with_item n transport body t.node }
 
       go : (m : Bool) → Ends (if m then now.push same members n u else t) (if m then push_at_end same members n u else t)
       go true = end_agrees {t = u} n rest (ends_pending t u.node.pending (suc t.node.taken) inv free rest)
       go false = settle_rest n t rest
 
-  pub ends_suspect : (t : Turn B) (lost : Option (Entry B)) → St t → Fr t → AtRest t.node
+  pub ends_suspect : (t : Plan B) (lost : Option (Entry B)) → St t → Fr t → AtRest t.node
       → Ends (now.suspected same members n lost t) (suspected_at_end same members n lost t)
   ends_suspect t None inv free rest = settle_rest n t rest
   ends_suspect t (Some lost) inv free rest = go (has_room t.node)
     where
-      u : Turn B
+      u : Plan B
       u = record t { node = with_pending (t.node.pending ++ lost ∷ []) t.node }
 
       go : (m : Bool) → Ends (if m then now.push same members n u else t) (if m then push_at_end same members n u else t)
@@ -275,7 +275,7 @@ module _ {B : Type 0} (same : B → B → Bool) (members : ℕ) where
       (λ i. subst (λ x. AtRest x) (sym (node_other w.nodes (owner e) o.node k i)) (all k))
       (cases_eq k (owner e)))
     where
-      o : Turn B
+      o : Plan B
       o = outcome_of same members e (node_at w.nodes (owner e))
 
   pub all_rest : (events : List (Event B)) → AllRest (played same members events)

@@ -22,8 +22,8 @@ use Rattle.paxos_packets.specs.declared.packet.Packet.{Packet}
 use Rattle.paxos_proposer.specs.Role.{Role, Idle}
 use Rattle.paxos_node.specs.declared.event.Event.{Event}
 use Rattle.paxos_node.specs.declared.event.Event.TheVariants.{Take, Tick, Start, Suspect, Deliver, Crash, Restart}
-use Rattle.paxos_planning.specs.Node.{NodeState, Turn}
-use Rattle.paxos_planning.specs.Turn.{begun}
+use Rattle.paxos_planning.specs.Node.{NodeState, Plan}
+use Rattle.paxos_planning.specs.Plan.{begun}
 use Rattle.paxos_node.specs.Applying.{started, first_rows, settle}
 use Rattle.paxos_packets.specs.Rows.{last_boot}
 use Rattle.paxos_node.specs.Events.{owner, possible, outcome_of, new_lost}
@@ -152,7 +152,7 @@ with_node_itself at n =
     (λ k. ⊎_elim (λ (e : k ≡ n). subst (λ j. with_node at n (at n) j ≡ at j) (sym e) (with_node_mine at n (at n)))
     (λ d. with_node_other at n (at n) k d) (cases_eq k n))
 
--- nothing is possible where there is no node
+-- nothing is possible if there is no node
 off : false ≡ true → ⊥
 off e = cc
 
@@ -173,7 +173,7 @@ within nodes e (suc i) h =
 
 module _ {B : Type 0} (same : B → B → Bool) (equal : IsEquality same) (members : ℕ) (many : 2 ≤ members) where
   -- an outcome at a node of the world: where the node goes, and what it had applied then
-  pub record From (w : World B) (k : ℕ) (o : Turn B) : Type 0 where
+  pub record From (w : World B) (k : ℕ) (o : Plan B) : Type 0 where
     pub goes : Goes same equal members many (node_at w.nodes) k w.sent (begun (node_at w.nodes k)) o
     pub logged : Logged members (w.sent ++ o.packets) ((node_at w.nodes k).applied ++ o.applied)
 
@@ -192,7 +192,7 @@ module _ {B : Type 0} (same : B → B → Bool) (equal : IsEquality same) (membe
         log = subst (λ l. Logged members l (node_at w.nodes k).applied) (sym (append-nil w.sent)) (ok.log k);
       }
 
-  by_step : {j : ℕ} (w : World B) (k : ℕ) (u : Turn B) → WorldOk members w
+  by_step : {j : ℕ} (w : World B) (k : ℕ) (u : Plan B) → WorldOk members w
       → ToBy same equal members many (node_at w.nodes) k w.sent j (begun (node_at w.nodes k)) u → From w k (settle k u)
   by_step w k u ok s =
       let g = start_good w k ok in
@@ -242,7 +242,7 @@ module _ {B : Type 0} (same : B → B → Bool) (equal : IsEquality same) (membe
         logged = quiet_logged w k ok;
       }
 
-  done_ok : (w : World B) (e : Event B) (o : Turn B) → Within w.nodes (owner e) → WorldOk members w → From w (owner e) o
+  done_ok : (w : World B) (e : Event B) (o : Plan B) → Within w.nodes (owner e) → WorldOk members w → From w (owner e) o
       → WorldOk members (done same w e (node_at w.nodes (owner e)) o)
   done_ok w e o l ok g =
       record {

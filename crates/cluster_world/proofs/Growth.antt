@@ -4,7 +4,7 @@ use Rattle.cluster_world.proofs.Order.{Reaches, Over, reach, over, le_refl, reac
 use Rattle.cluster_world.proofs.Invariant.{vote, Sent, Known, Carried, Backs, Safe, Clear, Free, Tells, Told, IsChosen, VoteOf, RoleOk}
 use Rattle.cluster_world.proofs.Invariant.{RoleFree, Grows, AllSafe}
 use Rattle.paxos_proposer.specs.Role.{Role, Idle, Preparing, Leading}
-use Rattle.paxos_learner.specs.declared.tallies.Place.{Place}
+use Rattle.paxos_learner.specs.declared.tallies.SlotBallot.{SlotBallot}
 use Rattle.paxos_packets.specs.declared.ballot.Ballot.{Ballot}
 use Rattle.paxos_packets.specs.declared.packet.Kind.{Kind}
 use Rattle.paxos_packets.specs.declared.packet.Packet.{Packet}
@@ -95,7 +95,7 @@ pub chosen_grows : {B : Type 0} {members : ℕ} {promised now : ℕ → Option B
     → Grows promised now sent later → IsChosen members sent slot entry → IsChosen members later slot entry
 chosen_grows g c = record { ballot = c.ballot; quorum = c.quorum; most = c.most; voted = λ k m q. sent_grows g (c.voted k m q) }
 
-pub vote_of_grows : {B : Type 0} {promised now : ℕ → Option Ballot} {sent later : List (Packet B)} {p : Place} {k : ℕ}
+pub vote_of_grows : {B : Type 0} {promised now : ℕ → Option Ballot} {sent later : List (Packet B)} {p : SlotBallot} {k : ℕ}
     → Grows promised now sent later → VoteOf sent p k → VoteOf later p k
 vote_of_grows g c = record { entry = c.entry; is = sent_grows g c.is }
 
@@ -105,7 +105,7 @@ role_free_grows members g Idle f = f
 role_free_grows members g (Preparing b floor promises) f = f
 role_free_grows members g (Leading b next table) f = λ slot h l. free_grows g (f slot h l)
 
--- a role stands where its own ballot gets no new Prepare and no new Accept
+-- a role stays if its own ballot gets no new Prepare and no new Accept
 pub role_grows : {B : Type 0} {promised now : ℕ → Option Ballot} {sent later : List (Packet B)} → Grows promised now sent later → (k : ℕ)
     → ((b : Ballot) → b.node ≡ k → (f : ℕ) → Known later (Prepare b f) → Known sent (Prepare b f))
     → ((v : Vote B) → v.ballot.node ≡ k → Known later (Accept v) → Known sent (Accept v)) → (mine : Option Ballot) (r : Role B)

@@ -15,7 +15,7 @@ use Rattle.paxos_packets.specs.Transport.{same_transport}
 use Rattle.replica_machine.proofs.Replaying.{sayings_append}
 use Rattle.paxos_node.specs.declared.event.Event.{Event}
 use Rattle.paxos_node.specs.declared.event.Event.TheVariants.{Take, Tick, Start, Suspect, Deliver, Crash, Restart}
-use Rattle.paxos_planning.specs.Node.{NodeState, Turn}
+use Rattle.paxos_planning.specs.Node.{NodeState, Plan}
 use Rattle.paxos_packets.specs.Rows.{raised}
 use Rattle.paxos_node.specs.Applying.{started}
 use Rattle.paxos_node.specs.Events.{owner, possible, outcome_of}
@@ -148,7 +148,7 @@ module _ {B S Y : Type 0} (m : Machine B S Y) where
               handed_other t as' (new e x) (λ i j. absurd (apart t l j)) ∙ ok.past t n l;
         }
       where
-        o : Turn B
+        o : Plan B
         o = outcome_of same members e x
 
         apart : (t : Transport) → x.rows.boot < t.boot → x.rows.boot ≡ t.boot → ⊥
@@ -184,7 +184,7 @@ module _ {B S Y : Type 0} (m : Machine B S Y) where
               (cases_eq k (owner e));
         }
       where
-        o : Turn B
+        o : Plan B
         o = outcome_of same members e (here' w e)
 
         later : List (Applied B)
@@ -235,7 +235,7 @@ module _ {B S Y : Type 0} (m : Machine B S Y) where
         → Stayed t w (done same w e (here' w e) (outcome_of same members e (here' w e)))
     over_done t w e p h = ⊎_elim mine other (cases_eq t.node (owner e))
       where
-        o : Turn B
+        o : Plan B
         o = outcome_of same members e (here' w e)
 
         other : (t.node ≡ owner e → ⊥) → Stayed t w (done same w e (here' w e) o)
@@ -299,7 +299,7 @@ module _ {B S Y : Type 0} (m : Machine B S Y) where
         (λ b f. absurd (off (sym f ∙ h.0)))
         d
       where
-        o : Turn B
+        o : Plan B
         o = outcome_of same members e (here' w e)
 
         gone : possible e (here' w e) ≡ true → (node_at (put_node w.nodes (owner e) o.node) t.node).up ≡ false

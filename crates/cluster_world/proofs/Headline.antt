@@ -27,7 +27,7 @@ abbrev with_shown : {B M Y : Type 0} → Held B M Y → List (NodeState B) → L
 with_shown w nodes sent made = record { members = w.members; nodes = nodes; sent = sent; made = made; machines = w.machines }
 
 module _ {B M S Y : Type 0} (same : B → B → Bool) (equal : IsEquality same) (content : M → S) (m : Machine B S Y) where
-  -- what holds where nodes, packets and what was made are the world's holds of the world in code
+  -- what holds if nodes, packets and what was made are the world's holds of the world in code
   over : (P : Held B M Y → Type 0) (w : Held B M Y) (v : World B) → StandsIn content m w v → P (with_shown w v.nodes v.sent v.made) → P w
   over P w v h p =
       subst (λ (z : List (NodeState B) × List (Packet B) × List (Entry B)). P (with_shown w z.0 z.1 z.2))
@@ -93,7 +93,7 @@ module _ {B M S Y : Type 0} (same : B → B → Bool) (equal : IsEquality same) 
             (logs_are_prefixes same equal old.members many early later a b);
       }
 
--- where a run ended, with all events or in front of one that was not run
+-- where a run ended: with all events, or before one that was not run
 pub reached : {B M S Y L F : Type 0} (same : B → B → Bool) (content : M → S) (m : Machine B S Y) (new : Held B M Y) (r : Result L (ℕ × F))
     (es events : List (Event B)) → OnOk r (StandsAt same content m new (es ++ events))
     → IfErr r (λ f. (f.0 < length events) × StandsAt same content m new (es ++ take f.0 events))

@@ -5,7 +5,7 @@ use Rattle.paxos_packets.specs.Members.{IsMajority, IsMember, is_in}
 use Rattle.cluster_world.specs.Has.{Has}
 use Rattle.paxos_proposer.specs.declared.promises.CountedPromise.{CountedPromise}
 use Rattle.paxos_proposer.specs.Role.{Role, Idle, Preparing, Leading}
-use Rattle.paxos_learner.specs.declared.tallies.Place.{Place}
+use Rattle.paxos_learner.specs.declared.tallies.SlotBallot.{SlotBallot}
 use Rattle.paxos_learner.specs.declared.learned.LearnedEntry.{LearnedEntry}
 use Rattle.paxos_planning.specs.Node.{NodeState}
 use Rattle.paxos_proposer.specs.Proposer.{slot_end, next_vote}
@@ -25,7 +25,7 @@ pub record Sent {B : Type 0} (sent : List (Packet B)) (k : ℕ) (kind : Kind B) 
   pub to : ℕ
   pub is : Has sent (record { sender = k; addressee = to; kind = kind })
 
--- somebody sent this
+-- some node sent this
 pub record Known {B : Type 0} (sent : List (Packet B)) (kind : Kind B) : Type 0 where
   pub by : ℕ
   pub is : Sent sent by kind
@@ -121,7 +121,7 @@ RoleOk promised mine sent k Idle = Unit {0}
 RoleOk promised mine sent k (Preparing b floor promises) = PreparingOk promised mine sent k b floor promises
 RoleOk promised mine sent k (Leading b next table) = LeadingOk mine sent k b next table
 
--- where a leader goes on, nobody in some majority voted below it
+-- if a leader goes on, no member of some majority voted below it
 abbrev pub RoleFree : {B : Type 0} → ℕ → (ℕ → Option Ballot) → List (Packet B) → Role B → Type 0
 RoleFree members promised sent Idle = Unit {0}
 RoleFree members promised sent (Preparing b floor promises) = Unit {0}
@@ -134,7 +134,7 @@ pub record RowsOk {B : Type 0} (sent : List (Packet B)) (k : ℕ) (rows : Rows B
   pub low : (u : Vote B) → Has rows.votes u → Reaches rows.promised u.ballot
   pub known : (u : Vote B) → Has rows.votes u → Known sent (Accept u)
 
-pub record VoteOf {B : Type 0} (sent : List (Packet B)) (p : Place) (k : ℕ) : Type 0 where
+pub record VoteOf {B : Type 0} (sent : List (Packet B)) (p : SlotBallot) (k : ℕ) : Type 0 where
   pub entry : Entry B
   pub is : Sent sent k (Accepted (vote p.slot p.ballot entry))
 
@@ -142,7 +142,7 @@ pub record NodeOk {B : Type 0} (members : ℕ) (promised : ℕ → Option Ballot
   where
     pub rows : RowsOk sent k x.rows
     pub role : RoleOk promised x.rows.promised sent k x.proposer.role
-    pub heard : (t : Place × List Bool) → Has x.learner.heard t → (j : ℕ) → is_in t.1 j ≡ true → VoteOf sent t.0 j
+    pub heard : (t : SlotBallot × List Bool) → Has x.learner.heard t → (j : ℕ) → is_in t.1 j ≡ true → VoteOf sent t.0 j
     pub learned : (f : LearnedEntry B) → Has x.learner.learned f → IsChosen members sent f.slot f.entry
 
 abbrev pub promises : {B : Type 0} → (ℕ → NodeState B) → ℕ → Option Ballot

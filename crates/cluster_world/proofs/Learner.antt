@@ -20,19 +20,19 @@ use Rattle.paxos_packets.specs.declared.entry.Entry.{Entry}
 use Rattle.paxos_packets.specs.declared.packet.Packet.{Packet}
 use Rattle.paxos_packets.specs.declared.vote.Vote.{Vote}
 use Rattle.paxos_packets.specs.declared.packet.Kind.TheVariants.{Accept, Accepted}
-use Rattle.paxos_learner.specs.declared.tallies.Place.{Place}
+use Rattle.paxos_learner.specs.declared.tallies.SlotBallot.{SlotBallot}
 use Rattle.paxos_learner.specs.Tallies.{Heard, same_place, place_of, nodes_heard, insert_entry}
 use Rattle.paxos_learner.specs.declared.learned.LearnedEntry.{LearnedEntry}
 use Rattle.paxos_learner.specs.Learner.{LearnerState}
 use Rattle.paxos_learner.specs.Learner.{learned_at, is_learned, put_learned, learn, hears, is_other, disagrees}
 use Rattle.paxos_learner.specs.Learner.{has_most, learn_chosen, count_vote, vote_disagrees}
-use Rattle.paxos_planning.specs.Turn.{with_learner}
+use Rattle.paxos_planning.specs.Plan.{with_learner}
 use Rattle.paxos_planning.specs.Node.{NodeState}
 
 off : false ≡ true → ⊥
 off e = cc
 
-place_sound : (p q : Place) → same_place p q ≡ true → p ≡ q
+place_sound : (p q : SlotBallot) → same_place p q ≡ true → p ≡ q
 place_sound p q e =
     let k = numbers_joined p.slot q.slot (same_ballot p.ballot q.ballot) e in
     let b = ballot_sound p.ballot q.ballot k.1 in
@@ -49,9 +49,9 @@ no_node (suc (suc (suc (suc (suc (suc zero)))))) = refl
 no_node (suc (suc (suc (suc (suc (suc (suc zero))))))) = refl
 no_node (suc (suc (suc (suc (suc (suc (suc (suc k)))))))) = refl
 
--- a node that was heard at a place stands in its tally
-heard_at : (hs : Heard) (p : Place) (k : ℕ) → is_in (nodes_heard p hs) k ≡ true
-    → (t : Place × List Bool) × Has hs t × (t.0 ≡ p) × (is_in t.1 k ≡ true)
+-- a node that was heard at a place is in its tally
+heard_at : (hs : Heard) (p : SlotBallot) (k : ℕ) → is_in (nodes_heard p hs) k ≡ true
+    → (t : SlotBallot × List Bool) × Has hs t × (t.0 ≡ p) × (is_in t.1 k ≡ true)
 heard_at [] p k e = absurd (off (sym (no_node k) ∙ e))
 heard_at (t ∷ hs) p k e =
     cond_both (same_place p t.0) (Some t.1) (lookup (same_place p) hs) (λ o. is_in (unwrap_or o no_nodes) k ≡ true → Goal)
@@ -60,10 +60,10 @@ heard_at (t ∷ hs) p k e =
     e
   where
     Goal : Type 0
-    Goal = (u : Place × List Bool) × Has (t ∷ hs) u × (u.0 ≡ p) × (is_in u.1 k ≡ true)
+    Goal = (u : SlotBallot × List Bool) × Has (t ∷ hs) u × (u.0 ≡ p) × (is_in u.1 k ≡ true)
 
--- a tally after one more was heard is one that stood, or that of its place
-tally_cases : (hs : Heard) (p : Place) (set : List Bool) (u : Place × List Bool) → Has (insert_entry same_place hs p set) u
+-- a tally after one more was heard is one of before, or that of its place
+tally_cases : (hs : Heard) (p : SlotBallot) (set : List Bool) (u : SlotBallot × List Bool) → Has (insert_entry same_place hs p set) u
     → Has hs u ⊎ ((p ≡ u.0) × (set ≡ u.1))
 tally_cases [] p set u h = let e = has_one h in inr (ap (λ z. z.0) e, ap (λ z. z.1) e)
 tally_cases (t ∷ hs) p set u h =
@@ -105,7 +105,7 @@ learned_at_has {B} slot (f ∷ fs) e h =
 
 -- what a learner knows is so
 pub record LearnerOk {B : Type 0} (members : ℕ) (sent : List (Packet B)) (l : LearnerState B) : Type 0 where
-  pub heard : (t : Place × List Bool) → Has l.heard t → (k : ℕ) → is_in t.1 k ≡ true → VoteOf sent t.0 k
+  pub heard : (t : SlotBallot × List Bool) → Has l.heard t → (k : ℕ) → is_in t.1 k ≡ true → VoteOf sent t.0 k
   pub learned : (f : LearnedEntry B) → Has l.learned f → IsChosen members sent f.slot f.entry
 
 module _ {B : Type 0} (members : ℕ) (promised : ℕ → Option Ballot) (sent : List (Packet B)) (n : ℕ) where
@@ -142,7 +142,7 @@ module _ {B : Type 0} (members : ℕ) (promised : ℕ → Option Ballot) (sent :
             (tally_cases l.heard p (set_with (nodes_heard p l.heard) k) t i);
       }
     where
-      p : Place
+      p : SlotBallot
       p = place_of v
 
       cast : (j : ℕ) → is_in (set_with (nodes_heard p l.heard) k) j ≡ true → VoteOf sent p j
@@ -151,7 +151,7 @@ module _ {B : Type 0} (members : ℕ) (promised : ℕ → Option Ballot) (sent :
           (λ r. let h = heard_at l.heard p j r in subst (λ z. VoteOf sent z j) h.2 (ok.heard h.0 h.1 j h.3))
           (with_cases (nodes_heard p l.heard) k j q)
 
-  -- where nobody is known to have voted, a vote is heard alone
+  -- if no node is known to have voted, a vote is heard alone
   pub heard_alone : (l : LearnerState B) (k : ℕ) (v : Vote B) → LearnerOk members sent l → ((j : ℕ) → VoteOf sent (place_of v) j → ⊥) → (j : ℕ)
       → is_in (nodes_heard (place_of v) (hears k v l).heard) j ≡ true → j ≡ k
   heard_alone l k v ok none j q =
@@ -160,7 +160,7 @@ module _ {B : Type 0} (members : ℕ) (promised : ℕ → Option Ballot) (sent :
       (λ e. ⊎_elim (λ s. s) (λ r. absurd (old r)) (with_cases (nodes_heard p l.heard) k j (subst (λ z. is_in z j ≡ true) (sym e.1) h.3)))
       (tally_cases l.heard p (set_with (nodes_heard p l.heard) k) h.0 h.1)
     where
-      p : Place
+      p : SlotBallot
       p = place_of v
 
       old : is_in (nodes_heard p l.heard) j ≡ true → ⊥

@@ -1,4 +1,4 @@
--- What a node does in its turn keeps the invariant, and leads it where it may propose.
+-- What a node does in its event keeps the invariant, and leads it where it may propose.
 use Rattle.std.proofs.Common.{◌≡◌, ⊎_elim, ℕ, suc, ◌+◌, ◌<◌, ◌≤◌, Bool, true, false, not, ◌||◌, refl, sym, ap, ◌∙◌, subst, arith, List, []}
 use Rattle.std.proofs.Common.{◌∷◌, ◌++◌, length, append_assoc, Option, Some}
 use Rattle.std.specs.Prelude.{nat_lt}
@@ -24,8 +24,8 @@ use Rattle.paxos_acceptor.specs.Acceptor.{may_accept}
 use Rattle.paxos_proposer.specs.Role.{Role, Idle, Preparing, Leading}
 use Rattle.paxos_proposer.specs.Proposer.{next_vote, offered, slot_end}
 use Rattle.paxos_learner.specs.Learner.{count_vote, vote_disagrees}
-use Rattle.paxos_planning.specs.Node.{NodeState, Turn}
-use Rattle.paxos_planning.specs.Turn.{with_role, voted_at, counted_at, cast}
+use Rattle.paxos_planning.specs.Node.{NodeState, Plan}
+use Rattle.paxos_planning.specs.Plan.{with_role, voted_at, counted_at, cast}
 use Rattle.paxos_planning.specs.Proposals.{offer, propose_as, propose, propose_all}
 use Rattle.paxos_packets.specs.Body.{IsEquality}
 
@@ -129,63 +129,63 @@ module _ {B : Type 0} (members : ℕ) (many : 2 ≤ members) (at : ℕ → NodeS
       cast_agrees same equal (with_role (offered b next table e) x) (sent ++ to_others members n (Accept (next_vote b next e)))
       (next_vote b next e) a.inv (offered_may x sent b next table inv is) (offer_known sent b next e)
 
--- what a turn leaves alone; it has taken so many acts
-pub record Stays {B : Type 0} (taken : ℕ) (t u : Turn B) : Type 0 where
+-- what a plan leaves alone; it has taken this many acts
+pub record Stays {B : Type 0} (taken : ℕ) (t u : Plan B) : Type 0 where
   pub boot : u.node.rows.boot ≡ t.node.rows.boot
   pub up : u.node.up ≡ t.node.up
   pub log : u.node.applied ≡ t.node.applied
   pub news : u.applied ≡ t.applied
   pub acts : u.node.taken ≡ taken
 
-pub stays_on : {B : Type 0} {k : ℕ} {t u v : Turn B} → Stays k t u → Stays u.node.taken u v → Stays k t v
+pub stays_on : {B : Type 0} {k : ℕ} {t u v : Plan B} → Stays k t u → Stays u.node.taken u v → Stays k t v
 stays_on s r = record { boot = r.boot ∙ s.boot; up = r.up ∙ s.up; log = r.log ∙ s.log; news = r.news ∙ s.news; acts = r.acts ∙ s.acts }
 
--- the same, of turns
+-- the same, of plans
 module _ {B : Type 0} (same : B → B → Bool) (equal : IsEquality same) (members : ℕ) (many : 2 ≤ members) (at : ℕ → NodeState B) (n : ℕ)
     (before : List (Packet B)) where
-  abbrev pub State : Turn B → Type 0
+  abbrev pub State : Plan B → Type 0
   State t = Inv members (with_node at n t.node) (before ++ t.packets)
 
-  abbrev pub Going : Turn B → Turn B → Type 0
+  abbrev pub Going : Plan B → Plan B → Type 0
   Going t u = Kept members at n t.node (before ++ t.packets) u.node (before ++ u.packets)
 
-  abbrev pub FreeAt : Turn B → Type 0
+  abbrev pub FreeAt : Plan B → Type 0
   FreeAt t = RoleFree members (promises (with_node at n t.node)) (before ++ t.packets) t.node.proposer.role
 
   -- where it goes
-  pub record Path (taken : ℕ) (t u : Turn B) : Type 0 where
+  pub record Path (taken : ℕ) (t u : Plan B) : Type 0 where
     pub going : Going t u
     pub agrees : t.disagrees ≡ false → u.disagrees ≡ false
     pub stays : Stays taken t u
 
   -- and the leader's slots are free there
-  pub record StepTo (taken : ℕ) (t u : Turn B) : Type 0 where
+  pub record StepTo (taken : ℕ) (t u : Plan B) : Type 0 where
     pub path : Path taken t u
     pub free : FreeAt u
 
-  abbrev pub Step : Turn B → Turn B → Type 0
+  abbrev pub Step : Plan B → Plan B → Type 0
   Step t u = StepTo t.node.taken t u
 
-  pub path_on : {k : ℕ} {t u v : Turn B} → Path k t u → Path u.node.taken u v → Path k t v
+  pub path_on : {k : ℕ} {t u v : Plan B} → Path k t u → Path u.node.taken u v → Path k t v
   path_on g s = record { going = kept_on g.going s.going; agrees = λ e. s.agrees (g.agrees e); stays = stays_on g.stays s.stays }
 
-  pub step_on : {k : ℕ} {t u v : Turn B} → Path k t u → Step u v → StepTo k t v
+  pub step_on : {k : ℕ} {t u v : Plan B} → Path k t u → Step u v → StepTo k t v
   step_on g s = record { path = path_on g s.path; free = s.free }
 
-  pub propose_made : (t : Turn B) (b : Ballot) (next : ℕ) (table : List (Vote B)) (e : Entry B) → t.node.proposer.role ≡ Leading b next table
+  pub propose_made : (t : Plan B) (b : Ballot) (next : ℕ) (table : List (Vote B)) (e : Entry B) → t.node.proposer.role ≡ Leading b next table
       → nat_lt next slot_end ≡ true
       → propose same members n e t ≡ cast same members n (next_vote b next e) (offer members n b next table e t)
   propose_made t b next table e is l =
       ap (λ r. propose_as same members n r e t) is
       ∙ cond-true (nat_lt next slot_end) (cast same members n (next_vote b next e) (offer members n b next table e t)) t l
 
-  pub propose_full : (t : Turn B) (b : Ballot) (next : ℕ) (table : List (Vote B)) (e : Entry B) → t.node.proposer.role ≡ Leading b next table
+  pub propose_full : (t : Plan B) (b : Ballot) (next : ℕ) (table : List (Vote B)) (e : Entry B) → t.node.proposer.role ≡ Leading b next table
       → nat_lt next slot_end ≡ false → propose same members n e t ≡ t
   propose_full t b next table e is l =
       ap (λ r. propose_as same members n r e t) is
       ∙ cond-false (nat_lt next slot_end) (cast same members n (next_vote b next e) (offer members n b next table e t)) t l
 
-  pub propose_path : (t : Turn B) (b : Ballot) (next : ℕ) (table : List (Vote B)) (e : Entry B) → State t
+  pub propose_path : (t : Plan B) (b : Ballot) (next : ℕ) (table : List (Vote B)) (e : Entry B) → State t
       → t.node.proposer.role ≡ Leading b next table
       → Safe members (promises (with_node at n t.node)) (before ++ t.packets) (next_vote b next e)
       → Path t.node.taken t (cast same members n (next_vote b next e) (offer members n b next table e t))
@@ -205,20 +205,20 @@ module _ {B : Type 0} (same : B → B → Bool) (equal : IsEquality same) (membe
         stays = record { boot = refl; up = refl; log = refl; news = refl; acts = refl };
       }
 
-  pub proposed_role : (t : Turn B) (b : Ballot) (next : ℕ) (table : List (Vote B)) (e : Entry B)
+  pub proposed_role : (t : Plan B) (b : Ballot) (next : ℕ) (table : List (Vote B)) (e : Entry B)
       → (cast same members n (next_vote b next e) (offer members n b next table e t)).node.proposer.role ≡ offered b next table e
   proposed_role t b next table e = cond-false (below b b) Idle (offered b next table e) (below_self b)
 
-  free_at : (t : Turn B) (b : Ballot) (next : ℕ) (table : List (Vote B)) → t.node.proposer.role ≡ Leading b next table → FreeAt t
+  free_at : (t : Plan B) (b : Ballot) (next : ℕ) (table : List (Vote B)) → t.node.proposer.role ≡ Leading b next table → FreeAt t
       → (slot : ℕ) → next ≤ slot → slot < slot_end → Free members (promises (with_node at n t.node)) (before ++ t.packets) b slot
   free_at t b next table is free = subst (λ r. RoleFree members (promises (with_node at n t.node)) (before ++ t.packets) r) is free
 
-  free_role : (t : Turn B) (b : Ballot) (next : ℕ) (table : List (Vote B)) → t.node.proposer.role ≡ Leading b next table
+  free_role : (t : Plan B) (b : Ballot) (next : ℕ) (table : List (Vote B)) → t.node.proposer.role ≡ Leading b next table
       → ((slot : ℕ) → next ≤ slot → slot < slot_end → Free members (promises (with_node at n t.node)) (before ++ t.packets) b slot)
       → FreeAt t
   free_role t b next table is free = subst (λ r. RoleFree members (promises (with_node at n t.node)) (before ++ t.packets) r) (sym is) free
 
-  pub stay : (t : Turn B) → State t → FreeAt t → Step t t
+  pub stay : (t : Plan B) → State t → FreeAt t → Step t t
   stay t inv free =
       record {
         path =
@@ -230,7 +230,7 @@ module _ {B : Type 0} (same : B → B → Bool) (equal : IsEquality same) (membe
         free = free;
       }
 
-  propose_step_as : (t : Turn B) (e : Entry B) → State t → FreeAt t → (r : Role B) → t.node.proposer.role ≡ r
+  propose_step_as : (t : Plan B) (e : Entry B) → State t → FreeAt t → (r : Role B) → t.node.proposer.role ≡ r
       → Step t (propose same members n e t)
   propose_step_as t e inv free Idle is = subst (λ u. Step t u) (sym (ap (λ r. propose_as same members n r e t) is)) (stay t inv free)
   propose_step_as t e inv free (Preparing b floor ps) is =
@@ -241,7 +241,7 @@ module _ {B : Type 0} (same : B → B → Bool) (equal : IsEquality same) (membe
       (λ l. subst (λ u. Step t u) (sym (propose_full t b next table e is l)) (stay t inv free))
       (cases_Bool (nat_lt next slot_end))
     where
-      u : Turn B
+      u : Plan B
       u = cast same members n (next_vote b next e) (offer members n b next table e t)
 
       yes' : nat_lt next slot_end ≡ true → Step t u
@@ -257,10 +257,10 @@ module _ {B : Type 0} (same : B → B → Bool) (equal : IsEquality same) (membe
           }
 
   -- a leader may propose anything from its next slot on
-  pub propose_step : (t : Turn B) (e : Entry B) → State t → FreeAt t → Step t (propose same members n e t)
+  pub propose_step : (t : Plan B) (e : Entry B) → State t → FreeAt t → Step t (propose same members n e t)
   propose_step t e inv free = propose_step_as t e inv free t.node.proposer.role refl
 
-  propose_all_step : (es : List (Entry B)) (t : Turn B) → State t → FreeAt t → Step t (propose_all same members n es t)
+  propose_all_step : (es : List (Entry B)) (t : Plan B) → State t → FreeAt t → Step t (propose_all same members n es t)
   propose_all_step [] t inv free = stay t inv free
   propose_all_step (e ∷ es) t inv free =
       let s = propose_step t e inv free in
@@ -268,7 +268,7 @@ module _ {B : Type 0} (same : B → B → Bool) (equal : IsEquality same) (membe
 
   -- the entries that a new leader is called to propose
 
-  pub recover_step : (es : List (Entry B)) (t : Turn B) (b : Ballot) (next : ℕ) (table : List (Vote B)) → State t
+  pub recover_step : (es : List (Entry B)) (t : Plan B) (b : Ballot) (next : ℕ) (table : List (Vote B)) → State t
       → t.node.proposer.role ≡ Leading b next table → AllSafe members (promises (with_node at n t.node)) (before ++ t.packets) b next es
       → ((slot : ℕ) → next + length es ≤ slot → slot < slot_end
       → Free members (promises (with_node at n t.node)) (before ++ t.packets) b slot)
@@ -284,7 +284,7 @@ module _ {B : Type 0} (same : B → B → Bool) (equal : IsEquality same) (membe
       (propose_all_step es t inv (free_role t b next table is (λ slot a z. absurd (past slot a z (ltb-false next slot_end l))))))
       (cases_Bool (nat_lt next slot_end))
     where
-      u : Turn B
+      u : Plan B
       u = cast same members n (next_vote b next e) (offer members n b next table e t)
 
       path : Path t.node.taken t u

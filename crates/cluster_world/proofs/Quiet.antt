@@ -4,7 +4,7 @@ use Rattle.cluster_world.proofs.Order.{Reaches}
 use Rattle.cluster_world.proofs.Invariant.{Sent, Known, IsChosen, Grows, PacketsOk, NodeOk, Inv, promises, KindOk}
 use Rattle.cluster_world.proofs.Growth.{known_grows, safe_grows, chosen_grows, vote_of_grows, role_grows}
 use Rattle.cluster_world.proofs.InvariantKept.{sent_cases, known_cases}
-use Rattle.cluster_world.proofs.WithNode.{with_node, Kept, turn_moved}
+use Rattle.cluster_world.proofs.WithNode.{with_node, Kept, plan_moved}
 use Rattle.paxos_planning.specs.Node.{NodeState}
 use Rattle.paxos_packets.specs.declared.ballot.Ballot.{Ballot}
 use Rattle.paxos_packets.specs.declared.packet.Kind.{Kind}
@@ -75,7 +75,7 @@ pub quiet_moved : {B : Type 0} (members : ℕ) (at : ℕ → NodeState B) (n : �
     → Inv members (with_node at n x) sent → x.rows.promised ≡ y.rows.promised → NodeOk members (promises (with_node at n x)) sent n y
     → ((k : ℕ) (kind : Kind B) → Sent new k kind → (k ≡ n) × QuietKind members sent n kind) → Kept members at n x sent y (sent ++ new)
 quiet_moved members at n x y sent new inv same ok quiet =
-    turn_moved members at n x y sent new inv
+    plan_moved members at n x y sent new inv
     (λ b h. subst (λ o. Reaches o b) same h)
     (λ k v s. absurd ((quiet k (Accepted v) s).1))
     (λ g k kind s. (

@@ -37,7 +37,7 @@ get_unmap f [] i y h = absurd (cc)
 get_unmap f (a ∷ xs) zero y h = (a, refl, some_same h)
 get_unmap f (a ∷ xs) (suc i) y h = get_unmap f xs i y h
 
--- what holds of each element at its place holds still, where it holds of the new one at its
+-- what holds of each element at its place holds still, if it holds of the new one at its
 pub replaced : {A : Type 0} (P : ℕ → A → Type 0) (xs : List A) (i : ℕ) (x y : A) → slice_get xs i ≡ Some x
     → ((j : ℕ) (z : A) → slice_get xs j ≡ Some z → P j z) → P i y → (j : ℕ) (z : A) → slice_get (slice_set xs i y) j ≡ Some z → P j z
 replaced {A} P xs i x y at all p j z g =

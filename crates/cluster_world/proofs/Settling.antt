@@ -14,7 +14,7 @@ use Rattle.paxos_packets.specs.declared.entry.Entry.{Entry}
 use Rattle.paxos_packets.specs.declared.packet.Packet.{Packet}
 use Rattle.paxos_learner.specs.declared.learned.LearnedEntry.{LearnedEntry}
 use Rattle.paxos_learner.specs.Learner.{run_with, run_from}
-use Rattle.paxos_planning.specs.Node.{NodeState, Turn}
+use Rattle.paxos_planning.specs.Node.{NodeState, Plan}
 use Rattle.paxos_packets.specs.Rows.{raised}
 use Rattle.paxos_node.specs.Applying.{down, started, note, ends, go_down, apply_all, settle}
 use Rattle.paxos_packets.specs.Body.{IsEquality}
@@ -71,17 +71,17 @@ longer xs x = length-append xs (x ∷ []) ∙ plus_one (length xs)
     plus_one : (k : ℕ) → k + 1 ≡ suc k
     plus_one k = omega arith
 
--- a turn from this log and boot: up, with what it applied at the end of the log; or down
-pub record From {B : Type 0} (log : List (Entry B)) (boot acts : ℕ) (o : Turn B) : Type 0 where
+-- an event from this log and boot: up, with what it applied at the end of the log; or down
+pub record From {B : Type 0} (log : List (Entry B)) (boot acts : ℕ) (o : Plan B) : Type 0 where
   pub boot_is : o.node.rows.boot ≡ boot
   pub case :
       ((o.node.up ≡ true) × (o.node.applied ≡ log ++ o.applied) × (o.node.taken ≡ acts))
       ⊎ ((o.node.up ≡ false) × (o.node.applied ≡ []))
 
-abbrev Up : {B : Type 0} → List (Entry B) → ℕ → Turn B → Type 0
+abbrev Up : {B : Type 0} → List (Entry B) → ℕ → Plan B → Type 0
 Up log acts o = (o.node.up ≡ true) × (o.node.applied ≡ log ++ o.applied) × (o.node.taken ≡ acts)
 
-applies_from : {B : Type 0} (n : ℕ) (log : List (Entry B)) (boot acts : ℕ) (es : List (Entry B)) (o : Turn B) → o.node.rows.boot ≡ boot
+applies_from : {B : Type 0} (n : ℕ) (log : List (Entry B)) (boot acts : ℕ) (es : List (Entry B)) (o : Plan B) → o.node.rows.boot ≡ boot
     → Up log acts o → From log boot acts (apply_all n es o)
 applies_from n log boot acts [] o b c = record { boot_is = b; case = inl c }
 applies_from n log boot acts (e ∷ es) o b c =
@@ -91,31 +91,31 @@ applies_from n log boot acts (e ∷ es) o b c =
 
 module _ {B : Type 0} (same : B → B → Bool) (equal : IsEquality same) (members : ℕ) (many : 2 ≤ members) (at : ℕ → NodeState B) (n : ℕ)
     (before : List (Packet B)) where
-  pub record Good (o : Turn B) : Type 0 where
+  pub record Good (o : Plan B) : Type 0 where
     pub inv : State same equal members many at n before o
     pub free : FreeAt same equal members many at n before o
     pub log : Logged members (before ++ o.packets) o.node.applied
 
-  pub record Goes (t u : Turn B) : Type 0 where
+  pub record Goes (t u : Plan B) : Type 0 where
     pub going : Going same equal members many at n before t u
     pub free : FreeAt same equal members many at n before u
     pub log : Logged members (before ++ u.packets) u.node.applied
     pub agrees : t.disagrees ≡ false → u.disagrees ≡ false
 
-  pub goes_on : {t u v : Turn B} → Goes t u → Goes u v → Goes t v
+  pub goes_on : {t u v : Plan B} → Goes t u → Goes u v → Goes t v
   goes_on g h = record { going = kept_on g.going h.going; free = h.free; log = h.log; agrees = λ e. h.agrees (g.agrees e) }
 
-  pub good_of : {t u : Turn B} → Goes t u → Good u
+  pub good_of : {t u : Plan B} → Goes t u → Good u
   good_of g = record { inv = g.going.inv; free = g.free; log = g.log }
 
-  keep : (o : Turn B) → Good o → Goes o o
+  keep : (o : Plan B) → Good o → Goes o o
   keep o ok =
       record { going = kept_none members many at n o.node (before ++ o.packets) ok.inv; free = ok.free; log = ok.log; agrees = λ e. e }
 
-  mine : (o : Turn B) → Good o → NodeOk members (promises (with_node at n o.node)) (before ++ o.packets) n o.node
+  mine : (o : Plan B) → Good o → NodeOk members (promises (with_node at n o.node)) (before ++ o.packets) n o.node
   mine o ok = mine_ok members at n o.node (before ++ o.packets) ok.inv
 
-  pub down_goes : (o : Turn B) → Good o → Goes o (go_down o)
+  pub down_goes : (o : Plan B) → Good o → Goes o (go_down o)
   down_goes o ok =
       let m = mine o ok in
       record {
@@ -127,7 +127,7 @@ module _ {B : Type 0} (same : B → B → Bool) (equal : IsEquality same) (membe
         agrees = λ e. e;
       }
 
-  pub start_goes : (o : Turn B) → Good o → Goes o (record o { node = started n (raised o.node.rows) })
+  pub start_goes : (o : Plan B) → Good o → Goes o (record o { node = started n (raised o.node.rows) })
   start_goes o ok =
       let m = mine o ok in
       record {
@@ -143,7 +143,7 @@ module _ {B : Type 0} (same : B → B → Bool) (equal : IsEquality same) (membe
         agrees = λ e. e;
       }
 
-  note_goes : (e : Entry B) (o : Turn B) → Good o → IsChosen members (before ++ o.packets) (suc (length o.node.applied)) e
+  note_goes : (e : Entry B) (o : Plan B) → Good o → IsChosen members (before ++ o.packets) (suc (length o.node.applied)) e
       → Goes o (note e o)
   note_goes e o ok c =
       let m = mine o ok in
@@ -157,7 +157,7 @@ module _ {B : Type 0} (same : B → B → Bool) (equal : IsEquality same) (membe
         agrees = λ d. d;
       }
 
-  apply_goes : (es : List (Entry B)) (o : Turn B) → Good o → RunOk members (before ++ o.packets) (suc (length o.node.applied)) es
+  apply_goes : (es : List (Entry B)) (o : Plan B) → Good o → RunOk members (before ++ o.packets) (suc (length o.node.applied)) es
       → Goes o (apply_all n es o)
   apply_goes [] o ok r = keep o ok
   apply_goes (e ∷ es) o ok r =
@@ -167,13 +167,13 @@ module _ {B : Type 0} (same : B → B → Bool) (equal : IsEquality same) (membe
       (λ t. goes_on a (apply_goes es (note e o) (good_of a)
       (subst (λ k. RunOk members (before ++ o.packets) (suc k) es) (sym (longer o.node.applied e)) r.1)))
 
-  settle_goes : (o : Turn B) → Good o → Goes o (settle n o)
+  settle_goes : (o : Plan B) → Good o → Goes o (settle n o)
   settle_goes o ok =
       apply_goes (run_from (suc (length o.node.applied)) o.node.learner.learned) o ok
       (run_ok members (before ++ o.packets) o.node.learner.learned (suc (length o.node.applied)) (mine o ok).learned)
 
   -- a step
-  arrives : {k : ℕ} (t u : Turn B) → Good t → ToBy same equal members many at n before k t u → Goes t u
+  arrives : {k : ℕ} (t u : Plan B) → Good t → ToBy same equal members many at n before k t u → Goes t u
   arrives t u ok s =
       record {
         going = s.path.going;
@@ -185,11 +185,11 @@ module _ {B : Type 0} (same : B → B → Bool) (equal : IsEquality same) (membe
       }
 
   -- and what it taught is applied
-  pub step_goes : {k : ℕ} (t u : Turn B) → Good t → ToBy same equal members many at n before k t u → Goes t (settle n u)
+  pub step_goes : {k : ℕ} (t u : Plan B) → Good t → ToBy same equal members many at n before k t u → Goes t (settle n u)
   step_goes t u ok s = let a = arrives t u ok s in goes_on a (settle_goes u (good_of a))
 
   -- what was applied is chosen, in a node that it took down too
-  apply_logged : (log es : List (Entry B)) (o : Turn B) → o.node.applied ≡ log ++ o.applied
+  apply_logged : (log es : List (Entry B)) (o : Plan B) → o.node.applied ≡ log ++ o.applied
       → Logged members (before ++ o.packets) o.node.applied → RunOk members (before ++ o.packets) (suc (length o.node.applied)) es
       → Logged members (before ++ (apply_all n es o).packets) (log ++ (apply_all n es o).applied)
   apply_logged log [] o is ok r = subst (λ l. Logged members (before ++ o.packets) l) is ok
@@ -206,7 +206,7 @@ module _ {B : Type 0} (same : B → B → Bool) (equal : IsEquality same) (membe
       more : o.node.applied ++ e ∷ [] ≡ log ++ (o.applied ++ e ∷ [])
       more = ap (λ l. l ++ e ∷ []) is ∙ append_assoc log o.applied (e ∷ [])
 
-  pub step_logged : {k : ℕ} (t u : Turn B) → Good t → t.applied ≡ [] → ToBy same equal members many at n before k t u
+  pub step_logged : {k : ℕ} (t u : Plan B) → Good t → t.applied ≡ [] → ToBy same equal members many at n before k t u
       → Logged members (before ++ (settle n u).packets) (t.node.applied ++ (settle n u).applied)
   step_logged t u ok none s =
       let a = arrives t u ok s in
@@ -214,8 +214,8 @@ module _ {B : Type 0} (same : B → B → Bool) (equal : IsEquality same) (membe
       (s.path.stays.log ∙ sym (ap (λ l. t.node.applied ++ l) (s.path.stays.news ∙ none) ∙ append-nil t.node.applied)) a.log
       (run_ok members (before ++ u.packets) u.node.learner.learned (suc (length u.node.applied)) (mine u (good_of a)).learned)
 
--- from the log and boot of the node that had the turn
-pub step_from : {B : Type 0} (n : ℕ) {k : ℕ} (t u : Turn B) → t.node.up ≡ true → t.applied ≡ [] → Stays k t u
+-- from the log and boot of the node whose event it was
+pub step_from : {B : Type 0} (n : ℕ) {k : ℕ} (t u : Plan B) → t.node.up ≡ true → t.applied ≡ [] → Stays k t u
     → From t.node.applied t.node.rows.boot k (settle n u)
 step_from n {k} t u up none s =
     applies_from n t.node.applied t.node.rows.boot k (run_from (suc (length u.node.applied)) u.node.learner.learned) u s.boot

@@ -31,8 +31,8 @@ use Rattle.paxos_learner.specs.Learner.{is_learned, put_learned, learn, hears, h
 use Rattle.replica_machine.specs.Roll.{is_wanted}
 use Rattle.paxos_node.specs.declared.event.Event.{Event}
 use Rattle.paxos_node.specs.declared.event.Event.TheVariants.{Take, Tick, Start, Suspect, Deliver, Crash, Restart}
-use Rattle.paxos_planning.specs.Node.{NodeState, Turn}
-use Rattle.paxos_planning.specs.Turn.{with_role, with_pending, begun, voted_at, counted_at, send, promise, cast}
+use Rattle.paxos_planning.specs.Node.{NodeState, Plan}
+use Rattle.paxos_planning.specs.Plan.{with_role, with_pending, begun, voted_at, counted_at, send, promise, cast}
 use Rattle.paxos_planning.specs.Proposals.{offer, propose_as, propose, propose_all, lead, stands, propose_new, propose_each, forwarded, push}
 use Rattle.paxos_planning.specs.Replies.{saw, refuse, on_prepare, on_accept, count_promise, on_promise_as, told_from, on_packet}
 use Rattle.paxos_node.specs.Applying.{note, ends, go_down, apply_all, settle}
@@ -81,7 +81,7 @@ module _ {B : Type 0} (G : Entry B → Type 0) where
     pub applied : Each x.applied
     pub pending : Each x.pending
 
-  pub record TurnGood (t : Turn B) : Type 0 where
+  pub record PlanGood (t : Plan B) : Type 0 where
     pub node : NodeGood t.node
     pub out : SentGood t.packets
 
@@ -100,11 +100,11 @@ module _ {B : Type 0} (G : Entry B → Type 0) where
   others_good : (members n : ℕ) (kind : Kind B) → KindGood kind → SentGood (to_others members n kind)
   others_good members n kind k p h = some_good n (others n members) kind k p h
 
-  send_good : (new : List (Packet B)) (t : Turn B) → TurnGood t → SentGood new → TurnGood (send new t)
+  send_good : (new : List (Packet B)) (t : Plan B) → PlanGood t → SentGood new → PlanGood (send new t)
   send_good new t ok g = record { node = ok.node; out = sent_good t.packets new ok.out g }
 
-  role_good : (r : Role B) (seen : ℕ) (t : Turn B) → TurnGood t → RoleGood r
-      → TurnGood (record t { node = record t.node { proposer = record { role = r; seen = seen } } })
+  role_good : (r : Role B) (seen : ℕ) (t : Plan B) → PlanGood t → RoleGood r
+      → PlanGood (record t { node = record t.node { proposer = record { role = r; seen = seen } } })
   role_good r seen t ok g =
       record {
         node = record { votes = ok.node.votes; role = g; learned = ok.node.learned; applied = ok.node.applied; pending = ok.node.pending };
@@ -151,22 +151,22 @@ module _ {B : Type 0} (G : Entry B → Type 0) where
       record { votes = ok.votes; role = ok.role; learned = count_good members k v x.learner ok.learned g; applied = ok.applied; pending = ok.pending }
 
   module _ (same : B → B → Bool) (members n : ℕ) where
-    cast_good : (v : Vote B) (t : Turn B) → TurnGood t → G v.entry → TurnGood (cast same members n v t)
+    cast_good : (v : Vote B) (t : Plan B) → PlanGood t → G v.entry → PlanGood (cast same members n v t)
     cast_good v t ok g =
         record {
           node = counted_good members n v (voted_at v t.node) (voted_good v t.node ok.node g) g;
           out = sent_good t.packets (to_others members n (Accepted v)) ok.out (others_good members n (Accepted v) g);
         }
 
-    refuse_good : (from : ℕ) (b : Ballot) (t : Turn B) → TurnGood t → TurnGood (refuse n from b t)
+    refuse_good : (from : ℕ) (b : Ballot) (t : Plan B) → PlanGood t → PlanGood (refuse n from b t)
     refuse_good from b t ok =
         send_good (packet n (Nack b (unwrap_or t.node.rows.promised b)) from ∷ []) t ok
         (one_good n from (Nack b (unwrap_or t.node.rows.promised b)) tt)
 
-    prepare_good : (from : ℕ) (b : Ballot) (floor : ℕ) (t : Turn B) → TurnGood t → TurnGood (on_prepare n from b floor t)
+    prepare_good : (from : ℕ) (b : Ballot) (floor : ℕ) (t : Plan B) → PlanGood t → PlanGood (on_prepare n from b floor t)
     prepare_good from b floor t ok =
         cond_both (may_promise t.node.rows.promised b) (send (packet n (Promise b (votes_from floor t.node.rows.votes)) from ∷ []) (promise b t))
-        (refuse n from b t) (λ u. TurnGood u)
+        (refuse n from b t) (λ u. PlanGood u)
         (λ e. record {
           node =
               record {
@@ -182,16 +182,16 @@ module _ {B : Type 0} (G : Entry B → Type 0) where
         })
         (λ e. refuse_good from b t ok)
 
-    accept_good : (from : ℕ) (v : Vote B) (t : Turn B) → TurnGood t → G v.entry → TurnGood (on_accept same members n from v t)
+    accept_good : (from : ℕ) (v : Vote B) (t : Plan B) → PlanGood t → G v.entry → PlanGood (on_accept same members n from v t)
     accept_good from v t ok g =
-        cond_both (may_accept t.node.rows.promised v.ballot) (cast same members n v t) (refuse n from v.ballot t) (λ u. TurnGood u)
+        cond_both (may_accept t.node.rows.promised v.ballot) (cast same members n v t) (refuse n from v.ballot t) (λ u. PlanGood u)
         (λ e. cast_good v t ok g)
         (λ e. refuse_good from v.ballot t ok)
 
     -- the proposer
 
-    offer_good : (b : Ballot) (next : ℕ) (table : List (Vote B)) (e : Entry B) (t : Turn B) → VotesGood table → TurnGood t → G e
-        → TurnGood (offer members n b next table e t)
+    offer_good : (b : Ballot) (next : ℕ) (table : List (Vote B)) (e : Entry B) (t : Plan B) → VotesGood table → PlanGood t → G e
+        → PlanGood (offer members n b next table e t)
     offer_good b next table e t rg ok g =
         record {
           node = record {
@@ -205,27 +205,27 @@ module _ {B : Type 0} (G : Entry B → Type 0) where
               sent_good t.packets (to_others members n (Accept (next_vote b next e))) ok.out (others_good members n (Accept (next_vote b next e)) g);
         }
 
-    propose_as_good : (r : Role B) (e : Entry B) (t : Turn B) → RoleGood r → TurnGood t → G e → TurnGood (propose_as same members n r e t)
+    propose_as_good : (r : Role B) (e : Entry B) (t : Plan B) → RoleGood r → PlanGood t → G e → PlanGood (propose_as same members n r e t)
     propose_as_good Idle e t rg ok g = ok
     propose_as_good (Preparing b floor cs) e t rg ok g = ok
     propose_as_good (Leading b next table) e t rg ok g =
-        cond_both (nat_lt next slot_end) (cast same members n (next_vote b next e) (offer members n b next table e t)) t (λ u. TurnGood u)
+        cond_both (nat_lt next slot_end) (cast same members n (next_vote b next e) (offer members n b next table e t)) t (λ u. PlanGood u)
         (λ l. cast_good (next_vote b next e) (offer members n b next table e t) (offer_good b next table e t rg ok g) g)
         (λ l. ok)
 
-    propose_good : (e : Entry B) (t : Turn B) → TurnGood t → G e → TurnGood (propose same members n e t)
+    propose_good : (e : Entry B) (t : Plan B) → PlanGood t → G e → PlanGood (propose same members n e t)
     propose_good e t ok g = propose_as_good t.node.proposer.role e t ok.node.role ok g
 
-    propose_all_good : (es : List (Entry B)) (t : Turn B) → TurnGood t → Each es → TurnGood (propose_all same members n es t)
+    propose_all_good : (es : List (Entry B)) (t : Plan B) → PlanGood t → Each es → PlanGood (propose_all same members n es t)
     propose_all_good [] t ok g = ok
     propose_all_good (e ∷ es) t ok g = propose_all_good es (propose same members n e t) (propose_good e t ok (g e here)) (λ f h. g f (there h))
 
-    propose_new_good : (e : Entry B) (t : Turn B) → TurnGood t → G e → TurnGood (propose_new same members n e t)
+    propose_new_good : (e : Entry B) (t : Plan B) → PlanGood t → G e → PlanGood (propose_new same members n e t)
     propose_new_good e t ok g =
-        cond_both (stands same (length t.node.applied) t.node.proposer.role e) t (propose same members n e t) (λ u. TurnGood u) (λ d. ok)
+        cond_both (stands same (length t.node.applied) t.node.proposer.role e) t (propose same members n e t) (λ u. PlanGood u) (λ d. ok)
         (λ d. propose_good e t ok g)
 
-    propose_each_good : (es : List (Entry B)) (t : Turn B) → TurnGood t → Each es → TurnGood (propose_each same members n es t)
+    propose_each_good : (es : List (Entry B)) (t : Plan B) → PlanGood t → Each es → PlanGood (propose_each same members n es t)
     propose_each_good [] t ok g = ok
     propose_each_good (e ∷ es) t ok g =
         propose_each_good es (propose_new same members n e t) (propose_new_good e t ok (g e here)) (λ f h. g f (there h))
@@ -239,15 +239,15 @@ module _ {B : Type 0} (G : Entry B → Type 0) where
         (λ t q z. subst (λ (y : Packet B). KindGood y.kind) (has_one z) (λ f i. g f (take_has 64 (e ∷ es) f i)))
         p h
 
-    push_good : (t : Turn B) → TurnGood t → TurnGood (push same members n t)
+    push_good : (t : Plan B) → PlanGood t → PlanGood (push same members n t)
     push_good t ok =
         cond_both (is_leading t.node.proposer.role) (propose_each same members n t.node.pending t)
-        (send (forwarded n t.node.rows.promised t.node.pending) t) (λ u. TurnGood u)
+        (send (forwarded n t.node.rows.promised t.node.pending) t) (λ u. PlanGood u)
         (λ d. propose_each_good t.node.pending t ok ok.node.pending)
         (λ d. send_good (forwarded n t.node.rows.promised t.node.pending) t ok (forward_good t.node.rows.promised t.node.pending ok.node.pending))
 
-    pending_good : (pending : List (Entry B)) (taken : ℕ) (t : Turn B) → TurnGood t → Each pending
-        → TurnGood (record t { node = record t.node { pending = pending; taken = taken } })
+    pending_good : (pending : List (Entry B)) (taken : ℕ) (t : Plan B) → PlanGood t → Each pending
+        → PlanGood (record t { node = record t.node { pending = pending; taken = taken } })
     pending_good pending taken t ok g =
         record {
           node = record { votes = ok.node.votes; role = ok.node.role; learned = ok.node.learned; applied = ok.node.applied; pending = g };
@@ -267,20 +267,20 @@ module _ {B : Type 0} (G : Entry B → Type 0) where
       called_good vs g slot (suc k) e h =
           ⊎_elim (λ s. subst (λ z. G z) s (entry_good slot vs g)) (λ o. called_good vs g (suc slot) k e o) (has_cons h)
 
-      lead_good : (b : Ballot) (floor : ℕ) (vs : List (Vote B)) (t : Turn B) → TurnGood t → VotesGood vs → TurnGood (lead same members n b floor vs t)
+      lead_good : (b : Ballot) (floor : ℕ) (vs : List (Vote B)) (t : Plan B) → PlanGood t → VotesGood vs → PlanGood (lead same members n b floor vs t)
       lead_good b floor vs t ok g =
           propose_all_good (called_for floor vs) (record t { node = with_role (Leading b floor []) t.node })
           (role_good (Leading b floor []) t.node.proposer.seen t ok (λ v h. absurd (has_nil h)))
           (called_good vs g floor (past_reports floor vs - floor))
 
-      promise_as_good : (from : ℕ) (b : Ballot) (votes : List (Vote B)) (r : Role B) (t : Turn B) → RoleGood r → TurnGood t → VotesGood votes
-          → TurnGood (on_promise_as same members n from b votes r t)
+      promise_as_good : (from : ℕ) (b : Ballot) (votes : List (Vote B)) (r : Role B) (t : Plan B) → RoleGood r → PlanGood t → VotesGood votes
+          → PlanGood (on_promise_as same members n from b votes r t)
       promise_as_good from b votes Idle t rg ok g = ok
       promise_as_good from b votes (Leading c next table) t rg ok g = ok
       promise_as_good from b votes (Preparing c floor cs) t rg ok g =
-          cond_both (same_ballot b c && not (is_counted cs from)) (count_promise same members n c floor all t) t (λ u. TurnGood u)
+          cond_both (same_ballot b c && not (is_counted cs from)) (count_promise same members n c floor all t) t (λ u. PlanGood u)
           (λ e. cond_both (is_majority members (is_counted all)) (push same members n (lead same members n c floor (reports all) t))
-          (record t { node = with_role (Preparing c floor all) t.node }) (λ u. TurnGood u)
+          (record t { node = with_role (Preparing c floor all) t.node }) (λ u. PlanGood u)
           (λ m. push_good (lead same members n c floor (reports all) t)
           (lead_good c floor (reports all) t ok (λ v h. let z = has_reports all v h in all_good z.0 z.1 v z.2)))
           (λ m. role_good (Preparing c floor all) t.node.proposer.seen t ok all_good))
@@ -313,7 +313,7 @@ module _ {B : Type 0} (G : Entry B → Type 0) where
           (has_cases (if nat_le slot f.slot && nat_lt f.slot (slot + 64) then packet n (Learned f.slot f.entry) to ∷ [] else [])
           (told_from n to slot fs) h)
 
-      packet_good : (from : ℕ) (kind : Kind B) (t : Turn B) → TurnGood t → KindGood kind → TurnGood (on_packet same members n from kind t)
+      packet_good : (from : ℕ) (kind : Kind B) (t : Plan B) → PlanGood t → KindGood kind → PlanGood (on_packet same members n from kind t)
       packet_good from (Prepare b floor) t ok g = prepare_good from b floor t ok
       packet_good from (Promise b votes) t ok g = promise_as_good from b votes t.node.proposer.role t ok.node.role ok g
       packet_good from (Accept v) t ok g = accept_good from v t ok g
@@ -321,7 +321,7 @@ module _ {B : Type 0} (G : Entry B → Type 0) where
       packet_good from (Nack b p) t ok g =
           role_good (nacked b p t.node.proposer.role) t.node.proposer.seen t ok (nacked_good b p t.node.proposer.role ok.node.role)
       packet_good from (Forward es) t ok g =
-          cond_both (is_leading t.node.proposer.role) (propose_each same members n es t) t (λ u. TurnGood u) (λ d. propose_each_good es t ok g)
+          cond_both (is_leading t.node.proposer.role) (propose_each same members n es t) t (λ u. PlanGood u) (λ d. propose_each_good es t ok g)
           (λ d. ok)
       packet_good from (Ask slot) t ok g =
           send_good (told_from n from slot t.node.learner.learned) t ok (told_good from slot t.node.learner.learned ok.node.learned)
@@ -338,9 +338,9 @@ module _ {B : Type 0} (G : Entry B → Type 0) where
             out = ok.out;
           }
 
-    start_good : (t : Turn B) → TurnGood t → TurnGood (on_start members n t)
+    start_good : (t : Plan B) → PlanGood t → PlanGood (on_start members n t)
     start_good t ok =
-        cond_both (starts n t.node) (begin members n b floor t) t (λ u. TurnGood u)
+        cond_both (starts n t.node) (begin members n b floor t) t (λ u. PlanGood u)
         (λ e. record {
           node = record {
             votes = ok.node.votes;
@@ -374,7 +374,7 @@ module _ {B : Type 0} (G : Entry B → Type 0) where
     again_good (Preparing b floor cs) learned g p h = some_good n (filter (λ j. not (is_counted cs j)) (others n members)) (Prepare b floor) tt p h
     again_good (Leading b next table) learned g p h = accepts_good learned table g p h
 
-    tick_good : (t : Turn B) → TurnGood t → TurnGood (on_tick same members n t)
+    tick_good : (t : Plan B) → PlanGood t → PlanGood (on_tick same members n t)
     tick_good t ok =
         let a =
         send_good (again members n t.node.proposer.role t.node.learner.learned) t ok
@@ -384,10 +384,10 @@ module _ {B : Type 0} (G : Entry B → Type 0) where
         (push_good (send (again members n t.node.proposer.role t.node.learner.learned) t) a)
         (others_good members n (Ask (suc (length pushed.node.applied))) tt)
 
-    take_good : (transport : ℕ) (body : B) (t : Turn B) → TurnGood t → Each (taken_by n transport body t.node)
-        → TurnGood (on_take same members n transport body t)
+    take_good : (transport : ℕ) (body : B) (t : Plan B) → PlanGood t → Each (taken_by n transport body t.node)
+        → PlanGood (on_take same members n transport body t)
     take_good transport body t ok g =
-        cond_both (takes t.node) (push same members n (record t { node = with_item n transport body t.node })) t (λ u. TurnGood u)
+        cond_both (takes t.node) (push same members n (record t { node = with_item n transport body t.node })) t (λ u. PlanGood u)
         (λ d. push_good (record t { node = with_item n transport body t.node }) (pending_good (t.node.pending ++ item ∷ []) (suc t.node.taken) t ok
         (each_push t.node.pending item ok.node.pending (g item (subst (λ l. Has l item) (sym (cond-true (takes t.node) (item ∷ []) [] d)) here)))))
         (λ d. ok)
@@ -395,10 +395,10 @@ module _ {B : Type 0} (G : Entry B → Type 0) where
         item : Entry B
         item = new_item n transport body t.node
 
-    suspect_good : (lost : Option (Entry B)) (t : Turn B) → TurnGood t → Each (suspected_by lost t.node) → TurnGood (suspected same members n lost t)
+    suspect_good : (lost : Option (Entry B)) (t : Plan B) → PlanGood t → Each (suspected_by lost t.node) → PlanGood (suspected same members n lost t)
     suspect_good None t ok g = ok
     suspect_good (Some lost) t ok g =
-        cond_both (has_room t.node) (push same members n (record t { node = with_pending (t.node.pending ++ lost ∷ []) t.node })) t (λ u. TurnGood u)
+        cond_both (has_room t.node) (push same members n (record t { node = with_pending (t.node.pending ++ lost ∷ []) t.node })) t (λ u. PlanGood u)
         (λ d. push_good (record t { node = with_pending (t.node.pending ++ lost ∷ []) t.node })
         (pending_good (t.node.pending ++ lost ∷ []) t.node.taken t ok
         (each_push t.node.pending lost ok.node.pending (g lost (subst (λ l. Has l lost) (sym (cond-true (has_room t.node) (lost ∷ []) [] d)) here)))))
@@ -415,7 +415,7 @@ module _ {B : Type 0} (G : Entry B → Type 0) where
       go rest false true = λ e h. rest slot e h
       go rest false false = λ e h. absurd (has_nil h)
 
-  fallen_good : (t : Turn B) → TurnGood t → TurnGood (go_down t)
+  fallen_good : (t : Plan B) → PlanGood t → PlanGood (go_down t)
   fallen_good t ok =
       record {
         node =
@@ -429,7 +429,7 @@ module _ {B : Type 0} (G : Entry B → Type 0) where
         out = ok.out;
       }
 
-  note_good : (e : Entry B) (t : Turn B) → TurnGood t → G e → TurnGood (note e t)
+  note_good : (e : Entry B) (t : Plan B) → PlanGood t → G e → PlanGood (note e t)
   note_good e t ok g =
       record {
         node = record {
@@ -442,15 +442,15 @@ module _ {B : Type 0} (G : Entry B → Type 0) where
         out = ok.out;
       }
 
-  apply_good : (n : ℕ) (es : List (Entry B)) (t : Turn B) → TurnGood t → Each es → TurnGood (apply_all n es t)
+  apply_good : (n : ℕ) (es : List (Entry B)) (t : Plan B) → PlanGood t → Each es → PlanGood (apply_all n es t)
   apply_good n [] t ok g = ok
   apply_good n (e ∷ es) t ok g =
       let a = note_good e t ok (g e here) in
-      cond_both (ends n t.node e) (go_down (note e t)) (apply_all n es (note e t)) (λ u. TurnGood u)
+      cond_both (ends n t.node e) (go_down (note e t)) (apply_all n es (note e t)) (λ u. PlanGood u)
       (λ d. fallen_good (note e t) a)
       (λ d. apply_good n es (note e t) a (λ f h. g f (there h)))
 
-  settle_good : (n : ℕ) (t : Turn B) → TurnGood t → TurnGood (settle n t)
+  settle_good : (n : ℕ) (t : Plan B) → PlanGood t → PlanGood (settle n t)
   settle_good n t ok =
       apply_good n (run_from (suc (length t.node.applied)) t.node.learner.learned) t ok
       (run_good t.node.learner.learned (suc (length t.node.applied)) ok.node.learned)
@@ -466,13 +466,13 @@ module _ {B : Type 0} (G : Entry B → Type 0) where
   EventGood (Restart n) = Unit {0}
 
   pub outcome_good : (same : B → B → Bool) (members : ℕ) → G Noop → (e : Event B) (x : NodeState B) → NodeGood x → EventGood e
-      → Each (made_by same e x) → TurnGood (outcome_of same members e x)
+      → Each (made_by same e x) → PlanGood (outcome_of same members e x)
   outcome_good same members noop e x ok eg g = go e eg g
     where
-      start : TurnGood (begun x)
+      start : PlanGood (begun x)
       start = record { node = ok; out = λ p h. absurd (has_nil h) }
 
-      go : (f : Event B) → EventGood f → Each (made_by same f x) → TurnGood (outcome_of same members f x)
+      go : (f : Event B) → EventGood f → Each (made_by same f x) → PlanGood (outcome_of same members f x)
       go (Take n t body) eg g = settle_good n _ (take_good same members n t body (begun x) start g)
       go (Tick n) eg g = settle_good n _ (tick_good same members n (begun x) start)
       go (Start n) eg g = settle_good n _ (start_good same members n (begun x) start)

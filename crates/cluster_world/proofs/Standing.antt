@@ -21,8 +21,8 @@ use Rattle.paxos_proposer.specs.Proposer.{slot_end, next_vote, new_ballot, is_le
 use Rattle.paxos_proposer.specs.Reports.{is_counted, reports, called_for}
 use Rattle.paxos_node.specs.declared.event.Event.{Event}
 use Rattle.paxos_node.specs.declared.event.Event.TheVariants.{Take, Tick, Start, Suspect, Deliver, Crash, Restart}
-use Rattle.paxos_planning.specs.Node.{NodeState, Turn}
-use Rattle.paxos_planning.specs.Turn.{with_role, with_pending, begun, send, promise, cast}
+use Rattle.paxos_planning.specs.Node.{NodeState, Plan}
+use Rattle.paxos_planning.specs.Plan.{with_role, with_pending, begun, send, promise, cast}
 use Rattle.paxos_planning.specs.Proposals.{offer, propose_as, propose, propose_all, lead, stands, propose_new, propose_each, forwarded, push}
 use Rattle.paxos_planning.specs.Replies.{saw, refuse, count_promise, on_promise_as, on_packet}
 use Rattle.paxos_node.specs.Events.{takes, with_item, on_take, has_room, suspected, new_lost}
@@ -30,49 +30,49 @@ use Rattle.paxos_planning.specs.Ticking.{again, on_tick}
 use Rattle.paxos_planning.specs.Starting.{begin, starts, on_start}
 use Rattle.paxos_node.specs.Events.{outcome_of, possible}
 
-abbrev pub Same : {B : Type 0} → Turn B → Turn B → Type 0
+abbrev pub Same : {B : Type 0} → Plan B → Plan B → Type 0
 Same t u = Stays t.node.taken t u
 
-pub same_here : {B : Type 0} (t : Turn B) → Same t t
+pub same_here : {B : Type 0} (t : Plan B) → Same t t
 same_here t = record { boot = refl; up = refl; log = refl; news = refl; acts = refl }
 
 module _ {B : Type 0} (same : B → B → Bool) (members n : ℕ) where
-  proposes_as : (r : Role B) (e : Entry B) (t : Turn B) → Same t (propose_as same members n r e t)
+  proposes_as : (r : Role B) (e : Entry B) (t : Plan B) → Same t (propose_as same members n r e t)
   proposes_as Idle e t = same_here t
   proposes_as (Preparing b floor cs) e t = same_here t
   proposes_as (Leading b next table) e t =
       cond_both (nat_lt next slot_end) (cast same members n (next_vote b next e) (offer members n b next table e t)) t (λ u. Same t u)
       (λ l. record { boot = refl; up = refl; log = refl; news = refl; acts = refl }) (λ l. same_here t)
 
-  proposes : (e : Entry B) (t : Turn B) → Same t (propose same members n e t)
+  proposes : (e : Entry B) (t : Plan B) → Same t (propose same members n e t)
   proposes e t = proposes_as t.node.proposer.role e t
 
-  proposes_all : (es : List (Entry B)) (t : Turn B) → Same t (propose_all same members n es t)
+  proposes_all : (es : List (Entry B)) (t : Plan B) → Same t (propose_all same members n es t)
   proposes_all [] t = same_here t
   proposes_all (e ∷ es) t = stays_on (proposes e t) (proposes_all es (propose same members n e t))
 
-  proposes_new : (e : Entry B) (t : Turn B) → Same t (propose_new same members n e t)
+  proposes_new : (e : Entry B) (t : Plan B) → Same t (propose_new same members n e t)
   proposes_new e t =
       cond_both (stands same (length t.node.applied) t.node.proposer.role e) t (propose same members n e t) (λ u. Same t u)
       (λ d. same_here t) (λ d. proposes e t)
 
-  proposes_each : (es : List (Entry B)) (t : Turn B) → Same t (propose_each same members n es t)
+  proposes_each : (es : List (Entry B)) (t : Plan B) → Same t (propose_each same members n es t)
   proposes_each [] t = same_here t
   proposes_each (e ∷ es) t = stays_on (proposes_new e t) (proposes_each es (propose_new same members n e t))
 
-  pub pushes : (t : Turn B) → Same t (push same members n t)
+  pub pushes : (t : Plan B) → Same t (push same members n t)
   pushes t =
       cond_both (is_leading t.node.proposer.role) (propose_each same members n t.node.pending t)
       (send (forwarded n t.node.rows.promised t.node.pending) t) (λ u. Same t u)
       (λ d. proposes_each t.node.pending t)
       (λ d. record { boot = refl; up = refl; log = refl; news = refl; acts = refl })
 
-  leads : (b : Ballot) (floor : ℕ) (vs : List (Vote B)) (t : Turn B) → Same t (lead same members n b floor vs t)
+  leads : (b : Ballot) (floor : ℕ) (vs : List (Vote B)) (t : Plan B) → Same t (lead same members n b floor vs t)
   leads b floor vs t =
       let s = proposes_all (called_for floor vs) (record t { node = with_role (Leading b floor []) t.node }) in
       record { boot = s.boot; up = s.up; log = s.log; news = s.news; acts = s.acts }
 
-  promises_as : (from : ℕ) (b : Ballot) (votes : List (Vote B)) (r : Role B) (t : Turn B)
+  promises_as : (from : ℕ) (b : Ballot) (votes : List (Vote B)) (r : Role B) (t : Plan B)
       → Same t (on_promise_as same members n from b votes r t)
   promises_as from b votes Idle t = same_here t
   promises_as from b votes (Leading c next table) t = same_here t
@@ -87,7 +87,7 @@ module _ {B : Type 0} (same : B → B → Bool) (members n : ℕ) where
       more : List (CountedPromise B)
       more = cs ++ record { node = from; votes = votes } ∷ []
 
-  hears_packet : (from : ℕ) (kind : Kind B) (t : Turn B) → Same t (on_packet same members n from kind t)
+  hears_packet : (from : ℕ) (kind : Kind B) (t : Plan B) → Same t (on_packet same members n from kind t)
   hears_packet from (Prepare b floor) t =
       cond_both (may_promise t.node.rows.promised b)
       (send (packet n (Promise b (votes_from floor t.node.rows.votes)) from ∷ []) (promise b t)) (refuse n from b t) (λ u. Same t u)
@@ -106,23 +106,23 @@ module _ {B : Type 0} (same : B → B → Bool) (members n : ℕ) where
   hears_packet from (Ask slot) t = record { boot = refl; up = refl; log = refl; news = refl; acts = refl }
   hears_packet from (Learned slot e) t = record { boot = refl; up = refl; log = refl; news = refl; acts = refl }
 
-  pub delivers : (from : ℕ) (kind : Kind B) (t : Turn B) → Same t (on_packet same members n from kind (record t { node = saw kind t.node }))
+  pub delivers : (from : ℕ) (kind : Kind B) (t : Plan B) → Same t (on_packet same members n from kind (record t { node = saw kind t.node }))
   delivers from kind t =
       let s = hears_packet from kind (record t { node = saw kind t.node }) in
       record { boot = s.boot; up = s.up; log = s.log; news = s.news; acts = s.acts }
 
-  pub begins : (t : Turn B) → Same t (on_start members n t)
+  pub begins : (t : Plan B) → Same t (on_start members n t)
   begins t =
       cond_both (starts n t.node) (begin members n (new_ballot n t.node.rows.promised t.node.proposer) (suc (length t.node.applied)) t) t
       (λ u. Same t u)
       (λ e. record { boot = refl; up = refl; log = refl; news = refl; acts = refl }) (λ e. same_here t)
 
-  pub ticks : (t : Turn B) → Same t (on_tick same members n t)
+  pub ticks : (t : Plan B) → Same t (on_tick same members n t)
   ticks t =
       let s = pushes (send (again members n t.node.proposer.role t.node.learner.learned) t) in
       record { boot = s.boot; up = s.up; log = s.log; news = s.news; acts = s.acts }
 
-  pub suspects : (lost : Option (Entry B)) (t : Turn B) → Same t (suspected same members n lost t)
+  pub suspects : (lost : Option (Entry B)) (t : Plan B) → Same t (suspected same members n lost t)
   suspects None t = same_here t
   suspects (Some lost) t =
       cond_both (has_room t.node) (push same members n (record t { node = with_pending (t.node.pending ++ lost ∷ []) t.node })) t
@@ -131,11 +131,11 @@ module _ {B : Type 0} (same : B → B → Bool) (members n : ℕ) where
       { boot = s.boot; up = s.up; log = s.log; news = s.news; acts = s.acts })
       (λ e. same_here t)
 
-  pub takes_act : (transport : ℕ) (body : B) (t : Turn B)
+  pub takes_act : (transport : ℕ) (body : B) (t : Plan B)
       → Stays (if takes t.node then suc t.node.taken else t.node.taken) t (on_take same members n transport body t)
   takes_act transport body t = go (takes t.node) refl
     where
-      u : Turn B
+      u : Plan B
       u = record t { node = with_item n transport body t.node }
 
       go : (b : Bool) → takes t.node ≡ b → Stays (if b then suc t.node.taken else t.node.taken) t (if b then push same members n u else t)

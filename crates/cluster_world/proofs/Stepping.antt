@@ -7,7 +7,7 @@ use Rattle.paxos_packets.specs.Packet.{packet_equality, same_packet}
 use Rattle.cluster_world.specs.Has.{Has, here, there}
 use Rattle.paxos_packets.specs.Body.{IsEquality}
 use Rattle.paxos_packets.specs.declared.packet.Packet.{Packet}
-use Rattle.paxos_planning.specs.Node.{Turn}
+use Rattle.paxos_planning.specs.Node.{Plan}
 use Rattle.paxos_planning.specs.Node.{NodeState}
 use Rattle.paxos_node.specs.Events.{owner, possible, outcome_of}
 use Rattle.cluster_world.specs.World.{node_at, first_world, is_among, was_sent, done}
@@ -47,7 +47,7 @@ module _ {B : Type 0} (same : B → B → Bool) where
       x : NodeState B
       x = node_at w.nodes (owner e)
 
-      o : Turn B
+      o : Plan B
       o = outcome_of same members e (node_at w.nodes (owner e))
 
   pub event_stays : EventStays B same

@@ -16,7 +16,7 @@ use Rattle.paxos_packets.specs.declared.entry.Entry.TheVariants.{Noop, Boot, Los
 use Rattle.replica_machine.specs.Roll.{standing, live_in}
 use Rattle.paxos_node.specs.declared.event.Event.{Event}
 use Rattle.paxos_node.specs.declared.event.Event.TheVariants.{Take, Tick, Start, Suspect, Deliver, Crash, Restart}
-use Rattle.paxos_planning.specs.Node.{NodeState, Turn}
+use Rattle.paxos_planning.specs.Node.{NodeState, Plan}
 use Rattle.paxos_node.specs.Applying.{started, first_rows}
 use Rattle.paxos_node.specs.Events.{takes, new_item, has_room, is_pending, new_lost_of, new_lost, owner, possible, outcome_of, suspected_by, made_by}
 use Rattle.cluster_world.specs.World.{World, absent, node_at, put_node, founded, first_boots, first_world, was_sent, done, next, play, played, log_of}
@@ -30,7 +30,7 @@ module _ {B : Type 0} (same : B → B → Bool) (members : ℕ) where
   abbrev pub at' : World B → Event B → NodeState B
   at' w e = node_at w.nodes (owner e)
 
-  abbrev pub goes : World B → Event B → Turn B
+  abbrev pub goes : World B → Event B → Plan B
   goes w e = outcome_of same members e (at' w e)
 
   -- what an event makes of a world: nothing, or what its node does
@@ -365,7 +365,7 @@ module _ {B : Type 0} (same : B → B → Bool) (members : ℕ) where
       x : NodeState B
       x = at' w e
 
-      o : Turn B
+      o : Plan B
       o = goes w e
 
       more : List (Entry B)

@@ -51,7 +51,7 @@ abbrev Tells : Type 0 → Type 0
 Tells Y = List (Transport × List Y)
 
 module _ {Y : Type 0} where
-  -- in order, told by what stands there
+  -- in order, by what is there
   abbrev Ascend : Tells Y → Type 0
   Ascend [] = ⊤
   Ascend (p ∷ ps) = ((q : Transport × List Y) → Has ps q → IsBefore p.0 q.0) × Ascend ps
@@ -81,7 +81,7 @@ module _ {Y : Type 0} where
   told_of t p ps true e = ap (λ c. option_map_or (λ ys. ys) (cond c (Some p.1) (lookup (same_transport t) ps)) []) e
   told_of t p ps false e = ap (λ c. option_map_or (λ ys. ys) (cond c (Some p.1) (lookup (same_transport t) ps)) []) e
 
-  -- what stands there is what is told
+  -- what is there is what is listed
   has_told : (l : Tells Y) → Ascend l → (t : Transport) (ys : List Y) → Has l (t, ys) → told_in t l ≡ ys
   has_told [] h t ys s = absurd (has_nil s)
   has_told (p ∷ ps) h t ys s = go (has_told ps h.1 t ys) (same_transport t p.0) refl
@@ -112,7 +112,7 @@ module _ {Y : Type 0} where
           let told = told_of t p ps false e in
           there (subst (λ ys. Has ps (t, ys)) (sym told) (rest (λ z. n (told ∙ z))))
 
-  -- two lists in order in which the same stands are one
+  -- two lists in order with the same elements are one
   one_list : (a b : Tells Y) → Ascend a → Ascend b → ((p : Transport × List Y) → Has a p → Has b p)
       → ((p : Transport × List Y) → Has b p → Has a p) → a ≡ b
   one_list [] [] h k go back = refl

@@ -15,8 +15,8 @@ use Rattle.paxos_packets.specs.declared.entry.Entry.{Entry}
 use Rattle.paxos_packets.specs.declared.entry.Entry.TheVariants.{Noop, Lost}
 use Rattle.paxos_node.specs.declared.event.Event.{Event}
 use Rattle.paxos_node.specs.declared.event.Event.TheVariants.{Suspect}
-use Rattle.paxos_planning.specs.Node.{NodeState, Turn}
-use Rattle.paxos_planning.specs.Turn.{with_pending, begun}
+use Rattle.paxos_planning.specs.Node.{NodeState, Plan}
+use Rattle.paxos_planning.specs.Plan.{with_pending, begun}
 use Rattle.paxos_node.specs.Applying.{settle}
 use Rattle.paxos_planning.specs.Proposals.{push}
 use Rattle.paxos_node.specs.Events.{has_room, new_lost, new_lost_of, suspected, suspected_by, owner, outcome_of, made_by}
@@ -44,16 +44,16 @@ module _ {B : Type 0} (same : B → B → Bool) where
       never e = cc
 
   module _ (equal : IsEquality same) (members : ℕ) (many : 2 ≤ members) where
-    -- behind the suspicion it is pending
+    -- after the suspicion it is pending
     pends : (w : World B) (by n : ℕ) (l : Entry B) → WorldOk members w → AtRest (node_at w.nodes by)
         → new_lost same by n (node_at w.nodes by) ≡ Some l → has_room (node_at w.nodes by) ≡ true
         → Has (outcome_of same members (Suspect by n) (node_at w.nodes by)).node.pending l
-    pends w by n l ok rest is room = subst (λ (z : Turn B). Has z.node.pending l) (sym goes) there
+    pends w by n l ok rest is room = subst (λ (z : Plan B). Has z.node.pending l) (sym goes) there
       where
         x : NodeState B
         x = node_at w.nodes by
 
-        u : Turn B
+        u : Plan B
         u = record (begun x) { node = with_pending (x.pending ++ l ∷ []) x }
 
         a : Agrees u (push_at_once same members by u) (push same members by u)

@@ -1,4 +1,4 @@
--- One node's turn: the others stand.
+-- One node's event: the others stay.
 use Rattle.std.proofs.Common.{◌≡◌, ℕ, eqb, refl, sym, ap, ◌∙◌, subst, List, ◌++◌}
 use Rattle.std.proofs.lemmas.Bool.{eq-eqb, ne_eqb, cond-true, cond-false}
 use Rattle.std.specs.Prelude.{if◌then◌else◌}
@@ -43,7 +43,7 @@ pub mine_ok : {B : Type 0} (members : ℕ) (at : ℕ → NodeState B) (n : ℕ) 
     → Inv members (with_node at n x) sent → NodeOk members (promises (with_node at n x)) sent n x
 mine_ok members at n x sent inv = subst (λ y. NodeOk members (promises (with_node at n x)) sent n y) (with_node_mine at n x) (inv.nodes n)
 
-pub turn_moved : {B : Type 0} (members : ℕ) (at : ℕ → NodeState B) (n : ℕ) (x y : NodeState B) (sent new : List (Packet B))
+pub plan_moved : {B : Type 0} (members : ℕ) (at : ℕ → NodeState B) (n : ℕ) (x y : NodeState B) (sent new : List (Packet B))
     → Inv members (with_node at n x) sent
     → ((b : Ballot) → Reaches x.rows.promised b → Reaches y.rows.promised b)
     → ((k : ℕ) (v : Vote B) → Sent new k (Accepted v) → (k ≡ n) × (Over x.rows.promised v.ballot → ⊥))
@@ -52,7 +52,7 @@ pub turn_moved : {B : Type 0} (members : ℕ) (at : ℕ → NodeState B) (n : �
     → (Grows (promises (with_node at n x)) (promises (with_node at n y)) sent (sent ++ new)
     → NodeOk members (promises (with_node at n y)) (sent ++ new) n y)
     → Kept members at n x sent y (sent ++ new)
-turn_moved {B} members at n x y sent new inv up votes fresh mine =
+plan_moved {B} members at n x y sent new inv up votes fresh mine =
     record {
       inv =
           moved members (with_node at n x) (with_node at n y) sent new n (with_node_same at n x y) inv g (fresh g)

@@ -13,10 +13,10 @@ use Rattle.paxos_packets.specs.declared.packet.Packet.{Packet}
 use Rattle.paxos_packets.specs.declared.transport.Transport.{Transport}
 use Rattle.paxos_node.specs.declared.event.Event.{Event}
 use Rattle.paxos_node.specs.Events.{owner, possible, outcome_of, made_by}
-use Rattle.paxos_planning.specs.Node.{NodeState, Turn}
+use Rattle.paxos_planning.specs.Node.{NodeState, Plan}
 use Rattle.replica_machine.specs.Replay.{Machine, sayings_behind}
 use Rattle.replica_follower.specs.Following.{Followed, AgreesWith, handed_to}
-use Rattle.world_nodes.specs.Seated.{IsAtRest}
+use Rattle.world_nodes.specs.Nodes.{IsAtRest}
 use Rattle.cluster_world.specs.Has.{Has, here}
 use Rattle.cluster_world.specs.Answers.{log_after}
 use Rattle.cluster_world.specs.Laws.{IsPrefixOf, applied_behind}
@@ -73,7 +73,7 @@ module _ {B M S Y : Type 0} (same : B → B → Bool) (content : M → S) (m : M
   abbrev pub x_of : World B → NodeState B
   x_of v = node_at v.nodes (owner e)
 
-  abbrev pub o_of : World B → Turn B
+  abbrev pub o_of : World B → Plan B
   o_of v = outcome_of same members e (x_of v)
 
   abbrev pub new_of : World B → Applied B

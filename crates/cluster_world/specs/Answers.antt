@@ -19,7 +19,7 @@ HandedIsSaid B same S Y =
     IsPresent t (node_at (played same members events).nodes t.node) →
     handed m t (played same members events) ≡ said m t (log_of (played same members events) t.node)
 
--- the log with which an event leaves a node: with what it applied in the event, a Lost of its own boot too
+-- the log with which an event leaves a node: with what it applied in the event, a Lost of its own boot included
 abbrev pub log_after : {B : Type 0} → (B → B → Bool) → ℕ → Event B → NodeState B → List (Entry B)
 log_after same members e x = x.applied ++ (outcome_of same members e x).applied
 

@@ -63,7 +63,7 @@ duel =
     Packet_no 13 ∷ Packet_no 7
     ∷ Flush (nodes (1 ∷ 2 ∷ 3 ∷ [])) ∷ []
 
--- what is to be found behind each, as written down beforehand
+-- the expected result of each, as written down beforehand
 
 abbrev pub session_log : List (Entry ℕ)
 session_log = Boot 1 1 ∷ Boot 2 1 ∷ Item 2 1 1 1 10 ∷ Item 2 1 2 1 11 ∷ []

@@ -42,7 +42,7 @@ module _ {B M Y : Type 0} where
   abbrev pub AnswersAreSaid : {S : Type 0} → Machine B S Y → Held B M Y → Type 0
   AnswersAreSaid m w = (t : Transport) → IsPresent t (node_at w.nodes t.node) → handed_in w t ≡ said m t (log_in w t.node)
 
-  -- machines: one that is not given up has the content that the log leads to where it stands, of which its node's log is a front
+  -- machines: one that is not given up has the content that the log which it followed leads to, of which its node's log is a prefix
   pub record MachinesFollow {S : Type 0} (content : M → S) (m : Machine B S Y) (w : Held B M Y) : Type 0 where
     pub contents : (i : ℕ) (f : Followed B M Y) → slice_get w.machines i ≡ Some f → f.given_up ≡ false → content f.machine ≡ state m f.log
     pub fronts : (i : ℕ) (f : Followed B M Y) → slice_get w.machines i ≡ Some f → IsPrefixOf (log_in w (suc i)) f.log
@@ -63,7 +63,7 @@ module _ {B M Y : Type 0} where
     pub suspected : (node n b : ℕ) → Has (log_in w node) (Lost n b) → Suspected same w.members events n b
     pub pending : (node n b : ℕ) → Has (log_in w node) (Lost n b) → WasPending same w.members events n b
 
-  -- no disagreement: no event that is possible tells a node another entry of a slot that it has learned
+  -- no disagreement: no event that is possible brings a node another entry of a slot that it has learned
   abbrev pub NoneDisagrees : (B → B → Bool) → Held B M Y → Type 0
   NoneDisagrees same w =
       (e : Event B) → was_sent same e w.sent ≡ true → possible e (node_at w.nodes (owner e)) ≡ true

@@ -29,7 +29,7 @@ ChosenIsOne B same =
     (members : ℕ) → 3 ≤ members → (events : List (Event B)) (slot : ℕ) (d e : Entry B) →
     Chosen members (played same members events).sent slot d → Chosen members (played same members events).sent slot e → d ≡ e
 
--- what a packet tells to be learned is chosen
+-- what a packet reports as learned is chosen
 abbrev pub ToldIsChosen : (B : Type 0) → (B → B → Bool) → Type 0
 ToldIsChosen B same =
     (members : ℕ) → 3 ≤ members → (events : List (Event B)) (node slot : ℕ) (e : Entry B) →
@@ -41,7 +41,7 @@ LearnedIsOne B same =
     (members : ℕ) → 3 ≤ members → (early later : List (Event B)) (j k : ℕ) (f g : LearnedEntry B) →
     HasLearned (played same members early) j f → HasLearned (played same members (early ++ later)) k g → f.slot ≡ g.slot → f.entry ≡ g.entry
 
--- no event tells a node another entry of a slot that it has learned
+-- no event brings a node another entry of a slot that it has learned
 abbrev pub NeverDisagrees : (B : Type 0) → (B → B → Bool) → Type 0
 NeverDisagrees B same =
     (members : ℕ) → 3 ≤ members → (events : List (Event B)) (e : Event B) →
@@ -66,7 +66,7 @@ LogsArePrefixes B same =
     IsPrefixOf (log_of (played same members early) j) (log_of (played same members (early ++ later)) k)
     ⊎ IsPrefixOf (log_of (played same members (early ++ later)) k) (log_of (played same members early) j)
 
--- what a node had applied once an event was over: its log before it with what it applied in it, a Lost of its own boot too
+-- what a node had applied once an event was over: its log before it with what it applied in it, a Lost of its own boot included
 abbrev pub applied_behind : {B : Type 0} → Applied B → List (Entry B)
 applied_behind a = a.log ++ a.entries
 
@@ -84,7 +84,7 @@ AppliedArePrefixes B same =
     Has (played same members early).applied a → Has (played same members (early ++ later)).applied b →
     IsPrefixOf (applied_behind a) (applied_behind b) ⊎ IsPrefixOf (applied_behind b) (applied_behind a)
 
--- the log with which an event leaves its node is such a list, where it goes down with it, too
+-- the log with which an event leaves its node is such a list, also if it goes down with it
 abbrev pub LogAfterIsApplied : (B : Type 0) → (B → B → Bool) → Type 0
 LogAfterIsApplied B same =
     (members : ℕ) (events : List (Event B)) (e : Event B) → may same (played same members events) e ≡ true →

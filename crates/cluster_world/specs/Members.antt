@@ -24,7 +24,7 @@ nodes_of list = map (λ s. s.node) list
 abbrev pub machines_of : {B M Y : Type 0} → List (MemberState B M Y) → List (Followed B M Y)
 machines_of list = map (λ s. s.machine) list
 
--- the member with number i + 1 stands at place i
+-- the member with number i + 1 is at index i
 pub record AreMembers {B M Y : Type 0} (members : ℕ) (list : List (MemberState B M Y)) : Type 0 where
   pub count : length list ≡ members
   pub each : (i : ℕ) (s : MemberState B M Y) → slice_get list i ≡ Some s → (s.me ≡ suc i) × (s.members ≡ members) × (s.machine.node ≡ suc i)
@@ -32,24 +32,25 @@ pub record AreMembers {B M Y : Type 0} (members : ℕ) (list : List (MemberState
 abbrev pub held_of : {B M Y : Type 0} → ℕ → List (MemberState B M Y) → List (Packet B) → List (Entry B) → Held B M Y
 held_of members list sent made = record { members = members; nodes = nodes_of list; sent = sent; made = made; machines = machines_of list }
 
--- the log of a machine goes on with what its node applied behind its own
+-- the log of a machine goes on with what its node applied after its own
 abbrev pub gone_on : {B : Type 0} → List (Entry B) → List (Entry B) → List (Entry B) → List (Entry B)
 gone_on stood log entries = stood ++ drop (length stood - length log) entries
 
--- the machine goes on where its node, in this boot, applies these entries behind the log: what was said to a transport of that boot is handed out
+-- the machine goes on as its node, in this boot, applies these entries after the log: what was said to a transport of that boot is handed
+-- out
 pub record FollowsOn {B M S Y : Type 0} (content : M → S) (m : Machine B S Y) (boot : ℕ) (log entries : List (Entry B)) (old new : Followed B M Y)
     : Type 0 where
   pub handed : (t : Transport) → said_in t new.told ≡ said_in t old.told ++ handed_to m t old.node boot log entries
   pub follows : Follows content m new
   pub keeps : Keeps m boot (length log + length entries) new
 
--- nothing is handed out, and it stands where it stood
+-- nothing is handed out, and it has followed what it had
 pub record StaysBehind {B M S Y : Type 0} (content : M → S) (m : Machine B S Y) (boot : ℕ) (log : List (Entry B)) (old new : Followed B M Y) : Type 0 where
   pub handed : (t : Transport) → said_in t new.told ≡ said_in t old.told
   pub follows : Follows content m new
   pub keeps : Keeps m boot (length log) new
 
--- what stood before the node's event, at which it was up
+-- what was so before the node's event, at which it was up
 abbrev pub FollowedSo : {B M S Y : Type 0} → (M → S) → Machine B S Y → NodeState B → Followed B M Y → Type 0
 FollowedSo content m x f = Follows content m f × Keeps m x.rows.boot (length x.applied) f
 
@@ -81,13 +82,13 @@ pub record Unmoved {B M Y : Type 0} (old new : MemberState B M Y) (sent later : 
   pub made_is : more ≡ made
   pub log : new.machine.log ≡ old.machine.log
 
--- a machine that is given up stays so, and where it stands
+-- a machine that is given up stays so, with the log that it followed
 abbrev pub GivenUpStay : {B M Y : Type 0} → List (Followed B M Y) → List (Followed B M Y) → Type 0
 GivenUpStay {B} {M} {Y} old new =
     (i : ℕ) (f : Followed B M Y) → slice_get old i ≡ Some f → f.given_up ≡ true
     → (g : Followed B M Y) × (slice_get new i ≡ Some g) × (g.given_up ≡ true) × (g.log ≡ f.log)
 
--- the node of a member, or of what is none
+-- the node of a member, or of a number that is no member's
 abbrev pub node_or_absent : {B M Y : Type 0} → Option (MemberState B M Y) → NodeState B
 node_or_absent None = absent
 node_or_absent (Some s) = s.node

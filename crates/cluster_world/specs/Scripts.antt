@@ -26,7 +26,7 @@ first_stage members = record { world = first_world members; events = []; deliver
 abbrev pub happen : {B : Type 0} → (B → B → Bool) → ℕ → Event B → Stage B → Stage B
 happen same members e s = record { world = next same members s.world e; events = s.events ++ e ∷ []; delivered = s.delivered }
 
--- the packet reaches its addressee; so it counts as delivered, also where that is down
+-- the packet reaches its addressee; so it counts as delivered, also if that is down
 abbrev pub deliver : {B : Type 0} → (B → B → Bool) → ℕ → ℕ → Packet B → Stage B → Stage B
 deliver same members number p s =
     record { world = next same members s.world (Deliver p); events = s.events ++ Deliver p ∷ []; delivered = number ∷ s.delivered }
@@ -56,7 +56,7 @@ abbrev pub deliver_first : {B : Type 0} → (B → B → Bool) → ℕ → Optio
 deliver_first same members None s go = s
 deliver_first same members (Some e) s go = go (deliver same members e.0 e.1 s)
 
--- the first packet that is due, then the first that is due then, until none is, or so many were delivered
+-- the first packet that is due, then the first that is due then, until none is, or this many were delivered
 abbrev pub flush : {B : Type 0} → (B → B → Bool) → ℕ → List Bool → ℕ → Stage B → Stage B
 flush same members among zero s = s
 flush same members among (suc more) s =
@@ -73,7 +73,7 @@ take_line same members s (Happens e) = happen same members e s
 take_line same members s (Packet_no number) = deliver_no same members number (slice_get s.world.sent (number - 1)) s
 take_line same members s (Flush among) = flush same members among most_deliveries s
 
--- the stage behind these lines
+-- the stage after these lines
 abbrev pub stage_behind : {B : Type 0} → (B → B → Bool) → ℕ → List (Line B) → Stage B → Stage B
 stage_behind same members lines s = fold (take_line same members) s lines
 

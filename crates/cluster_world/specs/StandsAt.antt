@@ -13,7 +13,7 @@ use Rattle.cluster_world.specs.Laws.{IsPrefixOf, applied_behind}
 use Rattle.cluster_world.specs.World.{Applied, World, node_at, played, handed}
 
 -- its members; its nodes from number 1 on; every packet ever sent, oldest first; every act, boot and suspicion; and the machines of the nodes,
--- each with the log where it stands and with what it was made to hand out
+-- each with the log that it followed and with what it was made to hand out
 pub record Held (B M Y : Type 0) : Type 0 where
   pub members : ℕ
   pub nodes : List (NodeState B)
@@ -40,14 +40,14 @@ handing_boot x = if x.up then x.rows.boot else suc x.rows.boot
 abbrev pub handing_from : {B : Type 0} → NodeState B → ℕ
 handing_from x = if x.up then length x.applied else 0
 
--- the machine attends the node: the node's log is a front of the one where it stands; unless it is given up, it has the content to which that
--- leads; and what was said too early is kept for what the node's present boot has not passed, and for later boots
+-- the machine attends the node: the node's log is a prefix of the one that the machine followed; unless it is given up, it has the content
+-- to which that leads; and what was said too early is deferred for what the node's present boot has not passed, and for later boots
 pub record Attends {B M S Y : Type 0} (content : M → S) (m : Machine B S Y) (x : NodeState B) (f : Followed B M Y) : Type 0 where
   pub front : IsPrefixOf x.applied f.log
   pub follows : Follows content m f
   pub keeps : Keeps m (handing_boot x) (handing_from x) f
 
--- the log is one that this node had applied once an event was over, a Lost of its own boot too; or it applied nothing yet
+-- the log is one that this node had applied once an event was over, a Lost of its own boot included; or it applied nothing yet
 abbrev pub WasHad : {B : Type 0} → World B → ℕ → List (Entry B) → Type 0
 WasHad {B} w node log = (log ≡ []) ⊎ ((a : Applied B) × Has w.applied a × (a.node ≡ node) × (applied_behind a ≡ log))
 
@@ -56,7 +56,7 @@ abbrev pub HandsToOwn : {B M Y : Type 0} → ℕ → Followed B M Y → Type 0
 HandsToOwn node f = (t : Transport) → (t.node ≡ node → ⊥) → said_in t f.told ≡ []
 
 -- it is this world: nodes, packets, what was made, and what the machine `m` hands to each transport; and each node's machine attends the node,
--- and stands at a log that its node had
+-- and followed a log that its node had
 pub record StandsIn {B M S Y : Type 0} (content : M → S) (m : Machine B S Y) (w : Held B M Y) (v : World B) : Type 0 where
   pub nodes : w.nodes ≡ v.nodes
   pub sent : w.sent ≡ v.sent

@@ -34,6 +34,6 @@ pub record Goes {B : Type 0} (same : B → B → Bool) (members : ℕ) (w v : Wo
 abbrev pub EventGoes : (B : Type 0) → (B → B → Bool) → Type 0
 EventGoes B same = (members : ℕ) (w : World B) (e : Event B) → may same w e ≡ true → Goes same members w (next same members w e) e
 
--- and where it isn't possible, nothing changes
+-- and if it isn't possible, nothing changes
 abbrev pub EventStays : (B : Type 0) → (B → B → Bool) → Type 0
 EventStays B same = (members : ℕ) (w : World B) (e : Event B) → may same w e ≡ false → next same members w e ≡ w

@@ -11,12 +11,12 @@ use Rattle.replica_machine.specs.Replay.{Machine, sayings_behind}
 use Rattle.paxos_packets.specs.Transport.{same_transport}
 use Rattle.paxos_node.specs.declared.event.Event.{Event}
 use Rattle.paxos_node.specs.declared.event.Event.TheVariants.{Take, Tick, Start, Suspect, Deliver, Crash, Restart}
-use Rattle.paxos_planning.specs.Node.{NodeState, Turn}
+use Rattle.paxos_planning.specs.Node.{NodeState, Plan}
 use Rattle.paxos_node.specs.Applying.{down, started, first_rows}
 use Rattle.paxos_packets.specs.Rows.{last_boot}
 use Rattle.paxos_node.specs.Events.{owner, possible, outcome_of, made_by}
 
--- the entries that a node applied in one event: in which boot, behind which log
+-- the entries that a node applied in one event: in which boot, after which log
 pub record Applied (B : Type 0) : Type 0 where
   pub node : ℕ
   pub boot : ℕ
@@ -56,7 +56,7 @@ first_boots (suc n) = first_boots n ++ Boot (suc n) 1 ∷ []
 abbrev pub first_world : {B : Type 0} → ℕ → World B
 first_world members = record { nodes = founded members; sent = []; made = first_boots members; applied = [] }
 
--- a packet is delivered only where an equal one was sent; no other event reads what was sent
+-- a packet is delivered only if an equal one was sent; no other event reads what was sent
 
 abbrev pub is_among : {B : Type 0} → (B → B → Bool) → Packet B → List (Packet B) → Bool
 is_among same p sent = list_any (λ q. same_packet same q p) sent
@@ -71,7 +71,7 @@ was_sent same (Crash n) sent = true
 was_sent same (Restart n) sent = true
 
 -- one node changes, and packets are sent
-abbrev pub done : {B : Type 0} → (B → B → Bool) → World B → Event B → NodeState B → Turn B → World B
+abbrev pub done : {B : Type 0} → (B → B → Bool) → World B → Event B → NodeState B → Plan B → World B
 done same w e x o =
     record {
       nodes = put_node w.nodes (owner e) o.node;
@@ -80,7 +80,7 @@ done same w e x o =
       applied = w.applied ++ record { node = owner e; boot = x.rows.boot; log = x.applied; entries = o.applied } ∷ [];
     }
 
--- what an event makes of the world; where it isn't possible, nothing
+-- what an event makes of the world; nothing, if it isn't possible
 abbrev pub next : {B : Type 0} → (B → B → Bool) → ℕ → World B → Event B → World B
 next same members w e =
     if was_sent same e w.sent && possible e (node_at w.nodes (owner e))

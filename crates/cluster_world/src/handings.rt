@@ -10,11 +10,11 @@ use replica_follower::Tellings;
 use replica_machine::Machine;
 use std::marker::Model;
 
-/// The transports that were told something, by node, boot and number, each with what it was handed, oldest first. Contracts see what is left of
-/// them.
+/// The transports that were handed something, by node, boot and number, each with what it was handed, oldest first. Contracts see what is
+/// left of them.
 #[derive(Drop)]
 pub struct Handings<'a, M: Machine> {
-    // What is left of one member, and the members behind it.
+    // What is left of one member, and the members after it.
     here: Tellings<'a, M::Say>,
     left: &'a [Member<M>],
 }
@@ -30,7 +30,7 @@ impl<'a, M: Machine> Model for Handings<'a, M> {
 }
 
 impl<'a, M: Machine> Handings<'a, M> {
-    // All that these members tell.
+    // Returns what these members handed to their transports.
     pub(crate) fn of(members: &'a [Member<M>]) -> Handings<'a, M>
         requires { 0 < length members.now }
         ensures are { result ≡ tell_members members.now }
@@ -52,13 +52,13 @@ impl<'a, M: Machine> Iterator for Handings<'a, M> {
 
     ghost remaining = { item_count (λ left. left) };
 
-    /// The next one, `None` behind the last. Takes no memory.
+    /// Returns the next one, or `None` after the last. Does not allocate.
     fn next(&mut self) -> Option<(Transport, &'a [M::Say])> {
         next_in(&mut self.here, &mut self.left)
     }
 }
 
-// The next one that was handed something: of this member, or of those behind it.
+// Returns the next one that was handed something: by this member, or by those after it.
 fn next_in<'a, M: Machine>(
     here: &mut Tellings<'a, M::Say>,
     left: &mut &'a [Member<M>],
@@ -77,7 +77,7 @@ fn next_in<'a, M: Machine>(
     here.next()
 }
 
-// Each of these tells of all that was handed something. Takes no memory, and a step a member.
+// Each of these members yields all that it handed out. Does not allocate, and takes a step for each member.
 pub(crate) fn all_tell<M: Machine>(members: &[Member<M>])
     ensures { (i : ℕ) (s : MemberState M.Body M M.Say) → slice_get members.now i ≡ Some s → TellAll s.machine.told (tellings s.machine.told) }
 {

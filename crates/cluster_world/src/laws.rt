@@ -17,8 +17,8 @@ ghost use Rattle.cluster_world.specs.Laws.{LogIsChosen, LogsArePrefixes, Applied
 
 use paxos_packets::Body;
 
-/// How a world goes on: an event that is possible makes of its node what the node's own part of the event does, and appends its
-/// packets; another changes nothing. Only what was sent is delivered, and whatever was sent may be.
+/// How a world goes on: an event that is possible makes of its node what the node's own part of the event does, and appends its packets;
+/// any other changes nothing. Only what was sent is delivered, and whatever was sent may be.
 pub fn steps<B: Body>()
     ensures sent { SentIsAmong B B.same }
     ensures nodes { NodesAreMembers B B.same }
@@ -27,8 +27,8 @@ pub fn steps<B: Body>()
     ensures stays { EventStays B B.same }
 {}
 
-/// Agreement: what a node has learned in a slot is chosen there, two chosen entries of one slot are equal, and a packet that
-/// tells a learned entry tells a chosen one. So no two nodes, nor one at two moments, learn different entries in one slot.
+/// Agreement: what a node has learned in a slot is chosen there, two chosen entries of one slot are equal, and a packet that reports a
+/// learned entry reports a chosen one. So no two nodes, nor one at two moments, learn different entries in one slot.
 pub fn agreement<B: Body>()
     ensures learned { LearnedIsChosen B B.same }
     ensures one { ChosenIsOne B B.same }
@@ -42,8 +42,9 @@ pub fn log_agreement<B: Body>()
     ensures prefixes { LogsArePrefixes B B.same }
 {}
 
-/// What is applied is chosen: whatever a node ever applied, in whatever boot, a Lost of that boot too, is chosen in its slot, and of two such
-/// lists, at any two moments, one is a prefix of the other. Each event leaves its node with such a list, and each log is one or empty.
+/// What is applied is chosen: whatever a node ever applied, in whatever boot, a Lost of that boot included, is chosen in its slot, and of
+/// two such lists, at any two moments, one is a prefix of the other. Each event leaves its node with such a list, and each log is one or
+/// empty.
 pub fn applied_is_chosen<B: Body>()
     ensures chosen { AppliedIsChosen B B.same }
     ensures prefixes { AppliedArePrefixes B B.same }
@@ -51,13 +52,13 @@ pub fn applied_is_chosen<B: Body>()
     ensures logs { LogIsApplied B B.same }
 {}
 
-/// No disagreement: no event tells a node another entry of a slot that it has learned.
+/// No disagreement: no event brings a node another entry of a slot that it has learned.
 pub fn no_disagreement<B: Body>()
     ensures { NeverDisagrees B B.same }
 {}
 
-/// Answers, for every machine: while a node is up, each transport of its present boot was handed what the machine says to it
-/// along the node's log. Once an event takes the node down that stays as it is then, with the slot of a Lost of its own boot.
+/// Answers, for every machine: while a node is up, each transport of its present boot was handed what the machine says to it along the
+/// node's log. Once an event takes the node down, that stays as it is then, with the slot of a Lost of its own boot.
 pub fn answers<B: Body, S, Y>()
     ensures said { HandedIsSaid B B.same S Y }
     ensures stays { HandedStays B B.same S Y }
@@ -68,9 +69,9 @@ pub fn handed_once<B: Body, S, Y>()
     ensures { HandedIsOne B S Y }
 {}
 
-/// Applying at an event's end is applying at once: in every world an event makes of its node what it would make of one that applies each entry
-/// as soon as it learned it. For a vote of its own for a new proposal teaches a node nothing, since nobody else can have voted for that slot
-/// in that ballot before.
+/// Applying at an event's end equals applying at once: in every world an event makes of its node what it would make of one that applies
+/// each entry as soon as it learned it. For a vote of its own for a new proposal teaches a node nothing, since no other can have voted for
+/// that slot in that ballot before.
 pub fn applies_as_at_once<B: Body>()
     ensures { AppliesAsAtOnce B B.same }
 {}
@@ -86,18 +87,18 @@ pub fn at_most_once<B: Body>()
     ensures pending { LostsWerePending B B.same }
 {}
 
-/// A script, line by line, leads to the world of its events, where each flush is written out as its deliveries.
+/// A script, line by line, leads to the world of its events, with each flush written out as its deliveries.
 pub fn scripts<B: Body>()
     ensures { ScriptsArePlayed B B.same }
 {}
 
-/// Runs by hand, computed: for each the logs of all nodes, and who is up.
+/// Runs by hand, computed: for each the logs of all nodes, and which are up.
 pub fn examples()
     // one session through three nodes
     ensures session { logs (run 3 one_session) 3 ≡ session_log ∷ session_log ∷ session_log ∷ [] }
     ensures session_handed { sums_handed 2 1 1 (run 3 one_session) ≡ 10 ∷ 21 ∷ [] }
 
-    // a leader crashes after one other has voted; another one leads, and proposes what it hears of
+    // a leader crashes after one other has voted; another one leads, and proposes what is reported to it
     ensures crash { logs (run 3 leader_crash) 3 ≡ [] ∷ after_crash_log ∷ after_crash_log ∷ [] }
     ensures crash_up { ups (run 3 leader_crash) 3 ≡ false ∷ true ∷ true ∷ [] }
     ensures crash_packets { (run 3 leader_crash).sent ≡ crash_packets }

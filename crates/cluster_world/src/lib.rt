@@ -1,5 +1,5 @@
-//! All nodes of a cluster and all packets that they ever sent, and the laws that hold over every list of events (Lamport, Paxos
-//! Made Simple, 2001, section 2; docs/CONSENSUS.md).
+//! All nodes of a cluster and all packets that they ever sent, and the laws that hold over every list of events (Lamport, Paxos Made
+//! Simple, 2001, section 2; docs/CONSENSUS.md, "The world" and "What holds over every list of events").
 #![tactic(auto)]
 
 mod fault;

@@ -1,4 +1,4 @@
-//! One member of a world: its node in its seat, and the machine that attends the node.
+//! One member of a world: its node, and the machine that attends the node.
 
 ghost use Rattle.std.specs.Prelude.{◌≡◌, suc, ◌≤◌, ◌<◌, ◌+◌, ◌-◌, ◌^◌, ◌++◌, [], ◌∷◌, List, take, drop, length, true, false, IfOk, OnOk, OnErr, vec_len, vec_capacity, option_copied};
 ghost use Rattle.paxos_packets.specs.declared.entry.Entry as log_entries;
@@ -13,7 +13,7 @@ ghost use Rattle.paxos_planning.specs.Drafting.{listed};
 ghost use Rattle.replica_machine.specs.Log.{machine_from};
 ghost use Rattle.replica_follower.specs.Following.{handed_to, Follows, Keeps, AgreesWith};
 ghost use Rattle.replica_follower.specs.Handed.{said_in, tellings, TellAll};
-ghost use Rattle.world_nodes.specs.Seated.{node_of, HasRoomIn, IsAtRest};
+ghost use Rattle.world_nodes.specs.Nodes.{node_of, HasRoomIn, IsAtRest};
 ghost use Rattle.cluster_world.specs.Members.{gone_on, FollowsOn, StaysBehind, FollowedSo, Moves, Unmoved, Happens, Rests};
 ghost use Rattle.cluster_world.specs.StandsAt.{Attends};
 ghost use Rattle.cluster_world.specs.Answers.{log_after};
@@ -25,7 +25,7 @@ use replica_follower::{Follower, Tellings};
 use replica_machine::Machine;
 use std::alloc::Global;
 use std::marker::Model;
-use world_nodes::Seat;
+use world_nodes::WorldNode;
 use world_packets::SentPackets;
 
 // The greatest boot.
@@ -34,7 +34,7 @@ const LAST_BOOT: u64 = (1 << 48) - 1;
 /// A member of the cluster: its node, and the machine that attends the node.
 pub struct Member<M: Machine> {
     me: u8,
-    seat: Seat<M::Body>,
+    node: WorldNode<M::Body>,
     follower: Follower<M>,
 }
 
@@ -42,7 +42,7 @@ impl<M: Machine> Drop for Member<M> {
     fn drop(self) {
         let Member {
             me: _,
-            seat: _seat,
+            node: _node,
             follower: _follower,
         } = self;
     }
@@ -50,18 +50,18 @@ impl<M: Machine> Drop for Member<M> {
 
 impl<M: Machine> Model for Member<M> {
     ghost use Rattle.std.specs.Prelude.{◌≡◌};
-    ghost use Rattle.world_nodes.specs.Seated.{node_of};
+    ghost use Rattle.world_nodes.specs.Nodes.{node_of};
     ghost use Rattle.cluster_world.specs.Members.{MemberState};
 
     ghost Value = { MemberState M.Body M M.Say };
 
-    ghost view = { λ m. record { me = m.me; members = m.seat.members; node = node_of m.seat; machine = m.follower } };
+    ghost view = { λ m. record { me = m.me; members = m.node.members; node = node_of m.node; machine = m.follower } };
 
-    ghost invariant = { λ m. (m.seat.me ≡ m.me) × (m.follower.node ≡ m.me) };
+    ghost invariant = { λ m. (m.node.me ≡ m.me) × (m.follower.node ≡ m.me) };
 }
 
 impl<M: Machine> Member<M> {
-    /// The member with this number, whose node starts for the first time, and its machine.
+    /// Returns the member with this number, whose node starts for the first time, and its machine.
     pub fn first(alloc: Global, me: u8, members: Members, machine: M) -> Result<Member<M>, Memory>
         ensures me { IfOk result (λ member. member.me ≡ me) }
         ensures members { IfOk result (λ member. member.members ≡ members) }
@@ -73,37 +73,37 @@ impl<M: Machine> Member<M> {
         ensures attends { (first : M.Content) → M.content machine ≡ first → IfOk result (λ member.
             Attends M.content (machine_from M.next M.says M.to first) member.node member.machine) }
     {
-        let seat = Seat::first(alloc, me, members)?;
+        let node = WorldNode::first(alloc, me, members)?;
         Ok(Member {
             me,
-            seat,
+            node,
             follower: Follower::new(alloc, me, machine),
         })
     }
 
-    /// Whether its node is up. Takes no memory.
+    /// Returns whether its node is up. Does not allocate.
     pub fn is_up(&self) -> bool
         ensures { result ≡ self.now.node.up }
     {
-        self.seat.is_up()
+        self.node.is_up()
     }
 
-    /// The log of its node. Takes no memory.
+    /// Returns its node's log. Does not allocate.
     pub fn log(&self) -> &[Entry<M::Body>]
         requires { IsPrefixOf self.now.node.applied self.now.machine.log }
         ensures { result.now ≡ self.now.node.applied }
     {
-        &self.follower.log()[..self.seat.applied() as usize]
+        &self.follower.log()[..self.node.applied() as usize]
     }
 
-    /// What the transport of its node was handed. Takes no memory.
+    /// Returns what the transport of its node was handed. Does not allocate.
     pub fn said(&self, transport: Transport) -> &[M::Say]
         ensures { result.now ≡ said_in transport self.now.machine.told }
     {
         self.follower.said(transport)
     }
 
-    /// The transports of its node that were handed something. Takes no memory.
+    /// Returns the transports of its node that were handed something. Does not allocate.
     pub fn handed(&self) -> Tellings<'_, M::Say>
         ensures are { result ≡ tellings self.now.machine.told }
         ensures all { TellAll self.now.machine.told result }
@@ -111,33 +111,33 @@ impl<M: Machine> Member<M> {
         self.follower.handed()
     }
 
-    /// Whether the event is possible at its node. Takes no memory.
+    /// Returns whether the event is possible at its node. Does not allocate.
     #[tactic(auto, unfolding(paxos_packets::specs::Rows::last_boot))]
     pub fn may(&self, event: &Event<M::Body>) -> bool
         ensures { result ≡ possible event.now self.now.node }
     {
         match event {
-            Event::Take { transport, .. } => self.seat.is_up() && 0 < *transport,
-            Event::Tick { .. } => self.seat.is_up(),
-            Event::Start { .. } => self.seat.is_up(),
-            Event::Suspect { .. } => self.seat.is_up(),
-            Event::Deliver { .. } => self.seat.is_up(),
-            Event::Crash { .. } => self.seat.is_up(),
-            Event::Restart { .. } => !self.seat.is_up() && self.seat.boot() < LAST_BOOT,
+            Event::Take { transport, .. } => self.node.is_up() && 0 < *transport,
+            Event::Tick { .. } => self.node.is_up(),
+            Event::Start { .. } => self.node.is_up(),
+            Event::Suspect { .. } => self.node.is_up(),
+            Event::Deliver { .. } => self.node.is_up(),
+            Event::Crash { .. } => self.node.is_up(),
+            Event::Restart { .. } => !self.node.is_up() && self.node.boot() < LAST_BOOT,
         }
     }
 
-    // Its node goes down.
+    // Takes its node down.
     fn crash(&mut self)
         ensures me { self.new.me ≡ self.old.me }
         ensures members { self.new.members ≡ self.old.members }
         ensures node { self.new.node ≡ down self.old.node.rows }
         ensures machine { self.new.machine ≡ self.old.machine }
     {
-        self.seat.crash();
+        self.node.crash();
     }
 
-    // Its node, which is down, starts in the next boot.
+    // Starts its node, which is down, in the next boot.
     fn restart(&mut self, made: &mut Vec<Entry<M::Body>>) -> Result<(), Memory>
         requires down { self.old.node.up ≡ false }
         requires boots { self.old.node.rows.boot < last_boot }
@@ -152,18 +152,18 @@ impl<M: Machine> Member<M> {
         let Ok(()) = made.reserve(1) else {
             return Err(Memory);
         };
-        self.seat.restart()?;
+        self.node.restart()?;
         made.push_reserved(Entry::Boot {
             node: self.me,
-            boot: self.seat.boot(),
+            boot: self.node.boot(),
         });
         Ok(())
     }
 }
 
 impl<M: Machine> Member<M> {
-    // Its node, which is up, does its part of the event, and its machine goes on with it.
-    fn take_turn(
+    // Does the event at its node, which is up, and lets its machine go on with it.
+    fn do_event(
         &mut self,
         sent: &mut SentPackets<M::Body>,
         made: &mut Vec<Entry<M::Body>>,
@@ -188,10 +188,10 @@ impl<M: Machine> Member<M> {
         ensures rests { (first : M.Content) → Attends M.content (machine_from M.next M.says M.to first) self.old.node self.old.machine →
             OnErr result (Rests M.content (machine_from M.next M.says M.to first) self.old self.new) }
     {
-        turn(&mut self.seat, &mut self.follower, sent, made, event)
+        do_event_at(&mut self.node, &mut self.follower, sent, made, event)
     }
 
-    /// The event happens, which is this member's and possible: whole or not at all.
+    /// Does the event, which is this member's and possible: whole or not at all.
     pub fn happen(
         &mut self,
         sent: &mut SentPackets<M::Body>,
@@ -222,16 +222,16 @@ impl<M: Machine> Member<M> {
                 Ok(())
             }
             Event::Restart { .. } => self.restart(made),
-            Event::Take { .. } => self.take_turn(sent, made, event),
-            Event::Tick { .. } => self.take_turn(sent, made, event),
-            Event::Start { .. } => self.take_turn(sent, made, event),
-            Event::Suspect { .. } => self.take_turn(sent, made, event),
-            Event::Deliver { .. } => self.take_turn(sent, made, event),
+            Event::Take { .. } => self.do_event(sent, made, event),
+            Event::Tick { .. } => self.do_event(sent, made, event),
+            Event::Start { .. } => self.do_event(sent, made, event),
+            Event::Suspect { .. } => self.do_event(sent, made, event),
+            Event::Deliver { .. } => self.do_event(sent, made, event),
         }
     }
 }
 
-// The entry copied, if there is one.
+// Copies the entry, if any.
 fn copy_of<B: Body>(source: Option<&Entry<B>>, alloc: Global) -> Result<Option<Entry<B>>, Memory>
     ensures { IfOk result (λ copy. copy ≡ option_copied source.entry) }
 {
@@ -241,25 +241,25 @@ fn copy_of<B: Body>(source: Option<&Entry<B>>, alloc: Global) -> Result<Option<E
     }
 }
 
-// Takes all memory that adopting the outcome needs, and copies the entry that it makes.
+// Reserves all memory that adopting the outcome needs, and copies the entry that it makes.
 fn prepare<B: Body>(
-    seat: &mut Seat<B>,
+    node: &mut WorldNode<B>,
     sent: &mut SentPackets<B>,
     made: &mut Vec<Entry<B>>,
     outcome: &Outcome<B>,
 ) -> Result<Option<Entry<B>>, Memory>
-    requires up { (node_of seat.old).up ≡ true }
-    ensures room { OnOk result (HasRoomIn outcome.now seat.new.place) }
+    requires up { (node_of node.old).up ≡ true }
+    ensures room { OnOk result (HasRoomIn outcome.now node.new.status) }
     ensures sent_room { OnOk result (length outcome.now.packets ≤ sent.new.room) }
     ensures made_room { OnOk result (vec_len made.new + 1 ≤ vec_capacity made.new) }
     ensures added { IfOk result (λ added. added ≡ outcome.now.moves.added) }
-    ensures node { node_of seat.new ≡ node_of seat.old }
-    ensures me { seat.new.me ≡ seat.old.me }
-    ensures members { seat.new.members ≡ seat.old.members }
+    ensures node { node_of node.new ≡ node_of node.old }
+    ensures me { node.new.me ≡ node.old.me }
+    ensures members { node.new.members ≡ node.old.members }
     ensures packets { sent.new.packets ≡ sent.old.packets }
     ensures entries { made.new.items ≡ made.old.items }
 {
-    let Ok(()) = seat.make_room(outcome) else {
+    let Ok(()) = node.make_room(outcome) else {
         return Err(Memory);
     };
     let Ok(()) = sent.make_room(outcome.packets.as_slice().len()) else {
@@ -271,7 +271,7 @@ fn prepare<B: Body>(
     copy_of(outcome.added(), *made.allocator())
 }
 
-// The entry stands at the end, if there is one.
+// Appends the entry, if any.
 fn put<B: Drop>(made: &mut Vec<Entry<B>>, entry: Option<Entry<B>>)
     requires { vec_len made.old + 1 ≤ vec_capacity made.old }
     ensures { made.new.items ≡ made.old.items ++ listed entry }
@@ -281,31 +281,31 @@ fn put<B: Drop>(made: &mut Vec<Entry<B>>, entry: Option<Entry<B>>)
     }
 }
 
-// The node becomes what was planned, its packets are sent, and what it makes is made. Takes no memory.
+// Adopts what was planned at the node, sends its packets, and notes what it makes. Does not allocate.
 fn commit<B: Body>(
-    seat: &mut Seat<B>,
+    node: &mut WorldNode<B>,
     sent: &mut SentPackets<B>,
     made: &mut Vec<Entry<B>>,
     outcome: Outcome<B>,
     added: Option<Entry<B>>,
 )
-    requires room { HasRoomIn outcome seat.old.place }
-    requires fits { Fits seat.old.me seat.old.members outcome (node_of seat.old) }
+    requires room { HasRoomIn outcome node.old.status }
+    requires fits { Fits node.old.me node.old.members outcome (node_of node.old) }
     requires sent_room { length outcome.packets ≤ sent.old.room }
     requires made_room { vec_len made.old + 1 ≤ vec_capacity made.old }
-    ensures node { node_of seat.new ≡ adopted seat.old.me seat.old.members outcome (node_of seat.old) }
-    ensures me { seat.new.me ≡ seat.old.me }
-    ensures members { seat.new.members ≡ seat.old.members }
+    ensures node { node_of node.new ≡ adopted node.old.me node.old.members outcome (node_of node.old) }
+    ensures me { node.new.me ≡ node.old.me }
+    ensures members { node.new.members ≡ node.old.members }
     ensures packets { sent.new.packets ≡ sent.old.packets ++ outcome.packets }
     ensures entries { made.new.items ≡ made.old.items ++ listed added }
 {
-    let (packets, applied) = seat.adopt_in_room(outcome);
+    let (packets, applied) = node.adopt_in_room(outcome);
     drop(applied);
     sent.push_all_in_room(packets.into_vec());
     put(made, added);
 }
 
-// The machine goes on with its node, which applies these entries behind its log in this boot: whole or not at all.
+// Lets the machine go on with its node, which applies these entries after the first `from` of its log in this boot: whole or not at all.
 fn attend<M: Machine>(
     follower: &mut Follower<M>,
     boot: u64,
@@ -330,86 +330,86 @@ fn attend<M: Machine>(
     follower.follow(boot, from, entries)
 }
 
-// The node, which is up, becomes what was planned, and its machine goes on with it: whole or not at all.
+// Adopts what was planned at the node, which is up, and lets its machine go on with it: whole or not at all.
 fn carry_out<M: Machine>(
-    seat: &mut Seat<M::Body>,
+    node: &mut WorldNode<M::Body>,
     follower: &mut Follower<M>,
     sent: &mut SentPackets<M::Body>,
     made: &mut Vec<Entry<M::Body>>,
     outcome: Outcome<M::Body>,
 ) -> Result<(), Memory>
-    requires up { (node_of seat.old).up ≡ true }
-    requires fits { Fits seat.old.me seat.old.members outcome (node_of seat.old) }
-    requires front { (node_of seat.old).applied ≡ take (length (node_of seat.old).applied) follower.old.log }
-    requires within { length (node_of seat.old).applied ≤ length follower.old.log }
-    requires logs { AgreesWith ((node_of seat.old).applied ++ outcome.applied) follower.old.log }
-    ensures me { seat.new.me ≡ seat.old.me }
-    ensures members { seat.new.members ≡ seat.old.members }
+    requires up { (node_of node.old).up ≡ true }
+    requires fits { Fits node.old.me node.old.members outcome (node_of node.old) }
+    requires front { (node_of node.old).applied ≡ take (length (node_of node.old).applied) follower.old.log }
+    requires within { length (node_of node.old).applied ≤ length follower.old.log }
+    requires logs { AgreesWith ((node_of node.old).applied ++ outcome.applied) follower.old.log }
+    ensures me { node.new.me ≡ node.old.me }
+    ensures members { node.new.members ≡ node.old.members }
     ensures machine { follower.new.node ≡ follower.old.node }
-    ensures node { OnOk result (node_of seat.new ≡ adopted seat.old.me seat.old.members outcome (node_of seat.old)) }
+    ensures node { OnOk result (node_of node.new ≡ adopted node.old.me node.old.members outcome (node_of node.old)) }
     ensures packets { OnOk result (sent.new.packets ≡ sent.old.packets ++ outcome.packets) }
     ensures made { OnOk result (made.new.items ≡ made.old.items ++ listed outcome.moves.added) }
-    ensures log { OnOk result (follower.new.log ≡ gone_on follower.old.log (node_of seat.old).applied outcome.applied) }
-    ensures err_node { OnErr result (node_of seat.new ≡ node_of seat.old) }
+    ensures log { OnOk result (follower.new.log ≡ gone_on follower.old.log (node_of node.old).applied outcome.applied) }
+    ensures err_node { OnErr result (node_of node.new ≡ node_of node.old) }
     ensures err_packets { OnErr result (sent.new.packets ≡ sent.old.packets) }
     ensures err_made { OnErr result (made.new.items ≡ made.old.items) }
     ensures err_log { OnErr result (follower.new.log ≡ follower.old.log) }
     ensures given_up { follower.old.given_up ≡ true → follower.new.given_up ≡ true }
     ensures refuses { follower.old.given_up ≡ true →
-        OnOk result (length (node_of seat.old).applied + length outcome.applied ≤ length follower.old.log) }
-    ensures ok { (first : M.Content) → FollowedSo M.content (machine_from M.next M.says M.to first) (node_of seat.old) follower.old →
-        OnOk result (FollowsOn M.content (machine_from M.next M.says M.to first) (node_of seat.old).rows.boot (node_of seat.old).applied outcome.applied
+        OnOk result (length (node_of node.old).applied + length outcome.applied ≤ length follower.old.log) }
+    ensures ok { (first : M.Content) → FollowedSo M.content (machine_from M.next M.says M.to first) (node_of node.old) follower.old →
+        OnOk result (FollowsOn M.content (machine_from M.next M.says M.to first) (node_of node.old).rows.boot (node_of node.old).applied outcome.applied
         follower.old follower.new) }
-    ensures err { (first : M.Content) → FollowedSo M.content (machine_from M.next M.says M.to first) (node_of seat.old) follower.old →
-        OnErr result (StaysBehind M.content (machine_from M.next M.says M.to first) (node_of seat.old).rows.boot (node_of seat.old).applied
+    ensures err { (first : M.Content) → FollowedSo M.content (machine_from M.next M.says M.to first) (node_of node.old) follower.old →
+        OnErr result (StaysBehind M.content (machine_from M.next M.says M.to first) (node_of node.old).rows.boot (node_of node.old).applied
         follower.old follower.new) }
 {
-    let added = prepare(seat, sent, made, &outcome)?;
-    let from = seat.applied() as usize;
-    attend(follower, seat.boot(), from, outcome.applied.as_slice())?;
-    commit(seat, sent, made, outcome, added);
+    let added = prepare(node, sent, made, &outcome)?;
+    let from = node.applied() as usize;
+    attend(follower, node.boot(), from, outcome.applied.as_slice())?;
+    commit(node, sent, made, outcome, added);
     Ok(())
 }
 
-// The node, which is up, does its part of the event, and its machine goes on with it: whole or not at all.
-fn turn<M: Machine>(
-    seat: &mut Seat<M::Body>,
+// Does the event at the node, which is up, and lets its machine go on with it: whole or not at all.
+fn do_event_at<M: Machine>(
+    node: &mut WorldNode<M::Body>,
     follower: &mut Follower<M>,
     sent: &mut SentPackets<M::Body>,
     made: &mut Vec<Entry<M::Body>>,
     event: &Event<M::Body>,
 ) -> Result<(), Memory>
-    requires plans { plans seat.old.me event.now (node_of seat.old) ≡ true }
-    requires rests { IsAtRest (node_of seat.old) }
-    requires agrees { (outcome_of M.Body.same seat.old.members event.now (node_of seat.old)).disagrees ≡ false }
-    requires front { (node_of seat.old).applied ≡ take (length (node_of seat.old).applied) follower.old.log }
-    requires within { length (node_of seat.old).applied ≤ length follower.old.log }
-    requires logs { AgreesWith (log_after M.Body.same seat.old.members event.now (node_of seat.old)) follower.old.log }
-    ensures me { seat.new.me ≡ seat.old.me }
-    ensures members { seat.new.members ≡ seat.old.members }
+    requires plans { plans node.old.me event.now (node_of node.old) ≡ true }
+    requires rests { IsAtRest (node_of node.old) }
+    requires agrees { (outcome_of M.Body.same node.old.members event.now (node_of node.old)).disagrees ≡ false }
+    requires front { (node_of node.old).applied ≡ take (length (node_of node.old).applied) follower.old.log }
+    requires within { length (node_of node.old).applied ≤ length follower.old.log }
+    requires logs { AgreesWith (log_after M.Body.same node.old.members event.now (node_of node.old)) follower.old.log }
+    ensures me { node.new.me ≡ node.old.me }
+    ensures members { node.new.members ≡ node.old.members }
     ensures machine { follower.new.node ≡ follower.old.node }
-    ensures node { OnOk result (node_of seat.new ≡ (outcome_of M.Body.same seat.old.members event.now (node_of seat.old)).node) }
+    ensures node { OnOk result (node_of node.new ≡ (outcome_of M.Body.same node.old.members event.now (node_of node.old)).node) }
     ensures packets { OnOk result
-        (sent.new.packets ≡ sent.old.packets ++ (outcome_of M.Body.same seat.old.members event.now (node_of seat.old)).packets) }
-    ensures made { OnOk result (made.new.items ≡ made.old.items ++ made_by M.Body.same event.now (node_of seat.old)) }
+        (sent.new.packets ≡ sent.old.packets ++ (outcome_of M.Body.same node.old.members event.now (node_of node.old)).packets) }
+    ensures made { OnOk result (made.new.items ≡ made.old.items ++ made_by M.Body.same event.now (node_of node.old)) }
     ensures log { OnOk result (follower.new.log
-        ≡ gone_on follower.old.log (node_of seat.old).applied (outcome_of M.Body.same seat.old.members event.now (node_of seat.old)).applied) }
-    ensures err_node { OnErr result (node_of seat.new ≡ node_of seat.old) }
+        ≡ gone_on follower.old.log (node_of node.old).applied (outcome_of M.Body.same node.old.members event.now (node_of node.old)).applied) }
+    ensures err_node { OnErr result (node_of node.new ≡ node_of node.old) }
     ensures err_packets { OnErr result (sent.new.packets ≡ sent.old.packets) }
     ensures err_made { OnErr result (made.new.items ≡ made.old.items) }
     ensures err_log { OnErr result (follower.new.log ≡ follower.old.log) }
     ensures given_up { follower.old.given_up ≡ true → follower.new.given_up ≡ true }
-    ensures refuses { follower.old.given_up ≡ true → OnOk result (length (node_of seat.old).applied
-        + length (outcome_of M.Body.same seat.old.members event.now (node_of seat.old)).applied ≤ length follower.old.log) }
-    ensures ok { (first : M.Content) → FollowedSo M.content (machine_from M.next M.says M.to first) (node_of seat.old) follower.old →
-        OnOk result (FollowsOn M.content (machine_from M.next M.says M.to first) (node_of seat.old).rows.boot (node_of seat.old).applied
-        (outcome_of M.Body.same seat.old.members event.now (node_of seat.old)).applied follower.old follower.new) }
-    ensures err { (first : M.Content) → FollowedSo M.content (machine_from M.next M.says M.to first) (node_of seat.old) follower.old →
-        OnErr result (StaysBehind M.content (machine_from M.next M.says M.to first) (node_of seat.old).rows.boot (node_of seat.old).applied
+    ensures refuses { follower.old.given_up ≡ true → OnOk result (length (node_of node.old).applied
+        + length (outcome_of M.Body.same node.old.members event.now (node_of node.old)).applied ≤ length follower.old.log) }
+    ensures ok { (first : M.Content) → FollowedSo M.content (machine_from M.next M.says M.to first) (node_of node.old) follower.old →
+        OnOk result (FollowsOn M.content (machine_from M.next M.says M.to first) (node_of node.old).rows.boot (node_of node.old).applied
+        (outcome_of M.Body.same node.old.members event.now (node_of node.old)).applied follower.old follower.new) }
+    ensures err { (first : M.Content) → FollowedSo M.content (machine_from M.next M.says M.to first) (node_of node.old) follower.old →
+        OnErr result (StaysBehind M.content (machine_from M.next M.says M.to first) (node_of node.old).rows.boot (node_of node.old).applied
         follower.old follower.new) }
 {
-    match seat.plan(event)? {
-        Some(outcome) => carry_out(seat, follower, sent, made, outcome),
+    match node.plan(event)? {
+        Some(outcome) => carry_out(node, follower, sent, made, outcome),
         None => Ok(()),
     }
 }

@@ -3,7 +3,7 @@ ghost use Rattle.paxos_node.specs.declared.event.Event as occurred;
 ghost use Rattle.paxos_node.specs.Events.{owner, possible, outcome_of};
 ghost use Rattle.replica_machine.specs.Log.{machine_from};
 ghost use Rattle.replica_follower.specs.Following.{AgreesWith};
-ghost use Rattle.world_nodes.specs.Seated.{IsAtRest};
+ghost use Rattle.world_nodes.specs.Nodes.{IsAtRest};
 ghost use Rattle.cluster_world.specs.Answers.{log_after};
 ghost use Rattle.cluster_world.specs.Laws.{IsPrefixOf};
 ghost use Rattle.cluster_world.specs.Members.{AreMembers, nodes_of, machines_of, held_of, GivenUpStay};
@@ -20,12 +20,12 @@ use replica_machine::Machine;
 use world_packets::SentPackets;
 
 impl<M: Machine> World<M> {
-    /// Lets the events happen, in order. `Memory` comes with the index of the event for which there was none; the events before it were run, and
-    /// it was not. What is not possible changes nothing: an event of a node that is down or no member, a transport with number 0, a packet unlike
-    /// all that were sent, a restart of a node that is up; nor does what a node refuses.
+    /// Lets the events happen, in order. `Memory` comes with the index of the event for which memory ran out; the events before it were
+    /// run, and it was not. An event that is not possible changes nothing: of a node that is down or not a member, for a transport with
+    /// number 0, of a packet unlike all that were sent, or a restart of a node that is up. Nor does an event that a node refuses.
     ///
-    /// A machine that fails, or goes on and then lacks memory for what it says, is given up: later runs answer `Memory` at each event in which its
-    /// node applies an entry behind the log where the machine stands, and all else goes on.
+    /// A machine that fails, or goes on and then lacks memory for what it says, is given up: later runs return `Memory` at each event in
+    /// which its node applies an entry after the log that the machine has followed, and all else goes on.
     ///
     /// An event takes time in what it reads, commits, sends and applies, at most times a logarithm.
     pub fn run(&mut self, events: &[Event<M::Body>]) -> Result<(), (usize, Memory)>
@@ -64,7 +64,7 @@ impl<M: Machine> World<M> {
         let _ = self.members.count();
     }
 
-    // The same, but for the laws.
+    // Runs the events, as `run` does, but for the laws.
     fn run_all(&mut self, events: &[Event<M::Body>]) -> Result<(), (usize, Memory)>
         ensures members { self.new.members ≡ self.old.members }
         ensures ok { (first : M.Content) (es : List (occurred.Event M.Body)) →
@@ -84,7 +84,7 @@ impl<M: Machine> World<M> {
         Ok(())
     }
 
-    // One event happens, whole or not at all.
+    // Lets one event happen, whole or not at all.
     fn step(&mut self, event: &Event<M::Body>) -> Result<(), paxos_packets::Memory>
         ensures members { self.new.members ≡ self.old.members }
         ensures ok { (first : M.Content) (es : List (occurred.Event M.Body)) →
@@ -106,7 +106,7 @@ impl<M: Machine> World<M> {
     }
 }
 
-// Whether the packet was sent that the event delivers, if it does.
+// Returns whether the packet was sent that the event delivers, if it delivers one.
 fn was_sent<B: Body>(event: &Event<B>, sent: &SentPackets<B>) -> bool
     ensures { result ≡ was_sent B.same event.now sent.now.packets }
 {
@@ -121,22 +121,7 @@ fn was_sent<B: Body>(event: &Event<B>, sent: &SentPackets<B>) -> bool
     }
 }
 
-// Whose event it is.
-fn owner<B>(event: &Event<B>) -> u8
-    ensures { result ≡ owner event.now }
-{
-    match event {
-        Event::Take { node, .. } => *node,
-        Event::Tick { node } => *node,
-        Event::Start { node } => *node,
-        Event::Suspect { node, .. } => *node,
-        Event::Deliver { packet } => packet.addressee,
-        Event::Crash { node } => *node,
-        Event::Restart { node } => *node,
-    }
-}
-
-// The event happens where it is possible: whole or not at all.
+// Lets the event happen if it is possible: whole or not at all.
 fn happen_in<M: Machine>(
     members: Members,
     list: &mut Vec<Member<M>>,
@@ -165,15 +150,15 @@ fn happen_in<M: Machine>(
     if !is_possible(list, event) {
         return Ok(());
     }
-    let place = (owner(event) - 1) as usize;
+    let place = (event.node() - 1) as usize;
     list[place].happen(sent, made, event)
 }
 
-// Whether the event is possible at its node; at what is no member none is.
+// Returns whether the event is possible at its node; none is at a node that is not a member.
 fn is_possible<M: Machine>(list: &[Member<M>], event: &Event<M::Body>) -> bool
     ensures { result ≡ possible event.now (node_at (nodes_of list.now) (owner event.now)) }
 {
-    let node = owner(event);
+    let node = event.node();
     if node == 0 {
         return false;
     }

@@ -54,8 +54,8 @@ impl<M: Machine> Model for World<M> {
 }
 
 impl<M: Machine> World<M> {
-    /// The first world of these members: all nodes are up in their first boot, and nothing was sent. Node 1 gets the first machine, and so on; no
-    /// machine has failed, and all have one content.
+    /// Returns the first world of these members: all nodes are up in their first boot, and nothing was sent. Node 1 gets the first machine,
+    /// and so on; no machine has failed, and all have one content.
     pub fn new(alloc: Global, members: Members, machines: Vec<M>) -> Result<World<M>, Memory>
         requires count { vec_len machines ≡ members }
         requires alive { All (λ m. M.has_failed m ≡ false) machines.items }
@@ -77,7 +77,7 @@ impl<M: Machine> World<M> {
         })
     }
 
-    /// The log of the node, slot 1 first; empty where it is down or no member. Takes no memory.
+    /// Returns the node's log, slot 1 first; empty if it is down or not a member. Does not allocate.
     pub fn log(&self, node: u8) -> &[Entry<M::Body>]
         ensures { (first : M.Content) (es : List (occurred.Event M.Body)) →
             StandsAt M.Body.same M.content (machine_from M.next M.says M.to first) self.now es →
@@ -89,7 +89,7 @@ impl<M: Machine> World<M> {
         }
     }
 
-    /// What the transport was handed, oldest first; empty where it was told nothing. Takes no memory.
+    /// Returns what the transport was handed, oldest first; empty if it was handed nothing. Does not allocate.
     pub fn said(&self, transport: Transport) -> &[M::Say]
         ensures { (first : M.Content) (es : List (occurred.Event M.Body)) →
             StandsAt M.Body.same M.content (machine_from M.next M.says M.to first) self.now es →
@@ -101,7 +101,8 @@ impl<M: Machine> World<M> {
         }
     }
 
-    /// The transports that were told something, by node, boot and number, each with what it was handed, oldest first. Takes no memory.
+    /// Returns the transports that were handed something, by node, boot and number, each with what it was handed, oldest first. Does not
+    /// allocate.
     pub fn handed(&self) -> Handings<'_, M>
         ensures { (first : M.Content) (es : List (occurred.Event M.Body)) →
             StandsAt M.Body.same M.content (machine_from M.next M.says M.to first) self.now es →
@@ -112,7 +113,7 @@ impl<M: Machine> World<M> {
         Handings::of(&self.list)
     }
 
-    /// Whether the node is up; what is no member is down. Takes no memory.
+    /// Returns whether the node is up; a node that is not a member is down. Does not allocate.
     pub fn is_up(&self, node: u8) -> bool
         ensures { (first : M.Content) (es : List (occurred.Event M.Body)) →
             StandsAt M.Body.same M.content (machine_from M.next M.says M.to first) self.now es →
@@ -124,7 +125,7 @@ impl<M: Machine> World<M> {
         }
     }
 
-    /// How many packets were ever sent. Takes no memory.
+    /// Returns how many packets were ever sent. Does not allocate.
     pub fn sent(&self) -> usize
         ensures { (first : M.Content) (es : List (occurred.Event M.Body)) →
             StandsAt M.Body.same M.content (machine_from M.next M.says M.to first) self.now es →
@@ -133,7 +134,7 @@ impl<M: Machine> World<M> {
         self.sent.as_slice().len()
     }
 
-    /// The packet with this number, from 1 on, in the order in which they were sent. Takes no memory.
+    /// Returns the packet with this number, from 1 on, in the order in which they were sent. Does not allocate.
     pub fn packet(&self, number: usize) -> Option<&Packet<M::Body>>
         ensures { (first : M.Content) (es : List (occurred.Event M.Body)) →
             StandsAt M.Body.same M.content (machine_from M.next M.says M.to first) self.now es →
@@ -145,7 +146,7 @@ impl<M: Machine> World<M> {
         self.sent.as_slice().get(number - 1)
     }
 
-    // The member with this number.
+    // Returns the member with this number.
     fn member(&self, node: u8) -> Option<&Member<M>>
         ensures node { node_at self.now.nodes node ≡ node_or_absent (option_copied result) }
         ensures machine { machine_at self.now.machines node ≡ machine_or_none (option_copied result) }
@@ -161,7 +162,7 @@ impl<M: Machine> World<M> {
     }
 }
 
-// The members with their machines, each of which starts for the first time.
+// Returns the members with their machines, each of which starts for the first time.
 fn found_all<M: Machine>(
     alloc: Global,
     members: Members,
@@ -190,7 +191,7 @@ fn found_all<M: Machine>(
     Ok(())
 }
 
-// One member more, which starts for the first time.
+// Appends one more member, which starts for the first time.
 fn found<M: Machine>(
     alloc: Global,
     members: Members,

@@ -21,7 +21,7 @@ behind (o ∷ front) rest all = behind front rest all.1
 pub left_of : (octets front rest : List ℕ) → octets ≡ front ++ rest → AreOctets octets → AreOctets rest
 left_of octets front rest is all = behind front rest (subst AreOctets is all)
 
--- a spelling that is there where a test holds
+-- a spelling that is there if a test holds
 pub where_spelled : (b : Bool) (o octets : List ℕ) → cond b (Some o) None ≡ Some octets → (b ≡ true) × (octets ≡ o)
 where_spelled true o octets h = (refl, cc)
 where_spelled false o octets h = cc

@@ -11,7 +11,7 @@ use Rattle.command_codec.specs.declared.number.Form.{Form}
 use Rattle.command_codec.specs.Coder.{AreOctets}
 use Rattle.command_codec.specs.Number.{Reading, cut, number_from, number_reading, number_octets, is_within}
 
--- a shift by so many octets
+-- a shift by n octets
 pub shift_is : (k : ℕ) → 2 ^ (8 * k) ≡ 256 ^ k
 shift_is zero = refl
 shift_is (suc k) =
@@ -79,7 +79,7 @@ goes_on so_far left after low high octet all rest is front h =
 pub same_ok : {A : Type 0} (x y : A) (p q : List ℕ) → ◌≡◌ {A = Reading A} (Ok (x, p)) (Ok (y, q)) → (x ≡ y) × (p ≡ q)
 same_ok {A} x y p q h = let e : ◌≡◌ {A = A × List ℕ} (x, p) (y, q) = cc in (ap (λ r. r.0) e, ap (λ r. r.1) e)
 
--- what the tests of a number's octet told
+-- what follows from the tests of a number's octet
 parts : (s t : Bool) (x : Reading ℕ) (n : ℕ) (rest : List ℕ) → cond (s || t) (Err Range) x ≡ Ok (n, rest)
     → (s ≡ false) × (t ≡ false) × (x ≡ Ok (n, rest))
 parts true t x n rest h = cc

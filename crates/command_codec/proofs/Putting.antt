@@ -1,4 +1,4 @@
--- Spellings put at the end of a list, one behind the other.
+-- Spellings put at the end of a list, one after the other.
 use Rattle.std.proofs.Common.{◌≡◌, ◌<◌, ◌%◌, arith, ℕ, Bool, true, false, cond, [], ◌∷◌, refl, ap, ◌∙◌, List, ◌++◌, length, take}
 use Rattle.std.proofs.Common.{Option, Some, None, Ok, Err}
 use Rattle.std.proofs.lemmas.Bool.{false≢true}
@@ -38,7 +38,7 @@ back : (u : Unit {0}) (front : Option (List ℕ)) (old mid late new : List ℕ)
     → Puts (Ok u) front old mid → late ≡ mid → new ≡ take (length old) late → new ≡ old
 back u front old mid late new first same cut = cut ∙ ap (λ l. take (length old) l) same ∙ front_stands u front old mid first
 
--- a fault behind, after which what was put in front is taken back
+-- a fault afterwards, for which what was put before is taken back
 pub behind_fails : (u : Unit {0}) (fault : CodecFault) (front behind : Option (List ℕ)) (old mid late new : List ℕ)
     → Puts (Ok u) front old mid → Puts (Err fault) behind mid late → new ≡ take (length old) late
     → Puts (Err fault) (joined front behind) old new
@@ -49,7 +49,7 @@ behind_fails u Short front behind old mid late new first put cut = put
 behind_fails u Tag front behind old mid late new first put cut = put
 behind_fails u Rest front behind old mid late new first put cut = put
 
--- a spelling that is there where a test holds
+-- a spelling that is there if a test holds
 pub put_where : (u : Unit {0}) (b : Bool) (o old new : List ℕ) → b ≡ true → new ≡ old ++ o → Puts (Ok u) (cond b (Some o) None) old new
 put_where u true o old new h put = put
 put_where u false o old new h put = absurd (false≢true h)

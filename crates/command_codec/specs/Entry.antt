@@ -7,7 +7,7 @@ use Rattle.command_codec.specs.declared.fault.CodecFault.TheVariants.{Short, Tag
 use Rattle.command_codec.specs.Coder.{and_then}
 use Rattle.command_codec.specs.Number.{Reading, number_octets, number_reading, is_within, node_form, boot_form, seq_form, transport_form}
 
--- a Boot or a Lost behind its tag
+-- a Boot or a Lost after its tag
 abbrev pub boot_octets : ℕ → ℕ → List ℕ
 boot_octets node boot = number_octets node_form node ++ number_octets boot_form boot
 
@@ -17,7 +17,7 @@ is_boot_spelled node boot = is_within node_form node && is_within boot_form boot
 abbrev pub boot_spelling : ℕ → ℕ → ℕ → Option (List ℕ)
 boot_spelling tag node boot = if is_boot_spelled node boot then Some (tag ∷ boot_octets node boot) else None
 
--- an Item's numbers behind its tag
+-- an Item's numbers after its tag
 abbrev pub item_octets : ℕ → ℕ → ℕ → ℕ → List ℕ
 item_octets node boot seq transport = boot_octets node boot ++ (number_octets seq_form seq ++ number_octets transport_form transport)
 
@@ -29,7 +29,7 @@ abbrev pub numbers_spelling : ℕ → ℕ → ℕ → ℕ → Option (List ℕ)
 numbers_spelling node boot seq transport =
     if is_item_spelled node boot seq transport then Some (3 ∷ item_octets node boot seq transport) else None
 
--- one behind the other
+-- one after the other
 abbrev pub joined : Option (List ℕ) → Option (List ℕ) → Option (List ℕ)
 joined None behind = None
 joined (Some front) None = None
@@ -38,7 +38,7 @@ joined (Some front) (Some behind) = Some (front ++ behind)
 abbrev pub item_spelling : ℕ → ℕ → ℕ → ℕ → Option (List ℕ) → Option (List ℕ)
 item_spelling node boot seq transport body = joined (numbers_spelling node boot seq transport) body
 
--- the one spelling of an entry, given those of bodies; none where a number is out of its range or the body has none
+-- the one spelling of an entry, given those of bodies; none if a number is out of its range or the body has none
 abbrev pub entry_spelling : {B : Type 0} → (B → Option (List ℕ)) → Entry B → Option (List ℕ)
 entry_spelling spelling Noop = Some (0 ∷ [])
 entry_spelling spelling (Boot node boot) = boot_spelling 1 node boot

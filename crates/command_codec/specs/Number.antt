@@ -6,7 +6,7 @@ use Rattle.command_codec.specs.declared.fault.CodecFault.{CodecFault}
 use Rattle.command_codec.specs.declared.fault.CodecFault.TheVariants.{Short, Range}
 use Rattle.command_codec.specs.declared.number.Form.{Form}
 
--- what is read at the head of octets, and the octets behind it, or the fault of the first wrong octet
+-- what is read at the head of octets, and the octets after it, or the fault of the first wrong octet
 abbrev pub Reading : Type 0 → Type 0
 Reading A = Result (A × List ℕ) CodecFault
 
@@ -14,7 +14,7 @@ Reading A = Result (A × List ℕ) CodecFault
 abbrev pub cut : ℕ → ℕ → ℕ
 cut n octets = n / 256 ^ octets
 
--- the number goes on, of which so much has come and so many octets are left: it is wrong at the first octet after which what has come
+-- the number goes on from what has come, with this many octets left: it is wrong at the first octet after which what has come
 -- is below `low` or above `high`, each cut to as many octets
 abbrev pub number_from : ℕ → ℕ → ℕ → ℕ → List ℕ → Reading ℕ
 number_from so_far zero low high octets = Ok (so_far, octets)

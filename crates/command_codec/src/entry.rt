@@ -10,9 +10,9 @@ use crate::number::{BOOT, NODE, SEQ, TRANSPORT, take_number};
 use paxos_packets::Entry;
 use std::alloc::Global;
 
-/// Puts the entry's spelling at the end, in time linear in its length.
+/// Appends the entry's spelling, in time linear in its length.
 ///
-/// `Range` says that it has none, since a number is out of its range or the body has none; `Memory` that there is no room. After a
+/// Returns `Range` if it has none, since a number is out of its range or the body has no spelling, and `Memory` if memory runs out. After a
 /// fault the octets are as they were.
 pub fn put_entry<B, C: Coder<B>>(entry: &Entry<B>, out: &mut Vec<u8>) -> Result<(), CodecFault>
     ensures { Puts result (entry_spelling C.spelling entry.now) out.old.items out.new.items }
@@ -38,21 +38,21 @@ fn put_noop(out: &mut Vec<u8>) -> Result<(), CodecFault>
     Ok(())
 }
 
-// Whether the numbers of a Boot or a Lost have a spelling.
+// Returns whether the numbers of a Boot or a Lost have a spelling.
 fn is_boot_spelled(node: u8, boot: u64) -> bool
     ensures { result ≡ is_boot_spelled node boot }
 {
     NODE.contains(u64::from(node)) && BOOT.contains(boot)
 }
 
-// Whether an Item's numbers have a spelling.
+// Returns whether an Item's numbers have a spelling.
 fn is_item_spelled(node: u8, boot: u64, seq: u64, transport: u32) -> bool
     ensures { result ≡ is_item_spelled node boot seq transport }
 {
     is_boot_spelled(node, boot) && SEQ.contains(seq) && TRANSPORT.contains(u64::from(transport))
 }
 
-// Puts a Boot or a Lost, by its tag.
+// Appends a Boot or a Lost, by its tag.
 fn put_boot(tag: u8, node: u8, boot: u64, out: &mut Vec<u8>) -> Result<(), CodecFault>
     ensures { Puts result (boot_spelling tag node boot) out.old.items out.new.items }
 {
@@ -87,7 +87,7 @@ fn put_item<B, C: Coder<B>>(
     }
 }
 
-// Puts an Item's tag and its numbers.
+// Appends an Item's tag and its numbers.
 fn put_numbers(
     node: u8,
     boot: u64,
@@ -109,7 +109,7 @@ fn put_numbers(
     Ok(())
 }
 
-// The entry at the head of the octets, and the octets behind it.
+// Returns the entry at the head of the octets, and the octets after it.
 fn take_front<B, C: Coder<B>>(alloc: Global, octets: &[u8]) -> Result<(Entry<B>, &[u8]), CodecFault>
     ensures taken { IfOk result (λ read. entry_front C.reading octets.now ≡ Ok (read.0, read.1.now)) }
     ensures fault { IfErr result (λ fault. fault ≢ CodecFault.Memory → entry_front C.reading octets.now ≡ Err fault) }
@@ -132,7 +132,7 @@ fn take_front<B, C: Coder<B>>(alloc: Global, octets: &[u8]) -> Result<(Entry<B>,
     }
 }
 
-// The node and the boot of a Boot, a Lost or an Item.
+// Reads the node and the boot of a Boot, a Lost or an Item.
 fn take_boot(octets: &[u8]) -> Result<(u8, u64, &[u8]), CodecFault>
     ensures { MatchResult result (λ read. boot_front octets.now ≡ Ok ((read.0, read.1), read.2.now))
         (λ fault. boot_front octets.now ≡ Err fault) }
@@ -142,7 +142,7 @@ fn take_boot(octets: &[u8]) -> Result<(u8, u64, &[u8]), CodecFault>
     Ok((node as u8, boot, rest))
 }
 
-// An Item behind its tag.
+// Reads an Item after its tag.
 fn take_item<B, C: Coder<B>>(alloc: Global, octets: &[u8]) -> Result<(Entry<B>, &[u8]), CodecFault>
     ensures taken { IfOk result (λ read. item_front C.reading octets.now ≡ Ok (read.0, read.1.now)) }
     ensures fault { IfErr result (λ fault. fault ≢ CodecFault.Memory → item_front C.reading octets.now ≡ Err fault) }
@@ -163,11 +163,11 @@ fn take_item<B, C: Coder<B>>(alloc: Global, octets: &[u8]) -> Result<(Entry<B>, 
     ))
 }
 
-/// The entry that these octets spell, in time linear in their length.
+/// Returns the entry that these octets spell, in time linear in their length.
 ///
-/// Else the fault of the first octet that is wrong: `Short` where one is missing, `Tag` for a tag that is none, `Range` for a number at
-/// the first octet after which it can be none of its range, `Rest` for octets behind the entry; or what the coder of bodies answers. Or
-/// `Memory`.
+/// Otherwise returns the fault of the first octet that is wrong: `Short` if one is missing, `Tag` for an unknown tag, `Range` for a number
+/// at the first octet after which it cannot be in its range, `Rest` for octets after the entry; or the fault that the coder of bodies
+/// returns; or `Memory`.
 pub fn take_entry<B: Drop, C: Coder<B>>(
     alloc: Global,
     octets: &[u8],

@@ -20,7 +20,7 @@ pub enum CodecFault {
 }
 
 impl CodecFault {
-    /// The number of the fault: 41 to 45, in the order of the variants.
+    /// Returns the fault's number: 41 to 45, in the order of the variants.
     pub fn number(self) -> u8
         ensures { result ≡ fault_number self }
     {

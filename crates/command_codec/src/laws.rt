@@ -5,8 +5,8 @@ ghost use Rattle.command_codec.specs.Laws.{AreApart};
 
 use crate::coder::Coder;
 
-/// No spelling of an entry is the beginning of another's: so what was written is read again, whatever follows, and what is read was
-/// written so. Takes no memory.
+/// No spelling of an entry is the beginning of another's: so what was written is read again, whatever follows, and what is read was written
+/// so. Does not allocate.
 pub fn spellings_are_apart<B, C: Coder<B>>()
     ensures apart { AreApart (entry_spelling C.spelling) }
     ensures read_again { IsReadAgain (entry_spelling C.spelling) (entry_front C.reading) }

@@ -3,7 +3,7 @@ ghost use Rattle.command_codec.specs.Number.{cut, number_from, number_reading, i
 
 use crate::fault::CodecFault;
 
-/// How a number is spelled: in so many octets, 1 to 8, the highest first, from `low` to `high`.
+/// How a number is spelled: in `width` octets, 1 to 8, the highest first, from `low` to `high`.
 #[derive(Clone, Copy, Debug, PartialEq, Eq)]
 pub struct Form {
     pub width: u32,
@@ -40,7 +40,7 @@ pub(crate) const TRANSPORT: Form = Form {
 };
 
 impl Form {
-    // Whether the number has a spelling.
+    // Returns whether the number has a spelling.
     pub(crate) fn contains(&self, number: u64) -> bool
         ensures { result ≡ is_within self.now number }
     {
@@ -48,8 +48,8 @@ impl Form {
     }
 }
 
-/// The number at the head of the octets, and the octets behind it: `Short` where an octet is missing, `Range` at the first octet after
-/// which it can be none of its range. Takes no memory.
+/// Returns the number at the head of the octets, and the octets after it: `Short` if an octet is missing, `Range` at the first octet after
+/// which it cannot be in its range. Does not allocate.
 #[tactic(auto, unfolding(crate::specs::Number::number_reading))]
 pub fn take_number(form: Form, octets: &[u8]) -> Result<(u64, &[u8]), CodecFault>
     requires least { 0 < form.width }
@@ -62,7 +62,7 @@ pub fn take_number(form: Form, octets: &[u8]) -> Result<(u64, &[u8]), CodecFault
     Ok((number, rest))
 }
 
-// The rest of a number, of which so much has come and so many octets are left.
+// Reads the rest of a number, of which `so_far` has come and `left` octets are missing.
 fn take_from(
     so_far: u64,
     left: u32,
@@ -91,7 +91,7 @@ fn take_from(
     take_from(come, after, low, high, rest)
 }
 
-// Whether what has come of a number is below or above its range, cut to as many octets.
+// Returns whether the leading octets of a number are below those of its range, or above them.
 fn is_beyond(come: u64, left: u32, low: u64, high: u64) -> bool
     requires { left < 8 }
     ensures { result ≡ (nat_lt come (cut low left) || nat_lt (cut high left) come) }

@@ -21,7 +21,7 @@ pub record State (B : Type 0) : Type 0 where
   pub rows : Rows B
   -- for how many more votes there is room
   pub room : ℕ
-  -- whether a change that was committed could not be taken over for want of memory
+  -- whether memory ran out while a change that was committed was taken over
   pub failed : Bool
 
 -- no promise, or b above it
@@ -64,7 +64,7 @@ prepared rows b first =
     if may_promise rows.promised b then record { change = promise_change b; answer = ToSender (Promise b (votes_from first rows.votes)) }
     else refused rows b
 
--- Accept: a vote, told to the others; else a Nack
+-- Accept: a vote, sent to the others; else a Nack
 abbrev pub voted : {B : Type 0} → Rows B → Vote B → Verdict B
 voted rows v =
     if may_accept rows.promised v.ballot then record { change = vote_change v; answer = ToOthers (Accepted v) }

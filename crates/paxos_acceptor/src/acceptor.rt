@@ -8,7 +8,7 @@ use paxos_packets::{Ballot, Body, Change, KeptVotes, Kind, Packet, Rows, Vote, V
 use std::alloc::Global;
 use std::marker::Model;
 
-/// The rows of one member, and what they allow it to promise and to vote for.
+/// One member's rows, and what they allow it to promise and to vote for.
 #[derive(Debug)]
 pub struct Acceptor<B> {
     boot: u64,
@@ -41,7 +41,7 @@ impl<B> Model for Acceptor<B> {
 }
 
 impl<B> Acceptor<B> {
-    /// The acceptor with these rows. Takes no memory.
+    /// Returns the acceptor with these rows. Does not allocate.
     pub fn of(rows: Rows<B>) -> Acceptor<B>
         ensures rows { result.rows ≡ rows }
         ensures failed { result.failed ≡ false }
@@ -54,7 +54,7 @@ impl<B> Acceptor<B> {
         }
     }
 
-    /// What the member has committed. Takes no memory.
+    /// Returns what the member has committed. Does not allocate.
     pub fn into_rows(self) -> Rows<B>
         ensures { result ≡ self.rows }
     {
@@ -71,35 +71,35 @@ impl<B> Acceptor<B> {
         }
     }
 
-    /// How often the member was started.
+    /// Returns how often the member was started.
     pub fn boot(&self) -> u64
         ensures { result ≡ self.now.rows.boot }
     {
         self.boot
     }
 
-    /// The greatest ballot that the member has promised, if any.
+    /// Returns the greatest ballot that the member has promised, if any.
     pub fn promised(&self) -> Option<Ballot>
         ensures { result ≡ self.now.rows.promised }
     {
         self.promised
     }
 
-    /// The votes that the member has cast, by ascending slot.
+    /// Returns the votes that the member has cast, by ascending slot.
     pub fn votes(&self) -> &[Vote<B>]
         ensures { result.now ≡ self.now.rows.votes }
     {
         self.votes.as_slice()
     }
 
-    /// Whether `adopt` has answered `Memory`, so that the rows are behind what is committed.
+    /// Returns whether `adopt` has failed with `Memory`, so that the rows lack what is committed.
     pub fn is_failed(&self) -> bool
         ensures { result ≡ self.now.failed }
     {
         self.failed
     }
 
-    // The answer to a Prepare or an Accept that the promise forbids.
+    // Returns the refusal of a Prepare or an Accept that the promise forbids.
     fn refuse(&self, alloc: Global, ballot: Ballot) -> Verdict<B>
         ensures { result ≡ refused self.now.rows ballot }
     {
@@ -116,11 +116,11 @@ impl<B> Acceptor<B> {
 }
 
 impl<B: Body> Acceptor<B> {
-    /// What is to be committed for the packet, and what is answered once it is (Lamport 2001, section 2.2, phases 1 (b) and 2 (b)).
+    /// Returns what to commit for the packet, and what to answer once it is committed (Lamport 2001, section 2.2, phases 1 (b) and 2 (b)).
     ///
-    /// A Prepare above the promise, or without one, gives its promise and the votes from its slot on; only these are copied. An Accept
-    /// not below the promise gives its vote. Another Prepare or Accept gives a Nack, any other packet nothing. Nothing is changed until
-    /// `adopt`. `Memory` where there is none for the copies, and always once the acceptor is failed.
+    /// A Prepare above the promise, or without one, gives its promise and the votes from its slot on; only these are copied. An Accept that
+    /// is not below the promise gives its vote. Any other Prepare or Accept gives a Nack, and any other packet gives nothing. Nothing
+    /// changes until `adopt`. Returns `Memory` if memory for the copies runs out, and always once the acceptor is failed.
     pub fn plan(&self, alloc: Global, packet: &Packet<B>) -> Result<Verdict<B>, Memory>
         ensures verdict { IfOk result (λ verdict. verdict ≡ judged self.now.rows packet.now.kind) }
         ensures failed { self.now.failed ≡ true → IsErr result }
@@ -143,15 +143,15 @@ impl<B: Body> Acceptor<B> {
         }
     }
 
-    /// Copies of its votes from the slot with this number on; no other is copied.
+    /// Copies the member's votes from the slot with this number on, and no other.
     pub fn votes_from(&self, alloc: Global, first: u64) -> Result<Votes<B>, Memory>
         ensures { IfOk result (λ votes. votes ≡ votes_from first self.now.rows.votes) }
     {
         Ok(self.votes.copy_from(alloc, first)?)
     }
 
-    /// Takes over what was committed: the promise, and each vote in its slot. With `Memory` the rows stay as they were and the acceptor
-    /// is failed: it is to be made anew, by `of`, from the rows that are committed. A failed acceptor answers `Memory`.
+    /// Takes over what was committed: the promise, and each vote in its slot. On `Memory` the rows stay as they were and the acceptor is
+    /// failed: make it anew, by `of`, from the rows that are committed. A failed acceptor returns `Memory`.
     pub fn adopt(&mut self, change: Change<B>) -> Result<(), Memory>
         ensures rows { OnOk result (self.new.rows ≡ adopted self.old.rows change) }
         ensures stands { OnOk result (self.new.failed ≡ false) }
@@ -170,7 +170,7 @@ impl<B: Body> Acceptor<B> {
         Ok(())
     }
 
-    /// Takes the memory for so many votes more. After `Memory` as well as without it the rows are as they were.
+    /// Reserves memory for this many more votes. The rows stay as they were, with `Memory` too.
     pub fn make_room(&mut self, votes: usize) -> Result<(), Memory>
         ensures ok { OnOk result (votes ≤ self.new.room) }
         ensures rows { self.new.rows ≡ self.old.rows }
@@ -180,7 +180,7 @@ impl<B: Body> Acceptor<B> {
         Ok(())
     }
 
-    /// `adopt` where there is room for the votes of the change. Takes no memory, and copies nothing.
+    /// Adopts the change as `adopt` does, given room for its votes. Does not allocate, and copies nothing.
     pub fn adopt_in_room(&mut self, change: Change<B>)
         requires { length change.votes ≤ self.old.room }
         ensures rows { self.new.rows ≡ adopted self.old.rows change }
@@ -192,7 +192,7 @@ impl<B: Body> Acceptor<B> {
         }
     }
 
-    // The case Prepare.
+    // Plans the answer to a Prepare.
     fn plan_prepare(&self, alloc: Global, ballot: Ballot, first: u64) -> Result<Verdict<B>, Memory>
         ensures { IfOk result (λ verdict. verdict ≡ prepared self.now.rows ballot first) }
     {
@@ -211,7 +211,7 @@ impl<B: Body> Acceptor<B> {
         })
     }
 
-    // The case Accept.
+    // Plans the answer to an Accept.
     fn plan_accept(&self, alloc: Global, vote: &Vote<B>) -> Result<Verdict<B>, Memory>
         ensures { IfOk result (λ verdict. verdict ≡ voted self.now.rows vote.now) }
     {
@@ -243,7 +243,7 @@ fn no_change<B>(alloc: Global) -> Change<B>
     }
 }
 
-// Whether a ballot may be promised: there is no promise, or it is below the ballot.
+// Returns whether a ballot may be promised: no promise was made, or it is below the ballot.
 fn may_promise(promised: Option<Ballot>, ballot: Ballot) -> bool
     ensures { result ≡ may_promise promised ballot }
 {
@@ -253,7 +253,7 @@ fn may_promise(promised: Option<Ballot>, ballot: Ballot) -> bool
     }
 }
 
-// Whether a vote in the ballot may be cast: there is no promise, or the ballot is not below it.
+// Returns whether a vote in the ballot may be cast: no promise was made, or the ballot is not below it.
 fn may_accept(promised: Option<Ballot>, ballot: Ballot) -> bool
     ensures { result ≡ may_accept promised ballot }
 {

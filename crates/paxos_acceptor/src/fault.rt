@@ -2,13 +2,13 @@ ghost use Rattle.std.specs.Prelude.{◌≡◌};
 
 use thiserror::Error;
 
-/// There was no memory to plan or to adopt. Where `adopt` answers it the acceptor is failed.
+/// Memory ran out while planning or adopting. If `adopt` returns it, the acceptor is failed.
 #[derive(Clone, Copy, Debug, PartialEq, Eq, Drop, Error)]
 #[error("no memory for the acceptor")]
 pub struct Memory;
 
 impl Memory {
-    /// The number of the fault.
+    /// Returns the fault's number.
     pub fn number(self) -> u8
         ensures { result ≡ 50 }
     {

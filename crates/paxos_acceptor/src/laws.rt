@@ -9,7 +9,7 @@ ghost use Rattle.paxos_packets.specs.declared.vote.Vote.{Vote};
 ghost use Rattle.paxos_acceptor.specs.Acceptor.{adopted, judged, no_change, promise_change, refused, vote_change};
 ghost use Rattle.paxos_acceptor.specs.Acceptor.{voted, prepared, with_promise, with_vote};
 
-/// No packet lowers a promise: what is promised after its change is adopted is not below what was promised before.
+/// No packet lowers a promise: once its change is adopted, the promise is not below the one of before.
 pub fn promises_rise<B>()
     ensures { (rows : Rows B) (kind : Kind B) (old : Ballot) → rows.promised ≡ Some old
         → ((new : Ballot) × ((adopted rows (judged rows kind).change).promised ≡ Some new) × (below new old ≡ false)) }

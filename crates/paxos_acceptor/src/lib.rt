@@ -1,4 +1,4 @@
-//! The acceptor: what one member commits and answers where it is asked for a promise or a vote (Lamport 2001, section 2.2).
+//! The acceptor: what one member commits and answers when it is asked for a promise or a vote (Lamport 2001, section 2.2).
 #![tactic(auto)]
 
 mod acceptor;

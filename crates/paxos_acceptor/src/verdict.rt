@@ -1,6 +1,6 @@
 use paxos_packets::{Change, Kind};
 
-/// What an acceptor answers to a packet.
+/// An acceptor's answer to a packet.
 #[derive(Debug, Drop)]
 pub enum Answer<B> {
     /// Nothing is sent.
@@ -11,7 +11,7 @@ pub enum Answer<B> {
     ToOthers { kind: Kind<B> },
 }
 
-/// What is to be committed for a packet, and what is answered once it is.
+/// What to commit for a packet, and what to answer once it is committed.
 #[derive(Debug, Drop)]
 pub struct Verdict<B> {
     pub change: Change<B>,

@@ -54,7 +54,7 @@ is_eq_cmp a b = go (ltb a b) (eqb a b) (eqb b a) refl refl refl
     go false false true p q r = let k = eq-eqb a b (sym (eqb-true b a r)) in absurd (cc)
     go false false false p q r = refl
 
--- nothing stands in or below a slot that all places are above
+-- nothing is in or below a slot that all places are above
 pub none_at : {B : Type 0} (slot n : ℕ) (ps : Places B) → slot ≤ n → AreRising n ps → None ≡ learned_at slot (placed ps)
 none_at slot n [] l a = refl
 none_at {B} slot n (p ∷ ps) l a = go p.1 (none_at slot p.0 ps (let k : n < p.0 = a.0 in omega arith) a.1)
@@ -183,7 +183,7 @@ put_behind {B} n slot x (o ∷ os) rest l =
     rw (not_lt slot n (omega arith), f)
     (ap (λ (ps : Places B). (n, o) ∷ ps) (put_behind (suc n) slot x os rest (omega arith)))
 
--- an entry is found in the run, or behind it
+-- an entry is found in the run, or after it
 
 pub in_run : {B : Type 0} (slot i : ℕ) (run : List (Option (Entry B))) (ps : Places B) (o : Option (Entry B)) → slot ≡ 1 + i → i < length run
     → o ≡ get_or run i o → AreRising (length run) ps → o ≡ learned_at slot (placed (all_places run ps))
@@ -302,7 +302,7 @@ pub has_kept : {B : Type 0} (slot : ℕ) (ls : List (LearnedEntry B)) (ps : Plac
     → has_place slot ls (keys_of ps) ≡ true
 has_kept slot ls ps h = or_right (is_learned slot ls) _ (sym (key_is slot ps) ∙ h)
 
--- a place is kept behind the run
+-- a place is kept after the run
 
 pub kept_behind : {B : Type 0} (slot : ℕ) (run : List (Option (Entry B))) (ps : Places B) → 1 + length run ≤ slot
     → lookup (is_at (nat_cmp slot)) ps ≡ None → placed (all_places run (insert_entry nat_cmp ps slot None)) ≡ placed (all_places run ps)
@@ -329,7 +329,7 @@ pub has_near : {B : Type 0} (slot i : ℕ) (run : List (Option (Entry B))) (ps :
 has_near slot i run ps p l =
     has_kept slot (placed (all_places run ps)) (all_places run ps) (ap is_some (look_run 1 slot i run ps None p l))
 
--- an entry is put into its place, in the run or behind it
+-- an entry is put into its place, in the run or after it
 
 pub put_near : {B : Type 0} (slot i : ℕ) (e : Entry B) (run : List (Option (Entry B))) (ps : Places B) → slot ≡ 1 + i → i < length run
     → AreRising (length run) ps → learned_at slot (placed (all_places run ps)) ≡ None
@@ -357,7 +357,7 @@ keeps_far {B} slot e run ps l a h =
     subst (λ (qs : Places B). KeepsPlaces (shelf_of run ps) (shelf_with qs)) (sym (put_behind 1 slot (Some e) run ps l))
     (keeps_put slot e (all_places run ps) (put_among slot 0 e (all_places run ps) (whole_rises run ps a) h))
 
--- a slot that was not learned and has a place stands ahead
+-- a slot that was not learned and has a place is ahead
 pub has_key : {B : Type 0} (slot : ℕ) (learned : List (LearnedEntry B)) (ps : Places B) → learned_at slot learned ≡ None
     → has_place slot learned (keys_of ps) ≡ true → lookup (is_at (nat_cmp slot)) ps ≡ None → ⊥
 has_key slot learned ps n h l =

@@ -46,7 +46,7 @@ first_ones n zero es ls a = tt
 first_ones n (suc m) [] ls a = tt
 first_ones n (suc m) (e ∷ es) ls a = (a.0, first_ones (suc n) m es ls a.1)
 
--- where a list begins with a log, its entries were learned; and where they were, it does
+-- if a list begins with a log, its entries were learned; and if they were, it does
 
 begun_learned : {B : Type 0} (n : ℕ) (log : List (Entry B)) (ls : List (LearnedEntry B)) → take (length log) ls ≡ numbered n log → AreLearned n log ls
 begun_learned n [] ls h = tt
@@ -140,7 +140,7 @@ entries_stay : {B : Type 0} (n : ℕ) (es : List (Entry B)) (news : List (News B
 entries_stay n [] news st a = tt
 entries_stay n (e ∷ es) news st a = (all_stay news st n e a.0, entries_stay (suc n) es news st a.1)
 
--- so it begins with the log and as much of the run behind it
+-- so it begins with the log and as much of the run after it
 
 pub goes_on : {B : Type 0} (log : List (Entry B)) (news : List (News B)) (st : State B) (m : ℕ) → Begins log st.learner.learned
     → Rises 0 (hear_all news st).learner.learned

@@ -8,7 +8,7 @@ use Rattle.paxos_packets.specs.declared.entry.Entry.{Entry}
 use Rattle.paxos_packets.specs.declared.vote.Vote.{Vote}
 use Rattle.paxos_learner.specs.declared.learned.LearnedEntry.{LearnedEntry}
 use Rattle.paxos_learner.specs.Learner.{LearnerState}
-use Rattle.paxos_learner.specs.declared.tallies.Place.{Place}
+use Rattle.paxos_learner.specs.declared.tallies.SlotBallot.{SlotBallot}
 use Rattle.paxos_learner.specs.Tallies.{Heard, same_place, place_of, nodes_heard, hear, insert_entry}
 use Rattle.paxos_learner.specs.Learner.{learned_at, is_learned, put_learned, learn, learn_among, is_other, hears, has_most, count_vote, vote_disagrees}
 use Rattle.paxos_learner.proofs.Ahead.{learned_is}
@@ -45,10 +45,10 @@ one_is_few m (suc (suc (suc (suc (suc (suc (suc (suc k)))))))) l h =
 
 -- what was heard at a place after one more vote there
 
-pub place_same : (p : Place) → same_place p p ≡ true
+pub place_same : (p : SlotBallot) → same_place p p ≡ true
 place_same p = and_from _ _ (number_same p.slot) (ballot_same p.ballot)
 
-put_there : (p : Place) (set : List Bool) (heard : Heard) → lookup (same_place p) (insert_entry same_place heard p set) ≡ Some set
+put_there : (p : SlotBallot) (set : List Bool) (heard : Heard) → lookup (same_place p) (insert_entry same_place heard p set) ≡ Some set
 put_there p set [] = rw (place_same p) refl
 put_there p set (t ∷ ts) = go (same_place p t.0) refl (put_there p set ts)
   where
@@ -57,10 +57,10 @@ put_there p set (t ∷ ts) = go (same_place p t.0) refl (put_there p set ts)
     go true e more = rw e refl
     go false e more = rw e more
 
-heard_then : (node : ℕ) (p : Place) (heard : Heard) → nodes_heard p (hear node p heard) ≡ set_with (nodes_heard p heard) node
+heard_then : (node : ℕ) (p : SlotBallot) (heard : Heard) → nodes_heard p (hear node p heard) ≡ set_with (nodes_heard p heard) node
 heard_then node p heard = ap (λ o. unwrap_or o no_nodes) (put_there p (set_with (nodes_heard p heard) node) heard)
 
-pub heard_before : (members node : ℕ) (p : Place) (heard : Heard) → 3 ≤ members → members ≤ 7
+pub heard_before : (members node : ℕ) (p : SlotBallot) (heard : Heard) → 3 ≤ members → members ≤ 7
     → is_majority members (is_in (set_with (nodes_heard p heard) node)) ≡ true → lookup (same_place p) heard ≡ None → ⊥
 heard_before members node p heard l h m n =
     let few = one_is_few members node l h in

@@ -8,7 +8,7 @@ pub kept_places : {B : Type 0} (ns : List (News B)) (old new : Held B) → Keeps
 kept_places [] old new k h = tt
 kept_places (n ∷ ns) old new k h = (k (slot_of n) h.0, kept_places ns old new k h.1)
 
--- the next one has its place: where the rest has places later, too, the rest with it has
+-- the next one has its place: if the rest has places later, too, the rest with it has
 pub places_with : {B : Type 0} (news : List (News B)) (i : ℕ) (n : News B) (now later : Held B) → i < length news → n ≡ get_or news i n
     → has_room_at (slot_of n) now ≡ true → KeepsRoom now later → HavePlaces (drop (i + 1) news) later → HavePlaces (drop i news) later
 places_with {B} news i n now later within is here kept rest =

@@ -1,4 +1,4 @@
--- What a learner would be that hears more, told of the sets that change and the entries that are gained.
+-- What a learner would be that hears more, stated by the sets that change and the entries that are gained.
 use Rattle.std.proofs.Common.{◌≡◌, ℕ, ltb, eqb, Bool, true, false, cond, Option, Some, None, is_some, List, [], ◌∷◌, ◌++◌}
 use Rattle.std.proofs.Common.{refl, sym, ap, ◌∙◌, subst, eq-eqb}
 use Rattle.std.specs.Prelude.{option_map, ◌==◌, ◌≤◌, ◌<◌, ◌^◌}
@@ -13,7 +13,7 @@ use Rattle.paxos_packets.specs.declared.vote.Vote.{Vote}
 use Rattle.paxos_learner.specs.declared.hearing.News.{News}
 use Rattle.paxos_learner.specs.declared.hearing.News.TheVariants.{Cast, Told}
 use Rattle.paxos_learner.specs.declared.learned.LearnedEntry.{LearnedEntry}
-use Rattle.paxos_learner.specs.declared.tallies.Place.{Place}
+use Rattle.paxos_learner.specs.declared.tallies.SlotBallot.{SlotBallot}
 use Rattle.paxos_learner.specs.Tallies.{Heard, same_place, place_of, nodes_heard, hear, insert_entry}
 use Rattle.paxos_learner.specs.Learner.{LearnerState, State, learned_at, is_learned, put_learned, learn, learn_among, hears, has_most, count_vote}
 use Rattle.paxos_learner.specs.Hearing.{hear_news, hear_all, over, gain, IsOver}
@@ -38,14 +38,14 @@ members_stay (m ∷ ms) s = members_stay ms (hear_news m s) ∙ members_one m s
 
 -- sets at their places
 
-place_sound : (p q : Place) → same_place p q ≡ true → p ≡ q
+place_sound : (p q : SlotBallot) → same_place p q ≡ true → p ≡ q
 place_sound p q h =
     let k = and_parts (eqb p.slot q.slot) (same_ballot p.ballot q.ballot) h in
     let s = eqb-true p.slot q.slot k.0 in
     let b = ballot_sound p.ballot q.ballot k.1 in
     λ i. record { slot = s i; ballot = b i }
 
-found_put : (p q : Place) (set : List Bool) (ts : Heard)
+found_put : (p q : SlotBallot) (set : List Bool) (ts : Heard)
     → lookup (same_place p) (insert_entry same_place ts q set) ≡ cond (same_place p q) (Some set) (lookup (same_place p) ts)
 found_put p q set [] = refl
 found_put p q set (t ∷ ts) = go (same_place q t.0) (same_place p q) (same_place p t.0) refl refl refl (found_put p q set ts)
@@ -61,12 +61,12 @@ found_put p q set (t ∷ ts) = go (same_place q t.0) (same_place p q) (same_plac
         let n = place_same t.0 in cc)
     go true false false a b c more = rw c refl
     go false true true a b c more = absurd (let k = place_sound p q b in let l = place_sound p t.0 c in
-        let m : same_place q t.0 ≡ true = subst (λ (r : Place). same_place r t.0 ≡ true) k c in cc)
+        let m : same_place q t.0 ≡ true = subst (λ (r : SlotBallot). same_place r t.0 ≡ true) k c in cc)
     go false true false a b c more = rw (c, more, b) refl
     go false false true a b c more = rw c refl
     go false false false a b c more = rw (c, more, b) refl
 
-nodes_put : (p q : Place) (set : List Bool) (heard : Heard)
+nodes_put : (p q : SlotBallot) (set : List Bool) (heard : Heard)
     → nodes_heard p (insert_entry same_place heard q set) ≡ cond (same_place p q) set (nodes_heard p heard)
 nodes_put p q set heard = ap (λ (o : Option (List Bool)). unwrap_or o no_nodes) (found_put p q set heard) ∙ go (same_place p q)
   where
@@ -74,9 +74,9 @@ nodes_put p q set heard = ap (λ (o : Option (List Bool)). unwrap_or o no_nodes)
     go true = refl
     go false = refl
 
-pub over_heard : {B : Type 0} (changed : Heard) (gained : List (LearnedEntry B)) (old new : LearnerState B) (node : ℕ) (q : Place) (nodes : List Bool)
+pub over_heard : {B : Type 0} (changed : Heard) (gained : List (LearnedEntry B)) (old new : LearnerState B) (node : ℕ) (q : SlotBallot) (nodes : List Bool)
     → IsOver changed gained old new → nodes ≡ set_with (nodes_heard q new.heard) node
-    → (p : Place) → nodes_heard p (hear node q new.heard) ≡ unwrap_or (lookup (same_place p) (insert_entry same_place changed q nodes)) (nodes_heard p old.heard)
+    → (p : SlotBallot) → nodes_heard p (hear node q new.heard) ≡ unwrap_or (lookup (same_place p) (insert_entry same_place changed q nodes)) (nodes_heard p old.heard)
 over_heard changed gained old new node q nodes is e p =
     nodes_put p q (set_with (nodes_heard q new.heard) node) new.heard ∙ go (same_place p q)
     ∙ ap (λ (o : Option (List Bool)). unwrap_or o (nodes_heard p old.heard)) (sym (found_put p q nodes changed))
@@ -187,7 +187,7 @@ over_told {B} changed gained old new slot e is low high =
       rises = learn_rises slot e new.learned low high is.rises;
     })
 
--- what is told of equal parts
+-- what is stated of equal parts
 
 pub over_same : {B : Type 0} (changed c : Heard) (gained g : List (LearnedEntry B)) (old new : LearnerState B)
     → c ≡ changed → g ≡ gained → IsOver changed gained old new → IsOver c g old new

@@ -1,4 +1,4 @@
--- What was learned stands by ascending slot, each slot from 1 to 2^40 - 1.
+-- What was learned ascends by slot, each slot from 1 to 2^40 - 1.
 use Rattle.std.proofs.Common.{◌≡◌, ℕ, ◌<◌, ◌≤◌, Bool, true, false, cond, ◌||◌, Option, Some, None, List, [], ◌∷◌, length, ltb, eqb}
 use Rattle.std.proofs.Common.{refl, arith}
 use Rattle.std.proofs.lemmas.Bool.{ltb-true, eqb-true}
@@ -19,7 +19,7 @@ pub ends : {B : Type 0} (n : ℕ) (ls : List (LearnedEntry B)) → Rises n ls �
 ends n [] r = r
 ends n (x ∷ xs) r = let k : n < x.slot = r.0 in let m : x.slot < 2 ^ 40 = ends x.slot xs r.1 in omega arith
 
--- a run, then what stands ahead of it
+-- a run, then what is ahead of it
 
 placed_rises : {B : Type 0} (n : ℕ) (ps : List (ℕ × Option (Entry B))) → AreRising n ps → Rises n (placed ps)
 placed_rises n [] a = a
@@ -54,7 +54,7 @@ above {B} n slot (x ∷ xs) e r h = go (eqb x.slot slot) refl h (above x.slot sl
         let z : x.slot < slot = m.0 in
         (omega arith, m.1)
 
--- no entry stands outside these slots
+-- no entry is outside these slots
 pub none_outside : {B : Type 0} (slot : ℕ) (ls : List (LearnedEntry B)) → Rises 0 ls → ((1 ≤ slot) × (slot < 2 ^ 40) → ⊥) → None ≡ learned_at slot ls
 none_outside {B} slot ls r out = go (learned_at slot ls) refl
   where

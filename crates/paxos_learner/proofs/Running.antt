@@ -1,4 +1,4 @@
--- What was learned from a slot on: the run up to the first gap, and what stands in so many slots.
+-- What was learned from a slot on: the run up to the first gap, and what is in the next n slots.
 use Rattle.std.proofs.Common.{◌≡◌, ℕ, suc, ◌<◌, ◌≤◌, Bool, true, false, cond, ◌&&◌, Some, None, List, [], ◌∷◌, ◌++◌, ltb, eqb}
 use Rattle.std.proofs.Common.{refl, sym, ap, subst, ◌∙◌, arith, ◌⊎◌, inl, inr}
 use Rattle.std.proofs.lemmas.Bool.{eqb-true, lt-ltb, cases_lt}
@@ -67,7 +67,7 @@ run_more {B} n slot found more whole e ls p r h k is =
     ap (λ (es : List (Entry B)). es ++ run_from (suc slot) ls) k ∙ append_assoc found (e ∷ []) (run_from (suc slot) ls)
     ∙ ap (λ (es : List (Entry B)). found ++ es) (sym next) ∙ is
 
--- what stands in so many slots
+-- what is in the next n slots
 
 tested_in : (n m s : ℕ) → n ≤ s → s < m → (nat_le n s && nat_lt s m) ≡ true
 tested_in n m s l h = grind (arith, nat_tests)
@@ -78,7 +78,7 @@ tested_below n m s l = grind (arith, nat_tests)
 tested_above : (n m s : ℕ) → m ≤ s → (nat_le n s && nat_lt s m) ≡ false
 tested_above n m s l = grind (arith, nat_tests)
 
--- none stands where all are above
+-- none is there if all are above
 within_above : {B : Type 0} (k n m : ℕ) (ls : List (LearnedEntry B)) → m ≤ suc k → Rises k ls → learned_within n m ls ≡ []
 within_above k n m [] l r = refl
 within_above k n m (x ∷ xs) l r =

@@ -1,4 +1,4 @@
--- The entries that an event gains: the first stands apart from the others, as long as there are none.
+-- The entries that an event gains: the first is kept apart, as long as there are no others.
 use Rattle.std.specs.Prelude.{◌≡◌, Option, Some, None, List, [], ◌∷◌}
 use Rattle.paxos_learner.specs.declared.learned.LearnedEntry.{LearnedEntry}
 use Rattle.paxos_learner.specs.Learned.{Shelf}
@@ -12,7 +12,7 @@ abbrev pub gains_in : {B : Type 0} → Option (LearnedEntry B) → Shelf B → G
 gains_in None more = record { learned = more.learned }
 gains_in (Some one) more = record { learned = one ∷ [] }
 
--- where one stands apart there are no others
+-- if one is kept apart there are no others
 abbrev pub StandsApart : {B : Type 0} → Option (LearnedEntry B) → Shelf B → Type 0
 StandsApart None more = Unit {0}
 StandsApart (Some one) more = more.learned ≡ []

@@ -1,4 +1,4 @@
--- What a learner is to hear, and what it would be then, told of the learner as it is and of what is new.
+-- What a learner is to hear, and what it would be then, stated by the learner as it is and by what is new.
 use Rattle.std.specs.Prelude.{◌≡◌, ◌≤◌, ℕ, true, Option, Some, None, List, [], ◌∷◌, ◌++◌, fold, length}
 use Rattle.std.specs.Option.{option_or, unwrap_or}
 use Rattle.std.specs.Map.{lookup}
@@ -6,12 +6,12 @@ use Rattle.paxos_packets.specs.declared.entry.Entry.{Entry}
 use Rattle.paxos_learner.specs.declared.hearing.News.{News}
 use Rattle.paxos_learner.specs.declared.hearing.News.TheVariants.{Cast, Told}
 use Rattle.paxos_learner.specs.declared.learned.LearnedEntry.{LearnedEntry}
-use Rattle.paxos_learner.specs.declared.tallies.Place.{Place}
+use Rattle.paxos_learner.specs.declared.tallies.SlotBallot.{SlotBallot}
 use Rattle.paxos_learner.specs.Learned.{Rises}
 use Rattle.paxos_learner.specs.Tallies.{Heard, same_place, nodes_heard}
 use Rattle.paxos_learner.specs.Learner.{LearnerState, State, Held, has_room_at, learned_at, put_learned, voted, told}
 
--- a vote that was cast, or an entry that is told
+-- a vote that was cast, or an entry that is reported as learned
 abbrev pub hear_news : {B : Type 0} → News B → State B → State B
 hear_news (Cast node v) s = voted node v s
 hear_news (Told slot e) s = told slot e s
@@ -35,15 +35,15 @@ and_news n d = record { before = d.before; news = d.news ++ n ∷ [] }
 abbrev pub over : {B : Type 0} → ℕ → List (LearnedEntry B) → List (LearnedEntry B) → Option (Entry B)
 over slot gained learned = option_or (learned_at slot gained) (learned_at slot learned)
 
--- an entry is gained where none was learned
+-- an entry is gained if none was learned
 abbrev pub gain : {B : Type 0} → ℕ → Entry B → Option (Entry B) → List (LearnedEntry B) → List (LearnedEntry B)
 gain slot e (Some d) gained = gained
 gain slot e None gained = put_learned (record { slot = slot; entry = e }) gained
 
--- of a learner that was and one that is: the sets that changed, and the entries that were gained, tell what is new; and what it learned
--- stands by ascending slot
+-- of a learner that was and one that is: the sets that changed, and the entries that were gained, are what is new; and what it learned
+-- ascends by slot
 pub record IsOver {B : Type 0} (changed : Heard) (gained : List (LearnedEntry B)) (old new : LearnerState B) : Type 0 where
-  pub heard : (p : Place) → nodes_heard p new.heard ≡ unwrap_or (lookup (same_place p) changed) (nodes_heard p old.heard)
+  pub heard : (p : SlotBallot) → nodes_heard p new.heard ≡ unwrap_or (lookup (same_place p) changed) (nodes_heard p old.heard)
   pub learned : (slot : ℕ) → learned_at slot new.learned ≡ over slot gained old.learned
   pub rises : Rises 0 new.learned
 

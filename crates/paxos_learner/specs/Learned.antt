@@ -1,4 +1,4 @@
--- How what was learned is kept: the places of a run of slots from 1 on, and those that stand further ahead, of which some are still free.
+-- How what was learned is kept: the places of a run of slots from 1 on, and those of slots further ahead, of which some are still free.
 use Rattle.std.specs.Prelude.{ℕ, suc, Bool, true, ◌||◌, ◌==◌, Option, Some, None, List, [], ◌∷◌, ◌++◌, ◌≡◌, ◌<◌, ◌^◌, length, take}
 use Rattle.std.specs.List.{list_any}
 use Rattle.std.specs.Map.{keys_of}
@@ -15,7 +15,7 @@ abbrev pub numbered : {B : Type 0} → ℕ → List (Entry B) → List (LearnedE
 numbered slot [] = []
 numbered slot (e ∷ es) = record { slot = slot; entry = e } ∷ numbered (suc slot) es
 
--- each entry in the slot that stands beside it; a free place has none
+-- each entry in the slot that is given beside it; a free place has none
 abbrev pub placed_in : {B : Type 0} → ℕ → Option (Entry B) → List (LearnedEntry B) → List (LearnedEntry B)
 placed_in slot None rest = rest
 placed_in slot (Some e) rest = record { slot = slot; entry = e } ∷ rest

@@ -1,5 +1,5 @@
--- One member as a learner: an entry is learned where a majority is heard to have voted for it in one ballot, or where a
--- member tells that it was (Lamport 2001, section 2.3).
+-- One member as a learner: an entry is learned if a majority is heard to have voted for it in one ballot, or if a
+-- member reports that it was (Lamport 2001, section 2.3).
 use Rattle.std.specs.Prelude.{◌≡◌, ℕ, suc, Bool, true, false, not, ◌&&◌, nat_lt, nat_le, ◌==◌, Option, Some, None, option_map, List, [], ◌∷◌}
 use Rattle.std.specs.Prelude.{filter, if◌then◌else◌}
 use Rattle.std.specs.List.{find}
@@ -36,7 +36,7 @@ abbrev pub put_learned : {B : Type 0} → LearnedEntry B → List (LearnedEntry 
 put_learned l [] = l ∷ []
 put_learned l (m ∷ ms) = if nat_lt m.slot l.slot then m ∷ put_learned l ms else l ∷ (m ∷ ms)
 
--- what is told of a learned slot changes nothing
+-- what is reported of a learned slot changes nothing
 abbrev pub learn : {B : Type 0} → ℕ → Entry B → LearnerState B → LearnerState B
 learn slot entry l =
     if is_learned slot l.learned then l

@@ -7,28 +7,28 @@ pub use Rattle.indexmap.specs.IndexMap.{insert_entry}
 use Rattle.paxos_packets.specs.Ballot.{same_ballot}
 use Rattle.paxos_packets.specs.Members.{no_nodes, set_with}
 use Rattle.paxos_packets.specs.declared.vote.Vote.{Vote}
-use Rattle.paxos_learner.specs.declared.tallies.Place.{Place}
+use Rattle.paxos_learner.specs.declared.tallies.SlotBallot.{SlotBallot}
 
 -- each place with the nodes that were heard there, in the order in which the places were first heard
 abbrev pub Heard : Type 0
-Heard = List (Place × List Bool)
+Heard = List (SlotBallot × List Bool)
 
 -- what callers see: what was heard, and for how many places more there is room
 pub record Table : Type 0 where
   pub heard : Heard
   pub room : ℕ
 
-abbrev pub same_place : Place → Place → Bool
+abbrev pub same_place : SlotBallot → SlotBallot → Bool
 same_place p q = (p.slot == q.slot) && same_ballot p.ballot q.ballot
 
 -- where a vote counts
-abbrev pub place_of : {B : Type 0} → Vote B → Place
+abbrev pub place_of : {B : Type 0} → Vote B → SlotBallot
 place_of v = record { slot = v.slot; ballot = v.ballot }
 
 -- the nodes that were heard there
-abbrev pub nodes_heard : Place → Heard → List Bool
+abbrev pub nodes_heard : SlotBallot → Heard → List Bool
 nodes_heard place heard = unwrap_or (lookup (same_place place) heard) no_nodes
 
 -- one more is heard
-abbrev pub hear : ℕ → Place → Heard → Heard
+abbrev pub hear : ℕ → SlotBallot → Heard → Heard
 hear node place heard = insert_entry same_place heard place (set_with (nodes_heard place heard) node)

@@ -4,15 +4,16 @@ ghost use Rattle.paxos_learner.specs.declared.fault.LearnerFault.TheVariants.{Me
 ghost use Rattle.paxos_learner.specs.Tallies.{insert_entry, same_place};
 
 use crate::fault::LearnerFault;
-use crate::tallies::{Place, Tallies};
+use crate::tallies::{SlotBallot, Tallies};
 use paxos_packets::NodeSet;
 use std::alloc::Global;
 use std::marker::Model;
 
-// The sets of members that an event changes, by their places. Nearly every event changes one, which stands here; only more take memory.
+// The sets of members that an event changes, by slot and ballot. Nearly every event changes one, which is stored inline; only further ones
+// allocate.
 #[derive(Drop)]
 pub(crate) struct Changes {
-    first: Option<(Place, NodeSet)>,
+    first: Option<(SlotBallot, NodeSet)>,
     rest: Tallies,
 }
 
@@ -28,7 +29,7 @@ impl Model for Changes {
 }
 
 impl Changes {
-    // None changed. Takes no memory; `make_room` will, from `alloc`, where one has changed.
+    // Returns no changes. Does not allocate; `make_room` will, from `alloc`, once one has changed.
     pub fn new(alloc: Global) -> Changes
         ensures { result.heard ≡ [] }
     {
@@ -38,8 +39,8 @@ impl Changes {
         }
     }
 
-    // The set at the place, if it changed. Takes a constant number of steps.
-    pub fn find(&self, place: &Place) -> Option<NodeSet>
+    // Returns the set at the place, if it changed. Takes a constant number of steps.
+    pub fn find(&self, place: &SlotBallot) -> Option<NodeSet>
         ensures { result ≡ lookup (same_place place.now) self.now.heard }
     {
         match self.first {
@@ -48,7 +49,7 @@ impl Changes {
         }
     }
 
-    // Makes room for one place more.
+    // Reserves memory for one more place.
     pub fn make_room(&mut self) -> Result<(), LearnerFault>
         ensures ok { OnOk result (0 < self.new.room) }
         ensures heard { self.new.heard ≡ self.old.heard }
@@ -60,8 +61,8 @@ impl Changes {
         }
     }
 
-    // The members that voted at the place are these, where there is room for a place more.
-    pub fn put_in_room(&mut self, place: Place, nodes: NodeSet)
+    // Notes these members as those that voted at the place, given room for one more place.
+    pub fn put_in_room(&mut self, place: SlotBallot, nodes: NodeSet)
         requires { 0 < self.old.room }
         ensures { self.new.heard ≡ insert_entry same_place self.old.heard place nodes }
     {

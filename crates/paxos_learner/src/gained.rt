@@ -9,7 +9,7 @@ use paxos_packets::{Entry, Slot};
 use std::alloc::Global;
 use std::marker::Model;
 
-// The entries that an event gains. Nearly every event gains one at the most, which stands apart; only more take memory.
+// The entries that an event gains. Nearly every event gains at most one, which is stored inline; only further ones allocate.
 #[derive(Drop)]
 pub(crate) struct Gained<B> {
     one: Option<LearnedEntry<B>>,
@@ -27,7 +27,7 @@ impl<B> Model for Gained<B> {
 }
 
 impl<B> Gained<B> {
-    // Nothing is gained. Takes no memory; `put` will, from `alloc`, where something is gained already.
+    // Returns nothing gained. Does not allocate; `put` will, from `alloc`, once something is gained.
     pub fn new(alloc: Global) -> Gained<B>
         ensures { result.learned ≡ [] }
     {
@@ -37,7 +37,7 @@ impl<B> Gained<B> {
         }
     }
 
-    // The entry that is gained in the slot. It is found as `LearnedEntries::find` finds it.
+    // Returns the entry that is gained in the slot. Finds it as `LearnedEntries::find` does.
     pub fn find(&self, slot: Slot) -> Option<&Entry<B>>
         ensures { option_copied result ≡ learned_at slot self.now.learned }
     {
@@ -49,7 +49,7 @@ impl<B> Gained<B> {
 }
 
 impl<B: Drop> Gained<B> {
-    // Puts the entry into a slot in which none is gained. With `Memory` the entries are as they were.
+    // Puts the entry into a slot in which none is gained. On `Memory` the entries are as they were.
     pub fn put(&mut self, slot: Slot, entry: Entry<B>) -> Result<(), LearnerFault>
         requires { learned_at slot self.old.learned ≡ None }
         ensures ok { OnOk result (self.new.learned ≡ put_learned (record { slot = slot; entry = entry }) self.old.learned) }
@@ -65,7 +65,7 @@ impl<B: Drop> Gained<B> {
     }
 }
 
-// The entry that stands apart joins the others. With `Memory` it stands as it stood.
+// Moves the inline entry to the others. On `Memory` it stays where it is.
 fn join<B: Drop>(
     one: &mut Option<LearnedEntry<B>>,
     more: &mut LearnedEntries<B>,
@@ -87,7 +87,7 @@ fn join<B: Drop>(
     Ok(())
 }
 
-// The entry, if it is of the slot.
+// Returns the entry, if it is the slot's.
 fn entry_in<B>(one: &LearnedEntry<B>, slot: Slot) -> Option<&Entry<B>>
     ensures { option_copied result ≡ learned_at slot (one.now ∷ []) }
 {

@@ -13,7 +13,7 @@ use crate::fault::LearnerFault;
 use crate::gained::Gained;
 use crate::learned::LearnedEntry;
 use crate::learner::Learner;
-use crate::tallies::Place;
+use crate::tallies::SlotBallot;
 use paxos_packets::{Body, Entries, Entry, NodeSet, Slot, Vote};
 use std::alloc::Global;
 use std::marker::Model;
@@ -21,23 +21,23 @@ use std::marker::Model;
 // One past the greatest slot.
 const SLOT_END: u64 = 1 << 40;
 
-/// What a learner hears.
+/// One thing that a learner hears.
 #[derive(Debug, Drop)]
 pub enum News<B> {
     /// The member cast the vote.
     Cast { node: u8, vote: Vote<B> },
-    /// A member tells that it learned the entry in the slot.
+    /// A member reports that it learned the entry in the slot.
     Told { slot: Slot, entry: Entry<B> },
 }
 
-/// A learner, and what it is to hear: an event is planned on it, and the learner stays as it is. It keeps what changes, and copies no
-/// more of the learner.
+/// A learner, and what it is to hear: an event is planned on it, and the learner itself stays as it is. It keeps only what changes, and
+/// copies nothing else of the learner.
 #[derive(Drop)]
 pub struct Hearing<'a, B> {
     alloc: Global,
     learner: &'a Learner<B>,
     news: Vec<News<B>>,
-    // The sets of members at the places where one was heard, and the entries that were not learned before.
+    // The sets of members at the places where a vote was heard, and the entries that were not learned before.
     changed: Changes,
     gained: Gained<B>,
 }
@@ -54,7 +54,7 @@ impl<'a, B> Model for Hearing<'a, B> {
 }
 
 impl<'a, B> Hearing<'a, B> {
-    /// The learner, which is to hear nothing. Takes no memory; the other calls will, from `alloc`.
+    /// Begins planning on the learner, with nothing to hear. Does not allocate; the other calls will, from `alloc`.
     pub fn of(alloc: Global, learner: &'a Learner<B>) -> Hearing<'a, B>
         ensures before { result.before ≡ learner.now.state }
         ensures news { result.news ≡ [] }
@@ -69,14 +69,14 @@ impl<'a, B> Hearing<'a, B> {
         }
     }
 
-    /// The entry that would be learned in the slot. It is found as `Learner::learned` finds it.
+    /// Returns the entry that would be learned in the slot. Finds it as `Learner::learned` does.
     pub fn learned(&self, slot: Slot) -> Option<&Entry<B>>
         ensures { option_copied result ≡ learned_at slot (after self.now).learner.learned }
     {
         find_over(self.learner, &self.gained, slot)
     }
 
-    // The entry that would be learned in the slot with this number, if there is such a slot.
+    // Returns the entry that would be learned in the slot with this number, if there is such a slot.
     fn learned_in(&self, number: u64) -> Option<&Entry<B>>
         ensures { option_copied result ≡ learned_at number (after self.now).learner.learned }
     {
@@ -87,7 +87,7 @@ impl<'a, B> Hearing<'a, B> {
         }
     }
 
-    // What would be learned stands by ascending slot.
+    // What would be learned ascends by slot.
     fn ascends(&self)
         ensures { Rises 0 (after self.now).learner.learned }
     {
@@ -96,7 +96,7 @@ impl<'a, B> Hearing<'a, B> {
 }
 
 impl<'a, B: Drop> Hearing<'a, B> {
-    /// What is to be heard, in its order: then what is learned stands by ascending slot.
+    /// Returns what is to be heard, in order: after it, what is learned ascends by slot.
     pub fn into_news(self) -> Vec<News<B>>
         ensures news { result.items ≡ self.entry.news }
         ensures rises { Rises 0 (after self.entry).learner.learned }
@@ -107,16 +107,16 @@ impl<'a, B: Drop> Hearing<'a, B> {
 }
 
 impl<'a, B: Body> Hearing<'a, B> {
-    /// The learner is to hear this vote of the member. Whether another entry than the one that a majority voted for would be learned in
-    /// its slot. With `Memory` it is to hear what it was before. Takes a constant number of steps, but where what changes is moved to
-    /// larger memory, and copies the vote once, and its entry once more where it is learned.
+    /// Plans that the learner hears this vote of the member. Returns whether its slot would have learned another entry than the one that a
+    /// majority voted for. On `Memory` it is to hear what it was to hear before. Takes a constant number of steps, unless what changes
+    /// moves to larger memory; copies the vote once, and its entry once more if it is learned.
     pub fn vote(&mut self, node: u8, vote: &Vote<B>) -> Result<bool, LearnerFault>
         ensures ok { OnOk result (self.new ≡ and_news (Cast node vote.now) self.old) }
         ensures other { IfOk result (λ other. other ≡ vote_disagrees B.same (after self.old).members node vote.now (after self.old).learner) }
         ensures err { OnErr result (self.new ≡ self.old) }
         ensures memory { IsOkUnless result Memory }
     {
-        let place = Place {
+        let place = SlotBallot {
             slot: vote.slot,
             ballot: vote.ballot,
         };
@@ -145,8 +145,8 @@ impl<'a, B: Body> Hearing<'a, B> {
         Ok(other)
     }
 
-    /// The learner is to be told the entry of the slot. Whether another would be learned there. With `Memory` it is to hear what it was
-    /// before.
+    /// Plans that the learner hears that the entry was learned in the slot. Returns whether another one would be learned there. On `Memory`
+    /// it is to hear what it was to hear before.
     pub fn tell(&mut self, slot: Slot, entry: &Entry<B>) -> Result<bool, LearnerFault>
         ensures ok { OnOk result (self.new ≡ and_news (Told slot entry.now) self.old) }
         ensures other { IfOk result (λ other. other ≡ disagrees B.same slot entry.now (after self.old).learner) }
@@ -164,17 +164,17 @@ impl<'a, B: Body> Hearing<'a, B> {
         Ok(other)
     }
 
-    /// Copies of the entries that would be learned in the slots behind the first `applied`, up to the first slot that would have none. Each
-    /// is found as `learned` finds it, and nothing else is looked at.
-    pub fn run_behind(&self, applied: u64) -> Result<Entries<B>, LearnerFault>
+    /// Copies the entries that would be learned in the slots after the first `applied`, up to the first slot that would have none. Finds
+    /// each as `learned` does, and looks at nothing else.
+    pub fn run_after(&self, applied: u64) -> Result<Entries<B>, LearnerFault>
         ensures run { IfOk result (λ run. run ≡ run_from (suc applied) (after self.now).learner.learned) }
         ensures memory { IsOkUnless result Memory }
     {
-        run_behind(self, self.alloc, applied)
+        run_after(self, self.alloc, applied)
     }
 
-    /// Copies of what would be learned in the slot with this number and the 63 behind it. Each is found as `learned` finds it, and nothing
-    /// else is looked at.
+    /// Copies what would be learned in the slot with this number and the 63 after it. Finds each as `learned` does, and looks at nothing
+    /// else.
     pub fn learned_from(&self, first: u64) -> Result<Vec<LearnedEntry<B>>, LearnerFault>
         ensures learned { IfOk result (λ told. told.items ≡ learned_within first (first + 64) (after self.now).learner.learned) }
         ensures memory { IsOkUnless result Memory }
@@ -183,7 +183,7 @@ impl<'a, B: Body> Hearing<'a, B> {
     }
 }
 
-fn run_behind<B: Body>(
+fn run_after<B: Body>(
     hearing: &Hearing<'_, B>,
     alloc: Global,
     applied: u64,
@@ -221,7 +221,7 @@ fn learned_from<B: Body>(
     Ok(told)
 }
 
-// What would be learned in the slot with this number, if there is any, is put at the end.
+// Appends what would be learned in the slot with this number, if anything.
 fn tell_one<B: Body>(
     hearing: &Hearing<'_, B>,
     alloc: Global,
@@ -247,7 +247,7 @@ fn tell_one<B: Body>(
     Ok(())
 }
 
-// A copy of the entry is put at the end.
+// Appends a copy of the entry.
 fn push_copy<B: Body>(
     alloc: Global,
     entries: &mut Entries<B>,
@@ -265,8 +265,8 @@ fn push_copy<B: Body>(
     Ok(())
 }
 
-// The members that would have been heard to vote there.
-fn nodes_over<B>(learner: &Learner<B>, changed: &Changes, place: &Place) -> NodeSet
+// Returns the members that would have been heard to vote there.
+fn nodes_over<B>(learner: &Learner<B>, changed: &Changes, place: &SlotBallot) -> NodeSet
     ensures { result ≡ unwrap_or (lookup (same_place place.now) changed.now.heard) (nodes_heard place.now learner.now.state.learner.heard) }
 {
     match changed.find(place) {
@@ -275,7 +275,7 @@ fn nodes_over<B>(learner: &Learner<B>, changed: &Changes, place: &Place) -> Node
     }
 }
 
-// The entry that would be learned in the slot.
+// Returns the entry that would be learned in the slot.
 fn find_over<'a, B>(
     learner: &'a Learner<B>,
     gained: &'a Gained<B>,
@@ -289,7 +289,7 @@ fn find_over<'a, B>(
     }
 }
 
-// The entry is gained, unless one would be learned in the slot. Whether that is another.
+// Gains the entry, unless one would be learned in the slot. Returns whether that is another one.
 fn gain<B: Body>(
     alloc: Global,
     learner: &Learner<B>,

@@ -16,8 +16,8 @@ pub struct LearnedEntry<B> {
     pub entry: Entry<B>,
 }
 
-/// What was learned, by ascending slot: the places of a run of slots from 1 on, and those that stand further ahead. A place may be kept free
-/// for the entry of its slot, so that putting it there takes no memory.
+/// What was learned, by ascending slot: the places of a run of slots from 1 on, and those of slots further ahead. A place may be kept free
+/// for the entry of its slot, so that putting it there does not allocate.
 pub struct LearnedEntries<B> {
     run: Vec<Option<Entry<B>>>,
     ahead: BTreeMap<u64, Option<Entry<B>>>,
@@ -32,7 +32,7 @@ impl<B: Drop> Drop for LearnedEntries<B> {
     }
 }
 
-// How far behind the run a slot may stand for the run to go on up to it.
+// How far after the run a slot may be for the run to be extended up to it.
 const NEAR: u64 = 256;
 
 impl<B> Model for LearnedEntries<B> {
@@ -47,7 +47,7 @@ impl<B> Model for LearnedEntries<B> {
 }
 
 impl<B> LearnedEntries<B> {
-    /// Nothing was learned. Takes no memory; `put` and `keep_place` will, from `alloc`.
+    /// Returns nothing learned. Does not allocate; `put` and `keep_place` will, from `alloc`.
     pub fn new(alloc: Global) -> LearnedEntries<B>
         ensures { result ≡ record { learned = []; places = [] } }
     {
@@ -57,22 +57,22 @@ impl<B> LearnedEntries<B> {
         }
     }
 
-    // Whether nothing was learned, and no place is kept.
+    // Returns whether nothing was learned, and no place is kept.
     pub(crate) fn is_empty(&self) -> bool
         ensures { IsTrue result → self.now.learned ≡ [] }
     {
         self.run.is_empty() && self.ahead.is_empty()
     }
 
-    // The entries stand by ascending slot.
+    // The entries ascend by slot.
     pub(crate) fn ascends(&self)
         ensures { Rises 0 self.now.learned }
     {
         let _ = &self.run;
     }
 
-    /// The entry that was learned in the slot. Takes no memory, and a constant number of steps in the run; ahead of it, a number that
-    /// is logarithmic in the number of places there.
+    /// Returns the entry that was learned in the slot. Does not allocate. Takes a constant number of steps in the run; ahead of it, a
+    /// number logarithmic in the number of places there.
     pub fn find(&self, slot: Slot) -> Option<&Entry<B>>
         ensures { option_copied result ≡ learned_at slot self.now.learned }
     {
@@ -85,7 +85,7 @@ impl<B> LearnedEntries<B> {
 }
 
 impl<B: Drop> LearnedEntries<B> {
-    /// Puts the entry into a slot in which none was learned. With `Memory` the entries are as they were.
+    /// Puts the entry into a slot in which none was learned. On `Memory` the entries are as they were.
     pub fn put(&mut self, slot: Slot, entry: Entry<B>) -> Result<(), LearnerFault>
         requires { learned_at slot self.old.learned ≡ None }
         ensures ok { OnOk result (self.new.learned ≡ put_learned (record { slot = slot; entry = entry }) self.old.learned) }
@@ -98,7 +98,7 @@ impl<B: Drop> LearnedEntries<B> {
         Ok(())
     }
 
-    /// Keeps a place for the entry of the slot, unless it has one. It takes as many steps as the run grows, and further ahead a number that is
+    /// Keeps a place for the entry of the slot, unless it has one. Takes as many steps as the run grows; further ahead, a number
     /// logarithmic in the number of places there.
     pub fn keep_place(&mut self, slot: Slot) -> Result<(), LearnerFault>
         ensures ok { OnOk result (has_place slot self.new.learned self.new.places ≡ true) }
@@ -113,7 +113,7 @@ impl<B: Drop> LearnedEntries<B> {
         keep_near(&mut self.run, &mut self.ahead, number)
     }
 
-    /// Puts the entry into its place, where none was learned in the slot. Takes no memory.
+    /// Puts the entry into its place, given that none was learned in the slot. Does not allocate.
     pub fn put_in_place(&mut self, slot: Slot, entry: Entry<B>)
         requires free { learned_at slot self.old.learned ≡ None }
         requires place { has_place slot self.old.learned self.old.places ≡ true }
@@ -131,7 +131,7 @@ impl<B: Drop> LearnedEntries<B> {
     }
 }
 
-// A place that stands ahead of the run is kept for the slot.
+// Keeps a place ahead of the run for the slot.
 fn keep_ahead<B: Drop>(
     run: &[Option<Entry<B>>],
     ahead: &mut BTreeMap<u64, Option<Entry<B>>>,
@@ -156,7 +156,7 @@ fn keep_ahead<B: Drop>(
     Ok(())
 }
 
-// The run goes on up to the slot.
+// Extends the run up to the slot.
 fn keep_near<B: Drop>(
     run: &mut Vec<Option<Entry<B>>>,
     ahead: &mut BTreeMap<u64, Option<Entry<B>>>,
@@ -177,7 +177,7 @@ fn keep_near<B: Drop>(
     Ok(())
 }
 
-// The run goes on behind its last slot: by the place that stands there, or by a free one.
+// Extends the run by one slot: with the place that is kept for it ahead, or with a free one.
 fn extend<B: Drop>(
     run: &mut Vec<Option<Entry<B>>>,
     ahead: &mut BTreeMap<u64, Option<Entry<B>>>,
@@ -206,7 +206,7 @@ fn extend<B: Drop>(
     Ok(())
 }
 
-// Whether the first place ahead is that of the slot.
+// Returns whether the first place ahead is the slot's.
 fn stands_first<B>(ahead: &BTreeMap<u64, Option<Entry<B>>>, slot: u64) -> bool
     ensures { MatchBool result (starts_at slot ahead.now.entries) (starts_at slot ahead.now.entries → ⊥) }
 {

@@ -8,12 +8,16 @@ ghost use Rattle.paxos_learner.specs.Learner.{has_room_at, KeepsRoom};
 
 use crate::fault::LearnerFault;
 use crate::learned::LearnedEntries;
-use crate::tallies::{Place, Tallies};
+use crate::tallies::{SlotBallot, Tallies};
 use paxos_packets::{Ballot, Body, Entry, Members, NodeSet, Slot, Vote};
 use std::alloc::Global;
 use std::marker::Model;
 
 /// One member as a learner: what it heard of the members' votes, and the entries that it learned (Lamport 2001, section 2.3).
+///
+/// Its calls come in pairs. `vote` and `tell` hear one thing by itself: they may allocate, and return `Disagree` or `Memory`.
+/// `vote_in_room` and `tell_in_room` carry out what an event planned by a `Hearing`: the plan has found disagreement already, and
+/// `make_room_for` has reserved the memory before the event was committed, so they cannot fail.
 pub struct Learner<B> {
     alloc: Global,
     members: Members,
@@ -41,7 +45,7 @@ impl<B> Model for Learner<B> {
 }
 
 impl<B> Learner<B> {
-    /// A learner of these members that heard and learned nothing. Takes no memory; the other calls will, from `alloc`.
+    /// Returns a learner of these members that heard and learned nothing. Does not allocate; the other calls will, from `alloc`.
     pub fn new(alloc: Global, members: Members) -> Learner<B>
         ensures { result.state ≡ begun members }
     {
@@ -53,8 +57,8 @@ impl<B> Learner<B> {
         }
     }
 
-    /// The entry that was learned in the slot. Takes no memory. Behind slots that are all learned it takes a constant number of steps;
-    /// above a gap, a number that is logarithmic in the number of entries above it.
+    /// Returns the entry that was learned in the slot. Does not allocate. Takes a constant number of steps if all slots before it are
+    /// learned; above a gap, a number logarithmic in the number of entries above it.
     pub fn learned(&self, slot: Slot) -> Option<&Entry<B>>
         ensures { option_copied result ≡ learned_at slot self.now.state.learner.learned }
     {
@@ -63,21 +67,21 @@ impl<B> Learner<B> {
 }
 
 impl<B> Learner<B> {
-    // What was learned stands by ascending slot.
+    // What was learned ascends by slot.
     pub(crate) fn ascends(&self)
         ensures { Rises 0 self.now.state.learner.learned }
     {
         self.learned.ascends();
     }
 
-    // The members that were heard to have voted there.
-    pub(crate) fn nodes(&self, place: &Place) -> NodeSet
+    // Returns the members that were heard to have voted there.
+    pub(crate) fn nodes(&self, place: &SlotBallot) -> NodeSet
         ensures { result ≡ nodes_heard place.now self.now.state.learner.heard }
     {
         self.heard.nodes(place)
     }
 
-    // Whether these are more than half of the members.
+    // Returns whether these are more than half of the members.
     pub(crate) fn has_majority(&self, nodes: NodeSet) -> bool
         ensures { result ≡ is_majority self.now.state.members (is_in nodes) }
     {
@@ -86,8 +90,8 @@ impl<B> Learner<B> {
 }
 
 impl<B: Body> Learner<B> {
-    /// The member voted for the entry in this ballot and slot. Once a majority is heard to have done so there the entry is learned.
-    /// `Disagree` where it would be, and another was learned in the slot. After a fault the learner is as it was.
+    /// Hears that the member voted for the entry in this ballot and slot, and learns the entry once a majority is heard to have done so.
+    /// Returns `Disagree` if it would be learned, and another was learned in the slot. After a fault the learner is as it was.
     pub fn vote(
         &mut self,
         node: u8,
@@ -100,12 +104,12 @@ impl<B: Body> Learner<B> {
         ensures disagree { (result ≡ Err Disagree) ↔ (vote_disagrees B.same self.old.state.members node
             (record { slot = slot; ballot = ballot; entry = entry.now }) self.old.state.learner ≡ true) }
     {
-        let place = Place { slot, ballot };
+        let place = SlotBallot { slot, ballot };
         let nodes = self.heard.nodes(&place).with(node);
         if !self.members.majority(nodes) {
             return self.heard.hear(node, &place);
         }
-        // Of three members or more one is no majority, so the place was heard before, and its count takes no memory.
+        // Of three members or more one is no majority, so the place was heard before, and its count does not allocate.
         let _count = self.members.count();
         learn(self.alloc, &mut self.learned, slot, entry)?;
         let Ok(()) = self.heard.hear(node, &place) else {
@@ -114,7 +118,7 @@ impl<B: Body> Learner<B> {
         Ok(())
     }
 
-    /// A member tells that it learned the entry in the slot. `Disagree` where another was learned there. After a fault the learner is as
+    /// Hears that a member learned the entry in the slot. Returns `Disagree` if another was learned there. After a fault the learner is as
     /// it was.
     pub fn tell(&mut self, slot: Slot, entry: &Entry<B>) -> Result<(), LearnerFault>
         ensures ok { OnOk result (self.new.state ≡ told slot entry.now self.old.state) }
@@ -126,7 +130,7 @@ impl<B: Body> Learner<B> {
 }
 
 impl<B: Drop> Learner<B> {
-    /// Makes room for votes in so many slots and ballots in which none was heard. With `Memory` there is the room of before.
+    /// Reserves memory for votes in `votes` pairs of slot and ballot in which none was heard. On `Memory` the room is the one of before.
     pub fn make_room(&mut self, votes: usize) -> Result<(), LearnerFault>
         ensures ok { OnOk result (votes ≤ self.new.room.votes) }
         ensures state { self.new.state ≡ self.old.state }
@@ -136,8 +140,8 @@ impl<B: Drop> Learner<B> {
         self.heard.make_room(votes)
     }
 
-    /// Makes room for the entry of the slot. With `Memory` there is the room of before. It takes a number of steps that is logarithmic in
-    /// the number of slots above a gap.
+    /// Reserves memory for the entry of the slot. On `Memory` the room is the one of before. Takes a number of steps logarithmic in the
+    /// number of slots above a gap.
     pub fn make_room_at(&mut self, slot: Slot) -> Result<(), LearnerFault>
         ensures ok { OnOk result (has_room_at slot self.new ≡ true) }
         ensures state { self.new.state ≡ self.old.state }
@@ -148,8 +152,8 @@ impl<B: Drop> Learner<B> {
         self.learned.keep_place(slot)
     }
 
-    /// The vote of this member, as `vote` takes it, where there is room for it. It takes no memory that is wanted, copies nothing, and is
-    /// no place for disagreement: a slot keeps the entry that was learned there.
+    /// Hears this vote of the member as `vote` does, given room for it. Never runs out of memory, copies nothing, and never reports
+    /// `Disagree`: a slot keeps the entry that was learned there.
     pub fn vote_in_room(&mut self, node: u8, vote: Vote<B>)
         requires votes { 0 < self.old.room.votes }
         requires place { has_room_at vote.slot self.old ≡ true }
@@ -162,7 +166,7 @@ impl<B: Drop> Learner<B> {
             ballot,
             entry,
         } = vote;
-        let place = Place { slot, ballot };
+        let place = SlotBallot { slot, ballot };
         let voters = self.heard.nodes(&place).with(node);
         let Ok(()) = self.heard.hear(node, &place) else {
             unreachable!()
@@ -173,8 +177,8 @@ impl<B: Drop> Learner<B> {
         learn_in_place(&mut self.learned, slot, entry);
     }
 
-    /// What a member tells, as `tell` takes it, where there is room for it. It takes no memory that is wanted, copies nothing, and is no
-    /// place for disagreement: a slot keeps the entry that was learned there.
+    /// Hears what a member learned as `tell` does, given room for it. Never runs out of memory, copies nothing, and never reports
+    /// `Disagree`: a slot keeps the entry that was learned there.
     pub fn tell_in_room(&mut self, slot: Slot, entry: Entry<B>)
         requires { has_room_at slot self.old ≡ true }
         ensures state { self.new.state ≡ told slot entry self.old.state }
@@ -185,7 +189,7 @@ impl<B: Drop> Learner<B> {
     }
 }
 
-// The entry is learned, unless one was learned in the slot.
+// Learns the entry, unless one was learned in the slot.
 fn learn<B: Body>(
     alloc: Global,
     learned: &mut LearnedEntries<B>,
@@ -208,7 +212,7 @@ fn learn<B: Body>(
     learned.put(slot, copy)
 }
 
-// The entry is learned in its place, unless one was learned in the slot.
+// Learns the entry in its place, unless one was learned in the slot.
 fn learn_in_place<B: Drop>(learned: &mut LearnedEntries<B>, slot: Slot, entry: Entry<B>)
     requires { has_place slot learned.old.learned learned.old.places ≡ true }
     ensures learned { learned.new.learned ≡ learn_among slot entry learned.old.learned }

@@ -15,4 +15,4 @@ pub use fault::LearnerFault;
 pub use hearing::{Hearing, News};
 pub use learned::{LearnedEntries, LearnedEntry};
 pub use learner::Learner;
-pub use tallies::{Place, Tallies};
+pub use tallies::{SlotBallot, Tallies};

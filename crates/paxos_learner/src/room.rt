@@ -1,4 +1,4 @@
-//! Room for what a learner is to hear, and the hearing of it where there is room.
+//! Room for what a learner is to hear, and hearing it in that room.
 
 ghost use Rattle.std.specs.Prelude.{◌≡◌, ◌+◌, ◌<◌, ◌≤◌, true, length, OnOk, IsOkUnless};
 ghost use Rattle.paxos_learner.specs.declared.fault.LearnerFault.TheVariants.{Memory};
@@ -11,7 +11,7 @@ use crate::learner::Learner;
 use paxos_packets::Slot;
 
 impl<B: Drop> Learner<B> {
-    /// Makes room for all of this news. With `Memory` the learner is as it was, too.
+    /// Reserves memory for all of this news. The learner stays as it was, with `Memory` too.
     pub fn make_room_for(&mut self, news: &[News<B>]) -> Result<(), LearnerFault>
         ensures ok { OnOk result (HasRoomFor news.now self.new) }
         ensures state { self.new.state ≡ self.old.state }
@@ -20,8 +20,7 @@ impl<B: Drop> Learner<B> {
         make_room_for(self, news)
     }
 
-    /// Hears all of this news, for which there is room: a learner becomes what was planned on it. Takes no memory that is wanted, and copies
-    /// nothing.
+    /// Hears all of this news, given room for it: the learner becomes what was planned on it. Never runs out of memory, and copies nothing.
     pub fn hear_in_room(&mut self, news: Vec<News<B>>)
         requires { HasRoomFor news.items self.old }
         ensures { self.new.state ≡ hear_all news.items self.old.state }
@@ -63,7 +62,7 @@ fn hear_one<B: Drop>(learner: &mut Learner<B>, one: News<B>)
     }
 }
 
-// The slot that it is of.
+// Returns the news' slot.
 fn slot_of<B>(one: &News<B>) -> Slot
     ensures { result ≡ slot_of one.now }
 {

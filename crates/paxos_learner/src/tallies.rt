@@ -9,16 +9,16 @@ use paxos_packets::{Ballot, NodeSet, Slot};
 use std::alloc::Global;
 use std::marker::Model;
 
-/// One ballot in one slot: where the votes of the members are counted.
+/// A slot and a ballot: votes are counted for each such pair by itself, called a place here.
 #[derive(Clone, Copy, Debug, PartialEq, Eq, Hash)]
-pub struct Place {
+pub struct SlotBallot {
     pub slot: Slot,
     pub ballot: Ballot,
 }
 
-/// Which members were heard to have voted, for each place, in the order in which the places were first heard.
+/// The members that were heard to have voted, for each place, in the order in which the places were first heard.
 pub struct Tallies {
-    table: IndexMap<Place, NodeSet>,
+    table: IndexMap<SlotBallot, NodeSet>,
 }
 
 impl Drop for Tallies {
@@ -37,7 +37,7 @@ impl Model for Tallies {
 }
 
 impl Tallies {
-    /// No vote was heard. Takes no memory; `hear` will, from `alloc`.
+    /// Returns no votes heard. Does not allocate; `hear` will, from `alloc`.
     pub fn new(alloc: Global) -> Tallies
         ensures { result.heard ≡ [] }
     {
@@ -46,8 +46,8 @@ impl Tallies {
         }
     }
 
-    /// The members that were heard to have voted there. Takes no memory, and a constant number of steps.
-    pub fn nodes(&self, place: &Place) -> NodeSet
+    /// Returns the members that were heard to have voted there. Does not allocate, and takes a constant number of steps.
+    pub fn nodes(&self, place: &SlotBallot) -> NodeSet
         ensures { result ≡ nodes_heard place.now self.now.heard }
     {
         match self.table.get(place) {
@@ -56,8 +56,9 @@ impl Tallies {
         }
     }
 
-    /// The members that were heard to have voted there, if the place was heard of. Takes no memory, and a constant number of steps.
-    pub fn find(&self, place: &Place) -> Option<NodeSet>
+    /// Returns the members that were heard to have voted there, or `None` if no vote was heard there. Does not allocate, and takes a
+    /// constant number of steps.
+    pub fn find(&self, place: &SlotBallot) -> Option<NodeSet>
         ensures { result ≡ lookup (same_place place.now) self.now.heard }
     {
         match self.table.get(place) {
@@ -66,7 +67,7 @@ impl Tallies {
         }
     }
 
-    /// Makes room for the votes of so many places more.
+    /// Reserves memory for the votes of `places` further places.
     pub fn make_room(&mut self, places: usize) -> Result<(), LearnerFault>
         ensures ok { OnOk result (places ≤ self.new.room) }
         ensures heard { self.new.heard ≡ self.old.heard }
@@ -78,9 +79,9 @@ impl Tallies {
         }
     }
 
-    /// A vote of this member is heard there. With `Memory`, which only comes where none was heard there before, and never where there is
-    /// room, the tallies are as they were. Takes a constant number of steps, but where the table grows.
-    pub fn hear(&mut self, node: u8, place: &Place) -> Result<(), LearnerFault>
+    /// Hears a vote of this member there. On `Memory`, which only comes if none was heard there before, and never if there is room, the
+    /// tallies are as they were. Takes a constant number of steps, unless the table grows.
+    pub fn hear(&mut self, node: u8, place: &SlotBallot) -> Result<(), LearnerFault>
         ensures ok { OnOk result (self.new.heard ≡ hear node place.now self.old.heard) }
         ensures err { OnErr result (self.new.heard ≡ self.old.heard) }
         ensures memory { IsOkUnless result Memory }
@@ -92,8 +93,8 @@ impl Tallies {
         self.put(*place, nodes)
     }
 
-    // The members that voted at the place are these, where there is room for a place more.
-    pub(crate) fn put_in_room(&mut self, place: Place, nodes: NodeSet)
+    // Notes these members as those that voted at the place, given room for one more place.
+    pub(crate) fn put_in_room(&mut self, place: SlotBallot, nodes: NodeSet)
         requires { 0 < self.old.room }
         ensures { self.new.heard ≡ insert_entry same_place self.old.heard place nodes }
     {
@@ -102,7 +103,7 @@ impl Tallies {
         };
     }
 
-    fn put(&mut self, place: Place, nodes: NodeSet) -> Result<(), LearnerFault>
+    fn put(&mut self, place: SlotBallot, nodes: NodeSet) -> Result<(), LearnerFault>
         ensures ok { OnOk result (self.new.heard ≡ insert_entry same_place self.old.heard place nodes) }
         ensures err { OnErr result (self.new.heard ≡ self.old.heard) }
         ensures memory { IsOkUnless result Memory }

@@ -24,7 +24,7 @@ pub length_both : {X : Type 0} (xs ys : List X) → length (xs ++ ys) ≡ length
 length_both [] ys = omega arith
 length_both (x ∷ xs) ys = let h = length_both xs ys in omega arith
 
--- the first entries of what was learned, where it begins with a log and with what follows
+-- the first entries of what was learned, if it begins with a log and with what follows
 
 pub first_both : {B : Type 0} (log more : List (Entry B)) (ls : List (LearnedEntry B)) → Begins (log ++ more) ls
     → first_learned (length log + length more) ls ≡ log ++ more

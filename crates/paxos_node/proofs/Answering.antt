@@ -1,4 +1,4 @@
--- What a node answers to an event, from what it planned.
+-- What a node returns for an event, from what it planned.
 use Rattle.std.proofs.Common.{◌≡◌, ◌<◌, ◌^◌, ℕ, suc, Bool, true, false, cond, not, ◌&&◌, Result, Ok, Err, Option, Some, None, List, [], ◌∷◌, ◌++◌, length, refl, ap, sym, ◌∙◌, subst, append-nil, arith}
 use Rattle.std.proofs.lemmas.Bool.{ltb-true, eqb-true}
 use Rattle.std.specs.Prelude.{is_some, nat_lt, IfOk, ◌==◌}
@@ -11,8 +11,8 @@ use Rattle.paxos_node.specs.declared.event.Event.{Event}
 use Rattle.paxos_node.specs.declared.event.Event.TheVariants.{Take, Tick, Start, Suspect, Deliver, Crash, Restart}
 use Rattle.paxos_node.specs.declared.fault.NodeFault.{NodeFault}
 use Rattle.paxos_node.specs.declared.outcome.Outcome.{Outcome}
-use Rattle.paxos_planning.specs.Node.{NodeState, Turn}
-use Rattle.paxos_planning.specs.Turn.{begun, with_pending}
+use Rattle.paxos_planning.specs.Node.{NodeState, Plan}
+use Rattle.paxos_planning.specs.Plan.{begun, with_pending}
 use Rattle.paxos_planning.specs.Parts.{taken_with}
 use Rattle.paxos_planning.proofs.Standing.{no_front}
 use Rattle.paxos_node.specs.Adopting.{pending_behind, Fits, Settled}
@@ -167,7 +167,7 @@ is_then_up {B} me e x p = of e (may_be_planned me e x p)
     of (Crash n) q = absurd (cc)
     of (Restart n) q = absurd (cc)
 
--- what the node answers is what its event's owner does
+-- what the node returns is what its event's owner does
 
 pub owner_answers : {B : Type 0} (same : B → B → Bool) (me members : ℕ) (e : Event B) (x : NodeState B) (r : Result (Outcome B) NodeFault) → owner e ≡ me
     → Answered me members x (is_round_refused e x) (is_full_refused same e x) (on_event same members e (begun x)) r
@@ -187,7 +187,7 @@ nothing_fits {B} me members n x p l b =
       front = no_front (length (x.applied ++ [])) x.proposer.role (pending_behind x.applied [] x.pending);
     }
 
-pub planned_fits : {B : Type 0} (me members : ℕ) (x : NodeState B) (rounds full other : Bool) (t : Turn B) (r : Result (Outcome B) NodeFault)
+pub planned_fits : {B : Type 0} (me members : ℕ) (x : NodeState B) (rounds full other : Bool) (t : Plan B) (r : Result (Outcome B) NodeFault)
     → Answers rounds full other (λ o. Settled me members x t o) r → IfOk r (λ o. Fits me members o x)
 planned_fits me members x rounds full other t (Ok o) a = a.3.fits
 planned_fits me members x rounds full other t (Err f) a = tt

@@ -22,8 +22,8 @@ use Rattle.paxos_proposer.specs.Proposer.{slot_end, next_vote, new_ballot, is_le
 use Rattle.paxos_proposer.specs.Reports.{is_counted, reports, called_for}
 use Rattle.paxos_node.specs.declared.event.Event.{Event}
 use Rattle.paxos_node.specs.declared.event.Event.TheVariants.{Take, Tick, Start, Suspect, Deliver, Crash, Restart}
-use Rattle.paxos_planning.specs.Node.{Turn}
-use Rattle.paxos_planning.specs.Turn.{with_role, with_pending, begun, send, promise, vote, cast}
+use Rattle.paxos_planning.specs.Node.{Plan}
+use Rattle.paxos_planning.specs.Plan.{with_role, with_pending, begun, send, promise, vote, cast}
 use Rattle.paxos_planning.specs.Proposals.{offer, propose_as, propose, propose_all, lead, stands, propose_new, propose_each, forwarded, push}
 use Rattle.paxos_planning.specs.Replies.{saw, refuse, count_promise, on_promise_as, on_packet}
 use Rattle.paxos_node.specs.Applying.{note, ends, go_down, apply_all, settle}
@@ -37,18 +37,18 @@ use Rattle.paxos_planning.proofs.Putting.{votes_put}
 use Rattle.paxos_node.specs.Laws.{CommitsItsChange}
 
 -- the rows so far are those of before with the change so far
-pub record Commits {B : Type 0} (rows : Rows B) (o : Turn B) : Type 0 where
+pub record Commits {B : Type 0} (rows : Rows B) (o : Plan B) : Type 0 where
   pub is : o.node.rows ≡ adopted rows o.change
   pub ascends : Ascends o.change.votes
 
 module _ {B : Type 0} (same : B → B → Bool) (members n : ℕ) (rows : Rows B) where
-  abbrev C : Turn B → Type 0
+  abbrev C : Plan B → Type 0
   C o = Commits rows o
 
-  promised : (b : Ballot) (t : Turn B) → C t → C (promise b t)
+  promised : (b : Ballot) (t : Plan B) → C t → C (promise b t)
   promised b t c = record { is = ap (λ r. with_promise b r) c.is; ascends = c.ascends }
 
-  voted : (v : Vote B) (t : Turn B) → C t → C (vote v t)
+  voted : (v : Vote B) (t : Plan B) → C t → C (vote v t)
   voted v t c =
       record {
         is =
@@ -57,45 +57,45 @@ module _ {B : Type 0} (same : B → B → Bool) (members n : ℕ) (rows : Rows B
         ascends = put_ascending v t.change.votes c.ascends;
       }
 
-  casts : (v : Vote B) (t : Turn B) → C t → C (cast same members n v t)
+  casts : (v : Vote B) (t : Plan B) → C t → C (cast same members n v t)
   casts v t c = let d = voted v t c in record { is = d.is; ascends = d.ascends }
 
-  offers : (b : Ballot) (next : ℕ) (table : List (Vote B)) (e : Entry B) (t : Turn B) → C t → C (offer members n b next table e t)
+  offers : (b : Ballot) (next : ℕ) (table : List (Vote B)) (e : Entry B) (t : Plan B) → C t → C (offer members n b next table e t)
   offers b next table e t c = record { is = c.is; ascends = c.ascends }
 
-  proposes_as : (r : Role B) (e : Entry B) (t : Turn B) → C t → C (propose_as same members n r e t)
+  proposes_as : (r : Role B) (e : Entry B) (t : Plan B) → C t → C (propose_as same members n r e t)
   proposes_as Idle e t c = c
   proposes_as (Preparing b first cs) e t c = c
   proposes_as (Leading b next table) e t c =
       cond_both (nat_lt next slot_end) (cast same members n (next_vote b next e) (offer members n b next table e t)) t (λ u. C u)
       (λ l. casts (next_vote b next e) (offer members n b next table e t) (offers b next table e t c)) (λ l. c)
 
-  proposes : (e : Entry B) (t : Turn B) → C t → C (propose same members n e t)
+  proposes : (e : Entry B) (t : Plan B) → C t → C (propose same members n e t)
   proposes e t c = proposes_as t.node.proposer.role e t c
 
-  proposes_all : (es : List (Entry B)) (t : Turn B) → C t → C (propose_all same members n es t)
+  proposes_all : (es : List (Entry B)) (t : Plan B) → C t → C (propose_all same members n es t)
   proposes_all [] t c = c
   proposes_all (e ∷ es) t c = proposes_all es (propose same members n e t) (proposes e t c)
 
-  proposes_each : (es : List (Entry B)) (t : Turn B) → C t → C (propose_each same members n es t)
+  proposes_each : (es : List (Entry B)) (t : Plan B) → C t → C (propose_each same members n es t)
   proposes_each [] t c = c
   proposes_each (e ∷ es) t c =
       proposes_each es (propose_new same members n e t)
       (cond_both (stands same (length t.node.applied) t.node.proposer.role e) t (propose same members n e t) (λ u. C u) (λ d. c)
       (λ d. proposes e t c))
 
-  pushes : (t : Turn B) → C t → C (push same members n t)
+  pushes : (t : Plan B) → C t → C (push same members n t)
   pushes t c =
       cond_both (is_leading t.node.proposer.role) (propose_each same members n t.node.pending t)
       (send (forwarded n t.node.rows.promised t.node.pending) t) (λ u. C u)
       (λ d. proposes_each t.node.pending t c) (λ d. record { is = c.is; ascends = c.ascends })
 
-  leads : (b : Ballot) (first : ℕ) (vs : List (Vote B)) (t : Turn B) → C t → C (lead same members n b first vs t)
+  leads : (b : Ballot) (first : ℕ) (vs : List (Vote B)) (t : Plan B) → C t → C (lead same members n b first vs t)
   leads b first vs t c =
       proposes_all (called_for first vs) (record t { node = with_role (Leading b first []) t.node })
       (record { is = c.is; ascends = c.ascends })
 
-  promises_as : (from : ℕ) (b : Ballot) (votes : List (Vote B)) (r : Role B) (t : Turn B) → C t
+  promises_as : (from : ℕ) (b : Ballot) (votes : List (Vote B)) (r : Role B) (t : Plan B) → C t
       → C (on_promise_as same members n from b votes r t)
   promises_as from b votes Idle t c = c
   promises_as from b votes (Leading d next table) t c = c
@@ -110,7 +110,7 @@ module _ {B : Type 0} (same : B → B → Bool) (members n : ℕ) (rows : Rows B
       more : List (CountedPromise B)
       more = cs ++ record { node = from; votes = votes } ∷ []
 
-  packets : (from : ℕ) (kind : Kind B) (t : Turn B) → C t → C (on_packet same members n from kind t)
+  packets : (from : ℕ) (kind : Kind B) (t : Plan B) → C t → C (on_packet same members n from kind t)
   packets from (Prepare b first) t c =
       cond_both (may_promise t.node.rows.promised b)
       (send (packet n (Promise b (votes_from first t.node.rows.votes)) from ∷ []) (promise b t)) (refuse n from b t) (λ u. C u)
@@ -126,36 +126,36 @@ module _ {B : Type 0} (same : B → B → Bool) (members n : ℕ) (rows : Rows B
   packets from (Ask first) t c = record { is = c.is; ascends = c.ascends }
   packets from (Learned s e) t c = record { is = c.is; ascends = c.ascends }
 
-  starting : (t : Turn B) → C t → C (on_start members n t)
+  starting : (t : Plan B) → C t → C (on_start members n t)
   starting t c =
       cond_both (starts n t.node) (begin members n (new_ballot n t.node.rows.promised t.node.proposer) (suc (length t.node.applied)) t) t
       (λ u. C u)
       (λ e. record { is = ap (λ r. with_promise (new_ballot n t.node.rows.promised t.node.proposer) r) c.is; ascends = c.ascends }) (λ e. c)
 
-  ticking : (t : Turn B) → C t → C (on_tick same members n t)
+  ticking : (t : Plan B) → C t → C (on_tick same members n t)
   ticking t c =
       let d = pushes (send (again members n t.node.proposer.role t.node.learner.learned) t) (record { is = c.is; ascends = c.ascends }) in
       record { is = d.is; ascends = d.ascends }
 
-  taking : (transport : ℕ) (body : B) (t : Turn B) → C t → C (on_take same members n transport body t)
+  taking : (transport : ℕ) (body : B) (t : Plan B) → C t → C (on_take same members n transport body t)
   taking transport body t c =
       cond_both (takes t.node) (push same members n (record t { node = with_item n transport body t.node })) t (λ u. C u)
       (λ d. pushes (record t { node = with_item n transport body t.node }) (record { is = c.is; ascends = c.ascends })) (λ d. c)
 
-  suspecting : (lost : Option (Entry B)) (t : Turn B) → C t → C (suspected same members n lost t)
+  suspecting : (lost : Option (Entry B)) (t : Plan B) → C t → C (suspected same members n lost t)
   suspecting None t c = c
   suspecting (Some lost) t c =
       cond_both (has_room t.node) (push same members n (record t { node = with_pending (t.node.pending ++ lost ∷ []) t.node })) t (λ u. C u)
       (λ d. pushes (record t { node = with_pending (t.node.pending ++ lost ∷ []) t.node }) (record { is = c.is; ascends = c.ascends }))
       (λ d. c)
 
-  applying : (es : List (Entry B)) (t : Turn B) → C t → C (apply_all n es t)
+  applying : (es : List (Entry B)) (t : Plan B) → C t → C (apply_all n es t)
   applying [] t c = c
   applying (e ∷ es) t c =
       cond_both (ends n t.node e) (go_down (note e t)) (apply_all n es (note e t)) (λ u. C u)
       (λ d. record { is = c.is; ascends = c.ascends }) (λ d. applying es (note e t) (record { is = c.is; ascends = c.ascends }))
 
-  settling : (t : Turn B) → C t → C (settle n t)
+  settling : (t : Plan B) → C t → C (settle n t)
   settling t c = applying (run_from (suc (length t.node.applied)) t.node.learner.learned) t c
 
 pub commits_its_change : {B : Type 0} → CommitsItsChange B

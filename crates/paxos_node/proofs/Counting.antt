@@ -5,7 +5,7 @@ use Rattle.replica_machine.specs.declared.roll.Standing.{Standing}
 use Rattle.replica_machine.specs.Roll.{standing_after}
 use Rattle.paxos_node.specs.Applying.{ends_boot, count_to_end, has_end}
 
--- behind so many, the rest makes this count and this end
+-- after the first n, the rest makes this count and this end
 abbrev pub Counts : {B : Type 0} → ℕ → ℕ → Standing → List (Entry B) → ℕ → ℕ → Bool → Type 0
 Counts me boot s rest n count end = (n + count_to_end me boot s rest ≡ count) × (has_end me boot s rest ≡ end)
 

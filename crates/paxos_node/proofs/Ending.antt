@@ -1,4 +1,4 @@
--- An event's end: what is applied entry by entry is applied at once, up to the entry that tells its boot lost; and what is planned then.
+-- An event's end: what is applied entry by entry is applied at once, up to the loss of its boot; and what is planned then.
 use Rattle.std.proofs.Common.{◌≡◌, ◌<◌, ◌≤◌, ◌+◌, ◌^◌, ℕ, suc, Bool, true, false, cond, not, ◌&&◌, ◌||◌, Result, Ok, Err, Option, Some, None, List, [], ◌∷◌, ◌++◌, take, length}
 use Rattle.std.proofs.Common.{refl, ap, sym, ◌∙◌, subst, append_assoc, append-nil, arith, eqb}
 use Rattle.std.proofs.lemmas.Bool.{eqb-true}
@@ -17,7 +17,7 @@ use Rattle.replica_machine.specs.Roll.{standing, standing_after, is_live}
 use Rattle.paxos_node.specs.declared.fault.NodeFault.{NodeFault}
 use Rattle.paxos_node.specs.declared.fault.NodeFault.TheVariants.{Rounds, Full, Disagree, Memory}
 use Rattle.paxos_node.specs.declared.outcome.Outcome.{Outcome}
-use Rattle.paxos_planning.specs.Node.{NodeState, Turn}
+use Rattle.paxos_planning.specs.Node.{NodeState, Plan}
 use Rattle.paxos_planning.specs.Parts.{proposer_of, learner_of, pending_with}
 use Rattle.paxos_node.specs.Adopting.{pending_behind, front_behind, Settled}
 use Rattle.paxos_node.specs.Applying.{note, ends, down, go_down, apply_all, settle, ends_boot, count_to_end, has_end}
@@ -25,14 +25,14 @@ use Rattle.paxos_planning.specs.Front.{AllStand, IsFront}
 use Rattle.paxos_planning.proofs.Planning.{first_full}
 use Rattle.paxos_planning.proofs.Standing.{no_front}
 use Rattle.paxos_proposer.specs.Role.{Role}
-use Rattle.paxos_planning.specs.Drafting.{Known, turn_behind}
+use Rattle.paxos_planning.specs.Drafting.{Known, plan_with_effects}
 use Rattle.paxos_planning.specs.declared.effects.Effects.{Effects}
 use Rattle.paxos_node.specs.Outcome.{outcome_with, with_added, added_in}
 use Rattle.paxos_node.specs.Plans.{Answers}
 use Rattle.paxos_node.proofs.Adoption.{length_both}
 use Rattle.paxos_node.proofs.Rolling.{from_last}
 
--- an entry ends a boot for what the log says, or for where the node stands
+-- an entry ends a boot by what the log says, or by the node's standing
 
 ends_alike : {B : Type 0} (me : ℕ) (x : NodeState B) (e : Entry B) → ends me x e ≡ ends_boot me x.rows.boot (standing me x.applied) e
 ends_alike me x Noop = refl
@@ -48,20 +48,20 @@ ends_alike me x (Lost n b) = go (eqb n me) (eqb b x.rows.boot) (eqb-true n me) (
 
 -- many entries at once
 
-abbrev noted : {B : Type 0} → List (Entry B) → Turn B → Turn B
+abbrev noted : {B : Type 0} → List (Entry B) → Plan B → Plan B
 noted es t =
     record t {
       node = record t.node { applied = t.node.applied ++ es; pending = pending_behind t.node.applied es t.node.pending };
       applied = t.applied ++ es;
     }
 
-abbrev ended : {B : Type 0} → Bool → Turn B → Turn B
+abbrev ended : {B : Type 0} → Bool → Plan B → Plan B
 ended b t = cond b (go_down t) t
 
-noted_none : {B : Type 0} (t : Turn B) → noted [] t ≡ t
+noted_none : {B : Type 0} (t : Plan B) → noted [] t ≡ t
 noted_none t = λ i. record t { node = record t.node { applied = append-nil t.node.applied i }; applied = append-nil t.applied i }
 
-noted_more : {B : Type 0} (e : Entry B) (es : List (Entry B)) (t : Turn B) → noted es (note e t) ≡ noted (e ∷ es) t
+noted_more : {B : Type 0} (e : Entry B) (es : List (Entry B)) (t : Plan B) → noted es (note e t) ≡ noted (e ∷ es) t
 noted_more e es t = λ i.
     record t {
       node = record t.node {
@@ -71,7 +71,7 @@ noted_more e es t = λ i.
       applied = append_assoc t.applied (e ∷ []) es i;
     }
 
-applied_at_once : {B : Type 0} (me boot : ℕ) (es : List (Entry B)) (s : Standing) (t : Turn B) → standing me t.node.applied ≡ s → t.node.rows.boot ≡ boot
+applied_at_once : {B : Type 0} (me boot : ℕ) (es : List (Entry B)) (s : Standing) (t : Plan B) → standing me t.node.applied ≡ s → t.node.rows.boot ≡ boot
     → apply_all me es t ≡ ended (has_end me boot s es) (noted (take (count_to_end me boot s es) es) t)
 applied_at_once me boot [] s t p q = sym (noted_none t)
 applied_at_once {B} me boot (e ∷ es) s t p q =
@@ -93,7 +93,7 @@ applied_at_once {B} me boot (e ∷ es) s t p q =
     go true h = refl
     go false h =
         h
-        ∙ ap (λ (u : Turn B). ended (has_end me boot (standing_after me s e) es) u)
+        ∙ ap (λ (u : Plan B). ended (has_end me boot (standing_after me s e) es) u)
         (noted_more e (take (count_to_end me boot (standing_after me s e) es) es) t)
 
 -- a log that the learned entries begin with is short enough
@@ -115,35 +115,35 @@ short {B} n (e ∷ es) (l ∷ ls) p r =
 
 -- what is planned at an event's end
 
-ended_change : {B : Type 0} (b : Bool) (t : Turn B) → t.change ≡ (ended b t).change
+ended_change : {B : Type 0} (b : Bool) (t : Plan B) → t.change ≡ (ended b t).change
 ended_change true t = refl
 ended_change false t = refl
 
-ended_packets : {B : Type 0} (b : Bool) (t : Turn B) → t.packets ≡ (ended b t).packets
+ended_packets : {B : Type 0} (b : Bool) (t : Plan B) → t.packets ≡ (ended b t).packets
 ended_packets true t = refl
 ended_packets false t = refl
 
-ended_applied : {B : Type 0} (b : Bool) (t : Turn B) → t.applied ≡ (ended b t).applied
+ended_applied : {B : Type 0} (b : Bool) (t : Plan B) → t.applied ≡ (ended b t).applied
 ended_applied true t = refl
 ended_applied false t = refl
 
-ended_disagrees : {B : Type 0} (b : Bool) (t : Turn B) → (ended b t).disagrees ≡ t.disagrees
+ended_disagrees : {B : Type 0} (b : Bool) (t : Plan B) → (ended b t).disagrees ≡ t.disagrees
 ended_disagrees true t = refl
 ended_disagrees false t = refl
 
-ended_up : {B : Type 0} (b : Bool) (t : Turn B) → t.node.up ≡ true → b ≡ not (ended b t).node.up
+ended_up : {B : Type 0} (b : Bool) (t : Plan B) → t.node.up ≡ true → b ≡ not (ended b t).node.up
 ended_up true t p = refl
 ended_up false t p = sym (ap not p)
 
-ended_log : {B : Type 0} (b : Bool) (t : Turn B) (n : ℕ) → n ≡ length t.node.applied → cond b 0 n ≡ length (ended b t).node.applied
+ended_log : {B : Type 0} (b : Bool) (t : Plan B) (n : ℕ) → n ≡ length t.node.applied → cond b 0 n ≡ length (ended b t).node.applied
 ended_log true t n p = refl
 ended_log false t n p = p
 
-ended_node : {B : Type 0} (b : Bool) (t : Turn B) → cond b (down t.node.rows) t.node ≡ (ended b t).node
+ended_node : {B : Type 0} (b : Bool) (t : Plan B) → cond b (down t.node.rows) t.node ≡ (ended b t).node
 ended_node true t = refl
 ended_node false t = refl
 
--- what stood at the front stands where nothing is applied
+-- what stood at the front stands if nothing is applied
 
 still_front : {B : Type 0} (n : ℕ) (role : Role B) (log applied pending : List (Entry B)) (added : Option (Entry B)) → IsFront n (length log) role pending
     → n ≤ length pending → IsFront (front_behind n applied) (length (log ++ applied)) role (pending_behind log applied (pending_with added pending))
@@ -164,18 +164,18 @@ pub settled : {B : Type 0} (k : Known B) (other : Bool) (e : Effects B) (run app
     → Rises 0 (hear_all e.news.items (learner_of k.members k.state)).learner.learned
     → IsFront front (length k.state.applied) (after_moves e.moves.items (proposer_of k.me k.members k.state)).proposer.role k.state.pending
     → front ≤ length k.state.pending
-    → Settled k.me k.members k.state (turn_behind k other e) (with_added k.added (outcome_with e applied is_down log (front_behind front applied)))
+    → Settled k.me k.members k.state (plan_with_effects k other e) (with_added k.added (outcome_with e applied is_down log (front_behind front applied)))
 settled {B} k other e run applied is_down log front agree up run_is applied_is down_is log_is moves begins rises stand most =
     record {
-      agrees = ap (λ (u : Turn B). u.disagrees) whole ∙ ended_disagrees is_down now ∙ agree;
-      change = ended_change is_down now ∙ ap (λ (u : Turn B). u.change) (sym whole);
-      packets = ended_packets is_down now ∙ ap (λ (u : Turn B). u.packets) (sym whole);
-      applied = ended_applied is_down now ∙ ap (λ (u : Turn B). u.applied) (sym whole);
-      is_down = ended_up is_down now up ∙ ap (λ (u : Turn B). not u.node.up) (sym whole);
+      agrees = ap (λ (u : Plan B). u.disagrees) whole ∙ ended_disagrees is_down now ∙ agree;
+      change = ended_change is_down now ∙ ap (λ (u : Plan B). u.change) (sym whole);
+      packets = ended_packets is_down now ∙ ap (λ (u : Plan B). u.packets) (sym whole);
+      applied = ended_applied is_down now ∙ ap (λ (u : Plan B). u.applied) (sym whole);
+      is_down = ended_up is_down now up ∙ ap (λ (u : Plan B). not u.node.up) (sym whole);
       fits = record { moves = moves; applied = goes; within = within; front = fronts };
-      node = ended_node is_down now ∙ ap (λ (u : Turn B). u.node) (sym whole);
+      node = ended_node is_down now ∙ ap (λ (u : Plan B). u.node) (sym whole);
       log = log_is ∙ ended_log is_down now (length k.state.applied + length applied) (sym (length_both k.state.applied applied))
-          ∙ ap (λ (u : Turn B). length u.node.applied) (sym whole);
+          ∙ ap (λ (u : Plan B). length u.node.applied) (sym whole);
     }
   where
     learned : List (LearnedEntry B)
@@ -190,14 +190,14 @@ settled {B} k other e run applied is_down log front agree up run_is applied_is d
     boot : ℕ
     boot = k.state.rows.boot
 
-    now : Turn B
-    now = noted applied (turn_behind k other e)
+    now : Plan B
+    now = noted applied (plan_with_effects k other e)
 
-    whole : settle k.me (turn_behind k other e) ≡ ended is_down now
+    whole : settle k.me (plan_with_effects k other e) ≡ ended is_down now
     whole =
-        applied_at_once k.me boot (run_from (suc (length k.state.applied)) learned) s (turn_behind k other e) refl refl
-        ∙ ap (λ (r : List (Entry B)). ended (has_end k.me boot s r) (noted (take (count_to_end k.me boot s r) r) (turn_behind k other e))) (sym run_is)
-        ∙ (λ i. ended (sym down_is i) (noted (sym applied_is i) (turn_behind k other e)))
+        applied_at_once k.me boot (run_from (suc (length k.state.applied)) learned) s (plan_with_effects k other e) refl refl
+        ∙ ap (λ (r : List (Entry B)). ended (has_end k.me boot s r) (noted (take (count_to_end k.me boot s r) r) (plan_with_effects k other e))) (sym run_is)
+        ∙ (λ i. ended (sym down_is i) (noted (sym applied_is i) (plan_with_effects k other e)))
 
     goes : Begins (k.state.applied ++ applied) learned
     goes =
@@ -214,7 +214,7 @@ settled {B} k other e run applied is_down log front agree up run_is applied_is d
         let l = length_both k.state.applied applied in
         omega arith
 
-applied_disagrees : {B : Type 0} (me : ℕ) (es : List (Entry B)) (t : Turn B) → (apply_all me es t).disagrees ≡ t.disagrees
+applied_disagrees : {B : Type 0} (me : ℕ) (es : List (Entry B)) (t : Plan B) → (apply_all me es t).disagrees ≡ t.disagrees
 applied_disagrees me [] t = refl
 applied_disagrees {B} me (e ∷ es) t = go (ends me t.node e) (applied_disagrees me es (note e t))
   where
@@ -223,12 +223,12 @@ applied_disagrees {B} me (e ∷ es) t = go (ends me t.node e) (applied_disagrees
     go true h = refl
     go false h = h
 
-pub settled_disagrees : {B : Type 0} (me : ℕ) (t : Turn B) → (settle me t).disagrees ≡ t.disagrees
+pub settled_disagrees : {B : Type 0} (me : ℕ) (t : Plan B) → (settle me t).disagrees ≡ t.disagrees
 settled_disagrees me t = applied_disagrees me (run_from (suc (length t.node.applied)) t.node.learner.learned) t
 
--- where no entry becomes pending
+-- if no entry becomes pending
 
-pub without_added : {B : Type 0} (k : Known B) (t : Turn B) (other : Bool) (r : Result (Outcome B) NodeFault) → k.added ≡ None
+pub without_added : {B : Type 0} (k : Known B) (t : Plan B) (other : Bool) (r : Result (Outcome B) NodeFault) → k.added ≡ None
     → IfOk r (λ o. o.moves.added ≡ None)
     → Answers false false other (λ (o : Outcome B). Settled k.me k.members k.state t (with_added k.added o)) r
     → Answers false false other (λ (o : Outcome B). Settled k.me k.members k.state t o) r

@@ -13,33 +13,33 @@ use Rattle.paxos_acceptor.specs.declared.verdict.Verdict.{Verdict}
 use Rattle.paxos_acceptor.specs.declared.verdict.Answer.TheVariants.{ToSender, ToOthers}
 use Rattle.paxos_acceptor.specs.Acceptor.{may_promise, may_accept, adopted, answers, judged, refused, promise_change, vote_change}
 use Rattle.paxos_learner.specs.Learner.{run_from}
-use Rattle.paxos_planning.specs.Node.{NodeState, Turn}
-use Rattle.paxos_planning.specs.Turn.{begun, send, promise, cast}
+use Rattle.paxos_planning.specs.Node.{NodeState, Plan}
+use Rattle.paxos_planning.specs.Plan.{begun, send, promise, cast}
 use Rattle.paxos_planning.specs.Replies.{saw, refuse}
 use Rattle.paxos_node.specs.Applying.{note, ends, go_down, apply_all, settle}
 use Rattle.paxos_node.specs.Laws.{IsJudged, JudgesAsAnAcceptor}
 
--- a turn that gives this verdict on these rows
-record Gives {B : Type 0} (members me sender : ℕ) (rows : Rows B) (j : Verdict B) (t : Turn B) : Type 0 where
+-- a plan that gives this verdict on these rows
+record Gives {B : Type 0} (members me sender : ℕ) (rows : Rows B) (j : Verdict B) (t : Plan B) : Type 0 where
   pub change : t.change ≡ j.change
   pub packets : t.packets ≡ answers members me sender j.answer
   pub now : t.node.rows ≡ adopted rows j.change
 
 module _ {B : Type 0} (members me sender : ℕ) (rows : Rows B) (j : Verdict B) where
-  abbrev G : Turn B → Type 0
+  abbrev G : Plan B → Type 0
   G t = Gives members me sender rows j t
 
-  applying : (es : List (Entry B)) (t : Turn B) → G t → G (apply_all me es t)
+  applying : (es : List (Entry B)) (t : Plan B) → G t → G (apply_all me es t)
   applying [] t g = g
   applying (e ∷ es) t g =
       cond_both (ends me t.node e) (go_down (note e t)) (apply_all me es (note e t)) (λ u. G u)
       (λ d. record { change = g.change; packets = g.packets; now = g.now })
       (λ d. applying es (note e t) (record { change = g.change; packets = g.packets; now = g.now }))
 
-  settling : (t : Turn B) → G t → G (settle me t)
+  settling : (t : Plan B) → G t → G (settle me t)
   settling t g = applying (run_from (suc (length t.node.applied)) t.node.learner.learned) t g
 
-abbrev at : {B : Type 0} (x : NodeState B) (p : Packet B) → Turn B
+abbrev at : {B : Type 0} (x : NodeState B) (p : Packet B) → Plan B
 at x p = record (begun x) { node = saw p.kind x }
 
 pub judges : {B : Type 0} → JudgesAsAnAcceptor B
@@ -51,7 +51,7 @@ judges {B} = (prepares, accepts)
         let g = settling members me sender x.rows (judged x.rows (Prepare b first)) _ (of (may_promise x.rows.promised b)) in
         record { change = g.change; packets = g.packets; rows = g.now }
       where
-        t : Turn B
+        t : Plan B
         t = at x (packet sender (Prepare b first) me)
 
         of : (c : Bool) → Gives members me sender x.rows
@@ -66,7 +66,7 @@ judges {B} = (prepares, accepts)
         let g = settling members me sender x.rows (judged x.rows (Accept v)) _ (of (may_accept x.rows.promised v.ballot)) in
         record { change = g.change; packets = g.packets; rows = g.now }
       where
-        t : Turn B
+        t : Plan B
         t = at x (packet sender (Accept v) me)
 
         of : (c : Bool) → Gives members me sender x.rows

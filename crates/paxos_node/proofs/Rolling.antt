@@ -28,7 +28,7 @@ rest_none [] (suc i) l = refl
 rest_none (x ∷ xs) zero l = absurd (omega arith)
 rest_none (x ∷ xs) (suc i) l = rest_none xs i (omega arith)
 
--- with no rest, what stands now is what stands behind the whole
+-- with no rest, what stands now is what stands after the whole
 
 pub roll_ends : {B : Type 0} (now rest log es : List (Entry B)) (roll : List Standing) → IsRollOf now roll → now ++ rest ≡ log ++ es → rest ≡ []
     → IsRollOf (log ++ es) roll

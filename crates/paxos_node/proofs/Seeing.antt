@@ -21,8 +21,8 @@ use Rattle.paxos_proposer.specs.Reports.{is_counted, reports, called_for}
 use Rattle.paxos_learner.specs.Learner.{run_from}
 use Rattle.paxos_node.specs.declared.event.Event.{Event}
 use Rattle.paxos_node.specs.declared.event.Event.TheVariants.{Take, Tick, Start, Suspect, Deliver, Crash, Restart}
-use Rattle.paxos_planning.specs.Node.{Turn}
-use Rattle.paxos_planning.specs.Turn.{with_role, with_pending, begun, send, promise, cast}
+use Rattle.paxos_planning.specs.Node.{Plan}
+use Rattle.paxos_planning.specs.Plan.{with_role, with_pending, begun, send, promise, cast}
 use Rattle.paxos_planning.specs.Proposals.{offer, propose_as, propose, propose_all, lead, stands, propose_new, propose_each, forwarded, push}
 use Rattle.paxos_planning.specs.Replies.{round_in, saw, refuse, count_promise, on_promise_as, on_packet}
 use Rattle.paxos_node.specs.Applying.{started, note, ends, go_down, apply_all, settle}
@@ -63,55 +63,55 @@ nacked_le {B} b p (Leading c next table) = go (same_ballot b c && below c p)
     go false = omega arith
 
 module _ {B : Type 0} (same : B → B → Bool) (members n : ℕ) where
-  abbrev S : Turn B → Type 0
+  abbrev S : Plan B → Type 0
   S t = Sees t.node
 
-  promised : (b : Ballot) (t : Turn B) → b.round ≤ t.node.proposer.seen → S t → S (promise b t)
+  promised : (b : Ballot) (t : Plan B) → b.round ≤ t.node.proposer.seen → S t → S (promise b t)
   promised b t l s =
       let d = down_le b t.node.proposer.role in
       let u : round_under_way t.node.proposer.role ≤ t.node.proposer.seen = s.under_way in
       record { promised = l; under_way = omega arith }
 
-  casts : (v : Vote B) (t : Turn B) → v.ballot.round ≤ t.node.proposer.seen → S t → S (cast same members n v t)
+  casts : (v : Vote B) (t : Plan B) → v.ballot.round ≤ t.node.proposer.seen → S t → S (cast same members n v t)
   casts v t l s =
       let d = down_le v.ballot t.node.proposer.role in
       let u : round_under_way t.node.proposer.role ≤ t.node.proposer.seen = s.under_way in
       record { promised = l; under_way = omega arith }
 
-  proposes_as : (r : Role B) (e : Entry B) (t : Turn B) → round_under_way r ≤ t.node.proposer.seen → S t → S (propose_as same members n r e t)
+  proposes_as : (r : Role B) (e : Entry B) (t : Plan B) → round_under_way r ≤ t.node.proposer.seen → S t → S (propose_as same members n r e t)
   proposes_as Idle e t l s = s
   proposes_as (Preparing b first cs) e t l s = s
   proposes_as (Leading b next table) e t l s =
       cond_both (nat_lt next slot_end) (cast same members n (next_vote b next e) (offer members n b next table e t)) t (λ u. S u)
       (λ k. casts (next_vote b next e) (offer members n b next table e t) l (record { promised = s.promised; under_way = l })) (λ k. s)
 
-  proposes : (e : Entry B) (t : Turn B) → S t → S (propose same members n e t)
+  proposes : (e : Entry B) (t : Plan B) → S t → S (propose same members n e t)
   proposes e t s = proposes_as t.node.proposer.role e t s.under_way s
 
-  proposes_all : (es : List (Entry B)) (t : Turn B) → S t → S (propose_all same members n es t)
+  proposes_all : (es : List (Entry B)) (t : Plan B) → S t → S (propose_all same members n es t)
   proposes_all [] t s = s
   proposes_all (e ∷ es) t s = proposes_all es (propose same members n e t) (proposes e t s)
 
-  proposes_each : (es : List (Entry B)) (t : Turn B) → S t → S (propose_each same members n es t)
+  proposes_each : (es : List (Entry B)) (t : Plan B) → S t → S (propose_each same members n es t)
   proposes_each [] t s = s
   proposes_each (e ∷ es) t s =
       proposes_each es (propose_new same members n e t)
       (cond_both (stands same (length t.node.applied) t.node.proposer.role e) t (propose same members n e t) (λ u. S u) (λ d. s)
       (λ d. proposes e t s))
 
-  pushes : (t : Turn B) → S t → S (push same members n t)
+  pushes : (t : Plan B) → S t → S (push same members n t)
   pushes t s =
       cond_both (is_leading t.node.proposer.role) (propose_each same members n t.node.pending t)
       (send (forwarded n t.node.rows.promised t.node.pending) t) (λ u. S u)
       (λ d. proposes_each t.node.pending t s) (λ d. record { promised = s.promised; under_way = s.under_way })
 
-  leads : (b : Ballot) (first : ℕ) (vs : List (Vote B)) (t : Turn B) → b.round ≤ t.node.proposer.seen → S t
+  leads : (b : Ballot) (first : ℕ) (vs : List (Vote B)) (t : Plan B) → b.round ≤ t.node.proposer.seen → S t
       → S (lead same members n b first vs t)
   leads b first vs t l s =
       proposes_all (called_for first vs) (record t { node = with_role (Leading b first []) t.node })
       (record { promised = s.promised; under_way = l })
 
-  promises_as : (from : ℕ) (b : Ballot) (votes : List (Vote B)) (r : Role B) (t : Turn B) → round_under_way r ≤ t.node.proposer.seen → S t
+  promises_as : (from : ℕ) (b : Ballot) (votes : List (Vote B)) (r : Role B) (t : Plan B) → round_under_way r ≤ t.node.proposer.seen → S t
       → S (on_promise_as same members n from b votes r t)
   promises_as from b votes Idle t l s = s
   promises_as from b votes (Leading d next table) t l s = s
@@ -126,7 +126,7 @@ module _ {B : Type 0} (same : B → B → Bool) (members n : ℕ) where
       more : List (CountedPromise B)
       more = cs ++ record { node = from; votes = votes } ∷ []
 
-  packets : (from : ℕ) (kind : Kind B) (t : Turn B) → round_in kind ≤ t.node.proposer.seen → S t → S (on_packet same members n from kind t)
+  packets : (from : ℕ) (kind : Kind B) (t : Plan B) → round_in kind ≤ t.node.proposer.seen → S t → S (on_packet same members n from kind t)
   packets from (Prepare b first) t l s =
       cond_both (may_promise t.node.rows.promised b)
       (send (packet n (Promise b (votes_from first t.node.rows.votes)) from ∷ []) (promise b t)) (refuse n from b t) (λ u. S u)
@@ -146,7 +146,7 @@ module _ {B : Type 0} (same : B → B → Bool) (members n : ℕ) where
   packets from (Ask first) t l s = record { promised = s.promised; under_way = s.under_way }
   packets from (Learned k e) t l s = record { promised = s.promised; under_way = s.under_way }
 
-  starting : (t : Turn B) → S t → S (on_start members n t)
+  starting : (t : Plan B) → S t → S (on_start members n t)
   starting t s =
       cond_both (starts n t.node) (begin members n b (suc (length t.node.applied)) t) t (λ u. S u)
       (λ e. record { promised = omega arith; under_way = omega arith }) (λ e. s)
@@ -154,17 +154,17 @@ module _ {B : Type 0} (same : B → B → Bool) (members n : ℕ) where
       b : Ballot
       b = new_ballot n t.node.rows.promised t.node.proposer
 
-  ticking : (t : Turn B) → S t → S (on_tick same members n t)
+  ticking : (t : Plan B) → S t → S (on_tick same members n t)
   ticking t s =
       let d = pushes (send (again members n t.node.proposer.role t.node.learner.learned) t) (record { promised = s.promised; under_way = s.under_way }) in
       record { promised = d.promised; under_way = d.under_way }
 
-  taking : (transport : ℕ) (body : B) (t : Turn B) → S t → S (on_take same members n transport body t)
+  taking : (transport : ℕ) (body : B) (t : Plan B) → S t → S (on_take same members n transport body t)
   taking transport body t s =
       cond_both (takes t.node) (push same members n (record t { node = with_item n transport body t.node })) t (λ u. S u)
       (λ d. pushes (record t { node = with_item n transport body t.node }) (record { promised = s.promised; under_way = s.under_way })) (λ d. s)
 
-  suspecting : (lost : Option (Entry B)) (t : Turn B) → S t → S (suspected same members n lost t)
+  suspecting : (lost : Option (Entry B)) (t : Plan B) → S t → S (suspected same members n lost t)
   suspecting None t s = s
   suspecting (Some lost) t s =
       cond_both (has_room t.node) (push same members n (record t { node = with_pending (t.node.pending ++ lost ∷ []) t.node })) t (λ u. S u)
@@ -173,20 +173,20 @@ module _ {B : Type 0} (same : B → B → Bool) (members n : ℕ) where
 
   -- what is applied at the end leaves the ballots, or takes the node down
 
-  abbrev U : Turn B → Type 0
+  abbrev U : Plan B → Type 0
   U t = SeesItsBallots t.node
 
   off : {A : Type 0} → false ≡ true → A
   off e = absurd (cc)
 
-  applying : (es : List (Entry B)) (t : Turn B) → U t → U (apply_all n es t)
+  applying : (es : List (Entry B)) (t : Plan B) → U t → U (apply_all n es t)
   applying [] t s = s
   applying (e ∷ es) t s =
       cond_both (ends n t.node e) (go_down (note e t)) (apply_all n es (note e t)) (λ u. U u)
       (λ d. off)
       (λ d. applying es (note e t) (λ up. let k = s up in record { promised = k.promised; under_way = k.under_way }))
 
-  settling : (t : Turn B) → U t → U (settle n t)
+  settling : (t : Plan B) → U t → U (settle n t)
   settling t s = applying (run_from (suc (length t.node.applied)) t.node.learner.learned) t s
 
 raised_seen : (a b c : ℕ) → a ≤ b → a ≤ max b c

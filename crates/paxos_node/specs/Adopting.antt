@@ -1,4 +1,4 @@
--- What an event does to the parts of a node, told before it is done, and the node to which it is done (docs/CONSENSUS.md, "One node").
+-- What an event does to the parts of a node, stated before it is done, and the node to which it is done (docs/CONSENSUS.md, "One node").
 use Rattle.std.specs.Prelude.{◌≡◌, ◌<◌, ◌+◌, ◌^◌, ℕ, Bool, false, not, List, [], ◌∷◌, ◌++◌, filter, length, if◌then◌else◌}
 use Rattle.paxos_packets.specs.declared.entry.Entry.{Entry}
 use Rattle.paxos_acceptor.specs.Acceptor as accepting
@@ -8,8 +8,8 @@ use Rattle.paxos_learner.specs.Learned.{Begins}
 use Rattle.replica_machine.specs.Roll.{is_wanted}
 use Rattle.paxos_node.specs.declared.event.Event.{Event}
 use Rattle.paxos_node.specs.declared.outcome.Outcome.{Outcome}
-use Rattle.paxos_planning.specs.Node.{NodeState, Turn}
-use Rattle.paxos_planning.specs.Turn.{begun}
+use Rattle.paxos_planning.specs.Node.{NodeState, Plan}
+use Rattle.paxos_planning.specs.Plan.{begun}
 use Rattle.paxos_planning.specs.Front.{IsFront}
 use Rattle.paxos_planning.specs.Parts.{proposer_of, learner_of, pending_with, counted_with}
 use Rattle.paxos_node.specs.Applying.{down, settle}
@@ -37,12 +37,12 @@ stays_up me members o x =
 abbrev pub adopted : {B : Type 0} → ℕ → ℕ → Outcome B → NodeState B → NodeState B
 adopted me members o x = if o.is_down then down (accepting.adopted x.rows o.change) else stays_up me members o x
 
--- so many of the first pending entries stand behind it, where nothing is applied
+-- this many of the first pending entries stand after it, if nothing is applied
 abbrev pub front_behind : {B : Type 0} → ℕ → List (Entry B) → ℕ
 front_behind n [] = n
 front_behind n (e ∷ es) = 0
 
--- it fits a node: each move is possible in its turn, what is applied is what is learned next, and the front stands behind it
+-- it fits a node: each move is possible in its turn, what is applied is what is learned next, and the front stands after it
 pub record Fits {B : Type 0} (me members : ℕ) (o : Outcome B) (x : NodeState B) : Type 0 where
   pub moves : ArePossible o.moves.proposer (proposer_of me members x)
   pub applied : Begins (x.applied ++ o.applied) (hear_all o.moves.news (learner_of members x)).learner.learned
@@ -52,7 +52,7 @@ pub record Fits {B : Type 0} (me members : ℕ) (o : Outcome B) (x : NodeState B
 
 -- an outcome is what is made of a node so far, once what it would then have learned is applied: what it commits, sends and applies, the
 -- node that adopts it, and the length of that node's log
-pub record Settled {B : Type 0} (me members : ℕ) (x : NodeState B) (t : Turn B) (o : Outcome B) : Type 0 where
+pub record Settled {B : Type 0} (me members : ℕ) (x : NodeState B) (t : Plan B) (o : Outcome B) : Type 0 where
   pub agrees : (settle me t).disagrees ≡ false
   pub change : o.change ≡ (settle me t).change
   pub packets : o.packets ≡ (settle me t).packets

@@ -8,7 +8,7 @@ use Rattle.paxos_proposer.specs.Proposer.{round_of, resting}
 use Rattle.paxos_learner.specs.Learner.{unheard, run_from}
 use Rattle.replica_machine.specs.declared.roll.Standing.{Standing}
 use Rattle.replica_machine.specs.Roll.{takes_effect, is_wanted, is_live, standing_after}
-use Rattle.paxos_planning.specs.Node.{NodeState, Turn}
+use Rattle.paxos_planning.specs.Node.{NodeState, Plan}
 
 -- a node that has only its rows
 abbrev pub down : {B : Type 0} → Rows B → NodeState B
@@ -32,14 +32,14 @@ abbrev pub first_rows : {B : Type 0} → Rows B
 first_rows = record { boot = 1; promised = None; votes = [] }
 
 -- the entry is the next one of the log, and what it settles is no longer pending
-abbrev pub note : {B : Type 0} → Entry B → Turn B → Turn B
+abbrev pub note : {B : Type 0} → Entry B → Plan B → Plan B
 note e o =
     record o {
       node = record o.node { applied = o.node.applied ++ e ∷ []; pending = filter (is_wanted (o.node.applied ++ e ∷ [])) o.node.pending };
       applied = o.applied ++ e ∷ [];
     }
 
--- it tells that this node is lost in its present boot
+-- it is the loss of this node in its present boot
 abbrev pub is_own_lost : {B : Type 0} → ℕ → ℕ → Entry B → Bool
 is_own_lost me boot Noop = false
 is_own_lost me boot (Boot n b) = false
@@ -49,20 +49,20 @@ is_own_lost me boot (Item n b q t x) = false
 abbrev pub ends : {B : Type 0} → ℕ → NodeState B → Entry B → Bool
 ends me x e = is_own_lost me x.rows.boot e && takes_effect x.applied e
 
-abbrev pub go_down : {B : Type 0} → Turn B → Turn B
+abbrev pub go_down : {B : Type 0} → Plan B → Plan B
 go_down o = record o { node = down o.node.rows }
 
 -- entries are applied one by one; a Lost of its present boot leaves the node down
-abbrev pub apply_all : {B : Type 0} → ℕ → List (Entry B) → Turn B → Turn B
+abbrev pub apply_all : {B : Type 0} → ℕ → List (Entry B) → Plan B → Plan B
 apply_all me [] o = o
 apply_all me (e ∷ es) o = if ends me o.node e then go_down (note e o) else apply_all me es (note e o)
 
 -- the learned entries of the next slots are applied
-abbrev pub settle : {B : Type 0} → ℕ → Turn B → Turn B
+abbrev pub settle : {B : Type 0} → ℕ → Plan B → Plan B
 settle me o = apply_all me (run_from (suc (length o.node.applied)) o.node.learner.learned) o
 
--- the same, told by where the node stands: whether an entry tells that its boot is lost, behind how many of the entries that is so, and
--- whether one of them does
+-- the same, stated by the node's standing: whether an entry is the loss of its boot, after how many of the entries that is so, and whether
+-- one of them is that loss
 abbrev pub ends_boot : {B : Type 0} → ℕ → ℕ → Standing → Entry B → Bool
 ends_boot me boot s e = is_own_lost me boot e && is_live s boot
 

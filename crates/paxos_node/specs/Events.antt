@@ -7,8 +7,8 @@ use Rattle.paxos_packets.specs.Rows.{last_boot, raised}
 use Rattle.paxos_packets.specs.declared.entry.Entry.{Entry}
 use Rattle.paxos_packets.specs.declared.entry.Entry.TheVariants.{Boot, Lost, Item}
 use Rattle.replica_machine.specs.Roll.{standing, live_in}
-use Rattle.paxos_planning.specs.Node.{NodeState, Turn}
-use Rattle.paxos_planning.specs.Turn.{with_pending, begun}
+use Rattle.paxos_planning.specs.Node.{NodeState, Plan}
+use Rattle.paxos_planning.specs.Plan.{with_pending, begun}
 use Rattle.paxos_planning.specs.Proposals.{push}
 use Rattle.paxos_planning.specs.Replies.{saw, on_packet}
 use Rattle.paxos_planning.specs.Starting.{starts, on_start}
@@ -38,7 +38,7 @@ new_item me transport body x = Item me x.rows.boot (suc x.taken) transport body
 abbrev pub with_item : {B : Type 0} → ℕ → ℕ → B → NodeState B → NodeState B
 with_item me transport body x = record x { pending = x.pending ++ new_item me transport body x ∷ []; taken = suc x.taken }
 
-abbrev pub on_take : {B : Type 0} → (B → B → Bool) → ℕ → ℕ → ℕ → B → Turn B → Turn B
+abbrev pub on_take : {B : Type 0} → (B → B → Bool) → ℕ → ℕ → ℕ → B → Plan B → Plan B
 on_take same members me transport body o =
     if takes o.node then push same members me (record o { node = with_item me transport body o.node })
     else o
@@ -56,13 +56,13 @@ new_lost_of same other (Some b) pending = if is_pending same pending (Lost other
 abbrev pub new_lost : {B : Type 0} → (B → B → Bool) → ℕ → ℕ → NodeState B → Option (Entry B)
 new_lost same me other x = if other == me then None else new_lost_of same other (live_in (standing other x.applied)) x.pending
 
-abbrev pub suspected : {B : Type 0} → (B → B → Bool) → ℕ → ℕ → Option (Entry B) → Turn B → Turn B
+abbrev pub suspected : {B : Type 0} → (B → B → Bool) → ℕ → ℕ → Option (Entry B) → Plan B → Plan B
 suspected same members me None o = o
 suspected same members me (Some lost) o =
     if has_room o.node then push same members me (record o { node = with_pending (o.node.pending ++ lost ∷ []) o.node })
     else o
 
-abbrev pub on_suspect : {B : Type 0} → (B → B → Bool) → ℕ → ℕ → ℕ → Turn B → Turn B
+abbrev pub on_suspect : {B : Type 0} → (B → B → Bool) → ℕ → ℕ → ℕ → Plan B → Plan B
 on_suspect same members me other o = suspected same members me (new_lost same me other o.node) o
 
 -- whose event it is
@@ -86,7 +86,7 @@ possible (Crash n) x = x.up
 possible (Restart n) x = not x.up && nat_lt x.rows.boot last_boot
 
 -- the node's part of an event, before what was learned is applied
-abbrev pub on_event : {B : Type 0} → (B → B → Bool) → ℕ → Event B → Turn B → Turn B
+abbrev pub on_event : {B : Type 0} → (B → B → Bool) → ℕ → Event B → Plan B → Plan B
 on_event same members (Take n t body) o = on_take same members n t body o
 on_event same members (Tick n) o = on_tick same members n o
 on_event same members (Start n) o = on_start members n o
@@ -96,7 +96,7 @@ on_event same members (Crash n) o = go_down o
 on_event same members (Restart n) o = record o { node = started n (raised o.node.rows) }
 
 -- what an event makes of the node
-abbrev pub outcome_of : {B : Type 0} → (B → B → Bool) → ℕ → Event B → NodeState B → Turn B
+abbrev pub outcome_of : {B : Type 0} → (B → B → Bool) → ℕ → Event B → NodeState B → Plan B
 outcome_of same members e x = settle (owner e) (on_event same members e (begun x))
 
 -- the refusals that an event may name: there is no round left; there is no room for the act or the suspicion

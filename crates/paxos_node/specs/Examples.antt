@@ -9,15 +9,15 @@ use Rattle.paxos_packets.specs.declared.vote.Vote.{Vote}
 use Rattle.paxos_proposer.specs.Role.{Leading}
 use Rattle.paxos_node.specs.declared.event.Event.{Event}
 use Rattle.paxos_node.specs.declared.event.Event.TheVariants.{Take, Start, Deliver}
-use Rattle.paxos_planning.specs.Node.{NodeState, Turn}
-use Rattle.paxos_planning.specs.Turn.{with_role, with_pending}
+use Rattle.paxos_planning.specs.Node.{NodeState, Plan}
+use Rattle.paxos_planning.specs.Plan.{with_role, with_pending}
 use Rattle.paxos_node.specs.Applying.{started, first_rows}
 use Rattle.paxos_node.specs.Events.{outcome_of, is_full_refused}
 
 abbrev pub same_number : ℕ → ℕ → Bool
 same_number m n = m == n
 
-abbrev pub after : Event ℕ → NodeState ℕ → Turn ℕ
+abbrev pub after : Event ℕ → NodeState ℕ → Plan ℕ
 after e x = outcome_of same_number 3 e x
 
 abbrev pub ballot : ℕ → ℕ → Ballot
@@ -33,17 +33,17 @@ change promised votes = record { promised = promised; votes = votes }
 abbrev pub first_node : NodeState ℕ
 first_node = started 1 first_rows
 
-abbrev pub asked : Turn ℕ
+abbrev pub asked : Plan ℕ
 asked = after (Start 1) first_node
 
-abbrev pub led : Turn ℕ
+abbrev pub led : Plan ℕ
 led = after (Deliver (packet 2 (Promise (ballot 1 1) []) 1)) asked.node
 
 -- node 1 with this promise
 abbrev pub promised_to : ℕ → ℕ → NodeState ℕ
 promised_to round node = started 1 (record { boot = 1; promised = Some (ballot round node); votes = [] })
 
--- node 1 with so many pending entries
+-- node 1 with this many pending entries
 abbrev pub waiting : ℕ → NodeState ℕ
 waiting n = with_pending (replicate n Noop) first_node
 

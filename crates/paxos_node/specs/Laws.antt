@@ -19,7 +19,7 @@ CommitsItsChange B =
     (same : B → B → Bool) (members : ℕ) (e : Event B) (x : NodeState B) → x.up ≡ true → possible e x ≡ true →
     (outcome_of same members e x).node.rows ≡ adopted x.rows (outcome_of same members e x).change
 
--- a packet that is delivered brings about what the acceptor's rules say: the change, the packets, and the rows behind it
+-- a packet that is delivered brings about what the acceptor's rules say: the change, the packets, and the rows after it
 pub record IsJudged {B : Type 0} (same : B → B → Bool) (members : ℕ) (p : Packet B) (x : NodeState B) : Type 0 where
   pub change : (outcome_of same members (Deliver p) x).change ≡ (judged x.rows p.kind).change
   pub packets : (outcome_of same members (Deliver p) x).packets ≡ answers members p.addressee p.sender (judged x.rows p.kind).answer

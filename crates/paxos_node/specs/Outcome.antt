@@ -5,7 +5,7 @@ use Rattle.paxos_planning.specs.declared.effects.Effects.{Effects}
 use Rattle.paxos_node.specs.declared.fault.NodeFault.{NodeFault}
 use Rattle.paxos_node.specs.declared.outcome.Outcome.{Outcome}
 
--- these effects, where this is applied then, the log behind it has this length, and so many of the first pending entries stand
+-- these effects, with what is applied then, the length of the log after it, and how many of the first pending entries stand
 abbrev pub outcome_with : {B : Type 0} → Effects B → List (Entry B) → Bool → ℕ → ℕ → Outcome B
 outcome_with e applied is_down log front =
     record {

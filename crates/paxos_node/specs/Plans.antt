@@ -1,4 +1,4 @@
--- What a node plans, and what it answers (docs/CONSENSUS.md, "One node").
+-- What a node plans, and what it returns (docs/CONSENSUS.md, "One node").
 use Rattle.std.specs.Prelude.{◌≡◌, ℕ, Bool, true, false, ◌&&◌, ◌==◌, None, [], Result, Ok, Err}
 use Rattle.paxos_acceptor.specs.Acceptor.{no_change}
 use Rattle.paxos_node.specs.declared.event.Event.{Event}
@@ -6,7 +6,7 @@ use Rattle.paxos_node.specs.declared.event.Event.TheVariants.{Take, Tick, Start,
 use Rattle.paxos_node.specs.declared.fault.NodeFault.{NodeFault}
 use Rattle.paxos_node.specs.declared.fault.NodeFault.TheVariants.{Rounds, Full, Disagree, Memory}
 use Rattle.paxos_node.specs.declared.outcome.Outcome.{Outcome}
-use Rattle.paxos_planning.specs.Node.{NodeState, Turn}
+use Rattle.paxos_planning.specs.Node.{NodeState, Plan}
 use Rattle.paxos_node.specs.Adopting.{Settled}
 use Rattle.paxos_node.specs.Applying.{settle}
 use Rattle.paxos_node.specs.Events.{owner, possible}
@@ -36,7 +36,7 @@ unchanged log =
       moves = record { proposer = []; news = []; added = None; front = 0; log = log };
     }
 
--- what is answered: Rounds, Full and Disagree where these refusals hold, in this order; else P, or want of memory, which may come before Disagree
+-- the result: Rounds, Full and Disagree if these refusals hold, in this order; else P, or Memory, which may come before Disagree
 abbrev pub Answers : {A : Type 0} → Bool → Bool → Bool → (A → Type 0) → Result A NodeFault → Type 0
 Answers rounds full other P (Ok x) = (rounds ≡ false) × (full ≡ false) × (other ≡ false) × P x
 Answers rounds full other P (Err Rounds) = rounds ≡ true
@@ -45,5 +45,5 @@ Answers rounds full other P (Err Disagree) = (rounds ≡ false) × (full ≡ fal
 Answers rounds full other P (Err Memory) = (rounds ≡ false) × (full ≡ false)
 
 -- the same, of what is made of a node before what it would have learned is applied
-abbrev pub Answered : {B : Type 0} → ℕ → ℕ → NodeState B → Bool → Bool → Turn B → Result (Outcome B) NodeFault → Type 0
+abbrev pub Answered : {B : Type 0} → ℕ → ℕ → NodeState B → Bool → Bool → Plan B → Result (Outcome B) NodeFault → Type 0
 Answered me members x rounds full t result = Answers rounds full (settle me t).disagrees (λ o. Settled me members x t o) result

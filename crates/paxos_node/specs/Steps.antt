@@ -9,7 +9,7 @@ pub record Steps (B : Type 0) : Type 0 where
   pub news : List (News B)
   -- the entry that becomes pending
   pub added : Option (Entry B)
-  -- how many of the first pending entries stand behind it
+  -- how many of the first pending entries stand after it
   pub front : ℕ
-  -- the length of the log behind it, 0 where the node is down
+  -- the length of the log after it, or 0 if the node is down
   pub log : ℕ

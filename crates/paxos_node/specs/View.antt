@@ -10,6 +10,6 @@ pub record Viewed (B : Type 0) : Type 0 where
   pub node : NodeState B
   pub sent : List (Packet B)
 
--- it is this node now, and sent these packets behind those that it had sent
+-- it is this node now, and sent these packets after those that it had sent
 abbrev pub moved : {B : Type 0} → NodeState B → List (Packet B) → Viewed B → Viewed B
 moved node packets seen = record { opened = seen.opened; node = node; sent = seen.sent ++ packets }

@@ -1,6 +1,9 @@
+ghost use Rattle.std.specs.Prelude.{◌≡◌};
+ghost use Rattle.paxos_node.specs.Events.{owner};
+
 use paxos_packets::Packet;
 
-/// What may happen next in a cluster. Each event is one node's.
+/// What may happen next in a cluster. Each event belongs to one node.
 #[derive(Debug, Drop)]
 pub enum Event<B> {
     /// The node takes an act of its transport with this number.
@@ -9,7 +12,7 @@ pub enum Event<B> {
     Tick { node: u8 },
     /// The node begins a ballot.
     Start { node: u8 },
-    /// The node takes another to be lost.
+    /// The node takes the other one to be lost.
     Suspect { node: u8, other: u8 },
     /// The packet reaches its addressee.
     Deliver { packet: Packet<B> },
@@ -17,4 +20,21 @@ pub enum Event<B> {
     Crash { node: u8 },
     /// The node comes back with what it had committed, in a new boot.
     Restart { node: u8 },
+}
+
+impl<B> Event<B> {
+    /// Returns the number of the node whose event it is; a packet's event is its addressee's. Does not allocate.
+    pub fn node(&self) -> u8
+        ensures { result ≡ owner self.now }
+    {
+        match self {
+            Event::Take { node, .. } => *node,
+            Event::Tick { node } => *node,
+            Event::Start { node } => *node,
+            Event::Suspect { node, .. } => *node,
+            Event::Deliver { packet } => packet.addressee,
+            Event::Crash { node } => *node,
+            Event::Restart { node } => *node,
+        }
+    }
 }

@@ -12,7 +12,7 @@ ghost use Rattle.paxos_node.specs.Events.{is_round_refused, is_full_refused, mad
 ghost use Rattle.paxos_node.specs.Plans.{is_planned, plans, unchanged, Answers, Answered};
 ghost use Rattle.paxos_planning.specs.Proposals.{push};
 ghost use Rattle.paxos_planning.specs.Replies.{on_packet, round_in};
-ghost use Rattle.paxos_planning.specs.Turn.{begun};
+ghost use Rattle.paxos_planning.specs.Plan.{begun};
 ghost use Rattle.replica_machine.specs.Roll.{standing, live_in};
 
 use crate::event::Event;
@@ -27,9 +27,9 @@ const LAST_NUMBER: u64 = (1 << 48) - 1;
 const MOST_PENDING: usize = 1024;
 
 impl<B: Body> Node<B> {
-    /// What the event makes of the node, which stays as it is: `Rounds` and `Full` where it changes nothing since no round or no room is left,
-    /// `Disagree` where another entry was learned in a slot. An event that is not possible at this node, a crash and a restart change nothing.
-    /// It looks at no entry of the log, and copies what it sends, commits, proposes and applies.
+    /// Returns what the event makes of the node, which itself stays as it is: `Rounds` or `Full` if it changes nothing because no round or
+    /// no room is left, `Disagree` if another entry was learned in a slot. An event that is not possible at this node, a crash and a
+    /// restart change nothing. Looks at no entry of the log, and copies what it sends, commits, proposes and applies.
     pub fn plan(&self, event: &Event<B>) -> Result<Outcome<B>, NodeFault>
         ensures planned { plans self.now.me event.now self.now.state ≡ true →
             Answers (is_round_refused event.now self.now.state) (is_full_refused B.same event.now self.now.state)
@@ -46,7 +46,7 @@ impl<B: Body> Node<B> {
         self.plan_own(event)
     }
 
-    // The same, of an event of this node that is possible.
+    // Plans an event of this node that is possible.
     fn plan_own(&self, event: &Event<B>) -> Result<Outcome<B>, NodeFault>
         requires up { self.now.state.up ≡ true }
         requires own { owner event.now ≡ self.now.me }
@@ -70,14 +70,14 @@ impl<B: Body> Node<B> {
         }
     }
 
-    // Whether it plans the event: its own, and possible.
+    // Returns whether it plans the event: it is the node's, and possible.
     fn plans(&self, event: &Event<B>) -> bool
         ensures { result ≡ plans self.now.me event.now self.now.state }
     {
-        owner(event) == self.me() && self.is_possible(event)
+        event.node() == self.me() && self.is_possible(event)
     }
 
-    // Whether the event is possible at a node that is up.
+    // Returns whether the event is possible at a node that is up.
     fn is_possible(&self, event: &Event<B>) -> bool
         ensures { result ≡ is_planned event.now && possible event.now self.now.state }
     {
@@ -92,7 +92,7 @@ impl<B: Body> Node<B> {
         }
     }
 
-    // What changes nothing.
+    // Returns the outcome that changes nothing.
     fn nothing(&self) -> Outcome<B>
         ensures value { result ≡ unchanged (length self.now.state.applied) }
         ensures fits { Fits self.now.me self.now.members result self.now.state }
@@ -101,14 +101,14 @@ impl<B: Body> Node<B> {
         Outcome::nothing(self.alloc(), self.applied())
     }
 
-    // Whether one entry more may be pending.
+    // Returns whether one more entry may be pending.
     fn has_room(&self) -> bool
         ensures { result ≡ has_room self.now.state }
     {
         self.pending().len() < MOST_PENDING
     }
 
-    // The act is pending as the node's next Item.
+    // Plans that the act becomes pending as the node's next Item.
     fn plan_take(&self, transport: u32, body: &B) -> Result<Outcome<B>, NodeFault>
         requires { self.now.state.up ≡ true }
         ensures answered { Answered self.now.me self.now.members self.now.state false (not (takes self.now.state))
@@ -130,7 +130,7 @@ impl<B: Body> Node<B> {
         })
     }
 
-    // Whether it takes one act more.
+    // Returns whether it takes one more act.
     #[tactic(auto, unfolding(crate::specs::Events::last_number))]
     fn takes(&self) -> bool
         ensures { result ≡ takes self.now.state }
@@ -138,7 +138,7 @@ impl<B: Body> Node<B> {
         self.has_room() && self.taken() < LAST_NUMBER
     }
 
-    // The entry becomes pending, and is pushed with what is.
+    // Plans that the entry becomes pending, and is pushed with what is pending.
     fn plan_with(&self, entry: Entry<B>) -> Result<Outcome<B>, NodeFault>
         requires { self.now.state.up ≡ true }
         ensures answered { Answered self.now.me self.now.members self.now.state false false
@@ -149,7 +149,7 @@ impl<B: Body> Node<B> {
         added_to(planned, entry)
     }
 
-    // The same, but for the entry itself.
+    // Plans this but for the entry itself, which the outcome lacks.
     fn plan_pending(&self, entry: &Entry<B>) -> Result<Outcome<B>, NodeFault>
         requires { self.now.state.up ≡ true }
         ensures { Answers false false
@@ -164,7 +164,7 @@ impl<B: Body> Node<B> {
         self.settle(draft, done, front)
     }
 
-    // What waits for an answer is sent again, what is pending is pushed, and the others are asked for what it lacks.
+    // Plans a tick: sends again what waits for an answer, pushes what is pending, and asks the others for what it lacks.
     fn plan_tick(&self) -> Result<Outcome<B>, NodeFault>
         requires { self.now.state.up ≡ true }
         ensures answered { Answered self.now.me self.now.members self.now.state false false
@@ -176,7 +176,7 @@ impl<B: Body> Node<B> {
         self.finish(draft, done)
     }
 
-    // A ballot above all that it saw.
+    // Plans a ballot above all that it saw.
     fn plan_start(&self) -> Result<Outcome<B>, NodeFault>
         requires { self.now.state.up ≡ true }
         ensures answered { Answered self.now.me self.now.members self.now.state (not (starts self.now.me self.now.state)) false
@@ -192,7 +192,7 @@ impl<B: Body> Node<B> {
         self.finish(draft, done)
     }
 
-    // The Lost of the other's live boot becomes pending, unless it is.
+    // Plans that the Lost of the other's live boot becomes pending, unless it is.
     fn plan_suspect(&self, other: u8) -> Result<Outcome<B>, NodeFault>
         requires { self.now.state.up ≡ true }
         ensures answered { Answered self.now.me self.now.members self.now.state false
@@ -210,7 +210,7 @@ impl<B: Body> Node<B> {
         self.plan_with(lost)
     }
 
-    // The Lost of the other's live boot, unless it is pending.
+    // Returns the Lost of the other's live boot, unless it is pending.
     fn new_lost(&self, other: u8) -> Option<Entry<B>>
         ensures { result ≡ new_lost B.same self.now.me other self.now.state }
     {
@@ -227,14 +227,14 @@ impl<B: Body> Node<B> {
         Some(lost)
     }
 
-    // The live boot of the other.
+    // Returns the other's live boot.
     fn live_boot(&self, other: u8) -> Option<u64>
         ensures { result ≡ live_in (standing other self.now.state.applied) }
     {
         self.roll().live(other)
     }
 
-    // The packet reaches the node.
+    // Plans what the packet does.
     fn plan_packet(&self, packet: &Packet<B>) -> Result<Outcome<B>, NodeFault>
         requires { self.now.state.up ≡ true }
         ensures answered { Answered self.now.me self.now.members self.now.state false false
@@ -248,7 +248,7 @@ impl<B: Body> Node<B> {
     }
 }
 
-// An outcome by which the entry becomes pending.
+// Returns the outcome by which the entry becomes pending.
 fn added_to<B: Drop>(
     planned: Result<Outcome<B>, NodeFault>,
     entry: Entry<B>,
@@ -261,22 +261,7 @@ fn added_to<B: Drop>(
     Ok(outcome)
 }
 
-// Whose event it is.
-fn owner<B>(event: &Event<B>) -> u8
-    ensures { result ≡ owner event.now }
-{
-    match event {
-        Event::Take { node, .. } => *node,
-        Event::Tick { node } => *node,
-        Event::Start { node } => *node,
-        Event::Suspect { node, .. } => *node,
-        Event::Deliver { packet } => packet.addressee,
-        Event::Crash { node } => *node,
-        Event::Restart { node } => *node,
-    }
-}
-
-// Whether an equal entry is pending.
+// Returns whether an equal entry is pending.
 fn is_pending<B: Body>(pending: &[Entry<B>], wanted: &Entry<B>) -> bool
     ensures { result ≡ is_pending B.same pending.now wanted.now }
 {

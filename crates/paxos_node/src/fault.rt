@@ -15,13 +15,13 @@ pub enum NodeFault {
     /// Another entry was learned in a slot.
     #[error("another entry was learned in the slot")]
     Disagree,
-    /// There was no memory.
+    /// Memory ran out.
     #[error("no memory for the node")]
     Memory,
 }
 
 impl NodeFault {
-    /// The number of the fault.
+    /// Returns the fault's number.
     pub fn number(self) -> u8
         ensures { result ≡ number_of self }
     {

@@ -18,7 +18,7 @@ pub fn examples()
     ensures asked_round { asked.node.proposer.seen ≡ 1 }
     ensures asked_packets { asked.packets ≡ to_others 3 1 (Prepare (ballot 1 1) 1) }
 
-    // one promise more is a majority: the leader votes for its own Boot, and proposes it
+    // with one more promise there is a majority: the leader votes for its own Boot, and proposes it
     ensures led { led.change ≡ change (Some (ballot 1 1)) (boot_vote ∷ []) }
     ensures led_packets { led.packets ≡ to_others 3 1 (Accept boot_vote) ++ to_others 3 1 (Accepted boot_vote) }
 
@@ -36,7 +36,7 @@ pub fn examples()
     ensures rounds_spent { is_round_refused (Start 1) (promised_to 281474976710655 2) ≡ true }
     ensures rounds_node { (after (Start 1) (promised_to 281474976710655 2)).node ≡ promised_to 281474976710655 2 }
 
-    // the last slot is 2^40 - 1; behind it an act stays pending
+    // the last slot is 2^40 - 1; after it an act stays pending
     ensures last_slot { (after (Take 1 1 5) (leading_at 1099511627775)).change
         ≡ change (Some (ballot 1 1)) (record { slot = 1099511627775; ballot = ballot 1 1; entry = Item 1 1 1 1 5 } ∷ []) }
     ensures slots_spent { (after (Take 1 1 5) (leading_at 1099511627776)).packets ≡ [] }
@@ -53,8 +53,8 @@ pub fn acceptor_judges<B>()
     ensures { JudgesAsAnAcceptor B }
 {}
 
-/// A node that is up has seen the rounds that it promised, and that of its own ballot: one that starts has, and each event leaves it so. So
-/// what it saw decides its next ballot alone (`paxos_proposer::laws::seen_promises_add_nothing`).
+/// A node that is up has seen the rounds that it promised, and that of its own ballot: a node that starts has, and each event keeps it so.
+/// So what it saw determines its next ballot alone (`paxos_proposer::laws::seen_promises_add_nothing`).
 pub fn ballots_are_seen<B>()
     ensures started { (me : ℕ) (rows : Rows B) → SeesItsBallots (started me rows) }
     ensures kept { StaysSeen B }

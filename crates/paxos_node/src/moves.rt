@@ -3,16 +3,16 @@ use paxos_packets::Entry;
 use paxos_proposer::Move;
 use std::marker::Model;
 
-/// What an event does to the parts of a node, beside what it commits and applies.
+/// What an event does to the parts of a node, besides what it commits and applies.
 #[derive(Debug, Drop)]
 pub struct Moves<B> {
     // What is done to the proposer, what the learner hears, and the entry that becomes pending.
     pub(crate) proposer: Vec<Move<B>>,
     pub(crate) news: Vec<News<B>>,
     pub(crate) added: Option<Entry<B>>,
-    // How many of the first pending entries stand behind it.
+    // How many of the first pending entries stand after the event.
     pub(crate) front: usize,
-    // The length of the log behind it, 0 where the node is down.
+    // The length of the log after the event, or 0 if the node is down then.
     pub(crate) log: u64,
 }
 

@@ -11,7 +11,7 @@ ghost use Rattle.paxos_proposer.specs.State.{HasRoom as HasRoomToPropose};
 ghost use Rattle.paxos_proposer.specs.Proposer.{round_of, is_leading};
 ghost use Rattle.paxos_planning.specs.Drafting.{known, with_pending_entry};
 ghost use Rattle.paxos_planning.specs.Front.{IsFront};
-ghost use Rattle.paxos_planning.specs.Turn.{begun};
+ghost use Rattle.paxos_planning.specs.Plan.{begun};
 ghost use Rattle.replica_machine.specs.Roll.{IsRollOf};
 
 use crate::fault::NodeFault;
@@ -37,14 +37,14 @@ pub struct Node<B> {
     is_up: bool,
     proposer: Proposer<B>,
     learner: Learner<B>,
-    // How many of the first slots that the learner learned are applied, and where each node stands behind them.
+    // How many of the first slots that the learner learned are applied, and the standing of each node after them.
     applied: usize,
     roll: Roll,
     pending: Vec<Entry<B>>,
-    // How many of the first pending entries are known to stand among what this node proposed as a leader.
+    // How many of the first pending entries are known to stand: an equal entry is among what this node proposed as a leader.
     front: usize,
     taken: u64,
-    // Whether `adopt` has answered `Memory`.
+    // Whether `adopt` has failed with `Memory`.
     failed: bool,
 }
 
@@ -108,19 +108,19 @@ impl<B> Model for Node<B> {
 }
 
 impl<B> Node<B> {
-    // Its number.
+    // Returns its number.
     pub(crate) fn me(&self) -> u8
         ensures { result ≡ self.now.me }
     {
         self.me
     }
 
-    // Where its memory comes from.
+    // Returns where its memory comes from.
     pub(crate) fn alloc(&self) -> Global {
         self.alloc
     }
 
-    // Where each node stands behind its log.
+    // Returns the standing of each node after its log.
     pub(crate) fn roll(&self) -> &Roll
         ensures { IsRollOf self.now.state.applied result.now }
     {
@@ -134,28 +134,28 @@ impl<B> Node<B> {
         let _ = &self.learner;
     }
 
-    // How many acts it took.
+    // Returns how many acts it took.
     pub(crate) fn taken(&self) -> u64
         ensures { result ≡ self.now.state.taken }
     {
         self.taken
     }
 
-    // The entries that wait for a slot.
+    // Returns the entries that wait for a slot.
     pub(crate) fn pending(&self) -> &[Entry<B>]
         ensures { result.now ≡ self.now.state.pending }
     {
         self.pending.as_slice()
     }
 
-    // How many of the first pending entries are known to stand.
+    // Returns how many of the first pending entries are known to stand.
     pub(crate) fn front(&self) -> usize
         ensures { IsFront result (length self.now.state.applied) self.now.state.proposer.role self.now.state.pending }
     {
         self.front
     }
 
-    // Its parts, where it is up.
+    // Returns its parts, given that it is up.
     fn parts(&self) -> Parts<'_, B>
         requires { self.now.state.up ≡ true }
         ensures me { result.me ≡ self.now.me }
@@ -174,23 +174,23 @@ impl<B> Node<B> {
         )
     }
 
-    // What an event makes of it, where nothing happened yet and this entry becomes pending.
+    // Begins the plan of an event in which nothing happened yet, and this entry becomes pending.
     pub(crate) fn draft<'a>(&'a self, added: Option<&'a Entry<B>>) -> Draft<'a, B>
         requires { self.now.state.up ≡ true }
         ensures of { result.of ≡ known self.now.me self.now.members self.now.state (option_copied added.entry) }
-        ensures turn { result.turn ≡ begun (with_pending_entry (option_copied added.entry) self.now.state) }
+        ensures plan { result.plan ≡ begun (with_pending_entry (option_copied added.entry) self.now.state) }
     {
         Draft::of(self.alloc, self.parts(), added)
     }
 
-    /// Whether the node is up.
+    /// Returns whether the node is up.
     pub fn is_up(&self) -> bool
         ensures { result ≡ self.now.state.up }
     {
         self.is_up
     }
 
-    /// How many entries it has applied.
+    /// Returns how many entries it has applied.
     pub fn applied(&self) -> u64
         ensures length { result ≡ length self.now.state.applied }
         ensures within { result < 2 ^ 40 }
@@ -198,35 +198,35 @@ impl<B> Node<B> {
         self.applied as u64
     }
 
-    /// Whether entries of its own wait for a slot.
+    /// Returns whether entries of its own wait for a slot.
     pub fn has_pending(&self) -> bool
         ensures { result ≡ nat_lt 0 (length self.now.state.pending) }
     {
         0 < self.pending.len()
     }
 
-    /// Whether it leads: whether a majority has promised its ballot under way.
+    /// Returns whether it leads: whether a majority has promised its ballot under way.
     pub fn is_leading(&self) -> bool
         ensures { result ≡ is_leading self.now.state.proposer.role }
     {
         self.proposer.is_leading()
     }
 
-    /// How often the node was started.
+    /// Returns how often the node was started.
     pub fn boot(&self) -> u64
         ensures { result ≡ self.now.state.rows.boot }
     {
         self.acceptor.boot()
     }
 
-    /// The greatest ballot that the node has promised, if any.
+    /// Returns the greatest ballot that the node has promised, if any.
     pub fn promised(&self) -> Option<Ballot>
         ensures { result ≡ self.now.state.rows.promised }
     {
         self.acceptor.promised()
     }
 
-    /// The votes that the node has cast, by ascending slot.
+    /// Returns the votes that the node has cast, by ascending slot.
     pub fn votes(&self) -> &[Vote<B>]
         ensures { result.now ≡ self.now.state.rows.votes }
     {
@@ -235,7 +235,7 @@ impl<B> Node<B> {
 }
 
 impl<B: Drop> Node<B> {
-    /// What the node has committed. Takes no memory.
+    /// Returns what the node has committed. Does not allocate.
     pub fn into_rows(self) -> Rows<B>
         ensures { result ≡ self.state.rows }
     {
@@ -257,7 +257,7 @@ impl<B: Drop> Node<B> {
         acceptor.into_rows()
     }
 
-    /// The node with this number, of these members, that begins with these rows.
+    /// Returns the node with this number, of these members, that begins with these rows.
     pub fn of(alloc: Global, me: u8, members: Members, rows: Rows<B>) -> Result<Node<B>, NodeFault>
         ensures me { IfOk result (λ node. node.me ≡ me) }
         ensures members { IfOk result (λ node. node.members ≡ members) }
@@ -271,7 +271,7 @@ impl<B: Drop> Node<B> {
         Ok(node)
     }
 
-    /// The same; where there is no memory for it, the rows are given back.
+    /// Returns the node as `of` does; if memory for it runs out, gives the rows back.
     #[tactic(auto, using(paxos_planning::proofs::Standing::no_front))]
     pub fn begin(alloc: Global, me: u8, members: Members, rows: Rows<B>) -> Result<Node<B>, Rows<B>>
         ensures me { IfOk result (λ node. node.me ≡ me) }
@@ -307,7 +307,7 @@ impl<B: Drop> Node<B> {
 }
 
 impl<B: Body> Node<B> {
-    /// Takes all memory that adopting this outcome needs. With `Memory` as well as without it the node is as it was.
+    /// Reserves all memory that adopting this outcome needs. The node stays as it was, with `Memory` too.
     pub fn make_room(&mut self, outcome: &Outcome<B>) -> Result<(), NodeFault>
         ensures ok { OnOk result (HasRoom outcome.now self.new) }
         ensures state { self.new.state ≡ self.old.state }
@@ -328,8 +328,8 @@ impl<B: Body> Node<B> {
         Ok(())
     }
 
-    /// Becomes what was planned, once that is committed, where there is room for it; answers the packets that are to be sent, and the entries
-    /// that it applied. Takes no memory, and copies nothing.
+    /// Becomes what was planned, once that is committed, given room for it; returns the packets to send, and the entries that it applied.
+    /// Does not allocate, and copies nothing.
     pub fn adopt_in_room(&mut self, outcome: Outcome<B>) -> (Packets<B>, Entries<B>)
         requires room { HasRoom outcome self.old }
         requires fits { Fits self.old.me self.old.members outcome self.old.state }
@@ -368,8 +368,8 @@ impl<B: Body> Node<B> {
         (packets, applied)
     }
 
-    /// Makes room, and adopts the outcome. With `Memory` the node is as it was and failed: it is to be made anew, by `of`, from the rows that
-    /// are committed. A failed node answers `Memory`.
+    /// Makes room, and adopts the outcome. On `Memory` the node is as it was, and failed: make it anew, by `of`, from the rows that are
+    /// committed. A failed node returns `Memory`.
     pub fn adopt(&mut self, outcome: Outcome<B>) -> Result<(Packets<B>, Entries<B>), NodeFault>
         requires { Fits self.old.me self.old.members outcome self.old.state }
         ensures ok { OnOk result (self.new.state ≡ adopted self.old.me self.old.members outcome self.old.state) }
@@ -393,7 +393,7 @@ impl<B: Body> Node<B> {
         Ok(self.adopt_in_room(outcome))
     }
 
-    // It has only its rows.
+    // Drops all but its rows.
     #[tactic(auto, using(paxos_planning::proofs::Standing::no_front))]
     fn go_down(&mut self)
         ensures state { self.new.state ≡ down self.old.state.rows }
@@ -412,7 +412,7 @@ impl<B: Body> Node<B> {
     }
 }
 
-// Takes the memory for the outcome in each part.
+// Reserves memory for the outcome in each part.
 fn make_room_in<B: Body>(
     acceptor: &mut Acceptor<B>,
     proposer: &mut Proposer<B>,
@@ -445,7 +445,7 @@ fn make_room_in<B: Body>(
     Ok(())
 }
 
-// The round of a promise.
+// Returns the round of a promise.
 fn round_of(promised: Option<Ballot>) -> u64
     ensures { result ≡ round_of promised }
 {

@@ -17,13 +17,13 @@ pub struct Outcome<B> {
     pub packets: Packets<B>,
     /// The entries that it applies.
     pub applied: Entries<B>,
-    /// Whether the node is down then: one of these tells that it is lost.
+    /// Whether the node is down then: one of the entries that it applies is the loss of its own boot.
     pub is_down: bool,
     pub(crate) moves: Moves<B>,
 }
 
 impl<B> Outcome<B> {
-    // What changes nothing of a node with a log of this length.
+    // Returns the outcome that changes nothing of a node with a log of this length.
     pub(crate) fn nothing(alloc: Global, log: u64) -> Outcome<B>
         ensures { result ≡ unchanged log }
     {
@@ -45,7 +45,8 @@ impl<B> Outcome<B> {
         }
     }
 
-    // These effects, where this is applied then, the log behind it has this length, and so many of the first pending entries stand.
+    // Returns the outcome of these effects and of applying these entries; after them the log has this length, and `front` of the first
+    // pending entries stand.
     pub(crate) fn with(
         effects: Effects<B>,
         applied: Entries<B>,
@@ -76,14 +77,14 @@ impl<B> Outcome<B> {
         }
     }
 
-    /// The length of the log of the node that adopts it, 0 where it is down.
+    /// Returns the length of the log of the node that adopts it, or 0 if that node is down then.
     pub fn log(&self) -> u64
         ensures { result ≡ self.now.moves.log }
     {
         self.moves.log
     }
 
-    /// The entry that the event makes, if any: an act that is taken, or the loss of another node's boot.
+    /// Returns the entry that the event makes, if any: an act that is taken, or the loss of another node's boot.
     pub fn added(&self) -> Option<&Entry<B>>
         ensures { option_copied result ≡ self.now.moves.added }
     {

@@ -3,7 +3,7 @@ ghost use Rattle.std.specs.Prelude.{◌≡◌};
 use paxos_packets::Packet;
 use std::marker::Model;
 
-/// Packets in the order in which they were sent.
+/// Packets in the order in which they are to be sent.
 #[derive(Debug)]
 pub struct Packets<B> {
     list: Vec<Packet<B>>,
@@ -25,21 +25,21 @@ impl<B> Model for Packets<B> {
 }
 
 impl<B> Packets<B> {
-    // These, in the order of the vector.
+    // Returns the list of these packets, in the vector's order.
     pub(crate) fn of(list: Vec<Packet<B>>) -> Packets<B>
         ensures { result ≡ list.items }
     {
         Packets { list }
     }
 
-    /// The packets, in order.
+    /// Returns the packets, in order.
     pub fn as_slice(&self) -> &[Packet<B>]
         ensures { result.now ≡ self.now }
     {
         self.list.as_slice()
     }
 
-    /// The packets as a vector, in order. Takes no memory.
+    /// Returns the packets as a vector, in order. Does not allocate.
     pub fn into_vec(self) -> Vec<Packet<B>>
         ensures { result.items ≡ self }
     {

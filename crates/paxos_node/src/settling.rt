@@ -19,8 +19,8 @@ use paxos_planning::Draft;
 use replica_machine::{Roll, Standing};
 
 impl<B: Body> Node<B> {
-    // What the event makes of the node, where its part of it is done: what it would then have learned is applied. The first `front` that were
-    // pending stand before that.
+    // Returns what the event makes of the node, once its own part is done: what it would then have learned is applied. The first `front`
+    // entries that were pending stand before that.
     pub(crate) fn settle(
         &self,
         draft: Draft<'_, B>,
@@ -31,8 +31,8 @@ impl<B: Body> Node<B> {
         requires of { draft.of ≡ known self.now.me self.now.members self.now.state draft.of.added }
         requires front { OnOk done (FrontOf front draft) }
         requires most { front ≤ length draft.of.state.pending }
-        ensures settled { OnOk done (Answers false false (settle self.now.me draft.entry.turn).disagrees
-            (λ outcome. Settled self.now.me self.now.members self.now.state draft.entry.turn (with_added draft.entry.of.added outcome)) result) }
+        ensures settled { OnOk done (Answers false false (settle self.now.me draft.entry.plan).disagrees
+            (λ outcome. Settled self.now.me self.now.members self.now.state draft.entry.plan (with_added draft.entry.of.added outcome)) result) }
         ensures memory { OnErr done (result ≡ Err NoMemory) }
         ensures added { IfOk result (λ outcome. outcome.moves.added ≡ None) }
     {
@@ -46,7 +46,7 @@ impl<B: Body> Node<B> {
         Ok(ended(draft, run, self.roll(), front))
     }
 
-    // The same, where no entry becomes pending.
+    // Returns the same for an event by which no entry becomes pending.
     #[tactic(auto, using(paxos_planning::proofs::Standing::no_front))]
     pub(crate) fn finish(
         &self,
@@ -55,7 +55,7 @@ impl<B: Body> Node<B> {
     ) -> Result<Outcome<B>, NodeFault>
         requires up { self.now.state.up ≡ true }
         requires of { draft.of ≡ known self.now.me self.now.members self.now.state None }
-        ensures answered { OnOk done (Answered self.now.me self.now.members self.now.state false false draft.entry.turn result) }
+        ensures answered { OnOk done (Answered self.now.me self.now.members self.now.state false false draft.entry.plan result) }
         ensures memory { OnErr done (result ≡ Err NoMemory) }
         ensures added { IfOk result (λ outcome. outcome.moves.added ≡ None) }
     {
@@ -63,10 +63,10 @@ impl<B: Body> Node<B> {
     }
 }
 
-// What is to be applied at the event's end, where its part of the node is done.
+// Returns what is to be applied at the event's end, once its own part is done.
 fn run_of<B: Body>(draft: &Draft<'_, B>, done: Result<(), Memory>) -> Result<Entries<B>, NodeFault>
-    ensures run { OnOk done (Answers false false draft.now.turn.disagrees
-        (λ run. run ≡ run_from (suc (length draft.now.of.state.applied)) draft.now.turn.node.learner.learned) result) }
+    ensures run { OnOk done (Answers false false draft.now.plan.disagrees
+        (λ run. run ≡ run_from (suc (length draft.now.of.state.applied)) draft.now.plan.node.learner.learned) result) }
     ensures memory { OnErr done (result ≡ Err NoMemory) }
 {
     let Ok(()) = done else {
@@ -81,15 +81,15 @@ fn run_of<B: Body>(draft: &Draft<'_, B>, done: Result<(), Memory>) -> Result<Ent
     Ok(run)
 }
 
-// What the event makes of the node, where this is what is to be applied.
+// Returns what the event makes of the node, given what is to be applied.
 fn ended<B: Body>(draft: Draft<'_, B>, run: Entries<B>, roll: &Roll, front: usize) -> Outcome<B>
     requires up { draft.of.state.up ≡ true }
     requires roll { IsRollOf draft.of.state.applied roll.now }
-    requires agrees { draft.turn.disagrees ≡ false }
-    requires run { run ≡ run_from (suc (length draft.of.state.applied)) draft.turn.node.learner.learned }
+    requires agrees { draft.plan.disagrees ≡ false }
+    requires run { run ≡ run_from (suc (length draft.of.state.applied)) draft.plan.node.learner.learned }
     requires front { FrontOf front draft }
     requires most { front ≤ length draft.of.state.pending }
-    ensures settled { Settled draft.entry.of.me draft.entry.of.members draft.entry.of.state draft.entry.turn
+    ensures settled { Settled draft.entry.of.me draft.entry.of.members draft.entry.of.state draft.entry.plan
         (with_added draft.entry.of.added result) }
     ensures added { result.moves.added ≡ None }
 {
@@ -102,7 +102,7 @@ fn ended<B: Body>(draft: Draft<'_, B>, run: Entries<B>, roll: &Roll, front: usiz
     Outcome::with(draft.into_effects(), applied, is_down, log, stand)
 }
 
-// How many of the first pending entries stand, once this is applied: none is looked for behind what is applied.
+// Returns how many of the first pending entries stand once this is applied; after entries are applied none is counted.
 fn front_behind<B>(front: usize, applied: &[Entry<B>]) -> usize
     ensures { result ≡ front_behind front applied.now }
 {
@@ -112,7 +112,7 @@ fn front_behind<B>(front: usize, applied: &[Entry<B>]) -> usize
     0
 }
 
-// Where the node stands behind its log.
+// Returns the node's standing after its log.
 fn standing_in<B>(draft: &Draft<'_, B>, roll: &Roll) -> Standing
     requires { IsRollOf draft.now.of.state.applied roll.now }
     ensures { result ≡ standing draft.now.of.me draft.now.of.state.applied }
@@ -120,7 +120,7 @@ fn standing_in<B>(draft: &Draft<'_, B>, roll: &Roll) -> Standing
     roll.standing(draft.me())
 }
 
-// The length of a log and of what is applied to it; 0 where the node is down.
+// Returns the length of a log with what is applied to it, or 0 if the node is down.
 fn log_behind<B>(log: u64, applied: &[Entry<B>], is_down: bool) -> u64
     requires { log < 2 ^ 40 }
     ensures { result ≡ (if is_down then 0 else log + length applied.now) }
@@ -131,7 +131,7 @@ fn log_behind<B>(log: u64, applied: &[Entry<B>], is_down: bool) -> u64
     log + applied.len() as u64
 }
 
-// The first of the entries.
+// Returns the first `count` entries.
 fn first_of<B: Drop>(entries: Entries<B>, count: usize) -> Entries<B>
     ensures { result ≡ take count entries }
 {
@@ -140,7 +140,7 @@ fn first_of<B: Drop>(entries: Entries<B>, count: usize) -> Entries<B>
     Entries::of(list)
 }
 
-// How many of the entries are applied by a node that stands so, and whether the last of them tells that its boot is lost.
+// Returns how many of the entries a node with this standing applies, and whether the last of them is the loss of its boot.
 fn until_lost<B>(standing: Standing, me: u8, boot: u64, entries: &[Entry<B>]) -> (usize, bool)
     ensures count { result.0 ≡ count_to_end me boot standing entries.now }
     ensures is_down { result.1 ≡ has_end me boot standing entries.now }
@@ -152,19 +152,19 @@ fn until_lost<B>(standing: Standing, me: u8, boot: u64, entries: &[Entry<B>]) ->
         if ends_boot(entry, me, boot, now) {
             return (count, true);
         }
-        now = now.behind(me, entry);
+        now = now.after(me, entry);
     }
     (count, false)
 }
 
-// Whether it tells that this boot of a node that stands so is lost.
+// Returns whether the entry is the loss of this boot of a node with this standing.
 fn ends_boot<B>(entry: &Entry<B>, me: u8, boot: u64, standing: Standing) -> bool
     ensures { result ≡ ends_boot me boot standing entry.now }
 {
     is_own_lost(entry, me, boot) && standing.is_live(boot)
 }
 
-// Whether it tells that this node is lost in this boot.
+// Returns whether the entry is the loss of this node in this boot.
 fn is_own_lost<B>(entry: &Entry<B>, me: u8, own: u64) -> bool
     ensures { result ≡ is_own_lost me own entry.now }
 {

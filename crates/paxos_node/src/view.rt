@@ -11,8 +11,8 @@ pub enum Opened<B> {
     With(Rows<B>),
 }
 
-/// What is known of one node: whether it was opened, the node, and every packet that it sent. No value of it is ever made: contracts speak of
-/// it, so that they need not say who knows this.
+/// What is known of one node: whether it was opened, the node, and every packet that it sent. No value of this type is ever made: contracts
+/// speak of it, so that they need not say what knows this.
 pub struct NodeView<B> {
     opened: Opened<B>,
     node: Node<B>,

@@ -1,4 +1,4 @@
-//! The entries that wait for a slot, and where each node stands, while learned entries are applied.
+//! The entries that wait for a slot, and the standing of each node, while learned entries are applied.
 
 ghost use Rattle.std.specs.Prelude.{◌≡◌, ◌≤◌, ◌-◌, [], ◌∷◌, ◌++◌, List, filter, vec_len, vec_capacity};
 ghost use Rattle.paxos_packets.specs.declared.entry.Entry.{Entry};
@@ -10,7 +10,7 @@ ghost use Rattle.paxos_node.specs.Held.{additions};
 use paxos_packets::Entry;
 use replica_machine::Roll;
 
-// The entries are applied, one by one: what each settles is no longer pending.
+// Applies the entries, one by one: what each settles is no longer pending.
 pub(crate) fn apply_all<B: Drop>(roll: &mut Roll, pending: &mut Vec<Entry<B>>, entries: &[Entry<B>])
     ensures roll { (log : List (Entry B)) → IsRollOf log roll.old → IsRollOf (log ++ entries.now) roll.new }
     ensures pending { (log : List (Entry B)) → IsRollOf log roll.old
@@ -21,7 +21,7 @@ pub(crate) fn apply_all<B: Drop>(roll: &mut Roll, pending: &mut Vec<Entry<B>>, e
     }
 }
 
-// The entry is applied.
+// Applies the entry.
 fn apply<B: Drop>(roll: &mut Roll, pending: &mut Vec<Entry<B>>, entry: &Entry<B>)
     ensures roll { (log : List (Entry B)) → IsRollOf log roll.old → IsRollOf (log ++ entry.now ∷ []) roll.new }
     ensures pending { (log : List (Entry B)) → IsRollOf log roll.old
@@ -43,7 +43,7 @@ fn keep_wanted<B: Drop>(roll: &Roll, pending: &mut Vec<Entry<B>>)
     pending.retain(|entry| roll.wants(entry));
 }
 
-// The entry waits for a slot; an Item counts by its number.
+// Lets the entry wait for a slot; an Item counts by its number.
 pub(crate) fn wait<B>(pending: &mut Vec<Entry<B>>, taken: &mut u64, added: Option<Entry<B>>)
     requires { additions added ≤ vec_capacity pending.old - vec_len pending.old }
     ensures pending { pending.new.items ≡ pending_with added pending.old.items }

@@ -8,11 +8,11 @@ use Rattle.std.specs.Ordering.{nat_cmp, MatchOrdering}
 use Rattle.paxos_packets.specs.Vote.{IsAscending}
 use Rattle.paxos_packets.specs.declared.vote.Vote.{Vote}
 
--- every vote stands in a later slot
+-- every vote is for a later slot
 abbrev pub AllAfter : {B : Type 0} → ℕ → List (Vote B) → Type 0
 AllAfter slot votes = AllByRecursion (λ v. slot < v.slot) votes
 
--- each vote stands in front of those after it
+-- each vote comes before those after it
 abbrev pub Ascends : {B : Type 0} → List (Vote B) → Type 0
 Ascends [] = Unit {0}
 Ascends (v ∷ vs) = AllAfter v.slot vs × Ascends vs

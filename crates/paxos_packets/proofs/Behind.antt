@@ -1,4 +1,4 @@
--- The votes behind a place.
+-- The votes from a slot on.
 use Rattle.std.proofs.Common.{◌≡◌, ℕ, ◌-◌, List, length, take, drop, ◌∙◌, ap, subst, sym}
 use Rattle.std.proofs.lemmas.List.{take_rest}
 use Rattle.paxos_packets.proofs.Ascending.{Ascends}

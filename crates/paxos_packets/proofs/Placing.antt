@@ -1,4 +1,4 @@
--- Where a vote stands among votes whose slots ascend.
+-- The index of a vote among votes whose slots ascend.
 use Rattle.std.proofs.Common.{◌≡◌, ℕ, zero, suc, ◌-◌, ◌<◌, ◌≤◌, Bool, true, false, cond, Option, Some, None, is_some, List, [], ◌∷◌, ◌++◌}
 use Rattle.std.proofs.Common.{length, get_or, set, take, drop, ltb, leb, eqb, refl, ap, sym, ◌∙◌, subst, lt-ltb, eq-eqb, arith}
 use Rattle.std.proofs.lemmas.Bool.{ltb-true, eqb-true}
@@ -26,7 +26,7 @@ not_le a b h = grind (arith, nat_tests)
 below_or : (a b : ℕ) → eqb a b ≡ false → b ≤ a → b < a
 below_or a b e l = grind (arith, nat_tests)
 
--- the votes behind a slot
+-- the votes from a slot on
 
 pub after_get : {B : Type 0} (slot k : ℕ) (vs : List (Vote B)) (d : Vote B) → AllAfter slot vs → k < length vs → slot < (get_or vs k d).slot
 after_get slot k [] d h l = absurd (omega arith)
@@ -82,7 +82,7 @@ place_below slot (suc k) (v ∷ vs) d l g = go (ltb v.slot slot) (place slot vs)
     go true m h = omega arith
     go false m h = omega arith
 
--- behind the last vote is the last place
+-- after the last vote is the last place
 pub place_last : {B : Type 0} (slot : ℕ) (last : Vote B) (vs : List (Vote B)) → Ascends vs → 0 < length vs
     → last ≡ get_or vs (length vs - 1) last → last.slot < slot → length vs ≡ place slot vs
 place_last {B = B} slot last vs h l e g =
@@ -91,7 +91,7 @@ place_last {B = B} slot last vs h l e g =
     let b : place slot vs ≤ length vs = place_le slot vs in
     omega arith
 
--- what stands in front of the place is lower
+-- what is before the place is lower
 pub place_reaches : {B : Type 0} (slot k : ℕ) (vs : List (Vote B)) (d : Vote B) → k < length vs → k < place slot vs
     → (get_or vs k d).slot < slot
 place_reaches slot k vs d l g =
@@ -100,7 +100,7 @@ place_reaches slot k vs d l g =
     from_not : (a b : ℕ) → (b ≤ a → ⊥) → a < b
     from_not a b h = grind arith
 
--- what stands at the place
+-- what is at the place
 
 found_at : {B : Type 0} (slot : ℕ) (v : Vote B) (vs : List (Vote B)) (d : Vote B) (b : Bool) → ltb v.slot slot ≡ b
     → (place slot vs < length vs → (get_or vs (place slot vs) d).slot ≡ slot → vote_in slot vs ≡ Some (get_or vs (place slot vs) d))
@@ -196,7 +196,7 @@ pub seen_none : {B : Type 0} (slot i : ℕ) (vs : List (Vote B)) → Ascends vs 
 seen_none slot i [] h e l = refl
 seen_none slot i (v ∷ vs) h e l = ap is_some (absent slot (v ∷ vs) v h (λ m q. absurd (omega arith)))
 
--- where the slot has a vote, the vote at its place is the one
+-- if the slot has a vote, the vote at its place is the one
 
 sought : {B : Type 0} (slot : ℕ) (vs : List (Vote B)) (d : Vote B) → Ascends vs → is_some (vote_in slot vs) ≡ true
     → (place slot vs < length vs) × ((get_or vs (place slot vs) d).slot ≡ slot)
@@ -299,7 +299,7 @@ pub put_votes-push : {B : Type 0} (xs : List (Vote B)) (v : Vote B) (ws : List (
 put_votes-push [] v ws = refl
 put_votes-push (x ∷ xs) v ws = put_votes-push xs v (put_vote x ws)
 
--- what stands in a slot after a vote was put
+-- what is in a slot after a vote was put
 
 vote_in-put_at : {B : Type 0} (v w : Vote B) (ws : List (Vote B)) (slot : ℕ)
     → vote_in slot (put_vote v ws) ≡ cond (eqb v.slot slot) (Some v) (vote_in slot ws)

@@ -1,4 +1,4 @@
--- Lists are equal where their items are, place by place: the test is std's `pointwise`.
+-- Lists are equal if their items are, item by item: the test is std's `pointwise`.
 use Rattle.std.proofs.Common.{◌≡◌, Bool, true, List, [], ◌∷◌, refl}
 use Rattle.std.proofs.lemmas.Bool.{and_parts, and_from}
 use Rattle.std.specs.Cmp.Lexicographic.{pointwise}

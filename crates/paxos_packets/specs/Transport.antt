@@ -1,4 +1,4 @@
--- Transports, told apart by a test.
+-- The test of transports for equality.
 use Rattle.std.specs.Prelude.{Bool, ◌&&◌, ◌==◌}
 use Rattle.paxos_packets.specs.declared.transport.Transport.{Transport}
 

@@ -16,16 +16,16 @@ use Rattle.paxos_packets.specs.declared.vote.Vote.{Vote}
 abbrev pub IsAscending : {B : Type 0} → List (Vote B) → Type 0
 IsAscending votes = IsStrictlySortedBy nat_cmp (map (λ v. v.slot) votes)
 
--- how many votes stand in front of the slot
+-- how many votes are for lower slots
 abbrev pub place : {B : Type 0} → ℕ → List (Vote B) → ℕ
 place slot [] = 0
 place slot (v ∷ vs) = if nat_lt v.slot slot then suc (place slot vs) else 0
 
--- the vote that stands in the slot
+-- the slot's vote
 abbrev pub vote_in : {B : Type 0} → ℕ → List (Vote B) → Option (Vote B)
 vote_in slot votes = find (λ v. v.slot == slot) votes
 
--- the vote in its slot, in the place of the one that stood there
+-- the vote in its slot, in the place of the one that was there
 abbrev pub put_vote : {B : Type 0} → Vote B → List (Vote B) → List (Vote B)
 put_vote v [] = v ∷ []
 put_vote v (w ∷ ws) =

@@ -3,13 +3,13 @@ ghost use Rattle.std.specs.Prelude.{◌≡◌, Bool, true, IfOk};
 use std::alloc::{AllocError, AllocFailed, Global};
 use thiserror::Error;
 
-/// There was no memory for a copy.
+/// Memory for a copy ran out.
 #[derive(Clone, Copy, Debug, PartialEq, Eq, Drop, Error)]
 #[error("no memory for a copy")]
 pub struct Memory;
 
 impl Memory {
-    /// The number of the fault.
+    /// Returns the fault's number.
     pub fn number(self) -> u8
         ensures { result ≡ 49 }
     {
@@ -29,15 +29,15 @@ impl<T: Drop> From<AllocFailed<T>> for Memory {
     }
 }
 
-/// What is copied and compared by value: the body of an item, which is an act that every node applies, and all that holds bodies.
+/// A value that can be copied and compared: the body of an item, which is an act that every node applies, and every type that holds bodies.
 pub trait Body: Drop {
     ghost same: { Self → Self → Bool };
 
-    /// A copy that equals its source; `Memory` where there is no memory for it.
+    /// Returns a copy that equals its source, or `Memory` if memory runs out.
     fn copy(&self, alloc: Global) -> Result<Self, Memory>
         ensures { IfOk result (λ copy. copy ≡ self.now) };
 
-    /// Whether the two are equal in value. Takes no memory.
+    /// Returns whether the two are equal in value. Does not allocate.
     fn same(&self, other: &Self) -> bool
         ensures { result ≡ same self.now other.now };
 

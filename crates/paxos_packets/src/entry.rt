@@ -22,7 +22,7 @@ pub enum Entry<B> {
         node: u8,
         boot: u64,
     },
-    /// The act that a node took under the number `seq`, from 1, in this boot, of its transport with this number, from 1.
+    /// The act that a node took in this boot under the number `seq`, from 1, of its transport with this number, from 1.
     Item {
         node: u8,
         boot: u64,
@@ -32,7 +32,7 @@ pub enum Entry<B> {
     },
 }
 
-/// Entries in an order.
+/// A list of entries, in order.
 #[derive(Debug)]
 pub struct Entries<B> {
     list: Vec<Entry<B>>,
@@ -54,7 +54,7 @@ impl<B> Model for Entries<B> {
 }
 
 impl<B> Entries<B> {
-    /// No entry. Takes no memory; `push` will, from `alloc`.
+    /// Returns an empty list. Does not allocate; `push` will, from `alloc`.
     pub fn new(alloc: Global) -> Entries<B>
         ensures { result ≡ [] }
     {
@@ -63,14 +63,14 @@ impl<B> Entries<B> {
         }
     }
 
-    /// These entries, in the order of the vector. Takes no memory.
+    /// Returns the list of these entries, in the vector's order. Does not allocate.
     pub fn of(list: Vec<Entry<B>>) -> Entries<B>
         ensures { result ≡ list.items }
     {
         Entries { list }
     }
 
-    /// The entries as a vector. Takes no memory.
+    /// Returns the entries as a vector, in order. Does not allocate.
     pub fn into_vec(self) -> Vec<Entry<B>>
         ensures { result.items ≡ self }
     {
@@ -78,7 +78,7 @@ impl<B> Entries<B> {
         list
     }
 
-    /// The entries, in order.
+    /// Returns the entries, in order.
     pub fn as_slice(&self) -> &[Entry<B>]
         ensures { result.now ≡ self.now }
     {
@@ -87,7 +87,7 @@ impl<B> Entries<B> {
 }
 
 impl<B: Drop> Entries<B> {
-    /// Puts the entry at the end. With `Memory` the entries are as they were.
+    /// Appends the entry. On `Memory` the entries are as they were.
     pub fn push(&mut self, entry: Entry<B>) -> Result<(), Memory>
         ensures ok { OnOk result (self.new ≡ self.old ++ entry ∷ []) }
         ensures err { OnErr result (self.new ≡ self.old) }

@@ -7,7 +7,7 @@ use crate::vote::{Vote, Votes, copy_behind, find_in, put_all_in_room};
 use std::alloc::Global;
 use std::marker::Model;
 
-/// Votes by ascending slot, at most one in each, which can make room for more before they are put.
+/// Votes by ascending slot, at most one for each slot, which can make room for more before they are put.
 #[derive(Debug)]
 pub struct KeptVotes<B> {
     list: Vec<Vote<B>>,
@@ -32,7 +32,7 @@ impl<B> Model for KeptVotes<B> {
 }
 
 impl<B> KeptVotes<B> {
-    /// These votes. Takes no memory.
+    /// Returns the table of these votes. Does not allocate.
     pub fn of(votes: Votes<B>) -> KeptVotes<B>
         ensures { result.votes ≡ votes }
     {
@@ -41,7 +41,7 @@ impl<B> KeptVotes<B> {
         }
     }
 
-    /// The votes, by ascending slot. Takes no memory.
+    /// Returns the votes, by ascending slot. Does not allocate.
     pub fn into_votes(self) -> Votes<B>
         ensures { result ≡ self.votes }
     {
@@ -49,7 +49,7 @@ impl<B> KeptVotes<B> {
         Votes::of(list)
     }
 
-    /// The votes, by ascending slot.
+    /// Returns the votes, by ascending slot.
     pub fn as_slice(&self) -> &[Vote<B>]
         ensures votes { result.now ≡ self.now.votes }
         ensures ascending { IsAscending self.now.votes }
@@ -57,7 +57,7 @@ impl<B> KeptVotes<B> {
         self.list.as_slice()
     }
 
-    /// The vote in the slot, if there is one. Takes no memory, and steps logarithmic in the number of votes.
+    /// Returns the vote in the slot, if any. Does not allocate, and takes a number of steps logarithmic in the number of votes.
     pub fn find(&self, slot: Slot) -> Option<&Vote<B>>
         ensures { option_copied result ≡ vote_in slot self.now.votes }
     {
@@ -66,7 +66,7 @@ impl<B> KeptVotes<B> {
 }
 
 impl<B: Drop> KeptVotes<B> {
-    /// Makes room for so many votes more. After `Memory` the votes are as they were, too.
+    /// Reserves memory for `count` more votes. The votes stay as they were, with `Memory` too.
     pub fn make_room(&mut self, count: usize) -> Result<(), Memory>
         ensures ok { OnOk result (count ≤ self.new.room) }
         ensures votes { self.new.votes ≡ self.old.votes }
@@ -75,8 +75,8 @@ impl<B: Drop> KeptVotes<B> {
         Ok(())
     }
 
-    /// Puts each of the votes, in order, where there is room for so many more. Each is found in a number of steps that is logarithmic in
-    /// the number of votes; one for a new slot moves the votes of later slots. Takes no memory.
+    /// Puts each of the votes, in order, given room for all of them. Finds each place in a number of steps logarithmic in the number of
+    /// votes; a vote for a new slot moves the votes of later slots. Does not allocate.
     pub fn put_all_in_room(&mut self, votes: Votes<B>)
         requires { length votes ≤ self.old.room }
         ensures { self.new.votes ≡ put_votes votes self.old.votes }
@@ -86,8 +86,8 @@ impl<B: Drop> KeptVotes<B> {
 }
 
 impl<B: Body> KeptVotes<B> {
-    /// Copies of the votes from the slot with this number on, or `Memory` where there is none for them. It copies, and looks at, no
-    /// other but a logarithmic number of them.
+    /// Copies the votes from the slot with this number on; returns `Memory` if memory for them runs out. It copies no other vote, and looks
+    /// at only a logarithmic number of others.
     pub fn copy_from(&self, alloc: Global, first: u64) -> Result<Votes<B>, Memory>
         ensures { IfOk result (λ votes. votes ≡ votes_from first self.now.votes) }
     {

@@ -10,27 +10,27 @@ ghost use Rattle.paxos_packets.specs.Vote.{same_vote, IsAscending, put_vote, vot
 ghost use Rattle.paxos_packets.specs.declared.ballot.Ballot.{Ballot};
 ghost use Rattle.paxos_packets.specs.declared.vote.Vote.{Vote};
 
-/// Ballots are in one order: of two different ones exactly one is below the other.
+/// Ballots are totally ordered: of two different ones exactly one is below the other.
 pub fn ballots_are_ordered()
     ensures irreflexive { (a : Ballot) → below a a ≡ false }
     ensures transitive { (a b c : Ballot) → below a b ≡ true → below b c ≡ true → below a c ≡ true }
     ensures total { (a b : Ballot) → (below a b ≡ true) ⊎ ((a ≡ b) ⊎ (below b a ≡ true)) }
 {}
 
-/// Two majorities of the same members have a common member (Lamport 2001, section 2.1).
+/// Two majorities of the same members share a member (Lamport 2001, section 2.1).
 pub fn majorities_meet()
     ensures { (members : ℕ) (p q : ℕ → Bool) → IsMajority members p → IsMajority members q
         → ((node : ℕ) × IsMember members node × (p node ≡ true) × (q node ≡ true)) }
 {}
 
-/// A vote that is put stands in its slot, and no other slot changes; the slots still ascend.
+/// A vote that is put is found in its slot, and no other slot changes; the slots still ascend.
 pub fn votes_are_put<B>()
     ensures found { (v : Vote B) (vs : List (Vote B)) (slot : ℕ)
         → vote_in slot (put_vote v vs) ≡ (if v.slot == slot then Some v else vote_in slot vs) }
     ensures ascending { (v : Vote B) (vs : List (Vote B)) → IsAscending vs → IsAscending (put_vote v vs) }
 {}
 
-/// Where the test of bodies is equality, those of entries, votes and packets are.
+/// If the test of bodies is equality, so are those of entries, votes and packets.
 pub fn values_are_told_apart<B>()
     ensures entries { (same : B → B → Bool) → IsEquality same → IsEquality (same_entry same) }
     ensures votes { (same : B → B → Bool) → IsEquality same → IsEquality (same_vote same) }

@@ -6,7 +6,7 @@ ghost use Rattle.std.specs.Cmp.Lexicographic.{pointwise};
 use crate::body::{Body, Memory};
 use std::alloc::Global;
 
-// Copies of all items, in order.
+// Copies all items, in order.
 pub(crate) fn copy_all<T: Body>(alloc: Global, items: &[T]) -> Result<Vec<T>, Memory>
     ensures { IfOk result (λ copies. copies.items ≡ items.now) }
 {
@@ -17,7 +17,7 @@ pub(crate) fn copy_all<T: Body>(alloc: Global, items: &[T]) -> Result<Vec<T>, Me
     Ok(copies)
 }
 
-// Whether the items are equal in value, place by place.
+// Returns whether the lists are equal in value, item by item.
 pub(crate) fn all_same<T: Body>(items: &[T], others: &[T]) -> bool
     ensures { result ≡ pointwise T.same items.now others.now }
 {

@@ -22,7 +22,7 @@ impl Model for NodeSet {
 }
 
 impl NodeSet {
-    /// The set without any node. Takes no memory.
+    /// Returns the empty set. Does not allocate.
     pub fn new() -> NodeSet
         ensures value { result ≡ no_nodes }
         ensures meaning { (node : ℕ) → is_in result node ≡ false }
@@ -30,7 +30,7 @@ impl NodeSet {
         NodeSet { has: [false; 8] }
     }
 
-    /// Puts the node into the set; a number above 7 is that of no node, and changes nothing.
+    /// Adds the node to the set; a number above 7 is no node's, and changes nothing.
     pub fn insert(&mut self, node: u8)
         ensures value { self.new ≡ set_with self.old node }
         ensures meaning { (other : ℕ) → is_in self.new other ≡ (is_in self.old other || ((other == node) && nat_lt other 8)) }
@@ -40,7 +40,7 @@ impl NodeSet {
         }
     }
 
-    /// The set with the node; a number above 7 is that of no node.
+    /// Returns the set with the node; a number above 7 is no node's.
     pub fn with(self, node: u8) -> NodeSet
         ensures { result ≡ set_with self node }
     {
@@ -51,7 +51,7 @@ impl NodeSet {
         NodeSet { has }
     }
 
-    /// Whether the node is in the set.
+    /// Returns whether the node is in the set.
     pub fn contains(self, node: u8) -> bool
         ensures { result ≡ is_in self node }
     {
@@ -76,7 +76,7 @@ impl Model for Members {
 }
 
 impl Members {
-    /// The members 1 to `count`, or `None` where `count` is not 3 to 7. Takes no memory.
+    /// Returns the members 1 to `count`, or `None` if `count` is not 3 to 7. Does not allocate.
     pub fn new(count: u8) -> Option<Members>
         ensures valid { IsSome result ↔ ((3 ≤ count) × (count ≤ 7)) }
         ensures value { IfSome result (λ m. m ≡ count) }
@@ -88,7 +88,7 @@ impl Members {
         }
     }
 
-    /// How many members there are.
+    /// Returns how many members there are.
     pub fn count(self) -> u8
         ensures value { result ≡ self }
         ensures least { 3 ≤ result }
@@ -98,14 +98,14 @@ impl Members {
         count
     }
 
-    /// Whether this is the number of a member.
+    /// Returns whether this is the number of a member.
     pub fn contains(self, node: u8) -> bool
         ensures { result ≡ is_member self node }
     {
         1 <= node && node <= self.count
     }
 
-    /// Whether the set has more than half of the members. Nodes that are no members do not count.
+    /// Returns whether the set has more than half of the members. Nodes that are not members do not count.
     pub fn majority(self, set: NodeSet) -> bool
         ensures value { result ≡ is_majority self (is_in set) }
         ensures meaning { IsTrue result ↔ IsMajority self (is_in set) }
@@ -119,7 +119,7 @@ impl Members {
         self.count < 2 * count
     }
 
-    /// The members other than this node, by ascending number. Takes no memory.
+    /// Returns the members other than this node, by ascending number. Does not allocate.
     pub fn others(self, node: u8) -> ArrayVec<u8, 7>
         ensures { result.items ≡ others node self }
     {

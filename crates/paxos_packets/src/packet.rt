@@ -7,7 +7,7 @@ use crate::slot::Slot;
 use crate::vote::{Vote, Votes};
 use std::alloc::Global;
 
-/// What a packet says (Lamport 2001, sections 2.2, 2.3 and 3; docs/CONSENSUS.md has each kind's place).
+/// What a packet says (Lamport 2001, sections 2.2, 2.3 and 3; docs/CONSENSUS.md, "Packets", says when each kind is sent).
 #[derive(Debug, Drop)]
 pub enum Kind<B> {
     /// Asks for a promise of the ballot, and for the votes from the slot `first` on (1 to 2^40).
@@ -28,7 +28,7 @@ pub enum Kind<B> {
     Ask { first: u64 },
 }
 
-/// What one member sends to another. It may be lost, repeated or overtaken, and is never altered.
+/// What one member sends to another. A packet may be lost, repeated or overtaken, but is never altered.
 #[derive(Debug)]
 pub struct Packet<B> {
     /// The member that sends it.

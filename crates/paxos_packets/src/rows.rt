@@ -8,9 +8,9 @@ use std::alloc::Global;
 /// What one event adds to a node's rows, in one commit.
 #[derive(Debug, Drop)]
 pub struct Change<B> {
-    /// The new promise, or `None` where the promise stays.
+    /// The new promise, or `None` if the promise stays.
     pub promised: Option<Ballot>,
-    /// The votes that are added or, where their slot has one, replaced.
+    /// The votes that are added; each replaces the vote of its slot, if that has one.
     pub votes: Votes<B>,
 }
 
@@ -21,12 +21,12 @@ pub struct Rows<B> {
     pub boot: u64,
     /// The greatest ballot that the node has promised, if any.
     pub promised: Option<Ballot>,
-    /// For each slot the last vote that the node cast there.
+    /// For each slot, the last vote that the node cast there.
     pub votes: Votes<B>,
 }
 
 impl<B: Body> Change<B> {
-    /// A copy that equals its source; `Memory` where there is no memory for it.
+    /// Returns a copy that equals its source, or `Memory` if memory runs out.
     pub fn copy(&self, alloc: Global) -> Result<Change<B>, Memory>
         ensures { IfOk result (λ copy. copy ≡ self.now) }
     {
@@ -39,7 +39,7 @@ impl<B: Body> Change<B> {
 }
 
 impl<B: Body> Rows<B> {
-    /// A copy that equals its source; `Memory` where there is no memory for it.
+    /// Returns a copy that equals its source, or `Memory` if memory runs out.
     pub fn copy(&self, alloc: Global) -> Result<Rows<B>, Memory>
         ensures { IfOk result (λ copy. copy ≡ self.now) }
     {

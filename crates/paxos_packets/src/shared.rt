@@ -5,8 +5,8 @@ use std::alloc::{AllocFailed, Global};
 use std::marker::Model;
 use std::sync::Arc;
 
-/// A body that is held once, however many votes, packets and logs have it: a copy is one holder more, not a body more.
-/// In contracts it is the body itself.
+/// A body that is held once, however many votes, packets and logs have it: a copy adds a holder, not a body. In contracts it is the body
+/// itself.
 #[derive(Debug)]
 pub struct Shared<T> {
     held: Arc<T>,
@@ -27,7 +27,7 @@ impl<T> Model for Shared<T> {
 }
 
 impl<T> Shared<T> {
-    /// Holds the body, which comes back where there is no memory.
+    /// Holds the body, or gives it back if memory runs out.
     pub fn new(alloc: Global, body: T) -> Result<Shared<T>, AllocFailed<T>>
         ensures ok { IfOk result (λ shared. shared ≡ body) }
         ensures err { IfErr result (λ e. e.value ≡ body) }
@@ -37,14 +37,14 @@ impl<T> Shared<T> {
         })
     }
 
-    /// The body. Takes no memory.
+    /// Returns the body. Does not allocate.
     pub fn get(&self) -> &T
         ensures { result.now ≡ self.now }
     {
         &self.held
     }
 
-    /// One holder more. Takes constant time, and no memory; `Memory` where no holder more can be counted.
+    /// Adds a holder. Takes constant time, and does not allocate; returns `Memory` if no further holder can be counted.
     pub fn share(&self) -> Result<Shared<T>, Memory>
         ensures { IfOk result (λ copy. copy ≡ self.now) }
     {

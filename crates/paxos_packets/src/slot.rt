@@ -2,7 +2,7 @@ ghost use Rattle.std.specs.Prelude.{◌≡◌, ℕ, ◌<◌, ◌≤◌, ◌^◌,
 
 use std::marker::Model;
 
-/// A place of the log, from 1 to 2^40 - 1.
+/// A slot of the log, from 1 to 2^40 - 1.
 #[derive(Clone, Copy, Debug, PartialEq, Eq, PartialOrd, Ord, Hash)]
 pub struct Slot {
     number: u64,
@@ -19,7 +19,7 @@ impl Model for Slot {
 }
 
 impl Slot {
-    /// The slot of this number, or `None` where the number is 0 or above 2^40 - 1. Takes no memory.
+    /// Returns the slot with this number, or `None` if the number is 0 or above 2^40 - 1. Does not allocate.
     pub fn new(number: u64) -> Option<Slot>
         ensures valid { IsSome result ↔ ((1 ≤ number) × (number < 2 ^ 40)) }
         ensures value { IfSome result (λ s. s ≡ number) }
@@ -31,7 +31,7 @@ impl Slot {
         }
     }
 
-    /// The number of the slot.
+    /// Returns the slot's number.
     pub fn get(self) -> u64
         ensures value { result ≡ self }
         ensures least { 1 ≤ result }

@@ -1,4 +1,5 @@
-/// A client's connection: the node that took it, that node's boot then, and its number in that boot, from 1. It is new with each boot.
+/// A client's connection: the node that took it, that node's boot at the time, and its number in that boot, from 1. It is new with each
+/// boot.
 #[derive(Clone, Copy, Debug, PartialEq, Eq, PartialOrd, Ord, Hash)]
 pub struct Transport {
     /// The member that took the connection.

@@ -23,7 +23,7 @@ pub struct Vote<B> {
     pub entry: Entry<B>,
 }
 
-/// Votes by ascending slot, at most one in each.
+/// Votes by ascending slot, at most one for each slot.
 #[derive(Debug)]
 pub struct Votes<B> {
     list: Vec<Vote<B>>,
@@ -49,7 +49,7 @@ impl<B> Model for Votes<B> {
 }
 
 impl<B> Votes<B> {
-    /// No vote. Takes no memory; `put` will, from `alloc`.
+    /// Returns an empty list. Does not allocate; `put` will, from `alloc`.
     pub fn new(alloc: Global) -> Votes<B>
         ensures { result ≡ [] }
     {
@@ -58,7 +58,7 @@ impl<B> Votes<B> {
         }
     }
 
-    // These votes, which ascend.
+    // Returns the list of these votes, which ascend.
     pub(crate) fn of(list: Vec<Vote<B>>) -> Votes<B>
         requires { IsAscending list.items }
         ensures { result ≡ list.items }
@@ -66,7 +66,7 @@ impl<B> Votes<B> {
         Votes { list }
     }
 
-    /// The votes, by ascending slot.
+    /// Returns the votes, by ascending slot.
     pub fn as_slice(&self) -> &[Vote<B>]
         ensures votes { result.now ≡ self.now }
         ensures ascending { IsAscending self.now }
@@ -74,7 +74,7 @@ impl<B> Votes<B> {
         self.list.as_slice()
     }
 
-    /// The votes as a vector, by ascending slot. Takes no memory.
+    /// Returns the votes as a vector, by ascending slot. Does not allocate.
     pub fn into_vec(self) -> Vec<Vote<B>>
         ensures votes { result.items ≡ self }
         ensures ascending { IsAscending self }
@@ -83,7 +83,7 @@ impl<B> Votes<B> {
         list
     }
 
-    /// The vote in the slot, if there is one. Takes no memory, and steps logarithmic in the number of votes.
+    /// Returns the vote in the slot, if any. Does not allocate, and takes a number of steps logarithmic in the number of votes.
     pub fn find(&self, slot: Slot) -> Option<&Vote<B>>
         ensures { option_copied result ≡ vote_in slot self.now }
     {
@@ -92,9 +92,9 @@ impl<B> Votes<B> {
 }
 
 impl<B: Drop> Votes<B> {
-    /// Puts the vote into its slot, in the place of the one that stands there. Behind all others that takes a constant number of steps; else
-    /// its place is found in a number that is logarithmic in the number of votes. Only a vote for a new slot takes memory, and moves the votes
-    /// of later slots. With `Memory`, which only comes where the slot had no vote, the votes are as they were.
+    /// Puts the vote into its slot, and replaces the vote that is there. After all others that takes a constant number of steps; otherwise
+    /// its place is found in a number logarithmic in the number of votes. Only a vote for a new slot allocates, and moves the votes of
+    /// later slots. On `Memory`, which only comes if the slot had no vote, the votes are as they were.
     pub fn put(&mut self, vote: Vote<B>) -> Result<(), Memory>
         ensures ok { OnOk result (self.new ≡ put_vote vote self.old) }
         ensures err { OnErr result (self.new ≡ self.old) }
@@ -103,8 +103,7 @@ impl<B: Drop> Votes<B> {
         put_in(&mut self.list, vote)
     }
 
-    /// Puts each of the votes, in order. With `Memory`, which only comes where room for so many votes more was refused, the votes are
-    /// as they were.
+    /// Puts each of the votes, in order. On `Memory`, which only comes if room for all of them was refused, the votes are as they were.
     pub fn put_all(&mut self, votes: Votes<B>) -> Result<(), Memory>
         ensures ok { OnOk result (self.new ≡ put_votes votes self.old) }
         ensures err { OnErr result (self.new ≡ self.old) }
@@ -115,8 +114,8 @@ impl<B: Drop> Votes<B> {
 }
 
 impl<B: Body> Votes<B> {
-    /// Copies of the votes from the slot with this number on, or `Memory` where there is none for them. It copies, and looks at, no
-    /// other but a logarithmic number of them.
+    /// Copies the votes from the slot with this number on; returns `Memory` if memory for them runs out. It copies no other vote, and looks
+    /// at only a logarithmic number of others.
     pub fn copy_from(&self, alloc: Global, first: u64) -> Result<Votes<B>, Memory>
         ensures { IfOk result (λ votes. votes ≡ votes_from first self.now) }
     {
@@ -164,8 +163,8 @@ impl<B: Body> Body for Vote<B> {
     ghost sound = { (vote_equality B.same (record { reflexive = B.reflexive; sound = B.sound })).sound };
 }
 
-// How many of the votes stand in front of the slot with this number. Takes a constant number of steps where all do, as in front of the slot
-// that is voted for next, and else a number that is logarithmic in theirs.
+// Returns how many of the votes are for slots below this number. Takes a constant number of steps if all are, as for the slot that is voted
+// for next, and otherwise a number logarithmic in theirs.
 fn place_of<B>(votes: &[Vote<B>], slot: u64) -> usize
     requires { IsAscending votes.now }
     ensures place { result ≡ place slot votes.now }
@@ -177,7 +176,7 @@ fn place_of<B>(votes: &[Vote<B>], slot: u64) -> usize
     votes.partition_point(|vote| vote.slot.get() < slot)
 }
 
-// Whether the slot with this number stands behind the last of the votes.
+// Returns whether the slot with this number is after the last of the votes.
 fn is_behind<B>(votes: &[Vote<B>], slot: u64) -> bool
     requires { IsAscending votes.now }
     ensures { IsTrue result → length votes.now ≡ place slot votes.now }
@@ -188,7 +187,7 @@ fn is_behind<B>(votes: &[Vote<B>], slot: u64) -> bool
     }
 }
 
-// Where the vote of the slot stands, or else where it would.
+// Returns the index of the slot's vote, or else where it would be.
 fn seek<B>(votes: &[Vote<B>], slot: u64) -> Result<usize, usize>
     requires { IsAscending votes.now }
     ensures found { IfOk result (λ at. at ≡ place slot votes.now) }
@@ -204,7 +203,7 @@ fn seek<B>(votes: &[Vote<B>], slot: u64) -> Result<usize, usize>
     }
 }
 
-// Copies of the votes from the slot with this number on.
+// Copies the votes from the slot with this number on.
 pub(crate) fn copy_behind<B: Body>(
     alloc: Global,
     votes: &[Vote<B>],
@@ -218,7 +217,7 @@ pub(crate) fn copy_behind<B: Body>(
     copy_all(alloc, &votes[place..])
 }
 
-// The vote in the slot, if there is one.
+// Returns the vote in the slot, if any.
 pub(crate) fn find_in<B>(votes: &[Vote<B>], slot: u64) -> Option<&Vote<B>>
     requires { IsAscending votes.now }
     ensures { option_copied result ≡ vote_in slot votes.now }
@@ -229,7 +228,7 @@ pub(crate) fn find_in<B>(votes: &[Vote<B>], slot: u64) -> Option<&Vote<B>>
     }
 }
 
-// Puts the vote into its slot, in the place of the one that stands there.
+// Puts the vote into its slot, and replaces the vote that is there.
 fn put_in<B: Drop>(votes: &mut Vec<Vote<B>>, vote: Vote<B>) -> Result<(), Memory>
     requires { IsAscending votes.old.items }
     ensures ok { OnOk result (votes.new.items ≡ put_vote vote votes.old.items) }
@@ -259,7 +258,7 @@ fn put_all_in<B: Drop>(votes: &mut Vec<Vote<B>>, more: Vec<Vote<B>>) -> Result<(
     Ok(())
 }
 
-// Puts each of the votes, in order, where there is room for so many more.
+// Puts each of the votes, in order, given room for all of them.
 pub(crate) fn put_all_in_room<B: Drop>(votes: &mut Vec<Vote<B>>, more: Vec<Vote<B>>)
     requires ascends { IsAscending votes.old.items }
     requires room { vec_len votes.old + length more.items ≤ vec_capacity votes.old }

@@ -20,9 +20,9 @@ use Rattle.paxos_planning.specs.Parts.{pending_with, counted_with}
 use Rattle.paxos_planning.specs.Drafting.{told_to}
 use Rattle.paxos_planning.specs.Replies.{told_from}
 use Rattle.paxos_learner.specs.declared.learned.LearnedEntry.{LearnedEntry}
-use Rattle.paxos_planning.specs.Node.{NodeState, Turn}
+use Rattle.paxos_planning.specs.Node.{NodeState, Plan}
 use Rattle.paxos_planning.specs.Proposals.{offer, propose_as}
-use Rattle.paxos_planning.specs.Turn.{with_role, send, cast}
+use Rattle.paxos_planning.specs.Plan.{with_role, send, cast}
 use Rattle.paxos_learner.proofs.Overlay.{heard_last}
 use Rattle.paxos_planning.proofs.Staying.{heard_stay}
 
@@ -44,7 +44,7 @@ told_then {B} slot e old new p =
 
 -- an entry is proposed where the proposer offers to
 
-pub proposes_one : {B : Type 0} (same : B → B → Bool) (members me : ℕ) (e : Entry B) (r : Role B) (o : Turn B) (f : Offer) → offer_of r ≡ Some f
+pub proposes_one : {B : Type 0} (same : B → B → Bool) (members me : ℕ) (e : Entry B) (r : Role B) (o : Plan B) (f : Offer) → offer_of r ≡ Some f
     → propose_as same members me r e o
     ≡ cast same members me (next_vote f.ballot f.slot e)
     (send (to_others members me (Accept (next_vote f.ballot f.slot e))) (record o { node = with_role (submitted e r) o.node }))
@@ -52,12 +52,12 @@ proposes_one same members me e Idle o f h = absurd (cc)
 proposes_one same members me e (Preparing b first promises) o f h = absurd (cc)
 proposes_one {B} same members me e (Leading b next proposed) o f h = go (nat_lt next slot_end) h
   where
-    whole : Offer → Turn B
+    whole : Offer → Plan B
     whole f = cast same members me (next_vote f.ballot f.slot e)
         (send (to_others members me (Accept (next_vote f.ballot f.slot e)))
         (record o { node = with_role (submitted e (Leading b next proposed)) o.node }))
 
-    of_some : Option Offer → Turn B
+    of_some : Option Offer → Plan B
     of_some None = o
     of_some (Some f) = whole f
 
@@ -66,7 +66,7 @@ proposes_one {B} same members me e (Leading b next proposed) o f h = go (nat_lt 
     go true k = ap of_some k
     go false k = absurd (cc)
 
--- the first of what is pending, where one entry more may become so
+-- the first of what is pending, if one more entry may become so
 
 take_none : {X : Type 0} (n : ℕ) → take {A = X} n [] ≡ []
 take_none zero = refl
@@ -83,7 +83,7 @@ first_last zero e es l = absurd (omega arith)
 first_last {B} (suc n) e [] l = ap (λ (ds : List (Entry B)). e ∷ ds) (take_none n)
 first_last {B} (suc n) e (d ∷ es) l = ap (λ (ds : List (Entry B)). d ∷ ds) (first_last n e es (omega arith))
 
--- what is told of the slots from one on
+-- what is reported of the slots from one on
 
 pub told_alike : {B : Type 0} (me to first : ℕ) (ls : List (LearnedEntry B))
     → map (told_to me to) (learned_within first (first + 64) ls) ≡ told_from me to first ls
@@ -98,7 +98,7 @@ told_alike {B} me to first (l ∷ ls) = go (nat_le first l.slot && nat_lt l.slot
 
 -- what is planned of a node, by its parts; its proposer last
 
-abbrev pub turn_with : {B : Type 0} → NodeState B → Change B → List (Packet B) → LearnerState B → Option (Entry B) → Bool → proposing.State B → Turn B
+abbrev pub turn_with : {B : Type 0} → NodeState B → Change B → List (Packet B) → LearnerState B → Option (Entry B) → Bool → proposing.State B → Plan B
 turn_with x change packets learner added other p =
     record {
       node = record {

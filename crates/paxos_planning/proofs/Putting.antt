@@ -51,7 +51,7 @@ module _ {B : Type 0} where
       r)
       (cases_order a.slot x.slot)
     where
-      -- a stands in front of whatever b leaves
+      -- a comes before whatever b leaves
       before : a.slot < x.slot → put_vote a (put_vote b (x ∷ ws)) ≡ a ∷ put_vote b (x ∷ ws)
       before h =
           ⊎_elim
@@ -64,7 +64,7 @@ module _ {B : Type 0} where
           r)
           (cases_order b.slot x.slot)
 
-  -- in one slot the last one stands
+  -- in one slot the last one stays
   put_same : (a b : Vote B) → a.slot ≡ b.slot → (ws : List (Vote B)) → put_vote a (put_vote b ws) ≡ put_vote a ws
   put_same a b e [] = put_eq a b [] e
   put_same a b e (x ∷ ws) =

@@ -7,11 +7,11 @@ pub rest_read : {X Y : Type 0} (F : List X → Y) (xs : List X) (i : ℕ) (x : X
     → F (drop i xs) ≡ F (x ∷ drop (i + 1) xs)
 rest_read F xs i x l e = at_drop_more F xs i x l ∙ ap (λ z. F (z ∷ drop (i + 1) xs)) (sym e)
 
--- one is put behind what is there
+-- one is put after what is there
 pub pushed : {C : Type 0} (there kept new : List C) (x y : C) → new ≡ kept ++ x ∷ [] → kept ≡ there → x ≡ y → new ≡ there ++ y ∷ []
 pushed there kept new x y p q r = p ∙ (λ i. q i ++ r i ∷ [])
 
--- more is put behind it, and the end
+-- more is put after it, and the end
 
 module _ {C : Type 0} (there now all : List C) (h : there ++ now ≡ all) where
   pub sent_on : (then sent rest : List C) → then ≡ there ++ sent → now ≡ sent ++ rest → then ++ rest ≡ all

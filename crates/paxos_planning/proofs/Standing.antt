@@ -1,4 +1,4 @@
--- What stands stays so while a leader proposes, and a push passes over it.
+-- What stands (is proposed already) stays so while a leader proposes, and a push passes over it.
 use Rattle.std.proofs.Common.{◌≡◌, ℕ, zero, suc, ◌+◌, ◌<◌, Bool, true, false, cond, ◌&&◌, ◌||◌, Option, Some, None, List, [], ◌∷◌, ◌++◌, take, drop, length, get_or, refl, ap, sym, ◌∙◌, subst, arith}
 use Rattle.std.specs.Prelude.{nat_lt}
 use Rattle.std.proofs.lemmas.List.{take-append-drop}
@@ -12,8 +12,8 @@ use Rattle.paxos_packets.specs.declared.vote.Vote.{Vote}
 use Rattle.paxos_proposer.specs.Role.{Role, Idle, Preparing, Leading}
 use Rattle.paxos_proposer.specs.Proposer.{slot_end, next_vote, is_leading}
 use Rattle.paxos_proposer.specs.Proposals.{stands_among}
-use Rattle.paxos_planning.specs.Node.{Turn}
-use Rattle.paxos_planning.specs.Turn.{send, cast}
+use Rattle.paxos_planning.specs.Node.{Plan}
+use Rattle.paxos_planning.specs.Plan.{send, cast}
 use Rattle.paxos_planning.specs.Proposals.{offer, propose_as, propose, stands, propose_new, propose_each, forwarded, push}
 use Rattle.paxos_planning.specs.Drafting.{listed}
 use Rattle.paxos_planning.specs.Parts.{pending_with}
@@ -21,30 +21,30 @@ use Rattle.paxos_planning.specs.Front.{AllStand, IsFront}
 
 -- none is proposed again
 
-passes_one : {B : Type 0} (same : B → B → Bool) (members me : ℕ) (e : Entry B) (t : Turn B)
+passes_one : {B : Type 0} (same : B → B → Bool) (members me : ℕ) (e : Entry B) (t : Plan B)
     → stands same (length t.node.applied) t.node.proposer.role e ≡ true → propose_new same members me e t ≡ t
 passes_one {B} same members me e t h = ap (λ (b : Bool). cond b t (propose same members me e t)) h
 
-passes : {B : Type 0} (same : B → B → Bool) (members me : ℕ) (es : List (Entry B)) (t : Turn B)
+passes : {B : Type 0} (same : B → B → Bool) (members me : ℕ) (es : List (Entry B)) (t : Plan B)
     → AllStand same (length t.node.applied) t.node.proposer.role es → propose_each same members me es t ≡ t
 passes same members me [] t h = refl
 passes {B} same members me (e ∷ es) t h =
-    ap (λ (u : Turn B). propose_each same members me es u) (passes_one same members me e t h.0) ∙ passes same members me es t h.1
+    ap (λ (u : Plan B). propose_each same members me es u) (passes_one same members me e t h.0) ∙ passes same members me es t h.1
 
-each_in_turn : {B : Type 0} (same : B → B → Bool) (members me : ℕ) (es ds : List (Entry B)) (t : Turn B)
+each_in_turn : {B : Type 0} (same : B → B → Bool) (members me : ℕ) (es ds : List (Entry B)) (t : Plan B)
     → propose_each same members me (es ++ ds) t ≡ propose_each same members me ds (propose_each same members me es t)
 each_in_turn same members me [] ds t = refl
 each_in_turn same members me (e ∷ es) ds t = each_in_turn same members me es ds (propose_new same members me e t)
 
-pub passes_over : {B : Type 0} (same : B → B → Bool) (members me n : ℕ) (es : List (Entry B)) (t : Turn B)
+pub passes_over : {B : Type 0} (same : B → B → Bool) (members me n : ℕ) (es : List (Entry B)) (t : Plan B)
     → AllStand same (length t.node.applied) t.node.proposer.role (take n es)
     → propose_each same members me es t ≡ propose_each same members me (drop n es) t
 passes_over {B} same members me n es t h =
     ap (λ (ds : List (Entry B)). propose_each same members me ds t) (sym (take-append-drop n es))
     ∙ each_in_turn same members me (take n es) (drop n es) t
-    ∙ ap (λ (u : Turn B). propose_each same members me (drop n es) u) (passes same members me (take n es) t h)
+    ∙ ap (λ (u : Plan B). propose_each same members me (drop n es) u) (passes same members me (take n es) t h)
 
--- a proposal more leaves what stands standing
+-- one more proposal leaves what stands standing
 
 among_more : {B : Type 0} (same : B → B → Bool) (n : ℕ) (e : Entry B) (vs : List (Vote B)) (v : Vote B)
     → stands_among same n e vs ≡ true → stands_among same n e (vs ++ v ∷ []) ≡ true
@@ -62,11 +62,11 @@ all_more same n b next next' vs v [] h = tt
 all_more same n b next next' vs v (e ∷ es) h = (among_more same n e vs v h.0, all_more same n b next next' vs v es h.1)
 
 -- these stand in what is made of a leader so far
-abbrev Stays : {B : Type 0} → (B → B → Bool) → List (Entry B) → Turn B → Type 0
+abbrev Stays : {B : Type 0} → (B → B → Bool) → List (Entry B) → Plan B → Type 0
 Stays test es t = is_leading t.node.proposer.role ≡ true → AllStand test (length t.node.applied) t.node.proposer.role es
 
 module _ {B : Type 0} (test same : B → B → Bool) (members me : ℕ) (es : List (Entry B)) where
-  proposed_as : (r : Role B) (e : Entry B) (t : Turn B) → r ≡ t.node.proposer.role → Stays test es t → Stays test es (propose_as same members me r e t)
+  proposed_as : (r : Role B) (e : Entry B) (t : Plan B) → r ≡ t.node.proposer.role → Stays test es t → Stays test es (propose_as same members me r e t)
   proposed_as Idle e t p h = h
   proposed_as (Preparing b first promises) e t p h = h
   proposed_as (Leading b next vs) e t p h = go (nat_lt next slot_end)
@@ -86,18 +86,18 @@ module _ {B : Type 0} (test same : B → B → Bool) (members me : ℕ) (es : Li
       go true = down (below b b)
       go false = h
 
-  proposed_new : (e : Entry B) (t : Turn B) → Stays test es t → Stays test es (propose_new same members me e t)
+  proposed_new : (e : Entry B) (t : Plan B) → Stays test es t → Stays test es (propose_new same members me e t)
   proposed_new e t h = go (stands same (length t.node.applied) t.node.proposer.role e)
     where
       go : (x : Bool) → Stays test es (cond x t (propose same members me e t))
       go true = h
       go false = proposed_as t.node.proposer.role e t refl h
 
-  proposed_each : (ds : List (Entry B)) (t : Turn B) → Stays test es t → Stays test es (propose_each same members me ds t)
+  proposed_each : (ds : List (Entry B)) (t : Plan B) → Stays test es t → Stays test es (propose_each same members me ds t)
   proposed_each [] t h = h
   proposed_each (d ∷ ds) t h = proposed_each ds (propose_new same members me d t) (proposed_new d t h)
 
-  pub pushed : (t : Turn B) → Stays test es t → Stays test es (push same members me t)
+  pub pushed : (t : Plan B) → Stays test es t → Stays test es (push same members me t)
   pushed t h = go (is_leading t.node.proposer.role)
     where
       go : (x : Bool)
@@ -156,7 +156,7 @@ more_front {B} same ok n m applied r es front more = λ test fine leads.
     (all_both test applied r (take n es) (take m (drop n es)) (front test fine leads)
     (all_alike same test ok fine applied r (take m (drop n es)) more))
 
-pub front_pushed : {B : Type 0} (same : B → B → Bool) (members me n : ℕ) (es : List (Entry B)) (t : Turn B)
+pub front_pushed : {B : Type 0} (same : B → B → Bool) (members me n : ℕ) (es : List (Entry B)) (t : Plan B)
     → IsFront n (length t.node.applied) t.node.proposer.role es
     → IsFront n (length (push same members me t).node.applied) (push same members me t).node.proposer.role es
 front_pushed same members me n es t front = λ test fine. pushed test same members me (take n es) t (front test fine)
@@ -170,14 +170,14 @@ stands_next same applied r i [] e l p h k = absurd (omega arith)
 stands_next {B} same applied r zero (d ∷ ds) e l p h k = (subst (λ (x : Entry B). stands same applied r x ≡ true) p k, tt)
 stands_next same applied r (suc i) (d ∷ ds) e l p h k = (h.0, stands_next same applied r i ds e (omega arith) p h.1 k)
 
--- a leader's push looks at what is behind the front, and at the entry that becomes pending
+-- a leader's push looks at what is after the front, and at the entry that becomes pending
 
-pub pushes_rest : {B : Type 0} (same : B → B → Bool) (members me n : ℕ) (added : Option (Entry B)) (es : List (Entry B)) (t : Turn B)
+pub pushes_rest : {B : Type 0} (same : B → B → Bool) (members me n : ℕ) (added : Option (Entry B)) (es : List (Entry B)) (t : Plan B)
     → t.node.pending ≡ pending_with added es → is_leading t.node.proposer.role ≡ true
     → AllStand same (length t.node.applied) t.node.proposer.role (take n es)
     → propose_each same members me (listed added) (propose_each same members me (drop n es) t) ≡ push same members me t
 pushes_rest {B} same members me n added es t pending leads stand =
-    ap (λ (u : Turn B). propose_each same members me (listed added) u) (sym (passes_over same members me n es t stand))
+    ap (λ (u : Plan B). propose_each same members me (listed added) u) (sym (passes_over same members me n es t stand))
     ∙ with_one added
     ∙ ap (λ (ds : List (Entry B)). propose_each same members me ds t) (sym pending)
     ∙ ap (λ (b : Bool). cond b (propose_each same members me t.node.pending t) (send (forwarded me t.node.rows.promised t.node.pending) t)) (sym leads)

@@ -1,4 +1,4 @@
--- Who a proposer and a learner belong to stays as it is.
+-- The owner of a proposer and of a learner stays as it is.
 use Rattle.std.proofs.Common.{◌≡◌, List, [], ◌∷◌, ◌∙◌, refl}
 use Rattle.paxos_proposer.specs.declared.moves.Move.{Move}
 use Rattle.paxos_proposer.specs.declared.moves.Move.TheVariants.{Saw, Started, Promised, Nacked, SteppedDown, Submitted}

@@ -19,8 +19,8 @@ use Rattle.paxos_acceptor.specs.Acceptor.{adopted, with_promise}
 use Rattle.paxos_proposer.specs.Moves.{after_moves}
 use Rattle.paxos_learner.specs.Hearing.{hear_all}
 use Rattle.paxos_planning.specs.declared.effects.Effects.{Effects}
-use Rattle.paxos_planning.specs.Node.{NodeState, Turn}
-use Rattle.paxos_planning.specs.Turn.{with_role, and_promise}
+use Rattle.paxos_planning.specs.Node.{NodeState, Plan}
+use Rattle.paxos_planning.specs.Plan.{with_role, and_promise}
 use Rattle.paxos_planning.specs.Parts.{proposer_of, learner_of, pending_with, counted_with}
 
 -- whose event it is
@@ -49,18 +49,18 @@ with_pending_entry added x =
 
 pub record Drafted (B : Type 0) : Type 0 where
   pub of : Known B
-  pub turn : Turn B
+  pub plan : Plan B
 
 abbrev pub listed : {B : Type 0} → Option (Entry B) → List (Entry B)
 listed None = []
 listed (Some e) = e ∷ []
 
 -- its role is this one then
-abbrev pub in_role : {B : Type 0} → Role B → Turn B → Turn B
+abbrev pub in_role : {B : Type 0} → Role B → Plan B → Plan B
 in_role role o = record o { node = with_role role o.node }
 
 -- the vote is committed, in its slot
-abbrev pub and_kept : {B : Type 0} → Vote B → Turn B → Turn B
+abbrev pub and_kept : {B : Type 0} → Vote B → Plan B → Plan B
 and_kept v o =
     record o {
       node = record o.node {
@@ -70,13 +70,13 @@ and_kept v o =
     }
 
 -- a ballot of this round came
-abbrev pub seeing : {B : Type 0} → ℕ → Turn B → Turn B
+abbrev pub seeing : {B : Type 0} → ℕ → Plan B → Plan B
 seeing round o =
     record o { node = record o.node { proposer = record { role = o.node.proposer.role; seen = max o.node.proposer.seen round } } }
 
 -- what these effects make of a node before anything is applied
-abbrev pub turn_behind : {B : Type 0} → Known B → Bool → Effects B → Turn B
-turn_behind k other e =
+abbrev pub plan_with_effects : {B : Type 0} → Known B → Bool → Effects B → Plan B
+plan_with_effects k other e =
     record {
       node = record {
         rows = adopted k.state.rows e.change;
@@ -94,12 +94,12 @@ turn_behind k other e =
     }
 
 -- it begins its next ballot, in which it reports these votes
-abbrev pub with_prepared : {B : Type 0} → ℕ → ℕ → List (Vote B) → Turn B → Turn B
+abbrev pub with_prepared : {B : Type 0} → ℕ → ℕ → List (Vote B) → Plan B → Plan B
 with_prepared me first votes o =
     record o { node = record o.node { proposer = prepared me (own_ballot me o.node.proposer) first votes o.node.proposer } }
 
 -- the promise is committed
-abbrev pub committing : {B : Type 0} → Ballot → Turn B → Turn B
+abbrev pub committing : {B : Type 0} → Ballot → Plan B → Plan B
 committing b o = record o { node = record o.node { rows = with_promise b o.node.rows }; change = and_promise b o.change }
 
 -- its next ballot, if a round is left
@@ -110,10 +110,10 @@ next_own me p = if is_spent p then None else Some (own_ballot me p)
 abbrev pub asked_again : {B : Type 0} → ℕ → List ℕ → List (LearnedEntry B) → Vote B → List (Packet B)
 asked_again me others learned v = if is_learned v.slot learned then [] else map (packet me (Accept v)) others
 
--- what was learned is told to a member
+-- what was learned is reported to a member
 abbrev pub told_to : {B : Type 0} → ℕ → ℕ → LearnedEntry B → Packet B
 told_to me to l = packet me (Learned l.slot l.entry) to
 
--- those of the others are asked again for a promise of whom none was counted
+-- those of the others are asked again for a promise whose promise was not counted
 abbrev pub prepares_again : {B : Type 0} → ℕ → ℕ → Ballot → ℕ → List (CountedPromise B) → List (Packet B)
 prepares_again members me b first promises = map (packet me (Prepare b first)) (filter (λ k. not (is_counted promises k)) (others me members))

@@ -1,5 +1,5 @@
 pub mod Node
-pub mod Turn
+pub mod Plan
 pub mod Parts
 pub mod Proposals
 pub mod Replies

@@ -22,7 +22,7 @@ pub record NodeState (B : Type 0) : Type 0 where
   pub taken : ℕ
 
 -- what an event makes of a node, so far or at its end; no code makes one
-pub record Turn (B : Type 0) : Type 0 where
+pub record Plan (B : Type 0) : Type 0 where
   pub node : NodeState B
   -- what it commits, in one commit
   pub change : Change B
@@ -30,5 +30,5 @@ pub record Turn (B : Type 0) : Type 0 where
   pub packets : List (Packet B)
   -- the entries that it applies
   pub applied : List (Entry B)
-  -- whether it was told another entry of a slot that it had learned
+  -- whether it heard another entry for a slot that it had learned
   pub disagrees : Bool

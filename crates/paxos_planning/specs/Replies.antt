@@ -18,8 +18,8 @@ use Rattle.paxos_proposer.specs.Role.{Role, Idle, Preparing, Leading}
 use Rattle.paxos_proposer.specs.Proposer.{nacked, is_leading}
 use Rattle.paxos_proposer.specs.Reports.{is_counted, reports}
 use Rattle.paxos_learner.specs.declared.learned.LearnedEntry.{LearnedEntry}
-use Rattle.paxos_planning.specs.Node.{NodeState, Turn}
-use Rattle.paxos_planning.specs.Turn.{with_role, send, promise, count, hear_learned, cast}
+use Rattle.paxos_planning.specs.Node.{NodeState, Plan}
+use Rattle.paxos_planning.specs.Plan.{with_role, send, promise, count, hear_learned, cast}
 use Rattle.paxos_planning.specs.Proposals.{lead, propose_each, push}
 
 -- the greatest round of the ballots in a packet
@@ -40,26 +40,26 @@ round_in (Ask first) = 0
 abbrev pub saw : {B : Type 0} → Kind B → NodeState B → NodeState B
 saw kind x = record x { proposer = record { role = x.proposer.role; seen = max x.proposer.seen (round_in kind) } }
 
-abbrev pub refuse : {B : Type 0} → ℕ → ℕ → Ballot → Turn B → Turn B
+abbrev pub refuse : {B : Type 0} → ℕ → ℕ → Ballot → Plan B → Plan B
 refuse me sender b o = send (packet me (Nack b (unwrap_or o.node.rows.promised b)) sender ∷ []) o
 
-abbrev pub on_prepare : {B : Type 0} → ℕ → ℕ → Ballot → ℕ → Turn B → Turn B
+abbrev pub on_prepare : {B : Type 0} → ℕ → ℕ → Ballot → ℕ → Plan B → Plan B
 on_prepare me sender b first o =
     if may_promise o.node.rows.promised b then send (packet me (Promise b (votes_from first o.node.rows.votes)) sender ∷ []) (promise b o)
     else refuse me sender b o
 
-abbrev pub on_accept : {B : Type 0} → (B → B → Bool) → ℕ → ℕ → ℕ → Vote B → Turn B → Turn B
+abbrev pub on_accept : {B : Type 0} → (B → B → Bool) → ℕ → ℕ → ℕ → Vote B → Plan B → Plan B
 on_accept same members me sender v o =
     if may_accept o.node.rows.promised v.ballot then cast same members me v o
     else refuse me sender v.ballot o
 
 -- with a majority of promises it leads and pushes
-abbrev pub count_promise : {B : Type 0} → (B → B → Bool) → ℕ → ℕ → Ballot → ℕ → List (CountedPromise B) → Turn B → Turn B
+abbrev pub count_promise : {B : Type 0} → (B → B → Bool) → ℕ → ℕ → Ballot → ℕ → List (CountedPromise B) → Plan B → Plan B
 count_promise same members me b first promises o =
     if is_majority members (is_counted promises) then push same members me (lead same members me b first (reports promises) o)
     else record o { node = with_role (Preparing b first promises) o.node }
 
-abbrev pub on_promise_as : {B : Type 0} → (B → B → Bool) → ℕ → ℕ → ℕ → Ballot → List (Vote B) → Role B → Turn B → Turn B
+abbrev pub on_promise_as : {B : Type 0} → (B → B → Bool) → ℕ → ℕ → ℕ → Ballot → List (Vote B) → Role B → Plan B → Plan B
 on_promise_as same members me sender b votes Idle o = o
 on_promise_as same members me sender b votes (Leading c next proposed) o = o
 on_promise_as same members me sender b votes (Preparing c first promises) o =
@@ -67,13 +67,13 @@ on_promise_as same members me sender b votes (Preparing c first promises) o =
     then count_promise same members me c first (promises ++ record { node = sender; votes = votes } ∷ []) o
     else o
 
-abbrev pub on_promise : {B : Type 0} → (B → B → Bool) → ℕ → ℕ → ℕ → Ballot → List (Vote B) → Turn B → Turn B
+abbrev pub on_promise : {B : Type 0} → (B → B → Bool) → ℕ → ℕ → ℕ → Ballot → List (Vote B) → Plan B → Plan B
 on_promise same members me sender b votes o = on_promise_as same members me sender b votes o.node.proposer.role o
 
-abbrev pub on_nack : {B : Type 0} → Ballot → Ballot → Turn B → Turn B
+abbrev pub on_nack : {B : Type 0} → Ballot → Ballot → Plan B → Plan B
 on_nack b p o = record o { node = with_role (nacked b p o.node.proposer.role) o.node }
 
-abbrev pub on_forward : {B : Type 0} → (B → B → Bool) → ℕ → ℕ → List (Entry B) → Turn B → Turn B
+abbrev pub on_forward : {B : Type 0} → (B → B → Bool) → ℕ → ℕ → List (Entry B) → Plan B → Plan B
 on_forward same members me es o = if is_leading o.node.proposer.role then propose_each same members me es o else o
 
 -- what was learned in this slot and the 63 after it
@@ -83,7 +83,7 @@ told_if me to slot l = if nat_le slot l.slot && nat_lt l.slot (slot + 64) then p
 abbrev pub told_from : {B : Type 0} → ℕ → ℕ → ℕ → List (LearnedEntry B) → List (Packet B)
 told_from me to slot learned = flat_map (told_if me to slot) learned
 
-abbrev pub on_packet : {B : Type 0} → (B → B → Bool) → ℕ → ℕ → ℕ → Kind B → Turn B → Turn B
+abbrev pub on_packet : {B : Type 0} → (B → B → Bool) → ℕ → ℕ → ℕ → Kind B → Plan B → Plan B
 on_packet same members me sender (Prepare b first) o = on_prepare me sender b first o
 on_packet same members me sender (Promise b votes) o = on_promise same members me sender b votes o
 on_packet same members me sender (Accept v) o = on_accept same members me sender v o

@@ -6,10 +6,10 @@ use Rattle.paxos_packets.specs.declared.ballot.Ballot.{Ballot}
 use Rattle.paxos_packets.specs.declared.packet.Kind.TheVariants.{Prepare}
 use Rattle.paxos_acceptor.specs.Acceptor.{with_promise}
 use Rattle.paxos_proposer.specs.Proposer.{new_ballot, rounds_spent, asking}
-use Rattle.paxos_planning.specs.Node.{NodeState, Turn}
-use Rattle.paxos_planning.specs.Turn.{and_promise}
+use Rattle.paxos_planning.specs.Node.{NodeState, Plan}
+use Rattle.paxos_planning.specs.Plan.{and_promise}
 
-abbrev pub begin : {B : Type 0} → ℕ → ℕ → Ballot → ℕ → Turn B → Turn B
+abbrev pub begin : {B : Type 0} → ℕ → ℕ → Ballot → ℕ → Plan B → Plan B
 begin members me b first o =
     record o {
       node = record o.node {
@@ -23,7 +23,7 @@ begin members me b first o =
 abbrev pub starts : {B : Type 0} → ℕ → NodeState B → Bool
 starts me x = not (rounds_spent me x.rows.promised x.proposer)
 
-abbrev pub on_start : {B : Type 0} → ℕ → ℕ → Turn B → Turn B
+abbrev pub on_start : {B : Type 0} → ℕ → ℕ → Plan B → Plan B
 on_start members me o =
     if starts me o.node then begin members me (new_ballot me o.node.rows.promised o.node.proposer) (suc (length o.node.applied)) o
     else o

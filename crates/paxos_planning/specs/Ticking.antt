@@ -10,8 +10,8 @@ use Rattle.paxos_proposer.specs.Role.{Role, Idle, Preparing, Leading}
 use Rattle.paxos_proposer.specs.Reports.{is_counted}
 use Rattle.paxos_learner.specs.declared.learned.LearnedEntry.{LearnedEntry}
 use Rattle.paxos_learner.specs.Learner.{is_learned}
-use Rattle.paxos_planning.specs.Node.{Turn}
-use Rattle.paxos_planning.specs.Turn.{send}
+use Rattle.paxos_planning.specs.Node.{Plan}
+use Rattle.paxos_planning.specs.Plan.{send}
 use Rattle.paxos_planning.specs.Proposals.{push}
 
 -- the votes proposed in slots that aren't learned, slot by slot
@@ -26,8 +26,8 @@ again members me (Preparing b first promises) learned =
 again members me (Leading b next proposed) learned = accepts_again members me learned proposed
 
 -- it asks the others for the slots that it lacks
-abbrev pub ask : {B : Type 0} → ℕ → ℕ → Turn B → Turn B
+abbrev pub ask : {B : Type 0} → ℕ → ℕ → Plan B → Plan B
 ask members me o = send (to_others members me (Ask (suc (length o.node.applied)))) o
 
-abbrev pub on_tick : {B : Type 0} → (B → B → Bool) → ℕ → ℕ → Turn B → Turn B
+abbrev pub on_tick : {B : Type 0} → (B → B → Bool) → ℕ → ℕ → Plan B → Plan B
 on_tick same members me o = ask members me (push same members me (send (again members me o.node.proposer.role o.node.learner.learned) o))

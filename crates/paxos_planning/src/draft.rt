@@ -11,8 +11,8 @@ ghost use Rattle.paxos_acceptor.specs.Acceptor.{may_promise, may_accept};
 ghost use Rattle.paxos_proposer.specs.Moves.{ArePossible};
 ghost use Rattle.paxos_proposer.specs.Proposer.{is_leading};
 ghost use Rattle.paxos_planning.specs.Parts.{proposer_of, learner_of};
-ghost use Rattle.paxos_planning.specs.Drafting.{known, with_pending_entry, and_kept, turn_behind};
-ghost use Rattle.paxos_planning.specs.Turn.{begun, send, promise, vote, count, hear_learned, cast};
+ghost use Rattle.paxos_planning.specs.Drafting.{known, with_pending_entry, and_kept, plan_with_effects};
+ghost use Rattle.paxos_planning.specs.Plan.{begun, send, promise, vote, count, hear_learned, cast};
 
 use crate::effects::Effects;
 use crate::parts::Parts;
@@ -25,7 +25,7 @@ use std::alloc::Global;
 use std::marker::Model;
 
 /// A node by reference, and what an event makes of it so far: what it commits and sends, what is done to its proposer, what its learner
-/// hears, and the entry that becomes pending. A fault leaves it open, and the event is planned no further.
+/// hears, and the entry that becomes pending. After a fault its content is unspecified, and the event is planned no further.
 #[derive(Drop)]
 pub struct Draft<'a, B> {
     pub(crate) alloc: Global,
@@ -50,7 +50,7 @@ impl<'a, B> Model for Draft<'a, B> {
 
     ghost view = { λ d. record {
       of = record { me = d.node.me; members = d.node.members; state = d.node.state; added = option_copied d.added };
-      turn = record {
+      plan = record {
         node = record {
           rows = adopted d.node.state.rows d.change;
           up = d.node.state.up;
@@ -72,10 +72,10 @@ impl<'a, B> Model for Draft<'a, B> {
 }
 
 impl<'a, B> Draft<'a, B> {
-    /// Nothing happened yet; this entry becomes pending. Takes no memory; the other calls will, from `alloc`.
+    /// Begins a plan in which nothing happened yet, and this entry becomes pending. Does not allocate; the other calls will, from `alloc`.
     pub fn of(alloc: Global, node: Parts<'a, B>, added: Option<&'a Entry<B>>) -> Draft<'a, B>
         ensures of { result.of ≡ known node.entry.me node.entry.members node.entry.state (option_copied added.entry) }
-        ensures turn { result.turn ≡ begun (with_pending_entry (option_copied added.entry) node.entry.state) }
+        ensures plan { result.plan ≡ begun (with_pending_entry (option_copied added.entry) node.entry.state) }
     {
         let proposing = node.proposing(alloc);
         let hearing = node.hearing(alloc);
@@ -94,19 +94,19 @@ impl<'a, B> Draft<'a, B> {
         }
     }
 
-    // Where its memory comes from.
+    // Returns where its memory comes from.
     pub(crate) fn alloc(&self) -> Global {
         self.alloc
     }
 
-    /// Whose event it is.
+    /// Returns the number of the node whose event it is.
     pub fn me(&self) -> u8
         ensures { result ≡ self.now.of.me }
     {
         self.node.me()
     }
 
-    /// How often its node was started.
+    /// Returns how often its node was started.
     pub fn boot(&self) -> u64
         ensures { result ≡ self.now.of.state.rows.boot }
     {
@@ -120,39 +120,39 @@ impl<'a, B> Draft<'a, B> {
         self.node.begins();
     }
 
-    /// Whether it was told another entry of a slot that it had learned.
+    /// Returns whether it heard another entry for a slot that it had learned.
     pub fn disagrees(&self) -> bool
-        ensures { result ≡ self.now.turn.disagrees }
+        ensures { result ≡ self.now.plan.disagrees }
     {
         self.disagrees
     }
 
-    /// How many entries are applied.
+    /// Returns how many entries are applied.
     pub fn applied(&self) -> u64
         ensures length { result ≡ length self.now.of.state.applied }
-        ensures turn { result ≡ length self.now.turn.node.applied }
+        ensures plan { result ≡ length self.now.plan.node.applied }
         ensures within { result < 2 ^ 40 }
     {
         self.node.applied()
     }
 
-    // Whether it would lead.
+    // Returns whether it would lead.
     pub(crate) fn is_leading(&self) -> bool
-        ensures { result ≡ is_leading self.now.turn.node.proposer.role }
+        ensures { result ≡ is_leading self.now.plan.node.proposer.role }
     {
         self.proposing.is_leading()
     }
 
-    // What it promised, with what it promises now.
+    // Returns what it promised: now, or else before.
     pub(crate) fn promised(&self) -> Option<Ballot>
-        ensures { result ≡ self.now.turn.node.rows.promised }
+        ensures { result ≡ self.now.plan.node.rows.promised }
     {
         self.change.promised.or(self.node.promised())
     }
 
-    // Whether the ballot may be promised.
+    // Returns whether the ballot may be promised.
     pub(crate) fn may_promise(&self, ballot: Ballot) -> bool
-        ensures { result ≡ may_promise self.now.turn.node.rows.promised ballot }
+        ensures { result ≡ may_promise self.now.plan.node.rows.promised ballot }
     {
         match self.promised() {
             Some(promised) => promised.is_below(&ballot),
@@ -160,9 +160,9 @@ impl<'a, B> Draft<'a, B> {
         }
     }
 
-    // Whether a vote in the ballot may be cast.
+    // Returns whether a vote in the ballot may be cast.
     pub(crate) fn may_accept(&self, ballot: Ballot) -> bool
-        ensures { result ≡ may_accept self.now.turn.node.rows.promised ballot }
+        ensures { result ≡ may_accept self.now.plan.node.rows.promised ballot }
     {
         match self.promised() {
             Some(promised) => !ballot.is_below(&promised),
@@ -172,9 +172,9 @@ impl<'a, B> Draft<'a, B> {
 }
 
 impl<'a, B: Drop> Draft<'a, B> {
-    /// What the event does, in all.
+    /// Returns all that the event does.
     pub fn into_effects(self) -> Effects<B>
-        ensures turn { self.entry.turn ≡ turn_behind self.entry.of self.entry.turn.disagrees result }
+        ensures plan { self.entry.plan ≡ plan_with_effects self.entry.of self.entry.plan.disagrees result }
         ensures moves { ArePossible result.moves.items (proposer_of self.entry.of.me self.entry.of.members self.entry.of.state) }
         ensures rises { Rises 0 (hear_all result.news.items (learner_of self.entry.of.members self.entry.of.state)).learner.learned }
     {
@@ -195,20 +195,20 @@ impl<'a, B: Drop> Draft<'a, B> {
 }
 
 impl<'a, B: Body> Draft<'a, B> {
-    /// Copies of what would be learned behind its log, up to the first slot that would have none.
+    /// Copies what would be learned after its log, up to the first slot that would have nothing.
     pub fn run(&self) -> Result<Entries<B>, Memory>
-        ensures { IfOk result (λ run. run ≡ run_from (suc (length self.now.of.state.applied)) self.now.turn.node.learner.learned) }
+        ensures { IfOk result (λ run. run ≡ run_from (suc (length self.now.of.state.applied)) self.now.plan.node.learner.learned) }
     {
-        let Ok(run) = self.hearing.run_behind(self.node.applied()) else {
+        let Ok(run) = self.hearing.run_after(self.node.applied()) else {
             return Err(Memory);
         };
         Ok(run)
     }
 
-    // It promises the ballot, which may end one of its own.
+    // Promises the ballot, which may end its own.
     pub(crate) fn promise(&mut self, ballot: Ballot) -> Result<(), Memory>
         ensures of { self.new.of ≡ self.old.of }
-        ensures turn { OnOk result (self.new.turn ≡ promise ballot self.old.turn) }
+        ensures plan { OnOk result (self.new.plan ≡ promise ballot self.old.plan) }
     {
         let Ok(()) = self.proposing.step_down(ballot) else {
             return Err(Memory);
@@ -217,49 +217,49 @@ impl<'a, B: Body> Draft<'a, B> {
         Ok(())
     }
 
-    // The vote is committed, in its slot.
+    // Commits the vote, in its slot.
     fn keep(&mut self, voted: &Vote<B>) -> Result<(), Memory>
         ensures of { self.new.of ≡ self.old.of }
-        ensures turn { OnOk result (self.new.turn ≡ and_kept voted.now self.old.turn) }
+        ensures plan { OnOk result (self.new.plan ≡ and_kept voted.now self.old.plan) }
     {
         put_copy(self.alloc, &mut self.change.votes, voted)?;
         Ok(())
     }
 
-    // It votes, which may end a ballot of its own.
+    // Votes, which may end its own ballot.
     fn vote(&mut self, voted: &Vote<B>) -> Result<(), Memory>
         ensures of { self.new.of ≡ self.old.of }
-        ensures turn { OnOk result (self.new.turn ≡ vote voted.now self.old.turn) }
+        ensures plan { OnOk result (self.new.plan ≡ vote voted.now self.old.plan) }
     {
         self.promise(voted.ballot)?;
         self.keep(voted)?;
         Ok(())
     }
 
-    // A member's vote is counted.
+    // Counts a member's vote.
     pub(crate) fn count(&mut self, node: u8, vote: &Vote<B>) -> Result<(), Memory>
         ensures of { self.new.of ≡ self.old.of }
-        ensures turn { OnOk result (self.new.turn ≡ count B.same self.old.of.members node vote.now self.old.turn) }
+        ensures plan { OnOk result (self.new.plan ≡ count B.same self.old.of.members node vote.now self.old.plan) }
     {
         let other = count_in(&mut self.hearing, node, vote)?;
         self.disagrees = self.disagrees || other;
         Ok(())
     }
 
-    // It is told what a slot holds.
+    // Hears what a slot holds.
     pub(crate) fn hear_learned(&mut self, slot: Slot, entry: &Entry<B>) -> Result<(), Memory>
         ensures of { self.new.of ≡ self.old.of }
-        ensures turn { OnOk result (self.new.turn ≡ hear_learned B.same slot entry.now self.old.turn) }
+        ensures plan { OnOk result (self.new.plan ≡ hear_learned B.same slot entry.now self.old.plan) }
     {
         let other = tell_in(&mut self.hearing, slot, entry)?;
         self.disagrees = self.disagrees || other;
         Ok(())
     }
 
-    // This is sent to the member.
+    // Sends this to the member.
     pub(crate) fn send_to(&mut self, kind: Kind<B>, addressee: u8) -> Result<(), Memory>
         ensures of { self.new.of ≡ self.old.of }
-        ensures turn { OnOk result (self.new.turn ≡ send (packet self.old.of.me kind addressee ∷ []) self.old.turn) }
+        ensures plan { OnOk result (self.new.plan ≡ send (packet self.old.of.me kind addressee ∷ []) self.old.plan) }
     {
         let Ok(()) = self.packets.reserve(1) else {
             return Err(Memory);
@@ -272,10 +272,10 @@ impl<'a, B: Body> Draft<'a, B> {
         Ok(())
     }
 
-    // This is sent to each other member.
+    // Sends this to each other member.
     pub(crate) fn send_to_others(&mut self, kind: &Kind<B>) -> Result<(), Memory>
         ensures of { self.new.of ≡ self.old.of }
-        ensures turn { OnOk result (self.new.turn ≡ send (to_others self.old.of.members self.old.of.me kind.now) self.old.turn) }
+        ensures plan { OnOk result (self.new.plan ≡ send (to_others self.old.of.members self.old.of.me kind.now) self.old.plan) }
     {
         let me = self.node.me();
         let others = self.node.members().others(me);
@@ -283,10 +283,10 @@ impl<'a, B: Body> Draft<'a, B> {
         Ok(())
     }
 
-    // A vote is cast: committed, counted, and told to the others.
+    // Casts a vote: it is committed, counted, and sent to the others.
     pub(crate) fn cast(&mut self, vote: &Vote<B>) -> Result<(), Memory>
         ensures of { self.new.of ≡ self.old.of }
-        ensures turn { OnOk result (self.new.turn ≡ cast B.same self.old.of.members self.old.of.me vote.now self.old.turn) }
+        ensures plan { OnOk result (self.new.plan ≡ cast B.same self.old.of.members self.old.of.me vote.now self.old.plan) }
     {
         let Ok(copy) = vote.copy(self.alloc()) else {
             return Err(Memory);
@@ -298,16 +298,16 @@ impl<'a, B: Body> Draft<'a, B> {
         Ok(())
     }
 
-    // Copies of its votes from the slot on, where none is new.
+    // Copies its votes from the slot on, given that none is new.
     pub(crate) fn votes_from(&self, first: u64) -> Result<Votes<B>, Memory>
-        requires { self.now.turn.change.votes ≡ [] }
-        ensures votes { IfOk result (λ votes. votes ≡ votes_from first self.now.turn.node.rows.votes) }
+        requires { self.now.plan.change.votes ≡ [] }
+        ensures votes { IfOk result (λ votes. votes ≡ votes_from first self.now.plan.node.rows.votes) }
     {
         self.node.votes_from(self.alloc, first)
     }
 }
 
-// This is sent by the node to each of the others.
+// Appends this as a packet of the node to each of the others.
 pub(crate) fn put_to_each<B: Body>(
     alloc: Global,
     packets: &mut Vec<Packet<B>>,
@@ -333,7 +333,7 @@ pub(crate) fn put_to_each<B: Body>(
     Ok(())
 }
 
-// A copy of the vote is put among those that are committed.
+// Puts a copy of the vote among those that are committed.
 fn put_copy<B: Body>(alloc: Global, votes: &mut Votes<B>, vote: &Vote<B>) -> Result<(), Memory>
     ensures ok { OnOk result (votes.new ≡ put_vote vote.now votes.old) }
     ensures rows { OnOk result ((rows : List (Vote B)) → put_votes votes.new rows ≡ put_vote vote.now (put_votes votes.old rows)) }
@@ -348,7 +348,7 @@ fn put_copy<B: Body>(alloc: Global, votes: &mut Votes<B>, vote: &Vote<B>) -> Res
     Ok(())
 }
 
-// A member's vote is to be heard. Whether another entry would be learned in its slot.
+// Plans hearing a member's vote. Returns whether another entry would be learned in its slot.
 fn count_in<'a, B: Body>(
     hearing: &mut Hearing<'a, B>,
     node: u8,
@@ -366,7 +366,7 @@ fn count_in<'a, B: Body>(
     Ok(other)
 }
 
-// What a member tells is to be heard. Whether another entry would be learned in the slot.
+// Plans hearing what a member learned. Returns whether another entry would be learned in the slot.
 fn tell_in<'a, B: Body>(
     hearing: &mut Hearing<'a, B>,
     slot: Slot,

@@ -53,7 +53,8 @@ impl<'a, B> Model for Parts<'a, B> {
 }
 
 impl<'a, B> Parts<'a, B> {
-    /// The parts of the node with this number, of these members, which has applied what its learner learned in so many of the first slots.
+    /// Returns the parts of the node with this number, of these members, that has applied what its learner learned in the first `applied`
+    /// slots.
     pub fn of(
         me: u8,
         members: Members,
@@ -85,49 +86,49 @@ impl<'a, B> Parts<'a, B> {
         }
     }
 
-    // The node's number.
+    // Returns the node's number.
     pub(crate) fn me(&self) -> u8
         ensures { result ≡ self.now.me }
     {
         self.me
     }
 
-    // The members.
+    // Returns the members.
     pub(crate) fn members(&self) -> Members
         ensures { result ≡ self.now.members }
     {
         self.members
     }
 
-    // How often the node was started.
+    // Returns how often the node was started.
     pub(crate) fn boot(&self) -> u64
         ensures { result ≡ self.now.state.rows.boot }
     {
         self.acceptor.boot()
     }
 
-    // The greatest ballot that the node has promised, if any.
+    // Returns the greatest ballot that the node has promised, if any.
     pub(crate) fn promised(&self) -> Option<Ballot>
         ensures { result ≡ self.now.state.rows.promised }
     {
         self.acceptor.promised()
     }
 
-    // Its proposer.
+    // Returns its proposer.
     pub(crate) fn proposer(&self) -> &'a Proposer<B>
         ensures { result.now.state ≡ proposer_of self.now.me self.now.members self.now.state }
     {
         self.proposer
     }
 
-    // Its learner.
+    // Returns its learner.
     pub(crate) fn learner(&self) -> &'a Learner<B>
         ensures { result.now.state ≡ learner_of self.now.members self.now.state }
     {
         self.learner
     }
 
-    // How many entries it has applied.
+    // Returns how many entries it has applied.
     pub(crate) fn applied(&self) -> u64
         ensures length { result ≡ length self.now.state.applied }
         ensures within { result < 2 ^ 40 }
@@ -142,14 +143,14 @@ impl<'a, B> Parts<'a, B> {
         let _ = &self.learner;
     }
 
-    // The entries that wait for a slot.
+    // Returns the entries that wait for a slot.
     pub(crate) fn pending(&self) -> &'a [Entry<B>]
         ensures { result.now ≡ self.now.state.pending }
     {
         self.pending
     }
 
-    // Its proposer, to which nothing is to be done.
+    // Begins planning on its proposer, with nothing to be done.
     pub(crate) fn proposing(&self, alloc: Global) -> Proposing<'a, B>
         ensures before { result.before ≡ proposer_of self.now.me self.now.members self.now.state }
         ensures moves { result.moves ≡ [] }
@@ -157,7 +158,7 @@ impl<'a, B> Parts<'a, B> {
         Proposing::of(alloc, self.proposer)
     }
 
-    // Its learner, which is to hear nothing.
+    // Begins planning on its learner, with nothing to hear.
     pub(crate) fn hearing(&self, alloc: Global) -> Hearing<'a, B>
         ensures before { result.before ≡ learner_of self.now.members self.now.state }
         ensures news { result.news ≡ [] }
@@ -167,7 +168,7 @@ impl<'a, B> Parts<'a, B> {
 }
 
 impl<'a, B: Body> Parts<'a, B> {
-    // Copies of its votes from the slot with this number on.
+    // Copies its votes from the slot with this number on.
     pub(crate) fn votes_from(&self, alloc: Global, first: u64) -> Result<Votes<B>, Memory>
         ensures { IfOk result (λ votes. votes ≡ votes_from first self.now.state.rows.votes) }
     {

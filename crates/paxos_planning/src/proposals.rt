@@ -1,4 +1,5 @@
-//! What a leader proposes, and what another node forwards.
+//! What a leader proposes, and what another node forwards. An entry *stands* if an equal one is proposed in the leader's ballot, in a slot
+//! that is not applied yet.
 
 ghost use Rattle.std.specs.Prelude.{◌≡◌, ◌≤◌, drop, ◌∷◌, [], ◌++◌, length, true, is_some, OnOk, IfOk, option_copied, take};
 ghost use Rattle.paxos_packets.specs.Packet.{to_others};
@@ -8,7 +9,7 @@ ghost use Rattle.paxos_planning.specs.Parts.{pending_with};
 ghost use Rattle.paxos_planning.specs.Drafting.{in_role, listed};
 ghost use Rattle.paxos_planning.specs.Front.{AllStand, FrontOf};
 ghost use Rattle.paxos_planning.specs.Proposals.{stands, propose, propose_all, propose_new, propose_each, forwarded, push};
-ghost use Rattle.paxos_planning.specs.Turn.{send, cast};
+ghost use Rattle.paxos_planning.specs.Plan.{send, cast};
 ghost use Rattle.paxos_packets.specs.declared.packet.Kind.TheVariants.{Accept};
 
 use crate::draft::Draft;
@@ -17,10 +18,10 @@ use paxos_proposer::Offer;
 use std::alloc::Global;
 
 impl<'a, B: Body> Draft<'a, B> {
-    // A leader proposes the entry, and votes for it; where no slot is left it does nothing.
+    // Proposes the entry as a leader, and votes for it; does nothing if no slot is left.
     pub(crate) fn propose(&mut self, entry: &Entry<B>) -> Result<(), Memory>
         ensures of { self.new.of ≡ self.old.of }
-        ensures turn { OnOk result (self.new.turn ≡ propose B.same self.old.of.members self.old.of.me entry.now self.old.turn) }
+        ensures plan { OnOk result (self.new.plan ≡ propose B.same self.old.of.members self.old.of.me entry.now self.old.plan) }
     {
         let Some(offer) = self.offer() else {
             return Ok(());
@@ -37,11 +38,11 @@ impl<'a, B: Body> Draft<'a, B> {
         Ok(())
     }
 
-    // The others are asked for this vote, and it is cast.
+    // Asks the others for this vote, and casts it.
     fn propose_vote(&mut self, vote: &Vote<B>) -> Result<(), Memory>
         ensures of { self.new.of ≡ self.old.of }
-        ensures turn { OnOk result (self.new.turn ≡ cast B.same self.old.of.members self.old.of.me vote.now
-            (send (to_others self.old.of.members self.old.of.me (Accept vote.now)) self.old.turn)) }
+        ensures plan { OnOk result (self.new.plan ≡ cast B.same self.old.of.members self.old.of.me vote.now
+            (send (to_others self.old.of.members self.old.of.me (Accept vote.now)) self.old.plan)) }
     {
         let Ok(copy) = vote.copy(self.alloc()) else {
             return Err(Memory);
@@ -51,10 +52,10 @@ impl<'a, B: Body> Draft<'a, B> {
         Ok(())
     }
 
-    // It proposes the entry, unless that stands already in a slot that is not applied.
+    // Proposes the entry, unless it stands.
     fn propose_new(&mut self, entry: &Entry<B>) -> Result<(), Memory>
         ensures of { self.new.of ≡ self.old.of }
-        ensures turn { OnOk result (self.new.turn ≡ propose_new B.same self.old.of.members self.old.of.me entry.now self.old.turn) }
+        ensures plan { OnOk result (self.new.plan ≡ propose_new B.same self.old.of.members self.old.of.me entry.now self.old.plan) }
     {
         if self.stands(entry) {
             return Ok(());
@@ -63,10 +64,10 @@ impl<'a, B: Body> Draft<'a, B> {
         Ok(())
     }
 
-    // It proposes these entries, each unless it stands already.
+    // Proposes each of these entries, unless it stands.
     pub(crate) fn propose_each(&mut self, entries: &[Entry<B>]) -> Result<(), Memory>
         ensures of { self.new.of ≡ self.old.of }
-        ensures turn { OnOk result (self.new.turn ≡ propose_each B.same self.old.of.members self.old.of.me entries.now self.old.turn) }
+        ensures plan { OnOk result (self.new.plan ≡ propose_each B.same self.old.of.members self.old.of.me entries.now self.old.plan) }
     {
         for entry in entries {
             self.propose_new(entry)?;
@@ -74,10 +75,10 @@ impl<'a, B: Body> Draft<'a, B> {
         Ok(())
     }
 
-    // It proposes these entries.
+    // Proposes these entries.
     pub(crate) fn propose_all(&mut self, entries: &[Entry<B>]) -> Result<(), Memory>
         ensures of { self.new.of ≡ self.old.of }
-        ensures turn { OnOk result (self.new.turn ≡ propose_all B.same self.old.of.members self.old.of.me entries.now self.old.turn) }
+        ensures plan { OnOk result (self.new.plan ≡ propose_all B.same self.old.of.members self.old.of.me entries.now self.old.plan) }
     {
         for entry in entries {
             self.propose(entry)?;
@@ -85,11 +86,12 @@ impl<'a, B: Body> Draft<'a, B> {
         Ok(())
     }
 
-    /// A leader proposes what is pending, and another node forwards it. The first `front` that were pending before are not looked at: they stand.
+    /// Proposes what is pending as a leader, and forwards it as another node. The first `front` entries that were pending before stand, and
+    /// are not looked at.
     pub fn push(&mut self, front: usize) -> Result<(), Memory>
         requires { FrontOf front self.old }
         ensures of { self.new.of ≡ self.old.of }
-        ensures turn { OnOk result (self.new.turn ≡ push B.same self.old.of.members self.old.of.me self.old.turn) }
+        ensures plan { OnOk result (self.new.plan ≡ push B.same self.old.of.members self.old.of.me self.old.plan) }
         ensures front { OnOk result (FrontOf front self.new) }
     {
         if !self.is_leading() {
@@ -101,8 +103,8 @@ impl<'a, B: Body> Draft<'a, B> {
         Ok(())
     }
 
-    /// How many of those that were pending before stand at the front, where the first `from` do. Looks at those alone, and at the first that
-    /// does not stand.
+    /// Returns how many of the entries that were pending before stand at the front, given that the first `from` do. Looks only at those
+    /// after them, up to the first that does not stand.
     pub fn front(&self, from: usize) -> usize
         requires { FrontOf from self.now }
         ensures front { FrontOf result self.now }
@@ -115,9 +117,9 @@ impl<'a, B: Body> Draft<'a, B> {
         from + self.count_standing(&pending[from..])
     }
 
-    // How many of the entries stand, up to the first that does not.
+    // Returns how many of the entries stand, up to the first that does not.
     fn count_standing(&self, entries: &[Entry<B>]) -> usize
-        ensures stand { AllStand B.same (length self.now.turn.node.applied) self.now.turn.node.proposer.role (take result entries.now) }
+        ensures stand { AllStand B.same (length self.now.plan.node.applied) self.now.plan.node.proposer.role (take result entries.now) }
         ensures most { result ≤ length entries.now }
     {
         let mut count = 0;
@@ -130,20 +132,20 @@ impl<'a, B: Body> Draft<'a, B> {
         count
     }
 
-    // What was pending before, behind the first `front`.
+    // Returns what was pending before, after the first `front`.
     fn behind(&self, front: usize) -> &'a [Entry<B>]
         ensures rest { result.now ≡ drop front self.now.of.state.pending }
-        ensures pending { self.now.turn.node.pending ≡ pending_with self.now.of.added self.now.of.state.pending }
+        ensures pending { self.now.plan.node.pending ≡ pending_with self.now.of.added self.now.of.state.pending }
     {
         let pending = self.node.pending();
         &pending[front.min(pending.len())..]
     }
 
-    // It proposes the entry that becomes pending, unless it stands already.
+    // Proposes the entry that becomes pending, unless it stands.
     fn propose_added(&mut self) -> Result<(), Memory>
         ensures of { self.new.of ≡ self.old.of }
-        ensures turn { OnOk result (self.new.turn
-            ≡ propose_each B.same self.old.of.members self.old.of.me (listed self.old.of.added) self.old.turn) }
+        ensures plan { OnOk result (self.new.plan
+            ≡ propose_each B.same self.old.of.members self.old.of.me (listed self.old.of.added) self.old.plan) }
     {
         let Some(entry) = self.added() else {
             return Ok(());
@@ -152,11 +154,11 @@ impl<'a, B: Body> Draft<'a, B> {
         Ok(())
     }
 
-    // The first pending entries go to the node whose ballot is promised.
+    // Sends the first pending entries to the node whose ballot is promised.
     fn forward(&mut self) -> Result<(), Memory>
         ensures of { self.new.of ≡ self.old.of }
-        ensures turn { OnOk result (self.new.turn
-            ≡ send (forwarded self.old.of.me self.old.turn.node.rows.promised self.old.turn.node.pending) self.old.turn) }
+        ensures plan { OnOk result (self.new.plan
+            ≡ send (forwarded self.old.of.me self.old.plan.node.rows.promised self.old.plan.node.pending) self.old.plan) }
     {
         let Some(promised) = self.promised() else {
             return Ok(());
@@ -172,25 +174,25 @@ impl<'a, B: Body> Draft<'a, B> {
         Ok(())
     }
 
-    // Where it would propose next, if it leads and a slot is left.
+    // Returns where it would propose next, if it leads and a slot is left.
     fn offer(&self) -> Option<Offer>
-        ensures { result ≡ offer_of self.now.turn.node.proposer.role }
+        ensures { result ≡ offer_of self.now.plan.node.proposer.role }
     {
         self.proposing.offer()
     }
 
-    // Whether an equal entry stands in a slot of its ballot that is not applied.
+    // Returns whether the entry stands.
     fn stands(&self, entry: &Entry<B>) -> bool
-        ensures { result ≡ stands B.same (length self.now.turn.node.applied) self.now.turn.node.proposer.role entry.now }
+        ensures { result ≡ stands B.same (length self.now.plan.node.applied) self.now.plan.node.proposer.role entry.now }
     {
         self.proposing.stands(self.node.applied(), entry)
     }
 
-    // The entry is proposed in a leader's next slot.
+    // Proposes the entry in a leader's next slot.
     fn submit(&mut self, entry: &Entry<B>) -> Result<(), Memory>
-        requires { is_some (offer_of self.old.turn.node.proposer.role) ≡ true }
+        requires { is_some (offer_of self.old.plan.node.proposer.role) ≡ true }
         ensures of { self.new.of ≡ self.old.of }
-        ensures turn { OnOk result (self.new.turn ≡ in_role (submitted entry.now self.old.turn.node.proposer.role) self.old.turn) }
+        ensures plan { OnOk result (self.new.plan ≡ in_role (submitted entry.now self.old.plan.node.proposer.role) self.old.plan) }
     {
         let Ok(()) = self.proposing.submit(entry) else {
             return Err(Memory);
@@ -198,14 +200,14 @@ impl<'a, B: Body> Draft<'a, B> {
         Ok(())
     }
 
-    // What is pending, but for the entry that becomes so.
+    // Returns what is pending, without the entry that becomes pending.
     fn pending(&self) -> &'a [Entry<B>]
-        ensures { self.now.turn.node.pending ≡ pending_with self.now.of.added result.now }
+        ensures { self.now.plan.node.pending ≡ pending_with self.now.of.added result.now }
     {
         self.node.pending()
     }
 
-    // The entry that becomes pending.
+    // Returns the entry that becomes pending.
     fn added(&self) -> Option<&'a Entry<B>>
         ensures { option_copied result ≡ self.now.of.added }
     {
@@ -213,7 +215,7 @@ impl<'a, B: Body> Draft<'a, B> {
     }
 }
 
-// Copies of the first 64 pending entries.
+// Copies the first 64 pending entries.
 fn first_pending<B: Body>(
     alloc: Global,
     pending: &[Entry<B>],
@@ -235,7 +237,7 @@ fn first_pending<B: Body>(
     }
 }
 
-// The first 64 of them.
+// Returns the first 64 of them.
 fn first_64<B>(entries: &[Entry<B>]) -> &[Entry<B>]
     ensures { result.now ≡ take 64 entries.now }
 {
@@ -245,7 +247,7 @@ fn first_64<B>(entries: &[Entry<B>]) -> &[Entry<B>]
     &entries[..64]
 }
 
-// Copies of these are put at the end.
+// Appends copies of these.
 fn copy_first<B: Body>(
     alloc: Global,
     entries: &mut Entries<B>,
@@ -259,7 +261,7 @@ fn copy_first<B: Body>(
     Ok(())
 }
 
-// A copy of it is put at the end.
+// Appends a copy of it.
 fn push_copy<B: Body>(
     alloc: Global,
     entries: &mut Entries<B>,

@@ -5,7 +5,7 @@ ghost use Rattle.paxos_learner.specs.Learner.{learned_within};
 ghost use Rattle.paxos_proposer.specs.Promises.{promised, called_by};
 ghost use Rattle.paxos_proposer.specs.Proposer.{nacked};
 ghost use Rattle.paxos_planning.specs.Drafting.{in_role, seeing, told_to};
-ghost use Rattle.paxos_planning.specs.Turn.{send};
+ghost use Rattle.paxos_planning.specs.Plan.{send};
 ghost use Rattle.paxos_planning.specs.Replies.{refuse, on_prepare, on_accept, on_promise, on_forward, told_from, on_packet, round_in, round_of_votes};
 
 use crate::draft::Draft;
@@ -13,25 +13,25 @@ use paxos_learner::LearnedEntry;
 use paxos_packets::{Ballot, Body, Entries, Entry, Kind, Memory, Packet, Vote, Votes};
 
 impl<'a, B: Body> Draft<'a, B> {
-    /// What the packet brings about, where nothing happened before it.
+    /// Plans what the packet brings about, given that nothing happened before it.
     pub fn on_packet(&mut self, sender: u8, kind: &Kind<B>) -> Result<(), Memory>
-        requires votes { self.old.turn.change.votes ≡ [] }
-        requires role { self.old.turn.node.proposer.role ≡ self.old.of.state.proposer.role }
+        requires votes { self.old.plan.change.votes ≡ [] }
+        requires role { self.old.plan.node.proposer.role ≡ self.old.of.state.proposer.role }
         ensures of { self.new.of ≡ self.old.of }
-        ensures turn { OnOk result (self.new.turn ≡ on_packet B.same self.old.of.members self.old.of.me sender kind.now
-            (seeing (round_in kind.now) self.old.turn)) }
+        ensures plan { OnOk result (self.new.plan ≡ on_packet B.same self.old.of.members self.old.of.me sender kind.now
+            (seeing (round_in kind.now) self.old.plan)) }
     {
         self.saw(round_in(kind))?;
         self.answer(sender, kind)?;
         Ok(())
     }
 
-    // The same, once its rounds were seen.
+    // Plans what the packet brings about once its rounds were seen.
     fn answer(&mut self, sender: u8, kind: &Kind<B>) -> Result<(), Memory>
-        requires votes { self.old.turn.change.votes ≡ [] }
-        requires role { self.old.turn.node.proposer.role ≡ self.old.of.state.proposer.role }
+        requires votes { self.old.plan.change.votes ≡ [] }
+        requires role { self.old.plan.node.proposer.role ≡ self.old.of.state.proposer.role }
         ensures of { self.new.of ≡ self.old.of }
-        ensures turn { OnOk result (self.new.turn ≡ on_packet B.same self.old.of.members self.old.of.me sender kind.now self.old.turn) }
+        ensures plan { OnOk result (self.new.plan ≡ on_packet B.same self.old.of.members self.old.of.me sender kind.now self.old.plan) }
     {
         match kind {
             Kind::Prepare { ballot, first } => self.on_prepare(sender, *ballot, *first),
@@ -45,38 +45,38 @@ impl<'a, B: Body> Draft<'a, B> {
         }
     }
 
-    // What it learned in the slot and the 63 behind it is told.
+    // Reports what it learned in the slot and the 63 after it.
     #[tactic(auto, using(crate::proofs::Planning::told_alike))]
     fn tell_from(&mut self, sender: u8, first: u64) -> Result<(), Memory>
         ensures of { self.new.of ≡ self.old.of }
-        ensures turn { OnOk result (self.new.turn
-            ≡ send (told_from self.old.of.me sender first self.old.turn.node.learner.learned) self.old.turn) }
+        ensures plan { OnOk result (self.new.plan
+            ≡ send (told_from self.old.of.me sender first self.old.plan.node.learner.learned) self.old.plan) }
     {
         let told = self.learned_from(first)?;
         self.tell(told, sender)?;
         Ok(())
     }
 
-    // The promise forbids the ballot.
+    // Refuses the ballot, which its promise forbids.
     fn refuse(&mut self, sender: u8, ballot: Ballot) -> Result<(), Memory>
         ensures of { self.new.of ≡ self.old.of }
-        ensures turn { OnOk result (self.new.turn ≡ refuse self.old.of.me sender ballot self.old.turn) }
+        ensures plan { OnOk result (self.new.plan ≡ refuse self.old.of.me sender ballot self.old.plan) }
     {
         let promised = self.promised().unwrap_or(ballot);
         self.send_to(Kind::Nack { ballot, promised }, sender)?;
         Ok(())
     }
 
-    // A promise of the ballot is asked for, and nothing was voted for before.
+    // Plans the answer to a request for a promise of the ballot, given that it voted for nothing before in this event.
     pub(crate) fn on_prepare(
         &mut self,
         sender: u8,
         ballot: Ballot,
         first: u64,
     ) -> Result<(), Memory>
-        requires { self.old.turn.change.votes ≡ [] }
+        requires { self.old.plan.change.votes ≡ [] }
         ensures of { self.new.of ≡ self.old.of }
-        ensures turn { OnOk result (self.new.turn ≡ on_prepare self.old.of.me sender ballot first self.old.turn) }
+        ensures plan { OnOk result (self.new.plan ≡ on_prepare self.old.of.me sender ballot first self.old.plan) }
     {
         if !self.may_promise(ballot) {
             self.refuse(sender, ballot)?;
@@ -88,11 +88,11 @@ impl<'a, B: Body> Draft<'a, B> {
         Ok(())
     }
 
-    // A vote is asked for.
+    // Plans the answer to a request for a vote.
     pub(crate) fn on_accept(&mut self, sender: u8, vote: &Vote<B>) -> Result<(), Memory>
         ensures of { self.new.of ≡ self.old.of }
-        ensures turn { OnOk result (self.new.turn
-            ≡ on_accept B.same self.old.of.members self.old.of.me sender vote.now self.old.turn) }
+        ensures plan { OnOk result (self.new.plan
+            ≡ on_accept B.same self.old.of.members self.old.of.me sender vote.now self.old.plan) }
     {
         if !self.may_accept(vote.ballot) {
             self.refuse(sender, vote.ballot)?;
@@ -102,7 +102,7 @@ impl<'a, B: Body> Draft<'a, B> {
         Ok(())
     }
 
-    // With a majority of promises the node leads, and proposes what the reports call for, and what is pending.
+    // Counts a promise. With a majority the node leads, and proposes what the reports call for, and then what is pending.
     #[tactic(auto, using(crate::proofs::Standing::no_front))]
     pub(crate) fn on_promise(
         &mut self,
@@ -110,10 +110,10 @@ impl<'a, B: Body> Draft<'a, B> {
         ballot: Ballot,
         votes: &Votes<B>,
     ) -> Result<(), Memory>
-        requires { self.old.turn.node.proposer.role ≡ self.old.of.state.proposer.role }
+        requires { self.old.plan.node.proposer.role ≡ self.old.of.state.proposer.role }
         ensures of { self.new.of ≡ self.old.of }
-        ensures turn { OnOk result (self.new.turn
-            ≡ on_promise B.same self.old.of.members self.old.of.me sender ballot votes.now self.old.turn) }
+        ensures plan { OnOk result (self.new.plan
+            ≡ on_promise B.same self.old.of.members self.old.of.me sender ballot votes.now self.old.plan) }
     {
         let Some(entries) = self.hear_promise(sender, ballot, votes)? else {
             return Ok(());
@@ -123,11 +123,11 @@ impl<'a, B: Body> Draft<'a, B> {
         Ok(())
     }
 
-    // Entries are forwarded to a leader.
+    // Takes entries that are forwarded to a leader.
     pub(crate) fn on_forward(&mut self, entries: &[Entry<B>]) -> Result<(), Memory>
         ensures of { self.new.of ≡ self.old.of }
-        ensures turn { OnOk result (self.new.turn
-            ≡ on_forward B.same self.old.of.members self.old.of.me entries.now self.old.turn) }
+        ensures plan { OnOk result (self.new.plan
+            ≡ on_forward B.same self.old.of.members self.old.of.me entries.now self.old.plan) }
     {
         if !self.is_leading() {
             return Ok(());
@@ -136,10 +136,10 @@ impl<'a, B: Body> Draft<'a, B> {
         Ok(())
     }
 
-    // A ballot of this round came.
+    // Notes that a ballot of this round came.
     pub(crate) fn saw(&mut self, round: u64) -> Result<(), Memory>
         ensures of { self.new.of ≡ self.old.of }
-        ensures turn { OnOk result (self.new.turn ≡ seeing round self.old.turn) }
+        ensures plan { OnOk result (self.new.plan ≡ seeing round self.old.plan) }
     {
         let Ok(()) = self.proposing.saw(round) else {
             return Err(Memory);
@@ -147,19 +147,19 @@ impl<'a, B: Body> Draft<'a, B> {
         Ok(())
     }
 
-    // A member's promise is counted. The entries that it calls for, where it makes the node lead.
+    // Counts a member's promise. Returns the entries that it calls for, if it makes the node lead.
     fn hear_promise(
         &mut self,
         sender: u8,
         ballot: Ballot,
         votes: &Votes<B>,
     ) -> Result<Option<Entries<B>>, Memory>
-        requires { self.old.turn.node.proposer.role ≡ self.old.of.state.proposer.role }
+        requires { self.old.plan.node.proposer.role ≡ self.old.of.state.proposer.role }
         ensures of { self.new.of ≡ self.old.of }
-        ensures turn { OnOk result (self.new.turn
-            ≡ in_role (promised self.old.of.members sender ballot votes.now self.old.turn.node.proposer.role) self.old.turn) }
+        ensures plan { OnOk result (self.new.plan
+            ≡ in_role (promised self.old.of.members sender ballot votes.now self.old.plan.node.proposer.role) self.old.plan) }
         ensures called { IfOk result (λ called. called
-            ≡ called_by self.old.of.members sender ballot votes.now self.old.turn.node.proposer.role) }
+            ≡ called_by self.old.of.members sender ballot votes.now self.old.plan.node.proposer.role) }
     {
         let Ok(copy) = votes.copy(self.alloc) else {
             return Err(Memory);
@@ -170,10 +170,10 @@ impl<'a, B: Body> Draft<'a, B> {
         Ok(called)
     }
 
-    // A ballot is refused for a promise of another.
+    // Notes that a ballot is refused for a promise of another.
     fn on_nack(&mut self, ballot: Ballot, promised: Ballot) -> Result<(), Memory>
         ensures of { self.new.of ≡ self.old.of }
-        ensures turn { OnOk result (self.new.turn ≡ in_role (nacked ballot promised self.old.turn.node.proposer.role) self.old.turn) }
+        ensures plan { OnOk result (self.new.plan ≡ in_role (nacked ballot promised self.old.plan.node.proposer.role) self.old.plan) }
     {
         let Ok(()) = self.proposing.on_nack(ballot, promised) else {
             return Err(Memory);
@@ -181,9 +181,9 @@ impl<'a, B: Body> Draft<'a, B> {
         Ok(())
     }
 
-    // Copies of what would be learned in the slot with this number and the 63 behind it.
+    // Copies what would be learned in the slot with this number and the 63 after it.
     fn learned_from(&self, first: u64) -> Result<Vec<LearnedEntry<B>>, Memory>
-        ensures learned { IfOk result (λ told. told.items ≡ learned_within first (first + 64) self.now.turn.node.learner.learned) }
+        ensures learned { IfOk result (λ told. told.items ≡ learned_within first (first + 64) self.now.plan.node.learner.learned) }
     {
         let Ok(told) = self.hearing.learned_from(first) else {
             return Err(Memory);
@@ -191,16 +191,16 @@ impl<'a, B: Body> Draft<'a, B> {
         Ok(told)
     }
 
-    // This is told to the member.
+    // Reports this to the member.
     fn tell(&mut self, told: Vec<LearnedEntry<B>>, to: u8) -> Result<(), Memory>
         ensures of { self.new.of ≡ self.old.of }
-        ensures turn { OnOk result (self.new.turn ≡ send (map (told_to self.old.of.me to) told.items) self.old.turn) }
+        ensures plan { OnOk result (self.new.plan ≡ send (map (told_to self.old.of.me to) told.items) self.old.plan) }
     {
         put_told(&mut self.packets, self.node.me(), told, to)
     }
 }
 
-// The greatest round of the ballots in a packet.
+// Returns the greatest round of the ballots in a packet.
 fn round_in<B>(kind: &Kind<B>) -> u64
     ensures { result ≡ round_in kind.now }
 {
@@ -224,7 +224,7 @@ fn round_of_votes<B>(votes: &[Vote<B>]) -> u64
     round
 }
 
-// What was learned is told to the member.
+// Appends packets that report what was learned to the member.
 fn put_told<B: Drop>(
     packets: &mut Vec<Packet<B>>,
     me: u8,

@@ -12,21 +12,21 @@ use paxos_packets::{Ballot, Body, Kind, Memory, Votes};
 const LAST_ROUND: u64 = (1 << 48) - 1;
 
 impl<'a, B: Body> Draft<'a, B> {
-    /// Whether a round is left above all that it saw and promised.
+    /// Returns whether a round is left above all that it saw and promised.
     pub fn starts(&self) -> bool
-        ensures { result ≡ starts self.now.of.me self.now.turn.node }
+        ensures { result ≡ starts self.now.of.me self.now.plan.node }
     {
         round_of(self.promised()) < LAST_ROUND && self.next_ballot().is_some()
     }
 
-    /// It begins a ballot above all that it saw and promised.
+    /// Begins a ballot above all that it saw and promised.
     pub fn start(&mut self) -> Result<(), Memory>
-        requires votes { self.old.turn.change.votes ≡ [] }
-        requires starts { starts self.old.of.me self.old.turn.node ≡ true }
+        requires votes { self.old.plan.change.votes ≡ [] }
+        requires starts { starts self.old.of.me self.old.plan.node ≡ true }
         ensures of { self.new.of ≡ self.old.of }
-        ensures turn { OnOk result (self.new.turn ≡ begin self.old.of.members self.old.of.me
-            (new_ballot self.old.of.me self.old.turn.node.rows.promised self.old.turn.node.proposer)
-            (suc (length self.old.turn.node.applied)) self.old.turn) }
+        ensures plan { OnOk result (self.new.plan ≡ begin self.old.of.members self.old.of.me
+            (new_ballot self.old.of.me self.old.plan.node.rows.promised self.old.plan.node.proposer)
+            (suc (length self.old.plan.node.applied)) self.old.plan) }
     {
         self.saw(round_of(self.promised()))?;
         let Some(ballot) = self.next_ballot() else {
@@ -40,9 +40,9 @@ impl<'a, B: Body> Draft<'a, B> {
         Ok(())
     }
 
-    // The ballot that it would begin, if a round is left.
+    // Returns the ballot that it would begin, if a round is left.
     fn next_ballot(&self) -> Option<Ballot>
-        ensures { result ≡ next_own self.now.of.me self.now.turn.node.proposer }
+        ensures { result ≡ next_own self.now.of.me self.now.plan.node.proposer }
     {
         match self.proposing.next_ballot() {
             Ok(ballot) => Some(ballot),
@@ -50,12 +50,12 @@ impl<'a, B: Body> Draft<'a, B> {
         }
     }
 
-    // It begins its next ballot, in which it reports these votes.
+    // Begins its next ballot, in which it reports these votes.
     fn prepare(&mut self, first: u64, votes: Votes<B>) -> Result<(), Memory>
         requires first { 1 ≤ first }
-        requires round { is_spent self.old.turn.node.proposer ≡ false }
+        requires round { is_spent self.old.plan.node.proposer ≡ false }
         ensures of { self.new.of ≡ self.old.of }
-        ensures turn { OnOk result (self.new.turn ≡ with_prepared self.old.of.me first votes self.old.turn) }
+        ensures plan { OnOk result (self.new.plan ≡ with_prepared self.old.of.me first votes self.old.plan) }
     {
         let Ok(()) = self.proposing.start(first, votes) else {
             return Err(Memory);
@@ -63,16 +63,16 @@ impl<'a, B: Body> Draft<'a, B> {
         Ok(())
     }
 
-    // The promise is committed.
+    // Commits the promise.
     fn commit_promise(&mut self, ballot: Ballot)
         ensures of { self.new.of ≡ self.old.of }
-        ensures turn { self.new.turn ≡ committing ballot self.old.turn }
+        ensures plan { self.new.plan ≡ committing ballot self.old.plan }
     {
         self.change.promised = Some(ballot);
     }
 }
 
-// The round of a promise, 0 where there is none.
+// Returns the round of a promise, or 0 if there is no promise.
 fn round_of(promised: Option<Ballot>) -> u64
     ensures { result ≡ round_of promised }
 {

@@ -11,7 +11,7 @@ ghost use Rattle.paxos_proposer.specs.Reports.{is_counted};
 ghost use Rattle.paxos_proposer.specs.State.{role_in};
 ghost use Rattle.paxos_planning.specs.Ticking.{again, accepts_again, ask, on_tick};
 ghost use Rattle.paxos_planning.specs.Drafting.{prepares_again, asked_again};
-ghost use Rattle.paxos_planning.specs.Turn.{send};
+ghost use Rattle.paxos_planning.specs.Plan.{send};
 
 use crate::draft::{Draft, put_to_each};
 use crate::parts::Parts;
@@ -21,13 +21,13 @@ use paxos_proposer::Proposer;
 use std::alloc::Global;
 
 impl<'a, B: Body> Draft<'a, B> {
-    /// Time has passed: what waits for an answer is sent again, and the others are asked for the slots that it lacks.
+    /// Plans what happens as time passes: sends again what waits for an answer, and asks the others for the slots that it lacks.
     #[tactic(auto, using(crate::proofs::Standing::no_front))]
     pub fn on_tick(&mut self) -> Result<(), Memory>
-        requires role { self.old.turn.node.proposer.role ≡ self.old.of.state.proposer.role }
-        requires learner { self.old.turn.node.learner ≡ self.old.of.state.learner }
+        requires role { self.old.plan.node.proposer.role ≡ self.old.of.state.proposer.role }
+        requires learner { self.old.plan.node.learner ≡ self.old.of.state.learner }
         ensures of { self.new.of ≡ self.old.of }
-        ensures turn { OnOk result (self.new.turn ≡ on_tick B.same self.old.of.members self.old.of.me self.old.turn) }
+        ensures plan { OnOk result (self.new.plan ≡ on_tick B.same self.old.of.members self.old.of.me self.old.plan) }
     {
         self.again()?;
         self.push(0)?;
@@ -35,13 +35,13 @@ impl<'a, B: Body> Draft<'a, B> {
         Ok(())
     }
 
-    // What waits for an answer is sent again.
+    // Sends again what waits for an answer.
     fn again(&mut self) -> Result<(), Memory>
-        requires role { self.old.turn.node.proposer.role ≡ self.old.of.state.proposer.role }
-        requires learner { self.old.turn.node.learner ≡ self.old.of.state.learner }
+        requires role { self.old.plan.node.proposer.role ≡ self.old.of.state.proposer.role }
+        requires learner { self.old.plan.node.learner ≡ self.old.of.state.learner }
         ensures of { self.new.of ≡ self.old.of }
-        ensures turn { OnOk result (self.new.turn ≡ send (again self.old.of.members self.old.of.me
-            self.old.turn.node.proposer.role self.old.turn.node.learner.learned) self.old.turn) }
+        ensures plan { OnOk result (self.new.plan ≡ send (again self.old.of.members self.old.of.me
+            self.old.plan.node.proposer.role self.old.plan.node.learner.learned) self.old.plan) }
     {
         let Some(first) = self.preparing() else {
             self.accept_again()?;
@@ -54,44 +54,44 @@ impl<'a, B: Body> Draft<'a, B> {
         Ok(())
     }
 
-    // It asks the others for the slots that it lacks.
+    // Asks the others for the slots that it lacks.
     fn ask(&mut self) -> Result<(), Memory>
         ensures of { self.new.of ≡ self.old.of }
-        ensures turn { OnOk result (self.new.turn ≡ ask self.old.of.members self.old.of.me self.old.turn) }
+        ensures plan { OnOk result (self.new.plan ≡ ask self.old.of.members self.old.of.me self.old.plan) }
     {
         let first = self.applied() + 1;
         self.send_to_others(&Kind::Ask { first })?;
         Ok(())
     }
 
-    // The slot from which on a ballot that is being prepared asks for votes.
+    // Returns the slot from which on a ballot that is being prepared asks for votes.
     fn preparing(&self) -> Option<u64>
         ensures { result ≡ first_asked self.now.of.state.proposer.role }
     {
         self.node.proposer().preparing()
     }
 
-    // The ballot under way.
+    // Returns the ballot under way.
     fn ballot(&self) -> Option<Ballot>
         ensures { result ≡ ballot_of self.now.of.state.proposer.role }
     {
         self.node.proposer().ballot()
     }
 
-    // Those are asked again for a promise of whom none was counted.
+    // Asks those members again for a promise whose promise was not counted.
     fn prepare_again(&mut self, ballot: Ballot, first: u64) -> Result<(), Memory>
         ensures of { self.new.of ≡ self.old.of }
-        ensures turn { OnOk result (self.new.turn ≡ send (prepares_again self.old.of.members self.old.of.me ballot first
-            (promises_of self.old.of.state.proposer.role)) self.old.turn) }
+        ensures plan { OnOk result (self.new.plan ≡ send (prepares_again self.old.of.members self.old.of.me ballot first
+            (promises_of self.old.of.state.proposer.role)) self.old.plan) }
     {
         put_prepares_again(&mut self.packets, &self.node, ballot, first)
     }
 
-    // The others are asked again for the votes that it proposed, but for those in slots that are learned.
+    // Asks the others again for the votes that it proposed, except in slots that are learned.
     fn accept_again(&mut self) -> Result<(), Memory>
         ensures of { self.new.of ≡ self.old.of }
-        ensures turn { OnOk result (self.new.turn ≡ send (accepts_again self.old.of.members self.old.of.me
-            self.old.of.state.learner.learned (proposals_of self.old.of.state.proposer.role)) self.old.turn) }
+        ensures plan { OnOk result (self.new.plan ≡ send (accepts_again self.old.of.members self.old.of.me
+            self.old.of.state.learner.learned (proposals_of self.old.of.state.proposer.role)) self.old.plan) }
     {
         put_accepts_again(self.alloc, &mut self.packets, &self.node)
     }
@@ -129,12 +129,12 @@ fn put_accepts_again<B: Body>(
     let me = node.me();
     let others = node.members().others(me);
     node.begins();
-    let votes = node.proposer().proposed_behind(node.applied());
+    let votes = node.proposer().proposed_after(node.applied());
     put_accepts(alloc, packets, me, node.learner(), votes, others.as_slice())?;
     Ok(())
 }
 
-// Those of the others are asked again for a promise of whom none was counted.
+// Appends requests for a promise to those of the others whose promise was not counted.
 fn put_prepares<B: Body>(
     packets: &mut Vec<Packet<B>>,
     me: u8,
@@ -162,7 +162,7 @@ fn put_prepares<B: Body>(
     Ok(())
 }
 
-// The others are asked again for these votes, but for those in slots that are learned.
+// Appends requests for these votes to the others, except in slots that are learned.
 fn put_accepts<B: Body>(
     alloc: Global,
     packets: &mut Vec<Packet<B>>,
@@ -180,7 +180,7 @@ fn put_accepts<B: Body>(
     Ok(())
 }
 
-// The others are asked again for the vote, unless its slot is learned.
+// Appends requests for the vote to the others, unless its slot is learned.
 fn put_accept<B: Body>(
     alloc: Global,
     packets: &mut Vec<Packet<B>>,

@@ -62,7 +62,7 @@ pub told_still : {B : Type 0} (seen : ℕ) (phase : Phase) (goes_on : Bool) (vot
 told_still {B} seen phase goes_on votes ms ns s e t =
     subst (λ (l : List (Move B)). IsTold seen phase goes_on votes s (after_moves l s) × ArePossible l s) (sym e) t
 
--- what a call promises where it answers `Ok`
+-- what a call promises if it returns `Ok`
 pub where_ok : {T E P : Type 0} (r : Result T E) → false ≡ is_err r → OnOk r P → P
 where_ok (Ok x) h p = p
 where_ok (Err e) h p = absurd (cc)
@@ -152,7 +152,7 @@ is_offering (Kept.Leading b next) cs vs a h = (a, ltb-true next slot_end (go (na
     go true f = refl
     go false f = absurd (cc)
 
--- what is new behind each move
+-- what is new after each move
 
 module _ {B : Type 0} where
   pub told_saw : (seen round later : ℕ) (phase : Phase) (goes_on : Bool) (votes : List (Vote B)) (old new : State B)
@@ -243,7 +243,7 @@ module _ {B : Type 0} where
       go true false f = absurd (cc)
       go false y f = absurd (cc)
 
-  -- what is called for is told of the proposer as it is, where nothing was done to its role
+  -- what is called for is stated by the proposer as it is, if nothing was done to its role
 
   pub called_still : (s : State B) (ms : List (Move B)) (d : Draft B) (node : ℕ) (b : Ballot) (reported : List (Vote B)) (called answered : Option (List (Entry B)))
       → record { before = s; moves = ms } ≡ d → role_then d ≡ d.before.proposer.role → (after_moves ms s).members ≡ s.members

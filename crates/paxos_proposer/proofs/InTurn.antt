@@ -1,4 +1,4 @@
--- What a leader proposed stands in the slots up to the next one, one in each: those behind so many slots are a tail.
+-- What a leader proposed is in the slots up to the next one, one in each: those after the first n slots are a tail.
 use Rattle.std.proofs.Common.{◌≡◌, ℕ, zero, suc, ◌+◌, ◌-◌, ◌<◌, ◌≤◌, false, Some, List, [], ◌∷◌, ◌++◌, take, drop, length, min, ltb}
 use Rattle.std.proofs.Common.{refl, sym, ap, ◌∙◌, arith, ◌⊎◌, inl, inr}
 use Rattle.std.proofs.lemmas.Bool.{lt-ltb, cases_lt}
@@ -54,7 +54,7 @@ tail_of {B} applied passed shown v (w ∷ ws) e p s a =
     take_all (length (w ∷ ws) - shown) (drop shown (w ∷ ws)) (let k = length-drop shown (w ∷ ws) in omega arith) in
     whole ∙ ap (λ (k : ℕ). drop k (w ∷ ws)) s ∙ drop_min passed (w ∷ ws) ∙ sym (from_first applied passed a.0 w ws q a.1)
 
--- and none stands in a slot 0
+-- and none is in a slot 0
 in_slots : {B : Type 0} (next : ℕ) (vs : List (Vote B)) → AreUpTo next vs → AreInSlots vs
 in_slots next [] a = tt
 in_slots next (v ∷ vs) a = (a.0, in_slots next vs a.2)

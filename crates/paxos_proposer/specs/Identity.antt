@@ -1,4 +1,4 @@
--- What tells entries apart: each without the transport and the body of an item.
+-- An entry's identity: the entry without the transport and the body of an item.
 use Rattle.std.proofs.Common.{Bool, true, false, ◌&&◌}
 use Rattle.std.proofs.Math.Bool.{beq}
 use Rattle.std.specs.Prelude.{◌==◌}

@@ -1,4 +1,4 @@
--- What an event makes of a proposer, move by move, so that it can be told before it is done.
+-- What an event makes of a proposer, move by move, so that it can be stated before it is done.
 use Rattle.std.specs.Prelude.{◌≡◌, ℕ, Bool, true, false, List, [], ◌∷◌, ◌≤◌}
 use Rattle.std.specs.List.{count_by}
 use Rattle.paxos_proposer.specs.declared.moves.Move.{Move}
@@ -19,7 +19,7 @@ abbrev pub after_moves : {B : Type 0} → List (Move B) → State B → State B
 after_moves [] s = s
 after_moves (m ∷ ms) s = after_moves ms (after_move m s)
 
--- a ballot is begun where a round is left, and an entry is proposed by a leader that has a slot left
+-- a ballot is begun if a round is left, and an entry is proposed by a leader that has a slot left
 abbrev pub IsPossible : {B : Type 0} → Move B → State B → Type 0
 IsPossible (Saw round) s = Unit {0}
 IsPossible (Started first votes) s = (1 ≤ first) × (is_spent s.proposer ≡ false)

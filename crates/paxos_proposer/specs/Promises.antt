@@ -34,7 +34,7 @@ promised members node b votes (Preparing c first promises) =
     else Preparing c first promises
 promised members node b votes (Leading c next proposed) = Leading c next proposed
 
--- the entries that it calls for, where it makes the member lead
+-- the entries that it calls for, if it makes the member lead
 abbrev pub called_by : {B : Type 0} → ℕ → ℕ → Ballot → List (Vote B) → Role B → Option (List (Entry B))
 called_by members node b votes Idle = None
 called_by members node b votes (Preparing c first promises) =

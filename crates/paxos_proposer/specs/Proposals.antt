@@ -1,4 +1,4 @@
--- Proposals of one ballot, and which entry stands among them (Lamport 2001, section 3).
+-- Proposals of one ballot, and which entries stand: are proposed in a slot that is not applied yet (Lamport 2001, section 3).
 use Rattle.std.specs.Prelude.{◌≡◌, ℕ, suc, ◌+◌, Bool, false, ◌&&◌, nat_lt, Option, Some, None, List, [], ◌∷◌, ◌≤◌, filter, length}
 use Rattle.std.specs.List.{list_any}
 use Rattle.std.specs.Map.{lookup}
@@ -14,26 +14,26 @@ pub record KeptProposals (B : Type 0) : Type 0 where
   pub votes : List (Vote B)
   pub room : ℕ
 
--- the entry stands in a slot behind those that are applied
+-- the entry is proposed in a slot after those that are applied
 abbrev pub stands_among : {B : Type 0} → (B → B → Bool) → ℕ → Entry B → List (Vote B) → Bool
 stands_among same applied e votes = list_any (λ v. nat_lt applied v.slot && same_entry same v.entry e) votes
 
--- it stands in a slot that was proposed in this ballot and isn't applied yet
+-- it is proposed in this ballot, in a slot that isn't applied yet
 abbrev pub stands : {B : Type 0} → (B → B → Bool) → ℕ → Role B → Entry B → Bool
 stands same applied Idle e = false
 stands same applied (Preparing b first promises) e = false
 stands same applied (Leading b next proposed) e = stands_among same applied e proposed
 
--- those in slots behind the ones that are applied
+-- those in slots after the ones that are applied
 abbrev pub behind : {B : Type 0} → ℕ → List (Vote B) → List (Vote B)
 behind applied votes = filter (λ v. nat_lt applied v.slot) votes
 
--- they stand in the slots right below this one, one in each, and none in a slot 0
+-- they are in the slots right below this one, one in each, and none in a slot 0
 abbrev pub AreUpTo : {B : Type 0} → ℕ → List (Vote B) → Type 0
 AreUpTo next [] = Unit {0}
 AreUpTo next (v ∷ vs) = (1 ≤ v.slot) × (v.slot + suc (length vs) ≡ next) × AreUpTo next vs
 
--- none stands in a slot 0
+-- none is in a slot 0
 abbrev pub AreInSlots : {B : Type 0} → List (Vote B) → Type 0
 AreInSlots [] = Unit {0}
 AreInSlots (v ∷ vs) = (1 ≤ v.slot) × AreInSlots vs

@@ -32,7 +32,7 @@ new_ballot me promised p = record { round = suc (max p.seen (round_of promised))
 abbrev pub rounds_spent : {B : Type 0} → ℕ → Option Ballot → ProposerState B → Bool
 rounds_spent me promised p = not (nat_lt (new_ballot me promised p).round round_end)
 
--- where the promise was seen, what it saw decides alone
+-- if the promise was seen, what it saw decides alone
 abbrev pub own_ballot : {B : Type 0} → ℕ → ProposerState B → Ballot
 own_ballot me p = record { round = suc p.seen; node = me }
 

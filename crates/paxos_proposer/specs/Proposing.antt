@@ -1,4 +1,4 @@
--- What an event is to make of a proposer, and what the proposer would be then, told of the proposer as it is and of what is new.
+-- What an event is to make of a proposer, and what the proposer would be then, stated by the proposer as it is and by what is new.
 use Rattle.std.specs.Prelude.{◌≡◌, ℕ, Bool, nat_lt, Option, Some, None, List, [], ◌∷◌, ◌++◌, if◌then◌else◌}
 use Rattle.paxos_packets.specs.declared.vote.Vote.{Vote}
 use Rattle.paxos_proposer.specs.declared.phase.Phase.{Phase}
@@ -55,7 +55,7 @@ proposals_of Idle = []
 proposals_of (Preparing b first promises) = []
 proposals_of (Leading b next proposed) = proposed
 
--- what was proposed before, where the ballot goes on
+-- what was proposed before, if the ballot goes on
 abbrev pub earlier : {B : Type 0} → Bool → Role B → List (Vote B)
 earlier goes_on r = if goes_on then proposals_of r else []
 
@@ -65,7 +65,7 @@ led Kept.Idle = Kept.Idle
 led (Kept.Preparing b first) = Kept.Leading b first
 led (Kept.Leading b next) = Kept.Leading b next
 
--- of a proposer that was and one that is: the round, the phase and the new proposals tell what is new
+-- of a proposer that was and one that is: the round, the phase and the new proposals are what is new
 pub record IsTold {B : Type 0} (seen : ℕ) (phase : Phase) (goes_on : Bool) (votes : List (Vote B)) (old new : State B) : Type 0 where
   pub me_is : new.me ≡ old.me
   pub members_is : new.members ≡ old.members

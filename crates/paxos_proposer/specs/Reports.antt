@@ -40,7 +40,7 @@ abbrev pub entry_or_noop : {B : Type 0} → Option (Vote B) → Entry B
 entry_or_noop None = Noop
 entry_or_noop (Some v) = v.entry
 
--- the entries of so many slots, from this one on
+-- the entries of this many slots, from this one on
 abbrev pub called_in : {B : Type 0} → List (Vote B) → ℕ → ℕ → List (Entry B)
 called_in votes slot zero = []
 called_in votes slot (suc n) = entry_or_noop (best slot votes) ∷ called_in votes (suc slot) n

@@ -1,5 +1,5 @@
 -- What callers see of a proposer: the member's number, the members, its role and the greatest round seen, and how much more it
--- can keep without taking memory.
+-- can keep without allocating.
 use Rattle.std.specs.Prelude.{ℕ, List, ◌≤◌}
 use Rattle.paxos_packets.specs.declared.ballot.Ballot.{Ballot}
 use Rattle.paxos_packets.specs.declared.entry.Entry.{Entry}
@@ -27,7 +27,7 @@ pub record Held (B : Type 0) : Type 0 where
   pub state : State B
   pub room : Room
 
--- there is memory for so many
+-- there is memory for these numbers of promises and proposals
 abbrev pub HasRoom : ℕ → ℕ → Room → Type 0
 HasRoom promises proposals room = (promises ≤ room.promises) × (proposals ≤ room.proposals)
 
@@ -76,7 +76,7 @@ IsAboveNone Kept.Idle = Unit {0}
 IsAboveNone (Kept.Preparing b first) = 1 ≤ first
 IsAboveNone (Kept.Leading b next) = 1 ≤ next
 
--- what a leader proposed stands in the slots up to the next one
+-- what a leader proposed is in the slots up to the next one
 abbrev pub IsInTurn : {B : Type 0} → Phase → List (Vote B) → Type 0
 IsInTurn Kept.Idle votes = Unit {0}
 IsInTurn (Kept.Preparing b first) votes = Unit {0}

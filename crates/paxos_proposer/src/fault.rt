@@ -3,7 +3,7 @@ ghost use Rattle.paxos_proposer.specs.Fault.{number_of};
 
 use thiserror::Error;
 
-/// Why a proposer did not do what it was asked for. It is then as it was.
+/// Why a proposer did not do what it was asked for. The proposer is then as it was.
 #[derive(Clone, Copy, Debug, PartialEq, Eq, Drop, Error)]
 pub enum ProposerFault {
     /// No round is left for a new ballot.
@@ -15,13 +15,13 @@ pub enum ProposerFault {
     /// The member does not lead.
     #[error("the member does not lead")]
     NotLeading,
-    /// There was no memory.
+    /// Memory ran out.
     #[error("no memory for the proposer")]
     Memory,
 }
 
 impl ProposerFault {
-    /// The number of the fault.
+    /// Returns the fault's number.
     pub fn number(self) -> u8
         ensures { result ≡ number_of self }
     {

@@ -3,21 +3,21 @@ ghost use Rattle.paxos_proposer.specs.Identity.{identity_of};
 
 use paxos_packets::Entry;
 
-/// What tells entries apart: an entry without the transport and the body of an item. Acts are numbered from 1, so no item has the identity
-/// of another kind of entry.
+/// An entry's identity: the entry without the transport and the body of an item. Acts are numbered from 1, so no item has the identity of
+/// another kind of entry.
 #[derive(Clone, Copy, Debug, PartialEq, Eq, Hash)]
 pub struct Identity {
     /// 0 for a Noop.
     pub node: u8,
     pub boot: u64,
-    /// The number of the act, and 0 for another kind of entry.
+    /// The number of the act, or 0 for another kind of entry.
     pub seq: u64,
     /// Whether it is a Lost.
     pub is_lost: bool,
 }
 
 impl Identity {
-    /// The identity of the entry.
+    /// Returns the entry's identity.
     pub fn of<B>(entry: &Entry<B>) -> Identity
         ensures { result ≡ identity_of entry.now }
     {

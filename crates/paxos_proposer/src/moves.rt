@@ -8,7 +8,7 @@ use crate::fault::ProposerFault;
 use crate::proposer::Proposer;
 use paxos_packets::{Ballot, Entry, Votes};
 
-/// What is done to a proposer: one of its calls.
+/// One change of a proposer, by the call that makes it.
 #[derive(Debug, Drop)]
 pub enum Move<B> {
     /// `saw`.
@@ -42,8 +42,8 @@ pub enum Move<B> {
 }
 
 impl<B: Drop> Proposer<B> {
-    /// Takes the memory that these moves need. With `Memory` as well as without it the proposer is as it was. Takes a number of steps that
-    /// grows with the moves.
+    /// Reserves the memory that these moves need. The proposer stays as it was, with `Memory` too. Takes a number of steps that grows with
+    /// the moves.
     pub fn make_room_for(&mut self, moves: &[Move<B>]) -> Result<(), ProposerFault>
         ensures state { self.new.state ≡ self.old.state }
         ensures ok { OnOk result (HasRoom (promises_in moves.now) (proposals_in moves.now) self.new.room) }
@@ -54,7 +54,7 @@ impl<B: Drop> Proposer<B> {
         self.make_room(promises, proposals)
     }
 
-    /// Does these moves, where each is possible when its turn comes, and there is room for them all. Takes no memory.
+    /// Makes these moves in order, given that each is possible when its turn comes, and room for all of them. Does not allocate.
     pub fn move_in_room(&mut self, moves: Vec<Move<B>>)
         requires possible { ArePossible moves.items self.old.state }
         requires room { HasRoom (promises_in moves.items) (proposals_in moves.items) self.old.room }

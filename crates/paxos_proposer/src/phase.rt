@@ -1,12 +1,12 @@
 use paxos_packets::Ballot;
 
-/// What a member does as a proposer, without what it keeps for that.
+/// What a member does as a proposer, without the promises and proposals that it keeps for that.
 #[derive(Clone, Copy, Debug, PartialEq, Eq)]
 pub enum Phase {
-    /// It has no ballot under way.
+    /// No ballot is under way.
     Idle,
-    /// It asked for promises of the ballot from the slot `first` on.
+    /// It has asked for promises of the ballot, from the slot `first` on.
     Preparing { ballot: Ballot, first: u64 },
-    /// A majority has promised the ballot, and it proposes in the slot `next` next.
+    /// A majority has promised the ballot, and `next` is the slot of its next proposal.
     Leading { ballot: Ballot, next: u64 },
 }

@@ -6,21 +6,21 @@ ghost use Rattle.paxos_proposer.specs.Reports.{is_counted};
 
 use paxos_packets::{Members, NodeSet, Votes};
 
-/// A promise that was counted: the member that gave it, and the votes that it reported.
+/// A counted promise: the member that gave it, and the votes that it reported.
 #[derive(Debug, Drop)]
 pub struct CountedPromise<B> {
     pub node: u8,
     pub votes: Votes<B>,
 }
 
-// Whether a promise of this node was counted.
+// Returns whether a promise of this node was counted.
 pub(crate) fn is_counted<B>(promises: &[CountedPromise<B>], node: u8) -> bool
     ensures { result ≡ is_counted promises.now node }
 {
     promises.iter().any(|promise| promise.node == node)
 }
 
-// Whether these promises and one of this node are a majority's.
+// Returns whether these promises and one of this node make a majority.
 pub(crate) fn is_majority_with<B>(
     members: Members,
     promises: &[CountedPromise<B>],
@@ -35,7 +35,7 @@ pub(crate) fn is_majority_with<B>(
     members.majority(nodes)
 }
 
-// The nodes whose promises were counted.
+// Returns the nodes whose promises were counted.
 fn nodes_of<B>(promises: &[CountedPromise<B>]) -> NodeSet
     ensures { (node : ℕ) → is_in result node ≡ (is_counted promises.now node && nat_lt node 8) }
 {

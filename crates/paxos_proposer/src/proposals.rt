@@ -9,7 +9,7 @@ use paxos_packets::{Body, Entry, Memory, Vote};
 use std::alloc::Global;
 use std::marker::Model;
 
-/// What was proposed in one ballot, in the order in which it was proposed.
+/// What was proposed in one ballot, in the order of proposing.
 pub struct Proposals<B> {
     list: Vec<Vote<B>>,
     // the greatest slot in which an entry of this identity was proposed
@@ -38,7 +38,7 @@ impl<B> Model for Proposals<B> {
 }
 
 impl<B> Proposals<B> {
-    /// Nothing was proposed. Takes no memory; `reserve` will, from `alloc`.
+    /// Returns no proposals. Does not allocate; `reserve` will, from `alloc`.
     pub fn new(alloc: Global) -> Proposals<B>
         ensures { result.votes ≡ [] }
     {
@@ -48,14 +48,14 @@ impl<B> Proposals<B> {
         }
     }
 
-    /// The proposals, in order.
+    /// Returns the proposals, in order.
     pub fn as_slice(&self) -> &[Vote<B>]
         ensures { result.now ≡ self.now.votes }
     {
         self.list.as_slice()
     }
 
-    /// The proposals in slots behind the first `applied`, where their slots follow one another, as a leader's do. Takes a constant number
+    /// Returns the proposals in slots after the first `applied`, if their slots are consecutive, as a leader's are. Takes a constant number
     /// of steps.
     pub fn behind(&self, applied: u64) -> &[Vote<B>]
         requires { (next : ℕ) × AreUpTo next self.now.votes }
@@ -64,7 +64,7 @@ impl<B> Proposals<B> {
         behind(self.list.as_slice(), applied)
     }
 
-    /// Takes the memory for so many proposals more. With `Memory` as well as without it they are as they were.
+    /// Reserves memory for `more` further proposals. They stay as they were, with `Memory` too.
     pub fn reserve(&mut self, more: usize) -> Result<(), Memory>
         ensures votes { self.new.votes ≡ self.old.votes }
         ensures ok { OnOk result (more ≤ self.new.room) }
@@ -77,7 +77,7 @@ impl<B> Proposals<B> {
 }
 
 impl<B: Drop> Proposals<B> {
-    /// Drops them all, and keeps their memory.
+    /// Removes all of them, and keeps their memory.
     pub fn clear(&mut self)
         ensures votes { self.new.votes ≡ [] }
         ensures room { self.old.room ≤ self.new.room }
@@ -86,7 +86,7 @@ impl<B: Drop> Proposals<B> {
         self.latest.clear();
     }
 
-    /// Proposes the entry of the vote. Takes no memory, and a constant number of steps.
+    /// Appends the vote as a proposal. Does not allocate, and takes a constant number of steps.
     pub fn push_reserved(&mut self, vote: Vote<B>)
         requires { 1 ≤ self.old.room }
         ensures votes { self.new.votes ≡ self.old.votes ++ vote ∷ [] }
@@ -102,9 +102,9 @@ impl<B: Drop> Proposals<B> {
 }
 
 impl<B: Body> Proposals<B> {
-    /// Whether an equal entry was proposed in a slot behind the first `applied`. Takes no memory. Takes a constant number of steps where
-    /// the slots follow one another, as a leader's do, and entries of one identity are equal, as acts of one number are; else it looks at
-    /// each proposal.
+    /// Returns whether an equal entry was proposed in a slot after the first `applied`. Does not allocate. Takes a constant number of steps
+    /// if the slots are consecutive, as a leader's are, and entries of one identity are equal, as acts of one number are; otherwise it
+    /// looks at each proposal.
     pub fn stands(&self, applied: u64, entry: &Entry<B>) -> bool
         ensures { result ≡ stands_among B.same applied entry.now self.now.votes }
     {
@@ -120,7 +120,7 @@ impl<B: Body> Proposals<B> {
     }
 }
 
-// Those in slots behind the first `applied`, where their slots follow one another.
+// Returns the votes in slots after the first `applied`, if their slots are consecutive.
 fn behind<B>(votes: &[Vote<B>], applied: u64) -> &[Vote<B>]
     requires { (next : ℕ) × AreUpTo next votes.now }
     ensures { result.now ≡ behind applied votes.now }
@@ -132,7 +132,7 @@ fn behind<B>(votes: &[Vote<B>], applied: u64) -> &[Vote<B>]
     &votes[passed.min(votes.len())..]
 }
 
-// The greatest slot of the identity, with this one.
+// Returns the greatest slot of the identity, this one included.
 fn latest_with(table: &IndexMap<Identity, u64>, identity: &Identity, slot: u64) -> u64
     ensures slot { slot ≤ result }
     ensures old { IsOld result (lookup (same_identity identity.now) table.now.entries) }
@@ -143,7 +143,7 @@ fn latest_with(table: &IndexMap<Identity, u64>, identity: &Identity, slot: u64) 
     }
 }
 
-// Whether an equal entry, not applied yet, stands as far behind the first proposal as the slot does.
+// Returns whether the vote at the slot's distance from the first proposal has an equal entry, and is not applied yet.
 fn stands_at<B: Body>(votes: &[Vote<B>], slot: u64, applied: u64, entry: &Entry<B>) -> bool
     ensures { IsTrue result → stands_among B.same applied entry.now votes.now ≡ true }
 {
@@ -159,7 +159,7 @@ fn stands_at<B: Body>(votes: &[Vote<B>], slot: u64, applied: u64, entry: &Entry<
     }
 }
 
-// Whether an equal entry, not applied yet, stands among them.
+// Returns whether a vote among these has an equal entry, and is not applied yet.
 fn stands_among<B: Body>(votes: &[Vote<B>], applied: u64, entry: &Entry<B>) -> bool
     ensures { result ≡ stands_among B.same applied entry.now votes.now }
 {

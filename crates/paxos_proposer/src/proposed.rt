@@ -6,7 +6,7 @@ use paxos_packets::{Body, Entry, Memory, Vote};
 use std::alloc::Global;
 use std::marker::Model;
 
-// What an event proposes, in order. Nearly every event proposes one entry at the most, which stands here; only more take memory.
+// What an event proposes, in order. Nearly every event proposes at most one entry, which is stored inline; only further ones allocate.
 #[derive(Drop)]
 pub(crate) struct Proposed<B> {
     first: Option<Vote<B>>,
@@ -25,7 +25,7 @@ impl<B> Model for Proposed<B> {
 }
 
 impl<B> Proposed<B> {
-    // Nothing was proposed. Takes no memory; `make_room` will, from `alloc`, where something was.
+    // Returns no proposals. Does not allocate; `make_room` will, from `alloc`, once something is proposed.
     pub fn new(alloc: Global) -> Proposed<B>
         ensures { result.votes ≡ [] }
     {
@@ -35,7 +35,7 @@ impl<B> Proposed<B> {
         }
     }
 
-    // Makes room for one proposal more. With `Memory` as well as without it they are as they were.
+    // Reserves memory for one more proposal. They stay as they were, with `Memory` too.
     pub fn make_room(&mut self) -> Result<(), Memory>
         ensures votes { self.new.votes ≡ self.old.votes }
         ensures ok { OnOk result (1 ≤ self.new.room) }
@@ -49,7 +49,7 @@ impl<B> Proposed<B> {
 }
 
 impl<B: Drop> Proposed<B> {
-    // Drops them all, and keeps their memory.
+    // Removes all of them, and keeps their memory.
     pub fn clear(&mut self)
         ensures votes { self.new.votes ≡ [] }
         ensures room { self.old.room ≤ self.new.room }
@@ -58,7 +58,7 @@ impl<B: Drop> Proposed<B> {
         self.rest.clear();
     }
 
-    // Proposes the entry of the vote. Takes no memory, and a constant number of steps.
+    // Appends the vote as a proposal. Does not allocate, and takes a constant number of steps.
     pub fn push_reserved(&mut self, vote: Vote<B>)
         requires { 1 ≤ self.old.room }
         ensures votes { self.new.votes ≡ self.old.votes ++ vote ∷ [] }
@@ -72,8 +72,8 @@ impl<B: Drop> Proposed<B> {
 }
 
 impl<B: Body> Proposed<B> {
-    // Whether an equal entry was proposed in a slot behind the first `applied`. Takes no memory. The first proposal is compared; the
-    // others are found as `Proposals::stands` finds them.
+    // Returns whether an equal entry was proposed in a slot after the first `applied`. Does not allocate. Compares the first proposal, and
+    // finds the others as `Proposals::stands` does.
     pub fn stands(&self, applied: u64, entry: &Entry<B>) -> bool
         ensures { result ≡ stands_among B.same applied entry.now self.now.votes }
     {

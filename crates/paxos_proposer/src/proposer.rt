@@ -22,8 +22,10 @@ use std::marker::Model;
 // The last round of a ballot.
 pub(crate) const LAST_ROUND: u64 = (1 << 48) - 1;
 
-/// One member as a proposer: its ballot under way with the promises of it, or, once a majority promised, with what it proposed in it;
-/// and the greatest round that it saw. It is lost in a crash.
+/// One member as a proposer: its ballot under way with the promises of it, or, once a majority has promised, with what it proposed in it;
+/// and the greatest round that it saw. All of it is lost in a crash.
+///
+/// An entry *stands* if an equal one was proposed in the ballot under way, in a slot that is not applied yet.
 pub struct Proposer<B> {
     alloc: Global,
     me: u8,
@@ -67,8 +69,8 @@ impl<B> Model for Proposer<B> {
 }
 
 impl<B> Proposer<B> {
-    /// A proposer with this number, of these members, that has no ballot under way and saw no round. Takes no memory; other calls will,
-    /// from `alloc`.
+    /// Returns a proposer with this number, of these members, that has no ballot under way and saw no round. Does not allocate; other calls
+    /// will, from `alloc`.
     pub fn new(alloc: Global, me: u8, members: Members) -> Proposer<B>
         ensures { result.state ≡ begun me members }
     {
@@ -83,7 +85,7 @@ impl<B> Proposer<B> {
         }
     }
 
-    /// Whether a majority has promised its ballot under way.
+    /// Returns whether a majority has promised its ballot under way.
     pub fn is_leading(&self) -> bool
         ensures { result ≡ is_leading (role_in self.now) }
     {
@@ -93,7 +95,7 @@ impl<B> Proposer<B> {
         }
     }
 
-    /// The ballot under way.
+    /// Returns the ballot under way.
     pub fn ballot(&self) -> Option<Ballot>
         ensures { result ≡ ballot_of (role_in self.now) }
     {
@@ -104,7 +106,7 @@ impl<B> Proposer<B> {
         }
     }
 
-    /// The slot in which it proposes next. `NotLeading` where it does not lead, `SlotsFull` where no slot is left.
+    /// Returns the slot of its next proposal, `NotLeading` if it does not lead, or `SlotsFull` if no slot is left.
     #[tactic(auto, unfolding(crate::specs::Proposer::slot_end))]
     pub fn next(&self) -> Result<Slot, ProposerFault>
         ensures ok { IfOk result (λ slot. next_slot (role_in self.now) ≡ Some slot) }
@@ -121,7 +123,7 @@ impl<B> Proposer<B> {
         }
     }
 
-    /// The ballot that `start` would begin: its round is one above the greatest that was seen. `Rounds` where there is none left.
+    /// Returns the ballot that `start` would begin, whose round is one above the greatest that was seen, or `Rounds` if no round is left.
     #[tactic(auto, unfolding(crate::specs::Proposer::round_end))]
     pub fn next_ballot(&self) -> Result<Ballot, ProposerFault>
         ensures ok { IfOk result (λ ballot. ballot ≡ own_ballot self.now.state.me self.now.state.proposer) }
@@ -137,7 +139,7 @@ impl<B> Proposer<B> {
         })
     }
 
-    /// The slot from which on the ballot that is being prepared asks for votes.
+    /// Returns the slot from which on the ballot that is being prepared asks for votes.
     pub fn preparing(&self) -> Option<u64>
         ensures { result ≡ first_asked (role_in self.now) }
     {
@@ -147,7 +149,7 @@ impl<B> Proposer<B> {
         }
     }
 
-    /// Whether a promise of the node was counted.
+    /// Returns whether a promise of the node was counted.
     pub fn is_counted(&self, node: u8) -> bool
         ensures { result ≡ is_counted (promises_of (role_in self.now)) node }
     {
@@ -157,8 +159,8 @@ impl<B> Proposer<B> {
         }
     }
 
-    /// What it proposed in its ballot under way, in the slots behind the first `applied`. Takes a constant number of steps.
-    pub fn proposed_behind(&self, applied: u64) -> &[Vote<B>]
+    /// Returns what it proposed in its ballot under way, in the slots after the first `applied`. Takes a constant number of steps.
+    pub fn proposed_after(&self, applied: u64) -> &[Vote<B>]
         ensures behind { result.now ≡ behind applied (proposals_of (role_in self.now)) }
         ensures slots { AreInSlots (proposals_of (role_in self.now)) }
     {
@@ -168,7 +170,7 @@ impl<B> Proposer<B> {
         }
     }
 
-    /// A packet with a ballot of this round came.
+    /// Notes that a packet with a ballot of this round came.
     pub fn saw(&mut self, round: u64)
         ensures state { self.new.state ≡ saw round self.old.state }
         ensures room { self.new.room ≡ self.old.room }
@@ -176,21 +178,21 @@ impl<B> Proposer<B> {
         self.seen = self.seen.max(round);
     }
 
-    // Its number.
+    // Returns its number.
     pub(crate) fn me(&self) -> u8
         ensures { result ≡ self.now.state.me }
     {
         self.me
     }
 
-    // The greatest round that it saw.
+    // Returns the greatest round that it saw.
     pub(crate) fn seen(&self) -> u64
         ensures { result ≡ self.now.state.proposer.seen }
     {
         self.seen
     }
 
-    // What it does.
+    // Returns what it does.
     pub(crate) fn phase(&self) -> Phase
         ensures role { role_in self.now ≡ role_of result (promises_of (role_in self.now)) (proposals_of (role_in self.now)) }
         ensures above { IsAboveNone result }
@@ -198,7 +200,7 @@ impl<B> Proposer<B> {
         self.phase
     }
 
-    // Whether a promise of this ballot by this node is to be counted.
+    // Returns whether a promise of this ballot by this node is to be counted.
     fn counts(&self, node: u8, ballot: Ballot) -> bool
         ensures { result ≡ counts node ballot (role_in self.now) }
     {
@@ -209,7 +211,7 @@ impl<B> Proposer<B> {
         }
     }
 
-    // Whether the ballot under way is below this one.
+    // Returns whether the ballot under way is below this one.
     fn is_below(&self, ballot: &Ballot) -> bool
         ensures { result ≡ is_below ballot.now (role_in self.now) }
     {
@@ -220,7 +222,7 @@ impl<B> Proposer<B> {
         }
     }
 
-    // Whether this ballot is under way, and below the promise.
+    // Returns whether this ballot is under way, and below the promise.
     fn is_refused(&self, ballot: &Ballot, promised: &Ballot) -> bool
         ensures { result ≡ is_refused ballot.now promised.now (role_in self.now) }
     {
@@ -233,8 +235,8 @@ impl<B> Proposer<B> {
 }
 
 impl<B: Drop> Proposer<B> {
-    /// Begins its next ballot with this member's own promise of it, which reports these votes: from the slot `first` on, those of its rows.
-    /// What the ballot before it had is dropped. `Rounds` where no round is left. After a fault the proposer is as it was.
+    /// Begins its next ballot with this member's own promise, which reports these votes: those of its rows from the slot `first` on. Drops
+    /// what the ballot before it had. Returns `Rounds` if no round is left. After a fault the proposer is as it was.
     pub fn start(&mut self, first: u64, votes: Votes<B>) -> Result<Ballot, ProposerFault>
         requires { 1 ≤ first }
         ensures ok { OnOk result (self.new.state ≡ started first votes self.old.state) }
@@ -251,8 +253,8 @@ impl<B: Drop> Proposer<B> {
         Ok(ballot)
     }
 
-    /// Proposes the entry in its next slot, which it answers. `NotLeading` where it does not lead, `SlotsFull` where no slot is left.
-    /// After a fault the proposer is as it was. Takes a constant number of steps, but where the proposals are moved to larger memory.
+    /// Proposes the entry in its next slot, and returns the slot; returns `NotLeading` if it does not lead, and `SlotsFull` if no slot is
+    /// left. After a fault the proposer is as it was. Takes a constant number of steps, unless the proposals move to larger memory.
     pub fn submit(&mut self, entry: Entry<B>) -> Result<Slot, ProposerFault>
         ensures ok { OnOk result (self.new.state ≡ after_submit entry self.old.state) }
         ensures slot { IfOk result (λ slot. next_slot (role_in self.old) ≡ Some slot) }
@@ -269,8 +271,8 @@ impl<B: Drop> Proposer<B> {
         Ok(slot)
     }
 
-    /// A member refused the ballot for its promise of another: the ballot under way ends if it is this one, and below that promise. Takes no
-    /// memory.
+    /// Notes that a member refused the ballot because it promised another: the ballot under way ends if it is this one, and below that
+    /// promise. Does not allocate.
     pub fn on_nack(&mut self, ballot: Ballot, promised: Ballot)
         ensures state { self.new.state ≡ after_nack ballot promised self.old.state }
         ensures promises { self.old.room.promises ≤ self.new.room.promises }
@@ -281,7 +283,7 @@ impl<B: Drop> Proposer<B> {
         }
     }
 
-    /// This member promised the ballot: its own ballot under way ends if it is below that. Takes no memory.
+    /// Notes that this member promised the ballot: its own ballot under way ends if it is below that one. Does not allocate.
     pub fn step_down(&mut self, ballot: Ballot)
         ensures state { self.new.state ≡ stepped_down ballot self.old.state }
         ensures promises { self.old.room.promises ≤ self.new.room.promises }
@@ -292,7 +294,7 @@ impl<B: Drop> Proposer<B> {
         }
     }
 
-    /// Takes the memory for so many promises and proposals more. After a fault as well as without one the proposer is as it was.
+    /// Reserves memory for `promises` further promises and `proposals` further proposals. The proposer stays as it was, with a fault too.
     pub fn make_room(&mut self, promises: usize, proposals: usize) -> Result<(), ProposerFault>
         ensures state { self.new.state ≡ self.old.state }
         ensures ok { OnOk result (HasRoom promises proposals self.new.room) }
@@ -304,7 +306,7 @@ impl<B: Drop> Proposer<B> {
         Ok(())
     }
 
-    /// `start` where there is a round, and room for a promise. Takes no memory.
+    /// Does what `start` does, given that a round is left, and room for a promise. Does not allocate.
     #[tactic(auto, unfolding(crate::specs::Proposer::round_end))]
     pub fn start_in_room(&mut self, first: u64, votes: Votes<B>)
         requires first { 1 ≤ first }
@@ -328,7 +330,7 @@ impl<B: Drop> Proposer<B> {
         self.phase = Phase::Preparing { ballot, first };
     }
 
-    /// `on_promise` where there is room for a promise. What the reports call for is not looked at. Takes no memory.
+    /// Does what `on_promise` does, given room for a promise, but does not compute what the reports call for. Does not allocate.
     pub fn on_promise_in_room(&mut self, node: u8, ballot: Ballot, votes: Votes<B>)
         requires { 1 ≤ self.old.room.promises }
         ensures state { self.new.state ≡ after_promise node ballot votes self.old.state }
@@ -353,7 +355,8 @@ impl<B: Drop> Proposer<B> {
         };
     }
 
-    /// `submit` where the proposer leads, and there is a slot, and room for a proposal. Takes no memory, and a constant number of steps.
+    /// Does what `submit` does, given that the proposer leads, a slot is left, and there is room for a proposal. Does not allocate, and
+    /// takes a constant number of steps.
     #[tactic(auto, unfolding(crate::specs::Proposer::slot_end))]
     pub fn submit_in_room(&mut self, entry: Entry<B>)
         requires leading { is_leading (role_in self.old) ≡ true }
@@ -380,7 +383,7 @@ impl<B: Drop> Proposer<B> {
         };
     }
 
-    // The ballot under way ends.
+    // Ends the ballot under way.
     fn rest(&mut self)
         ensures state { self.new.state ≡ with_role Idle self.old.state }
         ensures promises { self.old.room.promises ≤ self.new.room.promises }
@@ -393,8 +396,8 @@ impl<B: Drop> Proposer<B> {
 }
 
 impl<B: Body> Proposer<B> {
-    /// Whether it proposed an equal entry in its ballot under way, in a slot behind the first `applied`. Takes no memory; for the steps see
-    /// `Proposals::stands`.
+    /// Returns whether it proposed an equal entry in its ballot under way, in a slot after the first `applied`. Does not allocate; for the
+    /// steps see `Proposals::stands`.
     pub fn stands(&self, applied: u64, entry: &Entry<B>) -> bool
         ensures { result ≡ stands B.same applied (role_in self.now) entry.now }
     {
@@ -404,8 +407,8 @@ impl<B: Body> Proposer<B> {
         }
     }
 
-    /// The entries that this promise calls for where it makes the proposer lead: for each slot from the first one that was asked for to the
-    /// greatest reported, the entry that was reported with the greatest ballot, or `Noop`.
+    /// Returns the entries that this promise calls for, if it makes the proposer lead: for each slot from the first one that was asked for
+    /// to the greatest one reported, the entry that was reported with the greatest ballot, or `Noop`.
     pub fn called_by(
         &self,
         node: u8,
@@ -427,9 +430,9 @@ impl<B: Body> Proposer<B> {
         }
     }
 
-    /// A member promised the ballot, and reported these votes. It is counted where the ballot is under way, and none of that member was
-    /// counted. With a majority the proposer leads, and answers the entries that it then is to propose (`called_by`). After a fault it is as
-    /// it was.
+    /// Counts a member's promise of the ballot, which reported these votes, if the ballot is under way and no promise of that member was
+    /// counted yet. With a majority the proposer leads, and the result is the entries that it has to propose then (`called_by`). After a
+    /// fault the proposer is as it was.
     pub fn on_promise(
         &mut self,
         node: u8,

@@ -17,7 +17,7 @@ use paxos_packets::{Ballot, Body, Entries, Entry, Slot, Vote, Votes};
 use std::alloc::Global;
 use std::marker::Model;
 
-/// Where a leader proposes next.
+/// A leader's next proposal: where it would go.
 #[derive(Clone, Copy, Debug, PartialEq, Eq)]
 pub struct Offer {
     /// The ballot in which it leads.
@@ -26,8 +26,8 @@ pub struct Offer {
     pub slot: Slot,
 }
 
-/// A proposer, and what is to be done to it: an event is planned on it, and the proposer stays as it is. It keeps what changes, and copies
-/// no more of the proposer. After a fault what is to be done is as it was.
+/// A proposer, and what is to be done to it: an event is planned on it, and the proposer itself stays as it is. It keeps only what changes,
+/// and copies nothing else of the proposer. After a fault what is to be done is as it was.
 #[derive(Drop)]
 pub struct Proposing<'a, B> {
     alloc: Global,
@@ -35,7 +35,7 @@ pub struct Proposing<'a, B> {
     moves: Vec<Move<B>>,
     seen: u64,
     phase: Phase,
-    // Whether what was proposed before still stands in the ballot under way, and what more is proposed in it.
+    // Whether what was proposed before still counts in the ballot under way, and what more is proposed in it.
     goes_on: bool,
     proposed: Proposed<B>,
 }
@@ -53,7 +53,7 @@ impl<'a, B> Model for Proposing<'a, B> {
 }
 
 impl<'a, B> Proposing<'a, B> {
-    /// The proposer, to which nothing is to be done. Takes no memory; the other calls will, from `alloc`.
+    /// Begins planning on the proposer, with nothing to be done. Does not allocate; the other calls will, from `alloc`.
     pub fn of(alloc: Global, proposer: &'a Proposer<B>) -> Proposing<'a, B>
         ensures before { result.before ≡ proposer.now.state }
         ensures moves { result.moves ≡ [] }
@@ -69,7 +69,7 @@ impl<'a, B> Proposing<'a, B> {
         }
     }
 
-    /// Whether a majority would have promised its ballot under way.
+    /// Returns whether a majority would have promised its ballot under way.
     pub fn is_leading(&self) -> bool
         ensures { result ≡ is_leading (role_then self.now) }
     {
@@ -79,7 +79,7 @@ impl<'a, B> Proposing<'a, B> {
         }
     }
 
-    /// Where it would propose next: `None` where it would not lead, or no slot would be left.
+    /// Returns where it would propose next, or `None` if it would not lead, or no slot would be left.
     #[tactic(auto, unfolding(crate::specs::Proposer::slot_end))]
     pub fn offer(&self) -> Option<Offer>
         ensures { result ≡ offer_of (role_then self.now) }
@@ -93,7 +93,7 @@ impl<'a, B> Proposing<'a, B> {
         Some(Offer { ballot, slot })
     }
 
-    /// The ballot that `start` would begin. `Rounds` where there is none left.
+    /// Returns the ballot that `start` would begin, or `Rounds` if no round is left.
     #[tactic(auto, unfolding(crate::specs::Proposer::round_end))]
     pub fn next_ballot(&self) -> Result<Ballot, ProposerFault>
         ensures ok { IfOk result (λ ballot. ballot ≡ own_ballot (after self.now).me (after self.now).proposer) }
@@ -109,7 +109,7 @@ impl<'a, B> Proposing<'a, B> {
         })
     }
 
-    // Whether the ballot under way would be below this one.
+    // Returns whether the ballot under way would be below this one.
     fn is_below(&self, ballot: &Ballot) -> bool
         ensures { result ≡ is_below ballot.now (role_then self.now) }
     {
@@ -120,7 +120,7 @@ impl<'a, B> Proposing<'a, B> {
         }
     }
 
-    // Whether this ballot would be under way, and below the promise.
+    // Returns whether this ballot would be under way, and below the promise.
     fn is_refused(&self, ballot: &Ballot, promised: &Ballot) -> bool
         ensures { result ≡ is_refused ballot.now promised.now (role_then self.now) }
     {
@@ -133,7 +133,7 @@ impl<'a, B> Proposing<'a, B> {
 }
 
 impl<'a, B: Drop> Proposing<'a, B> {
-    /// What is to be done, in its order: each is possible when its turn comes.
+    /// Returns what is to be done, in order: each move is possible when its turn comes.
     pub fn into_moves(self) -> Vec<Move<B>>
         ensures moves { result.items ≡ self.entry.moves }
         ensures possible { ArePossible self.entry.moves self.entry.before }
@@ -142,7 +142,7 @@ impl<'a, B: Drop> Proposing<'a, B> {
         moves
     }
 
-    /// A packet with a ballot of this round came. Nothing is to be done where it would have seen that round or a later one.
+    /// Plans that a packet with a ballot of this round came. Nothing is to be done if it would have seen that round or a later one.
     pub fn saw(&mut self, round: u64) -> Result<(), ProposerFault>
         ensures ok { OnOk result (self.new ≡ and_seen round self.old) }
         ensures before { self.new.before ≡ self.old.before }
@@ -161,7 +161,7 @@ impl<'a, B: Drop> Proposing<'a, B> {
         Ok(())
     }
 
-    /// It begins its next ballot with this member's own promise of it, which reports these votes.
+    /// Plans that it begins its next ballot with this member's own promise, which reports these votes.
     #[tactic(auto, unfolding(crate::specs::Proposer::round_end))]
     pub fn start(&mut self, first: u64, votes: Votes<B>) -> Result<(), ProposerFault>
         requires first { 1 ≤ first }
@@ -186,7 +186,7 @@ impl<'a, B: Drop> Proposing<'a, B> {
         Ok(())
     }
 
-    /// A member refused the ballot for its promise of another.
+    /// Plans that a member refused the ballot because it promised another.
     pub fn on_nack(&mut self, ballot: Ballot, promised: Ballot) -> Result<(), ProposerFault>
         ensures before { self.new.before ≡ self.old.before }
         ensures after { OnOk result (after self.new ≡ after_nack ballot promised (after self.old)) }
@@ -206,7 +206,7 @@ impl<'a, B: Drop> Proposing<'a, B> {
         Ok(())
     }
 
-    /// This member promised the ballot: its own ballot under way ends if it is below that.
+    /// Plans that this member promised the ballot: its own ballot under way ends if it is below that one.
     pub fn step_down(&mut self, ballot: Ballot) -> Result<(), ProposerFault>
         ensures before { self.new.before ≡ self.old.before }
         ensures after { OnOk result (after self.new ≡ stepped_down ballot (after self.old)) }
@@ -228,7 +228,7 @@ impl<'a, B: Drop> Proposing<'a, B> {
 }
 
 impl<'a, B: Body> Proposing<'a, B> {
-    /// Whether an equal entry would stand in its ballot under way, in a slot behind the first `applied`.
+    /// Returns whether an equal entry would stand in its ballot under way, in a slot after the first `applied`.
     pub fn stands(&self, applied: u64, entry: &Entry<B>) -> bool
         ensures { result ≡ stands B.same applied (role_then self.now) entry.now }
     {
@@ -239,8 +239,8 @@ impl<'a, B: Body> Proposing<'a, B> {
             || self.proposed.stands(applied, entry)
     }
 
-    /// A member promised the ballot, and reported these votes; nothing was done before that ends or begins a ballot. With a majority the
-    /// proposer leads, and is to propose the entries that are answered.
+    /// Plans a member's promise of the ballot, which reported these votes, given that nothing was planned before that ends or begins a
+    /// ballot. With a majority the proposer leads, and the result is the entries that it has to propose then.
     pub fn on_promise(
         &mut self,
         node: u8,
@@ -272,7 +272,7 @@ impl<'a, B: Body> Proposing<'a, B> {
         Ok(Some(entries))
     }
 
-    /// It proposes the entry where it offers to.
+    /// Plans that it proposes the entry at its offer.
     #[tactic(auto, unfolding(crate::specs::Proposer::slot_end))]
     pub fn submit(&mut self, entry: &Entry<B>) -> Result<(), ProposerFault>
         requires { is_some (offer_of (role_then self.old)) ≡ true }
@@ -307,7 +307,7 @@ impl<'a, B: Body> Proposing<'a, B> {
     }
 }
 
-// The phase behind a majority's promises.
+// Returns the phase after a majority's promises.
 fn led(phase: Phase) -> Phase
     ensures { result ≡ led phase }
 {

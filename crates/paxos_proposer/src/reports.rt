@@ -6,8 +6,8 @@ use crate::promises::CountedPromise;
 use paxos_packets::{Body, Entries, Entry, Memory, Slot, Vote, Votes};
 use std::alloc::Global;
 
-// The entries that these promises and a last one call for, from the first slot to the greatest one reported. Takes a number of steps
-// that grows with the votes reported and, for each slot, with the promises.
+// Returns the entries that these promises and a last one call for, from the first slot to the greatest one reported. Takes a number of
+// steps that grows with the votes reported and, for each slot, with the promises.
 pub(crate) fn called_for<B: Body>(
     alloc: Global,
     first: u64,
@@ -25,7 +25,7 @@ pub(crate) fn called_for<B: Body>(
     Ok(Entries::of(entries))
 }
 
-// Puts the entry that is called for in the slot at the end.
+// Appends the entry that is called for in the slot.
 fn push_called<B: Body>(
     alloc: Global,
     entries: &mut Vec<Entry<B>>,
@@ -42,7 +42,7 @@ fn push_called<B: Body>(
     Ok(())
 }
 
-// The entry that is called for in the slot.
+// Returns the entry that is called for in the slot.
 fn called_in<B: Body>(
     alloc: Global,
     slot: u64,
@@ -62,7 +62,7 @@ fn called_in<B: Body>(
     }
 }
 
-// The vote for the slot with the greatest ballot, and the later one of two with one ballot.
+// Returns the vote for the slot with the greatest ballot; of two with the same ballot, the later one.
 fn best<'a, B>(
     slot: Slot,
     promises: &'a [CountedPromise<B>],
@@ -77,16 +77,16 @@ fn best<'a, B>(
     greater(best, vote_for(slot, last))
 }
 
-// The vote for the slot among those of one promise, which has at most one for each slot.
+// Returns the vote for the slot among those of one promise, which has at most one for each slot.
 fn vote_for<'a, B>(slot: Slot, votes: &'a Votes<B>) -> Option<&'a Vote<B>>
     ensures { (others : List (Vote B)) → best slot (votes.now ++ others) ≡ greater (option_copied result) (best slot others) }
 {
-    // They stand by ascending slot.
+    // They ascend by slot.
     let _ascending = votes.as_slice();
     votes.find(slot)
 }
 
-// The vote with the greater ballot, and the later one of two with one ballot.
+// Returns the vote with the greater ballot; of two with the same ballot, the later one.
 fn greater<'a, B>(earlier: Option<&'a Vote<B>>, later: Option<&'a Vote<B>>) -> Option<&'a Vote<B>>
     ensures { option_copied result ≡ greater (option_copied earlier.entry) (option_copied later.entry) }
 {
@@ -97,7 +97,7 @@ fn greater<'a, B>(earlier: Option<&'a Vote<B>>, later: Option<&'a Vote<B>>) -> O
     }
 }
 
-// One past the greatest slot that these promises report, and at least the first one.
+// Returns one past the greatest slot that these promises report, and at least the first one.
 fn past_of<B>(first: u64, promises: &[CountedPromise<B>]) -> u64
     ensures past { result ≡ past_reports first (reports promises.now) }
     ensures least { first ≤ result }
@@ -110,7 +110,7 @@ fn past_of<B>(first: u64, promises: &[CountedPromise<B>]) -> u64
     past
 }
 
-// One past the greatest slot of these votes, and at least the first one.
+// Returns one past the greatest slot of these votes, and at least the first one.
 fn past_in<B>(first: u64, votes: &[Vote<B>]) -> u64
     ensures past { result ≡ past_reports first votes.now }
     ensures least { first ≤ result }

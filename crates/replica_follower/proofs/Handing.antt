@@ -79,7 +79,7 @@ module _ {Y : Type 0} where
         go true h = is ∙ ap (λ u. g (read u old)) (sym (transport_is t q h))
         go false h = refl
 
-  -- room stays, where it is there in the new place
+  -- room stays, if it is there in the new place
   pub rooms : (t : Transport) (w : Told Y) (old new : Table Y) → Puts t w old new → HasRoom w
       → ((q : Transport) (u : Told Y) → lookup (same_transport q) old ≡ Some u → HasRoom u)
       → (q : Transport) (u : Told Y) → lookup (same_transport q) new ≡ Some u → HasRoom u

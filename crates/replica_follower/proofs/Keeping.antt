@@ -1,4 +1,4 @@
--- What is kept for a node in one boot is kept for it in each later boot.
+-- What is deferred for a node in one boot is deferred for it in each later boot.
 use Rattle.std.proofs.Common.{◌≡◌, arith}
 use Rattle.replica_follower.specs.Following.{LaterBootsAreKept}
 

@@ -1,4 +1,4 @@
--- What is kept along a log that goes on.
+-- What is deferred along a log that goes on.
 use Rattle.std.proofs.Common.{◌≡◌, refl, sym, ap, ◌∙◌, subst, ℕ, zero, suc, ◌+◌, ◌-◌, ◌<◌, ◌≤◌, arith, List, [], ◌∷◌, ◌++◌, length, take, drop}
 use Rattle.std.proofs.Common.{slice_index_or, min, Bool, true, false, cond, eqb, ◌&&◌, inl, inr}
 use Rattle.std.specs.List.{flat_map}
@@ -15,8 +15,8 @@ use Rattle.paxos_packets.specs.Transport.{same_transport}
 use Rattle.replica_machine.specs.Log.{Begins}
 use Rattle.replica_machine.specs.Replay.{Machine, sayings_behind, sayings_by_slot}
 use Rattle.replica_machine.proofs.Replaying.{sayings_by_slots}
-use Rattle.replica_follower.specs.declared.kept.Place.{Place}
-use Rattle.replica_follower.specs.Following.{Followed, AgreesWith, Keeps, said_to, said_in_boot, is_of, kept_at, kept_from, handed_to}
+use Rattle.replica_follower.specs.declared.deferred.BootSlot.{BootSlot}
+use Rattle.replica_follower.specs.Following.{Followed, AgreesWith, Keeps, said_to, said_in_boot, is_of, deferred_at, deferred_from, handed_to}
 use Rattle.replica_follower.proofs.Handing.{transport_is}
 
 -- lists
@@ -45,22 +45,22 @@ module _ {B S Y : Type 0} (m : Machine B S Y) where
   slots_length log [] = refl
   slots_length log (e ∷ es) = ap (λ n. suc n) (slots_length (log ++ e ∷ []) es)
 
--- what is kept from a place on, where each place keeps its part of what is said
+-- what is deferred from an index on, if each index keeps its part of what is said
 
-module _ {Y : Type 0} (to : Y → Transport) (node boot : ℕ) (kept : List (Place × Vec Y Global)) where
+module _ {Y : Type 0} (to : Y → Transport) (node boot : ℕ) (deferred : List (BootSlot × Vec Y Global)) where
   pub kept_is : (from : ℕ) (said : List (List Y))
-      → ((i : ℕ) → i < length said → kept_at boot (from + i) kept ≡ said_in_boot to node boot (slice_index_or said i []))
-      → kept_from boot from (length said) kept ≡ said_in_boot to node boot (flat_map (λ ys. ys) said)
+      → ((i : ℕ) → i < length said → deferred_at boot (from + i) deferred ≡ said_in_boot to node boot (slice_index_or said i []))
+      → deferred_from boot from (length said) deferred ≡ said_in_boot to node boot (flat_map (λ ys. ys) said)
   kept_is from [] h = refl
   kept_is from (ys ∷ said) h =
-      ap (λ l. l ++ kept_from boot (suc from) (length said) kept)
-      (ap (λ i. kept_at boot i kept) (let z : from ≡ from + 0 = omega arith in z) ∙ h 0 (omega arith))
+      ap (λ l. l ++ deferred_from boot (suc from) (length said) deferred)
+      (ap (λ i. deferred_at boot i deferred) (let z : from ≡ from + 0 = omega arith in z) ∙ h 0 (omega arith))
       ∙ ap (λ l. said_in_boot to node boot ys ++ l)
-      (kept_is (suc from) said (λ i l. ap (λ j. kept_at boot j kept) (let z : suc from + i ≡ from + suc i = omega arith in z)
+      (kept_is (suc from) said (λ i l. ap (λ j. deferred_at boot j deferred) (let z : suc from + i ≡ from + suc i = omega arith in z)
       ∙ h (suc i) (omega arith)))
       ∙ sym (filter-append (λ y. is_of node boot (to y)) ys (flat_map (λ ys. ys) said))
 
--- what is for a transport stands among what is for its boot, and among nothing else
+-- what is for a transport is among what is for its boot, and among nothing else
 
 eqb_sym : (a b : ℕ) → eqb a b ≡ eqb b a
 eqb_sym a b = elim (cases_eq a b) [
@@ -106,56 +106,56 @@ module _ {Y : Type 0} (to : Y → Transport) (t : Transport) (node boot : ℕ) w
 
 -- the room for what is handed out
 
-kept_split : {Y : Type 0} (boot from a b : ℕ) (kept : List (Place × Vec Y Global))
-    → kept_from boot from (a + b) kept ≡ kept_from boot from a kept ++ kept_from boot (from + a) b kept
-kept_split boot from zero b kept =
-    ap (λ n. kept_from boot from n kept) (let z : 0 + b ≡ b = omega arith in z)
-    ∙ ap (λ i. kept_from boot i b kept) (let z : from ≡ from + 0 = omega arith in z)
-kept_split boot from (suc a) b kept =
-    ap (λ n. kept_from boot from n kept) (let z : suc a + b ≡ suc (a + b) = omega arith in z)
-    ∙ ap (λ l. kept_at boot from kept ++ l) (kept_split boot (suc from) a b kept)
-    ∙ sym (append_assoc (kept_at boot from kept) (kept_from boot (suc from) a kept) (kept_from boot (suc from + a) b kept))
-    ∙ ap (λ i. kept_from boot from (suc a) kept ++ kept_from boot i b kept) (let z : suc from + a ≡ from + suc a = omega arith in z)
+deferred_split : {Y : Type 0} (boot from a b : ℕ) (deferred : List (BootSlot × Vec Y Global))
+    → deferred_from boot from (a + b) deferred ≡ deferred_from boot from a deferred ++ deferred_from boot (from + a) b deferred
+deferred_split boot from zero b deferred =
+    ap (λ n. deferred_from boot from n deferred) (let z : 0 + b ≡ b = omega arith in z)
+    ∙ ap (λ i. deferred_from boot i b deferred) (let z : from ≡ from + 0 = omega arith in z)
+deferred_split boot from (suc a) b deferred =
+    ap (λ n. deferred_from boot from n deferred) (let z : suc a + b ≡ suc (a + b) = omega arith in z)
+    ∙ ap (λ l. deferred_at boot from deferred ++ l) (deferred_split boot (suc from) a b deferred)
+    ∙ sym (append_assoc (deferred_at boot from deferred) (deferred_from boot (suc from) a deferred) (deferred_from boot (suc from + a) b deferred))
+    ∙ ap (λ i. deferred_from boot from (suc a) deferred ++ deferred_from boot i b deferred) (let z : suc from + a ≡ from + suc a = omega arith in z)
 
-kept_below : {Y : Type 0} (boot from n end : ℕ) (old new : List (Place × Vec Y Global)) → from + n ≤ end
-    → ((i : ℕ) → i < end → kept_at boot i new ≡ kept_at boot i old) → kept_from boot from n new ≡ kept_from boot from n old
-kept_below boot from zero end old new l h = refl
-kept_below boot from (suc n) end old new l h =
-    ap (λ ys. ys ++ kept_from boot (suc from) n new) (h from (omega arith))
-    ∙ ap (λ ys. kept_at boot from old ++ ys) (kept_below boot (suc from) n end old new (omega arith) h)
+deferred_below : {Y : Type 0} (boot from n end : ℕ) (old new : List (BootSlot × Vec Y Global)) → from + n ≤ end
+    → ((i : ℕ) → i < end → deferred_at boot i new ≡ deferred_at boot i old) → deferred_from boot from n new ≡ deferred_from boot from n old
+deferred_below boot from zero end old new l h = refl
+deferred_below boot from (suc n) end old new l h =
+    ap (λ ys. ys ++ deferred_from boot (suc from) n new) (h from (omega arith))
+    ∙ ap (λ ys. deferred_at boot from old ++ ys) (deferred_below boot (suc from) n end old new (omega arith) h)
 
-from_known : {Y : Type 0} (boot known stands n : ℕ) (kept : List (Place × Vec Y Global)) → (0 < n → known ≡ stands)
-    → kept_from boot known n kept ≡ kept_from boot stands n kept
-from_known boot known stands zero kept h = refl
-from_known boot known stands (suc n) kept h = ap (λ i. kept_from boot i (suc n) kept) (h (omega arith))
+from_known : {Y : Type 0} (boot known stands n : ℕ) (deferred : List (BootSlot × Vec Y Global)) → (0 < n → known ≡ stands)
+    → deferred_from boot known n deferred ≡ deferred_from boot stands n deferred
+from_known boot known stands zero deferred h = refl
+from_known boot known stands (suc n) deferred h = ap (λ i. deferred_from boot i (suc n) deferred) (h (omega arith))
 
 module _ {Y : Type 0} (to : Y → Transport) (t : Transport) where
-  -- room for what was kept of the places known, and then for that of the fresh ones, is room for all
-  pub room_for : (boot from known stands end fresh room before behind : ℕ) (old new : List (Place × Vec Y Global))
+  -- room for what was deferred of the places known, and then for that of the fresh ones, is room for all
+  pub room_for : (boot from known stands end fresh room before behind : ℕ) (old new : List (BootSlot × Vec Y Global))
       → from ≤ known → known ≤ stands → known + fresh ≡ end → (0 < fresh → known ≡ stands)
-      → ((i : ℕ) → i < stands → kept_at boot i new ≡ kept_at boot i old)
-      → before ≡ room + length (said_to to t (kept_from boot from (known - from) old))
-      → behind ≡ before + length (said_to to t (kept_from boot stands fresh new))
-      → length (said_to to t (kept_from boot from (end - from) new)) ≤ behind
+      → ((i : ℕ) → i < stands → deferred_at boot i new ≡ deferred_at boot i old)
+      → before ≡ room + length (said_to to t (deferred_from boot from (known - from) old))
+      → behind ≡ before + length (said_to to t (deferred_from boot stands fresh new))
+      → length (said_to to t (deferred_from boot from (end - from) new)) ≤ behind
   room_for boot from known stands end fresh room before behind old new l k e f same a b =
       let n : end - from ≡ known - from + fresh = omega arith in
       let at : from + (known - from) ≡ known = omega arith in
-      let all : kept_from boot from (end - from) new ≡ kept_from boot from (known - from) old ++ kept_from boot stands fresh new =
-      ap (λ n. kept_from boot from n new) n
-      ∙ kept_split boot from (known - from) fresh new
-      ∙ ap (λ ys. ys ++ kept_from boot (from + (known - from)) fresh new) (kept_below boot from (known - from) stands old new (omega arith) same)
-      ∙ ap (λ i. kept_from boot from (known - from) old ++ kept_from boot i fresh new) at
-      ∙ ap (λ ys. kept_from boot from (known - from) old ++ ys) (from_known boot known stands fresh new f) in
-      let count : length (said_to to t (kept_from boot from (end - from) new))
-      ≡ length (said_to to t (kept_from boot from (known - from) old)) + length (said_to to t (kept_from boot stands fresh new)) =
+      let all : deferred_from boot from (end - from) new ≡ deferred_from boot from (known - from) old ++ deferred_from boot stands fresh new =
+      ap (λ n. deferred_from boot from n new) n
+      ∙ deferred_split boot from (known - from) fresh new
+      ∙ ap (λ ys. ys ++ deferred_from boot (from + (known - from)) fresh new) (deferred_below boot from (known - from) stands old new (omega arith) same)
+      ∙ ap (λ i. deferred_from boot from (known - from) old ++ deferred_from boot i fresh new) at
+      ∙ ap (λ ys. deferred_from boot from (known - from) old ++ ys) (from_known boot known stands fresh new f) in
+      let count : length (said_to to t (deferred_from boot from (end - from) new))
+      ≡ length (said_to to t (deferred_from boot from (known - from) old)) + length (said_to to t (deferred_from boot stands fresh new)) =
       ap (λ ys. length (said_to to t ys)) all
-      ∙ ap (λ ys. length ys) (filter-append (λ y. same_transport (to y) t) (kept_from boot from (known - from) old) (kept_from boot stands fresh new))
-      ∙ length-append (said_to to t (kept_from boot from (known - from) old)) (said_to to t (kept_from boot stands fresh new)) in
+      ∙ ap (λ ys. length ys) (filter-append (λ y. same_transport (to y) t) (deferred_from boot from (known - from) old) (deferred_from boot stands fresh new))
+      ∙ length-append (said_to to t (deferred_from boot from (known - from) old)) (said_to to t (deferred_from boot stands fresh new)) in
       omega arith
 
--- the log behind
+-- the log afterwards
 
--- the entries that the machine is told make its log one that begins with what the node has applied then
+-- the entries that the machine is given make its log one that begins with what the node has applied then
 pub goes_on : {B : Type 0} (from : ℕ) (p es : List (Entry B)) → from ≤ length p → AgreesWith (take from p ++ es) p
     → Begins (take from p ++ es) (p ++ drop (length p - from) es)
 goes_on from p es l (inl begins) =
@@ -180,7 +180,7 @@ goes_on from p es l (inr begins) =
     ([], append-nil (take from p ++ es) ∙ sym begins.1 ∙ ap (λ xs. p ++ xs) (sym fresh))
 
 module _ {B S Y : Type 0} (m : Machine B S Y) where
-  -- what it says at an entry behind a log, found in the whole
+  -- what it says at an entry after a log, found in the whole
   slot_is : (log es rest whole : List (Entry B)) (i : ℕ) → (log ++ es) ++ rest ≡ whole → i < length es
       → slice_index_or (sayings_by_slot m [] whole) (length log + i) [] ≡ slice_index_or (sayings_by_slot m log es) i []
   slot_is log es rest whole i is l =
@@ -197,33 +197,33 @@ module _ {B S Y : Type 0} (m : Machine B S Y) where
       ∙ nth_right first (here ++ after) i []
       ∙ nth_left here after i [] (subst (λ n. i < n) (sym (slots_length m log es)) l)
 
-  -- what is kept at each entry that is passed is, for a transport, what it is handed there
-  pub handed_is : (t : Transport) (node boot : ℕ) (log es rest whole : List (Entry B)) (kept : List (Place × Vec Y Global))
+  -- what is deferred at each entry that is passed is, for a transport, what it is handed there
+  pub handed_is : (t : Transport) (node boot : ℕ) (log es rest whole : List (Entry B)) (deferred : List (BootSlot × Vec Y Global))
       → (log ++ es) ++ rest ≡ whole
       → ((i : ℕ) → length log ≤ i → i < length whole
-      → kept_at boot i kept ≡ said_in_boot m.to node boot (slice_index_or (sayings_by_slot m [] whole) i []))
-      → said_to m.to t (kept_from boot (length log) (length es) kept) ≡ handed_to m t node boot log es
-  handed_is t node boot log es rest whole kept is keeps =
+      → deferred_at boot i deferred ≡ said_in_boot m.to node boot (slice_index_or (sayings_by_slot m [] whole) i []))
+      → said_to m.to t (deferred_from boot (length log) (length es) deferred) ≡ handed_to m t node boot log es
+  handed_is t node boot log es rest whole deferred is keeps =
       let within : length whole ≡ length log + length es + length rest =
       ap (λ p. length p) (sym is) ∙ length-append (log ++ es) rest ∙ ap (λ n. n + length rest) (length-append log es) in
       let slots = sayings_by_slot m log es in
-      ap (λ n. said_to m.to t (kept_from boot (length log) n kept)) (sym (slots_length m log es))
+      ap (λ n. said_to m.to t (deferred_from boot (length log) n deferred)) (sym (slots_length m log es))
       ∙ ap (λ ys. said_to m.to t ys)
-      (kept_is m.to node boot kept (length log) slots
+      (kept_is m.to node boot deferred (length log) slots
       (λ i l. let k : i < length es = subst (λ n. i < n) (slots_length m log es) l in
       keeps (length log + i) (omega arith) (omega arith) ∙ ap (λ ys. said_in_boot m.to node boot ys) (slot_is log es rest whole i is k)))
       ∙ ap (λ ys. said_to m.to t (said_in_boot m.to node boot ys)) (sayings_by_slots m log es)
       ∙ said_of m.to t node boot (sayings_behind m log es)
 
-  -- what is kept of a longer log, where what is said behind the shorter one is kept
-  pub keeps_told : (node boot from : ℕ) (p fresh : List (Entry B)) (old new : List (Place × Vec Y Global))
+  -- what is deferred of a longer log, if what is said after the shorter one is deferred
+  pub keeps_told : (node boot from : ℕ) (p fresh : List (Entry B)) (old new : List (BootSlot × Vec Y Global))
       → ((b i : ℕ) → boot ≤ b → (b ≡ boot → from ≤ i) → i < length p
-      → kept_at b i old ≡ said_in_boot m.to node b (slice_index_or (sayings_by_slot m [] p) i []))
-      → ((b i : ℕ) → i < length p → kept_at b i new ≡ kept_at b i old)
+      → deferred_at b i old ≡ said_in_boot m.to node b (slice_index_or (sayings_by_slot m [] p) i []))
+      → ((b i : ℕ) → i < length p → deferred_at b i new ≡ deferred_at b i old)
       → ((b i : ℕ) → boot ≤ b → i < length fresh
-      → kept_at b (length p + i) new ≡ said_in_boot m.to node b (slice_index_or (sayings_by_slot m p fresh) i []))
+      → deferred_at b (length p + i) new ≡ said_in_boot m.to node b (slice_index_or (sayings_by_slot m p fresh) i []))
       → (b i : ℕ) → boot ≤ b → (b ≡ boot → from ≤ i) → i < length (p ++ fresh)
-      → kept_at b i new ≡ said_in_boot m.to node b (slice_index_or (sayings_by_slot m [] (p ++ fresh)) i [])
+      → deferred_at b i new ≡ said_in_boot m.to node b (slice_index_or (sayings_by_slot m [] (p ++ fresh)) i [])
   keeps_told node boot from p fresh old new was same told b i later passed l = elim (cases_lt i (length p)) [
     | inl k ↦ same b i k
         ∙ was b i later passed k
@@ -232,48 +232,48 @@ module _ {B S Y : Type 0} (m : Machine B S Y) where
         ∙ nth_left (sayings_by_slot m [] p) (sayings_by_slot m p fresh) i [] (subst (λ n. i < n) (sym (slots_length m [] p)) k)))
     | inr k ↦ (let count = length-append p fresh in
         let at : i ≡ length p + (i - length p) = omega arith in
-        ap (λ j. kept_at b j new) at
+        ap (λ j. deferred_at b j new) at
         ∙ told b (i - length p) later (omega arith)
         ∙ ap (λ ys. said_in_boot m.to node b ys)
         (sym (ap (λ j. slice_index_or (sayings_by_slot m [] (p ++ fresh)) j []) at
         ∙ slot_is p fresh [] (p ++ fresh) (i - length p) (append-nil (p ++ fresh)) (omega arith))))
   ]
 
-  -- the same, once a machine whose log was p has been told the fresh ones of the entries
-  pub kept_then : (node boot from : ℕ) (p es : List (Entry B)) (n : ℕ) (q fresh : List (Entry B)) (old new : List (Place × Vec Y Global))
+  -- the same, once a machine whose log was p has been given the fresh ones of the entries
+  pub deferred_then : (node boot from : ℕ) (p es : List (Entry B)) (n : ℕ) (q fresh : List (Entry B)) (old new : List (BootSlot × Vec Y Global))
       → fresh ≡ drop (length p - from) es → q ≡ p → n ≡ node
       → ((b i : ℕ) → boot ≤ b → (b ≡ boot → from ≤ i) → i < length p
-      → kept_at b i old ≡ said_in_boot m.to node b (slice_index_or (sayings_by_slot m [] p) i []))
-      → ((b i : ℕ) → i < length q → kept_at b i new ≡ kept_at b i old)
+      → deferred_at b i old ≡ said_in_boot m.to node b (slice_index_or (sayings_by_slot m [] p) i []))
+      → ((b i : ℕ) → i < length q → deferred_at b i new ≡ deferred_at b i old)
       → ((b i : ℕ) → boot ≤ b → i < length fresh
-      → kept_at b (length q + i) new ≡ said_in_boot m.to n b (slice_index_or (sayings_by_slot m q fresh) i []))
+      → deferred_at b (length q + i) new ≡ said_in_boot m.to n b (slice_index_or (sayings_by_slot m q fresh) i []))
       → (b i : ℕ) → boot ≤ b → (b ≡ boot → from ≤ i) → i < length (p ++ drop (length p - from) es)
-      → kept_at b i new ≡ said_in_boot m.to node b (slice_index_or (sayings_by_slot m [] (p ++ drop (length p - from) es)) i [])
-  kept_then node boot from p es n q fresh old new are log me was same told =
+      → deferred_at b i new ≡ said_in_boot m.to node b (slice_index_or (sayings_by_slot m [] (p ++ drop (length p - from) es)) i [])
+  deferred_then node boot from p es n q fresh old new are log me was same told =
       keeps_told node boot from p (drop (length p - from) es) old new was
-      (subst (λ (l : List (Entry B)). (b i : ℕ) → i < length l → kept_at b i new ≡ kept_at b i old) log same)
+      (subst (λ (l : List (Entry B)). (b i : ℕ) → i < length l → deferred_at b i new ≡ deferred_at b i old) log same)
       (subst (λ (l : List (Entry B)). (b i : ℕ) → boot ≤ b → i < length l
-      → kept_at b (length p + i) new ≡ said_in_boot m.to node b (slice_index_or (sayings_by_slot m p l) i [])) are
+      → deferred_at b (length p + i) new ≡ said_in_boot m.to node b (slice_index_or (sayings_by_slot m p l) i [])) are
       (subst (λ (l : List (Entry B)). (b i : ℕ) → boot ≤ b → i < length fresh
-      → kept_at b (length l + i) new ≡ said_in_boot m.to node b (slice_index_or (sayings_by_slot m l fresh) i [])) log
+      → deferred_at b (length l + i) new ≡ said_in_boot m.to node b (slice_index_or (sayings_by_slot m l fresh) i [])) log
       (subst (λ (k : ℕ). (b i : ℕ) → boot ≤ b → i < length fresh
-      → kept_at b (length q + i) new ≡ said_in_boot m.to k b (slice_index_or (sayings_by_slot m q fresh) i [])) me told)))
+      → deferred_at b (length q + i) new ≡ said_in_boot m.to k b (slice_index_or (sayings_by_slot m q fresh) i [])) me told)))
 
   -- and what is handed out of that
-  pub handed_then : (t : Transport) (node boot from : ℕ) (p es : List (Entry B)) (kept : List (Place × Vec Y Global)) → from ≤ length p
+  pub handed_then : (t : Transport) (node boot from : ℕ) (p es : List (Entry B)) (deferred : List (BootSlot × Vec Y Global)) → from ≤ length p
       → AgreesWith (take from p ++ es) p
       → ((b i : ℕ) → boot ≤ b → (b ≡ boot → from ≤ i) → i < length (p ++ drop (length p - from) es)
-      → kept_at b i kept ≡ said_in_boot m.to node b (slice_index_or (sayings_by_slot m [] (p ++ drop (length p - from) es)) i []))
-      → said_to m.to t (kept_from boot from (from + length es - from) kept) ≡ handed_to m t node boot (take from p) es
-  handed_then t node boot from p es kept l agrees keeps =
+      → deferred_at b i deferred ≡ said_in_boot m.to node b (slice_index_or (sayings_by_slot m [] (p ++ drop (length p - from) es)) i []))
+      → said_to m.to t (deferred_from boot from (from + length es - from) deferred) ≡ handed_to m t node boot (take from p) es
+  handed_then t node boot from p es deferred l agrees keeps =
       let begins = goes_on from p es l agrees in
       let first : length (take from p) ≡ from = length-take-le from p l in
-      ap (λ n. said_to m.to t (kept_from boot from n kept)) (let z : from + length es - from ≡ length es = omega arith in z)
-      ∙ ap (λ k. said_to m.to t (kept_from boot k (length es) kept)) (sym first)
-      ∙ handed_is t node boot (take from p) es begins.0 (p ++ drop (length p - from) es) kept begins.1
+      ap (λ n. said_to m.to t (deferred_from boot from n deferred)) (let z : from + length es - from ≡ length es = omega arith in z)
+      ∙ ap (λ k. said_to m.to t (deferred_from boot k (length es) deferred)) (sym first)
+      ∙ handed_is t node boot (take from p) es begins.0 (p ++ drop (length p - from) es) deferred begins.1
       (λ i k within. keeps boot i (let z : boot ≤ boot = omega arith in z) (λ e. subst (λ n. n ≤ i) first k) within)
 
--- which entries the machine has been told, and which are fresh
+-- which entries the machine has been given, and which are fresh
 
 pub record Parts {A : Type 0} (from stands known : ℕ) (es fresh : List A) : Type 0 where
   pub are : fresh ≡ drop (stands - from) es
@@ -307,7 +307,7 @@ parts from stands known es l is = elim (cases_lt stands (from + length es)) [
     fresh : take (length es - (known - from)) (drop (known - from) es) ≡ drop (known - from) es
     fresh = ap (λ n. take n (drop (known - from) es)) (sym rest) ∙ take-length (drop (known - from) es)
 
--- of so many entries of the node, behind `from`, these are known and those fresh
+-- of n entries of the node, after `from`, these are known and those fresh
 module _ (from es stands known fresh : ℕ) (count : known + fresh ≡ from + es) where
   pub none_fresh : (0 < fresh → known ≡ stands) → from + es ≤ stands → fresh ≡ 0
   none_fresh whole short = elim (cases_lt 0 fresh) [
@@ -324,9 +324,9 @@ module _ (from es stands known fresh : ℕ) (count : known + fresh ≡ from + es
       let all : length log ≡ length p + length new = ap (λ xs. length xs) is ∙ length-append p new in
       omega arith
 
--- what is kept of a log is kept where nothing of it changes
+-- what is deferred of a log is deferred if nothing of it changes
 pub keeps_on : {B M S Y : Type 0} (m : Machine B S Y) (boot from : ℕ) (old new : Followed B M Y) → new.node ≡ old.node → new.log ≡ old.log
-    → ((b i : ℕ) → i < length old.log → kept_at b i new.kept ≡ kept_at b i old.kept) → Keeps m boot from old → Keeps m boot from new
+    → ((b i : ℕ) → i < length old.log → deferred_at b i new.deferred ≡ deferred_at b i old.deferred) → Keeps m boot from old → Keeps m boot from new
 keeps_on m boot from old new node log same keeps b i later passed l =
     let k : i < length old.log = subst (λ q. i < length q) log l in
     same b i k

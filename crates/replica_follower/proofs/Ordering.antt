@@ -66,7 +66,7 @@ module _ {Y : Type 0} where
   behind_one t q (y ∷ ys) rest b h zero d l = b
   behind_one t q (y ∷ ys) rest b h (suc k) d l = h k d (omega arith)
 
-  -- what is told of places behind one
+  -- what is listed of places after one
   told_behind : (t : Transport) (ps : List (Transport × Told Y)) → AllByRecursion (λ q. impl.cmp-value.it t q ≡ Less) (keys_of ps)
       → All (λ p. IsBefore t p.0) (tellings ps)
   told_behind t [] h = λ k d l. absurd (omega arith)

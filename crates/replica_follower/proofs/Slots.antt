@@ -1,4 +1,4 @@
--- What is left to hand out, and to keep, one place of the log further on.
+-- What is left to hand out, and to defer, one index of the log further on.
 use Rattle.std.proofs.Common.{◌≡◌, refl, sym, ap, ◌∙◌, ℕ, zero, suc, ◌+◌, ◌-◌, ◌<◌, ◌≤◌, arith, List, [], ◌∷◌, ◌++◌, length, drop}
 use Rattle.std.proofs.Common.{map, slice_index_or, subst, Bool, true, false, cond, eqb, ◌&&◌}
 use Rattle.std.proofs.lemmas.Bool.{eqb-true, eq-eqb, ne_eqb}
@@ -8,39 +8,39 @@ use Rattle.std.specs.declared.vec.Vec.{Vec}
 use Rattle.std.specs.declared.alloc.Global.{Global}
 use Rattle.paxos_packets.specs.declared.transport.Transport.{Transport}
 use Rattle.paxos_packets.specs.Transport.{same_transport}
-use Rattle.replica_follower.specs.declared.kept.Place.{Place}
-use Rattle.replica_follower.specs.Kept.{same_place}
-use Rattle.replica_follower.specs.Following.{said_to, kept_at, kept_from}
+use Rattle.replica_follower.specs.declared.deferred.BootSlot.{BootSlot}
+use Rattle.replica_follower.specs.Deferred.{same_place}
+use Rattle.replica_follower.specs.Following.{said_to, deferred_at, deferred_from}
 
--- what is kept from a place on is what is kept there, and then what is kept behind it
-kept_next : {Y : Type 0} (boot slot end : ℕ) (kept : List (Place × Vec Y Global)) → slot < end
-    → kept_from boot slot (end - slot) kept ≡ kept_at boot slot kept ++ kept_from boot (slot + 1) (end - (slot + 1)) kept
-kept_next boot slot end kept l =
+-- what is deferred from an index on is what is deferred there, and then what is deferred after it
+deferred_next : {Y : Type 0} (boot slot end : ℕ) (deferred : List (BootSlot × Vec Y Global)) → slot < end
+    → deferred_from boot slot (end - slot) deferred ≡ deferred_at boot slot deferred ++ deferred_from boot (slot + 1) (end - (slot + 1)) deferred
+deferred_next boot slot end deferred l =
     let n : end - slot ≡ suc (end - (slot + 1)) = omega arith in
     let s : suc slot ≡ slot + 1 = omega arith in
-    ap (λ n. kept_from boot slot n kept) n ∙ ap (λ j. kept_at boot slot kept ++ kept_from boot j (end - (slot + 1)) kept) s
+    ap (λ n. deferred_from boot slot n deferred) n ∙ ap (λ j. deferred_at boot slot deferred ++ deferred_from boot j (end - (slot + 1)) deferred) s
 
-pub kept_alike : {Y : Type 0} (boot slot n : ℕ) (old new : List (Place × Vec Y Global))
-    → ((i : ℕ) → slot ≤ i → kept_at boot i new ≡ kept_at boot i old) → kept_from boot slot n new ≡ kept_from boot slot n old
-kept_alike boot slot zero old new h = refl
-kept_alike boot slot (suc n) old new h =
-    ap (λ l. l ++ kept_from boot (suc slot) n new) (h slot (omega arith))
-    ∙ ap (λ l. kept_at boot slot old ++ l) (kept_alike boot (suc slot) n old new (λ i l. h i (omega arith)))
+pub deferred_alike : {Y : Type 0} (boot slot n : ℕ) (old new : List (BootSlot × Vec Y Global))
+    → ((i : ℕ) → slot ≤ i → deferred_at boot i new ≡ deferred_at boot i old) → deferred_from boot slot n new ≡ deferred_from boot slot n old
+deferred_alike boot slot zero old new h = refl
+deferred_alike boot slot (suc n) old new h =
+    ap (λ l. l ++ deferred_from boot (suc slot) n new) (h slot (omega arith))
+    ∙ ap (λ l. deferred_at boot slot old ++ l) (deferred_alike boot (suc slot) n old new (λ i l. h i (omega arith)))
 
 module _ {Y : Type 0} (to : Y → Transport) (t : Transport) where
-  pub said_next : (boot slot end : ℕ) (kept : List (Place × Vec Y Global)) → slot < end
-      → said_to to t (kept_from boot slot (end - slot) kept)
-      ≡ said_to to t (kept_at boot slot kept) ++ said_to to t (kept_from boot (slot + 1) (end - (slot + 1)) kept)
-  said_next boot slot end kept l =
-      ap (λ ys. said_to to t ys) (kept_next boot slot end kept l)
-      ∙ filter-append (λ y. same_transport (to y) t) (kept_at boot slot kept) (kept_from boot (slot + 1) (end - (slot + 1)) kept)
+  pub said_next : (boot slot end : ℕ) (deferred : List (BootSlot × Vec Y Global)) → slot < end
+      → said_to to t (deferred_from boot slot (end - slot) deferred)
+      ≡ said_to to t (deferred_at boot slot deferred) ++ said_to to t (deferred_from boot (slot + 1) (end - (slot + 1)) deferred)
+  said_next boot slot end deferred l =
+      ap (λ ys. said_to to t ys) (deferred_next boot slot end deferred l)
+      ∙ filter-append (λ y. same_transport (to y) t) (deferred_at boot slot deferred) (deferred_from boot (slot + 1) (end - (slot + 1)) deferred)
 
-  pub count_next : (boot slot end : ℕ) (kept : List (Place × Vec Y Global)) → slot < end
-      → length (said_to to t (kept_from boot slot (end - slot) kept))
-      ≡ length (said_to to t (kept_at boot slot kept)) + length (said_to to t (kept_from boot (slot + 1) (end - (slot + 1)) kept))
-  count_next boot slot end kept l =
-      ap (λ ys. length ys) (said_next boot slot end kept l)
-      ∙ length-append (said_to to t (kept_at boot slot kept)) (said_to to t (kept_from boot (slot + 1) (end - (slot + 1)) kept))
+  pub count_next : (boot slot end : ℕ) (deferred : List (BootSlot × Vec Y Global)) → slot < end
+      → length (said_to to t (deferred_from boot slot (end - slot) deferred))
+      ≡ length (said_to to t (deferred_at boot slot deferred)) + length (said_to to t (deferred_from boot (slot + 1) (end - (slot + 1)) deferred))
+  count_next boot slot end deferred l =
+      ap (λ ys. length ys) (said_next boot slot end deferred l)
+      ∙ length-append (said_to to t (deferred_at boot slot deferred)) (said_to to t (deferred_from boot (slot + 1) (end - (slot + 1)) deferred))
 
 pub room_next : (old new here rest whole total : ℕ) → new ≡ old + here → whole ≡ here + rest → old + whole ≡ total → new + rest ≡ total
 room_next old new here rest whole total a b h = omega arith
@@ -73,7 +73,7 @@ left f d (suc k) [] x more h = cc
 left f d zero (y ∷ ys) x more h = (let a : more ≡ ys = cc in a, let b : y ≡ x = cc in ap (λ z. f z) b)
 left f d (suc k) (y ∷ ys) x more h = left f d k ys x more h
 
--- one saying further on, where b tells whether it counts
+-- one saying further on, with b for whether it counts
 
 pub said_one : {Y : Type 0} (b : Bool) (old new : List Y) (y : Y) (rest total : List Y) → new ≡ old ++ cond b (y ∷ []) []
     → old ++ cond b (y ∷ rest) rest ≡ total → new ++ rest ≡ total

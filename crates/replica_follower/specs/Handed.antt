@@ -10,7 +10,7 @@ use Rattle.replica_follower.specs.declared.handed.Told.{Told}
 abbrev pub said_in : {Y : Type 0} → Transport → List (Transport × Told Y) → List Y
 said_in t told = option_map_or (λ u. u.says.items) (lookup (same_transport t) told) []
 
--- for how many sayings more to it there is room
+-- for how many more sayings to it there is room
 abbrev pub room_in : {Y : Type 0} → Transport → List (Transport × Told Y) → ℕ
 room_in t told = option_map_or (λ u. u.coming) (lookup (same_transport t) told) zero
 
@@ -31,15 +31,15 @@ tellings (p ∷ ps) = telling p.0 p.1.says.items (tellings ps)
 abbrev pub IsBefore : Transport → Transport → Type 0
 IsBefore t q = (t.node < q.node) ⊎ ((t.node ≡ q.node) × ((t.boot < q.boot) ⊎ ((t.boot ≡ q.boot) × (t.number < q.number))))
 
--- each comes before those behind it
+-- each comes before those after it
 abbrev pub AreInOrder : {Y : Type 0} → List (Transport × List Y) → Type 0
 AreInOrder told = AllPairs (λ p q. IsBefore p.0 q.0) told
 
--- what a list tells of the transport
+-- what a list has for the transport
 abbrev pub told_in : {Y : Type 0} → Transport → List (Transport × List Y) → List Y
 told_in t told = option_map_or (λ ys. ys) (lookup (same_transport t) told) []
 
--- these tell of each transport that was handed something, in order, what it was handed
+-- these have each transport that was handed something, in order, with what it was handed
 pub record TellAll {Y : Type 0} (handed : List (Transport × Told Y)) (told : List (Transport × List Y)) : Type 0 where
   pub in_order : AreInOrder told
   pub full : All (λ p. p.1 ≢ []) told

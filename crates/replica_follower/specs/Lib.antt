@@ -1,3 +1,3 @@
-pub mod Kept
+pub mod Deferred
 pub mod Handed
 pub mod Following

@@ -2,11 +2,11 @@ ghost use Rattle.std.specs.Prelude.{◌≡◌, ◌+◌, ◌-◌, ◌<◌, ◌≤
 ghost use Rattle.paxos_packets.specs.declared.transport.Transport.{Transport};
 ghost use Rattle.replica_machine.specs.Log.{machine_from};
 ghost use Rattle.replica_machine.specs.Replay.{sayings_by_slot};
-ghost use Rattle.replica_follower.specs.Following.{AgreesWith, Follows, Keeps, handed_to, said_to, said_in_boot, kept_at, kept_from};
+ghost use Rattle.replica_follower.specs.Following.{AgreesWith, Follows, Keeps, handed_to, said_to, said_in_boot, deferred_at, deferred_from};
 ghost use Rattle.replica_follower.specs.Handed.{said_in, room_in, tellings, TellAll};
 
+use crate::deferred::Deferred;
 use crate::handed::Handed;
-use crate::kept::Kept;
 use crate::passing::{expect_all, hand_out_all};
 use crate::telling::{Untold, copies, tell};
 use crate::tellings::Tellings;
@@ -17,16 +17,16 @@ use std::marker::Model;
 
 /// The machine of one node, and what the transports of that node were handed.
 ///
-/// The machine stands at the longest log that the node has had. After a crash the node applies that log again, in a later boot; the machine
-/// is not told it again. What it said there to transports that the node had not had yet was kept, and is handed out then. What it says to
-/// transports of other nodes, or of earlier boots of this one, is dropped.
+/// The machine has followed the longest log that the node has had. After a crash the node applies that log again, in a later boot; the
+/// machine is not given it again. What it said there to transports that the node had not had yet was deferred, and is handed out then. What
+/// it says to transports of other nodes, or of earlier boots of this one, is dropped.
 pub struct Follower<M: Machine> {
     alloc: Global,
     node: u8,
     applied: AppliedLog<M>,
-    // How many of the entries that are applied the node has had. There may be more where the machine is given up.
+    // How many of the applied entries the node has had. More may be applied if the machine is given up.
     stands: usize,
-    kept: Kept<M::Say>,
+    deferred: Deferred<M::Say>,
     handed: Handed<M::Say>,
     given_up: bool,
 }
@@ -38,7 +38,7 @@ impl<M: Machine> Drop for Follower<M> {
             node: _,
             applied: _applied,
             stands: _,
-            kept: _kept,
+            deferred: _deferred,
             handed: _handed,
             given_up: _,
         } = self;
@@ -57,14 +57,14 @@ impl<M: Machine> Model for Follower<M> {
       machine = f.applied.machine;
       given_up = f.given_up;
       told = f.handed;
-      kept = f.kept;
+      deferred = f.deferred;
     } };
 
-    ghost invariant = { λ f. IsHeld f.stands f.applied f.given_up f.kept };
+    ghost invariant = { λ f. IsHeld f.stands f.applied f.given_up f.deferred };
 }
 
 impl<M: Machine> Follower<M> {
-    /// The machine of this node, which has applied nothing yet. Takes no memory; `follow` will, from `alloc`.
+    /// Returns the machine of this node, which has applied nothing yet. Does not allocate; `follow` will, from `alloc`.
     pub fn new(alloc: Global, node: u8, machine: M) -> Follower<M>
         ensures node { result.node ≡ node }
         ensures log { result.log ≡ [] }
@@ -80,34 +80,35 @@ impl<M: Machine> Follower<M> {
             node,
             applied: AppliedLog::new(alloc, machine),
             stands: 0,
-            kept: Kept::new(alloc),
+            deferred: Deferred::new(alloc),
             handed: Handed::new(alloc),
             given_up: false,
         }
     }
 
-    /// The log where the machine stands: the longest that the node has had; the node's own is a front of it. Takes no memory.
+    /// Returns the log that the machine has followed: the longest that the node has had; the node's own is a prefix of it. Does not
+    /// allocate.
     pub fn log(&self) -> &[Entry<M::Body>]
         ensures { result.now ≡ self.now.log }
     {
         &self.applied.applied()[..self.stands]
     }
 
-    /// The machine. Takes no memory.
+    /// Returns the machine. Does not allocate.
     pub fn machine(&self) -> &M
         ensures { result.now ≡ self.now.machine }
     {
         self.applied.machine()
     }
 
-    /// Whether the machine is given up: it failed, or there was no memory for what it had said. Takes no memory.
+    /// Returns whether the machine is given up: it failed, or memory ran out for what it had said. Does not allocate.
     pub fn is_given_up(&self) -> bool
         ensures { result ≡ self.now.given_up }
     {
         self.given_up
     }
 
-    /// What the transport was handed, oldest first; nothing where it is another node's. Takes no memory, and a number of steps that is
+    /// Returns what the transport was handed, oldest first; nothing if it is another node's. Does not allocate, and takes a number of steps
     /// logarithmic in the number of transports that were handed something.
     pub fn said(&self, transport: Transport) -> &[M::Say]
         ensures { result.now ≡ said_in transport self.now.told }
@@ -115,7 +116,8 @@ impl<M: Machine> Follower<M> {
         self.handed.said(transport)
     }
 
-    /// The transports that were handed something, by boot and number, each with what it was handed, oldest first. Takes no memory.
+    /// Returns the transports that were handed something, by boot and number, each with what it was handed, oldest first. Does not
+    /// allocate.
     pub fn handed(&self) -> Tellings<'_, M::Say>
         ensures are { result ≡ tellings self.now.told }
         ensures all { TellAll self.now.told result }
@@ -123,12 +125,12 @@ impl<M: Machine> Follower<M> {
         self.handed.tellings()
     }
 
-    /// The node, in this boot and behind the first `from` entries of the log, applies these entries: those that the machine has not been told
-    /// it is told, and each transport of this boot is handed what is said to it at these entries, of what it was told before, too.
+    /// Applies these entries, which the node applies in this boot after the first `from` entries of the log: gives the machine those that
+    /// it has not been given, and hands to each transport of this boot what is said to it at these entries, at those given earlier too.
     ///
-    /// With `Memory` nothing was handed out, and the log is as it was. Where the machine had been told an entry by then, it is given up: each
-    /// later call that has an entry for it answers `Memory`, and all else goes on. Takes time in the entries and in what is said at them, times
-    /// a logarithm of the number of transports, beside the machine's own; an entry is copied for the machine, a saying never.
+    /// On `Memory` nothing was handed out, and the log is as it was. If the machine had been given an entry by then, it is given up: each
+    /// later call that has an entry for it returns `Memory`, and all else goes on. Takes time in the entries and in what is said at them,
+    /// times a logarithm of the number of transports, besides the machine's own; an entry is copied for the machine, a saying never.
     pub fn follow(
         &mut self,
         boot: u64,
@@ -166,46 +168,47 @@ impl<M: Machine> Follower<M> {
         Ok(())
     }
 
-    // The end of what the machine was told of a log that ends here.
+    // Returns how much of a log of this length the machine was given.
     fn known(&self, end: usize) -> usize
         ensures { result ≡ min end (length self.now.log) }
     {
         end.min(self.stands)
     }
 
-    // Makes room to hand out what is kept for the boot from one place of the log to another.
+    // Reserves memory to hand out what is deferred for the boot from one index of the log to another.
     fn expect(&mut self, boot: u64, from: usize, end: usize) -> Result<(), Memory>
         requires { from ≤ end }
         ensures node { self.new.node ≡ self.old.node }
         ensures log { self.new.log ≡ self.old.log }
         ensures machine { self.new.machine ≡ self.old.machine }
         ensures given_up { self.new.given_up ≡ self.old.given_up }
-        ensures kept { self.new.kept ≡ self.old.kept }
+        ensures deferred { self.new.deferred ≡ self.old.deferred }
         ensures said { (t : Transport) → said_in t self.new.told ≡ said_in t self.old.told }
         ensures room { OnOk result ((t : Transport) → room_in t self.new.told
-            ≡ room_in t self.old.told + length (said_to M.to t (kept_from boot from (end - from) self.old.kept))) }
+            ≡ room_in t self.old.told + length (said_to M.to t (deferred_from boot from (end - from) self.old.deferred))) }
     {
-        expect_all::<M>(&mut self.handed, &self.kept, boot, from, end)
+        expect_all::<M>(&mut self.handed, &self.deferred, boot, from, end)
     }
 
-    // Hands that out. Takes no memory.
+    // Hands that out. Does not allocate.
     fn hand_out(&mut self, boot: u64, from: usize, end: usize)
         requires order { from ≤ end }
         requires log { end ≤ length self.old.log }
         requires room { (t : Transport)
-            → length (said_to M.to t (kept_from boot from (end - from) self.old.kept)) ≤ room_in t self.old.told }
+            → length (said_to M.to t (deferred_from boot from (end - from) self.old.deferred)) ≤ room_in t self.old.told }
         ensures node { self.new.node ≡ self.old.node }
         ensures log { self.new.log ≡ self.old.log }
         ensures machine { self.new.machine ≡ self.old.machine }
         ensures given_up { self.new.given_up ≡ self.old.given_up }
         ensures said { (t : Transport) → said_in t self.new.told
-            ≡ said_in t self.old.told ++ said_to M.to t (kept_from boot from (end - from) self.old.kept) }
-        ensures kept { (b i : ℕ) → (b ≡ boot → end ≤ i) → kept_at b i self.new.kept ≡ kept_at b i self.old.kept }
+            ≡ said_in t self.old.told ++ said_to M.to t (deferred_from boot from (end - from) self.old.deferred) }
+        ensures deferred { (b i : ℕ) → (b ≡ boot → end ≤ i) → deferred_at b i self.new.deferred ≡ deferred_at b i self.old.deferred }
     {
-        hand_out_all::<M>(&mut self.handed, &mut self.kept, boot, from, end);
+        hand_out_all::<M>(&mut self.handed, &mut self.deferred, boot, from, end);
     }
 
-    // Tells the machine these entries behind the log where it stands. What it says is kept, and there is room to hand out what is for this boot.
+    // Gives the machine these entries after the log that it has followed. Defers what it says, and reserves memory to hand out what is for
+    // this boot.
     fn tell(&mut self, boot: u64, entries: &[Entry<M::Body>]) -> Result<(), Memory>
         requires { 0 < length entries.now → length self.old.log + length entries.now < 2 ^ 40 }
         ensures node { self.new.node ≡ self.old.node }
@@ -215,10 +218,10 @@ impl<M: Machine> Follower<M> {
             → Follows M.content (machine_from M.next M.says M.to first) self.new }
         ensures said { (t : Transport) → said_in t self.new.told ≡ said_in t self.old.told }
         ensures room { OnOk result ((t : Transport) → room_in t self.new.told ≡ room_in t self.old.told
-            + length (said_to M.to t (kept_from boot (length self.old.log) (length entries.now) self.new.kept))) }
-        ensures known { (b i : ℕ) → i < length self.old.log → kept_at b i self.new.kept ≡ kept_at b i self.old.kept }
-        ensures kept { (first : M.Content) → Follows M.content (machine_from M.next M.says M.to first) self.old
-            → OnOk result ((b i : ℕ) → boot ≤ b → i < length entries.now → kept_at b (length self.old.log + i) self.new.kept
+            + length (said_to M.to t (deferred_from boot (length self.old.log) (length entries.now) self.new.deferred))) }
+        ensures known { (b i : ℕ) → i < length self.old.log → deferred_at b i self.new.deferred ≡ deferred_at b i self.old.deferred }
+        ensures deferred { (first : M.Content) → Follows M.content (machine_from M.next M.says M.to first) self.old
+            → OnOk result ((b i : ℕ) → boot ≤ b → i < length entries.now → deferred_at b (length self.old.log + i) self.new.deferred
             ≡ said_in_boot M.to self.old.node b (slice_index_or
             (sayings_by_slot (machine_from M.next M.says M.to first) self.old.log entries.now) i [])) }
         ensures ok_alive { OnOk result (self.new.given_up ≡ self.old.given_up) }
@@ -235,7 +238,7 @@ impl<M: Machine> Follower<M> {
         let copies = copies(self.alloc, entries)?;
         match tell(
             &mut self.applied,
-            &mut self.kept,
+            &mut self.deferred,
             &mut self.handed,
             self.node,
             boot,

@@ -13,12 +13,12 @@ use std::marker::Model;
 #[derive(Drop)]
 pub struct Told<Y> {
     says: Vec<Y>,
-    // For how many sayings more room was made.
+    // How many further sayings room was made for.
     coming: usize,
 }
 
 impl<Y> Told<Y> {
-    // It was handed nothing.
+    // Returns nothing handed.
     fn new(alloc: Global) -> Told<Y>
         ensures says { result.says.items ≡ [] }
         ensures coming { result.coming ≡ 0 }
@@ -29,14 +29,14 @@ impl<Y> Told<Y> {
         }
     }
 
-    // What it was handed.
+    // Returns what it was handed.
     pub(crate) fn says(&self) -> &[Y]
         ensures { result.now ≡ self.now.says.items }
     {
         self.says.as_slice()
     }
 
-    // Makes room for one saying more.
+    // Reserves memory for one more saying.
     fn expect(&mut self) -> Result<(), Memory>
         requires { HasRoom self.old }
         ensures says { self.new.says.items ≡ self.old.says.items }
@@ -48,7 +48,7 @@ impl<Y> Told<Y> {
         Ok(())
     }
 
-    // It is handed one more, for which room was made.
+    // Hands it one more saying, given the room that was made.
     fn put(&mut self, say: Y)
         requires room { HasRoom self.old }
         requires coming { 0 < self.old.coming }
@@ -85,7 +85,7 @@ impl<Y> Model for Handed<Y> {
 }
 
 impl<Y> Handed<Y> {
-    // Nobody was handed anything. Takes no memory; `expect` will, from `alloc`.
+    // Returns nothing handed to any transport. Does not allocate; `expect` will, from `alloc`.
     pub fn new(alloc: Global) -> Handed<Y>
         ensures { result ≡ [] }
     {
@@ -95,7 +95,7 @@ impl<Y> Handed<Y> {
         }
     }
 
-    // What the transport was handed. Takes no memory, and a number of steps logarithmic in the number of transports.
+    // Returns what the transport was handed. Does not allocate, and takes a number of steps logarithmic in the number of transports.
     pub fn said(&self, transport: Transport) -> &[Y]
         ensures { result.now ≡ said_in transport self.now }
     {
@@ -105,7 +105,7 @@ impl<Y> Handed<Y> {
         }
     }
 
-    // The transports that were handed something.
+    // Returns the transports that were handed something.
     pub fn tellings(&self) -> Tellings<'_, Y>
         ensures are { result ≡ tellings self.now }
         ensures all { TellAll self.now result }
@@ -114,7 +114,7 @@ impl<Y> Handed<Y> {
     }
 }
 
-// No saying.
+// Returns no saying.
 fn nothing<'a, Y>() -> &'a [Y]
     ensures { result.now ≡ [] }
 {
@@ -122,7 +122,7 @@ fn nothing<'a, Y>() -> &'a [Y]
 }
 
 impl<Y: Drop> Handed<Y> {
-    // Makes room for one saying more to the transport. Takes a number of steps logarithmic in the number of transports.
+    // Reserves memory for one more saying to the transport. Takes a number of steps logarithmic in the number of transports.
     pub fn expect(&mut self, transport: Transport) -> Result<(), Memory>
         ensures said { (t : Transport) → said_in t self.new ≡ said_in t self.old }
         ensures room { OnOk result ((t : Transport) → room_in t self.new ≡ room_in t self.old + (if same_transport transport t then 1 else 0)) }
@@ -134,7 +134,7 @@ impl<Y: Drop> Handed<Y> {
         told.expect()
     }
 
-    // Keeps a place for what the transport is handed.
+    // Makes an entry in the table for the transport, unless it has one.
     fn list(&mut self, transport: Transport) -> Result<(), Memory>
         ensures said { (t : Transport) → said_in t self.new ≡ said_in t self.old }
         ensures room { (t : Transport) → room_in t self.new ≡ room_in t self.old }
@@ -147,7 +147,8 @@ impl<Y: Drop> Handed<Y> {
         Ok(())
     }
 
-    // Hands it to the transport, for which room was made. Takes no memory, and a number of steps logarithmic in the number of transports.
+    // Hands it to the transport, given the room that was made. Does not allocate, and takes a number of steps logarithmic in the number of
+    // transports.
     pub fn put(&mut self, transport: Transport, say: Y)
         requires { 0 < room_in transport self.old }
         ensures said { (t : Transport) → said_in t self.new ≡ said_in t self.old ++ (if same_transport transport t then say ∷ [] else []) }

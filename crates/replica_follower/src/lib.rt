@@ -2,17 +2,17 @@
 //! (Lamport, Paxos Made Simple, 2001, section 3: the state machine of one server).
 #![tactic(auto)]
 
+mod deferred;
 mod follower;
 mod handed;
-mod kept;
 pub mod laws;
 mod passing;
 mod telling;
 mod tellings;
 
+pub use deferred::BootSlot;
 pub use follower::Follower;
 pub use handed::Told;
-pub use kept::Place;
 pub use paxos_packets::{Memory, Transport};
 pub use replica_machine::{Entry, Machine};
 pub use tellings::Tellings;

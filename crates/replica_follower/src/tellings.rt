@@ -24,7 +24,7 @@ impl<'a, Y> Model for Tellings<'a, Y> {
 }
 
 impl<'a, Y> Tellings<'a, Y> {
-    // All of these.
+    // Returns all of these.
     pub(crate) fn of(told: &'a BTreeMap<Transport, Told<Y>>) -> Tellings<'a, Y>
         ensures are { result ≡ tellings told.now.entries }
         ensures all { TellAll told.now.entries result }
@@ -32,7 +32,7 @@ impl<'a, Y> Tellings<'a, Y> {
         Tellings { left: told.iter() }
     }
 
-    /// The next one, `None` behind the last. Takes no memory.
+    /// Returns the next one, or `None` after the last. Does not allocate.
     pub fn next(&mut self) -> Option<(Transport, &'a [Y])>
         ensures { MatchOption result ((self.old ≡ []) × (self.new ≡ [])) (λ told. self.old ≡ (told.0, told.1.now) ∷ self.new) }
     {
@@ -40,7 +40,7 @@ impl<'a, Y> Tellings<'a, Y> {
     }
 }
 
-// The next one that was handed something.
+// Returns the next one that was handed something.
 fn next_in<'a, Y>(left: &mut Iter<'a, Transport, Told<Y>>) -> Option<(Transport, &'a [Y])>
     ensures { MatchOption result ((tellings left.old ≡ []) × (tellings left.new ≡ []))
         (λ told. tellings left.old ≡ (told.0, told.1.now) ∷ tellings left.new) }

@@ -39,7 +39,7 @@ module _ {B S Y : Type 0} (m : Machine B S Y) where
       ∙ ap (λ l. said ++ sayings_by_slot m old l) (sym first)
       ∙ h
 
--- what holds of a success holds where there was no error
+-- what holds of a success holds if there was no error
 pub if_not_err : {T E P : Type 0} (r : Result T E) → is_err r ≡ false → OnOk r P → P
 if_not_err (Ok _) _ p = p
 if_not_err (Err _) h p = absurd (false≢true (sym h))
@@ -60,7 +60,7 @@ other_fault a b differ e = differ (cc)
 pub no_fault : {T : Type 0} (x : T) (a : LearnFault) → IsErrOf (Ok x) a → ⊥
 no_fault x a e = cc
 
--- what stays of a log whose parts are seen as `inside`, where its entries are kept elsewhere
+-- what stays of a log whose parts are seen as `inside`, if its entries are kept elsewhere
 module _ {B M : Type 0} (now inside : LogState B M) (same : inside ≡ now) where
   pub log_stays : (applied : List (Entry B)) → applied ≡ inside.applied → record inside { applied = applied } ≡ now
   log_stays applied h = ap (λ l. record inside { applied = l }) h ∙ same

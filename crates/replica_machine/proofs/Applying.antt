@@ -77,7 +77,7 @@ module _ {B M : Type 0} where
   learned_found : (slot : ℕ) (log : LogState B M) → is_slot slot ≡ true → learned_in slot log ≡ found slot log.applied log.ahead
   learned_found slot log h = ap (λ b. cond b (found slot log.applied log.ahead) None) h
 
-  -- where nothing is learned in a slot, it lies behind the entries applied
+  -- if nothing is learned in a slot, it is after the entries applied
   lies_ahead : (slot : ℕ) (log : LogState B M) → is_slot slot ≡ true → None ≡ learned_in slot log → length log.applied < slot
   lies_ahead slot log h none = elim (leb_tells slot (length log.applied)) [ inl t ↦ absurd (contra t.1) | inr f ↦ f.1 ]
     where
@@ -114,7 +114,7 @@ module _ {B M : Type 0} where
       subst (λ (v : LogState B M). Learns slot entry v (record inside { ahead = ahead })) e
       (learns_ahead slot entry inside ahead h (subst (λ (v : LogState B M). None ≡ learned_in slot v) (sym e) none) put)
 
-  -- what is found of slots stays as the entry that stands ahead in the next slot is applied
+  -- what is found of slots stays as the entry that is ahead in the next slot is applied
   found_stays : (old : LogState B M) (e : Entry B) (ahead : List (ℕ × Entry B)) (slot other : ℕ) → slot ≡ next_slot old
       → Some e ≡ lookup (λ s. eqb slot s) old.ahead
       → ((q : ℕ) → lookup (λ s. eqb q s) ahead ≡ cond (eqb slot q) None (lookup (λ s. eqb q s) old.ahead)) → is_slot other ≡ true
@@ -151,7 +151,7 @@ module _ {B M : Type 0} where
       ∙ ap (λ n. lookup (λ s. eqb n s) log.ahead) (sym at.1)
       ∙ sym stands
 
-  -- the entry that stands ahead in the next slot is learned there
+  -- the entry that is ahead in the next slot is learned there
   pub learned_next : (now inside : LogState B M) (slot : ℕ) (e : Entry B) → inside ≡ now
       → Some slot ≡ cond (is_slot (next_slot now)) (Some (next_slot now)) None → Some e ≡ lookup (λ s. eqb slot s) inside.ahead
       → learned_in (next_slot now) now ≡ Some e

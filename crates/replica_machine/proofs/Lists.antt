@@ -33,7 +33,7 @@ list_any_last p xs x = list_any-append p xs (x ∷ []) ∙ ap (λ b. list_any p 
     or_false true = refl
     or_false false = refl
 
--- behind the first element that passes
+-- after the first element that passes
 pub after_first-cons : {X : Type 0} (p : X → Bool) (x : X) (xs : List X) → after_first p (x ∷ xs) ≡ cond (p x) xs (after_first p xs)
 after_first-cons {X} p x xs = go (p x)
   where
@@ -47,7 +47,7 @@ after_first-cons {X} p x xs = go (p x)
     go true = refl
     go false = ap (λ j. drop j (x ∷ xs)) next
 
--- one more element stands behind the first one that passes p if there is one
+-- one more element is after the first one that passes p if there is one
 pub any_after_last : {X : Type 0} (p q : X → Bool) (xs : List X) (x : X)
     → list_any q (after_first p (xs ++ x ∷ [])) ≡ (list_any q (after_first p xs) || (list_any p xs && q x))
 any_after_last {X} p q [] x = ap (λ l. list_any q l) (after_first-cons p x []) ∙ go (p x)
@@ -64,7 +64,7 @@ any_after_last {X} p q (y ∷ ys) x = go (p y) (any_after_last p q ys x) (after_
     go true ih e f = ap (λ l. list_any q l) e ∙ list_any_last q ys x ∙ ap (λ l. list_any q l || q x) (sym f)
     go false ih e f = ap (λ l. list_any q l) e ∙ ih ∙ ap (λ l. list_any q l || (list_any p ys && q x)) (sym f)
 
--- behind the first element that passes p there is nothing if none does
+-- after the first element that passes p there is nothing if none does
 pub any_after_none : {X : Type 0} (p q : X → Bool) (xs : List X) → list_any p xs ≡ false → list_any q (after_first p xs) ≡ false
 any_after_none p q [] e = refl
 any_after_none {X} p q (y ∷ ys) e = go (p y) (after_first-cons p y ys) (λ f. any_after_none p q ys f) e

@@ -1,4 +1,4 @@
--- The places of a log, and where each node stands behind it, say the same.
+-- The places of a log, and each node's standing after it, say the same.
 use Rattle.std.proofs.Common.{◌≡◌, ⊎_elim, ℕ, ◌+◌, Bool, true, false, ◌&&◌, ◌||◌, cond, eqb, ltb, refl, sym, ap, ◌∙◌, subst, arith, List}
 use Rattle.std.proofs.Common.{[], ◌∷◌, ◌++◌, Option, Some, None}
 use Rattle.std.specs.Prelude.{count_by, option_and_then, if◌then◌else◌}
@@ -68,7 +68,7 @@ module _ {B : Type 0} where
       → boots_of n (log ++ e ∷ []) ≡ boots_of n log ++ cons_option (boot_begun n e) []
   boots_last n log e = filter_map_last (boot_begun n) log e
 
-  -- the Boot (n, b) stands in the log just where b is among n's boots
+  -- the Boot (n, b) is in the log exactly if b is among n's boots
   pub has_boot : (n b : ℕ) (log : List (Entry B)) → list_any (is_boot n b) log ≡ list_any (λ c. eqb c b) (boots_of n log)
   has_boot n b [] = refl
   has_boot n b (Noop ∷ log) = has_boot n b log
@@ -81,7 +81,7 @@ module _ {B : Type 0} where
       go true ih = ap (λ u. eqb c b || u) ih
       go false ih = ih
 
-  -- what the places say of n, where n stands so
+  -- what the places say of n with this standing
   abbrev pub Stands : ℕ → List (Entry B) → Standing → Type 0
   Stands n log Unknown = greatest (boots_of n log) ≡ None
   Stands n log (Live b taken) = (greatest (boots_of n log) ≡ Some b) × (lost_since n b log ≡ false) × (items n b log ≡ taken)
@@ -116,7 +116,7 @@ module _ {B : Type 0} where
           (λ (e : eqb c b ≡ false). ap (λ t. t && eqb q (items n b log + 1)) e ∙ sym (ap (λ t. t && eqb q (taken + 1)) e))
           (cases_Bool (eqb c b))
 
-  -- each node stands so
+  -- each node has this standing
   abbrev AllStand : List (Entry B) → Type 0
   AllStand log = (n : ℕ) → Stands n log (standing n log)
 
@@ -167,7 +167,7 @@ module _ {B : Type 0} where
               (subst (λ d. list_any (is_boot k d) log ≡ true) (eqb-true c b v.1) (live_began k c log l)) in
               false≢true (sym p.0 ∙ m)
 
-  -- an entry that is of no matter to a node leaves it as it stands
+  -- an entry that is of no matter to a node leaves its standing
 
   abbrev Misses : ℕ → Entry B → Standing → Type 0
   Misses n e Unknown = Unit {0}
@@ -285,7 +285,7 @@ module _ {B : Type 0} where
                 ∙ ap (λ i. i + 1) (ap (λ d. items n d log) (sym bc) ∙ st.2) ∙ sym (eqb-true q (taken + 1) p.1),
           )
 
-  -- each entry keeps how the nodes stand
+  -- each entry keeps the nodes' standings
   step : (log : List (Entry B)) (e : Entry B) → AllStand log → Unbegun log → (n : ℕ)
       → Stands n (log ++ e ∷ []) (standing_after n (standing n log) e)
   step log Noop st un n =
@@ -365,7 +365,7 @@ module _ {B : Type 0} where
   pub live_boot_is : (n : ℕ) (log : List (Entry B)) → live_boot n log ≡ live_in (standing n log)
   live_boot_is n log = live_is n log (standing n log) ((all_stand log).0 n)
 
-  -- the entries that take effect go on behind a log
+  -- the entries that take effect go on after a log
   pub effective_append : (log es : List (Entry B)) → effective (log ++ es) ≡ effective log ++ effective_behind log es
   effective_append log [] = ap (λ l. effective l) (append-nil log) ∙ sym (append-nil (effective log))
   effective_append log (e ∷ es) =

@@ -1,4 +1,4 @@
--- What stays pending behind a log.
+-- What stays pending after a log.
 use Rattle.std.proofs.Common.{◌≡◌, ℕ, ◌-◌, ◌<◌, ◌≤◌, Bool, true, false, not, ◌&&◌, eqb, leb, refl, sym, ap, ◌∙◌, subst, arith}
 use Rattle.std.specs.Prelude.{if◌then◌else◌}
 use Rattle.std.specs.List.{range_with_len, Contains}
@@ -13,7 +13,7 @@ use Rattle.replica_machine.specs.Laws.{EffectEndsWant, ItemsStayWanted, BootsSta
 use Rattle.replica_machine.proofs.Places.{items, Stands, stands, standing_last, new_boot, effective_is}
 use Rattle.replica_machine.proofs.Numbering.{length_numbers, are_numbered}
 
--- behind an entry that took effect, by how its node stands then
+-- after an entry that took effect, by its node's standing then
 after_boot : (s : Standing) (b : ℕ) → is_new_boot s b ≡ true → is_new_boot (if is_new_boot s b then Live b 0 else s) b ≡ false
 after_boot s b h = ap (λ z. is_new_boot z b) (cond-true (is_new_boot s b) (Live b 0) s h) ∙ le-ltb b b (omega arith)
 
@@ -27,7 +27,7 @@ after_item s b q h =
     ap (λ z. was_taken z b q) (cond-true (is_next s b q) (Live b q) s h)
     ∙ and_from (eqb b b) (leb q q) (eq-eqb b b refl) (le-leb q q (omega arith))
 
--- an entry's own node stands behind it as the entry's case says
+-- an entry's own node has the standing after it that the entry's case says
 own : (n : ℕ) (test : Bool) (s t : Standing) → (if eqb n n && test then t else s) ≡ (if test then t else s)
 own n test s t = ap (λ u. if u && test then t else s) (eq-eqb n n refl)
 

@@ -26,7 +26,7 @@ is_item n b (Boot k c) = false
 is_item n b (Lost k c) = false
 is_item n b (Item k c q t x) = (k == n) && (c == b)
 
--- the boot that the entry begins, where it is a Boot of n
+-- the boot that the entry begins, if it is a Boot of n
 abbrev pub boot_begun : {B : Type 0} → ℕ → Entry B → Option ℕ
 boot_begun n Noop = None
 boot_begun n (Boot k b) = if k == n then Some b else None
@@ -40,11 +40,11 @@ boots_of n before = filter_map (boot_begun n) before
 abbrev pub greatest : List ℕ → Option ℕ
 greatest bs = reduce max bs
 
--- a Lost of the boot stands between the boot's first Boot and the place
+-- a Lost of the boot is between the boot's first Boot and the place
 abbrev pub lost_since : {B : Type 0} → ℕ → ℕ → List (Entry B) → Bool
 lost_since n b before = list_any (is_lost n b) (after_first (is_boot n b) before)
 
--- the live boot of n: the greatest boot in n's Boots, unless a Lost of that boot stands between its first Boot and the place
+-- the live boot of n: the greatest boot in n's Boots, unless a Lost of that boot is between its first Boot and the place
 abbrev pub live_boot : {B : Type 0} → ℕ → List (Entry B) → Option ℕ
 live_boot n before = option_and_then (λ b. if lost_since n b before then None else Some b) (greatest (boots_of n before))
 
@@ -60,7 +60,7 @@ has_effect before so_far (Boot n b) = list_all (λ c. nat_lt c b) (boots_of n be
 has_effect before so_far (Lost n b) = is_the (live_boot n before) b
 has_effect before so_far (Item n b q t x) = is_the (live_boot n before) b && (q == count_by (is_item n b) so_far + 1)
 
--- those that took effect before the entries behind `before`, and then those of these
+-- those that took effect before the entries after `before`, and then those of these
 abbrev pub effective_from : {B : Type 0} → List (Entry B) → List (Entry B) → List (Entry B) → List (Entry B)
 effective_from before so_far [] = so_far
 effective_from before so_far (e ∷ es) =
@@ -70,7 +70,7 @@ effective_from before so_far (e ∷ es) =
 abbrev pub effective : {B : Type 0} → List (Entry B) → List (Entry B)
 effective log = effective_from [] [] log
 
--- whether an entry takes effect behind a log
+-- whether an entry takes effect after a log
 abbrev pub is_effective : {B : Type 0} → List (Entry B) → Entry B → Bool
 is_effective before e = has_effect before (effective before) e
 
@@ -82,7 +82,7 @@ effects_from before (e ∷ es) = is_effective before e ∷ effects_from (before 
 abbrev pub effects : {B : Type 0} → List (Entry B) → List Bool
 effects log = effects_from [] log
 
--- how many Items of n's live boot took effect, none where it has no live boot
+-- how many Items of n's live boot took effect, none if it has no live boot
 abbrev pub items_taken : {B : Type 0} → ℕ → List (Entry B) → ℕ
 items_taken n before = option_map_or (λ b. count_by (is_item n b) (effective before)) (live_boot n before) 0
 

@@ -13,19 +13,19 @@ EffectsGoByPlaces B =
     (before : List (Entry B)) (e : Entry B)
     → effective (before ++ e ∷ []) ≡ (if is_effective before e then effective before ++ e ∷ [] else effective before)
 
--- an entry takes effect behind a log, by the places of the log, just where it does by how its node stands
+-- an entry takes effect after a log, by the places of the log, exactly if it does by its node's standing
 abbrev pub EffectsAreOne : Type 0 → Type 0
 EffectsAreOne B = (log : List (Entry B)) (e : Entry B) → is_effective log e ≡ takes_effect log e
 
--- the live boot of a node, by places, is the one that it stands in
+-- the live boot of a node, by places, is the one of its standing
 abbrev pub LiveBootsAreOne : Type 0 → Type 0
 LiveBootsAreOne B = (n : ℕ) (log : List (Entry B)) → live_boot n log ≡ live_in (standing n log)
 
--- and so many Items of that boot took effect
+-- and the standing's count is how many Items of that boot took effect
 abbrev pub ItemsTakenAreOne : Type 0 → Type 0
 ItemsTakenAreOne B = (n : ℕ) (log : List (Entry B)) → items_taken n log ≡ taken_in (standing n log)
 
--- the entries of a longer log that take effect are those of the log, then those behind it
+-- the entries of a longer log that take effect are those of the log, then those after it
 abbrev pub EffectsGoOn : Type 0 → Type 0
 EffectsGoOn B = (log es : List (Entry B)) → effective (log ++ es) ≡ effective log ++ effective_behind log es
 
@@ -45,7 +45,7 @@ abbrev pub SayingsGoBySlot : Type 0 → Type 0 → Type 0 → Type 0
 SayingsGoBySlot B S Y =
     (m : Machine B S Y) (log es : List (Entry B)) → flat_map (λ ys. ys) (sayings_by_slot m log es) ≡ sayings_behind m log es
 
--- what takes effect is no longer wanted behind it
+-- what takes effect is no longer wanted after it
 abbrev pub EffectEndsWant : Type 0 → Type 0
 EffectEndsWant B = (log : List (Entry B)) (e : Entry B) → takes_effect log e ≡ true → is_wanted (log ++ e ∷ []) e ≡ false
 

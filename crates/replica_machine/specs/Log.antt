@@ -17,7 +17,7 @@ learn_fault_number Disagree = 46
 learn_fault_number Memory = 47
 learn_fault_number Failed = 48
 
--- the entries applied, slot 1 first; those learned behind them, with their slots; the machine; whether the log has failed
+-- the entries applied, slot 1 first; those learned after them, with their slots; the machine; whether the log has failed
 pub record LogState (B M : Type 0) : Type 0 where
   pub applied : List (Entry B)
   pub ahead : List (ℕ × Entry B)
@@ -32,7 +32,7 @@ is_slot n = nat_le 1 n && nat_lt n (2 ^ 40)
 abbrev pub machine_from : {B S Y : Type 0} → (S → Input B → S) → (S → Input B → List Y) → (Y → Transport) → S → Machine B S Y
 machine_from next says to first = record { first = first; next = next; says = says; to = to }
 
--- the next content, and what is said, at an input where it counts
+-- the next content, and what is said, at an input if it counts
 abbrev pub next_by : {S I : Type 0} → (S → I → S) → Bool → S → Option I → S
 next_by next counts s input = if counts then option_map_or (λ i. next s i) input s else s
 

@@ -44,7 +44,7 @@ sayings m log = sayings_from m m.first (inputs log)
 abbrev pub said : {B S Y : Type 0} → Machine B S Y → Transport → List (Entry B) → List Y
 said m t log = filter (λ y. same_transport (m.to y) t) (sayings m log)
 
--- what the entries of `es` give a machine behind a log, and what it says at them
+-- what the entries of `es` give a machine after a log, and what it says at them
 abbrev pub inputs_behind : {B : Type 0} → List (Entry B) → List (Entry B) → List (Input B)
 inputs_behind log es = filter_map input_of (effective_behind log es)
 

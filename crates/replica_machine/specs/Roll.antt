@@ -1,4 +1,4 @@
--- Which entries of a log take effect, by where each node stands behind the log: what a roll keeps as it goes along.
+-- Which entries of a log take effect, by each node's standing after the log: what a roll keeps as it goes along.
 use Rattle.std.specs.Prelude.{◌≡◌, ℕ, ◌+◌, ◌<◌, Bool, true, false, not, ◌&&◌, ◌==◌, nat_lt, nat_le, Option, Some, None, List, [], ◌∷◌}
 use Rattle.std.specs.Prelude.{◌++◌, fold}
 use Rattle.std.specs.Prelude.{slice_index_or, if◌then◌else◌}
@@ -29,7 +29,7 @@ gone Unknown = Unknown
 gone (Live b taken) = Gone b
 gone (Gone b) = Gone b
 
--- where n stands behind one entry more
+-- n's standing after one more entry
 abbrev pub standing_after : {B : Type 0} → ℕ → Standing → Entry B → Standing
 standing_after n s Noop = s
 standing_after n s (Boot k b) = if (k == n) && is_new_boot s b then Live b 0 else s
@@ -39,11 +39,11 @@ standing_after n s (Item k b q t x) = if (k == n) && is_next s b q then Live b q
 abbrev pub standing_from : {B : Type 0} → ℕ → Standing → List (Entry B) → Standing
 standing_from n s log = fold (standing_after n) s log
 
--- where n stands behind a log
+-- n's standing after a log
 abbrev pub standing : {B : Type 0} → ℕ → List (Entry B) → Standing
 standing n log = standing_from n Unknown log
 
--- whether an entry takes effect behind a log
+-- whether an entry takes effect after a log
 abbrev pub takes_effect : {B : Type 0} → List (Entry B) → Entry B → Bool
 takes_effect log Noop = false
 takes_effect log (Boot n b) = is_new_boot (standing n log) b
@@ -56,14 +56,14 @@ was_taken Unknown b q = false
 was_taken (Live c taken) b q = (c == b) && nat_le q taken
 was_taken (Gone c) b q = false
 
--- whether an entry stays pending behind a log: neither a Boot nor an Item that took effect, nor a Lost whose boot isn't live
+-- whether an entry stays pending after a log: neither a Boot nor an Item that took effect, nor a Lost whose boot isn't live
 abbrev pub is_wanted : {B : Type 0} → List (Entry B) → Entry B → Bool
 is_wanted log Noop = false
 is_wanted log (Boot n b) = is_new_boot (standing n log) b
 is_wanted log (Lost n b) = is_live (standing n log) b
 is_wanted log (Item n b q t x) = not (was_taken (standing n log) b q)
 
--- the live boot of a node that stands so
+-- the live boot of a node with this standing
 abbrev pub live_in : Standing → Option ℕ
 live_in Unknown = None
 live_in (Live b taken) = Some b
@@ -75,15 +75,15 @@ taken_in Unknown = 0
 taken_in (Live b taken) = taken
 taken_in (Gone b) = 0
 
--- the entries of `es` that take effect behind a log
+-- the entries of `es` that take effect after a log
 abbrev pub effective_behind : {B : Type 0} → List (Entry B) → List (Entry B) → List (Entry B)
 effective_behind log [] = []
 effective_behind log (e ∷ es) = (if takes_effect log e then e ∷ [] else []) ++ effective_behind (log ++ e ∷ []) es
 
--- where the node stands by a roll: the standings of all nodes as a list, by their numbers from 0 to 255
+-- the node's standing by a roll: the standings of all nodes as a list, by their numbers from 0 to 255
 abbrev pub standing_in : List Standing → ℕ → Standing
 standing_in roll n = slice_index_or roll n Unknown
 
--- by the roll each node stands as it does behind the log
+-- the roll has each node's standing after the log
 abbrev pub IsRollOf : {B : Type 0} → List (Entry B) → List Standing → Type 0
 IsRollOf log roll = (n : ℕ) → n < 256 → standing_in roll n ≡ standing n log

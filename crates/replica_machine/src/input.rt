@@ -1,6 +1,6 @@
 use paxos_packets::Transport;
 
-/// What a machine is given by an entry that takes effect.
+/// A machine's input: what an entry that takes effect gives it.
 #[derive(Debug, Drop)]
 pub enum Input<B> {
     /// A node began this boot.

@@ -7,8 +7,8 @@ ghost use Rattle.replica_machine.specs.Laws.{EffectsGoByPlaces, EffectsAreOne, L
 ghost use Rattle.replica_machine.specs.Laws.{EffectsGoOn, ItemsAreNumbered, EffectEndsWant, ItemsStayWanted};
 ghost use Rattle.replica_machine.specs.Laws.{BootsStayWanted, LostsStayWanted, StateGoesOn, SayingsGoOn, SayingsGoBySlot};
 
-/// The places of a log, and the standings that a roll keeps as it goes along, say the same: which entries take effect, which
-/// boot of a node is live, and how many of its Items took effect. Takes no memory.
+/// The positions of a log, and the standings that a roll keeps as it goes along, agree on which entries take effect, which boot of a node
+/// is live, and how many of its Items took effect. Does not allocate.
 pub fn effects<B>()
     ensures by_places { EffectsGoByPlaces B }
     ensures effects { EffectsAreOne B }
@@ -17,13 +17,13 @@ pub fn effects<B>()
     ensures goes_on { EffectsGoOn B }
 {}
 
-/// The Items of one boot that take effect in a log are numbered 1, 2, 3 and so on, in order. Takes no memory.
+/// The Items of one boot that take effect in a log are numbered 1, 2, 3 and so on, in order. Does not allocate.
 pub fn numbering<B>()
     ensures { ItemsAreNumbered B }
 {}
 
-/// What stays pending behind a log: an Item until it took effect, a Boot until its node has one as great, a Lost while it names
-/// the live boot. Takes no memory.
+/// What stays pending after a log: an Item until it took effect, a Boot until its node has one as great, a Lost while it names the live
+/// boot. Does not allocate.
 pub fn pending<B>()
     ensures effect_ends_it { EffectEndsWant B }
     ensures items { ItemsStayWanted B }
@@ -31,14 +31,14 @@ pub fn pending<B>()
     ensures losts { LostsStayWanted B }
 {}
 
-/// A machine that has followed a log follows a longer one from there. Takes no memory.
+/// A machine that has followed a log follows a longer one from there. Does not allocate.
 pub fn replay<B, S, Y>()
     ensures state { StateGoesOn B S Y }
     ensures sayings { SayingsGoOn B S Y }
     ensures by_slot { SayingsGoBySlot B S Y }
 {}
 
-/// Small logs, by hand. Takes no memory.
+/// Small logs, computed. Does not allocate.
 pub fn examples()
     // took, took, skipped, skipped, took, took
     ensures out_of_order { effects items_out_of_order ≡ true ∷ true ∷ false ∷ false ∷ true ∷ true ∷ [] }
@@ -47,7 +47,7 @@ pub fn examples()
     // a Noop never takes effect, nor an Item before the one that its node took before it
     ensures without_first { effects item_without_first ≡ true ∷ false ∷ false ∷ true ∷ [] }
 
-    // the Lost ends the boot once, and nothing of the boot takes effect behind it
+    // the Lost ends the boot once, and nothing of the boot takes effect after it
     ensures lost { effects lost_and_back
         ≡ true ∷ true ∷ true ∷ true ∷ false ∷ false ∷ false ∷ true ∷ false ∷ false ∷ true ∷ true ∷ [] }
     ensures lost_live { live_boot 3 lost_and_back ≡ Some 2 }

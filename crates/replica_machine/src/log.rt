@@ -28,7 +28,7 @@ pub enum LearnFault {
 }
 
 impl LearnFault {
-    /// The number of the fault: 46 to 48, in the order of the variants.
+    /// Returns the fault's number: 46 to 48, in the order of the variants.
     pub fn number(self) -> u8
         ensures { result ≡ learn_fault_number self }
     {
@@ -57,7 +57,7 @@ pub struct Step<Y> {
     pub slot: Slot,
     /// Whether its entry took effect.
     pub took: bool,
-    /// What the machine said at it, in order; nothing where it took no effect.
+    /// What the machine said at it, in order; nothing if it took no effect.
     pub says: Vec<Y>,
 }
 
@@ -97,7 +97,8 @@ impl<M: Machine> Model for AppliedLog<M> {
 }
 
 impl<M: Machine> AppliedLog<M> {
-    /// A log in which nothing is learned, and the machine that is to follow it. Takes no memory; `learn` and `advance` will, from `alloc`.
+    /// Returns a log in which nothing is learned, and the machine that is to follow it. Does not allocate; `learn` and `advance` will, from
+    /// `alloc`.
     pub fn new(alloc: Global, machine: M) -> AppliedLog<M>
         ensures empty { result ≡ record { applied = []; ahead = []; machine = machine; failed = false } }
         ensures follows { Follows (machine_from M.next M.says M.to) M.content (M.content machine) result }
@@ -111,7 +112,7 @@ impl<M: Machine> AppliedLog<M> {
         }
     }
 
-    // The entry that is learned in the slot.
+    // Returns the entry that is learned in the slot.
     fn learned(&self, slot: Slot) -> Option<&Entry<M::Body>>
         ensures value { option_copied result ≡ learned_in slot self.now }
         ensures slot { is_slot slot ≡ true }
@@ -124,10 +125,10 @@ impl<M: Machine> AppliedLog<M> {
         }
     }
 
-    /// Learns that the entry stands in the slot. The same entry again changes nothing.
+    /// Learns the slot's entry. The same entry again changes nothing.
     ///
-    /// `Disagree` says that another entry is learned there, `Memory` that there is none for the entry, `Failed` that the log has
-    /// failed; the log is then as it was. Takes constant time on average, whatever the log's length.
+    /// Returns `Disagree` if another entry is learned there, `Memory` if memory for the entry runs out, and `Failed` if the log has failed;
+    /// the log is then as it was. Takes constant time on average, whatever the log's length.
     pub fn learn(&mut self, slot: Slot, entry: Entry<M::Body>) -> Result<(), LearnFault>
         ensures ok { OnOk result (Learns slot entry self.old self.new) }
         ensures err { OnErr result (self.new ≡ self.old) }
@@ -150,17 +151,18 @@ impl<M: Machine> AppliedLog<M> {
         Ok(())
     }
 
-    // The slot that is applied next, `None` behind the last one.
+    // Returns the slot that is applied next, or `None` after the last one.
     fn next_slot(&self) -> Option<Slot>
         ensures { result ≡ (if is_slot (next_slot self.now) then Some (next_slot self.now) else None) }
     {
         Slot::new((self.applied.len() as u64).saturating_add(1))
     }
 
-    /// Applies the next slot, where its entry is learned, and tells what came of it; `None` where it is not.
+    /// Applies the next slot if its entry is learned, and returns what came of it; `None` if it is not learned.
     ///
-    /// After `Failed`, for want of memory or since the machine has failed, the log has failed: `learn` and `advance` answer so from then
-    /// on, and `applied` shows what it showed. Takes constant time on average beside the machine's own, whatever the log's length.
+    /// After `Failed`, which comes if memory runs out or the machine fails, the log has failed: `learn` and `advance` return it from then
+    /// on, and `applied` still returns what it returned before. Takes constant time on average besides the machine's own, whatever the
+    /// log's length.
     pub fn advance(&mut self) -> Result<Option<Step<M::Say>>, Failed>
         ensures failed { self.old.failed ≡ true → IsErr result }
         ensures waits { self.old.failed ≡ false → learned_in (next_slot self.old) self.old ≡ None → IsOk result }
@@ -191,10 +193,10 @@ impl<M: Machine> AppliedLog<M> {
         Ok(Some(step))
     }
 
-    /// Applies the entries in the next slots, where nothing is learned there, and tells what the machine said at each.
+    /// Applies the entries in the next slots, given that nothing is learned there, and returns what the machine said at each.
     ///
-    /// With `Memory` the machine was told nothing, and the log is as it was. After `Failed` the log has failed, as behind `advance`; some
-    /// of the entries may be applied then. Takes constant time an entry beside the machine's own, whatever the log's length.
+    /// On `Memory` the machine was given nothing, and the log is as it was. After `Failed` the log has failed, as after `advance`; some of
+    /// the entries may be applied then. Takes constant time for each entry besides the machine's own, whatever the log's length.
     pub fn append(&mut self, entries: Vec<Entry<M::Body>>) -> Result<Vec<Vec<M::Say>>, LearnFault>
         requires { self.old.ahead ≡ [] }
         ensures applied { OnOk result (self.new.applied ≡ self.old.applied ++ entries.items) }
@@ -234,14 +236,14 @@ impl<M: Machine> AppliedLog<M> {
         Ok(said)
     }
 
-    /// The entries that are applied, in the order of their slots from slot 1 on. Takes no memory.
+    /// Returns the entries that are applied, in the order of their slots from slot 1 on. Does not allocate.
     pub fn applied(&self) -> &[Entry<M::Body>]
         ensures { result.now ≡ self.now.applied }
     {
         self.applied.as_slice()
     }
 
-    /// The machine. Takes no memory.
+    /// Returns the machine. Does not allocate.
     pub fn machine(&self) -> &M
         ensures { result.now ≡ self.now.machine }
     {
@@ -249,7 +251,7 @@ impl<M: Machine> AppliedLog<M> {
     }
 }
 
-// Applies the entry in the slot behind the entries that are applied. After an error these are as they were.
+// Applies the entry in the next slot. After an error the applied entries are as they were.
 fn apply<M: Machine>(
     applied: &mut Vec<Entry<M::Body>>,
     roll: &mut Roll,
@@ -273,7 +275,7 @@ fn apply<M: Machine>(
     Ok(Step { slot, took, says })
 }
 
-// The same, where there is room for the entry: whether it took effect, and what was said.
+// Applies the entry, given room for it: returns whether it took effect, and what was said.
 fn apply_in_room<M: Machine>(
     applied: &mut Vec<Entry<M::Body>>,
     roll: &mut Roll,
@@ -300,8 +302,8 @@ fn apply_in_room<M: Machine>(
     Ok((took, says))
 }
 
-// Applies the entries behind those that are applied, where there is room for them, and puts what was said at each behind what was said
-// before. After an error some of them may be applied.
+// Applies the entries after those that are applied, given room for them, and appends what was said at each to `said`. After an error some
+// of them may be applied.
 fn apply_all<M: Machine>(
     applied: &mut Vec<Entry<M::Body>>,
     roll: &mut Roll,
@@ -329,7 +331,7 @@ fn apply_all<M: Machine>(
     Ok(())
 }
 
-// The machine's part in a slot: it is lent the entry where that takes effect. Gives the entry back, with what the machine said.
+// Does the machine's part in a slot: lends it the entry if that takes effect. Returns the entry, with what the machine said.
 fn follow<M: Machine>(
     machine: &mut M,
     alloc: Global,
@@ -347,7 +349,7 @@ fn follow<M: Machine>(
     }
 }
 
-// Lends the entry to the machine, and gives it back with what the machine said.
+// Lends the entry to the machine, and returns it with what the machine said.
 fn lend<M: Machine>(
     machine: &mut M,
     alloc: Global,

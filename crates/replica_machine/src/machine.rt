@@ -7,7 +7,7 @@ use paxos_packets::{Body, Transport};
 use std::alloc::{AllocError, AllocFailed};
 use thiserror::Error;
 
-/// The machine or the log has failed, be it for want of memory: it answers nothing else from then on.
+/// The machine or the log has failed, perhaps because memory ran out: every later call returns this.
 #[derive(Clone, Copy, Debug, PartialEq, Eq, Drop, Error)]
 #[error("the machine has failed")]
 pub struct Failed;
@@ -25,7 +25,7 @@ impl<T: Drop> From<AllocFailed<T>> for Failed {
 }
 
 impl Failed {
-    /// The number of the fault.
+    /// Returns the fault's number.
     pub fn number(self) -> u8
         ensures { result ≡ 48 }
     {
@@ -33,10 +33,10 @@ impl Failed {
     }
 }
 
-/// A state machine that follows a log (Lamport, Paxos Made Simple, 2001, section 3): what it becomes and what it says are functions of
-/// what it was and of its input, so that all machines that begin alike and follow one log stay alike.
+/// A state machine that follows a log (Lamport, Paxos Made Simple, 2001, section 3): what it becomes and what it says are functions of what
+/// it was and of its input, so that all machines that begin alike and follow one log stay alike.
 pub trait Machine: Drop {
-    /// What an act holds.
+    /// The content of an act.
     type Body: Body;
 
     /// What is said to a transport.
@@ -54,8 +54,8 @@ pub trait Machine: Drop {
 
     ghost to: { Self.Say → Transport };
 
-    /// Applies an input, and gives what is said at it, in order. After an error the machine has failed, and each later call answers
-    /// the same; its content is then of no meaning.
+    /// Applies an input, and returns what is said at it, in order. After an error the machine has failed, each later call returns the same
+    /// error, and its content has no meaning.
     fn apply(&mut self, input: &Input<Self::Body>) -> Result<Vec<Self::Say>, Failed>
         ensures content { OnOk result (content self.new ≡ next (content self.old) input.now) }
         ensures says { IfOk result (λ said. said.items ≡ says (content self.old) input.now) }
@@ -63,7 +63,7 @@ pub trait Machine: Drop {
         ensures fails { OnErr result (has_failed self.new ≡ true) }
         ensures stays_failed { has_failed self.old ≡ true → IsErr result };
 
-    /// Whom a saying is for. Takes no memory.
+    /// Returns the transport that a saying is for. Does not allocate.
     fn to(say: &Self::Say) -> Transport
         ensures { result ≡ to say.now };
 }

@@ -6,7 +6,7 @@ ghost use Rattle.replica_machine.specs.Roll.{live_in, taken_in, is_wanted, was_t
 use paxos_packets::Entry;
 use std::marker::Model;
 
-/// Where a node stands behind a log.
+/// A node's standing after a log.
 #[derive(Clone, Copy, Debug, PartialEq, Eq)]
 pub enum Standing {
     /// The log has no Boot of the node.
@@ -18,7 +18,7 @@ pub enum Standing {
 }
 
 impl Standing {
-    // Whether a Boot of the node with this number takes effect.
+    // Returns whether a Boot of the node with this number takes effect.
     fn is_new_boot(self, boot: u64) -> bool
         ensures { result ≡ is_new_boot self boot }
     {
@@ -29,7 +29,7 @@ impl Standing {
         }
     }
 
-    /// Whether the boot is live, so that a Lost of it takes effect.
+    /// Returns whether the boot is live, so that a Lost of it takes effect.
     pub fn is_live(self, boot: u64) -> bool
         ensures { result ≡ is_live self boot }
     {
@@ -40,7 +40,7 @@ impl Standing {
         }
     }
 
-    // Whether an Item of the boot with this number takes effect.
+    // Returns whether an Item of the boot with this number takes effect.
     fn is_next(self, boot: u64, seq: u64) -> bool
         ensures { result ≡ is_next self boot seq }
     {
@@ -51,7 +51,7 @@ impl Standing {
         }
     }
 
-    // Whether the Item of the live boot with this number took effect.
+    // Returns whether the Item of the live boot with this number took effect.
     fn was_taken(self, boot: u64, seq: u64) -> bool
         ensures { result ≡ was_taken self boot seq }
     {
@@ -62,8 +62,8 @@ impl Standing {
         }
     }
 
-    /// Where the node that stands so stands behind one entry more. Takes no memory.
-    pub fn behind<B>(self, node: u8, entry: &Entry<B>) -> Standing
+    /// Returns the standing of the node after one more entry. Does not allocate.
+    pub fn after<B>(self, node: u8, entry: &Entry<B>) -> Standing
         ensures { result ≡ standing_after node self entry.now }
     {
         match entry {
@@ -103,7 +103,7 @@ impl Standing {
         }
     }
 
-    // The standing behind a Lost of the live boot.
+    // Returns the standing after a Lost of the live boot.
     fn gone(self) -> Standing
         ensures { result ≡ gone self }
     {
@@ -115,8 +115,8 @@ impl Standing {
     }
 }
 
-/// Where each node stands behind a log, for every number that a node may have. It tells in constant time, whatever the log's
-/// length, whether one more entry takes effect.
+/// The standing of each node after a log, for every number that a node may have. It decides in constant time, whatever the log's length,
+/// whether one more entry takes effect.
 #[derive(Debug)]
 pub struct Roll {
     standings: [Standing; 256],
@@ -140,7 +140,7 @@ impl Model for Roll {
 }
 
 impl Roll {
-    /// The roll of the log that has no entry. Takes no memory.
+    /// Returns the roll of the empty log. Does not allocate.
     pub fn new() -> Roll
         ensures { (n : ℕ) → n < 256 → standing_in result n ≡ Standing.Unknown }
     {
@@ -149,21 +149,21 @@ impl Roll {
         }
     }
 
-    /// Where the node stands. Takes no memory.
+    /// Returns the node's standing. Does not allocate.
     pub fn standing(&self, node: u8) -> Standing
         ensures { result ≡ standing_in self.now node }
     {
         self.standings[node as usize]
     }
 
-    // Lets the node stand so.
+    // Sets the node's standing.
     fn put(&mut self, node: u8, standing: Standing)
         ensures { (n : ℕ) → n < 256 → standing_in self.new n ≡ (if node == n then standing else standing_in self.old n) }
     {
         self.standings[node as usize] = standing;
     }
 
-    /// Goes on over one entry more, and tells whether it takes effect. Takes no memory, and constant time.
+    /// Goes on over one more entry, and returns whether it takes effect. Does not allocate, and takes constant time.
     pub fn take<B>(&mut self, entry: &Entry<B>) -> bool
         ensures standings { (n : ℕ) → n < 256 → standing_in self.new n ≡ standing_after n (standing_in self.old n) entry.now }
         ensures took { (log : List (Entry B)) → IsRollOf log self.old → result ≡ takes_effect log entry.now }
@@ -181,8 +181,8 @@ impl Roll {
         }
     }
 
-    /// Whether the entry stays pending: it is no Boot or Item that took effect, and no Lost whose boot is not live. Takes no memory, and
-    /// constant time.
+    /// Returns whether the entry stays pending: it is no Boot or Item that took effect, and no Lost whose boot is not live. Does not
+    /// allocate, and takes constant time.
     pub fn wants<B>(&self, entry: &Entry<B>) -> bool
         ensures { (log : List (Entry B)) → IsRollOf log self.now → result ≡ is_wanted log entry.now }
     {
@@ -239,7 +239,7 @@ impl Roll {
         took
     }
 
-    /// The live boot of the node, `None` where it has none. Takes no memory.
+    /// Returns the live boot of the node, or `None` if it has none. Does not allocate.
     pub fn live(&self, node: u8) -> Option<u64>
         ensures { result ≡ live_in (standing_in self.now node) }
     {
@@ -250,7 +250,7 @@ impl Roll {
         }
     }
 
-    /// How many Items of the node's live boot took effect, 0 where it has none. Takes no memory.
+    /// Returns how many Items of the node's live boot took effect, or 0 if it has none. Does not allocate.
     pub fn taken(&self, node: u8) -> u64
         ensures { result ≡ taken_in (standing_in self.now node) }
     {

@@ -1,6 +1,6 @@
-//! One member of a cluster in its seat: a node that runs, or what one that is down has committed (docs/CONSENSUS.md, "The world").
+//! One member's node in a world: a node that runs, or what one that is down has committed (docs/CONSENSUS.md, "The world").
 #![tactic(auto)]
 
-mod seat;
+mod world_node;
 
-pub use seat::{Place, Seat};
+pub use world_node::{NodeStatus, WorldNode};

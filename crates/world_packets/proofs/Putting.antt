@@ -1,4 +1,4 @@
--- A packet is put behind the others.
+-- A packet is put after the others.
 use Rattle.std.proofs.Common.{◌≡◌, ◌⊎◌, inl, inr, ⊎_elim, ℕ, zero, suc, ◌+◌, ◌<◌, ◌≤◌, Bool, true, false, refl, sym, ap, ◌∙◌, subst, arith, List, [], ◌∷◌}
 use Rattle.std.proofs.Common.{◌++◌, ◌-◌, min, length, length-append, Option, Some, None, cond}
 use Rattle.std.specs.Prelude.{IsSome, slice_get}
@@ -41,15 +41,15 @@ longer xs x = length-append xs (x ∷ []) ∙ plus_one (length xs)
     plus_one : (k : ℕ) → k + 1 ≡ suc k
     plus_one k = omega arith
 
--- where there is room for the rest, there is for its first one
+-- if there is room for the rest, there is for its first one
 pub room_for : {A : Type 0} (rest after : List A) (x : A) (room : ℕ) → length rest ≤ room → rest ≡ x ∷ after → 1 ≤ room
 room_for rest after x room h step = let some : length rest ≡ suc (length after) = ap length step in omega (arith, h, some)
 
--- room for so many in both
+-- room for n in both
 pub room_in_both : (cap len spare more : ℕ) → len + more ≤ cap → more ≤ spare → more ≤ min (cap - len) spare
 room_in_both cap len spare more fits few = omega (arith, fits, few)
 
--- where there is room for one, both the list and the table have it, and use up no more
+-- if there is room for one, both the list and the table have it, and use up no more
 pub spare_for : (cap len spare room : ℕ) → min (cap - len) spare ≡ room → 1 ≤ room → 0 < spare
 spare_for cap len spare room is h = omega (arith, is, h)
 

@@ -15,7 +15,7 @@ use Rattle.world_packets.specs.Sent.{IsIndex, is_among, place_in}
 off : false ≡ true → ⊥
 off e = cc
 
--- where the test holds of one of them
+-- if the test holds of one of them
 pub any_at : {A : Type 0} (test : A → Bool) (xs : List A) → list_any test xs ≡ true → (i : ℕ) × (x : A) × (slice_get xs i ≡ Some x) × (test x ≡ true)
 any_at test [] e = absurd (off e)
 any_at test (x ∷ xs) e =

@@ -21,7 +21,7 @@ is_among same p sent = list_any (λ q. same_packet same q p) sent
 abbrev pub place_in : List (Key × ℕ) → Numbers → ℕ → Option ℕ
 place_in table numbers ordinal = lookup (same_key (record { numbers = numbers; ordinal = ordinal })) table
 
--- the packet, or an equal one, stands at a place that is kept under its numbers
+-- the packet, or an equal one, is at an index that is kept under its numbers
 pub record IsListed {B : Type 0} (table : List (Key × ℕ)) (packets : List (Packet B)) (p : Packet B) : Type 0 where
   pub ordinal : ℕ
   pub place : ℕ

@@ -1,4 +1,5 @@
-//! Every packet that the nodes of a cluster ever sent, in order, with an index that tells whether an equal one was sent (docs/CONSENSUS.md).
+//! Every packet that the nodes of a cluster ever sent, in order, with an index that decides whether an equal one was sent
+//! (docs/CONSENSUS.md, "The world").
 #![tactic(auto)]
 
 mod numbers;

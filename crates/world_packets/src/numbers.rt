@@ -3,7 +3,7 @@ ghost use Rattle.world_packets.specs.Numbers.{plain, no_entry, entry_numbers, fo
 
 use paxos_packets::{Ballot, Entry, Kind, Packet};
 
-/// The numbers of an entry; 0 where it has none of that name.
+/// The numbers of an entry; 0 for those that it does not have.
 #[derive(Clone, Copy, PartialEq, Eq, Hash)]
 pub struct EntryNumbers {
     pub node: u8,
@@ -11,18 +11,18 @@ pub struct EntryNumbers {
     pub seq: u64,
 }
 
-/// The numbers of a packet: what is in it but for bodies and lists. What a kind of packet has not is 0, so that kinds are told apart by what
-/// they have, but for a vote that is asked for and one that was cast.
+/// The numbers of a packet: what is in it except bodies and lists. What a kind of packet does not have is 0, so that kinds differ by what
+/// they have, except a vote that is asked for and one that was cast.
 #[derive(Clone, Copy, PartialEq, Eq, Hash)]
 pub struct Numbers {
     pub sender: u8,
     pub addressee: u8,
     pub ballot: Ballot,
-    /// The ballot of which a Nack tells.
+    /// The ballot that a Nack reports as promised.
     pub promised: Ballot,
     /// The slot of a vote, or of what was learned.
     pub slot: u64,
-    /// Whether it tells that its vote was cast.
+    /// Whether it reports that its vote was cast.
     pub is_cast: bool,
     /// The first slot that is asked for.
     pub from: u64,
@@ -32,14 +32,14 @@ pub struct Numbers {
     pub last: EntryNumbers,
 }
 
-/// Under what the place of a packet is found: its numbers, and how many different packets with these were sent before it.
+/// The key under which the index of a packet is found: its numbers, and how many different packets with these were sent before it.
 #[derive(Clone, Copy, PartialEq, Eq, Hash)]
 pub struct Key {
     pub numbers: Numbers,
     pub ordinal: usize,
 }
 
-// The numbers that every packet has.
+// Returns the numbers that every packet has.
 fn plain(sender: u8, addressee: u8) -> Numbers
     ensures { result ≡ plain sender addressee }
 {
@@ -59,7 +59,7 @@ fn plain(sender: u8, addressee: u8) -> Numbers
     }
 }
 
-// The numbers of the entry at this index, if there is one.
+// Returns the numbers of the entry at this index, if there is one.
 fn entry_numbers<B>(entries: &[Entry<B>], index: usize) -> EntryNumbers
     ensures { result ≡ entry_numbers (slice_get entries.now index) }
 {
@@ -91,7 +91,7 @@ fn entry_numbers<B>(entries: &[Entry<B>], index: usize) -> EntryNumbers
     }
 }
 
-// The numbers of no entry.
+// Returns the numbers of no entry.
 fn no_entry() -> EntryNumbers
     ensures { result ≡ no_entry }
 {
@@ -103,7 +103,7 @@ fn no_entry() -> EntryNumbers
 }
 
 impl Numbers {
-    /// The numbers of the packet.
+    /// Returns the packet's numbers.
     pub fn of<B>(packet: &Packet<B>) -> Numbers
         ensures { result ≡ numbers_of packet.now }
     {
@@ -147,7 +147,7 @@ impl Numbers {
     }
 }
 
-// With those of forwarded entries.
+// Returns the numbers with those of forwarded entries.
 fn with_entries<B>(numbers: Numbers, entries: &[Entry<B>]) -> Numbers
     ensures { result ≡ forward_numbers entries.now numbers }
 {

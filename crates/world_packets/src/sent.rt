@@ -11,7 +11,7 @@ use std::marker::Model;
 /// Every packet ever sent, in order. No packet is ever taken out.
 pub struct SentPackets<B> {
     packets: Vec<Packet<B>>,
-    // The places of the different packets.
+    // The indices of the different packets.
     places: IndexMap<Key, usize>,
 }
 
@@ -40,7 +40,7 @@ impl<B> Model for SentPackets<B> {
 }
 
 impl<B> SentPackets<B> {
-    /// Nothing was sent. Takes no memory; `make_room` will, from `alloc`.
+    /// Returns nothing sent. Does not allocate; `make_room` will, from `alloc`.
     pub fn new(alloc: Global) -> SentPackets<B>
         ensures { result.packets ≡ [] }
     {
@@ -50,14 +50,14 @@ impl<B> SentPackets<B> {
         }
     }
 
-    /// The packets, in order.
+    /// Returns the packets, in order.
     pub fn as_slice(&self) -> &[Packet<B>]
         ensures { result.now ≡ self.now.packets }
     {
         self.packets.as_slice()
     }
 
-    /// Takes the memory for so many packets more. With `Memory` as well as without it they are as they were.
+    /// Reserves memory for `more` further packets. The packets stay as they were, with `Memory` too.
     pub fn make_room(&mut self, more: usize) -> Result<(), Memory>
         ensures packets { self.new.packets ≡ self.old.packets }
         ensures ok { OnOk result (more ≤ self.new.room) }
@@ -69,15 +69,15 @@ impl<B> SentPackets<B> {
 }
 
 impl<B: Body> SentPackets<B> {
-    /// Whether an equal packet was sent. Looks at the packets with the same numbers alone, each of them once however often it was sent. Takes
-    /// no memory.
+    /// Returns whether an equal packet was sent. Looks only at the packets with the same numbers, and at each of them once however often it
+    /// was sent. Does not allocate.
     pub fn was_sent(&self, packet: &Packet<B>) -> bool
         ensures { result ≡ is_among B.same packet.now self.now.packets }
     {
         seek(&self.packets, &self.places, packet).is_none()
     }
 
-    /// The packets were sent, in this order. Takes no memory.
+    /// Appends the packets as sent, in this order. Does not allocate.
     pub fn push_all_in_room(&mut self, packets: Vec<Packet<B>>)
         requires { length packets.items ≤ self.old.room }
         ensures packets { self.new.packets ≡ self.old.packets ++ packets.items }
@@ -87,7 +87,7 @@ impl<B: Body> SentPackets<B> {
         }
     }
 
-    // The packet was sent.
+    // Appends the packet as sent.
     fn push_in_room(&mut self, packet: Packet<B>)
         requires { 1 ≤ self.old.room }
         ensures packets { self.new.packets ≡ self.old.packets ++ packet ∷ [] }
@@ -98,7 +98,7 @@ impl<B: Body> SentPackets<B> {
     }
 }
 
-// `None` where an equal packet was sent; else the ordinal under which its place is to be kept.
+// Returns `None` if an equal packet was sent; otherwise the ordinal under which its index is to be kept.
 fn seek<B: Body>(
     packets: &[Packet<B>],
     places: &IndexMap<Key, usize>,
@@ -119,7 +119,7 @@ fn seek<B: Body>(
     Some(packets.len())
 }
 
-// Keeps the place behind all packets for this one, where it is another than they.
+// Notes the index after all packets for this one, if it differs from all of them.
 fn list<B: Body>(packets: &[Packet<B>], places: &mut IndexMap<Key, usize>, packet: &Packet<B>)
     requires index { IsIndex places.old.entries packets.now }
     requires spare { 0 < spare places.old }

@@ -1,4 +1,4 @@
--- One member was handed nothing more; the one behind it is next.
+-- One member was handed nothing more; the one after it is next.
 use Rattle.std.proofs.Common.{◌++◌, ◌∙◌, sym, ap, arith, rules}
 use Rattle.cluster_world.specs.Told.{tell_members}
 use Rattle.cluster_world.proofs.handings.next_in.Goals as goal

@@ -3,28 +3,28 @@ use Rattle.std.proofs.Common.{◌≤◌, ◌<◌, ◌^◌, ℕ, ◌+◌, sym, ap
 use Rattle.paxos_planning.specs.Node.{NodeState}
 use Rattle.paxos_node.specs.Adopting.{Fits}
 use Rattle.replica_machine.specs.Log.{machine_from}
-use Rattle.world_nodes.specs.Seated.{node_of}
+use Rattle.world_nodes.specs.Nodes.{node_of}
 use Rattle.cluster_world.proofs.Attending.{carried, kept_back, stays_here, agrees_so}
 use Rattle.cluster_world.proofs.member.carry_out.Goals as goal
 
 pub returns-in_err-added-clause-err : goal.returns-in_err-added-clause-err
 returns-in_err-added-clause-err g c = λ first h.
     stays_here g.M.Machine.content (machine_from g.M.Machine.next g.M.Machine.says g.M.Machine.to first) c.from_residual.result
-    (node_of c.args.seat.now).rows.boot (node_of c.args.seat.now).applied c.args.follower.now h
+    (node_of c.args.node.now).rows.boot (node_of c.args.node.now).applied c.args.follower.now h
 
 pub attend-requires-clause-agrees : goal.attend-requires-clause-agrees
 attend-requires-clause-agrees g c =
-    agrees_so c.applied-from.result (node_of c.args.seat.now).applied c.args.follower.now.log c.as_slice.result.now c.args.outcome.applied
+    agrees_so c.applied-from.result (node_of c.args.node.now).applied c.args.follower.now.log c.as_slice.result.now c.args.outcome.applied
     (c.applied-from.ensures.length ∙ ap (λ (x : NodeState _). length x.applied) c.prepare.ensures.node) c.as_slice.ensures c.requires.front
     c.requires.logs
 
 pub returns-in_err-attend-clause-err : goal.returns-in_err-attend-clause-err
 returns-in_err-attend-clause-err g c = λ first h.
     kept_back g.M.Machine.content (machine_from g.M.Machine.next g.M.Machine.says g.M.Machine.to first) c.from_residual-in_err-attend.result
-    c.boot.result (node_of c.args.seat.now).rows.boot c.applied-from.result (node_of c.args.seat.now).applied c.args.follower.now
+    c.boot.result (node_of c.args.node.now).rows.boot c.applied-from.result (node_of c.args.node.now).applied c.args.follower.now
     c.attend.new.follower (c.boot.ensures ∙ ap (λ (x : NodeState _). x.rows.boot) c.prepare.ensures.node)
     (c.applied-from.ensures.length ∙ ap (λ (x : NodeState _). length x.applied) c.prepare.ensures.node) h
-    (λ n f k. c.in_err-attend.ensures.err first (node_of c.args.seat.now).applied n f k)
+    (λ n f k. c.in_err-attend.ensures.err first (node_of c.args.node.now).applied n f k)
 
 pub commit-requires-clause-fits : goal.commit-requires-clause-fits
 commit-requires-clause-fits g c =
@@ -40,11 +40,11 @@ returns-clause-refuses g c = λ h.
 pub returns-clause-ok : goal.returns-clause-ok
 returns-clause-ok g c = λ first h.
     carried g.M.Machine.content (machine_from g.M.Machine.next g.M.Machine.says g.M.Machine.to first)
-    c.boot.result (node_of c.args.seat.now).rows.boot c.applied-from.result (node_of c.args.seat.now).applied c.as_slice.result.now
+    c.boot.result (node_of c.args.node.now).rows.boot c.applied-from.result (node_of c.args.node.now).applied c.as_slice.result.now
     c.args.outcome.applied c.args.follower.now
     c.attend.new.follower (c.boot.ensures ∙ ap (λ (x : NodeState _). x.rows.boot) c.prepare.ensures.node)
     (c.applied-from.ensures.length ∙ ap (λ (x : NodeState _). length x.applied) c.prepare.ensures.node) c.as_slice.ensures c.requires.front h
-    (λ l n f k. c.in_ok-attend.ensures.ok first (node_of c.args.seat.now).applied l n f k)
+    (λ l n f k. c.in_ok-attend.ensures.ok first (node_of c.args.node.now).applied l n f k)
 
 pub attend-requires-clause-slots : goal.attend-requires-clause-slots
 attend-requires-clause-slots g c =

@@ -32,67 +32,67 @@ returns-then-not-is_possible-clause-given_up g c = given_up_same (machines_of c.
 
 pub happen-requires-clause-own : goal.happen-requires-clause-own
 happen-requires-clause-own g c =
-    let p = (placed c.args.list.now.items c.deref.result.now c.args.event.now c.owner.result c.index_mut.result.now
-    c.owner.ensures c.deref.ensures.value c.if-not-is_possible.ensures c.index_mut.ensures.value) in
-    p.own ∙ sym (c.requires.seated.each (c.owner.result - 1) c.index_mut.result.now p.at).0
+    let p = (placed c.args.list.now.items c.deref.result.now c.args.event.now c.node.result c.index_mut.result.now
+    c.node.ensures c.deref.ensures.value c.if-not-is_possible.ensures c.index_mut.ensures.value) in
+    p.own ∙ sym (c.requires.seated.each (c.node.result - 1) c.index_mut.result.now p.at).0
 
 pub happen-requires-clause-possible : goal.happen-requires-clause-possible
 happen-requires-clause-possible g c =
-    let p = (placed c.args.list.now.items c.deref.result.now c.args.event.now c.owner.result c.index_mut.result.now
-    c.owner.ensures c.deref.ensures.value c.if-not-is_possible.ensures c.index_mut.ensures.value) in p.can
+    let p = (placed c.args.list.now.items c.deref.result.now c.args.event.now c.node.result c.index_mut.result.now
+    c.node.ensures c.deref.ensures.value c.if-not-is_possible.ensures c.index_mut.ensures.value) in p.can
 
 pub happen-requires-clause-rests : goal.happen-requires-clause-rests
 happen-requires-clause-rests g c =
-    let p = (placed c.args.list.now.items c.deref.result.now c.args.event.now c.owner.result c.index_mut.result.now
-    c.owner.ensures c.deref.ensures.value c.if-not-is_possible.ensures c.index_mut.ensures.value) in
+    let p = (placed c.args.list.now.items c.deref.result.now c.args.event.now c.node.result c.index_mut.result.now
+    c.node.ensures c.deref.ensures.value c.if-not-is_possible.ensures c.index_mut.ensures.value) in
     rests_here g.M.Body.Body.same g.M.Machine.content (machine_from g.M.Machine.next g.M.Machine.says g.M.Machine.to c.requires.leads.0)
     c.args.members c.args.event.now c.args.list.now.items c.args.sent.now.packets c.args.made.now.items
-    c.requires.leads.1 c.requires.leads.2 c.requires.seated (c.owner.result - 1) c.index_mut.result.now p.at p.own
+    c.requires.leads.1 c.requires.leads.2 c.requires.seated (c.node.result - 1) c.index_mut.result.now p.at p.own
     (sym c.if-not-was_sent.ensures) p.can
 
 pub happen-requires-clause-agrees : goal.happen-requires-clause-agrees
 happen-requires-clause-agrees g c =
-    let p = (placed c.args.list.now.items c.deref.result.now c.args.event.now c.owner.result c.index_mut.result.now
-    c.owner.ensures c.deref.ensures.value c.if-not-is_possible.ensures c.index_mut.ensures.value) in
+    let p = (placed c.args.list.now.items c.deref.result.now c.args.event.now c.node.result c.index_mut.result.now
+    c.node.ensures c.deref.ensures.value c.if-not-is_possible.ensures c.index_mut.ensures.value) in
     agrees_here g.M.Body.Body.same g.M.Machine.content (machine_from g.M.Machine.next g.M.Machine.says g.M.Machine.to c.requires.leads.0)
     c.args.members c.args.event.now c.args.list.now.items c.args.sent.now.packets c.args.made.now.items
-    c.requires.leads.1 c.requires.leads.2 c.requires.seated (c.owner.result - 1) c.index_mut.result.now p.at p.own
+    c.requires.leads.1 c.requires.leads.2 c.requires.seated (c.node.result - 1) c.index_mut.result.now p.at p.own
     (sym c.if-not-was_sent.ensures) p.can
     (record { reflexive = g.met.M.Body.Body.reflexive; sound = g.met.M.Body.Body.sound }) c.requires.many
 
 pub happen-requires-clause-front : goal.happen-requires-clause-front
 happen-requires-clause-front g c =
-    let p = (placed c.args.list.now.items c.deref.result.now c.args.event.now c.owner.result c.index_mut.result.now
-    c.owner.ensures c.deref.ensures.value c.if-not-is_possible.ensures c.index_mut.ensures.value) in
+    let p = (placed c.args.list.now.items c.deref.result.now c.args.event.now c.node.result c.index_mut.result.now
+    c.node.ensures c.deref.ensures.value c.if-not-is_possible.ensures c.index_mut.ensures.value) in
     front_here g.M.Body.Body.same g.M.Machine.content (machine_from g.M.Machine.next g.M.Machine.says g.M.Machine.to c.requires.leads.0)
     c.args.members c.args.event.now c.args.list.now.items c.args.sent.now.packets c.args.made.now.items
-    c.requires.leads.1 c.requires.leads.2 c.requires.seated (c.owner.result - 1) c.index_mut.result.now p.at p.own
+    c.requires.leads.1 c.requires.leads.2 c.requires.seated (c.node.result - 1) c.index_mut.result.now p.at p.own
     (sym c.if-not-was_sent.ensures) p.can
 
 pub happen-requires-clause-logs : goal.happen-requires-clause-logs
 happen-requires-clause-logs g c =
-    let p = (placed c.args.list.now.items c.deref.result.now c.args.event.now c.owner.result c.index_mut.result.now
-    c.owner.ensures c.deref.ensures.value c.if-not-is_possible.ensures c.index_mut.ensures.value) in
+    let p = (placed c.args.list.now.items c.deref.result.now c.args.event.now c.node.result c.index_mut.result.now
+    c.node.ensures c.deref.ensures.value c.if-not-is_possible.ensures c.index_mut.ensures.value) in
     logs_here g.M.Body.Body.same g.M.Machine.content (machine_from g.M.Machine.next g.M.Machine.says g.M.Machine.to c.requires.leads.0)
     c.args.members c.args.event.now c.args.list.now.items c.args.sent.now.packets c.args.made.now.items
-    c.requires.leads.1 c.requires.leads.2 c.requires.seated (c.owner.result - 1) c.index_mut.result.now p.at p.own
+    c.requires.leads.1 c.requires.leads.2 c.requires.seated (c.node.result - 1) c.index_mut.result.now p.at p.own
     (sym c.if-not-was_sent.ensures) p.can
     (record { reflexive = g.met.M.Body.Body.reflexive; sound = g.met.M.Body.Body.sound }) c.requires.many
 
 pub returns-clause-seated : goal.returns-clause-seated
 returns-clause-seated g c =
-    let p = (placed c.args.list.now.items c.deref.result.now c.args.event.now c.owner.result c.index_mut.result.now
-    c.owner.ensures c.deref.ensures.value c.if-not-is_possible.ensures c.index_mut.ensures.value) in
-    members_kept c.args.members c.args.list.now.items (c.owner.result - 1) c.index_mut.result.now c.happen.new.self c.requires.seated p.at
+    let p = (placed c.args.list.now.items c.deref.result.now c.args.event.now c.node.result c.index_mut.result.now
+    c.node.ensures c.deref.ensures.value c.if-not-is_possible.ensures c.index_mut.ensures.value) in
+    members_kept c.args.members c.args.list.now.items (c.node.result - 1) c.index_mut.result.now c.happen.new.self c.requires.seated p.at
     c.happen.ensures.me c.happen.ensures.members c.happen.ensures.machine
 
 pub returns-clause-ok : goal.returns-clause-ok
 returns-clause-ok g c = λ first es h.
-    let p = (placed c.args.list.now.items c.deref.result.now c.args.event.now c.owner.result c.index_mut.result.now
-    c.owner.ensures c.deref.ensures.value c.if-not-is_possible.ensures c.index_mut.ensures.value) in
+    let p = (placed c.args.list.now.items c.deref.result.now c.args.event.now c.node.result c.index_mut.result.now
+    c.node.ensures c.deref.ensures.value c.if-not-is_possible.ensures c.index_mut.ensures.value) in
     stands_on g.M.Body.Body.same g.M.Machine.content (machine_from g.M.Machine.next g.M.Machine.says g.M.Machine.to first)
     c.args.members c.args.event.now c.args.list.now.items c.args.sent.now.packets c.args.made.now.items
-    es h c.requires.seated (c.owner.result - 1) c.index_mut.result.now p.at p.own
+    es h c.requires.seated (c.node.result - 1) c.index_mut.result.now p.at p.own
     (sym c.if-not-was_sent.ensures) p.can
     (record { reflexive = g.met.M.Body.Body.reflexive; sound = g.met.M.Body.Body.sound }) c.requires.many
     c.happen.result c.happen.new.self c.happen.new.sent.packets c.happen.new.made.items c.happen.ensures.ok
@@ -100,19 +100,19 @@ returns-clause-ok g c = λ first es h.
 
 pub returns-clause-err : goal.returns-clause-err
 returns-clause-err g c = λ first es h.
-    let p = (placed c.args.list.now.items c.deref.result.now c.args.event.now c.owner.result c.index_mut.result.now
-    c.owner.ensures c.deref.ensures.value c.if-not-is_possible.ensures c.index_mut.ensures.value) in
+    let p = (placed c.args.list.now.items c.deref.result.now c.args.event.now c.node.result c.index_mut.result.now
+    c.node.ensures c.deref.ensures.value c.if-not-is_possible.ensures c.index_mut.ensures.value) in
     stands_back g.M.Body.Body.same g.M.Machine.content (machine_from g.M.Machine.next g.M.Machine.says g.M.Machine.to first)
     c.args.members c.args.event.now c.args.list.now.items c.args.sent.now.packets c.args.made.now.items
-    es h c.requires.seated (c.owner.result - 1) c.index_mut.result.now p.at p.own
+    es h c.requires.seated (c.node.result - 1) c.index_mut.result.now p.at p.own
     (sym c.if-not-was_sent.ensures) p.can
     c.happen.result c.happen.new.self c.happen.new.sent.packets c.happen.new.made.items c.happen.ensures.err
     (c.happen.ensures.rests first)
 
 pub returns-clause-given_up : goal.returns-clause-given_up
 returns-clause-given_up g c =
-    let p = (placed c.args.list.now.items c.deref.result.now c.args.event.now c.owner.result c.index_mut.result.now
-    c.owner.ensures c.deref.ensures.value c.if-not-is_possible.ensures c.index_mut.ensures.value) in
-    given_up_on c.happen.result c.args.list.now.items (c.owner.result - 1) c.index_mut.result.now c.happen.new.self c.args.sent.now.packets
+    let p = (placed c.args.list.now.items c.deref.result.now c.args.event.now c.node.result c.index_mut.result.now
+    c.node.ensures c.deref.ensures.value c.if-not-is_possible.ensures c.index_mut.ensures.value) in
+    given_up_on c.happen.result c.args.list.now.items (c.node.result - 1) c.index_mut.result.now c.happen.new.self c.args.sent.now.packets
     c.happen.new.sent.packets c.args.made.now.items c.happen.new.made.items p.at
     c.happen.ensures.given_up c.happen.ensures.refuses c.happen.ensures.err

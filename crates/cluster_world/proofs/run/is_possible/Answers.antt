@@ -10,11 +10,11 @@ use Rattle.cluster_world.proofs.run.is_possible.Goals as goal
 
 pub returns-in-Some : goal.returns-in-Some
 returns-in-Some g c =
-    let at = slice_get_read c.args.list.now (length c.args.list.now) (c.owner-node.result - 1) c.in-Some.member.now refl
+    let at = slice_get_read c.args.list.now (length c.args.list.now) (c.node-node.result - 1) c.in-Some.member.now refl
     c.in-Some.ensures.lookup.3.0 c.in-Some.ensures.lookup.1 in
-    let number : owner c.args.event.now ≡ suc (c.owner-node.result - 1) = omega (arith, c.owner-node.ensures, c.if-node-eq0.false) in
+    let number : owner c.args.event.now ≡ suc (c.node-node.result - 1) = omega (arith, c.node-node.ensures, c.if-node-eq0.false) in
     c.may.ensures
     ∙ ap (λ x. possible c.args.event.now x)
     (sym (ap (λ k. node_at (nodes_of c.args.list.now) k) number
-    ∙ node_of_get (nodes_of c.args.list.now) (c.owner-node.result - 1) c.in-Some.member.now.node
-    (get_map (λ (z : MemberState _ _ _). z.node) c.args.list.now (c.owner-node.result - 1) c.in-Some.member.now at)))
+    ∙ node_of_get (nodes_of c.args.list.now) (c.node-node.result - 1) c.in-Some.member.now.node
+    (get_map (λ (z : MemberState _ _ _). z.node) c.args.list.now (c.node-node.result - 1) c.in-Some.member.now at)))

@@ -1,4 +1,4 @@
--- So many members are put in as machines were taken out.
+-- The members that are put in so far, for the machines that were taken out so far.
 use Rattle.std.proofs.Common.{◌≡◌, ◌≤◌, ◌++◌, length, vec_len, vec_capacity}
 use Rattle.replica_machine.specs.Log.{machine_from}
 use Rattle.cluster_world.specs.Founding.{AreFounded, AllAttend}

@@ -6,7 +6,7 @@ use Rattle.paxos_learner.specs.Learner.{run_from}
 use Rattle.replica_machine.specs.Roll.{standing}
 use Rattle.paxos_planning.specs.declared.effects.Effects.{Effects}
 use Rattle.paxos_planning.specs.Drafting.{Known}
-use Rattle.paxos_planning.specs.Node.{Turn}
+use Rattle.paxos_planning.specs.Node.{Plan}
 use Rattle.paxos_planning.specs.Front.{IsFront}
 use Rattle.paxos_planning.specs.Parts.{proposer_of, learner_of}
 use Rattle.paxos_node.specs.declared.outcome.Outcome.{Outcome}
@@ -19,13 +19,13 @@ use Rattle.paxos_node.proofs.settling.ended.Goals as goal
 pub returns-clause-settled : goal.returns-clause-settled
 returns-clause-settled g c =
     let k : Known g.row.B.Denot = c.args.draft.of in
-    let t : Turn g.row.B.Denot = c.args.draft.turn in
+    let t : Plan g.row.B.Denot = c.args.draft.plan in
     let e : Effects g.row.B.Denot = c.into_effects.result in
     let run : List (Entry g.row.B.Denot) = c.args.run in
     let o : Outcome g.row.B.Denot = outcome_with e c.first_of-applied.result c.until_lost-count.result.1 c.log_behind-log.result
     (front_behind c.args.front c.first_of-applied.result) in
     let run_is : run ≡ run_from (suc (length k.state.applied)) (hear_all e.news.items (learner_of k.members k.state)).learner.learned =
-    c.requires.run ∙ ap (λ (u : Turn g.row.B.Denot). run_from (suc (length k.state.applied)) u.node.learner.learned) c.into_effects.ensures.turn in
+    c.requires.run ∙ ap (λ (u : Plan g.row.B.Denot). run_from (suc (length k.state.applied)) u.node.learner.learned) c.into_effects.ensures.plan in
     let counted : c.until_lost-count.result.0 ≡ count_to_end k.me k.state.rows.boot (standing k.me k.state.applied) run =
     c.until_lost-count.ensures.count
     ∙ (λ i. count_to_end (c.me.ensures i) (c.boot.ensures i) (c.standing_in-standing.ensures i) (c.as_slice.ensures i)) in
@@ -37,14 +37,14 @@ returns-clause-settled g c =
     let log : c.log_behind-log.result ≡ cond c.until_lost-count.result.1 0 (length k.state.applied + length c.first_of-applied.result) =
     c.log_behind-log.ensures ∙ (λ i. cond c.until_lost-count.result.1 0 (c.applied.ensures.length i + length (c.as_slice-2.ensures i))) in
     let front : IsFront c.args.front (length k.state.applied) (after_moves e.moves.items (proposer_of k.me k.members k.state)).proposer.role k.state.pending =
-    subst (λ (u : Turn g.row.B.Denot). IsFront c.args.front (length u.node.applied) u.node.proposer.role k.state.pending) c.into_effects.ensures.turn
+    subst (λ (u : Plan g.row.B.Denot). IsFront c.args.front (length u.node.applied) u.node.proposer.role k.state.pending) c.into_effects.ensures.plan
     c.requires.front in
     let stand : c.front_behind-stand.result ≡ front_behind c.args.front c.first_of-applied.result =
     c.front_behind-stand.ensures ∙ ap (λ (es : List (Entry g.row.B.Denot)). front_behind c.args.front es) c.as_slice-3.ensures in
     let planned : c.with.result ≡ o =
     c.with.ensures ∙ ap (λ (n : ℕ). outcome_with e c.first_of-applied.result c.until_lost-count.result.1 c.log_behind-log.result n) stand in
     let plan : Settled k.me k.members k.state t (with_added k.added o) =
-    subst (λ (u : Turn g.row.B.Denot). Settled k.me k.members k.state u (with_added k.added o)) (sym c.into_effects.ensures.turn)
+    subst (λ (u : Plan g.row.B.Denot). Settled k.me k.members k.state u (with_added k.added o)) (sym c.into_effects.ensures.plan)
     (settled k t.disagrees e run c.first_of-applied.result c.until_lost-count.result.1 c.log_behind-log.result c.args.front c.requires.agrees c.requires.up run_is applied down log
     c.into_effects.ensures.moves c.begins.ensures c.into_effects.ensures.rises front c.requires.most) in
     subst (λ (p : Outcome g.row.B.Denot). Settled k.me k.members k.state t (with_added k.added p)) (sym planned) plan

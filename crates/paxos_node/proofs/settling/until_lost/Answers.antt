@@ -11,7 +11,7 @@ loop-entry-preserved g c =
     let count = count_to_end c.args.me c.args.boot c.args.standing es in
     let end = has_end c.args.me c.args.boot c.args.standing es in (
       counts_on c.args.me c.args.boot c.loop-entry.now c.entry-item.result (drop (i + 1) es) (drop i es) c.loop-entry.count count end
-          c.behind-now.result c.if-ends_boot.ensures c.behind-now.ensures (rest_is es i c.entry-item.result c.loop-entry-test.true c.entry-item.is)
+          c.after-now.result c.if-ends_boot.ensures c.after-now.ensures (rest_is es i c.entry-item.result c.loop-entry-test.true c.entry-item.is)
           c.loop-entry.invariant.0,
       ap (λ n. n + 1) c.loop-entry.invariant.1,
     )

@@ -4,7 +4,7 @@ use Rattle.replica_machine.specs.Roll.{IsRollOf}
 use Rattle.paxos_node.specs.Adopting.{pending_behind}
 use Rattle.paxos_node.proofs.waiting.apply_all.Given as goal
 
--- behind the log so far, the rest gives what the whole gives
+-- after the log so far, the rest gives what the whole gives
 abbrev pub invariant-loop-entry : goal.invariant-loop-entry
 invariant-loop-entry g l =
     (log : List (Entry g.row.B.Denot)) → IsRollOf log l.initial.roll

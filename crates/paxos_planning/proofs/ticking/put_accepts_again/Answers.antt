@@ -20,14 +20,14 @@ returns g c =
     let x : NodeState g.row.B.Denot = c.args.node.now.state in
     let proposed : List (Vote g.row.B.Denot) = proposals_of x.proposer.role in
     let learned : c.learner.result.now.state ≡ learner_of members x = c.learner.ensures in
-    let votes : c.proposed_behind-votes.result.now ≡ behind (length x.applied) proposed =
-    c.proposed_behind-votes.ensures.behind ∙ (λ i. behind (c.applied.ensures.length i) (proposals_of (c.proposer.ensures i).proposer.role)) in
+    let votes : c.proposed_after-votes.result.now ≡ behind (length x.applied) proposed =
+    c.proposed_after-votes.ensures.behind ∙ (λ i. behind (c.applied.ensures.length i) (proposals_of (c.proposer.ensures i).proposer.role)) in
     let own : c.me-me.result ≡ me = c.me-me.ensures in
     let rest : c.as_slice.result.now ≡ others me members = search rules in
     let slots : AreInSlots proposed =
-    subst (λ (s : proposing.State g.row.B.Denot). AreInSlots (proposals_of s.proposer.role)) c.proposer.ensures c.proposed_behind-votes.ensures.slots in
+    subst (λ (s : proposing.State g.row.B.Denot). AreInSlots (proposals_of s.proposer.role)) c.proposer.ensures c.proposed_after-votes.ensures.slots in
     let asked : List (Packet g.row.B.Denot) = flat_map (asked_again c.me-me.result c.as_slice.result.now c.learner.result.now.state.learner.learned)
-    c.proposed_behind-votes.result.now in
+    c.proposed_after-votes.result.now in
     let put : c.put_accepts.new.packets.items ≡ c.args.packets.now.items ++ asked = c.in_ok-put_accepts.ensures.ok in
     let same : asked ≡ flat_map (asked_again me (others me members) x.learner.learned) (behind (length x.applied) proposed) =
     (λ i. flat_map (asked_again (own i) (rest i) (learned i).learner.learned) (votes i)) in

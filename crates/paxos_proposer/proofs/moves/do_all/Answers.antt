@@ -6,7 +6,7 @@ use Rattle.paxos_proposer.specs.Moves.{after_move, after_moves, IsPossible, AreP
 use Rattle.paxos_proposer.specs.State.{State, Room, HasRoom}
 use Rattle.paxos_proposer.proofs.moves.do_all.Goals as goal
 
--- the room for all is room for the first, and what that leaves is for those behind it
+-- the room for all is room for the first, and what that leaves is for those after it
 
 first : (own others all had : ℕ) → all ≡ own + others → all ≤ had → own ≤ had
 first own others all had e h = omega arith

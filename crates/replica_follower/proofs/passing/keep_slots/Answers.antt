@@ -2,7 +2,7 @@ use Rattle.std.proofs.Common.{rules, ◌≡◌, sym, ap, ◌∙◌, subst, suc, 
 use Rattle.std.proofs.Common.{inl, inr, slice_index_or}
 use Rattle.std.proofs.lemmas.Bool.{cases_lt}
 use Rattle.std.specs.Vec.Iter.{into_iter_items}
-use Rattle.replica_follower.specs.Following.{said_in_boot, kept_at}
+use Rattle.replica_follower.specs.Following.{said_in_boot, deferred_at}
 use Rattle.replica_follower.proofs.Slots.{left}
 use Rattle.replica_follower.proofs.passing.keep_slots.Goals as goal
 
@@ -13,7 +13,7 @@ loop-says-preserved g c =
     let slot = c.loop-says.slot in
     let from = c.args.from in
     let all = c.args.said.items in
-    let new = c.keep_all.new.kept in
+    let new = c.keep_all.new.deferred in
     let rest : into_iter_items c.loop-says.says-iterator ≡ c.in-Some.says ∷ into_iter_items c.next.new.self = search rules in
     let count = ap (λ l. length l) rest in
     let at = left (λ says. says.items) [] (slot - from) all c.in-Some.says (into_iter_items c.next.new.self) (sym rest ∙ so_far.2) in
@@ -29,10 +29,10 @@ loop-says-preserved g c =
         | inr behind ↦ (let here : slot ≡ from + i = omega arith in
             let place : slot - from ≡ i = (let a = so_far.0 in omega arith) in
             let said = sym at.1 ∙ ap (λ k. slice_index_or (map (λ says. says.items) all) k []) place in
-            subst (λ j. kept_at b j new ≡ kept_at b j c.args.kept.now
+            subst (λ j. deferred_at b j new ≡ deferred_at b j c.args.deferred.now
             ++ said_in_boot g.M.Machine.to c.args.node b (slice_index_or (map (λ says. says.items) all) i [])) here
             (did.here b later
             ∙ ap (λ l. l ++ said_in_boot g.M.Machine.to c.args.node b c.in-Some.says.items) (so_far.4 b slot (omega arith))
-            ∙ ap (λ ys. kept_at b slot c.args.kept.now ++ said_in_boot g.M.Machine.to c.args.node b ys) said))
+            ∙ ap (λ ys. deferred_at b slot c.args.deferred.now ++ said_in_boot g.M.Machine.to c.args.node b ys) said))
       ],
     )

@@ -3,10 +3,10 @@ use Rattle.std.specs.Prelude.{vec_len, IsErrOf}
 use Rattle.std.proofs.lemmas.List.{length-append}
 use Rattle.replica_follower.specs.declared.telling.Untold.TheVariants.{Unheard, Heard}
 use Rattle.replica_follower.specs.Handed.{room_in}
-use Rattle.replica_follower.specs.Following.{said_to, said_in_boot, kept_at, kept_from}
+use Rattle.replica_follower.specs.Following.{said_to, said_in_boot, deferred_at, deferred_from}
 use Rattle.replica_follower.proofs.telling.tell.Goals as goal
 
--- the places from the end of a log on
+-- the indices from the end of a log on
 at_end : (from old i : ℕ) → from ≡ old → old ≤ from + i
 at_end from old i is = omega arith
 
@@ -44,7 +44,7 @@ returns-in-Err g c = record {
   room = tt;
   known = λ b i l. refl;
   behind = tt;
-  kept = λ first follows. tt;
+  deferred = λ first follows. tt;
 }
 
 pub overflow_add-end : goal.overflow_add-end
@@ -83,12 +83,12 @@ pub returns-clause-room : goal.returns-clause-room
 returns-clause-room g c = λ t.
     let to = g.M.Machine.to in
     let from = length c.applied-from.result.now in
-    let kept = c.keep_slots.new.kept in
+    let deferred = c.keep_slots.new.deferred in
     let room = room_in t c.args.handed.now in
     c.in-Ok-expect_all.ensures.room t
-    ∙ ap (λ n. room + length (said_to to t (kept_from c.args.boot from n kept)))
+    ∙ ap (λ n. room + length (said_to to t (deferred_from c.args.boot from n deferred)))
     (rest_is from c.len.result (vec_len c.args.entries) (c.len.ensures ∙ c.in-Ok.ensures.count ∙ sym c.args.entries.ok.0))
-    ∙ ap (λ p. room + length (said_to to t (kept_from c.args.boot (length p) (vec_len c.args.entries) kept))) c.applied-from.ensures
+    ∙ ap (λ p. room + length (said_to to t (deferred_from c.args.boot (length p) (vec_len c.args.entries) deferred))) c.applied-from.ensures
 
 pub returns-clause-known : goal.returns-clause-known
 returns-clause-known g c = λ b i l. c.keep_slots.ensures.before b i (subst (λ p. i < length p) (sym c.applied-from.ensures) l)
@@ -100,12 +100,12 @@ returns-clause-behind g c = λ b i l.
     (ap (λ p. length p) c.applied-from.ensures) c.in-Ok.ensures.applied l in
     c.keep_slots.ensures.behind b i (subst (λ n. from + n ≤ i) (sym c.in-Ok.ensures.count) at.0) ∙ c.requires.behind b i at.1
 
-pub returns-clause-kept : goal.returns-clause-kept
-returns-clause-kept g c = λ first follows b i later l.
+pub returns-clause-deferred : goal.returns-clause-deferred
+returns-clause-deferred g c = λ first follows b i later l.
     let from = length c.applied-from.result.now in
     let from_is = ap (λ p. length p) c.applied-from.ensures in
     let said_in = said_in_boot g.M.Machine.to c.args.node b in
-    ap (λ k. kept_at b (k + i) c.keep_slots.new.kept) (sym from_is)
+    ap (λ k. deferred_at b (k + i) c.keep_slots.new.deferred) (sym from_is)
     ∙ c.in-Ok-keep_slots.ensures.here b i later (subst (λ n. i < n) (c.args.entries.ok.0 ∙ sym c.in-Ok.ensures.count) l)
     ∙ ap (λ ys. ys ++ said_in (slice_index_or (map (λ says. says.items) c.in-Ok.said.items) i []))
     (c.requires.behind b (from + i) (at_end from (length c.args.applied.now.applied) i from_is))

@@ -1,4 +1,4 @@
--- One event more stands, or the one that did not happen does not.
+-- One more event happened, or the one that did not happen changes nothing.
 use Rattle.std.proofs.Common.{◌≡◌, Some, sym, subst}
 use Rattle.std.specs.Prelude.{slice_get}
 use Rattle.replica_machine.specs.Log.{machine_from}

@@ -2,7 +2,7 @@ use Rattle.std.proofs.Common.{◌≡◌, ◌≤◌, List, Bool, true, false, Err
 use Rattle.std.proofs.lemmas.Result.{on_ok_weaker}
 use Rattle.paxos_packets.specs.Members.{is_majority, is_in, set_with}
 use Rattle.paxos_packets.specs.declared.vote.Vote.{Vote}
-use Rattle.paxos_learner.specs.declared.tallies.Place.{Place}
+use Rattle.paxos_learner.specs.declared.tallies.SlotBallot.{SlotBallot}
 use Rattle.paxos_learner.specs.Tallies.{Heard, hear, nodes_heard}
 use Rattle.paxos_learner.specs.Learner.{Held, learned_at, is_other, voted, vote_disagrees}
 use Rattle.paxos_learner.proofs.Counting.{few_voted, few_agree, most_voted, most_agree, heard_before}
@@ -10,7 +10,7 @@ use Rattle.paxos_learner.proofs.learner.Learner.vote.Goals as goal
 
 pub returns-then-not-majority-clause-ok : goal.returns-then-not-majority-clause-ok
 returns-then-not-majority-clause-ok g c =
-    let p : Place = record { slot = c.args.slot; ballot = c.args.ballot } in
+    let p : SlotBallot = record { slot = c.args.slot; ballot = c.args.ballot } in
     let v : Vote g.row.B.Denot = record { slot = c.args.slot; ballot = c.args.ballot; entry = c.args.entry.now } in
     let f : c.majority.result ≡ false = search rules in
     let set : c.with-nodes.result ≡ set_with (nodes_heard p c.self.inside.heard.heard) c.args.node =
@@ -25,7 +25,7 @@ returns-then-not-majority-clause-ok g c =
 
 pub returns-then-not-majority-clause-disagree : goal.returns-then-not-majority-clause-disagree
 returns-then-not-majority-clause-disagree g c =
-    let p : Place = record { slot = c.args.slot; ballot = c.args.ballot } in
+    let p : SlotBallot = record { slot = c.args.slot; ballot = c.args.ballot } in
     let v : Vote g.row.B.Denot = record { slot = c.args.slot; ballot = c.args.ballot; entry = c.args.entry.now } in
     let f : c.majority.result ≡ false = search rules in
     let set : c.with-nodes.result ≡ set_with (nodes_heard p c.self.inside.heard.heard) c.args.node =
@@ -39,7 +39,7 @@ returns-then-not-majority-clause-disagree g c =
 
 pub returns-in_err-learn-clause-disagree : goal.returns-in_err-learn-clause-disagree
 returns-in_err-learn-clause-disagree g c =
-    let p : Place = record { slot = c.args.slot; ballot = c.args.ballot } in
+    let p : SlotBallot = record { slot = c.args.slot; ballot = c.args.ballot } in
     let v : Vote g.row.B.Denot = record { slot = c.args.slot; ballot = c.args.ballot; entry = c.args.entry.now } in
     let f : c.majority.result ≡ true = search rules in
     let set : c.with-nodes.result ≡ set_with (nodes_heard p c.self.inside.heard.heard) c.args.node =
@@ -57,7 +57,7 @@ returns-in_err-learn-clause-disagree g c =
 
 pub unreachable-requires : goal.unreachable-requires
 unreachable-requires g c =
-    let p : Place = record { slot = c.args.slot; ballot = c.args.ballot } in
+    let p : SlotBallot = record { slot = c.args.slot; ballot = c.args.ballot } in
     let f : c.majority.result ≡ true = search rules in
     let set : c.with-nodes.result ≡ set_with (nodes_heard p c.self.inside.heard.heard) c.args.node =
     c.with-nodes.ensures ∙ ap (λ (s : List Bool). set_with s c.args.node) c.nodes.ensures in
@@ -69,7 +69,7 @@ unreachable-requires g c =
 
 pub returns-clause-ok : goal.returns-clause-ok
 returns-clause-ok g c =
-    let p : Place = record { slot = c.args.slot; ballot = c.args.ballot } in
+    let p : SlotBallot = record { slot = c.args.slot; ballot = c.args.ballot } in
     let v : Vote g.row.B.Denot = record { slot = c.args.slot; ballot = c.args.ballot; entry = c.args.entry.now } in
     let f : c.majority.result ≡ true = search rules in
     let set : c.with-nodes.result ≡ set_with (nodes_heard p c.self.inside.heard.heard) c.args.node =

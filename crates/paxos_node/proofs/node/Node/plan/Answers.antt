@@ -1,6 +1,6 @@
 use Rattle.std.proofs.Common.{sym, ◌∙◌}
 use Rattle.paxos_planning.specs.Node.{NodeState}
-use Rattle.paxos_planning.specs.Turn.{begun}
+use Rattle.paxos_planning.specs.Plan.{begun}
 use Rattle.paxos_node.specs.Applying.{settle}
 use Rattle.paxos_node.specs.Events.{on_event, is_round_refused, is_full_refused}
 use Rattle.paxos_node.proofs.Answering.{is_own, is_one_planned, is_then_up, owner_answers, planned_fits}

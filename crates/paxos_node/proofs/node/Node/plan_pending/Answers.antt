@@ -1,8 +1,8 @@
 use Rattle.std.proofs.Common.{◌≡◌, ◌≤◌, ℕ, Some, length, sym, subst, ◌∙◌}
 use Rattle.std.proofs.lemmas.Result.{on_ok_weaker}
 use Rattle.std.specs.Prelude.{OnOk}
-use Rattle.paxos_planning.specs.Node.{NodeState, Turn}
-use Rattle.paxos_planning.specs.Turn.{begun}
+use Rattle.paxos_planning.specs.Node.{NodeState, Plan}
+use Rattle.paxos_planning.specs.Plan.{begun}
 use Rattle.paxos_planning.specs.Drafting.{Known, known, with_pending_entry}
 use Rattle.paxos_planning.specs.Front.{IsFront}
 use Rattle.paxos_planning.specs.Proposals.{push}
@@ -12,8 +12,8 @@ use Rattle.paxos_node.proofs.node.Node.plan_pending.Goals as goal
 pub front-front-requires : goal.front-front-requires
 front-front-requires g c =
     let x : NodeState g.row.B.Denot = c.args.self.now.state in
-    subst (λ (t : Turn g.row.B.Denot). IsFront c.front.result (length t.node.applied) t.node.proposer.role c.draft-draft.result.of.state.pending)
-    (sym c.draft-draft.ensures.turn)
+    subst (λ (t : Plan g.row.B.Denot). IsFront c.front.result (length t.node.applied) t.node.proposer.role c.draft-draft.result.of.state.pending)
+    (sym c.draft-draft.ensures.plan)
     (subst (λ (k : Known g.row.B.Denot). IsFront c.front.result (length x.applied) x.proposer.role k.state.pending) (sym c.draft-draft.ensures.of) c.front.ensures)
 
 pub push-done-requires : goal.push-done-requires
@@ -37,10 +37,10 @@ returns g c =
     let me : ℕ = c.args.self.now.me in
     let members : ℕ = c.args.self.now.members in
     let x : NodeState g.row.B.Denot = c.args.self.now.state in
-    let t : Turn g.row.B.Denot = push g.B.Body.same members me (begun (with_pending_entry (Some c.args.entry.now) x)) in
+    let t : Plan g.row.B.Denot = push g.B.Body.same members me (begun (with_pending_entry (Some c.args.entry.now) x)) in
     let of : c.push-done.new.self.of ≡ known me members x (Some c.args.entry.now) = c.push-done.ensures.of ∙ c.draft-draft.ensures.of in
-    let turn : OnOk c.push-done.result (c.push-done.new.self.turn ≡ t) =
+    let plan : OnOk c.push-done.result (c.push-done.new.self.plan ≡ t) =
     on_ok_weaker c.push-done.result
-    (λ p. p ∙ (λ i. push g.B.Body.same (c.draft-draft.ensures.of i).members (c.draft-draft.ensures.of i).me (c.draft-draft.ensures.turn i)))
-    c.push-done.ensures.turn in
-    done_pending me members x c.push-done.new.self (Some c.args.entry.now) t c.push-done.result c.settle.result of turn c.settle.ensures.settled c.settle.ensures.memory
+    (λ p. p ∙ (λ i. push g.B.Body.same (c.draft-draft.ensures.of i).members (c.draft-draft.ensures.of i).me (c.draft-draft.ensures.plan i)))
+    c.push-done.ensures.plan in
+    done_pending me members x c.push-done.new.self (Some c.args.entry.now) t c.push-done.result c.settle.result of plan c.settle.ensures.settled c.settle.ensures.memory

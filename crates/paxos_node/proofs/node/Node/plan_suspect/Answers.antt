@@ -1,6 +1,6 @@
 use Rattle.std.proofs.Common.{◌≡◌, ℕ, true, false, subst, Option, Some, None, sym, ◌∙◌, rules}
 use Rattle.paxos_packets.specs.declared.entry.Entry.{Entry}
-use Rattle.paxos_planning.specs.Node.{NodeState, Turn}
+use Rattle.paxos_planning.specs.Node.{NodeState, Plan}
 use Rattle.paxos_node.specs.Plans.{Answered}
 use Rattle.paxos_node.specs.Events.{has_room, new_lost}
 use Rattle.paxos_node.proofs.Answering.{none_answered, lost_answered}
@@ -14,7 +14,7 @@ returns-in_default-clause-answered g c =
     let x : NodeState g.row.B.Denot = c.args.self.now.state in
     let none : ◌≡◌ {A = Option (Entry g.row.B.Denot)} None (new_lost g.B.Body.same me c.args.other x) = search rules in
     none_answered g.B.Body.same me members x c.finish.result c.args.other none
-    (subst (λ (t : Turn g.row.B.Denot). Answered me members x false false t c.finish.result) c.draft.ensures.turn c.finish.ensures.answered)
+    (subst (λ (t : Plan g.row.B.Denot). Answered me members x false false t c.finish.result) c.draft.ensures.plan c.finish.ensures.answered)
 
 pub returns-clause-answered : goal.returns-clause-answered
 returns-clause-answered g c =

@@ -26,16 +26,16 @@ ended-requires-clause-front g c = was_done c.args.done c.in-Ok.run' c.in-Ok.ensu
 
 pub returns-in-Err-clause-settled : goal.returns-in-Err-clause-settled
 returns-in-Err-clause-settled g c =
-    settled_fault c.args.self.now.me c.args.self.now.members c.args.self.now.state c.args.draft.of.added c.args.draft.turn c.args.done c.in-Err.fault
-    (run_from (suc (length c.args.draft.of.state.applied)) c.args.draft.turn.node.learner.learned) c.in-Err.ensures.run
+    settled_fault c.args.self.now.me c.args.self.now.members c.args.self.now.state c.args.draft.of.added c.args.draft.plan c.args.done c.in-Err.fault
+    (run_from (suc (length c.args.draft.of.state.applied)) c.args.draft.plan.node.learner.learned) c.in-Err.ensures.run
 
 pub returns-in-Err-clause-memory : goal.returns-in-Err-clause-memory
 returns-in-Err-clause-memory g c = fault_alike (Entries g.row.B.Denot) (Outcome g.row.B.Denot) c.args.done c.in-Err.fault c.in-Err.ensures.memory
 
 pub returns-clause-settled : goal.returns-clause-settled
 returns-clause-settled g c =
-    settled_done c.args.self.now.me c.args.self.now.members c.args.self.now.state c.args.draft.of.added c.args.draft.turn c.args.done c.ended.result
-    (subst (λ (k : Known g.row.B.Denot). Settled k.me k.members k.state c.args.draft.turn (with_added c.args.draft.of.added c.ended.result)) c.requires.of
+    settled_done c.args.self.now.me c.args.self.now.members c.args.self.now.state c.args.draft.of.added c.args.draft.plan c.args.done c.ended.result
+    (subst (λ (k : Known g.row.B.Denot). Settled k.me k.members k.state c.args.draft.plan (with_added c.args.draft.of.added c.ended.result)) c.requires.of
     c.ended.ensures.settled)
 
 pub returns-clause-memory : goal.returns-clause-memory

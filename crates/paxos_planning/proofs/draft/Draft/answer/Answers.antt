@@ -1,5 +1,5 @@
 use Rattle.std.proofs.Common.{rules}
 use Rattle.paxos_planning.proofs.draft.Draft.answer.Goals as goal
 
-pub returns-in-Prepare-clause-turn : goal.returns-in-Prepare-clause-turn
-returns-in-Prepare-clause-turn g c = search rules
+pub returns-in-Prepare-clause-plan : goal.returns-in-Prepare-clause-plan
+returns-in-Prepare-clause-plan g c = search rules

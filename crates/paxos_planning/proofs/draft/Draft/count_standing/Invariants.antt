@@ -5,4 +5,4 @@ use Rattle.paxos_planning.proofs.draft.Draft.count_standing.Given as goal
 -- those so far stand
 abbrev pub invariant-loop-entry : goal.invariant-loop-entry
 invariant-loop-entry g l =
-    AllStand g.B.Body.same (length l.self.turn.node.applied) l.self.turn.node.proposer.role (take l.count l.entries) × (l.count ≡ l.entry-index)
+    AllStand g.B.Body.same (length l.self.plan.node.applied) l.self.plan.node.proposer.role (take l.count l.entries) × (l.count ≡ l.entry-index)

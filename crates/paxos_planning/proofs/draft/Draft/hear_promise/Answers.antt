@@ -4,13 +4,13 @@ use Rattle.paxos_proposer.specs.Proposing as to_do
 use Rattle.paxos_proposer.specs.State as proposing
 use Rattle.paxos_learner.specs.Hearing as to_hear
 use Rattle.paxos_planning.specs.Drafting.{Drafted, in_role}
-use Rattle.paxos_planning.specs.Node.{Turn}
+use Rattle.paxos_planning.specs.Node.{Plan}
 use Rattle.paxos_planning.proofs.Staying.{members_stay}
 use Rattle.paxos_planning.proofs.Planning.{turn_with}
 use Rattle.paxos_planning.proofs.draft.Draft.hear_promise.Goals as goal
 
-pub returns-clause-turn : goal.returns-clause-turn
-returns-clause-turn g c =
+pub returns-clause-plan : goal.returns-clause-plan
+returns-clause-plan g c =
     let p : proposing.State g.row.B.Denot = to_do.after c.self.inside.proposing in
     let votes : c.in-Ok.copy ≡ c.args.votes.now = search rules in
     let owned : (to_do.after c.self.inside.proposing).members ≡ c.self.inside.proposing.before.members =
@@ -18,7 +18,7 @@ returns-clause-turn g c =
     let known : c.self.inside.proposing.before.members ≡ c.self.inside.node.members =
     ap (λ (s : proposing.State g.row.B.Denot). s.members) c.self.invariant.0 in
     let members : p.members ≡ c.self.inside.node.members = owned ∙ known in
-    let whole : proposing.State g.row.B.Denot → Turn g.row.B.Denot = λ (s : proposing.State g.row.B.Denot). turn_with c.self.inside.node.state c.self.inside.change
+    let whole : proposing.State g.row.B.Denot → Plan g.row.B.Denot = λ (s : proposing.State g.row.B.Denot). turn_with c.self.inside.node.state c.self.inside.change
     c.self.inside.packets.items (to_hear.after c.self.inside.hearing).learner (option_copied c.self.inside.added) c.self.inside.disagrees s in
     let counted : proposing.State g.row.B.Denot = proposing.with_role (promised p.members c.args.sender c.args.ballot c.in-Ok.copy p.proposer.role) p in
     let own : proposing.State g.row.B.Denot =
@@ -27,7 +27,7 @@ returns-clause-turn g c =
     let second : whole counted ≡ whole own =
     (λ i. whole (proposing.with_role (promised (members i) c.args.sender c.args.ballot (votes i) p.proposer.role) p)) in
     first ∙ second
-    ∙ ap (λ (d : Drafted g.row.B.Denot). in_role (promised d.of.members c.args.sender c.args.ballot c.args.votes.now d.turn.node.proposer.role) d.turn)
+    ∙ ap (λ (d : Drafted g.row.B.Denot). in_role (promised d.of.members c.args.sender c.args.ballot c.args.votes.now d.plan.node.proposer.role) d.plan)
     c.self.view_is
 
 pub returns-clause-called : goal.returns-clause-called
@@ -44,5 +44,5 @@ returns-clause-called g c =
     (λ i. called_by (members i) c.args.sender c.args.ballot (votes i) p.proposer.role) in
     c.in-Ok-on_promise.ensures.called
     ∙ whose
-    ∙ ap (λ (d : Drafted g.row.B.Denot). called_by d.of.members c.args.sender c.args.ballot c.args.votes.now d.turn.node.proposer.role)
+    ∙ ap (λ (d : Drafted g.row.B.Denot). called_by d.of.members c.args.sender c.args.ballot c.args.votes.now d.plan.node.proposer.role)
     c.self.view_is

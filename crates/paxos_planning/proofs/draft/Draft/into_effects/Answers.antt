@@ -1,5 +1,5 @@
 use Rattle.std.proofs.Common.{rules}
 use Rattle.paxos_planning.proofs.draft.Draft.into_effects.Goals as goal
 
-pub returns-clause-turn : goal.returns-clause-turn
-returns-clause-turn g c = search rules
+pub returns-clause-plan : goal.returns-clause-plan
+returns-clause-plan g c = search rules

@@ -14,4 +14,4 @@ returns-in-Ok g c =
     ∙ ap (λ (s : proposing.State g.row.B.Denot). s.me) c.self.invariant.0 in
     next_is p.me p.proposer c.in-Ok.ballot c.in-Ok.ensures.ok c.in-Ok.ensures.rounds.1
     ∙ (λ i. next_own (me i) p.proposer)
-    ∙ ap (λ (d : Drafted g.row.B.Denot). next_own d.of.me d.turn.node.proposer) c.self.view_is
+    ∙ ap (λ (d : Drafted g.row.B.Denot). next_own d.of.me d.plan.node.proposer) c.self.view_is

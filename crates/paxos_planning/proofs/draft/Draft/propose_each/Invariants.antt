@@ -6,5 +6,5 @@ use Rattle.paxos_planning.proofs.draft.Draft.propose_each.Given as goal
 abbrev pub invariant-loop-entry : goal.invariant-loop-entry
 invariant-loop-entry g l =
     (l.self.of ≡ l.initial.self.of)
-    × (propose_each g.B.Body.same l.initial.self.of.members l.initial.self.of.me (drop l.entry-index l.entries) l.self.turn
-    ≡ propose_each g.B.Body.same l.initial.self.of.members l.initial.self.of.me l.entries l.initial.self.turn)
+    × (propose_each g.B.Body.same l.initial.self.of.members l.initial.self.of.me (drop l.entry-index l.entries) l.self.plan
+    ≡ propose_each g.B.Body.same l.initial.self.of.members l.initial.self.of.me l.entries l.initial.self.plan)

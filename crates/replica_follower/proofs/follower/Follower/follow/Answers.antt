@@ -3,8 +3,8 @@ use Rattle.std.proofs.lemmas.Result.{MatchResult-from_err}
 use Rattle.replica_machine.specs.Log.{machine_from}
 use Rattle.replica_machine.specs.Replay.{state, sayings_by_slot}
 use Rattle.replica_follower.specs.Handed.{said_in, room_in}
-use Rattle.replica_follower.specs.Following.{said_to, said_in_boot, kept_at, kept_from, Keeps}
-use Rattle.replica_follower.proofs.Logs.{parts, room_for, kept_then, handed_then, keeps_on, none_fresh, some_fresh, all_within}
+use Rattle.replica_follower.specs.Following.{said_to, said_in_boot, deferred_at, deferred_from, Keeps}
+use Rattle.replica_follower.proofs.Logs.{parts, room_for, deferred_then, handed_then, keeps_on, none_fresh, some_fresh, all_within}
 use Rattle.replica_follower.proofs.follower.Follower.follow.Goals as goal
 
 pub tell-requires : goal.tell-requires
@@ -36,14 +36,14 @@ hand_out-requires-clause-room g c = λ t.
     let log = c.in_ok-expect.ensures.log in
     let fresh = length (take (length es - (known - c.args.from)) (drop (known - c.args.from) es)) in
     room_for g.M.Machine.to t c.args.boot c.args.from known (length p) (c.args.from + length es) fresh
-    (room_in t c.args.self.now.told) (room_in t c.expect.new.self.told) (room_in t c.tell.new.self.told) c.args.self.now.kept c.tell.new.self.kept
+    (room_in t c.args.self.now.told) (room_in t c.expect.new.self.told) (room_in t c.tell.new.self.told) c.args.self.now.deferred c.tell.new.self.deferred
     of.order of.within of.count of.whole
     (λ i l. c.tell.ensures.known c.args.boot i (subst (λ q. i < length q) (sym log) l)
-    ∙ ap (λ kept. kept_at c.args.boot i kept) c.in_ok-expect.ensures.kept)
+    ∙ ap (λ deferred. deferred_at c.args.boot i deferred) c.in_ok-expect.ensures.deferred)
     (c.in_ok-expect.ensures.room t)
     (c.in_ok-tell.ensures.room t
     ∙ ap (λ l. room_in t c.expect.new.self.told
-    + length (said_to g.M.Machine.to t (kept_from c.args.boot (length l) fresh c.tell.new.self.kept))) log)
+    + length (said_to g.M.Machine.to t (deferred_from c.args.boot (length l) fresh c.tell.new.self.deferred))) log)
 
 pub returns-clause-follows : goal.returns-clause-follows
 returns-clause-follows g c = λ first follows alive.
@@ -64,20 +64,20 @@ returns-clause-ok_handed g c = λ first follows keeps t.
     let known = c.known-known.result in
     let of = parts c.args.from (length p) known es c.requires.within c.known-known.ensures in
     let before = c.in_ok-expect.ensures in
-    let kept = kept_then m c.args.self.now.node c.args.boot c.args.from p es c.expect.new.self.node c.expect.new.self.log
-    (take (length es - (known - c.args.from)) (drop (known - c.args.from) es)) c.expect.new.self.kept c.tell.new.self.kept
+    let deferred = deferred_then m c.args.self.now.node c.args.boot c.args.from p es c.expect.new.self.node c.expect.new.self.log
+    (take (length es - (known - c.args.from)) (drop (known - c.args.from) es)) c.expect.new.self.deferred c.tell.new.self.deferred
     of.are before.log before.node
-    (λ b i later passed l. ap (λ kept. kept_at b i kept) before.kept ∙ keeps b i later passed l)
+    (λ b i later passed l. ap (λ deferred. deferred_at b i deferred) before.deferred ∙ keeps b i later passed l)
     c.tell.ensures.known
-    (c.in_ok-tell.ensures.kept first
+    (c.in_ok-tell.ensures.deferred first
     (λ up. ap (λ v. g.M.Machine.content v) before.machine
     ∙ follows (sym before.given_up ∙ up)
     ∙ ap (λ l. state m l) (sym before.log))) in
     c.hand_out.ensures.said t
-    ∙ ap (λ ys. ys ++ said_to m.to t (kept_from c.args.boot c.args.from (c.args.from + length es - c.args.from) c.tell.new.self.kept))
+    ∙ ap (λ ys. ys ++ said_to m.to t (deferred_from c.args.boot c.args.from (c.args.from + length es - c.args.from) c.tell.new.self.deferred))
     (c.tell.ensures.said t ∙ before.said t)
     ∙ ap (λ ys. said_in t c.args.self.now.told ++ ys)
-    (handed_then m t c.args.self.now.node c.args.boot c.args.from p es c.tell.new.self.kept c.requires.within c.requires.agrees kept)
+    (handed_then m t c.args.self.now.node c.args.boot c.args.from p es c.tell.new.self.deferred c.requires.within c.requires.agrees deferred)
 
 pub returns-clause-ok_keeps : goal.returns-clause-ok_keeps
 returns-clause-ok_keeps g c = λ first follows keeps b i later passed l.
@@ -87,12 +87,12 @@ returns-clause-ok_keeps g c = λ first follows keeps b i later passed l.
     let known = c.known-known.result in
     let of = parts c.args.from (length p) known es c.requires.within c.known-known.ensures in
     let before = c.in_ok-expect.ensures in
-    let kept = kept_then m c.args.self.now.node c.args.boot c.args.from p es c.expect.new.self.node c.expect.new.self.log
-    (take (length es - (known - c.args.from)) (drop (known - c.args.from) es)) c.expect.new.self.kept c.tell.new.self.kept
+    let deferred = deferred_then m c.args.self.now.node c.args.boot c.args.from p es c.expect.new.self.node c.expect.new.self.log
+    (take (length es - (known - c.args.from)) (drop (known - c.args.from) es)) c.expect.new.self.deferred c.tell.new.self.deferred
     of.are before.log before.node
-    (λ b i later passed l. ap (λ kept. kept_at b i kept) before.kept ∙ keeps b i later passed l)
+    (λ b i later passed l. ap (λ deferred. deferred_at b i deferred) before.deferred ∙ keeps b i later passed l)
     c.tell.ensures.known
-    (c.in_ok-tell.ensures.kept first
+    (c.in_ok-tell.ensures.deferred first
     (λ up. ap (λ v. g.M.Machine.content v) before.machine
     ∙ follows (sym before.given_up ∙ up)
     ∙ ap (λ l. state m l) (sym before.log))) in
@@ -102,8 +102,8 @@ returns-clause-ok_keeps g c = λ first follows keeps b i later passed l.
     ∙ ap (λ l. l ++ take (length es - (known - c.args.from)) (drop (known - c.args.from) es)) before.log
     ∙ ap (λ l. p ++ l) of.are in
     let node : c.hand_out.new.self.node ≡ c.args.self.now.node = c.hand_out.ensures.node ∙ c.tell.ensures.node ∙ before.node in
-    c.hand_out.ensures.kept b i passed
-    ∙ kept b i later (λ e. let z = passed e in omega arith) (subst (λ q. i < length q) log l)
+    c.hand_out.ensures.deferred b i passed
+    ∙ deferred b i later (λ e. let z = passed e in omega arith) (subst (λ q. i < length q) log l)
     ∙ ap (λ q. said_in_boot m.to c.args.self.now.node b (slice_index_or (sayings_by_slot m [] q) i [])) (sym log)
     ∙ ap (λ n. said_in_boot m.to n b (slice_index_or (sayings_by_slot m [] c.hand_out.new.self.log) i [])) (sym node)
 
@@ -115,7 +115,7 @@ returns-in_err-tell-clause-err_keeps g c = λ first keeps.
     c.from_residual-in_err-tell.ensures.0
     (λ _. keeps_on m c.args.boot c.args.from c.args.self.now c.tell.new.self (c.tell.ensures.node ∙ before.node)
     (c.in_err-tell.ensures.err_log ∙ before.log)
-    (λ b i l. c.tell.ensures.known b i (subst (λ q. i < length q) (sym before.log) l) ∙ ap (λ kept. kept_at b i kept) before.kept)
+    (λ b i l. c.tell.ensures.known b i (subst (λ q. i < length q) (sym before.log) l) ∙ ap (λ deferred. deferred_at b i deferred) before.deferred)
     keeps)
 
 pub returns-in_err-tell-clause-spared : goal.returns-in_err-tell-clause-spared

@@ -7,9 +7,9 @@ use Rattle.std.specs.declared.alloc.Global.{Global}
 use Rattle.paxos_packets.specs.declared.entry.Entry.{Entry}
 use Rattle.replica_machine.specs.Log.{LogState, machine_from}
 use Rattle.replica_machine.specs.Replay.{Machine, state, sayings_by_slot}
-use Rattle.replica_follower.specs.declared.kept.Place.{Place}
+use Rattle.replica_follower.specs.declared.deferred.BootSlot.{BootSlot}
 use Rattle.replica_follower.specs.Handed.{said_in, room_in}
-use Rattle.replica_follower.specs.Following.{Followed, Follows, IsHeld, said_to, said_in_boot, kept_at, kept_from}
+use Rattle.replica_follower.specs.Following.{Followed, Follows, IsHeld, said_to, said_in_boot, deferred_at, deferred_from}
 use Rattle.replica_follower.proofs.follower.Follower.tell.Goals as goal
 
 -- a log of n entries that goes on
@@ -56,8 +56,8 @@ module _ {B M Y : Type 0} (f q : Followed B M Y) (same : f ≡ q) where
   log_is : f.log ≡ q.log
   log_is = ap (λ (v : Followed B M Y). v.log) same
 
-  kept_is : f.kept ≡ q.kept
-  kept_is = ap (λ (v : Followed B M Y). v.kept) same
+  kept_is : f.deferred ≡ q.deferred
+  kept_is = ap (λ (v : Followed B M Y). v.deferred) same
 
   told_is : f.told ≡ q.told
   told_is = ap (λ (v : Followed B M Y). v.told) same
@@ -65,13 +65,13 @@ module _ {B M Y : Type 0} (f q : Followed B M Y) (same : f ≡ q) where
   given_up_is : f.given_up ≡ q.given_up
   given_up_is = ap (λ (v : Followed B M Y). v.given_up) same
 
--- what is kept of the entries told, by what they and the log are
-kept_as : {B S Y : Type 0} (m : Machine B S Y) (kept : List (Place × Vec Y Global)) (b i n k : ℕ) (p q es fs : List (Entry B)) → n ≡ k → p ≡ q
+-- what is deferred of the entries given, by what they and the log are
+deferred_as : {B S Y : Type 0} (m : Machine B S Y) (deferred : List (BootSlot × Vec Y Global)) (b i n k : ℕ) (p q es fs : List (Entry B)) → n ≡ k → p ≡ q
     → es ≡ fs
-    → kept_at b (length p + i) kept ≡ said_in_boot m.to n b (slice_index_or (sayings_by_slot m p es) i [])
-    → kept_at b (length q + i) kept ≡ said_in_boot m.to k b (slice_index_or (sayings_by_slot m q fs) i [])
-kept_as m kept b i n k p q es fs node log same h =
-    ap (λ l. kept_at b (length l + i) kept) (sym log)
+    → deferred_at b (length p + i) deferred ≡ said_in_boot m.to n b (slice_index_or (sayings_by_slot m p es) i [])
+    → deferred_at b (length q + i) deferred ≡ said_in_boot m.to k b (slice_index_or (sayings_by_slot m q fs) i [])
+deferred_as m deferred b i n k p q es fs node log same h =
+    ap (λ l. deferred_at b (length l + i) deferred) (sym log)
     ∙ h
     ∙ ap (λ l. said_in_boot m.to n b (slice_index_or (sayings_by_slot m p l) i [])) same
     ∙ ap (λ l. said_in_boot m.to n b (slice_index_or (sayings_by_slot m l fs) i [])) log
@@ -84,12 +84,12 @@ returns-then-is_empty-clause-ok_log g c =
 pub returns-then-is_empty-clause-room : goal.returns-then-is_empty-clause-room
 returns-then-is_empty-clause-room g c = λ t.
     let now = c.args.self.now in
-    subst (λ n. room_in t now.told ≡ room_in t now.told + length (said_to g.M.Machine.to t (kept_from c.args.boot (length now.log) n now.kept)))
+    subst (λ n. room_in t now.told ≡ room_in t now.told + length (said_to g.M.Machine.to t (deferred_from c.args.boot (length now.log) n now.deferred)))
     (sym (eqb-true (length c.args.entries.now) 0 (sym c.is_empty.ensures ∙ c.if-is_empty.true)))
     (no_room (room_in t now.told))
 
-pub returns-then-is_empty-clause-kept : goal.returns-then-is_empty-clause-kept
-returns-then-is_empty-clause-kept g c = λ first follows b i later l.
+pub returns-then-is_empty-clause-deferred : goal.returns-then-is_empty-clause-deferred
+returns-then-is_empty-clause-deferred g c = λ first follows b i later l.
     no_place i (length c.args.entries.now) (eqb-true (length c.args.entries.now) 0 (sym c.is_empty.ensures ∙ c.if-is_empty.true)) l
 
 pub tell-requires-clause-slots : goal.tell-requires-clause-slots
@@ -139,8 +139,8 @@ pub invariant_of-self-in-Err-Unheard : goal.invariant_of-self-in-Err-Unheard
 invariant_of-self-in-Err-Unheard g c =
     let inside = c.self.inside in
     let same = c.in-Err-Unheard.ensures.unheard (search rules) in
-    subst (λ (a : LogState g.row.M-Body.Denot g.row.M.Denot). IsHeld inside.stands a inside.given_up c.tell.new.kept) (sym same.0)
-    (subst (λ kept. IsHeld inside.stands inside.applied inside.given_up kept) (sym same.1) c.self.invariant)
+    subst (λ (a : LogState g.row.M-Body.Denot g.row.M.Denot). IsHeld inside.stands a inside.given_up c.tell.new.deferred) (sym same.0)
+    (subst (λ deferred. IsHeld inside.stands inside.applied inside.given_up deferred) (sym same.1) c.self.invariant)
 
 pub invariant_of-self-in-Err-Heard : goal.invariant_of-self-in-Err-Heard
 invariant_of-self-in-Err-Heard g c =
@@ -184,14 +184,14 @@ returns-in-Ok-clause-room g c = λ t.
     let to = g.M.Machine.to in
     let p = c.self.inside.applied.applied in
     let copies = c.in_ok-copies.copies in
-    let kept = c.tell.new.kept in
+    let deferred = c.tell.new.deferred in
     let now = c.args.self.now in
     let whole = c.self.invariant.whole c.if-self.false in
     c.in-Ok.ensures.room t
-    ∙ ap (λ told. room_in t told + length (said_to to t (kept_from c.args.boot (length p) copies.len kept))) (told_is _ now c.self.view_is)
-    ∙ ap (λ l. room_in t now.told + length (said_to to t (kept_from c.args.boot (length l) copies.len kept)))
+    ∙ ap (λ told. room_in t told + length (said_to to t (deferred_from c.args.boot (length p) copies.len deferred))) (told_is _ now c.self.view_is)
+    ∙ ap (λ l. room_in t now.told + length (said_to to t (deferred_from c.args.boot (length l) copies.len deferred)))
     (sym (all_of c.self.inside.stands p whole) ∙ log_is _ now c.self.view_is)
-    ∙ ap (λ n. room_in t now.told + length (said_to to t (kept_from c.args.boot (length now.log) n kept)))
+    ∙ ap (λ n. room_in t now.told + length (said_to to t (deferred_from c.args.boot (length now.log) n deferred)))
     (copies.ok.0 ∙ ap (λ l. length l) c.in_ok-copies.ensures)
 
 pub returns-in-Ok-clause-said : goal.returns-in-Ok-clause-said
@@ -201,19 +201,19 @@ pub returns-in-Ok-clause-known : goal.returns-in-Ok-clause-known
 returns-in-Ok-clause-known g c = λ b i l.
     let log = sym (all_of c.self.inside.stands c.self.inside.applied.applied (c.self.invariant.whole c.if-self.false))
     ∙ log_is _ c.args.self.now c.self.view_is in
-    c.tell.ensures.known b i (subst (λ q. i < length q) (sym log) l) ∙ ap (λ kept. kept_at b i kept) (kept_is _ c.args.self.now c.self.view_is)
+    c.tell.ensures.known b i (subst (λ q. i < length q) (sym log) l) ∙ ap (λ deferred. deferred_at b i deferred) (kept_is _ c.args.self.now c.self.view_is)
 
-pub returns-in-Ok-clause-kept : goal.returns-in-Ok-clause-kept
-returns-in-Ok-clause-kept g c = λ first follows b i later l.
+pub returns-in-Ok-clause-deferred : goal.returns-in-Ok-clause-deferred
+returns-in-Ok-clause-deferred g c = λ first follows b i later l.
     let m = machine_from g.M.Machine.next g.M.Machine.says g.M.Machine.to first in
     let p = c.self.inside.applied.applied in
     let now = c.args.self.now in
     let was = subst (λ (v : Followed g.row.M-Body.Denot g.row.M.Denot g.row.M-Say.Denot). Follows g.M.Machine.content m v)
     (sym c.self.view_is) follows c.if-self.false in
     let front = all_of c.self.inside.stands p (c.self.invariant.whole c.if-self.false) in
-    kept_as m c.tell.new.kept b i c.self.inside.node now.node p now.log c.in_ok-copies.copies.items c.args.entries.now
+    deferred_as m c.tell.new.deferred b i c.self.inside.node now.node p now.log c.in_ok-copies.copies.items c.args.entries.now
     (node_is _ now c.self.view_is) (sym front ∙ log_is _ now c.self.view_is) c.in_ok-copies.ensures
-    (c.in-Ok.ensures.kept first (was ∙ ap (λ l. state m l) front) b i later
+    (c.in-Ok.ensures.deferred first (was ∙ ap (λ l. state m l) front) b i later
     (subst (λ n. i < n) (sym (c.in_ok-copies.copies.ok.0 ∙ ap (λ es. length es) c.in_ok-copies.ensures)) l))
 
 pub returns-in-Ok-clause-spared : goal.returns-in-Ok-clause-spared
@@ -249,7 +249,7 @@ pub returns-in-Err-Unheard-clause-known : goal.returns-in-Err-Unheard-clause-kno
 returns-in-Err-Unheard-clause-known g c = λ b i l.
     let log = sym (all_of c.self.inside.stands c.self.inside.applied.applied (c.self.invariant.whole c.if-self.false))
     ∙ log_is _ c.args.self.now c.self.view_is in
-    c.tell.ensures.known b i (subst (λ q. i < length q) (sym log) l) ∙ ap (λ kept. kept_at b i kept) (kept_is _ c.args.self.now c.self.view_is)
+    c.tell.ensures.known b i (subst (λ q. i < length q) (sym log) l) ∙ ap (λ deferred. deferred_at b i deferred) (kept_is _ c.args.self.now c.self.view_is)
 
 pub returns-in-Err-Unheard-clause-spared : goal.returns-in-Err-Unheard-clause-spared
 returns-in-Err-Unheard-clause-spared g c = λ none. given_up_is _ c.args.self.now c.self.view_is
@@ -270,7 +270,7 @@ pub returns-in-Err-Heard-clause-known : goal.returns-in-Err-Heard-clause-known
 returns-in-Err-Heard-clause-known g c = λ b i l.
     let log = sym (all_of c.self.inside.stands c.self.inside.applied.applied (c.self.invariant.whole c.if-self.false))
     ∙ log_is _ c.args.self.now c.self.view_is in
-    c.tell.ensures.known b i (subst (λ q. i < length q) (sym log) l) ∙ ap (λ kept. kept_at b i kept) (kept_is _ c.args.self.now c.self.view_is)
+    c.tell.ensures.known b i (subst (λ q. i < length q) (sym log) l) ∙ ap (λ deferred. deferred_at b i deferred) (kept_is _ c.args.self.now c.self.view_is)
 
 pub returns-in-Err-Heard-clause-spared : goal.returns-in-Err-Heard-clause-spared
 returns-in-Err-Heard-clause-spared g c = λ none.

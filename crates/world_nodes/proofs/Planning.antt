@@ -1,0 +1,128 @@
+-- What one node does in an event, stated by what it adopts.
+use Rattle.std.proofs.Common.{◌≡◌, ℕ, Bool, true, false, not, ◌&&◌, eqb, refl, sym, ap, ◌∙◌, subst, [], ◌∷◌, ◌++◌, Option, Some, None}
+use Rattle.std.specs.Prelude.{is_some, nat_lt}
+use Rattle.std.proofs.lemmas.Bool.{cond_both, cond-false, and_parts}
+use Rattle.paxos_packets.specs.declared.entry.Entry.{Entry}
+use Rattle.paxos_acceptor.specs.Acceptor as accepting
+use Rattle.paxos_node.specs.declared.event.Event.{Event}
+use Rattle.paxos_node.specs.declared.event.Event.TheVariants.{Take, Tick, Start, Suspect, Deliver, Crash, Restart}
+use Rattle.paxos_node.specs.declared.outcome.Outcome.{Outcome}
+use Rattle.paxos_planning.specs.Node.{NodeState, Plan}
+use Rattle.paxos_planning.specs.Plan.{with_pending, begun}
+use Rattle.paxos_planning.specs.Proposals.{push}
+use Rattle.paxos_node.specs.Adopting.{adopted, stays_up}
+use Rattle.paxos_node.specs.Applying.{down, apply_all, settle}
+use Rattle.paxos_node.specs.Events.{takes, with_item, has_room, new_lost, suspected, new_item, suspected_by, made_by, is_round_refused, is_full_refused}
+use Rattle.paxos_planning.specs.Starting.{starts}
+use Rattle.paxos_node.specs.Events.{owner, possible, outcome_of}
+use Rattle.paxos_node.specs.Plans.{is_planned, plans}
+use Rattle.paxos_node.specs.Held.{Held}
+use Rattle.world_nodes.specs.declared.world_node.NodeStatus.{NodeStatus}
+use Rattle.world_nodes.specs.declared.world_node.NodeStatus.TheVariants.{Up, Down}
+use Rattle.world_nodes.specs.Nodes.{node_in, IsOfMember, IsAtRest}
+
+off : false ≡ true → ⊥
+off e = cc
+
+is_false : (b : Bool) → not b ≡ true → b ≡ false
+is_false true e = absurd (off e)
+is_false false e = refl
+
+-- a node at which nothing waits applies nothing
+pub settle_rest : {B : Type 0} (n : ℕ) (t : Plan B) → IsAtRest t.node → settle n t ≡ t
+settle_rest n t r = ap (λ es. apply_all n es t) r
+
+-- what is refused changes nothing
+
+module _ {B : Type 0} (same : B → B → Bool) (members : ℕ) where
+  pub round_refused : (e : Event B) (x : NodeState B) → IsAtRest x → is_round_refused e x ≡ true → outcome_of same members e x ≡ begun x
+  round_refused (Start n) x rest r = ap (λ t. settle n t) (cond-false (starts n x) _ (begun x) (is_false (starts n x) r)) ∙ settle_rest n (begun x) rest
+  round_refused (Take n t body) x rest r = absurd (off r)
+  round_refused (Tick n) x rest r = absurd (off r)
+  round_refused (Suspect n other) x rest r = absurd (off r)
+  round_refused (Deliver p) x rest r = absurd (off r)
+  round_refused (Crash n) x rest r = absurd (off r)
+  round_refused (Restart n) x rest r = absurd (off r)
+
+  suspected_refused : (n : ℕ) (x : NodeState B) (lost : Option (Entry B)) → has_room x ≡ false → suspected same members n lost (begun x) ≡ begun x
+  suspected_refused n x None f = refl
+  suspected_refused n x (Some lost) f =
+      cond-false (has_room x) (push same members n (record (begun x) { node = with_pending (x.pending ++ lost ∷ []) x })) (begun x) f
+
+  pub full_refused : (e : Event B) (x : NodeState B) → IsAtRest x → is_full_refused same e x ≡ true → outcome_of same members e x ≡ begun x
+  full_refused (Take n t body) x rest r =
+      ap (λ u. settle n u)
+      (cond-false (takes x) (push same members n (record (begun x) { node = with_item n t body x })) (begun x) (is_false (takes x) r))
+      ∙ settle_rest n (begun x) rest
+  full_refused (Suspect n other) x rest r =
+      ap (λ u. settle n u)
+      (suspected_refused n x (new_lost same n other x)
+      (is_false (has_room x) (and_parts (is_some (new_lost same n other x)) (not (has_room x)) r).1))
+      ∙ settle_rest n (begun x) rest
+  full_refused (Tick n) x rest r = absurd (off r)
+  full_refused (Start n) x rest r = absurd (off r)
+  full_refused (Deliver p) x rest r = absurd (off r)
+  full_refused (Crash n) x rest r = absurd (off r)
+  full_refused (Restart n) x rest r = absurd (off r)
+
+-- and makes nothing
+module _ {B : Type 0} (same : B → B → Bool) where
+  pub round_makes : (e : Event B) (x : NodeState B) → is_round_refused e x ≡ true → [] ≡ made_by same e x
+  round_makes (Start n) x r = refl
+  round_makes (Take n t body) x r = absurd (off r)
+  round_makes (Tick n) x r = refl
+  round_makes (Suspect n other) x r = absurd (off r)
+  round_makes (Deliver p) x r = refl
+  round_makes (Crash n) x r = refl
+  round_makes (Restart n) x r = absurd (off r)
+
+  suspected_makes : (lost : Option (Entry B)) (x : NodeState B) → has_room x ≡ false → [] ≡ suspected_by lost x
+  suspected_makes None x f = refl
+  suspected_makes (Some lost) x f = sym (cond-false (has_room x) (lost ∷ []) [] f)
+
+  pub full_makes : (e : Event B) (x : NodeState B) → is_full_refused same e x ≡ true → [] ≡ made_by same e x
+  full_makes (Take n t body) x r = sym (cond-false (takes x) (new_item n t body x ∷ []) [] (is_false (takes x) r))
+  full_makes (Suspect n other) x r =
+      suspected_makes (new_lost same n other x) x
+      (is_false (has_room x) (and_parts (is_some (new_lost same n other x)) (not (has_room x)) r).1)
+  full_makes (Tick n) x r = refl
+  full_makes (Start n) x r = refl
+  full_makes (Deliver p) x r = refl
+  full_makes (Crash n) x r = refl
+  full_makes (Restart n) x r = absurd (off r)
+
+-- what a node plans is possible at one that is up alone
+planned_up : {B : Type 0} (e : Event B) (x : NodeState B) → is_planned e ≡ true → possible e x ≡ true → x.up ≡ true
+planned_up (Take n t body) x p h = (and_parts x.up (nat_lt 0 t) h).0
+planned_up (Tick n) x p h = h
+planned_up (Start n) x p h = h
+planned_up (Suspect n other) x p h = h
+planned_up (Deliver q) x p h = h
+planned_up (Crash n) x p h = absurd (off p)
+planned_up (Restart n) x p h = absurd (off p)
+
+pub plans_up : {B : Type 0} (me : ℕ) (e : Event B) (x : NodeState B) → plans me e x ≡ true → x.up ≡ true
+plans_up me e x h =
+    let a = and_parts (eqb (owner e) me) (is_planned e && possible e x) h in
+    let b = and_parts (is_planned e) (possible e x) a.1 in
+    planned_up e x b.0 b.1
+
+-- a node that adopts, and is down then, has its rows alone
+
+pub down_adopted : {B : Type 0} (me members : ℕ) (o : Outcome B) (x : NodeState B) → x.up ≡ true → (adopted me members o x).up ≡ false
+    → adopted me members o x ≡ down (adopted me members o x).rows
+down_adopted {B} me members o x up =
+    cond_both o.is_down (down (accepting.adopted x.rows o.change)) (stays_up me members o x)
+    (λ (y : NodeState B). y.up ≡ false → y ≡ down y.rows) (λ t e. refl) (λ t e. absurd (off (sym e ∙ up)))
+
+-- a member whose node goes down as it adopts
+pub fell : {B : Type 0} (me members : ℕ) (p q : NodeStatus B) (n m : Held B) (o : Outcome B) → p ≡ Up n → IsOfMember me members p
+    → m.state ≡ adopted n.me n.members o n.state → m.state.up ≡ false → q ≡ Down m.state.rows
+    → node_in q ≡ adopted me members o (node_in p)
+fell {B} me members p q n m o is of_member a f d =
+    let s = subst (λ r. IsOfMember me members r) is of_member in
+    let there : adopted n.me n.members o n.state ≡ adopted me members o (node_in p) =
+    λ i. adopted (s.0 i) (s.1 i) o (node_in (sym is i)) in
+    ap (λ r. node_in r) d
+    ∙ (ap (λ (x : NodeState B). down x.rows) a
+    ∙ (sym (down_adopted n.me n.members o n.state s.2 (ap (λ (x : NodeState B). x.up) (sym a) ∙ f)) ∙ there))
