@@ -67,7 +67,7 @@ places {B} known change next h =
         let same : ◌≡◌ {A = Numbers} (record { boot = known.boot; promised = p }) next = cc in
         subst (Places known change) same (made p e all)
 
--- what is written where there is nothing to write
+-- what is written if there is nothing to write
 pub written_none : {B : Type 0} (rows : Rows B) (numbers : Numbers) (votes : List (Vote B)) → numbers ≡ numbers_in_rows rows → votes ≡ [] → written numbers votes rows ≡ rows
 written_none {B} rows numbers votes n v =
     subst (λ (vs : List (Vote B)). written numbers vs rows ≡ rows) (sym v) (subst (λ (m : Numbers). written m [] rows ≡ rows) (sym n) refl)

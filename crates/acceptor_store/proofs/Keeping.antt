@@ -38,7 +38,7 @@ module _ {B : Type 0} (reading : List ℕ → Reading B) where
       let same : s.committed.schema ≡ store_schema = lists_once _ s.committed.schema store_schema (live is_open).1.lists stores.sound.lists in
       (ap (λ (d : Database). d.schema) settled ∙ same, subst (λ (d : Database). Stores reading d.trees rows) (sym settled) stores)
 
-  -- what it reads is left, where a crash leaves the last commit
+  -- what it reads is left, if a crash leaves the last commit
   pub reads_left : (s : State) (rows : Rows B) → ((trees : Trees) → s.may_leave trees → trees ≡ s.committed.trees) → Stores reading s.committed.trees rows → Leaves reading s rows
   reads_left s rows crash stores trees may = subst (λ t. Stores reading t rows) (sym (crash trees may)) stores
 

@@ -1,4 +1,4 @@
--- What INSERT OR REPLACE makes of a tree: the row goes in where no other has its rowid.
+-- What INSERT OR REPLACE makes of a tree: the row goes in if no other has its rowid.
 use Rattle.std.proofs.Common.{◌≡◌, ◌≢◌, ◌⊎◌, inl, inr, ℕ, ℤ, List, [], ◌∷◌, Bool, true, false, not, ◌&&◌, cond, Option, Some, None, Ok, Err, Result, refl, sym, ap, subst, ◌∙◌}
 use Rattle.sqlite_value.specs.declared.value.Value.{Value}
 use Rattle.sqlite_value.specs.declared.value.Value.TheVariants.{Null, Int}
@@ -52,7 +52,7 @@ module _ (t : Table) (new : Row) (whole : cast_row t new ≡ new) (schema : Sche
   abbrev pub task : Task
   task = record { limit = limit; keys = keys; schema = schema; table = t; params = params }
 
-  -- the row is put among those of a tree, where it is free, and no other tree changes
+  -- the row is put among those of a tree, if its rowid is free there, and no other tree changes
   pub record PutsIn (db after : Trees) (was : List Row) : Type 0 where
     pub free : IsFree new was
     pub rows : after t.tree ≡ put_row new was

@@ -85,7 +85,7 @@ pub puts_some : (o : Option (List ℕ)) (old new : List ℕ) → Puts (Ok tt) o 
 puts_some None old new h = absurd h
 puts_some (Some octets) old new h = refl
 
--- the first vote, and those behind it
+-- the first vote, and those after it
 
 pub first_spelled : {B : Type 0} (spelling : B → Option (List ℕ)) (v : Vote B) (vs : List (Vote B)) → is_some (entry_spelling spelling v.entry) ≡ true
     → are_spelled spelling (v ∷ vs) ≡ are_spelled spelling vs

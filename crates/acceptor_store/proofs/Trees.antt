@@ -1,4 +1,4 @@
--- A row that is put into a tree where its rowid is free.
+-- A row that is put into a tree in which its rowid is free.
 use Rattle.std.proofs.Common.{◌≡◌, ◌⊎◌, inl, inr, ⊎_elim, ℕ, ℤ, pos, Bool, true, false, not, ◌||◌, ◌&&◌, cond, List, [], ◌∷◌, map, None, eqb, refl, ap, sym, ◌∙◌, subst, arith, Ordering, Less, Equal, Greater, is_eq, filter}
 use Rattle.std.specs.Ordering.{match_ordering}
 use Rattle.std.specs.List.{AllByRecursion, IsDistinct}
@@ -158,7 +158,7 @@ or_none : (b : Bool) → b || false ≡ true → b ≡ true
 or_none true h = refl
 or_none false h = absurd cc
 
--- a row conflicts by its rowid alone, where there is no index
+-- a row conflicts by its rowid alone, if there is no index
 pub conflict_number : (t : Table) (n r : Row) (m k : ℕ) → rowid r ≡ Int (pos m) → rowid n ≡ Int (pos k) → conflicts None [] t n r ≡ true → m ≡ k
 conflict_number t n r m k is new h =
     let agrees : equal (first_key plain).collation (column r 0) (column n 0) ≡ true = and_first _ _ (or_none _ h) in

@@ -107,7 +107,7 @@ is_one row n h = go (is_number 1 (number (column row 0))) refl h
 pub at_most_one : (tree : List Row) (n : Numbers) → HasNumbers tree n → HasAtMost 1 tree
 at_most_one tree n h = inr (h.0, h.1, is_one h.0 n h.2)
 
--- a promise that is not lowered stands over the same votes
+-- a promise that is not lowered is over the same votes
 pub votes_under : {B : Type 0} (reading : List ℕ → Reading B) (p q : Option Ballot) (tree : List Row) (vs : List (Vote B)) → NotLowered p q
     → AreVotes reading p tree vs → AreVotes reading q tree vs
 votes_under reading p q tree vs up a = record {

@@ -1,4 +1,4 @@
--- Which faults a load and a commit answer, beside those of memory and of the connection.
+-- Which faults a load and a commit return, beside those of memory and of the connection.
 use Rattle.std.specs.Prelude.{◌≡◌, Bool, ◌&&◌, ⊤, ℕ, List, map, Option, is_some, Result, Ok, Err}
 use Rattle.std.specs.List.{list_all}
 use Rattle.sqlite_trees.specs.Tree.{Trees}
@@ -23,7 +23,7 @@ stored_in reading trees = rows_of reading (map meta_columns (trees 0)) (map vote
 abbrev pub Gives : {B : Type 0} → (List ℕ → Reading B) → Database → Rows B → Type 0
 Gives reading db rows = (db.schema ≡ store_schema) × (stored_in reading db.trees ≡ Ok rows)
 
--- a load of this database answers this fault: that the version is another, or that the rows are damaged, exactly where they are read so;
+-- a load of this database returns this fault: that the version is another, or that the rows are damaged, exactly if they are read so;
 -- tables of another shape are damage
 abbrev pub Tells : {B : Type 0} → (List ℕ → Reading B) → Database → KeeperFault → Type 0
 Tells reading db Version = (db.schema ≡ store_schema) × (stored_in reading db.trees ≡ Err Version)
@@ -42,7 +42,7 @@ are_spelled spelling votes = list_all (λ v. is_some (entry_spelling spelling v.
 abbrev pub has_place : {B : Type 0} → (B → Option (List ℕ)) → Numbers → Change B → Bool
 has_place spelling numbers change = is_some (numbers_after numbers change) && are_spelled spelling change.votes
 
--- damage is told for this cause alone, and another version never
+-- damage is reported for this cause alone, and another version never
 abbrev pub Refuses : Type 0 → KeeperFault → Type 0
 Refuses cause Damaged = cause
 Refuses cause Version = ⊥

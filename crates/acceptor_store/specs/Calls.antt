@@ -1,4 +1,4 @@
--- What the calls of a keeper are told of its connection, and of the numbers that it knows.
+-- What the calls of a keeper are given of its connection, and of the numbers that it knows.
 use Rattle.std.specs.Prelude.{◌≡◌, true, false, Option, Some, None, ⊤}
 use Rattle.sqlite.specs.Held.{Held}
 use Rattle.store_rows.specs.declared.rows.Numbers.{Numbers}

@@ -19,13 +19,13 @@ all_has P [] x h none = absurd none
 all_has P (y ∷ ys) x h (inl e) = subst P (sym e) h.0
 all_has P (y ∷ ys) x h (inr more) = all_has P ys x h.1 more
 
--- votes that ascend from above a slot stand in later ones
+-- votes that ascend from above a slot are in later ones
 pub later : {B : Type 0} (low : ℕ) (vs : List (Vote B)) (x : Vote B) → AscendFrom low vs → Has vs x → low < x.slot
 later low [] x up none = absurd none
 later {B = B} low (v ∷ vs) x up (inl e) = subst (λ (w : Vote B). low < w.slot) (sym e) up.0
 later low (v ∷ vs) x up (inr h) = let k : v.slot < x.slot = later v.slot vs x up.1 h in let l : low < v.slot = up.0 in omega arith
 
--- without the vote in front, which stands in an earlier slot
+-- without the vote in front, which is in an earlier slot
 rest_has : {B : Type 0} (low : ℕ) (vs : List (Vote B)) (w : Vote B) (ws : List (Vote B)) → AscendFrom low vs → w.slot ≡ low
     → ((x : Vote B) → Has vs x → Has (w ∷ ws) x) → (x : Vote B) → Has vs x → Has ws x
 rest_has {B} low vs w ws up is f x h = go (f x h)

@@ -1,4 +1,5 @@
--- What the trees of a store stand for (docs/CONSENSUS.md, "Store"; Lamport 2001, section 2.5), and what a keeper over them holds and finds.
+-- What the trees of a store stand for (docs/CONSENSUS.md, "The store"; Lamport 2001, section 2.5), and what a keeper over them holds and
+-- finds.
 use Rattle.std.specs.Prelude.{◌≡◌, ◌<◌, ℕ, Bool, true, false, IsTrue, ◌==◌, List, [], ◌∷◌, map, Option, Some, None, unwrap_or, Ok, ⊤}
 use Rattle.std.specs.Prelude.{refl}
 use Rattle.std.specs.Coded.{Coded, code_by, coded×, coded_ℕ, coded_bool, coded_option}
@@ -110,7 +111,7 @@ Agrees None rows = ⊤
 Agrees (Some numbers) rows = numbers ≡ numbers_in_rows rows
 
 module _ {S : Type 0} (g : Ghosts S) {B : Type 0} (reading : List ℕ → Reading B) where
-  -- whatever is found when the store is opened again are these rows, where the disk has returned what was written
+  -- whatever is found when the store is opened again is these rows, if the disk has returned what was written
   abbrev pub Holds : Kept S → Rows B → Type 0
   Holds k rows =
       HasCleanDisk (state g k.conn) → Leaves reading (state g k.conn) rows × Agrees k.known rows

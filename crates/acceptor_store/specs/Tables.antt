@@ -1,4 +1,4 @@
--- The tables of the store, version 1 (docs/CONSENSUS.md, "Store"), and the statements on them.
+-- The tables of the store, version 1 (docs/CONSENSUS.md, "The store"), and the statements on them.
 use Rattle.std.specs.Prelude.{ℕ, pos, Bool, true, false, List, [], ◌∷◌, Some, codes}
 use Rattle.sqlite_value.specs.declared.keys.Collation.TheVariants.{Binary}
 use Rattle.sqlite_value.specs.declared.value.Value.TheVariants.{Null, Int, Blob as Octets}
@@ -71,7 +71,7 @@ read_meta_text = codes "SELECT k, version, boot, round, node FROM meta"
 abbrev pub read_votes_text : List ℕ
 read_votes_text = codes "SELECT slot, round, node, entry FROM vote ORDER BY slot"
 
--- rows as they are stored: the rowid stands before the columns, and its own column is NULL
+-- rows as they are stored: the rowid is before the columns, and its own column is NULL
 abbrev pub meta_row : ℕ → ℕ → ℕ → Row
 meta_row boot round node = Int (pos 1) ∷ Null ∷ Int (pos 1) ∷ Int (pos boot) ∷ Int (pos round) ∷ Int (pos node) ∷ []
 

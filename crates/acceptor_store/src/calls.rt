@@ -1,3 +1,4 @@
+// The calls of a keeper, over its connection and the numbers that it knows.
 ghost use Rattle.std.specs.Prelude.{◌≡◌, ◌⊎◌, ◌<◌, ◌≤◌, ◌-◌, ◌^◌, ◌≢◌, Some, [], IsTrue, IfOk, IfErr, OnOk, IsErrOf, true, false};
 ghost use Rattle.std.specs.List.{AllByRecursion};
 ghost use Rattle.sqlite_trees.specs.Tree.{Trees};
@@ -27,8 +28,6 @@ use std::alloc::Global;
 use store_keeper::KeeperFault;
 use store_rows::{Numbers, numbers_after, raise_boot};
 
-// The calls of a keeper, over its connection and the numbers that it knows.
-
 // Makes the tables of an empty database.
 fn found_anew<B, C: Coder<B>, S: Alter>(conn: &mut Connection<S>) -> Result<(), KeeperFault>
     requires alone { conn.old.in_transaction ≡ false }
@@ -40,11 +39,11 @@ fn found_anew<B, C: Coder<B>, S: Alter>(conn: &mut Connection<S>) -> Result<(), 
     ensures fault { IfErr result (λ e. (e ≡ KeeperFault.Memory) ⊎ (e ≡ KeeperFault.Store)) }
 {
     found_store(conn)?;
-    settle(conn);
+    settle(conn); // for the proof
     Ok(())
 }
 
-// Makes the tables where there is nothing yet.
+// Makes the tables, if the database is empty.
 pub(crate) fn found_where_empty<B, C: Coder<B>, S: Alter>(
     conn: &mut Connection<S>,
 ) -> Result<(), KeeperFault>
@@ -58,14 +57,14 @@ pub(crate) fn found_where_empty<B, C: Coder<B>, S: Alter>(
         (λ trees. (db : Database) × (conn.old.schema ≡ empty_schema → IsFounded db) × (trees ≡ db.trees)) }
     ensures fault { IfErr result (λ e. (e ≡ KeeperFault.Memory) ⊎ (e ≡ KeeperFault.Store)) }
 {
-    settle(conn);
+    settle(conn); // for the proof
     if is_empty(conn.schema()) {
         return found_anew::<B, C, S>(conn);
     }
     Ok(())
 }
 
-// The numbers among the rows.
+// Returns the numbers among the rows.
 fn numbers_in<B>(rows: &Rows<B>) -> Numbers
     ensures { result ≡ numbers_in_rows rows.now }
 {
@@ -75,7 +74,7 @@ fn numbers_in<B>(rows: &Rows<B>) -> Numbers
     }
 }
 
-// The rows, whose numbers are known from then on.
+// Reads the rows, whose numbers are known from then on.
 fn read<B: Body, C: Coder<B>, S: Alter>(
     alloc: Global,
     conn: &mut Connection<S>,
@@ -98,13 +97,13 @@ fn read<B: Body, C: Coder<B>, S: Alter>(
         → IsErrOf result KeeperFault.Damaged → ⊥ }
     ensures fault { IfErr result LiesBelow }
 {
-    settle(conn);
+    settle(conn); // for the proof
     let rows = read_store::<B, C, S>(alloc, conn)?;
     *known = Some(numbers_in(&rows));
     Ok(rows)
 }
 
-// The numbers that the store has.
+// Returns the numbers that the store has; reads the rows if they are not known.
 fn numbers<B: Body, C: Coder<B>, S: Alter>(
     alloc: Global,
     conn: &mut Connection<S>,
@@ -125,19 +124,19 @@ fn numbers<B: Body, C: Coder<B>, S: Alter>(
     if let Some(numbers) = *known {
         return Ok(numbers);
     }
-    settle(conn);
+    settle(conn); // for the proof
     let rows = read::<B, C, S>(alloc, conn, known)?;
     Ok(numbers_in(&rows))
 }
 
-// Whether these are the same numbers.
+// Returns whether these are the same numbers.
 fn are_same(left: &Numbers, right: &Numbers) -> bool
     ensures { IsTrue result → left.now ≡ right.now }
 {
     left == right
 }
 
-// Commits the numbers, where they are not those that are known, and the votes.
+// Commits the votes, and the numbers if they differ from those that are known.
 fn commit_over<B, C: Coder<B>, S: Alter>(
     conn: &mut Connection<S>,
     known: &Numbers,
@@ -194,7 +193,7 @@ fn put_numbers<B: Body, C: Coder<B>, S: Alter>(
     commit_rows::<B, C, S>(conn, true, numbers, none.as_slice(), octets)
 }
 
-// Commits the change, where it has a place.
+// Commits the change, if it has a place.
 fn write<B: Body, C: Coder<B>, S: Alter>(
     alloc: Global,
     conn: &mut Connection<S>,
@@ -260,8 +259,8 @@ fn raise<B: Body, C: Coder<B>, S: Alter>(
     Ok(rows)
 }
 
-// Counts a refusal of the connection, and tells the fault.
-fn told(fault: KeeperFault, failures: &mut u64) -> KeeperFault
+// Counts a refusal of the connection, and returns the fault.
+fn count_refusal(fault: KeeperFault, failures: &mut u64) -> KeeperFault
     ensures fault { (result ≡ fault) ⊎ (result ≡ KeeperFault.Failed) }
     ensures store { result ≡ KeeperFault.Store → failures.old < failures.new }
     ensures counts { failures.old ≤ failures.new }
@@ -277,7 +276,7 @@ fn told(fault: KeeperFault, failures: &mut u64) -> KeeperFault
     KeeperFault::Store
 }
 
-// The rows; refusals of the connection are counted.
+// Reads the rows; counts refusals of the connection.
 pub(crate) fn load_from<B: Body, C: Coder<B>, S: Alter>(
     alloc: Global,
     conn: &mut Connection<S>,
@@ -303,11 +302,11 @@ pub(crate) fn load_from<B: Body, C: Coder<B>, S: Alter>(
 {
     match read::<B, C, S>(alloc, conn, known) {
         Ok(rows) => Ok(rows),
-        Err(fault) => Err(told(fault, failures)),
+        Err(fault) => Err(count_refusal(fault, failures)),
     }
 }
 
-// Commits the change; refusals of the connection are counted.
+// Commits the change; counts refusals of the connection.
 pub(crate) fn commit_to<B: Body, C: Coder<B>, S: Alter>(
     alloc: Global,
     conn: &mut Connection<S>,
@@ -337,11 +336,11 @@ pub(crate) fn commit_to<B: Body, C: Coder<B>, S: Alter>(
 {
     match write::<B, C, S>(alloc, conn, known, change, octets) {
         Ok(()) => Ok(()),
-        Err(fault) => Err(told(fault, failures)),
+        Err(fault) => Err(count_refusal(fault, failures)),
     }
 }
 
-// Begins a boot; refusals of the connection are counted.
+// Begins a boot; counts refusals of the connection.
 pub(crate) fn boot_from<B: Body, C: Coder<B>, S: Alter>(
     alloc: Global,
     conn: &mut Connection<S>,
@@ -370,6 +369,6 @@ pub(crate) fn boot_from<B: Body, C: Coder<B>, S: Alter>(
 {
     match raise::<B, C, S>(alloc, conn, known, octets) {
         Ok(rows) => Ok(rows),
-        Err(fault) => Err(told(fault, failures)),
+        Err(fault) => Err(count_refusal(fault, failures)),
     }
 }

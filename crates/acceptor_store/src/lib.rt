@@ -1,5 +1,5 @@
-//! An acceptor's rows in a SQLite file (Lamport 2001, section 2.5: stable storage): two tables that any `sqlite3` reads, one transaction a
-//! commit.
+//! An acceptor's rows in a SQLite file (Lamport 2001, section 2.5: stable storage): two tables that any `sqlite3` reads, and one
+//! transaction for each commit.
 #![tactic(auto)]
 
 mod calls;

@@ -22,7 +22,7 @@ use std::marker::{Model, PhantomData};
 use store_keeper::{Keeper, KeeperFault};
 use store_rows::Numbers;
 
-/// A keeper whose rows are two tables of a SQLite database, one transaction a commit.
+/// A keeper whose rows are two tables of a SQLite database, with one transaction for each commit.
 ///
 /// It knows the numbers of `meta` from its last read or commit, and keeps one buffer for the octets of an entry; it holds no votes.
 pub struct SqlKeeper<B, C: Coder<B>, S: Alter> {
@@ -65,10 +65,10 @@ impl<B, C: Coder<B>, S: Alter + Drop> Drop for SqlKeeper<B, C, S> {
 }
 
 impl<B: Body, C: Coder<B>, S: Alter> SqlKeeper<B, C, S> {
-    /// A keeper over the database of this connection, in which it makes the two tables where there is nothing yet; it judges nothing else,
-    /// `load` does. SQLite's own open has read each page, so the whole takes time linear in the file; this call takes none.
+    /// Opens a keeper over the database of this connection, and makes the two tables if the database is empty. It judges nothing else;
+    /// `load` does. SQLite's own open has read each page, so opening takes time linear in the file as a whole; this call itself takes none.
     ///
-    /// With a fault, `Store` or `Memory`, the connection is handed back, and the database is still empty, or has the two tables.
+    /// After a fault, `Store` or `Memory`, the connection is handed back, and the database is still empty, or has the two tables.
     pub fn open(
         alloc: Global,
         conn: Connection<S>,
@@ -98,7 +98,7 @@ impl<B: Body, C: Coder<B>, S: Alter> SqlKeeper<B, C, S> {
         }
     }
 
-    /// The connection, with which the store may be opened again: what it held is committed there.
+    /// Returns the connection, with which the store may be opened again: what it held is committed there.
     pub fn close(self) -> Connection<S>
         ensures same { result ≡ self.conn }
         ensures alone { result.in_transaction ≡ false }
@@ -114,7 +114,7 @@ impl<B: Body, C: Coder<B>, S: Alter> SqlKeeper<B, C, S> {
             failures: _,
             of: _,
         } = self;
-        settle(&conn);
+        settle(&conn); // for the proof
         conn
     }
 }
@@ -130,10 +130,10 @@ impl<B: Body, C: Coder<B>, S: Alter> Keeper<B> for SqlKeeper<B, C, S> {
 
     ghost failures = { λ k. k.failures };
 
-    /// One pass over each table; a row is let go as it is read. Where the connection is shut, no damage is told, but `Store`.
+    /// Reads each table in one pass; a row is dropped as it is read. If the connection is shut, the fault is `Store`, not damage.
     ///
-    /// `Version` exactly where the version is not 1; `Damaged` exactly where the tables are not the store's, `meta` has not one row, of
-    /// k 1, a number is out of range, an entry is not read, two votes have one slot, or a vote is above the promise.
+    /// `Version` exactly if the version is not 1; `Damaged` exactly if the tables are not the store's, `meta` does not have just one row,
+    /// of k 1, a number is out of range, an entry cannot be read, two votes have one slot, or a vote is above the promise.
     fn load(&mut self) -> Result<Rows<B>, KeeperFault>
         ensures gives { HasCleanDisk (state S.Store self.new.conn) → IfOk result (Gives C.reading (state S.Store self.old.conn).now) }
         ensures tells { HasCleanDisk (state S.Store self.new.conn) → IfErr result (Tells C.reading (state S.Store self.old.conn).now) }
@@ -159,12 +159,12 @@ impl<B: Body, C: Coder<B>, S: Alter> Keeper<B> for SqlKeeper<B, C, S> {
         )
     }
 
-    /// One transaction and one sync, with a statement for `meta` where the promise changes and one for each vote, which takes the place of
-    /// the one in its slot. No table is read (but by the first commit of a keeper that has loaded nothing yet): time logarithmic in the
-    /// votes stored, and memory for one entry. An empty change touches nothing.
+    /// Commits in one transaction and one sync, with a statement for `meta` if the promise changes and one for each vote, which takes the
+    /// place of the one in its slot. Reads no table (except in the first commit of a keeper that has loaded nothing yet): takes time
+    /// logarithmic in the votes stored, and memory for one entry. An empty change touches nothing.
     ///
-    /// `Damaged` exactly where the change has no place over the rows that are held: a lowered promise, a number out of range, a vote above
-    /// the promise, or an entry without a spelling. The store is then as it was.
+    /// `Damaged` exactly if the change has no place over the rows that are held: a lowered promise, a number out of range, a vote above the
+    /// promise, or an entry without a spelling. The store is then as it was.
     fn commit(&mut self, change: &Change<B>) -> Result<(), KeeperFault>
         ensures placed { HasCleanDisk (state S.Store self.new.conn) → (r : Rows B) → Holds S.Store C.reading self.old r
             → OnOk result (has_place C.spelling (numbers_in_rows r) change.now ≡ true) }
@@ -196,7 +196,7 @@ impl<B: Body, C: Coder<B>, S: Alter> Keeper<B> for SqlKeeper<B, C, S> {
         done
     }
 
-    /// A load, one statement and one sync.
+    /// Begins a boot by a load, one statement and one sync.
     fn boot(&mut self) -> Result<Rows<B>, KeeperFault> {
         if self.failed {
             return Err(KeeperFault::Failed);

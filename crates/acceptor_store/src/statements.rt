@@ -1,3 +1,4 @@
+// The statements of the store, each a function whose contract says what its text means.
 ghost use Rattle.std.specs.Prelude.{◌≡◌, ◌⊎◌, ◌<◌, ◌^◌, ◌∷◌, [], List, Option, pos, map, true, false, IsTrue, OnOk, IfOk, IfErr, Ok, Err, IsPermutation};
 ghost use Rattle.sqlite_value.specs.declared.value.Value.TheVariants.{Int, Blob};
 ghost use Rattle.sqlite_catalog.specs.Listing.{IsSound};
@@ -17,8 +18,6 @@ use command_codec::Coder;
 use paxos_packets::Ballot;
 use sqlite::{Alter, Connection, Error, ErrorCode, Row, Transaction, params};
 use store_keeper::KeeperFault;
-
-// Each statement of the store is a function of its own, which says what its text is.
 
 fn execute_create_meta<S: Alter>(tx: &mut Transaction<'_, S>) -> Result<usize, Error>
     ensures same_reference { tx.new.conn.ghost_name ≡ tx.old.conn.ghost_name }
@@ -79,7 +78,7 @@ fn execute_put_vote<S: Alter>(
     )
 }
 
-// What a refusal of the connection is to a keeper.
+// Returns the keeper's fault for a refusal of the connection.
 pub(crate) fn fault_of(error: Error) -> KeeperFault
     ensures { (result ≡ KeeperFault.Memory) ⊎ (result ≡ KeeperFault.Store) }
 {
@@ -89,7 +88,7 @@ pub(crate) fn fault_of(error: Error) -> KeeperFault
     }
 }
 
-// The number as SQLite keeps it.
+// Returns the number as SQLite keeps it.
 fn signed(number: u64) -> i64
     requires { number < 2 ^ 63 }
     ensures { result ≡ pos number }
@@ -140,7 +139,7 @@ fn create_meta<S: Alter>(tx: &mut Transaction<'_, S>) -> Result<(), KeeperFault>
     }
 }
 
-// Makes the second table, behind the first.
+// Makes the second table, after the first.
 fn create_vote<S: Alter>(tx: &mut Transaction<'_, S>) -> Result<(), KeeperFault>
     ensures same_reference { tx.new.conn.ghost_name ≡ tx.old.conn.ghost_name }
     ensures made { HasCleanDisk (state S.Store tx.new.conn.now) → IsTrue (state S.Store tx.old.conn.now).in_transaction
@@ -219,7 +218,7 @@ pub(crate) fn put_vote<B, C: Coder<B>, S: Alter>(
 }
 
 // Makes the tables of an empty database, and the row of a node that was never started.
-pub(crate) fn found<S: Alter>(tx: &mut Transaction<'_, S>) -> Result<(), KeeperFault>
+pub(crate) fn make_tables<S: Alter>(tx: &mut Transaction<'_, S>) -> Result<(), KeeperFault>
     ensures same_reference { tx.new.conn.ghost_name ≡ tx.old.conn.ghost_name }
     ensures founded { HasCleanDisk (state S.Store tx.new.conn.now) → IsTrue (state S.Store tx.old.conn.now).in_transaction
         → (state S.Store tx.old.conn.now).now.schema ≡ empty_schema → OnOk result (IsFounded (state S.Store tx.new.conn.now).now) }
@@ -254,7 +253,7 @@ fn query_votes<S: Alter>(conn: &mut Connection<S>) -> Result<Vec<Row>, Error>
     )
 }
 
-// The rows of `meta`, in some order.
+// Reads the rows of `meta`, in some order.
 fn read_meta<S: Alter>(conn: &mut Connection<S>) -> Result<Vec<Row>, KeeperFault>
     ensures shown { HasCleanDisk (state S.Store conn.new) → (state S.Store conn.old).now.schema ≡ store_schema
         → IfOk result (λ rows. IsPermutation (map meta_columns ((state S.Store conn.old).now.trees 0)) rows.items) }
@@ -270,7 +269,7 @@ fn read_meta<S: Alter>(conn: &mut Connection<S>) -> Result<Vec<Row>, KeeperFault
     }
 }
 
-// The rows of `vote`, in some order.
+// Reads the rows of `vote`, in some order.
 fn read_votes<S: Alter>(conn: &mut Connection<S>) -> Result<Vec<Row>, KeeperFault>
     ensures shown { HasCleanDisk (state S.Store conn.new) → (state S.Store conn.old).now.schema ≡ store_schema
         → IfOk result (λ rows. IsPermutation (map vote_columns ((state S.Store conn.old).now.trees 1)) rows.items) }
@@ -286,7 +285,7 @@ fn read_votes<S: Alter>(conn: &mut Connection<S>) -> Result<Vec<Row>, KeeperFaul
     }
 }
 
-// The rows of both tables, each in some order.
+// Reads the rows of both tables, each in some order.
 pub(crate) fn read_tables<S: Alter>(
     conn: &mut Connection<S>,
 ) -> Result<(Vec<Row>, Vec<Row>), KeeperFault>

@@ -1,3 +1,4 @@
+// What is made, read and committed over a connection, one transaction for each change.
 ghost use Rattle.std.specs.Prelude.{is_some, ◌≡◌, ◌≢◌, ◌⊎◌, ◌<◌, ◌≤◌, [], true, false, IsTrue, OnOk, IfOk, IfErr, IsErrOf, Ok, Err, None};
 ghost use Rattle.std.specs.List.{AllByRecursion};
 ghost use Rattle.sqlite_trees.specs.Tree.{Trees};
@@ -17,7 +18,7 @@ ghost use Rattle.acceptor_store.specs.Store.{Reads, written, Leaves, Follows, Go
 ghost use Rattle.store_rows.specs.Numbers.{numbers_in_rows, is_ballot, are_numbers};
 ghost use Rattle.store_rows.specs.Changes.{is_placed};
 
-use crate::statements::{fault_of, found, put_meta, put_vote, read_tables};
+use crate::statements::{fault_of, make_tables, put_meta, put_vote, read_tables};
 use crate::tables::has_store_tables;
 use command_codec::laws::spellings_are_apart;
 use command_codec::{CodecFault, Coder, Entry, put_entry};
@@ -27,7 +28,7 @@ use std::alloc::Global;
 use store_keeper::KeeperFault;
 use store_rows::{Numbers, read_rows};
 
-// What a connection is known to be between two calls.
+// Does nothing. Its contract says what a connection is known to be between two calls.
 pub(crate) fn settle<S: Alter>(conn: &Connection<S>)
     ensures live { IsLive (state S.Store conn.now) }
     ensures settled { conn.now.in_transaction ≡ false → IsTrue (state S.Store conn.now).is_open
@@ -36,17 +37,17 @@ pub(crate) fn settle<S: Alter>(conn: &Connection<S>)
         → trees ≡ (state S.Store conn.now).committed.trees }
     ensures stays { IsTrue (state S.Store conn.now).is_open → (state S.Store conn.now).may_leave (state S.Store conn.now).committed.trees }
 {
-    let _settled = conn.is_autocommit();
-    let _schema = conn.schema();
+    let _settled = conn.is_autocommit(); // for the proof
+    let _schema = conn.schema(); // for the proof
 }
 
-// The entry's octets, in the place of those that were there.
+// Writes the entry's octets in the place of those that were there.
 fn spell<B, C: Coder<B>>(entry: &Entry<B>, octets: &mut Vec<u8>) -> Result<(), KeeperFault>
     ensures read { OnOk result (entry_reading C.reading octets.new.items ≡ Ok entry.now) }
     ensures spelled { OnOk result (is_some (entry_spelling C.spelling entry.now) ≡ true) }
     ensures fault { IfErr result (λ e. (e ≡ KeeperFault.Memory) ⊎ ((e ≡ KeeperFault.Damaged) × (entry_spelling C.spelling entry.now ≡ None))) }
 {
-    spellings_are_apart::<B, C>();
+    spellings_are_apart::<B, C>(); // for the proof
     octets.clear();
     match put_entry::<B, C>(entry, octets) {
         Ok(()) => Ok(()),
@@ -57,7 +58,7 @@ fn spell<B, C: Coder<B>>(entry: &Entry<B>, octets: &mut Vec<u8>) -> Result<(), K
     }
 }
 
-// Puts one vote, which may stand under the promise.
+// Puts one vote, which may be held under the promise.
 fn write_vote<B, C: Coder<B>, S: Alter>(
     tx: &mut Transaction<'_, S>,
     vote: &Vote<B>,
@@ -79,7 +80,7 @@ fn write_vote<B, C: Coder<B>, S: Alter>(
     put_vote::<B, C, S>(tx, vote.slot.get(), &vote.ballot, octets.as_slice())
 }
 
-// Puts the votes, one after the other, each of which may stand under the promise.
+// Puts the votes, one after the other, each of which may be held under the promise.
 fn write_votes<B, C: Coder<B>, S: Alter>(
     tx: &mut Transaction<'_, S>,
     votes: &[Vote<B>],
@@ -104,7 +105,7 @@ fn write_votes<B, C: Coder<B>, S: Alter>(
     Ok(())
 }
 
-// Puts the numbers, where they are to be put.
+// Puts the numbers, if they are to be put.
 fn write_numbers<B, C: Coder<B>, S: Alter>(
     tx: &mut Transaction<'_, S>,
     puts: bool,
@@ -169,7 +170,7 @@ fn end<S: Alter>(tx: Transaction<'_, S>) -> Result<(), KeeperFault>
     }
 }
 
-// Commits the numbers, where they are to be put, and the votes, in one transaction.
+// Commits the votes, and the numbers if they are to be put, in one transaction.
 pub(crate) fn commit<B, C: Coder<B>, S: Alter>(
     conn: &mut Connection<S>,
     puts: bool,
@@ -209,11 +210,11 @@ pub(crate) fn found_store<S: Alter>(conn: &mut Connection<S>) -> Result<(), Keep
     ensures fault { IfErr result (λ e. (e ≡ KeeperFault.Memory) ⊎ (e ≡ KeeperFault.Store)) }
 {
     let mut tx = conn.transaction();
-    found(&mut tx)?;
+    make_tables(&mut tx)?;
     end(tx)
 }
 
-// What tables are told as that are not the store's: damage, where the connection is open, since what a shut one shows says nothing.
+// Returns the fault for tables that are not the store's: damage if the connection is open, since what a shut one shows says nothing.
 fn damage<S: Alter>(conn: &mut Connection<S>) -> KeeperFault
     ensures mode { conn.old.in_transaction ≡ false → conn.new.in_transaction ≡ false }
     ensures open { HasCleanDisk (state S.Store conn.new) → result ≡ KeeperFault.Damaged → IsTrue (state S.Store conn.old).is_open }
@@ -226,7 +227,7 @@ fn damage<S: Alter>(conn: &mut Connection<S>) -> KeeperFault
     }
 }
 
-// The rows that the store has.
+// Reads the rows that the store has.
 pub(crate) fn read_store<B: Body, C: Coder<B>, S: Alter>(
     alloc: Global,
     conn: &mut Connection<S>,
@@ -250,7 +251,7 @@ pub(crate) fn read_store<B: Body, C: Coder<B>, S: Alter>(
     }
 }
 
-// The same, where the tables are the store's.
+// Reads the rows that the store has, whose tables are the store's.
 fn read_in_tables<B: Body, C: Coder<B>, S: Alter>(
     alloc: Global,
     conn: &mut Connection<S>,
@@ -269,11 +270,11 @@ fn read_in_tables<B: Body, C: Coder<B>, S: Alter>(
     ensures numbers { IfOk result (λ rows. are_numbers (numbers_in_rows rows) ≡ true) }
 {
     let (metas, votes) = read_tables(conn)?;
-    settle(conn);
+    settle(conn); // for the proof
     read_rows::<B, C>(alloc, metas.as_slice(), votes)
 }
 
-// The same over rows: what is left after it, and what a crash leaves of it.
+// Commits as `commit` does; its contract speaks of rows: those that are left after it, and those that a crash leaves of it.
 pub(crate) fn commit_rows<B, C: Coder<B>, S: Alter>(
     conn: &mut Connection<S>,
     puts: bool,
@@ -299,8 +300,8 @@ pub(crate) fn commit_rows<B, C: Coder<B>, S: Alter>(
     ensures kept { IsErrOf result KeeperFault.Damaged → Survives (state S.Store conn.old) (state S.Store conn.new) (λ _. ⊥) }
     ensures below { IfErr result LiesBelow }
 {
-    settle(conn);
+    settle(conn); // for the proof
     commit::<B, C, S>(conn, puts, numbers, votes, octets)?;
-    settle(conn);
+    settle(conn); // for the proof
     Ok(())
 }

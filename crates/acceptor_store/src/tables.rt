@@ -1,3 +1,4 @@
+// How a database's tables are judged: whether they are the store's.
 ghost use Rattle.std.specs.Prelude.{◌≡◌, ◌↔◌, [], ◌∷◌, IsTrue, IfOk};
 ghost use Rattle.acceptor_store.specs.Tables.{column_of, table_of, meta_table, vote_table, store_schema, empty_schema};
 
@@ -13,7 +14,7 @@ fn is_null(value: &Value) -> bool
     matches!(value, Value::Null)
 }
 
-// Whether it is a column of a STRICT table with no default.
+// Returns whether it is a column of a STRICT table with no default.
 fn is_column(column: &Column, name: &[u8], kind: Kind, not_null: bool) -> bool
     ensures { IsTrue result ↔ (column.now ≡ column_of name.now kind not_null) }
 {
@@ -25,7 +26,7 @@ fn is_column(column: &Column, name: &[u8], kind: Kind, not_null: bool) -> bool
         && column.collation == Collation::Binary
 }
 
-// Whether there is no term.
+// Returns whether there is no term.
 fn are_none(alloc: Global, terms: &Terms) -> Result<bool, AllocError>
     ensures { IfOk result (λ none. IsTrue none ↔ (terms.now ≡ [])) }
 {
@@ -33,14 +34,14 @@ fn are_none(alloc: Global, terms: &Terms) -> Result<bool, AllocError>
     Ok(lent.roots.is_empty())
 }
 
-// Whether there is no default that reads the time.
+// Returns whether no default reads the time.
 fn is_unstamped(alloc: Global, stamps: &Stamps) -> Result<bool, AllocError>
     ensures { IfOk result (λ none. IsTrue none ↔ (stamps.now ≡ record { places = []; terms = []; formats = [] })) }
 {
     Ok(stamps.places.is_empty() && stamps.formats.is_empty() && are_none(alloc, &stamps.terms)?)
 }
 
-// Whether the table's first column is the rowid, and it has no rule beside its columns.
+// Returns whether the table's first column is the rowid, and it has no rule beside its columns.
 fn is_plain(alloc: Global, table: &Table, name: &[u8], tree: u32) -> Result<bool, AllocError>
     ensures { IfOk result (λ plain. IsTrue plain ↔ (table.now ≡ table_of name.now tree table.now.columns)) }
 {
@@ -59,7 +60,7 @@ fn is_plain(alloc: Global, table: &Table, name: &[u8], tree: u32) -> Result<bool
     )
 }
 
-// Whether these are the columns of the first table.
+// Returns whether these are the columns of the first table.
 fn are_meta_columns(
     k: &Column,
     version: &Column,
@@ -76,7 +77,7 @@ fn are_meta_columns(
         && is_column(node, b"node".as_slice(), Kind::Integer, true)
 }
 
-// Whether these are the columns of the second table.
+// Returns whether these are the columns of the second table.
 fn are_vote_columns(slot: &Column, round: &Column, node: &Column, entry: &Column) -> bool
     ensures { IsTrue result ↔ (slot.now ∷ round.now ∷ node.now ∷ entry.now ∷ [] ≡ vote_table.columns) }
 {
@@ -86,7 +87,7 @@ fn are_vote_columns(slot: &Column, round: &Column, node: &Column, entry: &Column
         && is_column(entry, b"entry".as_slice(), Kind::Blob, true)
 }
 
-// Whether it is the store's first table.
+// Returns whether it is the store's first table.
 fn is_meta(alloc: Global, table: &Table) -> Result<bool, AllocError>
     ensures { IfOk result (λ is. IsTrue is ↔ (table.now ≡ meta_table)) }
 {
@@ -99,7 +100,7 @@ fn is_meta(alloc: Global, table: &Table) -> Result<bool, AllocError>
     }
 }
 
-// Whether it is the store's second table.
+// Returns whether it is the store's second table.
 fn is_vote(alloc: Global, table: &Table) -> Result<bool, AllocError>
     ensures { IfOk result (λ is. IsTrue is ↔ (table.now ≡ vote_table)) }
 {
@@ -112,7 +113,7 @@ fn is_vote(alloc: Global, table: &Table) -> Result<bool, AllocError>
     }
 }
 
-// Whether the tables are the store's, and there is nothing else.
+// Returns whether the tables are the store's, and there is nothing else.
 pub(crate) fn has_store_tables(alloc: Global, schema: &Schema) -> Result<bool, AllocError>
     ensures { IfOk result (λ has. IsTrue has ↔ (schema.now ≡ store_schema)) }
 {
@@ -125,7 +126,7 @@ pub(crate) fn has_store_tables(alloc: Global, schema: &Schema) -> Result<bool, A
     }
 }
 
-// Whether there is nothing.
+// Returns whether the schema is empty.
 pub(crate) fn is_empty(schema: &Schema) -> bool
     ensures { IsTrue result ↔ (schema.now ≡ empty_schema) }
 {

@@ -12,7 +12,7 @@ use Rattle.actor_outboxes.specs.declared.outboxes.First.{First}
 use Rattle.actor_outboxes.specs.Outboxes.{Waiting, most_waiting, limit, box_of, waiting, IsPeer, to, empty_boxes, behind, filed, HasLimits, WaitBehind, AreKept, without_first, first_stamp, older, IsOldestBelow, Leaves}
 use Rattle.actor_outboxes.specs.Outboxes.{TakenFor, WaitsFirst, filed_first}
 
--- what stands last of the last, and of more behind them
+-- what is last of the last, and of more after them
 pub keep_last_again : {A : Type 0} (n : ℕ) (xs ys : List A) → keep_last n (keep_last n xs ++ ys) ≡ keep_last n (xs ++ ys)
 keep_last_again n xs ys =
     let joined : keep_last n xs ++ ys ≡ drop (length xs - n) (xs ++ ys) = sym (drop-append-le (length xs - n) xs ys (omega arith)) in
@@ -43,7 +43,7 @@ or_true false = refl
 limit_self : (me : ℕ) → limit me me ≡ 0
 limit_self me = rw (eq-eqb me me refl, or_true (eqb me 0)) refl
 
--- where there is room, it is another member's
+-- if there is room, it is another member's
 has_limit : (me k : ℕ) → 0 < limit me k → (1 ≤ k) × (k ≡ me → ⊥)
 has_limit me zero h = absurd (omega (arith, h))
 has_limit me (suc k) h = (omega arith, λ e. let z : limit me (suc k) ≡ 0 = ap (limit me) e ∙ limit_self me in omega (arith, h, z))
@@ -159,7 +159,7 @@ module _ {B : Type 0} where
   waits_still w limits k peer =
       sym (keep_all most_waiting (waiting k w) (limits k peer)) ∙ ap (keep_last most_waiting) (sym (append-nil (waiting k w)))
 
-  -- more waits behind what waits
+  -- more waits after what waits
   pub waits_more : (ps : List (Packet B)) (p : Packet B) (old mid new : Waiting B) → (mid.me ≡ old.me) → (mid.members ≡ old.members)
       → WaitBehind ps old mid → WaitBehind (p ∷ []) mid new → WaitBehind (ps ++ p ∷ []) old new
   waits_more ps p old mid new me members first then_ k peer =
@@ -370,7 +370,7 @@ module _ {B : Type 0} where
       of_items [] e = refl
       of_items (x ∷ xs) e = absurd (let off : ◌≡◌ {A = Option (Stamped B)} (Some x) None = e in cc)
 
-  -- where none is taken, none waited, and all is as it was
+  -- if none is taken, none waited, and all is as it was
   pub none_for : (place k : ℕ) → place ≡ k → (w old : Waiting B) → w ≡ old → (later : List (Buffer (Stamped B))) → later ≡ without_first place w.boxes
       → None ≡ slice_get (box_of place w.boxes).items 0
       → (record { me = w.me; members = w.members; boxes = later; next = w.next } ≡ old) × (waiting k old ≡ [])
@@ -379,7 +379,7 @@ module _ {B : Type 0} where
     ap (λ j. waiting j old) (sym same) ∙ ap (λ (v : Waiting B). waiting place v) (sym is) ∙ empty_here (box_of place w.boxes) (sym none),
   )
 
-  -- nor does any where there is no outbox
+  -- nor does any if there is no outbox
   pub none_past : (place k count : ℕ) → place ≡ k → (w old : Waiting B) → w ≡ old → count ≡ length w.boxes → count ≤ place → waiting k old ≡ []
   none_past place k count same w old is all past =
       ap (λ (v : Waiting B). waiting k v) (sym is)

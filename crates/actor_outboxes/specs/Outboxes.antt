@@ -18,7 +18,7 @@ pub record Waiting (B : Type 0) : Type 0 where
   pub boxes : List (Buffer (Stamped B))
   pub next : ℕ
 
--- how many packets wait at most in the outbox of this number: none where it is that of no other member
+-- how many packets may wait in the outbox of this number: none if it is that of no other member
 abbrev pub limit : ℕ → ℕ → ℕ
 limit me k = if k == 0 || k == me then 0 else most_waiting
 
@@ -42,7 +42,7 @@ abbrev pub empty_boxes : {B : Type 0} → ℕ → ℕ → List (Buffer (Stamped 
 empty_boxes me zero = []
 empty_boxes me (suc n) = empty_boxes me n ++ buffer [] (limit me n) ∷ []
 
--- one packet more waits behind the others of its outbox, whose first one gives way where it is full
+-- one packet more waits after the others of its outbox, whose first one gives way if it is full
 abbrev pub behind : {B : Type 0} → Stamped B → Buffer (Stamped B) → Buffer (Stamped B)
 behind s b = buffer (keep_last b.capacity (b.items ++ s ∷ [])) b.capacity
 
@@ -54,7 +54,7 @@ filed s boxes = slice_set boxes s.packet.addressee (behind s (box_of s.packet.ad
 abbrev pub HasLimits : {B : Type 0} → Waiting B → Type 0
 HasLimits w = (k : ℕ) → IsPeer w.me w.members k → length (waiting k w) ≤ most_waiting
 
--- the packets wait behind what does, of all this what has the last places
+-- the packets wait after those that do; of all these the last ones stay
 abbrev pub WaitBehind : {B : Type 0} → List (Packet B) → Waiting B → Waiting B → Type 0
 WaitBehind ps old new = (k : ℕ) → IsPeer old.me old.members k → waiting k new ≡ keep_last most_waiting (waiting k old ++ to k ps)
 
@@ -72,7 +72,7 @@ without_first k boxes = slice_set boxes k (buffer (drop 1 (box_of k boxes).items
 abbrev pub first_stamp : {B : Type 0} → Buffer (Stamped B) → Option ℕ
 first_stamp b = option_map (λ s. s.stamp) (slice_get b.items 0)
 
--- the older one of the best so far and what stands first at a place
+-- the older of the best so far and what is first at a place
 abbrev pub older : Option First → ℕ → Option ℕ → Option First
 older best k None = best
 older None k (Some t) = Some (record { place = k; stamp = t })

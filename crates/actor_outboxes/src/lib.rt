@@ -1,4 +1,4 @@
-//! The packets of a node that wait to be sent: an outbox for each other member, in which the oldest packet gives way where it is full
+//! The packets of a node that wait to be sent: an outbox for each other member. When an outbox is full, its oldest packet gives way
 //! (docs/CONSENSUS.md, "A node with its store").
 #![tactic(auto)]
 

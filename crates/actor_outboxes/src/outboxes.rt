@@ -7,7 +7,7 @@ use paxos_packets::{Members, Memory, Packet};
 use std::alloc::Global;
 use std::marker::Model;
 
-/// How many packets wait for a member at most.
+/// How many packets may wait for a member.
 const MOST_WAITING: usize = 4096;
 
 // A packet, and how many were sent before it.
@@ -47,7 +47,7 @@ impl<B> Model for Outboxes<B> {
     ghost invariant = { λ o. AreKept o.me o.members o.boxes.items };
 }
 
-// For how many packets the outbox of this number has room.
+// Returns for how many packets the outbox of this number has room.
 fn limit(me: u8, number: u8) -> usize
     ensures { result ≡ limit me number }
 {
@@ -58,7 +58,7 @@ fn limit(me: u8, number: u8) -> usize
     }
 }
 
-// An outbox for each number up to that of the last member.
+// Creates an outbox for each number up to that of the last member.
 fn empty_boxes<B: Drop>(
     alloc: Global,
     me: u8,
@@ -75,14 +75,14 @@ fn empty_boxes<B: Drop>(
 }
 
 impl<B> Outboxes<B> {
-    /// The node whose outboxes they are.
+    /// Returns the number of the node whose outboxes they are.
     pub fn me(&self) -> u8
         ensures { result ≡ self.now.me }
     {
         self.me
     }
 
-    /// The members.
+    /// Returns the members.
     pub fn members(&self) -> Members
         ensures { result ≡ self.now.members }
     {
@@ -91,7 +91,7 @@ impl<B> Outboxes<B> {
 }
 
 impl<B: Drop> Outboxes<B> {
-    /// Empty outboxes of this node, one of these members. Takes all memory that they will ever need.
+    /// Creates empty outboxes of this node, one of these members. Allocates all memory that they will ever need.
     pub fn new(alloc: Global, me: u8, members: Members) -> Result<Outboxes<B>, Memory>
         ensures me { IfOk result (λ o. o.me ≡ me) }
         ensures members { IfOk result (λ o. o.members ≡ members) }
@@ -106,20 +106,21 @@ impl<B: Drop> Outboxes<B> {
         })
     }
 
-    /// The packets wait, one after the other, behind the others for their addressees; where 4,096 wait for one, the oldest gives way. A packet
-    /// for no other member is dropped. Takes no memory.
+    /// Puts the packets, one after the other, after those that wait for their addressees. If 4,096 wait for an addressee, the oldest gives
+    /// way. A packet that is for no other member is dropped. Does not allocate.
     pub fn put_all(&mut self, packets: Vec<Packet<B>>)
         ensures me { self.new.me ≡ self.old.me }
         ensures members { self.new.members ≡ self.old.members }
         ensures waits { WaitBehind packets.items self.old self.new }
     {
-        self.limits();
+        self.limits(); // for the proof
         for packet in packets {
             self.put(packet);
         }
     }
 
-    /// Takes the oldest packet that waits, if any does: of those that are first in their outboxes the one that was put first. Takes no memory.
+    /// Takes the oldest packet that waits, if any does: of those that are first in their outboxes the one that was put first. Does not
+    /// allocate.
     pub fn take(&mut self) -> Option<Packet<B>>
         ensures me { self.new.me ≡ self.old.me }
         ensures members { self.new.members ≡ self.old.members }
@@ -132,7 +133,7 @@ impl<B: Drop> Outboxes<B> {
         }
     }
 
-    /// Takes the oldest packet that waits for this node, if any does. Takes no memory.
+    /// Takes the oldest packet that waits for this node, if any does. Does not allocate.
     pub fn take_for(&mut self, peer: u8) -> Option<Packet<B>>
         ensures me { self.new.me ≡ self.old.me }
         ensures members { self.new.members ≡ self.old.members }
@@ -149,7 +150,8 @@ impl<B: Drop> Outboxes<B> {
         Some(packet_of(stamped))
     }
 
-    /// The packet waits before the others for its addressee, as one that was taken and could not go. There is room for it. Takes no memory.
+    /// Puts the packet before the others for its addressee, as one that was taken and could not go. There must be room for it. Does not
+    /// allocate.
     pub fn put_back(&mut self, packet: Packet<B>)
         requires peer { IsPeer self.old.me self.old.members packet.addressee }
         requires room { length (waiting packet.addressee self.old) < most_waiting }
@@ -160,7 +162,7 @@ impl<B: Drop> Outboxes<B> {
         put_first(&mut self.boxes, Stamped { stamp: 0, packet });
     }
 
-    /// How many packets wait for this node. Takes no memory.
+    /// Returns how many packets wait for this node. Does not allocate.
     pub fn waiting_for(&self, peer: u8) -> usize
         ensures { result ≡ length (waiting peer self.now) }
     {
@@ -170,7 +172,7 @@ impl<B: Drop> Outboxes<B> {
         }
     }
 
-    // Which outbox has the first packet that was put before the first ones of the others.
+    // Finds the outbox whose first packet was put before the first ones of the others.
     fn oldest(&self) -> Option<First>
         ensures { IsOldestBelow (length self.now.boxes) self.now.boxes result }
     {
@@ -190,14 +192,14 @@ impl<B: Drop> Outboxes<B> {
         Some(packet_of(stamped))
     }
 
-    /// Does nothing: its contract says that no more packets wait for a member than may.
+    /// Does nothing. Its contract says that no more packets wait for a member than may.
     pub fn limits(&self)
         ensures { HasLimits self.now }
     {
-        let _ = &self.boxes;
+        let _ = &self.boxes; // for the proof
     }
 
-    // The packet waits behind the others for its addressee.
+    // Puts the packet after the others for its addressee.
     fn put(&mut self, packet: Packet<B>)
         ensures me { self.new.me ≡ self.old.me }
         ensures members { self.new.members ≡ self.old.members }
@@ -209,7 +211,7 @@ impl<B: Drop> Outboxes<B> {
     }
 }
 
-// The packet waits in the outbox of its addressee, if there is one.
+// Puts the packet into the outbox of its addressee, if there is one.
 fn put_in<B: Drop>(boxes: &mut Vec<HeapCircularBuffer<Stamped<B>>>, stamped: Stamped<B>)
     ensures { boxes.new.items ≡ filed stamped boxes.old.items }
 {
@@ -219,7 +221,7 @@ fn put_in<B: Drop>(boxes: &mut Vec<HeapCircularBuffer<Stamped<B>>>, stamped: Sta
     }
 }
 
-// The packet waits in the outbox of its addressee, before the others; there is room.
+// Puts the packet into the outbox of its addressee, before the others; there is room.
 fn put_first<B: Drop>(boxes: &mut Vec<HeapCircularBuffer<Stamped<B>>>, stamped: Stamped<B>)
     requires place { stamped.packet.addressee < length boxes.old.items }
     requires room { length (box_of stamped.packet.addressee boxes.old.items).items < (box_of stamped.packet.addressee boxes.old.items).capacity }
@@ -229,7 +231,7 @@ fn put_first<B: Drop>(boxes: &mut Vec<HeapCircularBuffer<Stamped<B>>>, stamped: 
     boxes[place].push_front(stamped);
 }
 
-// The packet alone.
+// Returns the packet without its stamp.
 fn packet_of<B>(stamped: Stamped<B>) -> Packet<B>
     ensures { result ≡ stamped.packet }
 {
@@ -256,7 +258,7 @@ struct First {
     stamp: u64,
 }
 
-// Which outbox has the first packet that was put before the first ones of the others.
+// Finds the outbox whose first packet was put before the first ones of the others.
 fn oldest<B>(boxes: &[HeapCircularBuffer<Stamped<B>>]) -> Option<First>
     ensures { IsOldestBelow (length boxes.now) boxes.now result }
 {
@@ -267,7 +269,7 @@ fn oldest<B>(boxes: &[HeapCircularBuffer<Stamped<B>>]) -> Option<First>
     best
 }
 
-// The stamp of the first packet in the outbox.
+// Returns the stamp of the first packet in the outbox.
 fn first_stamp<B>(outbox: &HeapCircularBuffer<Stamped<B>>) -> Option<u64>
     ensures { result ≡ first_stamp outbox.now }
 {
@@ -275,7 +277,7 @@ fn first_stamp<B>(outbox: &HeapCircularBuffer<Stamped<B>>) -> Option<u64>
     Some(first.stamp)
 }
 
-// The older one of the best so far and what stands first at a place.
+// Returns the older of the best so far and what is first at a place.
 fn older(best: Option<First>, place: usize, stamp: Option<u64>) -> Option<First>
     ensures { result ≡ older best place stamp }
 {

@@ -48,7 +48,7 @@ module _ {B S Y M : Type 0} (from : S → Machine B S Y) (content : M → S) whe
           ∙ sym (filter-append own (sayings_behind (from first) old.applied es) (sayings_behind (from first) (old.applied ++ es) (e ∷ [])))
           ∙ ap (filter own) (sym (behind_more (from first) old.applied es e))
 
-  -- an entry that was learned behind the log, and then applied
+  -- an entry that was learned at the end of the log, and then applied
 
   follows_still : (first : S) (old new : LogState B M) → new.applied ≡ old.applied → new.machine ≡ old.machine → Follows from content first old
       → Follows from content first new

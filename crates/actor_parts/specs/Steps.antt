@@ -19,9 +19,9 @@ use Rattle.actor_parts.specs.declared.fault.ActorFault.TheVariants.{Failed, Roun
 use Rattle.actor_parts.specs.Parts.{Parted, IsPrefixOf}
 use Rattle.actor_parts.specs.Handing.{handed_out}
 
--- what a store holds and may find behind a change
+-- what a store holds and may find after a change
 module _ {B K : Type 0} (finds : K → Rows B → Type 0) (failures : K → ℕ) where
-  -- a fault came with a failure where it says so, and the rows that are found are those of before or those with the change
+  -- a fault came with a failure if it says so, and the rows that are found are those of before or those with the change
   pub record Falls (change : Change B) (rows : Rows B) (old new : K) (fault : KeeperFault) : Type 0 where
     pub found : (x : Rows B) → finds new x → (x ≡ rows) ⊎ (x ≡ accepting.adopted rows change)
     pub cause : fault ≡ store.Store → failures old < failures new
@@ -30,16 +30,16 @@ module _ {B K : Type 0} (finds : K → Rows B → Type 0) (failures : K → ℕ)
 abbrev pub IsAtEnd : {B M : Type 0} → LogState B M → Type 0
 IsAtEnd log = (slot : ℕ) → length log.applied < slot → learned_in slot log ≡ None
 
--- what a machine says and becomes at entries behind its log
+-- what a machine says and becomes at entries after its log
 module _ {B S Y M : Type 0} (from : S → Machine B S Y) (content : M → S) where
-  -- the entry is applied behind the log, and these are the sayings at it
+  -- the entry is applied at the end of the log, and these are the sayings at it
   pub record SaysAt (entry : Entry B) (old new : LogState B M) (said : List Y) : Type 0 where
     pub applied : new.applied ≡ old.applied ++ entry ∷ []
     pub alive : new.failed ≡ false
     pub says : (first : S) → Follows from content first old → said ≡ sayings_behind (from first) old.applied (entry ∷ [])
     pub follows : (first : S) → Follows from content first old → Follows from content first new
 
-  -- the entries are applied behind the log, and these are the sayings at them to the transports of a node in a boot
+  -- the entries are applied at the end of the log, and these are the sayings at them to the transports of a node in a boot
   pub record Applied (node boot : ℕ) (entries : List (Entry B)) (old new : LogState B M) (said : List Y) : Type 0 where
     pub applied : new.applied ≡ old.applied ++ entries
     pub alive : new.failed ≡ false
@@ -102,7 +102,7 @@ module _ {B M K : Type 0} where
     pub waits_me : new.waiting.me ≡ old.waiting.me
     pub waits_members : new.waiting.members ≡ old.waiting.members
 
--- what is said is answered while the node is up; else the actor is spoiled, and says so
+-- what is said is returned while the node is up; otherwise the actor is spoiled, and says so
 abbrev pub AnswersUp : {B M K Y : Type 0} → List Y → Parted B M K → Parted B M K → Result (Vec Y Global) (ActorFault Y) → Type 0
 AnswersUp says old new (Ok found) = (old.node.state.up ≡ true) × (new ≡ old) × (found.items ≡ says)
 AnswersUp says old new (Err (LostHere found)) = (old.node.state.up ≡ false) × (new ≡ record old { spoiled = true }) × (found.items ≡ says)

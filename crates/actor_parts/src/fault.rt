@@ -4,7 +4,7 @@ ghost use Rattle.actor_parts.specs.Fault.{number_of};
 use std::fmt;
 use store_keeper::KeeperFault;
 
-/// Why an actor did not take an event, or did not begin. All but `Rounds` and `Full` end it: it answers `Failed` from then on.
+/// Why an actor did not take an event, or did not begin. All but `Rounds` and `Full` end it: it returns `Failed` from then on.
 #[derive(Drop)]
 pub enum ActorFault<Y> {
     /// A fault has ended the actor before.
@@ -13,20 +13,20 @@ pub enum ActorFault<Y> {
     Rounds,
     /// No more entries may be pending, or no number is left for an act.
     Full,
-    /// The store answered this.
+    /// The store returned this fault.
     Keeper(KeeperFault),
     /// Another entry was learned in a slot.
     Disagree,
-    /// The node has applied that it is lost in its present boot, and is down; these are all sayings of the call.
+    /// The node has applied the entry that it is lost in its present boot, and is down; these are all sayings of the call.
     LostHere(Vec<Y>),
     /// The node's word at the table has counted all events that it can.
     Worn,
-    /// There was no memory.
+    /// Memory ran out.
     Memory,
 }
 
 impl<Y> ActorFault<Y> {
-    /// The number of the fault.
+    /// Returns the number of the fault.
     pub fn number(&self) -> u8
         ensures { result ≡ number_of self.now }
     {

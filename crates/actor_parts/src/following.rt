@@ -9,7 +9,7 @@ use paxos_packets::{Entry, Slot, Transport};
 use replica_machine::{AppliedLog, Failed, Machine};
 use std::alloc::Global;
 
-// The entries are applied behind the log; what the machine says at them to the transports of this node in this boot.
+// Applies the entries at the end of the log. Returns what the machine says at them to the transports of this node in this boot.
 pub(crate) fn apply_all<M: Machine>(
     alloc: Global,
     log: &mut AppliedLog<M>,
@@ -27,12 +27,12 @@ pub(crate) fn apply_all<M: Machine>(
     let mut says = Vec::new(alloc);
     for entry in entries {
         let more = apply_one(log, entry)?;
-        keep_own::<M>(&mut says, more, node, boot)?;
+        retain_own::<M>(&mut says, more, node, boot)?;
     }
     Ok(says)
 }
 
-// The entry is applied behind the log; what the machine says at it.
+// Applies the entry at the end of the log. Returns what the machine says at it.
 fn apply_one<M: Machine>(
     log: &mut AppliedLog<M>,
     entry: Entry<M::Body>,
@@ -55,15 +55,15 @@ fn apply_one<M: Machine>(
     Ok(step.says)
 }
 
-// The slot that is applied next, `None` behind the last one.
+// Returns the slot that is applied next, `None` after the last one.
 fn next_slot<M: Machine>(log: &AppliedLog<M>) -> Option<Slot>
     ensures { IfSome result (λ slot. slot ≡ next_slot log.now) }
 {
     Slot::new((log.applied().len() as u64).saturating_add(1))
 }
 
-// Those of the sayings that are for the transports of this node in this boot go behind the others.
-fn keep_own<M: Machine>(
+// Appends those of the sayings that are for the transports of this node in this boot.
+fn retain_own<M: Machine>(
     says: &mut Vec<M::Say>,
     more: Vec<M::Say>,
     node: u8,
@@ -72,13 +72,13 @@ fn keep_own<M: Machine>(
     ensures { OnOk result (says.new.items ≡ says.old.items ++ filter (λ y. is_of node boot (M.to y)) more.items) }
 {
     for say in more {
-        keep_if_own::<M>(says, say, node, boot)?;
+        retain_if_own::<M>(says, say, node, boot)?;
     }
     Ok(())
 }
 
-// The saying goes behind the others, if it is for a transport of this node in this boot.
-fn keep_if_own<M: Machine>(
+// Appends the saying, if it is for a transport of this node in this boot.
+fn retain_if_own<M: Machine>(
     says: &mut Vec<M::Say>,
     say: M::Say,
     node: u8,
@@ -93,7 +93,7 @@ fn keep_if_own<M: Machine>(
     Ok(())
 }
 
-// Whether the transport is of this node in this boot.
+// Returns whether the transport is of this node in this boot.
 fn is_of(node: u8, boot: u64, transport: &Transport) -> bool
     ensures { result ≡ is_of node boot transport.now }
 {

@@ -24,8 +24,8 @@ use std::alloc::Global;
 use std::marker::Model;
 use store_keeper::{Keeper, KeeperFault};
 
-/// What an actor is made of: a node, its store, the packets that wait to go out, the machine behind its log. What holds of an actor need not
-/// hold between the steps of an event, so it is asked for by the calls.
+/// What an actor is made of: a node, its store, the packets that wait to go out, and the machine that follows its log. What holds of an
+/// actor need not hold between the steps of an event, so the calls require it.
 pub struct Parts<M: Machine, K> {
     alloc: Global,
     node: Node<M::Body>,
@@ -61,7 +61,7 @@ impl<M: Machine, K> Model for Parts<M, K> {
 }
 
 impl<M: Machine, K: Keeper<M::Body>> Parts<M, K> {
-    /// The parts of an actor that has just begun.
+    /// Creates the parts of an actor that has just begun.
     pub fn of(
         alloc: Global,
         node: Node<M::Body>,
@@ -83,98 +83,98 @@ impl<M: Machine, K: Keeper<M::Body>> Parts<M, K> {
         }
     }
 
-    /// Whether a fault has ended the actor.
+    /// Returns whether a fault has ended the actor.
     pub fn is_spoiled(&self) -> bool
         ensures { result ≡ self.now.spoiled }
     {
         self.spoiled
     }
 
-    /// Its node's number.
+    /// Returns its node's number.
     pub fn me(&self) -> u8
         ensures { result ≡ self.now.waiting.me }
     {
         self.outboxes.me()
     }
 
-    /// The members.
+    /// Returns the members.
     pub fn members(&self) -> Members
         ensures { result ≡ self.now.waiting.members }
     {
         self.outboxes.members()
     }
 
-    /// The present boot of its node.
+    /// Returns the present boot of its node.
     pub fn boot(&self) -> u64
         ensures { result ≡ self.now.node.state.rows.boot }
     {
         self.node.boot()
     }
 
-    /// Whether its node is up.
+    /// Returns whether its node is up.
     pub fn is_up(&self) -> bool
         ensures { result ≡ self.now.node.state.up }
     {
         self.node.is_up()
     }
 
-    /// How many entries its node has applied.
+    /// Returns how many entries its node has applied.
     pub fn applied(&self) -> u64
         ensures { result ≡ length self.now.node.state.applied }
     {
         self.node.applied()
     }
 
-    /// Whether entries of its node wait for a slot.
+    /// Returns whether entries of its node wait for a slot.
     pub fn has_pending(&self) -> bool
         ensures { result ≡ nat_lt 0 (length self.now.node.state.pending) }
     {
         self.node.has_pending()
     }
 
-    /// Whether its node leads.
+    /// Returns whether its node leads.
     pub fn is_leading(&self) -> bool
         ensures { result ≡ is_leading self.now.node.state.proposer.role }
     {
         self.node.is_leading()
     }
 
-    /// The greatest ballot that its node has promised, if any.
+    /// Returns the greatest ballot that its node has promised, if any.
     pub fn promised(&self) -> Option<Ballot>
         ensures { result ≡ self.now.node.state.rows.promised }
     {
         self.node.promised()
     }
 
-    /// How many packets wait to be posted to this node.
+    /// Returns how many packets wait to be posted to this node.
     pub fn waiting_for(&self, peer: u8) -> usize
         ensures { result ≡ length (waiting peer self.now.waiting) }
     {
         self.outboxes.waiting_for(peer)
     }
 
-    /// No more packets wait for a member than may.
+    /// Does nothing. Its contract says that no more packets wait for a member than may.
     pub fn limits(&self)
         ensures { HasLimits self.now.waiting }
     {
-        self.outboxes.limits();
+        self.outboxes.limits(); // for the proof
     }
 
-    /// No sayings.
+    /// Returns no sayings.
     pub fn silence(&self) -> Vec<M::Say>
         ensures { result.items ≡ [] }
     {
         Vec::new(self.alloc)
     }
 
-    /// It answers nothing else any more.
+    /// Marks the actor as ended by a fault.
     pub fn spoil(&mut self)
         ensures { self.new ≡ record self.old { spoiled = true } }
     {
         self.spoiled = true;
     }
 
-    /// It answers nothing else any more, since the commit of this outcome failed.
+    /// Marks the actor as ended by the failed commit of this outcome, which is kept.
     pub fn spoil_at(&mut self, outcome: Outcome<M::Body>)
         ensures { self.new ≡ record self.old { failed = Some outcome; spoiled = true } }
     {
@@ -182,7 +182,7 @@ impl<M: Machine, K: Keeper<M::Body>> Parts<M, K> {
         self.spoiled = true;
     }
 
-    /// What the event makes of the node.
+    /// Plans what the event makes of the node.
     pub fn plan(&self, event: &Event<M::Body>) -> Result<Outcome<M::Body>, NodeFault>
         requires { plans self.now.node.me event.now self.now.node.state ≡ true }
         ensures planned { Answers (is_round_refused event.now self.now.node.state) (is_full_refused M.Body.same event.now self.now.node.state)
@@ -193,7 +193,7 @@ impl<M: Machine, K: Keeper<M::Body>> Parts<M, K> {
         self.node.plan(event)
     }
 
-    /// Takes all memory that adopting the outcome needs.
+    /// Allocates all memory that adopting the outcome needs.
     pub fn make_room(&mut self, outcome: &Outcome<M::Body>) -> Result<(), NodeFault>
         ensures ok { OnOk result (HasRoom outcome.now self.new.node) }
         ensures state { self.new.node.state ≡ self.old.node.state }
@@ -216,7 +216,7 @@ impl<M: Machine, K: Keeper<M::Body>> Parts<M, K> {
         commit(&mut self.keeper, &outcome.change)
     }
 
-    // The node adopts the outcome, whose packets wait then; answers the entries that it applied.
+    // Makes the node adopt the outcome, whose packets wait then. Returns the entries that it applied.
     pub(crate) fn adopt(&mut self, outcome: Outcome<M::Body>) -> Entries<M::Body>
         requires room { HasRoom outcome self.old.node }
         requires fits { Fits self.old.node.me self.old.node.members outcome self.old.node.state }
@@ -228,7 +228,7 @@ impl<M: Machine, K: Keeper<M::Body>> Parts<M, K> {
         applied
     }
 
-    // The machine follows these entries; what it says at them to the node's transports of this boot.
+    // Makes the machine follow these entries. Returns what it says at them to the node's transports of this boot.
     pub(crate) fn apply(
         &mut self,
         boot: u64,
@@ -270,7 +270,7 @@ impl<M: Machine, K: Keeper<M::Body>> Parts<M, K> {
         self.outboxes.put_back(packet);
     }
 
-    /// The log; none of it once the node is down.
+    /// Returns the log; none of it once the node is down.
     pub fn log(&self) -> &[Entry<M::Body>]
         ensures { result.now ≡ (if self.now.node.state.up then self.now.log.applied else []) }
     {
@@ -281,7 +281,7 @@ impl<M: Machine, K: Keeper<M::Body>> Parts<M, K> {
         }
     }
 
-    /// What is left of the node: its rows, the outcome whose commit failed, and the store.
+    /// Returns what is left of the node: its rows, the outcome whose commit failed, and the store.
     pub fn leave_rows(self) -> (Rows<M::Body>, Option<Outcome<M::Body>>, K)
         ensures rows { result.0 ≡ self.node.state.rows }
         ensures failed { result.1 ≡ self.failed }
@@ -301,7 +301,7 @@ impl<M: Machine, K: Keeper<M::Body>> Parts<M, K> {
 }
 
 impl<M: Machine, K: Keeper<M::Body> + Drop> Parts<M, K> {
-    /// The log, and the machine that has followed it.
+    /// Returns the log, and the machine that has followed it.
     pub fn leave(self) -> AppliedLog<M>
         ensures { result ≡ self.log }
     {

@@ -1,4 +1,4 @@
-// What an event changes is committed.
+// Commits what an event changes.
 ghost use Rattle.std.specs.Prelude.{◌≡◌, true, false, OnOk, IfErr, is_err};
 ghost use Rattle.paxos_packets.specs.declared.rows.Rows.{Rows};
 ghost use Rattle.paxos_acceptor.specs.Acceptor.{adopted, no_change};
@@ -7,7 +7,7 @@ ghost use Rattle.actor_parts.specs.Steps.{Falls};
 use paxos_packets::{Body, Change};
 use store_keeper::{Keeper, KeeperFault};
 
-// The change is committed, unless there is nothing in it.
+// Commits the change, unless it is empty.
 pub(crate) fn commit<B: Body, K: Keeper<B>>(
     keeper: &mut K,
     change: &Change<B>,
@@ -23,7 +23,7 @@ pub(crate) fn commit<B: Body, K: Keeper<B>>(
     keeper.commit(change)
 }
 
-// Whether there is nothing in the change.
+// Returns whether the change is known to be empty.
 fn is_empty<B>(change: &Change<B>) -> bool
     ensures { result ≡ true → change.now ≡ no_change }
 {

@@ -12,7 +12,9 @@ use replica_machine::Machine;
 use store_keeper::Keeper;
 
 impl<M: Machine, K: Keeper<M::Body>> Parts<M, K> {
-    /// The outcome, which is committed, is adopted, its packets wait, and the machine follows what it applied.
+    /// Takes over an outcome that is committed: the node adopts it, its packets wait, and the machine follows what it applied. Returns what
+    /// the machine says to the node's transports, or a fault that ends the actor: `LostHere` if the node is down then, `Memory` if memory
+    /// runs out.
     pub fn take_over(
         &mut self,
         outcome: Outcome<M::Body>,
@@ -33,7 +35,7 @@ impl<M: Machine, K: Keeper<M::Body>> Parts<M, K> {
         self.answer(says)
     }
 
-    // What is said, or that the node is lost.
+    // Returns what is said, or that the node is lost.
     fn answer(&mut self, says: Vec<M::Say>) -> Result<Vec<M::Say>, ActorFault<M::Say>>
         ensures { AnswersUp says.items self.old self.new result }
     {

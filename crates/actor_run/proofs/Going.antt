@@ -75,7 +75,7 @@ module _ {B S Y M K : Type 0} (same : B → B → Bool) (from : S → Machine B 
         follows = λ first f. subst (λ l. Follows from content first l) (sym only.log) (went.follows first f);
       }
 
-  -- an event that was held back is so still where no act was taken since
+  -- an event that was held back is so still if no act was taken since
   pub held_on : (h : Event B) (made : List (Event B)) (e : Option (Event B)) → ((x : NodeState B) → gained_at e x ≡ [])
       → HeldBack same n_of h made s_of → HeldBack same n_of h (made ++ option_to_list e) s_of
   held_on h made e none back =

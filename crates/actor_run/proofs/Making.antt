@@ -79,7 +79,7 @@ module _ {B S Y M K F : Type 0} (same : B → B → Bool) (from : S → Machine 
       late_is_asked me None = refl
       late_is_asked me (Some e) = append-nil (asked_by me e)
 
-  -- the next event that a feed gave, where none was held back
+  -- the next event that a feed gave, if none was held back
   pub next_of : (now : Acting B M K) (feed next : F) (r : Option (Event B))
       → ((given : List (Event B)) (got : List Y) → saw feed given got → saw next (given ++ option_to_list r) got)
       → Waits same from content saw None o now feed
@@ -125,7 +125,7 @@ module _ {B S Y M K F : Type 0} (same : B → B → Bool) (from : S → Machine 
           back = tt;
         }
 
-    -- the actor answered a fault
+    -- the actor returned a fault
     pub makes_err : (mid now : Acting B M K) (feed next : F) (e : Event B) (fault : ActorFault Y) (r : Result (Option (Event B)) (ActorFault Y))
         → ((v : View B) → StandsFor mid v → Acts same from content holds finds failures (Some e) mid now v (Err fault))
         → Answered saw fault e feed next r → Underway same from content saw (asked_by mid.node.me e) o mid feed
@@ -179,7 +179,7 @@ module _ {B S Y M K F : Type 0} (same : B → B → Bool) (from : S → Machine 
     why_late None made last back = none_is refl
     why_late (Some h) made last back = was_held h refl back
 
-    -- a turn that answered what was said
+    -- a turn that returned what was said
     pub turned_ok : (held : Option (Event B)) (old now : Acting B M K) (feed next : F) (says : Vec Y Global)
         → (old.spoiled ≡ true → (now ≡ old) × ◌≡◌ {A = Result (Vec Y Global) (ActorFault Y)} (Ok says) (Err Failed))
         → ((v : View B) → StandsFor old v → old.spoiled ≡ false → Turns same from content holds finds failures old now v (Ok says))
@@ -226,7 +226,7 @@ module _ {B S Y M K F : Type 0} (same : B → B → Bool) (from : S → Machine 
     fatal_by Worn last mid now v a rounds rooms = refl
     fatal_by Memory last mid now v a rounds rooms = refl
 
-    -- a turn that answered a fault
+    -- a turn that returned a fault
     pub turned_err : (held : Option (Event B)) (old now : Acting B M K) (feed next : F) (fault answer : ActorFault Y)
         → (old.spoiled ≡ true → (now ≡ old) × ◌≡◌ {A = Result (Vec Y Global) (ActorFault Y)} (Err fault) (Err Failed))
         → ((v : View B) → StandsFor old v → old.spoiled ≡ false → Turns same from content holds finds failures old now v (Err fault))

@@ -1,4 +1,4 @@
--- What a run answers where its actor answered a fault.
+-- What a run returns if its actor returned a fault.
 use Rattle.std.specs.Prelude.{◌≡◌, Bool, true, false, Option, Some, None, Result, Ok, Err, List, [], ◌++◌}
 use Rattle.std.specs.declared.vec.Vec.{Vec}
 use Rattle.std.specs.declared.alloc.Global.{Global}

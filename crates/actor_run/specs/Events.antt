@@ -48,7 +48,7 @@ gained_by (Crash n) x = []
 gained_by (Restart n) x = []
 
 module _ {B : Type 0} (same : B → B → Bool) (members : ℕ) where
-  -- the view behind the events
+  -- the view after the events
   abbrev pub behind : List (Event B) → Viewed B → Viewed B
   behind [] s = s
   behind (e ∷ es) s = behind es (moved_by same members (Some e) s)

@@ -1,4 +1,4 @@
--- A run of an actor: turns for as long as a gate lets pass, and before each the events that a feed gives (docs/CONSENSUS.md, "Threads").
+-- A run of an actor: turns for as long as a gate allows, and before each the events that a feed gives (docs/ARCHITECTURE.md, "Threads").
 use Rattle.std.specs.Prelude.{◌≡◌, ◌⊎◌, ℕ, Bool, true, false, Option, Some, None, Result, Ok, Err, List, [], ◌∷◌, ◌++◌}
 use Rattle.paxos_packets.specs.declared.rows.Rows.{Rows}
 use Rattle.paxos_node.specs.declared.event.Event.{Event}
@@ -20,7 +20,7 @@ pub record Outset (B Y M K : Type 0) : Type 0 where
   pub gave : List (Event B)
   pub got : List Y
 
--- the event was refused for want of room behind the first of these, and no act was taken since
+-- the event was refused since there was no room after the first of these, and no act was taken since
 pub record HeldBack {B : Type 0} (same : B → B → Bool) (members : ℕ) (e : Event B) (made : List (Event B)) (s : Viewed B) : Type 0 where
   pub front : List (Event B)
   pub since : List (Event B)
@@ -39,7 +39,7 @@ IsHeld same members None made s = Unit {0}
 IsHeld same members (Some e) made s = HeldBack same members e made s
 
 module _ {B S Y M K : Type 0} (same : B → B → Bool) (from : S → Machine B S Y) (content : M → S) where
-  -- the view went on by these events of the core, and its actor with it: the acts that it gained, and behind them one that is late, are
+  -- the view went on by these events of the core, and its actor with it: the acts that it gained, and after them one that is late, are
   -- those that the feed asked for, in order; and what was said is what the core hands out
   pub record Went (late : List (ℕ × B)) (o : Outset B Y M K) (now : Acting B M K) (view : View B) (made given : List (Event B)) (said : List Y) : Type 0 where
     pub stands : StandsFor now view
@@ -51,7 +51,7 @@ module _ {B S Y M K : Type 0} (same : B → B → Bool) (from : S → Machine B 
     pub follows : (first : S) → Follows from content first o.actor.log → Follows from content first now.log
 
   module _ {F : Type 0} (saw : F → List (Event B) → List Y → Type 0) where
-    -- the same, told with what the feed gave and got
+    -- the same, stated with what the feed gave and got
     pub record Underway (late : List (ℕ × B)) (o : Outset B Y M K) (now : Acting B M K) (feed : F) : Type 0 where
       pub view : View B
       pub made : List (Event B)
@@ -72,8 +72,8 @@ module _ {B S Y M K : Type 0} (same : B → B → Bool) (from : S → Machine B 
         was_held : (e : Event B) → late ≡ asked_by o.actor.node.me e → HeldBack same o.actor.node.members e made (seen o.view) → IsLate late o made last
         ended_it : (e : Event B) → late ≡ asked_by o.actor.node.me e → last ≡ Some e → IsLate late o made last
 
-      -- the actor answered a fault, at this event or at none, which is no refusal: so it all went until then, the sayings in the fault were
-      -- handed out, and it is the answer without them
+      -- the actor returned a fault, at this event or at none, which is no refusal: so it all went until then, the sayings in the fault were
+      -- handed out, and it is returned without them
       pub record Ended (o : Outset B Y M K) (now : Acting B M K) (feed : F) (answer : ActorFault Y) : Type 0 where
         pub late : List (ℕ × B)
         pub last : Option (Event B)
@@ -96,7 +96,7 @@ module _ {B S Y M K : Type 0} (same : B → B → Bool) (from : S → Machine B 
       Makes o now feed (Ok held) = Waits held o now feed
       Makes o now feed (Err answer) = Ended o now feed answer
 
-      -- the same, where what is held back stays where it was
+      -- the same, if what is held back stays where it was
       abbrev pub Keeps : Outset B Y M K → Acting B M K → F → Option (Event B) → Result (Unit {0}) (ActorFault Y) → Type 0
       Keeps o now feed held (Ok _) = Waits held o now feed
       Keeps o now feed held (Err answer) = Ended o now feed answer

@@ -1,4 +1,4 @@
-// What comes before a turn: the events that a feed gives.
+// What comes before a turn: makes the events that a feed gives.
 ghost use Rattle.std.specs.Prelude.{◌≡◌, Option, List, [], MatchOption};
 ghost use Rattle.paxos_node.specs.declared.event.Event.{Event};
 ghost use Rattle.replica_machine.specs.Log.{machine_from};
@@ -12,10 +12,10 @@ use crate::feed::{Feed, Seen};
 use mail_table::Mail;
 use node_actor::{Actor, ActorFault, Event, Keeper, Machine};
 
-// How many events are made before a turn at most.
-const MOST_EVENTS: u8 = 64;
+// How many events may be made before a turn.
+const EVENTS_A_TURN: u8 = 64;
 
-// How many packets wait for each member, member 1 first.
+// Returns how many packets wait for each member, member 1 first.
 fn waiting_of<M: Machine, K: Keeper<M::Body>>(actor: &Actor<M, K>) -> [u16; 7] {
     let mut waiting = [0; 7];
     for below in 0..7u8 {
@@ -25,7 +25,7 @@ fn waiting_of<M: Machine, K: Keeper<M::Body>>(actor: &Actor<M, K>) -> [u16; 7] {
     waiting
 }
 
-// What the feed is told.
+// Returns what the feed is given.
 fn seen_by<M: Machine, K: Keeper<M::Body>>(actor: &Actor<M, K>) -> Seen {
     Seen {
         from: actor.from(),
@@ -39,7 +39,7 @@ fn seen_by<M: Machine, K: Keeper<M::Body>>(actor: &Actor<M, K>) -> Seen {
     }
 }
 
-// Whether the event is one of this node that a feed may give. An act of the transport 0 is none.
+// Returns whether the event is one of this node that a feed may give. An act of the transport 0 is not.
 fn is_own<B>(node: u8, event: &Event<B>) -> bool
     ensures { result ≡ is_own node event.now }
 {
@@ -58,7 +58,7 @@ fn is_own<B>(node: u8, event: &Event<B>) -> bool
     }
 }
 
-// The event that was held back, or the next one that the feed gives; none is held back then.
+// Returns the event that was held back, or the next one that the feed gives; none is held back then.
 fn next_event<M: Machine, K: Keeper<M::Body>, F: Feed<M::Body, M::Say>>(
     actor: &Actor<M, K>,
     feed: &mut F,
@@ -75,8 +75,11 @@ fn next_event<M: Machine, K: Keeper<M::Body>, F: Feed<M::Body, M::Say>>(
     held.take()
 }
 
-// The sayings in a fault are handed out; gives it without them.
-pub(crate) fn told<B, Y: Drop, F: Feed<B, Y>>(feed: &mut F, fault: ActorFault<Y>) -> ActorFault<Y>
+// Hands out the sayings in a fault. Returns the fault without them.
+pub(crate) fn strip_sayings<B, Y: Drop, F: Feed<B, Y>>(
+    feed: &mut F,
+    fault: ActorFault<Y>,
+) -> ActorFault<Y>
     ensures quiet { IsQuiet fault result }
     ensures told { Gets F.saw (says_of fault) feed.old feed.new }
 {
@@ -90,7 +93,7 @@ pub(crate) fn told<B, Y: Drop, F: Feed<B, Y>>(feed: &mut F, fault: ActorFault<Y>
     }
 }
 
-// What a fault at an event makes of it.
+// Judges a fault at an event: drops the event at `Rounds`, returns it to be held back at `Full`, and returns any other fault.
 fn refused<B: Drop, Y: Drop, F: Feed<B, Y>>(
     feed: &mut F,
     event: Event<B>,
@@ -106,12 +109,12 @@ fn refused<B: Drop, Y: Drop, F: Feed<B, Y>>(
         ActorFault::Full => Ok(Some(event)),
         fault => {
             drop(event);
-            Err(told(feed, fault))
+            Err(strip_sayings(feed, fault))
         },
     }
 }
 
-// The actor makes an event that the feed gave; gives it back where it is held back.
+// Makes an event that the feed gave. Returns the event if it is held back.
 fn make<M: Machine, K: Keeper<M::Body>, F: Feed<M::Body, M::Say>>(
     mail: &Mail<M::Body>,
     actor: &mut Actor<M, K>,
@@ -139,7 +142,7 @@ fn make<M: Machine, K: Keeper<M::Body>, F: Feed<M::Body, M::Say>>(
     }
 }
 
-// At most 64 events, the one that was held back first; one may be held back then.
+// Makes at most 64 events, the one that was held back first; one may be held back then.
 pub(crate) fn make_events<M: Machine, K: Keeper<M::Body>, F: Feed<M::Body, M::Say>>(
     mail: &Mail<M::Body>,
     actor: &mut Actor<M, K>,
@@ -152,7 +155,7 @@ pub(crate) fn make_events<M: Machine, K: Keeper<M::Body>, F: Feed<M::Body, M::Sa
         Waits M.Body.same (machine_from M.next M.says M.to) M.content F.saw held.old o actor.old feed.old →
         Keeps M.Body.same (machine_from M.next M.says M.to) M.content F.saw K.holds K.finds K.failures o actor.new feed.new held.new result }
 {
-    for _ in 0..MOST_EVENTS {
+    for _ in 0..EVENTS_A_TURN {
         let Some(event) = next_event(actor, feed, held) else {
             return Ok(());
         };

@@ -6,7 +6,7 @@ use node_actor::Heard;
 use paxos_node::Event;
 use paxos_packets::{Ballot, NodeSet};
 
-/// What a feed is told when it is asked for an event.
+/// What a feed is given when it is asked for an event.
 #[derive(Clone, Copy)]
 pub struct Seen {
     /// Whose packet the last turn treated, if it treated one.
@@ -17,7 +17,7 @@ pub struct Seen {
     pub applied: u64,
     /// Whether entries are pending.
     pub pending: bool,
-    /// To whom the last turn posted.
+    /// The peers to which the last turn posted.
     pub posted: NodeSet,
     /// How many packets wait for each member, member 1 first.
     pub waiting: [u16; 7],
@@ -29,14 +29,14 @@ pub struct Seen {
 
 /// Where the events of a node come from, and its sayings go.
 pub trait Feed<B, Y> {
-    // That it has given these events so far, and got these sayings, oldest first. A feed that claims nothing says so of all.
+    // It has given these events so far, and got these sayings, oldest first. A feed that claims nothing says so of all lists.
     ghost saw: { Self → List (Event B) → List Y → Type 0 };
 
-    /// The next event, if there is one: a Take, Tick, Start or Suspect of the node; any other is passed over.
+    /// Returns the next event, if there is one: a Take, Tick, Start or Suspect of the node; any other is passed over.
     fn next(&mut self, seen: Seen) -> Option<Event<B>>
         ensures { (given : List (Event B)) (got : List Y) → saw self.old given got → saw self.new (given ++ option_to_list result) got };
 
-    /// What the node says to its transports, in order.
+    /// Takes what the node says to its transports, in order.
     fn hand(&mut self, says: Vec<Y>)
         ensures { (given : List (Event B)) (got : List Y) → saw self.old given got → saw self.new given (got ++ says.items) };
 }

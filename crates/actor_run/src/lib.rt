@@ -1,4 +1,4 @@
-//! Runs of an actor: turns for as long as a gate lets pass, and before each the events that a feed gives (docs/CONSENSUS.md, "Threads").
+//! Runs of an actor: turns for as long as a gate allows, and before each the events that a feed gives (docs/ARCHITECTURE.md, "Threads").
 #![tactic(auto)]
 
 mod events;

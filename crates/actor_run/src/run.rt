@@ -5,14 +5,14 @@ ghost use Rattle.mail_table.specs.Seats.{Owns};
 ghost use Rattle.node_actor.specs.Views.{View, StandsFor};
 ghost use Rattle.actor_run.specs.Runs.{Outset, Waits, Keeps, Runs};
 
-use crate::events::{make_events, told};
+use crate::events::{make_events, strip_sayings};
 use crate::feed::Feed;
 use crate::gate::Gate;
 use mail_table::Mail;
 use node_actor::{Actor, ActorFault, Event, Keeper, Machine};
 
-// A turn of the actor; all that it says is handed to the feed. An event that is held back waits on.
-fn turned<M: Machine, K: Keeper<M::Body>, F: Feed<M::Body, M::Say>>(
+// Takes a turn of the actor, and hands all that it says to the feed. An event that is held back keeps waiting.
+fn take_turn<M: Machine, K: Keeper<M::Body>, F: Feed<M::Body, M::Say>>(
     mail: &Mail<M::Body>,
     actor: &mut Actor<M, K>,
     feed: &mut F,
@@ -28,11 +28,11 @@ fn turned<M: Machine, K: Keeper<M::Body>, F: Feed<M::Body, M::Say>>(
             feed.hand(says);
             Ok(())
         },
-        Err(fault) => Err(told(feed, fault)),
+        Err(fault) => Err(strip_sayings(feed, fault)),
     }
 }
 
-// Events of the feed, then a turn.
+// Makes events of the feed, then takes a turn.
 fn round<M: Machine, K: Keeper<M::Body>, F: Feed<M::Body, M::Say>>(
     mail: &Mail<M::Body>,
     actor: &mut Actor<M, K>,
@@ -46,16 +46,16 @@ fn round<M: Machine, K: Keeper<M::Body>, F: Feed<M::Body, M::Say>>(
         Keeps M.Body.same (machine_from M.next M.says M.to) M.content F.saw K.holds K.finds K.failures o actor.new feed.new held.new result }
 {
     match make_events(mail, actor, feed, held) {
-        Ok(()) => turned(mail, actor, feed),
+        Ok(()) => take_turn(mail, actor, feed),
         Err(fault) => Err(fault),
     }
 }
 
-/// Turns the actor for as long as the gate lets pass, at most 2^64 - 1 times. Before each turn it makes at most 64 events that the feed gives;
-/// those that are no Take of a transport from 1 on, Tick, Start or Suspect of its node are passed over. All sayings are handed to the feed.
+/// Runs the actor for as long as the gate allows, at most 2^64 - 1 turns. Before each turn makes at most 64 events that the feed gives;
+/// passes over those that are not a Take of a transport from 1 on, Tick, Start or Suspect of its node. Hands all sayings to the feed.
 ///
-/// An event that answers `Rounds` is dropped; one that answers `Full` is made again before the next turn, before any other. Any other fault
-/// ends the run and is its answer, without its sayings. Waits nowhere but in the gate.
+/// An event that returns `Rounds` is dropped; one that returns `Full` is made again before the next turn, before any other. Any other fault
+/// ends the run and is returned, without its sayings. Waits nowhere but in the gate.
 pub fn run_node<M: Machine, K: Keeper<M::Body>, G: Gate, F: Feed<M::Body, M::Say>>(
     mail: &Mail<M::Body>,
     actor: &mut Actor<M, K>,

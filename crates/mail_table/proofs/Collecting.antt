@@ -99,7 +99,7 @@ module _ {B : Type 0} (same : B → B → Bool) (n : ℕ) where
   fit_mine part seat j (z ∷ zs) f x h =
       ⊎_elim (λ (e : z ≡ x). subst (λ y. part y.me ≡ y) e f.0) (λ t. fit_mine part seat j zs f.2 x t) (has_cons h)
 
-  -- who has the parts of all nodes in view knows them, once no seat is left
+  -- a view with the parts of all nodes knows them, once no seat is left
   pub gathers : (id : ℕ) (v parts : List (Part B)) (words : List ℕ) (slots : List (Option (Packet B)))
       → Final (Seen (Kept {B = B} same n) id v) words slots → ((x : Part B) → Has parts x → Has v x)
       → ((k : ℕ) → IsMember n k → (x : Part B) × Has parts x × (x.me ≡ k)) → Gathered same n parts

@@ -55,7 +55,7 @@ module _ {B : Type 0} (same : B → B → Bool) where
   leads_none n es k y e =
       record { events = es; mine = e; others = λ j d. refl; sent = sym (append-nil (played same n es).sent) }
 
-  -- one event, of a node that stands so
+  -- one event, of a node that is so
   one_more : (n : ℕ) (es : List (Event B)) (e : Event B) (k : ℕ) (v : NodeState B) → owner e ≡ k → node_at (played same n es).nodes k ≡ v
       → was_sent same e (played same n es).sent ≡ true → possible e v ≡ true
       → Leads same n es k (outcome_of same n e v).node (outcome_of same n e v).packets
@@ -83,7 +83,7 @@ module _ {B : Type 0} (same : B → B → Bool) where
       p : played same n (es ++ e ∷ []) ≡ next same n w e
       p = one_event_more same n es e
 
-  -- the views show the world behind these events, too, where the node's view follows them
+  -- the views show the world after these events, too, if the node's view follows them
   covers_on : (n : ℕ) (seen : ℕ → Viewed B) (rows : ℕ → Rows B) (k : ℕ) (y : Viewed B) (v : NodeState B) (ps : List (Packet B))
       (c : Covers same n seen rows) → Leads same n c.events k v ps → Shows k y.opened y.node (rows k) v → y.sent ≡ (seen k).sent ++ ps
       → IsMember n k → Covers same n (with_at seen k y) rows
@@ -109,7 +109,7 @@ module _ {B : Type 0} (same : B → B → Bool) where
       old : (j : ℕ) (p : Packet B) → IsMember n j → Has (seen j).sent p → Has (played same n l.events).sent p
       old j p i h = there p (has_left ps (c.sent j p i h))
 
-  -- where the other views match, and this one's rows are as they were
+  -- if the other views match, and this one's rows are as they were
   matched : (n : ℕ) (seen : ℕ → Viewed B) (rows : ℕ → Rows B) (k : ℕ) (y : Viewed B)
       → ((j : ℕ) → IsMember n j → Matches (with_at seen k y j).opened (rows j)) → (Matches y.opened (rows k)
       → Matches (seen k).opened (rows k))
@@ -129,7 +129,7 @@ module _ {B : Type 0} (same : B → B → Bool) where
   shows : (o : Opened B) (k : ℕ) (x : NodeState B) (r q : Rows B) → o ≡ With q → Shows k o x r x
   shows o k x r q e = subst (λ z. Shows k z x r x) (sym e) refl
 
-  -- a crash, where it is up, and a restart
+  -- a crash, if it is up, and a restart
   begin_again : (n : ℕ) (es : List (Event B)) (k : ℕ) (v : NodeState B) → node_at (played same n es).nodes k ≡ v → v.rows.boot < last_boot
       → (b : Bool) → v.up ≡ b → Leads same n es k (started k (raised v.rows)) []
   begin_again n es k v at low false up =
@@ -230,7 +230,7 @@ module _ {B : Type 0} (same : B → B → Bool) (n : ℕ) where
   pub covered_same : (f g : ℕ → Viewed B) → ((k : ℕ) → f k ≡ g k) → Covered same n f → Covered same n g
   covered_same f g e c = let path : ◌≡◌ {A = ℕ → Viewed B} f g = λ t k. e k t in subst (Covered same n) path c
 
-  -- where nobody opened any node, any world will do
+  -- if no node was ever opened, any world will do
   pub covered_first : (f : ℕ → Viewed B) → ((k : ℕ) → (f k).opened ≡ Never) → ((k : ℕ) → (f k).sent ≡ []) → Covered same n f
   covered_first f never none rows match agreed =
       record {

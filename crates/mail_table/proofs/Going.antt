@@ -20,7 +20,7 @@ use Rattle.mail_table.specs.Covered.{Covered, with_at}
 use Rattle.mail_table.specs.Views.{box_of, through, is_sending, is_taking}
 use Rattle.mail_table.specs.declared.part.Part.{Part}
 
--- a part stands to a box as another does: as its sender, as its addressee
+-- a part is to a box as another is: as its sender, as its addressee
 
 pub record Sends {B : Type 0} (i : ℕ) (y x : Part B) : Type 0 where
   pub doing : is_sending y.doing i ≡ is_sending x.doing i
@@ -75,7 +75,7 @@ module _ {B : Type 0} (same : B → B → Bool) (n : ℕ) (s : State (Option (Pa
       (λ (t : (j ≢ id) × (get_elem? s.views j ≡ some v)). fits_else j t.0 v (kept.fits j v t.1))
       (at_set s.views id j (y ∷ []) v e)
 
-  -- what is owed where the word i becomes m
+  -- what is owed if the word i becomes m
   pub record Owed (i m : ℕ) (homes : List (core.Option (Option (Packet B)))) : Type 0 where
     pub high : length homes ≡ length s.homes
     pub else_home : (j : ℕ) → (j ≡ i → ⊥) → get_elem? homes j ≡ get_elem? s.homes j

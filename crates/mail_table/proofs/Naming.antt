@@ -29,7 +29,7 @@ prefix_whole (x ∷ xs) (y ∷ ys) p le = let rest = prefix_whole xs ys (p.0, cc
 pub prefix_length : {A : Type 0} (xs ys : List A) → IsPrefix xs ys → length xs ≤ length ys
 prefix_length xs ys p = omega (arith, sym (ap length p.1) ∙ length-append xs p.0)
 
--- what stands in a beginning stands in the whole, at the same place
+-- what is in a beginning is in the whole, at the same place
 prefix_get : {A : Type 0} (xs ys : List A) (k : ℕ) (x : A) → IsPrefix xs ys → slice_get xs k ≡ Some x → slice_get ys k ≡ Some x
 prefix_get [] ys k x p h = absurd cc
 prefix_get (y ∷ xs) [] k x p h = absurd (cc (p.1))
@@ -100,7 +100,7 @@ adds_moves v e old len cs log kept pre away =
 some_one : {A : Type 0} (x y : A) → Some x ≡ Some y → x ≡ y
 some_one x y e = cc
 
--- a name tells the table
+-- a name determines the table
 name_tells : (s t : TableId) → name_of s ≡ name_of t → s ≡ t
 name_tells s t e i =
     record {

@@ -12,7 +12,7 @@ use Rattle.mail_table.specs.Views.{place, box_of}
 pub further : (x y n : ℕ) → x < y → x * n + n ≤ y * n
 further x y n h = let a : suc x * n ≤ y * n = mul-le-mul_right n h in omega (arith, suc-mul x n)
 
--- a place in a grid tells its row and column
+-- a place in a grid determines its row and column
 row_is : (n a b c d : ℕ) → b < n → d < n → a * n + b ≡ c * n + d → a < c → ⊥
 row_is n a b c d x y e l =
     let f = further a c n l in
@@ -48,7 +48,7 @@ place_is n (suc k) m = refl
 one_place : (n j k : ℕ) → IsMember n j → IsMember n k → place j ≡ place k → j ≡ k
 one_place n j k a b e = sym (place_is n j a) ∙ (ap suc e ∙ place_is n k b)
 
--- the number of a box tells its two nodes
+-- the number of a box determines its two nodes
 pub box_tells : (n a b c d : ℕ) → IsMember n a → IsMember n b → IsMember n c → IsMember n d → box_of n a b ≡ box_of n c d
     → (a ≡ c) × (b ≡ d)
 box_tells n a b c d ma mb mc md e =

@@ -23,7 +23,7 @@ use Rattle.mail_table.specs.declared.part.Doing.{Doing}
 use Rattle.mail_table.specs.declared.part.Doing.TheVariants.{Idle, Sending, Taking}
 use Rattle.mail_table.specs.declared.part.Part.{Part}
 
--- what a seat may go on with, behind a step
+-- what a seat may go on with, after a step
 abbrev pub Next : {B : Type 0} → (B → B → Bool) → ℕ → State (Option (Packet B)) (List (Part B)) → ℕ → List (ℕ × Option (Packet B)) → ℕ → ℕ
     → (Sat B → Type 0) → Type 0
 Next {B} same n s id held i m then_is =
@@ -86,7 +86,7 @@ seeks_by same n wanted x id i a b ma mb is mx s kept at true =
 seeks_by same n wanted x id i a b ma mb is mx s kept at false =
     (lost i x ∷ [], keeps, tt, loses same n x id i s kept at a b ma mb is mx, refl)
 
--- where nothing changed the seat is as it was
+-- if nothing changed the seat is as it was
 pub seat_stays : (X Y Z : Type 0) (found : Bool) → MatchBool found X Z → (X → Y) → MatchBool found Y Z
 seat_stays X Y Z true h f = f h
 seat_stays X Y Z false h f = h

@@ -1,5 +1,5 @@
--- The rule of the table: its words, its slots and what each seat knows, between any two steps; and what each step tells
--- (docs/CONSENSUS.md, "Threads").
+-- The rule of the table: its words, its slots and what each seat knows, between any two steps; and what each step means
+-- (docs/ARCHITECTURE.md, "Threads").
 use Rattle.std.specs.Prelude.{◌≡◌, ◌⊎◌, ◌<◌, ℕ, zero, suc, ◌+◌, ◌*◌, ◌==◌, ◌^◌, Bool, true, false, Option, Some, None, MatchBool}
 use Rattle.std.specs.Prelude.{List, [], ◌∷◌, ◌++◌, length, slice_index}
 use mathlib.Core.Option.{some}
@@ -23,7 +23,7 @@ use Rattle.mail_table.specs.Covered.{Covered, MayRenew}
 use Rattle.mail_table.specs.Views.{box_of, place, through, is_sending, is_taking, unopened, only}
 use Rattle.mail_table.specs.Views.{claiming, delivering, fetching, clearing, lost, moving, renewing}
 
--- the word of a node, behind those of the boxes, and as far from others
+-- the word of a node, after those of the boxes, and as far from others
 abbrev pub word_of : ℕ → ℕ → ℕ
 word_of n k = 8 * (n * n + place k)
 
@@ -90,7 +90,7 @@ abbrev pub first_alone : {B : Type 0} → List (Part B) → List (Part B)
 first_alone [] = []
 first_alone (x ∷ xs) = x ∷ []
 
--- what each step tells
+-- what each step means
 
 abbrev pub Claims : {B : Type 0} → Step (Option (Packet B)) → Sat B → ℕ → Sat B → Type 0
 Claims st m found w = MatchBool (found == 0) (w ≡ sits (claiming st.word (only m.0)) ((st.word, None) ∷ [])) (w ≡ sits (lost st.word

@@ -1,4 +1,4 @@
--- What all views together say: some world that events lead to has just the nodes that they show (docs/CONSENSUS.md, "Threads").
+-- What all views together say: some world that events lead to has just the nodes that they show (docs/ARCHITECTURE.md, "Threads").
 use Rattle.std.specs.Prelude.{◌≡◌, ◌⊎◌, ◌<◌, ◌≤◌, ℕ, Bool, ◌==◌, List, if◌then◌else◌}
 use Rattle.paxos_packets.specs.Members.{IsMember}
 use Rattle.paxos_packets.specs.Rows.{last_boot, raised}
@@ -24,12 +24,12 @@ abbrev pub Agreed : {B : Type 0} → (B → B → Bool) → ℕ → (ℕ → Row
 Agreed {B} same n rows =
     (events : List (Event B)) × ((k : ℕ) → IsMember n k → Stands k (rows k) (node_at (played same n events).nodes k))
 
--- a view shows a node: the very node where it was opened, else one that would begin with these rows
+-- a view shows a node: the very node if it was opened, otherwise one that would begin with these rows
 abbrev pub Shows : {B : Type 0} → ℕ → Opened B → NodeState B → Rows B → NodeState B → Type 0
 Shows me Never mine r v = Stands me r v
 Shows me (With r0) mine r v = mine ≡ v
 
--- where a node was opened, these are the rows that it was opened with
+-- if a node was opened, these are the rows that it was opened with
 abbrev pub Matches : {B : Type 0} → Opened B → Rows B → Type 0
 Matches Never r = Unit {0}
 Matches (With r0) r = r ≡ r0
@@ -55,7 +55,7 @@ Fed n seen (Deliver p) = (a : ℕ) × IsMember n a × Has (seen a).sent p
 Fed n seen (Crash k) = Unit {0}
 Fed n seen (Restart k) = Unit {0}
 
--- the rows that a node may begin with anew: any where nobody opened it, else those of the view in a later boot
+-- the rows that a node may begin with anew: any if it was never opened, otherwise those of the view in a later boot
 abbrev pub with_boot : {B : Type 0} → ℕ → Rows B → Rows B
 with_boot boot rows = record { boot = boot; promised = rows.promised; votes = rows.votes }
 

@@ -1,4 +1,4 @@
--- What the seats of all nodes know together once they are gathered (docs/CONSENSUS.md, "Threads").
+-- What the seats of all nodes know together once they are gathered (docs/ARCHITECTURE.md, "Threads").
 use Rattle.std.specs.Prelude.{◌≡◌, ◌⊎◌, ℕ, Bool, List}
 use Rattle.cluster_world.specs.Has.{Has}
 use Rattle.cluster_world.specs.Laws.{IsPrefixOf}
@@ -42,7 +42,7 @@ LogsAgree {B} same n parts =
     (rows : ℕ → Rows B) → Opening same n parts rows → (x y : Part B) → Has parts x → Has parts y → IsMember n x.me → IsMember n y.me
     → IsPrefixOf (log_in x.seen) (log_in y.seen) ⊎ IsPrefixOf (log_in y.seen) (log_in x.seen)
 
--- where a node received a Learned of a slot, no node that was opened has learned another entry there
+-- if a node received a Learned of a slot, no node that was opened has learned another entry there
 abbrev pub LearnersAgree : {B : Type 0} → (B → B → Bool) → ℕ → List (Part B) → Type 0
 LearnersAgree {B} same n parts =
     (rows : ℕ → Rows B) → Opening same n parts rows → (x y : Part B) → Has parts x → Has parts y → IsMember n x.me → IsMember n y.me

@@ -64,7 +64,7 @@ pub record IsSized (n of : ℕ) (t : TableId) : Type 0 where
   pub least : 3 ≤ n
   pub most : n ≤ 7
 
--- the seat knows of one node alone, which is at no box, and holds no slot; its word has counted so many events, its log is so long
+-- the seat knows of one node alone, which is at no box, and holds no slot; its word has counted this many events, its log is this long
 pub record IsAlone {B : Type 0} (n me_is count length_is : ℕ) (t : TableId) (me : Sat B) : Type 0 where
   pub alone : me ≡ sits (only me.0) []
   pub node : (only me.0).me ≡ me_is

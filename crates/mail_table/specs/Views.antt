@@ -1,4 +1,4 @@
--- What a seat knows of one node, and what each step adds to it (docs/CONSENSUS.md, "Threads").
+-- What a seat knows of one node, and what each step adds to it (docs/ARCHITECTURE.md, "Threads").
 use Rattle.std.specs.Prelude.{ℕ, zero, suc, ◌+◌, ◌*◌, ◌==◌, Bool, true, false, List, [], ◌∷◌, ◌++◌, if◌then◌else◌}
 use Rattle.paxos_packets.specs.declared.entry.Entry.{Entry}
 use Rattle.paxos_packets.specs.declared.packet.Packet.{Packet}
@@ -15,7 +15,7 @@ use Rattle.mail_table.specs.declared.part.Parcel.{Parcel}
 use Rattle.mail_table.specs.declared.part.Part.{Part}
 use Rattle.mail_table.specs.declared.part.Try.{Try}
 
--- the place of a node, from 0, and the number of the box from one node of n to another; the seven behind it are at no box, so that no two
+-- the place of a node, from 0, and the number of the box from one node of n to another; the seven after it are at no box, so that no two
 -- boxes have words within 64 octets, which a processor takes and hands on together
 
 abbrev pub place : ℕ → ℕ
@@ -53,7 +53,7 @@ unopened me =
       seen = record { opened = Never; node = absent; sent = [] };
     }
 
--- the log of a node, as a view shows it: none where nobody opened the node
+-- the log of a node, as a view shows it: empty if the node was never opened
 abbrev pub log_shown : {B : Type 0} → Opened B → NodeState B → List (Entry B)
 log_shown Never v = []
 log_shown (With r) v = v.applied

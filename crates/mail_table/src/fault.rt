@@ -3,13 +3,13 @@ ghost use Rattle.std.specs.Prelude.{◌≡◌};
 use std::alloc::{AllocError, AllocFailed};
 use thiserror::Error;
 
-/// There was no memory for a table.
+/// Memory ran out for a table.
 #[derive(Clone, Copy, Debug, PartialEq, Eq, Drop, Error)]
 #[error("no memory for a mail table")]
 pub struct Memory;
 
 impl Memory {
-    /// The number of the fault.
+    /// Returns the number of the fault.
     pub fn number(self) -> u8
         ensures { result ≡ 67 }
     {
@@ -29,13 +29,13 @@ impl<T: Drop> From<AllocFailed<T>> for Memory {
     }
 }
 
-/// A node's word counts no more events.
+/// A node's word cannot count more events.
 #[derive(Clone, Copy, Debug, PartialEq, Eq, Drop, Error)]
 #[error("a node has made too many events")]
 pub struct Worn;
 
 impl Worn {
-    /// The number of the fault.
+    /// Returns the number of the fault.
     pub fn number(self) -> u8
         ensures { result ≡ 68 }
     {

@@ -9,12 +9,13 @@ use crate::mail::Mail;
 use crate::office::{Mark, Office};
 use crate::plays::{Boxes, Deal, Token};
 use crate::seat::NodeSeat;
+use crate::steps::{SPACING, WORDS};
 use atomic_table::Table;
 use paxos_packets::{Body, Members};
 use std::alloc::Global;
 
-/// Founds a table for these members, and gives it with the seats of its nodes, by ascending node. The office gives it the next number; where
-/// there is no memory, or no number left, nothing is founded.
+/// Founds a table for these members, and returns it with the seats of its nodes, by ascending node. The office gives it the next number. If
+/// memory runs out, or no number is left, nothing is founded.
 pub fn found<B: Body>(
     alloc: Global,
     office: &mut Office,
@@ -37,7 +38,7 @@ pub fn found<B: Body>(
     Ok((Mail { table, nodes, mark }, seats))
 }
 
-// Empty boxes for so many nodes, and the seat that knows of all nodes.
+// Creates empty boxes for this many nodes, and the seat that knows of all nodes.
 fn boxes<B: Body>(alloc: Global, nodes: u8) -> Result<(Boxes<B>, Token<B>), Memory>
     requires least { 3 ≤ nodes }
     requires most { nodes ≤ 7 }
@@ -46,11 +47,11 @@ fn boxes<B: Body>(alloc: Global, nodes: u8) -> Result<(Boxes<B>, Token<B>), Memo
     ensures knows { IfOk result (λ t. t.1.me ≡ (rising 0 nodes, [])) }
 {
     let count = nodes as usize;
-    let words = [0; 448];
+    let words = [0; WORDS];
     let made = Table::vacant(
         alloc,
-        &words[..8 * (count * count + count)],
-        8 * (count * count),
+        &words[..SPACING * (count * count + count)],
+        SPACING * (count * count),
         &(nodes as u64),
     )?;
     Ok(made)

@@ -20,8 +20,8 @@ use std::alloc::Global;
 use std::marker::Model;
 
 impl<B: Body> Mail<B> {
-    /// Gathers the seats of all nodes, just one for each and all of this table, and answers the lengths of their logs, by node; 0 where a
-    /// node is down, was never opened or is no member. Where a seat is missing or foreign all is handed back.
+    /// Gathers the seats of all nodes, just one for each and all of this table, and returns the lengths of their logs, by node: 0 if a node
+    /// is down, was never opened or is no member. If a seat is missing or foreign, all is handed back.
     pub fn gather(self, seats: Vec<NodeSeat<B>>) -> Result<[u64; 7], (Mail<B>, Vec<NodeSeat<B>>)>
         requires office { All (λ s. s.office ≡ self.office) seats.items }
         ensures exactly { is_ok result ≡ is_whole self seats.items }
@@ -40,7 +40,7 @@ impl<B: Body> Mail<B> {
         Ok(lengths)
     }
 
-    // Whether there is just one seat for each node, all of this table.
+    // Returns whether there is just one seat for each node, all of this table.
     fn has_all(&self, seats: &[NodeSeat<B>]) -> bool
         ensures value { result ≡ is_whole self.now seats.now }
         ensures least { 3 ≤ self.now.members }
@@ -62,21 +62,21 @@ impl<B: Body> Mail<B> {
     }
 }
 
-// Whether all seats are of the table with this number.
+// Returns whether all seats are of the table with this number.
 fn all_of<B: Body>(seats: &[NodeSeat<B>], table: u64) -> bool
     ensures { result ≡ list_all (λ s. s.table == table) seats.now }
 {
     seats.iter().all(|seat| seat.table() == table)
 }
 
-// Whether a seat of the node is there.
+// Returns whether a seat of the node is there.
 fn has_seat<B: Body>(seats: &[NodeSeat<B>], node: u8) -> bool
     ensures { result ≡ list_any (λ s. s.part.me == node) seats.now }
 {
     seats.iter().any(|seat| seat.node() == node)
 }
 
-// Whether a seat of each node is there.
+// Returns whether a seat of each node is there.
 fn every_node_sits<B: Body>(seats: &[NodeSeat<B>], nodes: u8) -> bool
     ensures { result ≡ all_sit nodes seats.now }
 {
@@ -87,7 +87,7 @@ fn every_node_sits<B: Body>(seats: &[NodeSeat<B>], nodes: u8) -> bool
     all
 }
 
-// The lengths of the logs, by node.
+// Returns the lengths of the logs, by node.
 fn lengths_of<B: Body>(seats: &[NodeSeat<B>]) -> [u64; 7]
     ensures { result ≡ lengths_of seats.now }
 {
@@ -98,8 +98,8 @@ fn lengths_of<B: Body>(seats: &[NodeSeat<B>]) -> [u64; 7]
     lengths
 }
 
-// The seat at the table.
-fn taken<B: Body>(table: &Boxes<B>, mark: &Mark, seat: NodeSeat<B>) -> Token<B>
+// Takes the table's seat out of a node's.
+fn take_token<B: Body>(table: &Boxes<B>, mark: &Mark, seat: NodeSeat<B>) -> Token<B>
     requires owned { (seat.office ≡ mark.now.seen.book) × (seat.table ≡ mark.now.number) }
     requires marked { slice_get mark.now.seen.log mark.now.number ≡ Some (name_of table.now.shared.table_id) }
     ensures same { result.table_id ≡ table.now.shared.table_id }
@@ -110,11 +110,11 @@ fn taken<B: Body>(table: &Boxes<B>, mark: &Mark, seat: NodeSeat<B>) -> Token<B>
         mark: known,
         ..
     } = seat;
-    same_table(mark, table, &known, &seat);
+    same_table(mark, table, &known, &seat); // for the proof
     seat
 }
 
-// One seat that knows all that these know.
+// Joins the seats into one that knows all that they know.
 fn take_in<B: Body>(table: &Boxes<B>, mark: &Mark, mut seats: Vec<NodeSeat<B>>) -> Token<B>
     requires some { 0 < vec_len seats }
     requires owned { All (λ s. (s.office ≡ mark.now.seen.book) × (s.table ≡ mark.now.number)) seats.items }
@@ -126,15 +126,15 @@ fn take_in<B: Body>(table: &Boxes<B>, mark: &Mark, mut seats: Vec<NodeSeat<B>>) 
     let Some(first) = seats.pop() else {
         unreachable!()
     };
-    let mut gatherer = taken(table, mark, first);
+    let mut gatherer = take_token(table, mark, first);
     while let Some(next) = seats.pop() {
-        let seat = taken(table, mark, next);
+        let seat = take_token(table, mark, next);
         table.shared.join_seat::<Collect>(&mut gatherer, seat);
     }
     gatherer
 }
 
-// Drops the packets that are left in boxes, and gives the memory back.
+// Drops the packets that are left in boxes, and frees the memory.
 fn free<B: Body>(mut closed: Closed<Option<Packet<B>>, Global>)
     requires { IsFull closed.slots }
 {

@@ -1,5 +1,5 @@
-//! The table through which the nodes of a cluster pass packets, each node on a thread of its own: a box without a lock for each ordered pair of
-//! nodes, and what all threads know together (docs/CONSENSUS.md, "Threads").
+//! The table through which the nodes of a cluster pass packets, each node on its own thread: a box without a lock for each ordered pair of
+//! nodes, and what all threads know together (docs/ARCHITECTURE.md, "Threads").
 #![tactic(auto)]
 
 mod fault;
@@ -18,4 +18,4 @@ pub use founding::found;
 pub use mail::Mail;
 pub use office::Office;
 pub use part::{Doing, Parcel, Part, Try, View};
-pub use seat::NodeSeat;
+pub use seat::{MOST_EVENTS, NodeSeat};

@@ -18,7 +18,7 @@ use paxos_node::Outcome;
 use paxos_packets::{Body, Packet, Rows};
 use std::marker::{Brand, Model};
 
-/// A table through which the nodes of a cluster pass packets, each node on a thread of its own: for each ordered pair of nodes a box that
+/// A table through which the nodes of a cluster pass packets, each node on its own thread: for each ordered pair of nodes a box that
 /// holds one packet, and for each node a word that counts its events. It is shared by reference; nothing is locked, and no call waits.
 #[derive(Drop)]
 pub struct Mail<B: Body> {
@@ -41,7 +41,7 @@ impl<B: Body> Model for Mail<B> {
 }
 
 impl<B: Body> Mail<B> {
-    /// Whether the seat is one of this table. The seats of two offices cannot be compared.
+    /// Returns whether the seat is one of this table. The seats of two offices cannot be compared.
     pub fn owns(&self, seat: &NodeSeat<B>) -> bool
         requires office { seat.now.office ≡ self.now.office }
         ensures exactly { result ≡ (seat.now.table == self.now.table) }
@@ -50,12 +50,12 @@ impl<B: Body> Mail<B> {
         if seat.mark.number != self.mark.number {
             return false;
         }
-        same_table(&self.mark, &self.table, &seat.mark, &seat.seat);
+        same_table(&self.mark, &self.table, &seat.mark, &seat.seat); // for the proof
         true
     }
 
-    /// Puts the packet into the box to another node, in one try: the packet is one that the seat's node sent to it. Gives it back where the
-    /// box isn't empty. A load of the box's word; where that finds it empty, two atomic steps and one move of the packet.
+    /// Puts the packet, one that the seat's node sent, into the box to another node, in one try. Returns it if the box is not empty. Costs
+    /// a load of the box's word; if that finds the box empty, two atomic steps and one move of the packet.
     pub fn post(&self, seat: &mut NodeSeat<B>, to: u8, packet: Packet<B>) -> Result<(), Packet<B>>
         requires owned { Owns self.now seat.old }
         requires member { IsMember self.now.members to }
@@ -66,13 +66,13 @@ impl<B: Body> Mail<B> {
             (λ p. (p ≡ packet) × (seat.new ≡ knows (lost (box_of self.now.members seat.old.part.me to) seat.old.part) seat.old)) }
         ensures still_owned { Owns self.now seat.new }
     {
-        same_table(&self.mark, &self.table, &seat.mark, &seat.seat);
+        same_table(&self.mark, &self.table, &seat.mark, &seat.seat); // for the proof
         let at = box_at(self.nodes, seat.node, to);
         post_in(&self.table, &mut seat.seat, at, packet)
     }
 
-    /// Takes the packet out of the box from another node, in one try; `None` where the box isn't full. A load of the box's word; where that
-    /// finds it full, two atomic steps and one move of the packet.
+    /// Takes the packet out of the box from another node, in one try. Returns `None` if the box is not full. Costs a load of the box's
+    /// word; if that finds the box full, two atomic steps and one move of the packet.
     pub fn fetch(&self, seat: &mut NodeSeat<B>, from: u8) -> Option<Packet<B>>
         requires owned { Owns self.now seat.old }
         requires member { IsMember self.now.members from }
@@ -81,13 +81,13 @@ impl<B: Body> Mail<B> {
         ensures addressed { IfSome result (λ p. p.addressee ≡ seat.old.part.me) }
         ensures still_owned { Owns self.now seat.new }
     {
-        same_table(&self.mark, &self.table, &seat.mark, &seat.seat);
+        same_table(&self.mark, &self.table, &seat.mark, &seat.seat); // for the proof
         let at = box_at(self.nodes, from, seat.node);
         fetch_from(&self.table, &mut seat.seat, at)
     }
 
-    /// The node takes the step whose outcome this is: that of a possible event of the node that the seat knows, where a delivered packet is
-    /// one that the seat received. `Worn` after 2^62 events, which changes nothing.
+    /// Takes the step whose outcome this is: that of a possible event of the node that the seat knows; a packet that it delivers is one
+    /// that the seat received. `Worn` after 2^62 events, which changes nothing.
     pub fn advance(&self, seat: &mut NodeSeat<B>, outcome: &Outcome<B>) -> Result<(), Worn>
         requires owned { Owns self.now seat.old }
         requires follows { Follows B.same self.now.members seat.old.part outcome.now }
@@ -100,7 +100,7 @@ impl<B: Body> Mail<B> {
         if !seat.may_advance() {
             return Err(Worn);
         }
-        same_table(&self.mark, &self.table, &seat.mark, &seat.seat);
+        same_table(&self.mark, &self.table, &seat.mark, &seat.seat); // for the proof
         let at = word_at(self.nodes, seat.node);
         advance_as::<B, Brand>(&self.table, &mut seat.seat, at, outcome);
         seat.events += 1;
@@ -108,8 +108,8 @@ impl<B: Body> Mail<B> {
         Ok(())
     }
 
-    /// The node is opened with these rows, or, where it was opened, crashes and restarts up to their boot: they are its own in a later boot.
-    /// `Worn` after 2^62 events, which changes nothing.
+    /// Opens the node with these rows; a node that was opened before crashes and restarts up to their boot instead: they are its own rows
+    /// in a later boot. `Worn` after 2^62 events, which changes nothing.
     pub fn renew(&self, seat: &mut NodeSeat<B>, rows: &Rows<B>) -> Result<(), Worn>
         requires owned { Owns self.now seat.old }
         requires may { MayRenew seat.old.part.seen.opened seat.old.part.seen.node rows.now }
@@ -121,7 +121,7 @@ impl<B: Body> Mail<B> {
         if !seat.may_advance() {
             return Err(Worn);
         }
-        same_table(&self.mark, &self.table, &seat.mark, &seat.seat);
+        same_table(&self.mark, &self.table, &seat.mark, &seat.seat); // for the proof
         let at = word_at(self.nodes, seat.node);
         renew_as::<B, Brand>(&self.table, &mut seat.seat, at, rows);
         seat.events += 1;

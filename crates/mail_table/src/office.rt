@@ -1,4 +1,4 @@
-//! The office in which tables are founded: it gives each a number of its own, by which seats and tables are told apart at run time.
+//! The office in which tables are founded: it gives each a number, by which seats and tables are told apart at run time.
 ghost use Rattle.std.specs.Prelude.{◌≡◌, ◌+◌, ◌==◌, ◌<◌, ◌≤◌, ◌^◌, ◌++◌, ◌∷◌};
 ghost use Rattle.std.specs.Prelude.{[], length, slice_get, Some, IfSome, IsNone, OnSome, MatchBool};
 ghost use mathlib.Core.List.{IsPrefix};
@@ -10,7 +10,7 @@ use logbook::{Gain, Offer, Plain, Play, Rule, Seen, Start, Word};
 use paxos_packets::Body;
 use std::marker::Model;
 
-// The most tables of one office.
+// How many tables one office may found.
 const MOST_TABLES: u64 = 1 << 62;
 
 // The rule of the office's book: its word is the number of its entries.
@@ -98,7 +98,7 @@ pub(crate) struct Mark {
 }
 
 impl Mark {
-    // A copy.
+    // Returns a copy.
     pub(crate) fn again(&self) -> Mark
         ensures { result ≡ self.now }
     {
@@ -110,7 +110,7 @@ impl Mark {
 }
 
 impl Office {
-    /// An office in which no table was founded yet. Takes no memory.
+    /// Creates an office in which no table was founded yet. Does not allocate.
     pub fn new() -> Office
         ensures { result.founded ≡ 0 }
     {
@@ -122,7 +122,7 @@ impl Office {
         }
     }
 
-    // The seat's table is founded: it has the next number. `None` where none is left.
+    // Enters the seat's table under the next number. `None` if no number is left, or the one try to add its name is lost.
     pub(crate) fn enter<B: Body>(&mut self, seat: &Token<B>) -> Option<Mark>
         ensures office { IfSome result (λ mark. mark.seen.book ≡ self.old.book) }
         ensures number { IfSome result (λ mark. mark.number ≡ self.old.founded) }
@@ -148,7 +148,7 @@ impl Office {
     }
 }
 
-// One try to add the name of the seat's table behind these many; what was found in their place.
+// Tries once to add the name of the seat's table as entry `number`. Returns how many entries were there; `number` if the try won.
 fn add_name<B: Body>(
     head: &Word<Name, u64, Law>,
     seen: &mut Seen<Name, u64, Law>,
@@ -167,7 +167,7 @@ fn add_name<B: Body>(
     head.compare_exchange::<Add, Nothing>(number, number + 1, seen, &mut offer, &mut pen)
 }
 
-// A table and a seat with one number in one office are of one table.
+// Does nothing. Its contract says that a table and a seat with one number in one office are of one table.
 pub(crate) fn same_table<B: Body>(mine: &Mark, table: &Boxes<B>, other: &Mark, seat: &Token<B>)
     requires office { other.now.seen.book ≡ mine.now.seen.book }
     requires number { other.now.number ≡ mine.now.number }

@@ -4,9 +4,9 @@ use paxos_node::NodeView;
 use paxos_packets::Packet;
 use std::collections::LinkedList;
 
-/// Whether a node is in the midst of putting a packet into a box, or of taking one out, and into or out of which.
+/// Whether a node is putting a packet into a box, or taking one out, and into or out of which box.
 pub enum Doing {
-    /// It is not.
+    /// It does neither.
     Idle,
     /// It puts one into this box.
     Sending(u64),
@@ -26,8 +26,8 @@ pub struct Parcel<B> {
     pub packet: Packet<B>,
 }
 
-/// What is known of one node of the table: its number; what it is in the midst of; what it put into boxes and took out of them, oldest first;
-/// all its tries; how many events its word counted; and the node itself with all that it sent.
+/// What is known of one node of the table: its number; what it is doing at a box; what it put into boxes and took out of them, oldest
+/// first; all its tries; how many events its word counted; and the node itself with all that it sent.
 pub struct Part<B> {
     pub me: u64,
     pub doing: Doing,

@@ -1,4 +1,4 @@
-//! The rule of the table, and what each step on it tells.
+//! The rule of the table, and what each step on it means.
 ghost use Rattle.mail_table.specs.Boxes.{Kept, rising, behind_first, first_alone, Claims, SeeksEmpty, Delivers, Fetches, SeeksFull, Clears, Advances, Renews};
 
 use crate::part::View;
@@ -7,8 +7,8 @@ use paxos_packets::{Body, Packet};
 use std::alloc::Global;
 use std::marker::{Brand, PhantomData};
 
-/// The rule of the table: each box is in one of four states, its packets come out in the order in which they went in, each once, and some world
-/// that events lead to has just the nodes that all seats know.
+/// The rule of the table: each box is in one of four states, its packets come out in the order in which they went in, each once, and some
+/// world that events lead to has just the nodes that all seats know.
 pub struct InOrder;
 
 impl<B: Body> TableRule<Option<Packet<B>>, View<B>, u64> for InOrder {

@@ -11,10 +11,10 @@ use crate::plays::Token;
 use paxos_packets::Body;
 use std::marker::Model;
 
-// The most events that a node's word counts.
-const MOST_EVENTS: u64 = 1 << 62;
+/// How many events a node's word can count.
+pub const MOST_EVENTS: u64 = 1 << 62;
 
-/// The seat of one node at a table: a thread that has it may take the node's steps. It may go to another thread.
+/// The seat of one node at a table: the thread that has it may take the node's steps. It may be moved to another thread.
 #[derive(Drop)]
 pub struct NodeSeat<B: Body> {
     pub(crate) seat: Token<B>,
@@ -41,35 +41,35 @@ impl<B: Body> Model for NodeSeat<B> {
 }
 
 impl<B: Body> NodeSeat<B> {
-    /// The number of its node.
+    /// Returns the number of its node.
     pub fn node(&self) -> u8
         ensures { result ≡ self.now.part.me }
     {
         self.node
     }
 
-    /// Whether its node's word counts one event more: it counted fewer than 2^62. So `advance` and `renew` are not `Worn`.
+    /// Returns whether its node's word can count one event more: it counted fewer than 2^62. Then `advance` and `renew` are not `Worn`.
     pub fn may_advance(&self) -> bool
         ensures { result ≡ nat_lt self.now.part.events (2 ^ 62) }
     {
         self.events < MOST_EVENTS
     }
 
-    /// How many events its node's word has counted.
+    /// Returns how many events its node's word has counted.
     pub fn events(&self) -> u64
         ensures { result ≡ self.now.part.events }
     {
         self.events
     }
 
-    // The number of its table in the office.
+    // Returns the number of its table in the office.
     pub(crate) fn table(&self) -> u64
         ensures { result ≡ self.now.table }
     {
         self.mark.number
     }
 
-    // The place of its node, from 0.
+    // Returns the place of its node, from 0.
     pub(crate) fn place(&self) -> usize
         ensures value { result ≡ place self.now.part.me }
         ensures within { result < 7 }
@@ -77,14 +77,14 @@ impl<B: Body> NodeSeat<B> {
         self.node as usize - 1
     }
 
-    // How long the log of its node is.
+    // Returns how long the log of its node is.
     pub(crate) fn log(&self) -> u64
         ensures { result ≡ length (log_in self.now.part.seen) }
     {
         self.log
     }
 
-    // The seat of a node that nobody opened yet.
+    // Creates the seat of a node that was never opened.
     pub(crate) fn of(seat: Token<B>, node: u8, nodes: u8, mark: Mark) -> NodeSeat<B>
         requires fresh { seat.me ≡ sits (unopened node) [] }
         requires member { IsMember nodes node }

@@ -15,26 +15,44 @@ use paxos_node::Outcome;
 use paxos_packets::{Body, Packet, Rows};
 use std::marker::Brand;
 
-// The number of the box from one node to another: no two are within 64 octets, so that a step at one takes no other from its processor.
+// The word of a box that holds no packet.
+const EMPTY: u64 = 0;
+
+// The word of a box into which its sender is putting a packet.
+const CLAIMED: u64 = 1;
+
+// The word of a box that holds a packet.
+const FULL: u64 = 2;
+
+// The word of a box out of which its addressee is taking the packet.
+const EMPTYING: u64 = 3;
+
+// How far apart the words in use are: none shares 64 octets with another, so that a step at one takes no other from its processor.
+pub(crate) const SPACING: usize = 8;
+
+// The words of a table of seven nodes, the most that there are: a box for each ordered pair, and a word for each node.
+pub(crate) const WORDS: usize = SPACING * (7 * 7 + 7);
+
+// Returns the number of the box from one node to another.
 pub(crate) fn box_at(nodes: u8, from: u8, to: u8) -> usize
     requires most { nodes ≤ 7 }
     requires from { IsMember nodes from }
     requires to { IsMember nodes to }
     ensures value { result ≡ box_of nodes from to }
 {
-    8 * ((from as usize - 1) * nodes as usize + (to as usize - 1))
+    SPACING * ((from as usize - 1) * nodes as usize + (to as usize - 1))
 }
 
-// The number of a node's word.
+// Returns the number of a node's word.
 pub(crate) fn word_at(nodes: u8, node: u8) -> usize
     requires most { nodes ≤ 7 }
     requires node { IsMember nodes node }
     ensures value { result ≡ word_of nodes node }
 {
-    8 * (nodes as usize * nodes as usize + (node as usize - 1))
+    SPACING * (nodes as usize * nodes as usize + (node as usize - 1))
 }
 
-// Whether the box is empty, by a load: where it isn't, its word stays with whoever works at the box, and the try is lost.
+// Returns whether the box is empty, by a load. If it is not, its word stays with the thread that works at the box, and the try is lost.
 fn is_empty<B: Body>(table: &Boxes<B>, seat: &mut Token<B>, at: usize, packet: &Packet<B>) -> bool
     requires table { seat.old.table_id ≡ table.now.shared.table_id }
     requires sized { IsSized table.now.shared.key table.now.shared.key table.now.shared.table_id }
@@ -43,11 +61,11 @@ fn is_empty<B: Body>(table: &Boxes<B>, seat: &mut Token<B>, at: usize, packet: &
     ensures found { MatchBool result (seat.new ≡ seat.old) (seat.new.me ≡ sits (lost at (only seat.old.me.0)) []) }
     ensures same { seat.new.table_id ≡ seat.old.table_id }
 {
-    let _ = packet;
-    table.shared.load::<SeekEmpty>(seat, at) == 0
+    let _ = packet; // for the proof
+    table.shared.load::<SeekEmpty>(seat, at) == EMPTY
 }
 
-// Whether the box is full, by a load: where it isn't, its word stays with whoever works at the box, and the try is lost.
+// Returns whether the box is full, by a load. If it is not, its word stays with the thread that works at the box, and the try is lost.
 fn is_full<B: Body>(table: &Boxes<B>, seat: &mut Token<B>, at: usize) -> bool
     requires table { seat.old.table_id ≡ table.now.shared.table_id }
     requires sized { IsSized table.now.shared.key table.now.shared.key table.now.shared.table_id }
@@ -56,10 +74,10 @@ fn is_full<B: Body>(table: &Boxes<B>, seat: &mut Token<B>, at: usize) -> bool
     ensures found { MatchBool result (seat.new ≡ seat.old) (seat.new.me ≡ sits (lost at (only seat.old.me.0)) []) }
     ensures same { seat.new.table_id ≡ seat.old.table_id }
 {
-    table.shared.load::<SeekFull>(seat, at) == 2
+    table.shared.load::<SeekFull>(seat, at) == FULL
 }
 
-// Puts the packet into the box, in one try; gives it back where the box isn't empty.
+// Puts the packet into the box, in one try; returns it if the box is not empty.
 pub(crate) fn post_in<B: Body>(
     table: &Boxes<B>,
     seat: &mut Token<B>,
@@ -80,7 +98,7 @@ pub(crate) fn post_in<B: Body>(
     Err(packet)
 }
 
-// The box is claimed, if it is still empty, and the packet goes in.
+// Claims the box, if it is still empty, and puts the packet into it.
 fn claim_in<B: Body>(
     table: &Boxes<B>,
     seat: &mut Token<B>,
@@ -95,14 +113,16 @@ fn claim_in<B: Body>(
         (λ p. (p ≡ packet) × (seat.new.me ≡ sits (lost at (only seat.old.me.0)) [])) }
     ensures same { seat.new.table_id ≡ seat.old.table_id }
 {
-    let found = table.shared.compare_exchange::<Claim>(seat, at, 0, 1);
-    if found != 0 {
+    let found = table
+        .shared
+        .compare_exchange::<Claim>(seat, at, EMPTY, CLAIMED);
+    if found != EMPTY {
         return Err(packet);
     }
     let None = table.shared.exchange(seat, at, Some(packet)) else {
         unreachable!()
     };
-    table.shared.store::<Deliver>(seat, at, 2);
+    table.shared.store::<Deliver>(seat, at, FULL);
     Ok(())
 }
 
@@ -126,7 +146,7 @@ pub(crate) fn fetch_from<B: Body>(
     None
 }
 
-// The packet comes out of the box, if it is still full.
+// Takes the packet out of the box, if it is still full.
 fn empty_out<B: Body>(table: &Boxes<B>, seat: &mut Token<B>, at: usize) -> Option<Packet<B>>
     requires table { seat.old.table_id ≡ table.now.shared.table_id }
     requires sized { IsSized table.now.shared.key table.now.shared.key table.now.shared.table_id }
@@ -136,16 +156,18 @@ fn empty_out<B: Body>(table: &Boxes<B>, seat: &mut Token<B>, at: usize) -> Optio
         (λ p. (p.addressee ≡ (only seat.old.me.0).me) × (seat.new.me ≡ sits (receiving at p (only seat.old.me.0)) [])) }
     ensures same { seat.new.table_id ≡ seat.old.table_id }
 {
-    let found = table.shared.compare_exchange::<Fetch>(seat, at, 2, 3);
-    if found != 2 {
+    let found = table
+        .shared
+        .compare_exchange::<Fetch>(seat, at, FULL, EMPTYING);
+    if found != FULL {
         return None;
     }
     let packet = table.shared.exchange(seat, at, None);
-    table.shared.store::<Clear>(seat, at, 0);
+    table.shared.store::<Clear>(seat, at, EMPTY);
     packet
 }
 
-// The node takes the step whose outcome this is.
+// Takes the step whose outcome this is.
 pub(crate) fn advance_as<B: Body, J: Telling<B>>(
     table: &Boxes<B>,
     seat: &mut Token<B>,
@@ -164,11 +186,11 @@ pub(crate) fn advance_as<B: Body, J: Telling<B>>(
     ensures moved { seat.new.me ≡ sits (moving J.node J.packets (only seat.old.me.0)) [] }
     ensures same { seat.new.table_id ≡ seat.old.table_id }
 {
-    let _ = outcome;
+    let _ = outcome; // for the proof
     table.shared.fetch_add::<Advance<J>>(seat, at, 1);
 }
 
-// The node is opened with these rows, or begins anew with them.
+// Opens the node with these rows, or begins it anew with them.
 pub(crate) fn renew_as<B: Body, J: Beginning<B>>(
     table: &Boxes<B>,
     seat: &mut Token<B>,
@@ -186,6 +208,6 @@ pub(crate) fn renew_as<B: Body, J: Beginning<B>>(
     ensures renewed { seat.new.me ≡ sits (renewing J.rows (only seat.old.me.0)) [] }
     ensures same { seat.new.table_id ≡ seat.old.table_id }
 {
-    let _ = rows;
+    let _ = rows; // for the proof
     table.shared.fetch_add::<Renew<J>>(seat, at, 1);
 }

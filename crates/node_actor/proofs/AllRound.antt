@@ -12,7 +12,7 @@ after_low n j low = rw (ne_eqb j n (λ e. omega (arith, low, e))) refl
 after_last : (n j : ℕ) → j ≡ n → after n j ≡ 1
 after_last n j e = rw (eq-eqb j n e) refl
 
--- so many steps up
+-- this many steps up
 numbers_up : (m n j d k : ℕ) → k ≡ j + d → k ≤ n → d < m → Has (numbers_from n j m) k
 numbers_up zero n j d k is most low = absurd (omega (arith, low))
 numbers_up (suc m) n j zero k is most low =
@@ -22,7 +22,7 @@ numbers_up (suc m) n j (suc d) k is most low =
     let rest = numbers_up m n (suc j) d k up most (omega (arith, low)) in
     there (subst (λ i. Has (numbers_from n i m) k) (sym (after_low n j (omega (arith, is, most)))) rest)
 
--- and so many up to the last one, and on from the first one
+-- and this many up to the last one, and on from the first one
 numbers_round : (m n j d k : ℕ) → n ≡ j + d → 1 ≤ k → k ≤ n → d + k < m → Has (numbers_from n j m) k
 numbers_round zero n j d k is least most low = absurd (omega (arith, low))
 numbers_round (suc m) n j zero k is least most low =

@@ -21,7 +21,7 @@ use Rattle.actor_parts.proofs.Carrying.{next_rows, not_down, is_down, next_appli
 use Rattle.actor_parts.proofs.Carrying.{prefix_to, next_same, sound_spoiled, none_failed, Ready}
 use Rattle.actor_parts.proofs.Carrying.{Roomed, who_on}
 use Rattle.node_actor.specs.Actor.{acting}
-use Rattle.actor_posts.specs.Posts.{advanced}
+use Rattle.node_actor.specs.Posts.{advanced}
 use Rattle.node_actor.specs.Steps.{may_advance, TakesOver, CarriesOut}
 
 module _ {B S Y M K : Type 0} (from : S → Machine B S Y) (content : M → S) (holds : K → Rows B → Type 0) (finds : K → Rows B → Type 0)

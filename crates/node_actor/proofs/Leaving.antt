@@ -3,7 +3,7 @@ use Rattle.std.proofs.Common.{◌≡◌, Bool, true, false, Some, [], sym, ap, s
 use Rattle.std.specs.Prelude.{if◌then◌else◌}
 use Rattle.paxos_packets.specs.Members.{IsMember}
 use Rattle.paxos_packets.specs.declared.rows.Rows.{Rows}
-use Rattle.actor_posts.specs.Posts.{LeftOf, IsLeft}
+use Rattle.node_actor.specs.Posts.{LeftOf, IsLeft}
 use Rattle.mail_table.specs.Boxes.{Follows}
 use Rattle.mail_table.specs.Seats.{Seated}
 use Rattle.actor_parts.specs.Parts.{Parted, IsPrefixOf, IsPlan, IsSound}

@@ -1,3 +1,7 @@
+mod Renewing
+mod Booting
+mod Restarting
+mod Sound
 mod Carrying
 mod Seating
 mod Viewing

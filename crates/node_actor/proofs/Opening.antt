@@ -14,11 +14,11 @@ use Rattle.paxos_node.specs.declared.view.Opened.TheVariants.{Never, With}
 use Rattle.mail_table.specs.Seats.{Seated}
 use Rattle.mail_table.specs.Views.{opened_with}
 use Rattle.actor_parts.specs.Parts.{first_parts}
-use Rattle.actor_posts.specs.Posts.{Posted, IsLeft, LeftOf, renewed}
-use Rattle.actor_posts.specs.Beginning.{Begins, seat_before}
-use Rattle.actor_posts.specs.Restarts.{Returns}
-use Rattle.actor_posts.proofs.Renewing.{left_renewed}
-use Rattle.actor_posts.proofs.Restarting.{returns_of}
+use Rattle.node_actor.specs.Posts.{Posted, IsLeft, LeftOf, renewed}
+use Rattle.node_actor.specs.Beginning.{Begins, seat_before}
+use Rattle.node_actor.specs.Preparing.{Returns}
+use Rattle.node_actor.proofs.Renewing.{left_renewed}
+use Rattle.node_actor.proofs.Restarting.{returns_of}
 use Rattle.node_actor.specs.Actor.{Acting, acting, IsSeated}
 use Rattle.node_actor.specs.Restarts.{Opens, OpensFirst, Resumes}
 use Rattle.node_actor.specs.Views.{View, posted_to, received_from, StandsFor}

@@ -34,7 +34,7 @@ member_after members k m = by_last (eqb k members) refl
         not_last e is = absurd (false≢true (sym e ∙ eq-eqb k members is))
 
 module _ {B : Type 0} where
-  -- the tries that are left, behind one that was lost
+  -- the tries that are left, after one that was lost
   pub behind_lost : (n me k m : ℕ) (x y : Part B) (got : Option (ℕ × Packet B)) → x.me ≡ me
       → Fetches n (others_from me n (after n k) m) (passed_by n k x) got y → Fetches n (others_from me n k (suc m)) x got y
   behind_lost n me k m x y got is h = by_self (eqb k me) refl

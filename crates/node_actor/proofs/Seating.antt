@@ -21,7 +21,7 @@ use Rattle.actor_parts.specs.Parts.{Parted, IsSound}
 use Rattle.actor_parts.specs.Steps.{next_node, StaysWho, TakesIn, OnlyKeeper}
 use Rattle.actor_parts.proofs.Carrying.{next_same, some_same, Ready, Roomed, roomed_who, kept_who, who_on}
 use Rattle.node_actor.specs.Actor.{acting, IsSeated}
-use Rattle.actor_posts.specs.Posts.{advanced}
+use Rattle.node_actor.specs.Posts.{advanced}
 use Rattle.node_actor.specs.Turns.{StaysAt}
 use Rattle.node_actor.specs.Views.{StandsFor}
 
@@ -44,7 +44,7 @@ module _ {B M K : Type 0} where
   peer_before old new who k peer =
       subst (λ n. IsPeer n old.node.members k) who.me (subst (λ n. IsPeer new.node.me n k) who.members peer)
 
-  -- what waits behind more packets was sent, or is among these
+  -- what waits once more packets do was sent, or is among these
   sent_still : (old new : Parted B M K) (packets sent : List (Packet B)) → old.waiting.me ≡ old.node.me
       → old.waiting.members ≡ old.node.members
       → StaysWho old new → ((k : ℕ) → IsPeer old.node.me old.node.members k → All (Contains sent) (waiting k old.waiting))

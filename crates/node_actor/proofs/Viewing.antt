@@ -1,4 +1,4 @@
--- What is made of an outcome, told of the view that the event began with.
+-- What is made of an outcome, stated for the view that the event began with.
 use Rattle.std.proofs.Common.{◌≡◌, ◌⊎◌, inl, inr, ℕ, ◌≤◌, ◌-◌, Bool, not, true}
 use Rattle.std.proofs.Common.{false, eqb, Option, Some, None, Result, Ok, Err, List, [], ◌++◌}
 use Rattle.std.proofs.Common.{length, drop, arith, sym, ap, subst, ◌∙◌, refl}
@@ -16,7 +16,7 @@ use Rattle.actor_outboxes.specs.Outboxes.{most_waiting, waiting, to, IsPeer, Has
 use Rattle.paxos_node.specs.declared.event.Event.{Event}
 use Rattle.paxos_node.specs.declared.event.Event.TheVariants.{Take, Tick, Start, Suspect, Deliver, Crash, Restart}
 use Rattle.paxos_node.specs.declared.outcome.Outcome.{Outcome}
-use Rattle.paxos_planning.specs.Node.{NodeState, Turn}
+use Rattle.paxos_planning.specs.Node.{NodeState, Plan}
 use Rattle.paxos_node.specs.Adopting.{adopted, Fits, Planned}
 use Rattle.paxos_node.specs.Events.{owner, possible, outcome_of, is_round_refused, is_full_refused}
 use Rattle.paxos_node.specs.Plans.{plans, is_planned, Answers}
@@ -33,7 +33,7 @@ use Rattle.actor_parts.specs.Handing.{handed_out, handed_by}
 use Rattle.actor_parts.specs.Steps.{OnlyKeeper, next_node}
 use Rattle.actor_parts.proofs.Carrying.{Roomed, next_rows}
 use Rattle.node_actor.specs.Actor.{Acting, acting, IsSeated}
-use Rattle.actor_posts.specs.Posts.{advanced}
+use Rattle.node_actor.specs.Posts.{advanced}
 use Rattle.node_actor.specs.Steps.{may_advance, TakesOver, StopsBefore, StopsBehind, CarriesOut}
 use Rattle.node_actor.specs.Turns.{Reaches}
 use Rattle.node_actor.specs.Views.{View, seen, is_for, posted_to, received_from, StandsFor, moved_by, packet_in, received_by, Queues}
@@ -89,7 +89,7 @@ follows_plan same e o p s mine planned seated received =
 -- an outcome that is planned is what the event makes of the node
 
 module _ {B : Type 0} (same : B → B → Bool) (me members : ℕ) (e : Event B) (x y : NodeState B) (o : Outcome B) where
-  abbrev turn : Turn B
+  abbrev turn : Plan B
   turn = outcome_of same members e y
 
   pub node_is : owner e ≡ me → Planned same members e x o → x ≡ y → adopted me members o x ≡ turn.node
@@ -428,7 +428,7 @@ reaches_self ended e s none =
 
 module _ {B S Y M K : Type 0} (same : B → B → Bool) (from : S → Machine B S Y) (content : M → S) (holds : K → Rows B → Type 0)
     (finds : K → Rows B → Type 0) (failures : K → ℕ) where
-  -- an event that is told in two ways
+  -- an event that is stated in two ways
   pub acts_by : (e f : Option (Event B)) (p : Parted B M K) (s : Seated B) (new : Acting B M K)
       (result : Result (Vec Y Global) (ActorFault Y))
       → e ≡ f → ((v : View B) → Reaches p.spoiled f v s → Acts same from content holds finds failures f (acting p v) new v result)
@@ -437,7 +437,7 @@ module _ {B S Y M K : Type 0} (same : B → B → Bool) (from : S → Machine B 
       subst (λ x. Acts same from content holds finds failures x (acting p v) new v result) (sym is)
       (h v (subst (λ x. Reaches p.spoiled x v s) is reach))
 
-  -- the event of a call, told of the value that the actor shows
+  -- the event of a call, stated for the value that the actor shows
   pub acts_seen : (E : ℕ → ℕ → Option (Event B)) (e : Option (Event B)) (p : Parted B M K) (s : Seated B) (now new : Acting B M K)
       (result : Result (Vec Y Global) (ActorFault Y)) → E p.node.me p.node.members ≡ e → received_by e ≡ [] → acting p s ≡ now
       → ((v : View B) → Reaches p.spoiled e v s → Acts same from content holds finds failures e (acting p v) new v result)
@@ -450,7 +450,7 @@ module _ {B S Y M K : Type 0} (same : B → B → Bool) (from : S → Machine B 
       (subst (λ f. Acts same from content holds finds failures f (acting p s) new s result) (sym is)
       (h s (reaches_self p.spoiled e s none))))
 
-  -- the same where nothing happens
+  -- the same if nothing happens
   pub acts_passed : (E : ℕ → ℕ → Option (Event B)) (p : Parted B M K) (s : Seated B) (now : Acting B M K)
       (result : Result (Vec Y Global) (ActorFault Y))
       → E p.node.me p.node.members ≡ None → acting p s ≡ now
@@ -468,7 +468,7 @@ pub take_some : {B : Type 0} (me n number : ℕ) (body : B) → (number ≡ 0 �
     → take_event me number body ≡ Some (Take n number body)
 take_some me n number body nonzero is = rw (ne_eqb number 0 nonzero) (ap (λ k. Some (Take k number body)) (sym is))
 
--- what a plan's answer says of the refusals before it
+-- what a plan's result says of the refusals before it
 
 pub told_disagree : {A : Type 0} (rounds full other : Bool) (P : A → Type 0) (f : NodeFault) → f ≡ node_fault.Disagree
     → Answers rounds full other P (Err f)

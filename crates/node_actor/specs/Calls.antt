@@ -1,4 +1,4 @@
--- What the calls of an actor promise, told of each view that it stands for (docs/CONSENSUS.md, "A node with its store").
+-- What the calls of an actor promise, stated for each view that it stands for (docs/CONSENSUS.md, "A node with its store").
 use Rattle.std.specs.Prelude.{◌≡◌, ◌⊎◌, ℕ, ◌<◌, Bool, true, false, ◌==◌, Option, Some, None, Result, Ok, Err, IfOk, IfErr, is_err, List, []}
 use Rattle.std.specs.Prelude.{◌++◌, filter, not, ◌&&◌, nat_lt, ◌^◌}
 use Rattle.std.specs.Prelude.{if◌then◌else◌}
@@ -41,7 +41,7 @@ is_own me (Deliver p) = false
 is_own me (Crash n) = false
 is_own me (Restart n) = false
 
--- where the event is refused
+-- whether the event is refused
 
 abbrev pub has_no_round : {B : Type 0} → Option (Event B) → NodeState B → Bool
 has_no_round None x = false
@@ -55,12 +55,12 @@ abbrev pub disagrees : {B : Type 0} → (B → B → Bool) → ℕ → Option (E
 disagrees same members None x = false
 disagrees same members (Some e) x = (outcome_of same members e x).disagrees
 
--- where the word of the view's node has counted all events that it can
+-- whether the word of the view's node has counted all events that it can
 abbrev pub is_worn : {B : Type 0} → Option (Event B) → View B → Bool
 is_worn None v = false
 is_worn (Some e) v = not (nat_lt v.part.events (2 ^ 62))
 
--- a call that makes no event: nothing changes and nothing is said, and a fault is answered exactly where one has ended the actor before
+-- a call that makes no event: nothing changes and nothing is said, and a fault is returned exactly if one has ended the actor before
 pub record Rests {B Y M K : Type 0} (old new : Acting B M K) (result : Result (Vec Y Global) (ActorFault Y)) : Type 0 where
   pub still : new ≡ old
   pub silent : IfOk result (λ says. says.items ≡ [])
@@ -87,8 +87,8 @@ module _ {B S Y M K : Type 0} (same : B → B → Bool) (from : S → Machine B 
     pub moved : (seen next ≡ seen v) ⊎ (seen next ≡ moved_by same old.node.members e (seen v))
     pub held : holds new.keeper (seen next).node.rows
 
-  -- the view's node is as before, nothing of the event waits, and the store finds the rows of before or those behind the event; the store
-  -- says that it failed only where it did
+  -- the view's node is as before, nothing of the event waits, and the store finds the rows of before or those after the event; the store
+  -- says that it failed only if it did
   pub record Fails (e : Option (Event B)) (old new : Acting B M K) (v : View B) (fault : KeeperFault) : Type 0 where
     pub next : View B
     pub stands : StandsFor new next
@@ -104,7 +104,7 @@ module _ {B S Y M K : Type 0} (same : B → B → Bool) (from : S → Machine B 
   abbrev pub IsAgreed : Option (Event B) → Acting B M K → View B → Type 0
   IsAgreed e old v = IsTaken e old v × (disagrees same old.node.members e (seen v).node ≡ false) × (is_worn e v ≡ false)
 
-  -- what a call answers that makes this event, and what it makes of the actor
+  -- what a call returns that makes this event, and what it makes of the actor
   abbrev pub Acts : Option (Event B) → Acting B M K → Acting B M K → View B → Result (Vec Y Global) (ActorFault Y) → Type 0
   Acts e old new v (Ok says) =
       (old.spoiled ≡ false) × (new.spoiled ≡ false) × IsAgreed e old v

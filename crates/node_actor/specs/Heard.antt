@@ -4,7 +4,8 @@ use Rattle.paxos_packets.specs.declared.packet.Kind.TheVariants.{Prepare, Promis
 use Rattle.node_actor.specs.declared.heard.Heard.{Heard}
 use Rattle.node_actor.specs.declared.heard.Heard.TheVariants as heard
 
--- a packet of a ballot names it, and tells whether it is prepared; a refusal names both ballots, and an Ask the first slot that its sender lacks
+-- a packet of a ballot names it, and says whether it is prepared; a refusal names both ballots, and an Ask the first slot that its sender
+-- lacks
 abbrev pub heard_in : {B : Type 0} → Kind B → Heard
 heard_in (Prepare ballot first) = heard.Prepare ballot
 heard_in (Promise ballot votes) = heard.Ballot ballot

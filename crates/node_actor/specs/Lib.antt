@@ -1,3 +1,7 @@
+pub mod Compare
+pub mod Posts
+pub mod Beginning
+pub mod Preparing
 pub mod Actor
 pub mod Heard
 pub mod Steps

@@ -8,9 +8,9 @@ use Rattle.paxos_node.specs.Applying.{started}
 use Rattle.paxos_node.specs.declared.event.Event.{Event}
 use Rattle.paxos_node.specs.declared.view.Opened.TheVariants.{With}
 use Rattle.actor_parts.specs.declared.fault.ActorFault.{ActorFault}
-use Rattle.actor_posts.specs.Posts.{Posted}
-use Rattle.actor_posts.specs.Beginning.{Leaves, Renews, Starts}
-use Rattle.actor_posts.specs.Restarts.{ArePossible, ComesBack, moved_by_all}
+use Rattle.node_actor.specs.Posts.{Posted}
+use Rattle.node_actor.specs.Beginning.{Leaves, Renews, Starts}
+use Rattle.node_actor.specs.Preparing.{ArePossible, ComesBack, moved_by_all}
 use Rattle.node_actor.specs.Actor.{Acting}
 use Rattle.node_actor.specs.Views.{View, seen, posted_to, received_from, StandsFor}
 

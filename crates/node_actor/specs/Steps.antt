@@ -15,7 +15,7 @@ use Rattle.actor_parts.specs.Handing.{handed_out}
 use Rattle.actor_parts.specs.Steps.{Falls, next_node}
 use Rattle.mail_table.specs.Seats.{Seated}
 use Rattle.node_actor.specs.Actor.{Acting, parts}
-use Rattle.actor_posts.specs.Posts.{advanced}
+use Rattle.node_actor.specs.Posts.{advanced}
 
 -- the word of the seat's node counts one event more
 abbrev pub may_advance : {B : Type 0} → Seated B → Bool

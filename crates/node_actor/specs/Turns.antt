@@ -1,5 +1,5 @@
 -- A turn of an actor: what is due is posted as far as boxes are empty, then at most one packet is fetched, and is the turn's event
--- (docs/CONSENSUS.md, "Threads").
+-- (docs/ARCHITECTURE.md, "Threads").
 use Rattle.std.specs.Prelude.{◌≡◌, ◌⊎◌, ℕ, zero, suc, ◌==◌, Bool, true, false, not}
 use Rattle.std.specs.Prelude.{Option, Some, None, Result, List, [], ◌∷◌, ◌++◌, filter}
 use Rattle.std.specs.Prelude.{if◌then◌else◌}
@@ -55,7 +55,7 @@ pub record StaysTo {B M K : Type 0} (k : ℕ) (old new : Acting B M K) (v w : Vi
   pub posted : posted_to k w ≡ posted_to k v
   pub tries : tries_to k w ≡ tries_to k v
 
--- there was one try to post to this node, where packets were due for it
+-- there was one try to post to this node, if packets were due for it
 pub record PostsOne {B M K : Type 0} (to : ℕ) (old new : Acting B M K) (v w : View B) : Type 0 where
   pub beside : Beside old new v w
   pub there : IsPeer old.node.me old.node.members to → PostsTo to old new v w
@@ -66,7 +66,7 @@ pub record PostsAlone {B M K : Type 0} (old new : Acting B M K) (v w : View B) :
   pub beside : Beside old new v w
   pub each : (k : ℕ) → IsPeer old.node.me old.node.members k → PostsTo k old new v w
 
--- the numbers of the members from this one on, and behind the last one from the first one on, so many; and all but one node, once round
+-- the numbers of this many members from this one on, the first one after the last one; and all but one node, once round
 
 abbrev pub after : ℕ → ℕ → ℕ
 after members k = if k == members then 1 else suc k
@@ -81,11 +81,11 @@ others_from me members k m = filter (λ j. not (j == me)) (numbers_from members 
 abbrev pub round : ℕ → ℕ → ℕ → List ℕ
 round me members first = others_from me members first members
 
--- whoever is first, each other member is in the round
+-- whichever member is first, each other member is in the round
 abbrev pub EachIsTried : Type 0
 EachIsTried = (me members first k : ℕ) → IsMember members first → IsPeer me members k → Has (round me members first) k
 
--- tries to fetch from these nodes, one after another, until one won: what it gave, and from whom; none was left where none won
+-- tries to fetch from these nodes, one after another, until one won: what it gave, and from which node; none was left if none won
 abbrev pub Fetches : {B : Type 0} → ℕ → List ℕ → Part B → Option (ℕ × Packet B) → Part B → Type 0
 Fetches n [] x None y = y ≡ x
 Fetches n [] x (Some got) y = ⊥
@@ -128,8 +128,8 @@ pub record StaysAt {B : Type 0} (old new : Seated B) : Type 0 where
   pub received : new.part.received ≡ old.part.received
   pub posted : new.part.posted ≡ old.part.posted
 
--- a view, and what its seat knows once the packet of an event has come: it has received that, and tried; nothing else is new, and nothing at
--- all where the actor has ended, or the event has no packet
+-- a view, and what its seat knows once the packet of an event has come: it has received that, and tried; nothing else is new, and nothing
+-- at all if the actor has ended, or the event has no packet
 pub record Reaches {B : Type 0} (spoiled : Bool) (e : Option (Event B)) (v s : View B) : Type 0 where
   pub table : s ≡ knows s.part v
   pub me : s.part.me ≡ v.part.me

@@ -65,7 +65,7 @@ abbrev pub received_by : {B : Type 0} → Option (Event B) → List (Packet B)
 received_by None = []
 received_by (Some e) = packet_in e
 
--- of what waited for a peer the first ones were posted meanwhile, and these packets wait behind the rest, in the last places
+-- of what waited for a peer the first ones were posted meanwhile, and these packets wait after the rest, in the last places
 pub record Queues {B M K : Type 0} (k : ℕ) (packets : List (Packet B)) (old new : Acting B M K) (v w : View B) : Type 0 where
   pub meanwhile : List (Packet B)
   pub rest : List (Packet B)

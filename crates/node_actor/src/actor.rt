@@ -4,7 +4,7 @@ ghost use Rattle.paxos_proposer.specs.Proposer.{is_leading};
 ghost use Rattle.replica_machine.specs.Log.{machine_from, Follows};
 ghost use Rattle.actor_parts.specs.declared.fault.ActorFault.TheVariants.{Failed};
 ghost use Rattle.actor_parts.specs.Parts.{IsPrefixOf, IsSound};
-ghost use Rattle.actor_posts.specs.Posts.{LeftOf};
+ghost use Rattle.node_actor.specs.Posts.{LeftOf};
 ghost use Rattle.actor_outboxes.specs.Outboxes.{waiting};
 ghost use Rattle.mail_table.specs.Seats.{Owns};
 ghost use Rattle.node_actor.specs.Actor.{acting, IsSeated};
@@ -12,11 +12,11 @@ ghost use Rattle.node_actor.specs.Calls.{Acts, Rests, is_own, take_event};
 ghost use Rattle.node_actor.specs.Turns.{Turns};
 ghost use Rattle.node_actor.specs.Views.{View, seen, StandsFor};
 
-use crate::event::{event as make_event, pass};
+use crate::event::{make_event, pass};
 use crate::heard::Heard;
-use crate::turning::{Round, turn};
+use crate::post::Post;
+use crate::turning::{FetchOrder, turn};
 use actor_parts::{ActorFault, Parts};
-use actor_posts::Post;
 use mail_table::{Mail, NodeSeat};
 use paxos_node::Event;
 use paxos_packets::{Ballot, Entry, NodeSet};
@@ -24,15 +24,15 @@ use replica_machine::{AppliedLog, Machine};
 use std::marker::Model;
 use store_keeper::Keeper;
 
-/// One node as it really runs: the node, its store, the machine behind its log, the packets that wait to be posted, and its seat at the
-/// table. Each event is committed before anything of it is seen.
+/// One node as it really runs: the node, its store, the machine that follows its log, the packets that wait to be posted, and its seat at
+/// the table. Each event is committed before anything of it is seen.
 ///
-/// The calls that take an event answer what the machine says, at what the event applies, to the transports of this node in its present
-/// boot. They ask for the table of the actor's seat. None of them waits.
+/// The calls that take an event return what the machine says, at what the event applies, to the transports of this node in its present
+/// boot. They require the table of the actor's seat. None of them waits.
 pub struct Actor<M: Machine, K: Keeper<M::Body>> {
     parts: Parts<M, K>,
     seat: NodeSeat<M::Body>,
-    round: Round,
+    order: FetchOrder,
 }
 
 impl<M: Machine, K: Keeper<M::Body> + Drop> Drop for Actor<M, K> {
@@ -40,7 +40,7 @@ impl<M: Machine, K: Keeper<M::Body> + Drop> Drop for Actor<M, K> {
         let Actor {
             parts: _parts,
             seat: _seat,
-            round: _round,
+            order: _order,
         } = self;
     }
 }
@@ -55,11 +55,11 @@ impl<M: Machine, K: Keeper<M::Body>> Model for Actor<M, K> {
     ghost view = { λ a. acting a.parts a.seat };
 
     ghost invariant = { λ a. IsSound M.Body.same K.holds K.is_failed a.parts × IsSeated M.Body.same (acting a.parts a.seat)
-        × IsMember a.parts.node.members a.round.first };
+        × IsMember a.parts.node.members a.order.first };
 }
 
 impl<M: Machine, K: Keeper<M::Body>> Actor<M, K> {
-    // The actor of these parts, at this seat.
+    // Creates the actor of these parts, at this seat.
     pub(crate) fn of(parts: Parts<M, K>, seat: NodeSeat<M::Body>) -> Actor<M, K>
         requires sound { IsSound M.Body.same K.holds K.is_failed parts }
         requires seated { IsSeated M.Body.same (acting parts seat) }
@@ -68,11 +68,11 @@ impl<M: Machine, K: Keeper<M::Body>> Actor<M, K> {
         Actor {
             parts,
             seat,
-            round: Round::new(),
+            order: FetchOrder::new(),
         }
     }
 
-    /// An event of this node, which stays with the caller: a Take of a transport other than 0, Tick, Start, Suspect.
+    /// Makes an event of this node: a Take of a transport other than 0, Tick, Start or Suspect. The caller keeps the event.
     pub fn event(
         &mut self,
         mail: &Mail<M::Body>,
@@ -90,7 +90,7 @@ impl<M: Machine, K: Keeper<M::Body>> Actor<M, K> {
         make_event(mail, &mut self.seat, &mut self.parts, event)
     }
 
-    /// The node takes an act of its transport with this number; with number 0 nothing happens.
+    /// Takes an act of the node's transport with this number; with number 0 nothing happens.
     pub fn take(
         &mut self,
         mail: &Mail<M::Body>,
@@ -110,19 +110,17 @@ impl<M: Machine, K: Keeper<M::Body>> Actor<M, K> {
             return pass(&self.seat, &self.parts);
         }
         let own = Event::Take {
-            node: self.parts.me(),
+            node: self.me(),
             transport: number,
             body,
         };
-        let done = make_event(mail, &mut self.seat, &mut self.parts, &own);
-        drop(own);
-        done
+        self.event(mail, &own)
     }
 
-    /// For each peer for which packets are due, one try to post the oldest; then tries to fetch from one peer after another, until one wins.
-    /// The packet that came, if one did, reaches the node; without one, with one for another node, or with one from no other member nothing
-    /// more happens. Each turn begins to fetch behind the peer whose packet came
-    /// last, or one peer further on.
+    /// Takes a turn: for each peer for which packets are due, tries once to post the oldest; then tries to fetch from one peer after
+    /// another, until a try wins. The packet that came, if one did, reaches the node; without one, with one for another node, or with one
+    /// that is from no other member, nothing more happens. Each turn begins to fetch after the peer whose packet came last, or one peer
+    /// further on.
     pub fn turn(&mut self, mail: &Mail<M::Body>) -> Result<Vec<M::Say>, ActorFault<M::Say>>
         requires owned { Owns mail.now self.old.seat }
         ensures still_owned { Owns mail.now self.new.seat }
@@ -135,10 +133,10 @@ impl<M: Machine, K: Keeper<M::Body>> Actor<M, K> {
         if self.parts.is_spoiled() {
             return Err(ActorFault::Failed);
         }
-        turn(mail, &mut self.seat, &mut self.parts, &mut self.round)
+        turn(mail, &mut self.seat, &mut self.parts, &mut self.order)
     }
 
-    /// Time has passed at the node.
+    /// Lets time pass at the node.
     pub fn tick(&mut self, mail: &Mail<M::Body>) -> Result<Vec<M::Say>, ActorFault<M::Say>>
         requires owned { Owns mail.now self.old.seat }
         ensures still_owned { Owns mail.now self.new.seat }
@@ -148,15 +146,11 @@ impl<M: Machine, K: Keeper<M::Body>> Actor<M, K> {
             Acts M.Body.same (machine_from M.next M.says M.to) M.content K.holds K.finds K.failures (Some (Tick self.old.node.me))
             self.old self.new view result }
     {
-        let own = Event::Tick {
-            node: self.parts.me(),
-        };
-        let done = make_event(mail, &mut self.seat, &mut self.parts, &own);
-        drop(own);
-        done
+        let own = Event::Tick { node: self.me() };
+        self.event(mail, &own)
     }
 
-    /// The node begins a ballot.
+    /// Makes the node begin a ballot.
     pub fn start(&mut self, mail: &Mail<M::Body>) -> Result<Vec<M::Say>, ActorFault<M::Say>>
         requires owned { Owns mail.now self.old.seat }
         ensures still_owned { Owns mail.now self.new.seat }
@@ -166,15 +160,11 @@ impl<M: Machine, K: Keeper<M::Body>> Actor<M, K> {
             Acts M.Body.same (machine_from M.next M.says M.to) M.content K.holds K.finds K.failures (Some (Start self.old.node.me))
             self.old self.new view result }
     {
-        let own = Event::Start {
-            node: self.parts.me(),
-        };
-        let done = make_event(mail, &mut self.seat, &mut self.parts, &own);
-        drop(own);
-        done
+        let own = Event::Start { node: self.me() };
+        self.event(mail, &own)
     }
 
-    /// The node takes another to be lost.
+    /// Makes the node take another to be lost.
     pub fn suspect(
         &mut self,
         mail: &Mail<M::Body>,
@@ -189,80 +179,78 @@ impl<M: Machine, K: Keeper<M::Body>> Actor<M, K> {
             self.old self.new view result }
     {
         let own = Event::Suspect {
-            node: self.parts.me(),
+            node: self.me(),
             other: node,
         };
-        let done = make_event(mail, &mut self.seat, &mut self.parts, &own);
-        drop(own);
-        done
+        self.event(mail, &own)
     }
 
-    /// The number of its node.
+    /// Returns the number of its node.
     pub fn me(&self) -> u8
         ensures { result ≡ self.now.node.me }
     {
         self.parts.me()
     }
 
-    /// The present boot of its node.
+    /// Returns the present boot of its node.
     pub fn boot(&self) -> u64
         ensures { result ≡ self.now.node.state.rows.boot }
     {
         self.parts.boot()
     }
 
-    /// How many entries its node has applied.
+    /// Returns how many entries its node has applied.
     pub fn applied(&self) -> u64
         ensures { result ≡ length self.now.node.state.applied }
     {
         self.parts.applied()
     }
 
-    /// Whether entries of its node wait for a slot.
+    /// Returns whether entries of its node wait for a slot.
     pub fn has_pending(&self) -> bool
         ensures { result ≡ nat_lt 0 (length self.now.node.state.pending) }
     {
         self.parts.has_pending()
     }
 
-    /// Whether its node leads.
+    /// Returns whether its node leads.
     pub fn is_leading(&self) -> bool
         ensures { result ≡ is_leading self.now.node.state.proposer.role }
     {
         self.parts.is_leading()
     }
 
-    /// The greatest ballot that its node has promised, if any.
+    /// Returns the greatest ballot that its node has promised, if any.
     pub fn promised(&self) -> Option<Ballot>
         ensures { result ≡ self.now.node.state.rows.promised }
     {
         self.parts.promised()
     }
 
-    /// How many packets wait to be posted to this node.
+    /// Returns how many packets wait to be posted to this node.
     pub fn waiting_for(&self, peer: u8) -> usize
         ensures { result ≡ length (waiting peer self.now.waiting) }
     {
         self.parts.waiting_for(peer)
     }
 
-    /// Whose packet the last turn treated, if it treated one.
+    /// Returns the peer whose packet the last turn treated, if it treated one.
     pub fn from(&self) -> Option<u8> {
-        self.round.from
+        self.order.from
     }
 
-    /// What the packet that the last turn treated showed, if it treated one.
+    /// Returns what the packet that the last turn treated showed, if it treated one.
     pub fn heard(&self) -> Option<Heard> {
-        self.round.heard
+        self.order.heard
     }
 
-    /// To whom the last turn posted.
+    /// Returns the peers to which the last turn posted.
     pub fn posted(&self) -> NodeSet {
-        self.round.posted
+        self.order.posted
     }
 
-    /// The node's log, slot 1 first; empty once the node is down. Of an actor that want of memory ended it may lack the last entries. Takes
-    /// no memory.
+    /// Returns the node's log, slot 1 first; empty once the node is down. If running out of memory ended the actor, the last entries may be
+    /// missing. Does not allocate.
     pub fn log(&self) -> &[Entry<M::Body>]
         ensures whole { (view : View M.Body) → StandsFor self.now view → self.now.spoiled ≡ false → result.now ≡ (seen view).node.applied }
         ensures front { (view : View M.Body) → StandsFor self.now view → IsPrefixOf result.now (seen view).node.applied }
@@ -271,7 +259,7 @@ impl<M: Machine, K: Keeper<M::Body>> Actor<M, K> {
         self.parts.log()
     }
 
-    /// The node goes down; its rows, and the outcome whose commit failed, are left for `restart`. Takes no memory.
+    /// Takes the node down. Its rows, and the outcome whose commit failed, are left for `restart`. Does not allocate.
     pub fn crash(self) -> (Post<M::Body>, K)
         ensures left { (view : View M.Body) → StandsFor self view → LeftOf M.Body.same result.0 view }
         ensures me { result.0.me ≡ self.node.me }
@@ -283,7 +271,7 @@ impl<M: Machine, K: Keeper<M::Body>> Actor<M, K> {
         let Actor {
             parts,
             seat,
-            round: _round,
+            order: _order,
         } = self;
         let (me, members) = (parts.me(), parts.members());
         let (rows, failed, keeper) = parts.leave_rows();
@@ -292,7 +280,8 @@ impl<M: Machine, K: Keeper<M::Body>> Actor<M, K> {
 }
 
 impl<M: Machine, K: Keeper<M::Body> + Drop> Actor<M, K> {
-    /// The seat, and the log of the node, which the machine has followed, of an actor that is not spoiled. Takes no memory.
+    /// Returns the seat, and the log of the node, which the machine has followed. The log is whole if the actor is not spoiled. Does not
+    /// allocate.
     pub fn leave(self) -> (NodeSeat<M::Body>, AppliedLog<M>)
         ensures seat { result.0 ≡ self.seat }
         ensures log { (view : View M.Body) → StandsFor self view → self.spoiled ≡ false → result.1.applied ≡ (seen view).node.applied }
@@ -302,7 +291,7 @@ impl<M: Machine, K: Keeper<M::Body> + Drop> Actor<M, K> {
         let Actor {
             parts,
             seat,
-            round: _round,
+            order: _order,
         } = self;
         (seat, parts.leave())
     }

@@ -1,4 +1,4 @@
-// One event of an actor: refusals, plan, room, worn, commit, the step at the table, adoption, outboxes, log.
+// One event of an actor, from its plan to what the machine says.
 ghost use Rattle.std.specs.Prelude.{◌≡◌, true, false, Some, None, Ok, Err};
 ghost use Rattle.paxos_node.specs.Adopting.{Fits};
 ghost use Rattle.paxos_node.specs.Held.{HasRoom};
@@ -9,7 +9,7 @@ ghost use Rattle.actor_parts.specs.Steps.{StaysWho, IsAtEnd, TakesIn};
 ghost use Rattle.mail_table.specs.Boxes.{Follows, Received};
 ghost use Rattle.mail_table.specs.Seats.{Owns};
 ghost use Rattle.node_actor.specs.Actor.{acting, IsSeated};
-ghost use Rattle.actor_posts.specs.Posts.{advanced};
+ghost use Rattle.node_actor.specs.Posts.{advanced};
 ghost use Rattle.node_actor.specs.Calls.{Acts, Rests, turn_event};
 ghost use Rattle.node_actor.specs.Steps.{CarriesOut, may_advance};
 ghost use Rattle.node_actor.specs.Turns.{Reaches, StaysAt};
@@ -22,8 +22,8 @@ use paxos_packets::{Body, Packet};
 use replica_machine::Machine;
 use store_keeper::Keeper;
 
-// The event of this node is planned and carried out, unless it is refused.
-pub(crate) fn event<M: Machine, K: Keeper<M::Body>>(
+// Plans the event of this node and carries it out, unless it is refused.
+pub(crate) fn make_event<M: Machine, K: Keeper<M::Body>>(
     mail: &Mail<M::Body>,
     seat: &mut NodeSeat<M::Body>,
     parts: &mut Parts<M, K>,
@@ -46,7 +46,7 @@ pub(crate) fn event<M: Machine, K: Keeper<M::Body>>(
     if parts.is_spoiled() {
         return Err(ActorFault::Failed);
     }
-    parts.limits();
+    parts.limits(); // for the proof
     match parts.plan(event) {
         Ok(outcome) => carry_out(mail, seat, parts, outcome),
         Err(NodeFault::Rounds) => Err(ActorFault::Rounds),
@@ -62,7 +62,7 @@ pub(crate) fn event<M: Machine, K: Keeper<M::Body>>(
     }
 }
 
-// No event.
+// Makes no event: returns no sayings, or that a fault has ended the actor.
 pub(crate) fn pass<M: Machine, K: Keeper<M::Body>>(
     seat: &NodeSeat<M::Body>,
     parts: &Parts<M, K>,
@@ -74,15 +74,15 @@ pub(crate) fn pass<M: Machine, K: Keeper<M::Body>>(
         (acting parts.now view) (acting parts.now seat.now) view result }
     ensures rests { Rests (acting parts.now seat.now) (acting parts.now seat.now) result }
 {
-    let _ = seat;
+    let _ = seat; // for the proof
     if parts.is_spoiled() {
         return Err(ActorFault::Failed);
     }
-    parts.limits();
+    parts.limits(); // for the proof
     Ok(parts.silence())
 }
 
-// The packet reaches the node, if it is for it and from another member.
+// Hands the packet to the node, if it is for it and from another member.
 pub(crate) fn deliver<M: Machine, K: Keeper<M::Body>>(
     mail: &Mail<M::Body>,
     seat: &mut NodeSeat<M::Body>,
@@ -109,12 +109,12 @@ pub(crate) fn deliver<M: Machine, K: Keeper<M::Body>>(
         return pass(seat, parts);
     }
     let delivered = Event::Deliver { packet };
-    let done = event(mail, seat, parts, &delivered);
+    let done = make_event(mail, seat, parts, &delivered);
     drop(delivered);
     done
 }
 
-// Whether the packet is for this node, and from another member.
+// Returns whether the packet is for this node, and from another member.
 fn is_for<M: Machine, K: Keeper<M::Body>>(parts: &Parts<M, K>, packet: &Packet<M::Body>) -> bool
     ensures { result ≡ is_for parts.now.waiting.me parts.now.waiting.members packet.now }
 {
@@ -123,7 +123,18 @@ fn is_for<M: Machine, K: Keeper<M::Body>>(parts: &Parts<M, K>, packet: &Packet<M
         && !(packet.sender == parts.me())
 }
 
-// The outcome is committed, taken at the table and adopted, its packets wait, and the machine follows what it applied.
+// Carries out the outcome of a planned event, in this order:
+//
+// 1. allocates what adopting it needs, or ends the actor with `Memory`;
+// 2. sees that the node's word can count one event more, or ends the actor with `Worn`;
+// 3. commits what it changes, or ends the actor with the store's fault, and keeps the outcome for a restart;
+// 4. takes the step at the table;
+// 5. adopts it in the node;
+// 6. puts its packets into the outboxes;
+// 7. makes the machine follow what was applied, and returns what it says, or ends the actor with `Memory`, or with `LostHere` if the node is
+//    down then.
+//
+// So nothing of an event is seen before it is committed.
 fn carry_out<M: Machine, K: Keeper<M::Body>>(
     mail: &Mail<M::Body>,
     seat: &mut NodeSeat<M::Body>,
@@ -166,7 +177,7 @@ fn carry_out<M: Machine, K: Keeper<M::Body>>(
     }
 }
 
-// The node takes the step of this outcome at the table; its word counts one event more.
+// Takes the step of this outcome at the table; the node's word counts one event more.
 fn step<B: Body>(mail: &Mail<B>, seat: &mut NodeSeat<B>, outcome: &Outcome<B>)
     requires owned { Owns mail.now seat.old }
     requires follows { Follows B.same seat.old.members seat.old.part outcome.now }
@@ -174,5 +185,5 @@ fn step<B: Body>(mail: &Mail<B>, seat: &mut NodeSeat<B>, outcome: &Outcome<B>)
     ensures owned { Owns mail.now seat.new }
     ensures advanced { seat.new ≡ advanced outcome.now seat.old }
 {
-    let _ = mail.advance(seat, outcome);
+    let _ = mail.advance(seat, outcome); // not `Worn`, since `may_advance`
 }

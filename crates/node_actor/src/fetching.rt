@@ -1,4 +1,4 @@
-// A packet is fetched, from one peer after another until a try wins.
+// Fetches a packet, from one peer after another until a try wins.
 ghost use Rattle.std.specs.Prelude.{◌≡◌, MatchOption, IfSome};
 ghost use Rattle.paxos_packets.specs.Members.{IsMember};
 ghost use Rattle.mail_table.specs.Seats.{Owns, knows};
@@ -8,7 +8,7 @@ ghost use Rattle.node_actor.specs.Turns.{Fetches, after, round, passed_by};
 use mail_table::{Mail, NodeSeat};
 use paxos_packets::{Body, Members, Packet};
 
-// Tries the other members' boxes once round from this one on, until a try wins; whose packet came, and the packet.
+// Tries the other members' boxes once round from this one on, until a try wins. Returns whose packet came, and the packet.
 pub(crate) fn fetch_round<B: Body>(
     mail: &Mail<B>,
     seat: &mut NodeSeat<B>,
@@ -33,7 +33,7 @@ pub(crate) fn fetch_round<B: Body>(
     None
 }
 
-// One try to fetch from this member, if it is another.
+// Tries once to fetch from this member, if it is another.
 fn fetch_other<B: Body>(mail: &Mail<B>, seat: &mut NodeSeat<B>, from: u8) -> Option<Packet<B>>
     requires owned { Owns mail.now seat.old }
     requires member { IsMember seat.old.members from }
@@ -48,7 +48,7 @@ fn fetch_other<B: Body>(mail: &Mail<B>, seat: &mut NodeSeat<B>, from: u8) -> Opt
     mail.fetch(seat, from)
 }
 
-// The member behind this one, the first behind the last.
+// Returns the member after this one; the first after the last.
 pub(crate) fn after(members: Members, member: u8) -> u8
     requires { IsMember members member }
     ensures value { result ≡ after members member }

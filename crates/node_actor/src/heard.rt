@@ -15,13 +15,13 @@ pub enum Heard {
     Refusal { ballot: Ballot, promised: Ballot },
     /// It forwards entries.
     Entries,
-    /// It tells an entry that its sender has learned.
+    /// It reports an entry that its sender has learned.
     Learned,
     /// It asks for what was learned from this slot on: its sender's log ends before it.
     Ask(u64),
 }
 
-// What a packet of this kind shows.
+// Returns what a packet of this kind shows.
 pub(crate) fn heard_in<B>(kind: &Kind<B>) -> Heard
     ensures { result ≡ heard_in kind.now }
 {

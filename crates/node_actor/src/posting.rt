@@ -1,4 +1,4 @@
-// What waits is posted, as far as boxes are empty.
+// Posts what waits, as far as boxes are empty.
 ghost use Rattle.std.specs.Prelude.{◌≡◌, ◌⊎◌, false, MatchResult};
 ghost use Rattle.cluster_world.specs.Has.{Has};
 ghost use Rattle.paxos_packets.specs.Members.{IsMember};
@@ -14,8 +14,8 @@ use paxos_packets::{Body, NodeSet, Packet};
 use replica_machine::Machine;
 use store_keeper::Keeper;
 
-// For each peer for which packets are due, one try to post the oldest; the peers to which one was posted.
-pub(crate) fn post_all<M: Machine, K: Keeper<M::Body>>(
+// Tries once to post the oldest packet to each peer for which packets are due. Returns the peers to which one was posted.
+pub(crate) fn send_waiting<M: Machine, K: Keeper<M::Body>>(
     mail: &Mail<M::Body>,
     seat: &mut NodeSeat<M::Body>,
     parts: &mut Parts<M, K>,
@@ -38,7 +38,7 @@ pub(crate) fn post_all<M: Machine, K: Keeper<M::Body>>(
     posted
 }
 
-// One try to post the oldest packet for this member, if one waits; whether it won.
+// Tries once to post the oldest packet for this member, if one waits. Returns whether the try won.
 fn post_one<M: Machine, K: Keeper<M::Body>>(
     mail: &Mail<M::Body>,
     seat: &mut NodeSeat<M::Body>,
@@ -65,7 +65,7 @@ fn post_one<M: Machine, K: Keeper<M::Body>>(
     false
 }
 
-// One try to post the packet to this member.
+// Tries once to post the packet to this member.
 fn post<B: Body>(
     mail: &Mail<B>,
     seat: &mut NodeSeat<B>,

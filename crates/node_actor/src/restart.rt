@@ -4,14 +4,15 @@ ghost use Rattle.paxos_packets.specs.declared.rows.Rows.{Rows};
 ghost use Rattle.paxos_node.specs.declared.view.Opened.TheVariants.{Never};
 ghost use Rattle.replica_machine.specs.Log.{machine_from};
 ghost use Rattle.mail_table.specs.Seats.{Owns};
-ghost use Rattle.actor_posts.specs.Posts.{LeftOf};
-ghost use Rattle.actor_posts.specs.Restarts.{HasOthers, Refuses};
+ghost use Rattle.node_actor.specs.Posts.{LeftOf};
+ghost use Rattle.node_actor.specs.Preparing.{HasOthers, Refuses};
 ghost use Rattle.node_actor.specs.Restarts.{Opens, OpensFirst, Resumes, Shuts};
 ghost use Rattle.node_actor.specs.Views.{View};
 
 use crate::actor::Actor;
+use crate::beginning::{Begun, begin};
+use crate::post::Post;
 use actor_parts::{ActorFault, Parts};
-use actor_posts::{Begun, Post, begin};
 use mail_table::{Mail, NodeSeat};
 use paxos_packets::Members;
 use replica_machine::Machine;
@@ -20,8 +21,8 @@ use store_keeper::{Keeper, KeeperFault};
 
 impl<M: Machine, K: Keeper<M::Body>> Actor<M, K> {
     /// Opens a node that was never opened, at its seat: begins a boot in the store, and the node of this number, of these members, has the
-    /// store's rows; the machine is to follow its log. With a fault the store is handed back, and a post by which `restart` opens the node.
-    /// No `KeeperFault::Damaged` where the store holds rows and returns what was written.
+    /// store's rows; the machine is to follow its log. After a fault the store is handed back, and a post by which `restart` opens the
+    /// node. Never `KeeperFault::Damaged` if the store holds rows and returns what was written.
     pub fn open(
         alloc: Global,
         mail: &Mail<M::Body>,
@@ -53,12 +54,12 @@ impl<M: Machine, K: Keeper<M::Body>> Actor<M, K> {
         Actor::restart(alloc, mail, post, machine, keeper)
     }
 
-    /// Goes on from what is left of an actor, with its store opened again and the machine in its first content: opens the node where it was
-    /// never opened, else takes the step of the event whose commit failed, if the store has the rows that it was to leave, and begins the
-    /// next boot.
+    /// Goes on from what is left of an actor, with its store opened again and the machine in its first content. Opens the node if it was
+    /// never opened; otherwise takes the step of the event whose commit failed, if the store has the rows that it was to leave, and begins
+    /// the next boot.
     ///
-    /// `KeeperFault::Damaged` where the store has other rows than the node had, and than the failed commit was to leave, and nowhere else
-    /// where the store returns what was written; no boot is begun then. `Worn` where the node's word counts no more events. With a fault the
+    /// `KeeperFault::Damaged` if the store has other rows than the node had, and than the failed commit was to leave, and never otherwise
+    /// if the store returns what was written; no boot is begun then. `Worn` if the node's word cannot count more events. After a fault the
     /// post and the store are handed back, and serve again.
     pub fn restart(
         alloc: Global,

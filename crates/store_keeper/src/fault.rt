@@ -21,7 +21,7 @@ pub enum KeeperFault {
 }
 
 impl KeeperFault {
-    /// The number of the fault: 61 to 66, in the order of the variants.
+    /// Returns the number of the fault: 61 to 66, in the order of the variants.
     pub fn number(self) -> u8
         ensures { result ≡ number_of self }
     {

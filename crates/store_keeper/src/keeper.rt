@@ -10,29 +10,29 @@ use paxos_packets::{Body, Change, Rows};
 /// A store of one acceptor's rows: what a node has promised and voted, and how often it was started, found again after a crash
 /// (Lamport 2001, section 2.5).
 ///
-/// After a fault of `commit` or `boot` the keeper is failed, and answers nothing else until it is opened again; what it finds then is
+/// After a fault of `commit` or `boot` the keeper has failed: each call returns `Failed` until it is opened again. What it finds then is
 /// what it held before that call, or what it was to hold after it.
 pub trait Keeper<B: Body> {
-    // What a load gives.
+    // What a load returns.
     ghost holds: { Self → Rows B → Type 0 };
 
-    // What it may find when it is opened again, stopped at this moment.
+    // What it may find when it is opened again, if it stops at this moment.
     ghost finds: { Self → Rows B → Type 0 };
 
     // What lies below has returned what was written, so far.
     ghost is_faithful: { Self → Type 0 };
 
-    // A commit or a boot has answered a fault.
+    // A commit or a boot has returned a fault.
     ghost is_failed: { Self → Bool };
 
-    // How often what lies below refused a call for another cause than memory.
+    // How often what lies below refused a call for a cause other than memory.
     ghost failures: { Self → ℕ };
 
-    /// The committed rows. Changes nothing, whatever it answers.
+    /// Returns the committed rows. Changes nothing, whatever it returns.
     ///
-    /// `Failed` on a failed keeper, and where no more failures can be counted; `Store` where what lies below failed; `Version` and
-    /// `Damaged` where what is stored are no rows of this version, so `Damaged` never where rows are held and what lies below returned what
-    /// was written; `Memory` where there is none for the rows.
+    /// `Failed` on a failed keeper, and if no more failures can be counted; `Store` if what lies below failed; `Version` and `Damaged` if
+    /// what is stored is not rows of this version, so never `Damaged` if rows are held and what lies below returned what was written;
+    /// `Memory` if memory runs out.
     fn load(&mut self) -> Result<Rows<B>, KeeperFault>
         ensures held { IfOk result (holds self.new) }
         ensures right { is_faithful self.new → (r : Rows B) → holds self.old r → IfOk result (λ x. x ≡ r) }
@@ -45,11 +45,11 @@ pub trait Keeper<B: Body> {
         ensures store { IsErrOf result KeeperFault.Store → failures self.old < failures self.new }
         ensures counts { failures self.old ≤ failures self.new };
 
-    /// Commits the change in one step: after Ok the rows are those with the change, and are found again. After a fault the keeper is
+    /// Commits the change in one step. After Ok the rows are those with the change, and are found again. After a fault the keeper has
     /// failed, and what is found is what was held before, or that with the change.
     ///
-    /// `Failed` on a failed keeper, and where no more failures can be counted; `Store` where what lies below failed; `Damaged` where
-    /// the change has no place among the rows that are held; `Memory` where there was none.
+    /// `Failed` on a failed keeper, and if no more failures can be counted; `Store` if what lies below failed; `Damaged` if the change has
+    /// no place among the rows that are held; `Memory` if memory runs out.
     fn commit(&mut self, change: &Change<B>) -> Result<(), KeeperFault>
         ensures ok { OnOk result ((r : Rows B) → holds self.old r → holds self.new (adopted r change.now)) }
         ensures found { (r : Rows B) → holds self.old r → FindsOr finds self.old self.new (adopted r change.now) }
@@ -60,10 +60,10 @@ pub trait Keeper<B: Body> {
         ensures store { IsErrOf result KeeperFault.Store → failures self.old < failures self.new }
         ensures counts { failures self.old ≤ failures self.new };
 
-    /// Begins a boot: raises the boot number by one, commits that, and gives the rows with it. After a fault the keeper is failed, and
+    /// Begins a boot: raises the boot number by one, commits that, and returns the rows with it. After a fault the keeper has failed, and
     /// what is found is what was held before, or that with the new boot number.
     ///
-    /// `Boots` where the boot number is 2^48 - 1; beside that the faults of `load`, `Damaged` where `load` may answer it, and of `commit`.
+    /// `Boots` if the boot number is 2^48 - 1; beside that the faults of `load` and of `commit`, `Damaged` only where `load` may return it.
     fn boot(&mut self) -> Result<Rows<B>, KeeperFault>
         ensures held { IfOk result (holds self.new) }
         ensures right { is_faithful self.new → (r : Rows B) → holds self.old r → IfOk result (λ x. x ≡ raised r) }
@@ -79,7 +79,7 @@ pub trait Keeper<B: Body> {
         ensures store { IsErrOf result KeeperFault.Store → failures self.old < failures self.new }
         ensures counts { failures self.old ≤ failures self.new };
 
-    /// How often what lies below refused a call for another cause than memory. Takes no memory.
+    /// Returns how often what lies below refused a call for a cause other than memory. Does not allocate.
     fn failures(&self) -> u64
         ensures { result ≡ failures self.now };
 

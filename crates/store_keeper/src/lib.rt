@@ -1,5 +1,5 @@
 //! What an acceptor keeps over a crash (Lamport 2001, section 2.5: stable storage): the trait of a store of rows, its faults, and
-//! a store in memory that can be told to fail.
+//! a store in memory that can be made to fail.
 #![tactic(auto)]
 
 mod fault;

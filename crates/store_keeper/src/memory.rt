@@ -13,7 +13,7 @@ use std::marker::Model;
 /// The greatest boot number.
 const LAST_BOOT: u64 = (1 << 48) - 1;
 
-/// A keeper whose rows are in memory, and which fails where it is told to: for tests, and for a node that needs no crash.
+/// A keeper whose rows are in memory, and which fails at a chosen call: for tests, and for a node that need not survive a crash.
 pub struct MemKeeper<B> {
     alloc: Global,
     rows: Rows<B>,
@@ -48,15 +48,15 @@ impl<B> Model for MemKeeper<B> {
 }
 
 impl<B> MemKeeper<B> {
-    /// A keeper of the rows of a node that was never started, which does not fail. Takes no memory; commits will, from `alloc`.
+    /// Creates a keeper of the rows of a node that was never started, which does not fail. Does not allocate; commits will, from `alloc`.
     pub fn new(alloc: Global) -> MemKeeper<B>
         ensures { result ≡ record { rows = no_rows; left = 0; keeps = false; is_failed = false; failures = 0 } }
     {
         MemKeeper::failing(alloc, 0, false)
     }
 
-    /// The same, whose kth call of `commit` fails, `boot` not counted: it answers `Store`, and leaves the new rows where `after`, else
-    /// those of before. With k 0 it does not fail.
+    /// Creates a keeper of the rows of a node that was never started, whose `k`th call of `commit` fails, calls of `boot` not counted: it
+    /// returns `Store`, and leaves the new rows if `after`, otherwise those of before. With `k` 0 it does not fail. Does not allocate.
     pub fn failing(alloc: Global, k: u64, after: bool) -> MemKeeper<B>
         ensures { result ≡ record { rows = no_rows; left = k; keeps = after; is_failed = false; failures = 0 } }
     {
@@ -74,7 +74,7 @@ impl<B> MemKeeper<B> {
         }
     }
 
-    /// The keeper opened again: it holds what it found, and fails no more. Takes no memory.
+    /// Opens the keeper again: it holds what it found, and fails no more. Does not allocate.
     pub fn reopen(self) -> MemKeeper<B>
         ensures { result ≡ record self { left = 0; is_failed = false } }
     {
@@ -166,7 +166,7 @@ impl<B: Body> Keeper<B> for MemKeeper<B> {
     ghost only = { λ k r x held found. found ∙ sym held };
 }
 
-/// Takes the change over into the rows. With `Memory` they are as they were.
+/// Takes the change over into the rows. After `Memory` they are as they were.
 fn adopt<B: Body>(alloc: Global, rows: &mut Rows<B>, change: &Change<B>) -> Result<(), Memory>
     ensures ok { OnOk result (rows.new ≡ adopted rows.old change.now) }
     ensures err { OnErr result (rows.new ≡ rows.old) }

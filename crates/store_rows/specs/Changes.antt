@@ -9,7 +9,7 @@ use Rattle.store_rows.specs.declared.rows.Numbers.{Numbers}
 use Rattle.store_rows.specs.Numbers.{is_ballot}
 use Rattle.store_rows.specs.Rows.{is_promised}
 
--- a vote that may stand under this promise
+-- a vote that may be held under this promise
 abbrev pub is_placed : {B : Type 0} → Option Ballot → Vote B → Bool
 is_placed promised v = is_ballot v.ballot && is_promised promised v.ballot
 
@@ -18,12 +18,12 @@ abbrev pub is_lower : Ballot → Option Ballot → Bool
 is_lower b None = false
 is_lower b (Some p) = below b p
 
--- the promise after a change, where that lowers none
+-- the promise after a change, if that lowers none
 abbrev pub promise_after : Option Ballot → Option Ballot → Option (Option Ballot)
 promise_after promised None = Some promised
 promise_after promised (Some b) = if not (is_ballot b) || is_lower b promised then None else Some (Some b)
 
--- the numbers after a change, where that lowers no promise and has no vote above it
+-- the numbers after a change, if that lowers no promise and has no vote above it
 abbrev pub numbers_after : {B : Type 0} → Numbers → Change B → Option Numbers
 numbers_after known change =
     option_and_then (λ promised. if not (list_all (is_placed promised) change.votes) then None

@@ -1,4 +1,4 @@
--- The rows of an acceptor that rows of the two tables read as (docs/CONSENSUS.md, "Store").
+-- The rows of an acceptor that rows of the two tables read as (docs/CONSENSUS.md, "The store").
 use Rattle.std.specs.Prelude.{ℕ, pos, negsuc, Bool, false, not, ◌&&◌, ◌||◌, ◌==◌, nat_le, List, [], ◌∷◌, if◌then◌else◌}
 use Rattle.std.specs.Prelude.{Option, Some, None, option_map, option_and_then, is_some, Result, Ok, Err}
 use Rattle.sqlite_value.specs.declared.value.Value.{Value}
@@ -40,7 +40,7 @@ is_number n (Some m) = m == n
 abbrev pub if_within : ℕ → ℕ → ℕ → Option ℕ
 if_within low high n = if nat_le low n && nat_le n high then Some n else None
 
--- the number that a value is, where it is from `low` to `high`
+-- the number that a value is, if it is from `low` to `high`
 abbrev pub within : ℕ → ℕ → Value → Option ℕ
 within low high v = option_and_then (if_within low high) (number v)
 
@@ -86,7 +86,7 @@ abbrev pub is_promised : Option Ballot → Ballot → Bool
 is_promised None b = false
 is_promised (Some p) b = not (below p b)
 
--- the votes so far and that of one row more: none where its slot has one, or where it is above the promise
+-- the votes so far and that of one row more: none if its slot has one, or if it is above the promise
 abbrev pub with_row : {B : Type 0} → Option Ballot → List (Vote B) → Vote B → Option (List (Vote B))
 with_row promised votes v =
     if is_some (vote_in v.slot votes) || not (is_promised promised v.ballot) then None else Some (put_vote v votes)

@@ -10,7 +10,7 @@ const LAST_BOOT: u64 = (1 << 48) - 1;
 
 /// Raises the boot number by one.
 ///
-/// `Boots`, and nothing is raised, exactly where it is 2^48 - 1; no other fault.
+/// `Boots`, with nothing raised, exactly if it is 2^48 - 1; no other fault.
 #[tactic(auto, unfolding(paxos_packets::specs::Rows::last_boot), using(crate::proofs::Within::raised_within))]
 pub fn raise_boot<B>(rows: &mut Rows<B>) -> Result<(), KeeperFault>
     ensures raised { OnOk result (rows.new ≡ raised rows.old) }

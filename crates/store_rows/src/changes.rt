@@ -6,14 +6,14 @@ ghost use Rattle.store_rows.specs.Changes.{is_lower, is_placed, promise_after, n
 use crate::rows::{Numbers, is_promised};
 use paxos_packets::{Ballot, Change, Vote};
 
-// Whether the ballot is one: a round from 1 to 2^48 - 1, and a node from 1 to 7.
+// Returns whether the ballot is one: a round from 1 to 2^48 - 1, and a node from 1 to 7.
 fn is_ballot(ballot: &Ballot) -> bool
     ensures { result ≡ is_ballot ballot.now }
 {
     (1..=281_474_976_710_655).contains(&ballot.round) && (1..=7).contains(&ballot.node)
 }
 
-// Whether the ballot is below the promise.
+// Returns whether the ballot is below the promise.
 fn is_lower(ballot: &Ballot, promised: &Option<Ballot>) -> bool
     ensures { result ≡ is_lower ballot.now promised.now }
 {
@@ -23,7 +23,7 @@ fn is_lower(ballot: &Ballot, promised: &Option<Ballot>) -> bool
     }
 }
 
-// The promise after a change, where that lowers none.
+// Returns the promise after a change, or `None` if the change lowers it.
 fn promise_after(promised: &Option<Ballot>, change: &Option<Ballot>) -> Option<Option<Ballot>>
     ensures { result ≡ promise_after promised.now change.now }
 {
@@ -36,7 +36,7 @@ fn promise_after(promised: &Option<Ballot>, change: &Option<Ballot>) -> Option<O
     Some(Some(*ballot))
 }
 
-// Whether each of the votes may stand under the promise.
+// Returns whether each of the votes may be held under the promise.
 fn are_placed<B>(promised: &Option<Ballot>, votes: &[Vote<B>]) -> bool
     ensures { result ≡ list_all (is_placed promised.now) votes.now }
 {
@@ -48,8 +48,8 @@ fn are_placed<B>(promised: &Option<Ballot>, votes: &[Vote<B>]) -> bool
     true
 }
 
-/// The numbers after a change, where that has a place over those that are known: it lowers no promise, and has no vote above the promise
-/// and no ballot out of range.
+/// Returns the numbers after a change, or `None` if the change has no place over those that are known: it lowers the promise, or has a vote
+/// above the promise or a ballot out of range.
 pub fn numbers_after<B>(known: &Numbers, change: &Change<B>) -> Option<Numbers>
     ensures { result ≡ numbers_after known.now change.now }
 {

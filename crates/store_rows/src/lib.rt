@@ -1,5 +1,5 @@
-//! What rows of a store's two tables read as (docs/CONSENSUS.md, "The store"), and what boots and changes make of the numbers that an acceptor
-//! keeps.
+//! What the rows of a store's two tables read as (docs/CONSENSUS.md, "The store"), and what boots and changes make of the numbers that an
+//! acceptor keeps.
 #![tactic(auto)]
 
 mod boots;

@@ -20,7 +20,7 @@ pub struct Numbers {
     pub promised: Option<Ballot>,
 }
 
-// The natural number in a column.
+// Returns the natural number in a column.
 fn number(row: &Row, at: usize) -> Option<u64>
     ensures { result ≡ number (column row.now at) }
 {
@@ -30,14 +30,14 @@ fn number(row: &Row, at: usize) -> Option<u64>
     }
 }
 
-// The number, where it is within these bounds.
+// Returns the number, if it is within these bounds.
 fn if_within(low: u64, high: u64, n: u64) -> Option<u64>
     ensures { result ≡ if_within low high n }
 {
     if low <= n && n <= high { Some(n) } else { None }
 }
 
-// The number in a column, where it is within these bounds.
+// Returns the number in a column, if it is within these bounds.
 fn within(row: &Row, at: usize, low: u64, high: u64) -> Option<u64>
     ensures { result ≡ within low high (column row.now at) }
 {
@@ -45,7 +45,7 @@ fn within(row: &Row, at: usize, low: u64, high: u64) -> Option<u64>
     if_within(low, high, n)
 }
 
-// The ballot in two columns: a round from 1 to 2^48 - 1, and a node from 1 to 7.
+// Returns the ballot in two columns: a round from 1 to 2^48 - 1, and a node from 1 to 7.
 fn ballot_in(row: &Row, round: usize, node: usize) -> Option<Ballot>
     ensures { result ≡ ballot_in (column row.now round) (column row.now node) }
 {
@@ -57,7 +57,7 @@ fn ballot_in(row: &Row, round: usize, node: usize) -> Option<Ballot>
     })
 }
 
-// The promise in two columns, where round 0 and node 0 are none.
+// Returns the promise in two columns; round 0 and node 0 stand for no promise.
 fn promise_in(row: &Row, round: usize, node: usize) -> Option<Option<Ballot>>
     ensures { result ≡ promise_in (column row.now round) (column row.now node) }
 {
@@ -68,7 +68,7 @@ fn promise_in(row: &Row, round: usize, node: usize) -> Option<Option<Ballot>>
     Some(Some(ballot))
 }
 
-// The numbers that a row of `meta` shows: k, version, boot, round, node.
+// Returns the numbers that a row of `meta` shows: k, version, boot, round, node.
 fn numbers_of(row: &Row) -> Result<Numbers, KeeperFault>
     ensures { result ≡ numbers_of row.now }
 {
@@ -87,7 +87,7 @@ fn numbers_of(row: &Row) -> Result<Numbers, KeeperFault>
     Ok(Numbers { boot, promised })
 }
 
-// The numbers that the rows of `meta` show, of which there is one.
+// Returns the numbers that the rows of `meta` show, of which there must be just one.
 fn numbers_in(rows: &[Row]) -> Result<Numbers, KeeperFault>
     ensures { result ≡ numbers_in rows.now }
 {
@@ -97,7 +97,7 @@ fn numbers_in(rows: &[Row]) -> Result<Numbers, KeeperFault>
     }
 }
 
-// Whether a vote may be cast in the ballot under this promise.
+// Returns whether a vote may be cast in the ballot under this promise.
 pub(crate) fn is_promised(promised: &Option<Ballot>, ballot: &Ballot) -> bool
     ensures { result ≡ is_promised promised.now ballot.now }
 {
@@ -107,7 +107,7 @@ pub(crate) fn is_promised(promised: &Option<Ballot>, ballot: &Ballot) -> bool
     }
 }
 
-// The octets in a column.
+// Returns the octets in a column.
 fn octets(row: &Row, at: usize) -> Option<&[u8]>
     ensures { option_map (λ octets. octets.now) result ≡ octets (column row.now at) }
 {
@@ -117,7 +117,7 @@ fn octets(row: &Row, at: usize) -> Option<&[u8]>
     }
 }
 
-// The entry in a column.
+// Returns the entry in a column.
 fn entry_in<B: Drop, C: Coder<B>>(
     alloc: Global,
     row: &Row,
@@ -139,7 +139,7 @@ fn entry_in<B: Drop, C: Coder<B>>(
     }
 }
 
-// The vote that a row of `vote` shows: slot, round, node, entry.
+// Returns the vote that a row of `vote` shows: slot, round, node, entry.
 fn vote_of<B: Drop, C: Coder<B>>(alloc: Global, row: &Row) -> Result<Vote<B>, KeeperFault>
     ensures vote { IfOk result (λ vote. vote_of C.reading row.now ≡ Some vote) }
     ensures fault { IfErr result (λ fault. fault ≢ KeeperFault.Memory
@@ -159,7 +159,7 @@ fn vote_of<B: Drop, C: Coder<B>>(alloc: Global, row: &Row) -> Result<Vote<B>, Ke
     })
 }
 
-// The slot in a column.
+// Returns the slot in a column.
 fn slot_in(row: &Row, at: usize) -> Option<Slot>
     ensures { result ≡ slot_in (column row.now at) }
 {
@@ -188,7 +188,7 @@ fn put_row<B: Drop, C: Coder<B>>(
     Ok(())
 }
 
-// The votes that the rows of `vote` show. Each row is let go as it is read.
+// Returns the votes that the rows of `vote` show. Each row is dropped as it is read.
 fn votes_in<B: Drop, C: Coder<B>>(
     alloc: Global,
     promised: &Option<Ballot>,
@@ -205,11 +205,11 @@ fn votes_in<B: Drop, C: Coder<B>>(
     Ok(votes)
 }
 
-/// The rows of an acceptor that those of the two tables read as: of `meta` k, version, boot, round and node, of `vote` slot, round, node and
-/// entry, in any order. Each row of `vote` is let go as it is read.
+/// Reads the rows of an acceptor from those of the two tables: of `meta` k, version, boot, round and node, of `vote` slot, round, node and
+/// entry, in any order. Each row of `vote` is dropped as it is read.
 ///
-/// `Version` where `meta` has one row, of k 1 and of another version than 1; otherwise `Damaged` where `meta` has not one row, of k 1, a number
-/// is out of range, an entry is not read, two votes have one slot, or a vote is above the promise; `Memory` where there is none.
+/// `Version` if `meta` has one row, of k 1 and of another version than 1; otherwise `Damaged` if `meta` does not have just one row, of k 1,
+/// a number is out of range, an entry cannot be read, two votes have one slot, or a vote is above the promise; `Memory` if memory runs out.
 pub fn read_rows<B: Drop, C: Coder<B>>(
     alloc: Global,
     metas: &[Row],

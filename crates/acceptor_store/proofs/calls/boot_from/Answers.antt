@@ -11,8 +11,8 @@ returns-in-Err-clause-last g c clean rows holds spent =
     (λ e. c.in-Err.ensures.last clean rows holds (subst (λ (f : KeeperFault). ◌≡◌ {A = Result (Rows g.row.B.Denot) KeeperFault} (Err f) (Err Boots)) e spent))
     (λ e. let both : ◌≡◌ {A = Result (Rows g.row.B.Denot) KeeperFault} (Err Failed) (Err Boots)
     = subst (λ (f : KeeperFault). ◌≡◌ {A = Result (Rows g.row.B.Denot) KeeperFault} (Err f) (Err Boots)) e spent in absurd cc)
-    c.told.ensures.fault
+    c.count_refusal.ensures.fault
 
 pub returns-in-Err-clause-sound : goal.returns-in-Err-clause-sound
 returns-in-Err-clause-sound g c clean rows holds damaged =
-    c.in-Err.ensures.sound clean rows holds (ap Err (told_damaged c.in-Err.fault c.told.result c.told.ensures.fault damaged))
+    c.in-Err.ensures.sound clean rows holds (ap Err (told_damaged c.in-Err.fault c.count_refusal.result c.count_refusal.ensures.fault damaged))

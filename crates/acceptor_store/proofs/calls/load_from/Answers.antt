@@ -6,8 +6,8 @@ use Rattle.acceptor_store.proofs.calls.load_from.Goals as goal
 
 pub returns-in-Err-clause-tells : goal.returns-in-Err-clause-tells
 returns-in-Err-clause-tells g c clean =
-    tells_told g.C.Coder.reading (state g.S.Store c.args.conn.now).now c.in-Err.fault c.told.result (c.in-Err.ensures.tells clean) c.told.ensures.fault
+    tells_told g.C.Coder.reading (state g.S.Store c.args.conn.now).now c.in-Err.fault c.count_refusal.result (c.in-Err.ensures.tells clean) c.count_refusal.ensures.fault
 
 pub returns-in-Err-clause-sound : goal.returns-in-Err-clause-sound
 returns-in-Err-clause-sound g c clean rows holds damaged =
-    c.in-Err.ensures.sound clean rows holds (ap Err (told_damaged c.in-Err.fault c.told.result c.told.ensures.fault damaged))
+    c.in-Err.ensures.sound clean rows holds (ap Err (told_damaged c.in-Err.fault c.count_refusal.result c.count_refusal.ensures.fault damaged))

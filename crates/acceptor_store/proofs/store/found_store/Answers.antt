@@ -12,13 +12,13 @@ use Rattle.acceptor_store.proofs.store.found_store.Goals as goal
 pub returns-clause-crash : goal.returns-clause-crash
 returns-clause-crash g c =
     let old = c.args.conn.now in
-    let last = c.found.new.tx.conn.now in
+    let last = c.make_tables.new.tx.conn.now in
     let begun = c.transaction-tx.ensures.begun in
     let W = λ (db : Database). (state g.S.Store old).now.schema ≡ empty_schema → IsFounded db in
     let P = λ (trees : Trees). (db : Database) × W db × (trees ≡ db.trees) in
-    let wrote = λ (early : HasCleanDisk (state g.S.Store last)). let it : W (state g.S.Store last).now = rw begun at (c.in_ok-found.ensures.founded early (rw begun)) in it in
+    let wrote = λ (early : HasCleanDisk (state g.S.Store last)). let it : W (state g.S.Store last).now = rw begun at (c.in_ok-make_tables.ensures.founded early (rw begun)) in it in
     let whole = survives_then (state g.S.Store old) (state g.S.Store last) (state g.S.Store c.end.new.tx.0) (λ _. ⊥) _ P (λ _ db none. absurd none)
     (λ clean db is. (_, wrote (omega (arith, c.end.ensures.survives.clean)), is))
-    (survives_begin g.S.Store old (state g.S.Store last) (λ _. ⊥) (rw begun at c.found.ensures.survives)) c.end.ensures.survives in
+    (survives_begin g.S.Store old (state g.S.Store last) (λ _. ⊥) (rw begun at c.make_tables.ensures.survives)) c.end.ensures.survives in
     let same : c.end.new.tx.0 ≡ c.conn-2-1.given.0 = search rules in
     subst (λ h. Survives (state g.S.Store old) (state g.S.Store h) P) same whole

@@ -21,7 +21,7 @@ loop-entry-preserved g c =
     let was = c.loop-entry.invariant in
     let rest : List (Entry g.row.M-Body.Denot) = into_iter_items c.next.new.self in
     let step : into_iter_items c.loop-entry.entry-iterator ≡ c.in-Some.entry ∷ rest = search rules in (
-      rw c.in_ok-keep_own.ensures (applied_more (machine_from g.M.Machine.next g.M.Machine.says g.M.Machine.to) g.M.Machine.content g.M.Machine.to (λ first. refl)
+      rw c.in_ok-retain_own.ensures (applied_more (machine_from g.M.Machine.next g.M.Machine.says g.M.Machine.to) g.M.Machine.content g.M.Machine.to (λ first. refl)
           c.args.node c.args.boot c.loop-entry.yielded c.in-Some.entry c.args.log.now c.loop-entry.log c.apply_one.new.log c.loop-entry.says.items
           c.in_ok-more.more.items was.0 c.in_ok-more.ensures.ok),
       c.in_ok-more.ensures.end,
@@ -48,12 +48,12 @@ returns-in_err-more-clause-err g c =
     (prefix_behind c.apply_one.new.log.applied c.args.log.now.applied c.loop-entry.yielded (c.in-Some.entry ∷ rest) c.args.entries.items
     (still ∙ was.0.applied) (ap (λ es. c.loop-entry.yielded ++ es) (sym step) ∙ was.2))
 
-pub returns-in_err-keep_own-clause-err : goal.returns-in_err-keep_own-clause-err
-returns-in_err-keep_own-clause-err g c =
+pub returns-in_err-retain_own-clause-err : goal.returns-in_err-retain_own-clause-err
+returns-in_err-retain_own-clause-err g c =
     let was = c.loop-entry.invariant in
     let rest : List (Entry g.row.M-Body.Denot) = into_iter_items c.next.new.self in
     let step : into_iter_items c.loop-entry.entry-iterator ≡ c.in-Some.entry ∷ rest = search rules in
-    on_err_still c.from_residual-in_err-keep_own.result _
+    on_err_still c.from_residual-in_err-retain_own.result _
     (prefix_behind c.apply_one.new.log.applied c.args.log.now.applied (c.loop-entry.yielded ++ c.in-Some.entry ∷ []) rest c.args.entries.items
     (c.in_ok-more.ensures.ok.applied ∙ ap (λ log. log ++ c.in-Some.entry ∷ []) was.0.applied
     ∙ append_assoc c.args.log.now.applied c.loop-entry.yielded (c.in-Some.entry ∷ []))

@@ -3,7 +3,7 @@ use Rattle.std.specs.Slots.{slots_filled, slots_len}
 use Rattle.std.specs.Slots.Ownership.{Filled}
 use Rattle.mail_table.proofs.gathering.free.Given as goal
 
--- the packets behind this one are still there, and no others
+-- the packets after this one are still there, and no others
 abbrev pub invariant-loop-next : goal.invariant-loop-next
 invariant-loop-next g l =
     Filled (slots_filled l.closed.slots) l.next (slots_len l.closed.slots) × ((k : ℕ) → k < l.next

@@ -12,8 +12,8 @@ join_seat-requires g c =
       search rules,
       search rules,
       some_words,
-      joins g.B.Body.same c.args.table.now.shared.key c.loop-next.gatherer.id c.loop-next.gatherer.me.0 c.taken-seat.result.id
-          c.taken-seat.result.me.0,
+      joins g.B.Body.same c.args.table.now.shared.key c.loop-next.gatherer.id c.loop-next.gatherer.me.0 c.take_token-seat.result.id
+          c.take_token-seat.result.me.0,
     )
 
 pub loop-next-preserved : goal.loop-next-preserved
@@ -23,8 +23,8 @@ loop-next-preserved g c = (
   search rules,
   search rules,
   λ x h. one_in c.loop-next.seats.items c.pop-in-loop-next.new.self.items c.in-Some-pop.next c.loop-next.gatherer.me.0
-      c.taken-seat.result.me.0
-      c.join_seat.new.seat.me.0 c.in-Some-pop.ensures.items (ap (λ m. m.0) c.taken-seat.ensures.knows) (search rules) x
+      c.take_token-seat.result.me.0
+      c.join_seat.new.seat.me.0 c.in-Some-pop.ensures.items (ap (λ m. m.0) c.take_token-seat.ensures.knows) (search rules) x
       (c.loop-next.invariant.3 x h),
 )
 
@@ -36,5 +36,5 @@ returns-clause-knows g c =
     none_left c.loop-next.seats.items c.loop-next.gatherer.me.0 gone x
     (c.loop-next.invariant.3 x
     (⊎_elim (λ a. inl a)
-    (λ b. inr (subst (λ z. Has z x) (sym (ap (λ m. m.0) c.taken-gatherer.ensures.knows)) (subst (λ z. Has (first.part ∷ []) z) b here)))
+    (λ b. inr (subst (λ z. Has z x) (sym (ap (λ m. m.0) c.take_token-gatherer.ensures.knows)) (subst (λ z. Has (first.part ∷ []) z) b here)))
     (has_last c.args.seats.items c.pop.new.self.items first c.in-Some.ensures.items x h)))

@@ -23,5 +23,5 @@ store-requires g c = (
       c.args.seat.now.me.0) c.exchange.new.seat.me c.args.packet (search rules) c.requires.may,
 )
 
-pub returns-then-found-ne0-clause-posted : goal.returns-then-found-ne0-clause-posted
-returns-then-found-ne0-clause-posted g c = search rules
+pub returns-then-found-ne-EMPTY-clause-posted : goal.returns-then-found-ne-EMPTY-clause-posted
+returns-then-found-ne-EMPTY-clause-posted g c = search rules

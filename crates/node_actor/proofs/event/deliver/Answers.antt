@@ -9,8 +9,8 @@ returns-then-not-is_for-clause-acts g c =
     acts_by _ _ _ _ _ _ _ None c.args.parts.now c.args.seat.now _ c.pass.result
     (none_in _ _ _ c.args.parts.now c.args.packet c.requires.sound (sym c.is_for.ensures ∙ off)) c.pass.ensures.acts
 
-pub event-done-requires-clause-own : goal.event-done-requires-clause-own
-event-done-requires-clause-own g c = λ fresh.
+pub make_event-done-requires-clause-own : goal.make_event-done-requires-clause-own
+make_event-done-requires-clause-own g c = λ fresh.
     let on : c.is_for.result ≡ true = search rules in
     plans_own _ _ _ c.args.parts.now (Deliver c.args.packet) c.requires.sound fresh
     (addressed c.args.parts.now c.args.packet (sym c.is_for.ensures ∙ on)) refl (λ up. up)
@@ -18,5 +18,5 @@ event-done-requires-clause-own g c = λ fresh.
 pub returns-clause-acts : goal.returns-clause-acts
 returns-clause-acts g c =
     let on : c.is_for.result ≡ true = search rules in
-    acts_by _ _ _ _ _ _ _ (Some (Deliver c.args.packet)) c.args.parts.now c.args.seat.now _ c.event-done.result
-    (event_in _ _ _ c.args.parts.now c.args.packet c.requires.sound (sym c.is_for.ensures ∙ on)) c.event-done.ensures.acts
+    acts_by _ _ _ _ _ _ _ (Some (Deliver c.args.packet)) c.args.parts.now c.args.seat.now _ c.make_event-done.result
+    (event_in _ _ _ c.args.parts.now c.args.packet c.requires.sound (sym c.is_for.ensures ∙ on)) c.make_event-done.ensures.acts

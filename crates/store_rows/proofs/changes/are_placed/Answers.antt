@@ -9,7 +9,7 @@ use Rattle.store_rows.specs.Changes.{is_placed}
 use Rattle.store_rows.proofs.changes.are_placed.Goals as goal
 use Rattle.store_rows.proofs.changes.are_placed.Goals.{then-not-is_ballot-via-then-not-is_ballot, then-not-is_ballot-via-else-not-is_ballot+then-not-is_promised}
 
--- one vote, and those behind it
+-- one vote, and those after it
 placed : {B : Type 0} (promised : Option Ballot) (votes : List (Vote B)) (i : ℕ) (v : Vote B) → i < length votes → v ≡ get_or votes i v
     → list_all (is_placed promised) (drop i votes) ≡ list_all (is_placed promised) votes → (b : Bool) → is_placed promised v ≡ b
     → (b && list_all (is_placed promised) (drop (i + 1) votes)) ≡ list_all (is_placed promised) votes

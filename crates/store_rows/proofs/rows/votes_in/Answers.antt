@@ -14,7 +14,7 @@ use Rattle.store_rows.proofs.rows.votes_in.Goals as goal
 
 module _ {B : Type 0} (reading : List ℕ → Reading B) (promised : Option Ballot) (votes : List (Vote B)) (left : List Row) (row : Row) (rows items : List Row)
     (split : left ≡ row ∷ rows) (was : votes_after reading promised votes left ≡ votes_after reading promised [] items) where
-  -- a row that is put, and those behind it
+  -- a row that is put, and those after it
   behind : (more : List (Vote B)) → option_and_then (with_row promised votes) (vote_of reading row) ≡ Some more
       → votes_after reading promised more rows ≡ votes_after reading promised [] items
   behind more put =

@@ -4,8 +4,8 @@ use Rattle.node_actor.specs.Calls.{is_own}
 use Rattle.node_actor.proofs.Viewing.{plans_event, owned_event, acts_seen}
 use Rattle.node_actor.proofs.actor.Actor.event.Goals as goal
 
-pub event-requires-clause-own : goal.event-requires-clause-own
-event-requires-clause-own g c = λ fresh.
+pub make_event-requires-clause-own : goal.make_event-requires-clause-own
+make_event-requires-clause-own g c = λ fresh.
     plans_event _ _ _ c.self.inside.parts c.args.event.now c.self.invariant.0 fresh
     (subst (λ (a : Acting g.row.M-Body.Denot g.row.M.Denot g.row.K.Denot). is_own a.node.me c.args.event.now ≡ true) (sym c.self.view_is)
     c.requires.own)
@@ -16,4 +16,4 @@ returns-clause-acts g c =
     subst (λ (a : Acting g.row.M-Body.Denot g.row.M.Denot g.row.K.Denot). is_own a.node.me c.args.event.now ≡ true) (sym c.self.view_is)
     c.requires.own in
     acts_seen _ _ _ _ _ _ (λ me members. Some c.args.event.now) (Some c.args.event.now) c.self.inside.parts c.self.inside.seat _ _ _ refl
-    (owned_event c.self.inside.parts.node.me c.args.event.now own).2 c.self.view_is c.event.ensures.acts
+    (owned_event c.self.inside.parts.node.me c.args.event.now own).2 c.self.view_is c.make_event.ensures.acts

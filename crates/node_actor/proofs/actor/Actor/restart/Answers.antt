@@ -1,8 +1,8 @@
 use Rattle.std.proofs.Common.{subst}
 use Rattle.replica_machine.specs.Log.{machine_from, Follows}
 use Rattle.actor_parts.specs.Parts.{Parted}
-use Rattle.actor_posts.proofs.Restarting.{exact_of, starts_of}
-use Rattle.actor_posts.proofs.Sound.{sound_first}
+use Rattle.node_actor.proofs.Restarting.{exact_of, starts_of}
+use Rattle.node_actor.proofs.Sound.{sound_first}
 use Rattle.node_actor.specs.Restarts.{Opens}
 use Rattle.node_actor.proofs.Opening.{seated_first, opens_first, resumes_of}
 use Rattle.node_actor.proofs.actor.Actor.restart.Goals as goal

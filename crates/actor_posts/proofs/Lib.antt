@@ -1,4 +1,0 @@
-pub mod Renewing
-pub mod Booting
-pub mod Restarting
-pub mod Sound

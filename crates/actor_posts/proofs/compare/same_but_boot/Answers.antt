@@ -1,5 +1,0 @@
-use Rattle.std.proofs.Common.{rules}
-use Rattle.actor_posts.proofs.compare.same_but_boot.Goals as goal
-
-pub returns-then-same_promise : goal.returns-then-same_promise
-returns-then-same_promise g c = search rules

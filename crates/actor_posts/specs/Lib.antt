@@ -1,4 +1,0 @@
-pub mod Compare
-pub mod Posts
-pub mod Beginning
-pub mod Restarts

@@ -1,0 +1,62 @@
+use Rattle.std.proofs.Common.{◌≡◌, false, rules}
+use Rattle.paxos_node.specs.Adopting.{Planned}
+use Rattle.paxos_node.specs.Events.{outcome_of, is_round_refused, is_full_refused}
+use Rattle.paxos_node.specs.declared.fault.NodeFault.TheVariants as node_fault
+use Rattle.node_actor.proofs.Seating.{seated_spoiled}
+use Rattle.node_actor.proofs.Viewing.{acts_of, disagree_acts, memory_acts, follows_plan, shorts, told_disagree, told_memory}
+use Rattle.node_actor.proofs.event.make_event.Goals as goal
+
+pub carry_out-requires-clause-plan : goal.carry_out-requires-clause-plan
+carry_out-requires-clause-plan g c =
+    let fresh : c.args.parts.now.spoiled ≡ false = search rules in
+    record { event = c.args.event.now; plans = c.requires.own fresh; planned = c.in-Ok.ensures.planned.3 }
+
+pub carry_out-requires-clause-follows : goal.carry_out-requires-clause-follows
+carry_out-requires-clause-follows g c =
+    let fresh : c.args.parts.now.spoiled ≡ false = search rules in
+    follows_plan g.M.Body.Body.same c.args.event.now c.in-Ok.outcome c.args.parts.now c.args.seat.now (c.requires.own fresh)
+    c.in-Ok.ensures.planned.3
+    c.requires.seated c.requires.received
+
+pub returns-in-Ok-clause-acts : goal.returns-in-Ok-clause-acts
+returns-in-Ok-clause-acts g c = λ view reach.
+    let fresh : c.args.parts.now.spoiled ≡ false = search rules in
+    let p = c.in-Ok.ensures.planned in
+    acts_of _ _ _ _ _ _ _ c.args.event.now c.in-Ok.outcome c.args.parts.now c.carry_out.new.parts view c.args.seat.now c.carry_out.new.seat
+    c.requires.sound
+    c.requires.seated c.carry_out.ensures.seated reach (c.requires.own fresh) p.3 p.0 p.1 fresh
+    (shorts _ _ _ c.args.parts.now c.requires.sound c.limits.ensures) c.carry_out.result c.carry_out.ensures.did
+
+pub returns-in-Err-Disagree-clause-seated : goal.returns-in-Err-Disagree-clause-seated
+returns-in-Err-Disagree-clause-seated g c =
+    rw c.spoil.ensures (seated_spoiled g.M.Body.Body.same c.args.parts.now c.args.seat.now c.requires.seated)
+
+pub returns-in-Err-Disagree-clause-acts : goal.returns-in-Err-Disagree-clause-acts
+returns-in-Err-Disagree-clause-acts g c = λ view reach.
+    let fresh : c.args.parts.now.spoiled ≡ false = search rules in
+    let fault : c.in-Err-Disagree.field-0 ≡ node_fault.Disagree = search rules in
+    let refused = told_disagree (is_round_refused c.args.event.now c.args.parts.now.node.state)
+    (is_full_refused g.M.Body.Body.same c.args.event.now c.args.parts.now.node.state)
+    (outcome_of g.M.Body.Body.same c.args.parts.now.node.members c.args.event.now c.args.parts.now.node.state).disagrees
+    (λ outcome. Planned g.M.Body.Body.same c.args.parts.now.node.members c.args.event.now c.args.parts.now.node.state outcome)
+    c.in-Err-Disagree.field-0 fault c.in-Err-Disagree.ensures.planned in
+    rw c.spoil.ensures (disagree_acts g.M.Body.Body.same _ _ _ _ _ g.K.Keeper.is_failed c.args.event.now c.args.parts.now view
+    c.args.seat.now c.requires.seated reach fresh
+    (c.requires.sound.serves fresh) (seated_spoiled g.M.Body.Body.same c.args.parts.now c.args.seat.now c.requires.seated) refused)
+
+pub returns-in-Err-Memory-clause-seated : goal.returns-in-Err-Memory-clause-seated
+returns-in-Err-Memory-clause-seated g c =
+    rw c.spoil-in-Err-Memory.ensures (seated_spoiled g.M.Body.Body.same c.args.parts.now c.args.seat.now c.requires.seated)
+
+pub returns-in-Err-Memory-clause-acts : goal.returns-in-Err-Memory-clause-acts
+returns-in-Err-Memory-clause-acts g c = λ view reach.
+    let fresh : c.args.parts.now.spoiled ≡ false = search rules in
+    let fault : c.in-Err-Memory.field-0 ≡ node_fault.Memory = search rules in
+    let refused = told_memory (is_round_refused c.args.event.now c.args.parts.now.node.state)
+    (is_full_refused g.M.Body.Body.same c.args.event.now c.args.parts.now.node.state)
+    (outcome_of g.M.Body.Body.same c.args.parts.now.node.members c.args.event.now c.args.parts.now.node.state).disagrees
+    (λ outcome. Planned g.M.Body.Body.same c.args.parts.now.node.members c.args.event.now c.args.parts.now.node.state outcome)
+    c.in-Err-Memory.field-0 fault c.in-Err-Memory.ensures.planned in
+    rw c.spoil-in-Err-Memory.ensures (memory_acts g.M.Body.Body.same _ _ _ _ _ g.K.Keeper.is_failed c.args.event.now c.args.parts.now view
+    c.args.seat.now c.requires.seated reach fresh
+    (c.requires.sound.serves fresh) (seated_spoiled g.M.Body.Body.same c.args.parts.now c.args.seat.now c.requires.seated) refused)

@@ -1,0 +1,143 @@
+-- What a restart is among the events of the core, and why one is refused (docs/CONSENSUS.md, "A node with its store").
+use Rattle.std.specs.Prelude.{◌≡◌, ◌<◌, ◌≤◌, ◌^◌, ℕ, zero, suc, ◌-◌, nat_lt, Bool, true, false, Result, Ok, Err, Some, None, List, []}
+use Rattle.std.specs.Prelude.{◌∷◌, if◌then◌else◌}
+use Rattle.paxos_packets.specs.Rows.{raised}
+use Rattle.paxos_packets.specs.declared.rows.Rows.{Rows}
+use Rattle.paxos_acceptor.specs.Acceptor as accepting
+use Rattle.store_keeper.specs.Keeper.{FindsNoMore, FindsOr}
+use Rattle.store_keeper.specs.declared.fault.KeeperFault.{KeeperFault}
+use Rattle.store_keeper.specs.declared.fault.KeeperFault.TheVariants as store
+use Rattle.paxos_node.specs.Adopting.{Planned}
+use Rattle.paxos_node.specs.Events.{possible, outcome_of}
+use Rattle.paxos_node.specs.Plans.{plans}
+use Rattle.paxos_node.specs.View.{Viewed, moved}
+use Rattle.paxos_node.specs.declared.event.Event.{Event}
+use Rattle.paxos_node.specs.declared.event.Event.TheVariants.{Crash, Restart}
+use Rattle.paxos_node.specs.declared.outcome.Outcome.{Outcome}
+use Rattle.paxos_planning.specs.Node.{NodeState}
+use Rattle.mail_table.specs.Seats.{Seated}
+use Rattle.actor_parts.specs.declared.fault.ActorFault.{ActorFault}
+use Rattle.actor_parts.specs.declared.fault.ActorFault.TheVariants.{Keeper, Worn, Memory}
+use Rattle.node_actor.specs.Compare.{fit_of}
+use Rattle.node_actor.specs.declared.compare.Fit.{Fit}
+use Rattle.node_actor.specs.declared.compare.Fit.TheVariants.{Left, Meant, Others}
+use Rattle.node_actor.specs.Posts.{Posted}
+use Rattle.node_actor.specs.Beginning.{Starts, NoDamage, Boots, MayBegin, IsEmpty}
+use Rattle.node_actor.specs.declared.preparing.Ready.{Ready}
+
+-- the rows this many boots on
+abbrev pub raises : {B : Type 0} → ℕ → Rows B → Rows B
+raises zero r = r
+raises (suc d) r = raised (raises d r)
+
+-- this many boots that came to nothing, and then one
+abbrev pub restarts : {B : Type 0} → ℕ → ℕ → List (Event B)
+restarts me zero = Restart me ∷ []
+restarts me (suc d) = Restart me ∷ (Crash me ∷ restarts me d)
+
+-- the same of a node that may be up yet
+abbrev pub comes_back : {B : Type 0} → ℕ → Bool → ℕ → List (Event B)
+comes_back me up d = if up then Crash me ∷ restarts me d else restarts me d
+
+-- a view goes on by events, each of which is possible
+abbrev pub moved_by_all : {B : Type 0} → (B → B → Bool) → ℕ → List (Event B) → Viewed B → Viewed B
+moved_by_all same members [] s = s
+moved_by_all same members (e ∷ es) s =
+    moved_by_all same members es (moved (outcome_of same members e s.node).node (outcome_of same members e s.node).packets s)
+
+abbrev pub ArePossible : {B : Type 0} → (B → B → Bool) → ℕ → List (Event B) → NodeState B → Type 0
+ArePossible same members [] x = Unit {0}
+ArePossible same members (e ∷ es) x = (possible e x ≡ true) × ArePossible same members es (outcome_of same members e x).node
+
+-- the store's rows are those of the post, or those after its outcome, apart from `d` boots more; then the view goes on by the event whose
+-- commit had failed, if they are the second, by a Crash if its node is up, by a Restart and a Crash for each boot more, and by a Restart
+pub data ComesBack {B : Type 0} (same : B → B → Bool) (p : Posted B) (x : NodeState B) (r : Rows B) : List (Event B) → Type 0 where
+  as_left : (d : ℕ) → r ≡ raises d x.rows → ComesBack same p x r (comes_back p.me x.up d)
+  as_meant : (d : ℕ) (o : Outcome B) (e : Event B) → p.failed ≡ Some o → plans p.me e x ≡ true → Planned same p.members e x o
+      → r ≡ raises d (accepting.adopted x.rows o.change)
+      → ComesBack same p x r (e ∷ comes_back p.me (outcome_of same p.members e x).node.up d)
+
+-- so the seat goes on from one view to the next, and exchanges no packet meanwhile
+pub record Returns {B : Type 0} (same : B → B → Bool) (p : Posted B) (r : Rows B) (v w : Seated B) : Type 0 where
+  pub events : List (Event B)
+  pub comes : ComesBack same p v.part.seen.node r events
+  pub possible : ArePossible same p.members events v.part.seen.node
+  pub moved : w.part.seen ≡ moved_by_all same p.members events v.part.seen
+  pub me : w.part.me ≡ v.part.me
+  pub members : w.members ≡ v.members
+  pub posted : w.part.posted ≡ v.part.posted
+  pub received : w.part.received ≡ v.part.received
+
+-- the node was opened, and its store has rows that it may not find again
+abbrev pub HasOthers : {B : Type 0} → (B → B → Bool) → Posted B → Rows B → Type 0
+HasOthers {B} same p r = (k : Rows B) × (p.rows ≡ Some k) × (fit_of same p.failed k r ≡ Others)
+
+-- whether the failed event's step comes first; else the store has other rows, or the node's word does not count the events that are to come
+abbrev pub judge_of : {Y : Type 0} → Fit → ℕ → Result Bool (ActorFault Y)
+judge_of Others n = Err (Keeper store.Damaged)
+judge_of Left n = if nat_lt n (2 ^ 62) then Ok false else Err Worn
+judge_of Meant n = if nat_lt n (2 ^ 62 - 1) then Ok true else Err Worn
+
+-- why a post did not go on
+module _ {B K : Type 0} (same : B → B → Bool) (holds finds : K → Rows B → Type 0) (is_faithful : K → Type 0) (failures : K → ℕ) where
+  -- no boot was begun: the store holds what it held, and finds nothing more
+  pub record Stays (old new : K) : Type 0 where
+    pub same_rows : (r : Rows B) → holds old r → holds new r
+    pub found : FindsNoMore finds old new
+    pub counted : failures old ≤ failures new
+
+  -- nor by a load that gave these rows: the store's, if what lies below returned what was written
+  pub record Loads (old mid : K) (rows : Rows B) : Type 0 where
+    pub stays : Stays old mid
+    pub held : holds mid rows
+    pub right : is_faithful mid → (r : Rows B) → holds old r → rows ≡ r
+
+  -- the node was never opened, or a load gave these rows, which it may find again
+  pub data Fits (p : Posted B) (old mid : K) : Type 0 where
+    anew : p.rows ≡ None → mid ≡ old → Fits p old mid
+    again : (k r : Rows B) → p.rows ≡ Some k → Loads old mid r → (fit_of same p.failed k r ≡ Others → ⊥) → Fits p old mid
+
+  -- it has the rows that were left, or those that the failed commit was to leave, and its word counts the events that are to come
+  pub data Found (p : Posted B) (old new : K) (r : Rows B) (meant : Bool) : Type 0 where
+    found_left : (k : Rows B) → p.rows ≡ Some k → Loads old new r → fit_of same p.failed k r ≡ Left → meant ≡ false
+        → p.seat.part.events < 2 ^ 62
+        → Found p old new r meant
+    found_meant : (k : Rows B) → p.rows ≡ Some k → Loads old new r → fit_of same p.failed k r ≡ Meant → meant ≡ true
+        → suc p.seat.part.events < 2 ^ 62
+        → Found p old new r meant
+
+  -- the word of the node counts no event more, or not the two that the failed event and the renewal are
+  pub data IsWorn (p : Posted B) (old new : K) : Type 0 where
+    worn_first : p.rows ≡ None → new ≡ old → 2 ^ 62 ≤ p.seat.part.events → IsWorn p old new
+    worn_left : (k r : Rows B) → p.rows ≡ Some k → Loads old new r → fit_of same p.failed k r ≡ Left → 2 ^ 62 ≤ p.seat.part.events
+        → IsWorn p old new
+    worn_meant : (k r : Rows B) → p.rows ≡ Some k → Loads old new r → fit_of same p.failed k r ≡ Meant → 2 ^ 62 ≤ suc p.seat.part.events
+        → IsWorn p old new
+
+  -- the load failed; the rows are others; there was no memory to compare them; the word is worn; the boot did not begin; or it gave other
+  -- rows than the load, as it never does if what lies below returned what was written
+  pub data Refuses {Y : Type 0} (p : Posted B) (old new : K) : ActorFault Y → Type 0 where
+    unread : (f : KeeperFault) → Stays old new → (f ≡ store.Store → failures old < failures new)
+        → (is_faithful new → (r : Rows B) → holds old r → f ≡ store.Damaged → ⊥)
+        → Refuses p old new (Keeper f)
+    others : (k r : Rows B) → p.rows ≡ Some k → Loads old new r → fit_of same p.failed k r ≡ Others
+        → Refuses p old new (Keeper store.Damaged)
+    unjudged : (r : Rows B) → Loads old new r → Refuses p old new Memory
+    worn : IsWorn p old new → Refuses p old new Worn
+    unbooted : (f : ActorFault Y) (mid : K) → Fits p old mid → Starts holds finds failures mid new f → NoDamage holds is_faithful mid new f
+        → Refuses p old new f
+    strayed : (mid : K) → Fits p old mid → (is_faithful new → ⊥) → Starts {Y = Y} holds finds failures mid new (Keeper store.Damaged)
+        → Refuses p old new (Keeper store.Damaged)
+
+-- a boot is ready to be taken over: the rows and the empty outboxes that it begins with, and how it came to them
+module _ {B K : Type 0} (same : B → B → Bool) (holds finds : K → Rows B → Type 0) (is_faithful : K → Type 0) (is_failed : K → Bool)
+    (failures : K → ℕ) where
+  pub record Readied (p : Posted B) (old new : K) (r : Ready B) : Type 0 where
+    pub mid : K
+    pub fits : Fits same holds finds is_faithful failures p old mid
+    pub found : (x : Rows B) → holds mid x → FindsOr finds mid new (raised x)
+    pub faithful : is_faithful new → is_faithful mid
+    pub boots : Boots holds is_faithful old new r.rows
+    pub may : MayBegin p r.rows r.meant
+    pub whole : is_failed new ≡ false
+    pub empty : IsEmpty p.me p.members r.outboxes

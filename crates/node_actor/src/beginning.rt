@@ -1,0 +1,96 @@
+ghost use Rattle.std.specs.Prelude.{◌≡◌, IfOk, IfErr};
+ghost use Rattle.mail_table.specs.Seats.{Owns};
+ghost use Rattle.paxos_packets.specs.Rows.{last_boot};
+ghost use Rattle.std.specs.Prelude.{◌≤◌, None, Some};
+ghost use Rattle.node_actor.specs.Posts.{IsLeft, renewed};
+ghost use Rattle.node_actor.specs.Beginning.{Begins, IsNodeOf, Leaves, MayBegin, seat_before};
+ghost use Rattle.node_actor.specs.Preparing.{Refuses};
+
+use crate::post::Post;
+use crate::preparing::{Ready, prepare};
+use crate::resuming::take_seat;
+use actor_outboxes::Outboxes;
+use actor_parts::ActorFault;
+use mail_table::{Mail, NodeSeat};
+use paxos_node::Node;
+use paxos_packets::Body;
+use std::alloc::Global;
+use store_keeper::Keeper;
+
+// A node that has just begun: the node, its outboxes, in which nothing waits, and its seat at the table.
+#[derive(Drop)]
+pub(crate) struct Begun<B: Body> {
+    pub(crate) node: Node<B>,
+    pub(crate) outboxes: Outboxes<B>,
+    pub(crate) seat: NodeSeat<B>,
+}
+
+// Begins a boot of the node from what is left of it, with its store opened again. Opens the node if it was never opened; otherwise goes on
+// from its rows, or from those that a failed commit was to leave, whose event's step it takes first.
+//
+// After a fault the post is handed back, and serves again. `KeeperFault::Damaged` if the store has other rows, and never otherwise if it
+// returns what was written; no boot is begun then. `Worn` if the node's word cannot count more events; no boot is begun then, either.
+pub(crate) fn begin<B: Body, K: Keeper<B>, Y: Drop>(
+    alloc: Global,
+    mail: &Mail<B>,
+    post: Post<B>,
+    keeper: &mut K,
+) -> Result<Begun<B>, (ActorFault<Y>, Post<B>)>
+    requires owned { Owns mail.now post.seat }
+    ensures ok { IfOk result (λ begun.
+        Begins K.holds K.is_faithful K.is_failed post keeper.old keeper.new begun.node begun.outboxes begun.seat) }
+    ensures refuses { IfErr result (λ e. Refuses B.same K.holds K.finds K.is_faithful K.failures post keeper.old keeper.new e.0) }
+    ensures leaves { IfErr result (λ e. Leaves K.holds K.is_faithful post keeper.old keeper.new e.1 e.0) }
+    ensures owned { IfOk result (λ begun. Owns mail.now begun.seat) }
+    ensures still_owned { IfErr result (λ e. Owns mail.now e.1.seat) }
+    ensures left { IsLeft B.same post }
+{
+    match prepare(alloc, &post, keeper) {
+        Err(fault) => Err((fault, post)),
+        Ok(ready) => match sit(alloc, mail, post, ready) {
+            Err(post) => Err((ActorFault::Memory, post)),
+            Ok(begun) => Ok(begun),
+        },
+    }
+}
+
+// Returns the node and its seat, after the boot. If memory runs out, returns the post, which is one of the new boot.
+fn sit<B: Body>(
+    alloc: Global,
+    mail: &Mail<B>,
+    post: Post<B>,
+    ready: Ready<B>,
+) -> Result<Begun<B>, Post<B>>
+    requires owned { Owns mail.now post.seat }
+    requires may { MayBegin post ready.rows ready.meant }
+    requires within { ready.rows.boot ≤ last_boot }
+    ensures node { IfOk result (λ begun. IsNodeOf post.me post.members ready.rows begun.node) }
+    ensures outboxes { IfOk result (λ begun. begun.outboxes ≡ ready.outboxes) }
+    ensures seat { IfOk result (λ begun. begun.seat ≡ renewed ready.rows (seat_before ready.meant post.failed post.seat)) }
+    ensures owned { IfOk result (λ begun. Owns mail.now begun.seat) }
+    ensures left { IfErr result (λ left. left ≡ record {
+      me = post.me;
+      members = post.members;
+      rows = Some ready.rows;
+      failed = None;
+      seat = renewed ready.rows (seat_before ready.meant post.failed post.seat);
+    }) }
+    ensures still_owned { IfErr result (λ left. Owns mail.now left.seat) }
+{
+    let me = post.me();
+    let members = post.members();
+    let Ready {
+        rows,
+        outboxes,
+        meant,
+    } = ready;
+    let seat = take_seat(mail, post, meant, &rows);
+    match Node::begin(alloc, me, members, rows) {
+        Ok(node) => Ok(Begun {
+            node,
+            outboxes,
+            seat,
+        }),
+        Err(rows) => Err(Post::of(me, members, Some(rows), None, seat)),
+    }
+}

@@ -1,0 +1,163 @@
+ghost use Rattle.std.specs.Prelude.{◌≡◌, None, Some, Ok, Err, false, IfOk, IfErr};
+ghost use Rattle.store_keeper.specs.Keeper.{FindsOr};
+ghost use Rattle.paxos_packets.specs.Rows.{raised};
+ghost use Rattle.paxos_packets.specs.declared.rows.Rows.{Rows};
+ghost use Rattle.node_actor.specs.Beginning.{Boots, IsEmpty, NoDamage, Starts};
+ghost use Rattle.node_actor.specs.Preparing.{judge_of, Found, Readied, Refuses};
+
+use crate::compare::{Fit, fit_of, is_later};
+use crate::post::Post;
+use actor_outboxes::Outboxes;
+use actor_parts::ActorFault;
+use mail_table::MOST_EVENTS;
+use paxos_packets::{Body, Members, Rows};
+use std::alloc::Global;
+use store_keeper::{Keeper, KeeperFault};
+
+// What a node begins with: the rows of its new boot, empty outboxes, and whether the step of the event whose commit failed comes first.
+#[derive(Drop)]
+pub(crate) struct Ready<B> {
+    pub(crate) rows: Rows<B>,
+    pub(crate) outboxes: Outboxes<B>,
+    pub(crate) meant: bool,
+}
+
+// Begins a boot, if the store has rows that the post may find.
+pub(crate) fn prepare<B: Body, K: Keeper<B>, Y: Drop>(
+    alloc: Global,
+    post: &Post<B>,
+    keeper: &mut K,
+) -> Result<Ready<B>, ActorFault<Y>>
+    ensures ok { IfOk result (Readied B.same K.holds K.finds K.is_faithful K.is_failed K.failures post.now keeper.old keeper.new) }
+    ensures err { IfErr result (Refuses B.same K.holds K.finds K.is_faithful K.failures post.now keeper.old keeper.new) }
+{
+    match post.rows() {
+        None => prepare_first(alloc, post, keeper),
+        Some(kept) => prepare_again(alloc, post, kept, keeper),
+    }
+}
+
+// Begins a boot of a node that was never opened.
+fn prepare_first<B: Body, K: Keeper<B>, Y: Drop>(
+    alloc: Global,
+    post: &Post<B>,
+    keeper: &mut K,
+) -> Result<Ready<B>, ActorFault<Y>>
+    requires { post.now.rows ≡ None }
+    ensures ok { IfOk result (Readied B.same K.holds K.finds K.is_faithful K.is_failed K.failures post.now keeper.old keeper.new) }
+    ensures err { IfErr result (Refuses B.same K.holds K.finds K.is_faithful K.failures post.now keeper.old keeper.new) }
+{
+    if post.events() >= MOST_EVENTS {
+        return Err(ActorFault::Worn);
+    }
+    let (rows, outboxes) = boot_up(alloc, post.me(), post.members(), keeper)?;
+    Ok(Ready {
+        rows,
+        outboxes,
+        meant: false,
+    })
+}
+
+// Begins a boot of a node that was opened, and had these rows.
+fn prepare_again<B: Body, K: Keeper<B>, Y: Drop>(
+    alloc: Global,
+    post: &Post<B>,
+    kept: &Rows<B>,
+    keeper: &mut K,
+) -> Result<Ready<B>, ActorFault<Y>>
+    requires { post.now.rows ≡ Some kept.now }
+    ensures ok { IfOk result (Readied B.same K.holds K.finds K.is_faithful K.is_failed K.failures post.now keeper.old keeper.new) }
+    ensures err { IfErr result (Refuses B.same K.holds K.finds K.is_faithful K.failures post.now keeper.old keeper.new) }
+{
+    let (found, meant) = find_again(alloc, post, kept, keeper)?;
+    let (rows, outboxes) = boot_up(alloc, post.me(), post.members(), keeper)?;
+    if !is_later(&found, &rows) {
+        return Err(ActorFault::Keeper(KeeperFault::Damaged));
+    }
+    Ok(Ready {
+        rows,
+        outboxes,
+        meant,
+    })
+}
+
+// Loads the rows of the store. Returns them, and whether they are those that the failed commit was to leave.
+fn find_again<B: Body, K: Keeper<B>, Y: Drop>(
+    alloc: Global,
+    post: &Post<B>,
+    kept: &Rows<B>,
+    keeper: &mut K,
+) -> Result<(Rows<B>, bool), ActorFault<Y>>
+    requires { post.now.rows ≡ Some kept.now }
+    ensures ok { IfOk result (λ it. Found B.same K.holds K.finds K.is_faithful K.failures post.now keeper.old keeper.new it.0 it.1) }
+    ensures err { IfErr result (Refuses B.same K.holds K.finds K.is_faithful K.failures post.now keeper.old keeper.new) }
+{
+    let rows = match keeper.load() {
+        Ok(rows) => rows,
+        Err(fault) => return Err(ActorFault::Keeper(fault)),
+    };
+    match fit_of(alloc, post.failed(), kept, &rows) {
+        Err(_) => Err(ActorFault::Memory),
+        Ok(fit) => judged(fit, post.events(), rows),
+    }
+}
+
+// Returns the rows, if the node may go on from them, and its word can count the events that are to come.
+fn judged<B: Drop, Y: Drop>(
+    fit: Fit,
+    events: u64,
+    rows: Rows<B>,
+) -> Result<(Rows<B>, bool), ActorFault<Y>>
+    ensures ok { IfOk result (λ it. (it.0 ≡ rows) × (judge_of {Y = Y} fit events ≡ Ok it.1)) }
+    ensures err { IfErr result (λ fault. judge_of fit events ≡ Err fault) }
+{
+    let meant = judge(fit, events)?;
+    Ok((rows, meant))
+}
+
+// Returns whether the step of the event whose commit failed comes first.
+fn judge<Y: Drop>(fit: Fit, events: u64) -> Result<bool, ActorFault<Y>>
+    ensures { result ≡ judge_of fit events }
+{
+    match fit {
+        Fit::Others => Err(ActorFault::Keeper(KeeperFault::Damaged)),
+        Fit::Left => {
+            if events < MOST_EVENTS {
+                Ok(false)
+            } else {
+                Err(ActorFault::Worn)
+            }
+        }
+        Fit::Meant => {
+            if events < MOST_EVENTS - 1 {
+                Ok(true)
+            } else {
+                Err(ActorFault::Worn)
+            }
+        }
+    }
+}
+
+// Creates empty outboxes, and begins a boot of the store. Returns its rows, and the outboxes.
+fn boot_up<B: Body, K: Keeper<B>, Y: Drop>(
+    alloc: Global,
+    me: u8,
+    members: Members,
+    keeper: &mut K,
+) -> Result<(Rows<B>, Outboxes<B>), ActorFault<Y>>
+    ensures boots { IfOk result (λ up. Boots K.holds K.is_faithful keeper.old keeper.new up.0) }
+    ensures whole { IfOk result (λ up. K.is_failed keeper.new ≡ false) }
+    ensures empty { IfOk result (λ up. IsEmpty me members up.1) }
+    ensures starts { IfErr result (λ fault. Starts K.holds K.finds K.failures keeper.old keeper.new fault) }
+    ensures sound { IfErr result (λ fault. NoDamage K.holds K.is_faithful keeper.old keeper.new fault) }
+    ensures found { (r : Rows B) → K.holds keeper.old r → FindsOr K.finds keeper.old keeper.new (raised r) }
+    ensures faithful { K.is_faithful keeper.new → K.is_faithful keeper.old }
+{
+    let Ok(outboxes) = Outboxes::new(alloc, me, members) else {
+        return Err(ActorFault::Memory);
+    };
+    match keeper.boot() {
+        Err(fault) => Err(ActorFault::Keeper(fault)),
+        Ok(rows) => Ok((rows, outboxes)),
+    }
+}
