@@ -1,4 +1,4 @@
--- A test that tells whether two reads are equal is the test of specs/.
+-- A test of whether two reads are equal is the test of specs/.
 use Rattle.std.proofs.Common.{◌≡◌, Bool, true, subst}
 use Rattle.std.specs.Prelude.{IsTrue, ◌↔◌}
 use Rattle.std.specs.Bool.{Decides}

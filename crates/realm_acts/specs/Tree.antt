@@ -1,4 +1,4 @@
--- Equality of values of any type whose values are told apart by a tree of numbers: two are the same where their trees are.
+-- Equality of values of any type whose values a tree of numbers distinguishes: two are equal if their trees are.
 use Rattle.std.proofs.Common.{◌≡◌, ℕ, Bool, true, false, ◌&&◌, eqb, eq-eqb, refl, ap, ap₂}
 use Rattle.std.proofs.lemmas.Bool.{eqb-true, and_parts, and_from}
 use Rattle.std.specs.Prelude.{◌==◌}

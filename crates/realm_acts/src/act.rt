@@ -6,7 +6,7 @@ use std::alloc::Global;
 use wamp_ids::Id;
 use wamp_message_types::Read;
 
-/// What happens at one client's transport.
+/// An act: what happens at one client's transport.
 pub enum Act {
     /// The transport is open.
     Connect,
@@ -35,7 +35,7 @@ impl Body for Act {
 
     ghost same = { same_act };
 
-    /// An equal act, which shares what was read: constant time, whatever the message's length. Takes no memory.
+    /// Returns an equal act, which shares what was read: constant time, whatever the message's length. Does not allocate.
     fn copy(&self, _alloc: Global) -> Result<Act, Memory> {
         Ok(match self {
             Act::Connect => Act::Connect,
@@ -62,7 +62,7 @@ impl Body for Act {
     ghost sound = { act_is };
 }
 
-// Whether what was read is equal.
+// Returns whether what was read is equal.
 fn is_same_read(read: &Read, other: &Read) -> bool
     ensures { result ≡ same_read read.now other.now }
 {

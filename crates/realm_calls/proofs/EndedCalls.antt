@@ -10,7 +10,7 @@ use Rattle.realm_calls.specs.declared.calls.Open.{Open}
 use Rattle.realm_calls.specs.Calls.{Calls, is_call, is_invocation, has_invocation, answer_found, is_to, is_by, is_other, calls_by}
 use Rattle.realm_calls.specs.Laws.{AreOtherInvocations, AreSoundCalls, AnsweredOnce, EndedIsGone, LeavingEndsAll, LeavingNamesAll}
 
--- where all that pass a test are taken out, none passes it
+-- if all that pass a test are taken out, none passes it
 gone : (test out : Open → Bool) (list : List Open) → All (λ call. test call ≡ true → out call ≡ true) list
     → list_any test (filter (λ call. not (out call)) list) ≡ false
 gone test out list passes =

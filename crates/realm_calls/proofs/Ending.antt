@@ -1,4 +1,4 @@
--- Calls that end one after the other: where no two share a caller and a request, each end takes out that one call.
+-- Calls that end one after the other: if no two share a caller and a request, each end takes out that one call.
 use Rattle.std.proofs.Common.{◌≡◌, ℕ, Bool, true, false, not, cond, List, [], ◌∷◌, ◌++◌, filter, refl, sym, ap, subst}
 use Rattle.std.proofs.Common.{◌∙◌, append_assoc}
 use Rattle.std.specs.List.{All}
@@ -59,7 +59,7 @@ all_step test kept call list false apart rest =
     ∙ rest (kept ++ call ∷ []) (subst AreApart (sym moved) apart)
     ∙ append_assoc kept (call ∷ []) others
 
--- where those that pass end, the others are left
+-- if those that pass end, the others are left
 pub ended_all : (test : Open → Bool) (list kept : List Open) → AreApart (kept ++ list)
     → end_all (kept ++ list) (filter test list) ≡ kept ++ filter (λ call. not (test call)) list
 ended_all test [] kept apart = refl

@@ -3,7 +3,7 @@ use Rattle.std.proofs.Common.{◌≡◌, ℕ, ◌+◌, ◌-◌, ◌==◌, Bool, 
 use Rattle.std.proofs.Common.{refl, sym, ap, ◌∙◌, arith, if◌then◌else◌, is_some, option_map}
 use Rattle.std.specs.List.{All}
 use Rattle.std.proofs.lemmas.Bool.{and_from, eq-eqb, false≢true}
-use Rattle.realm_lists.specs.Rows.{IsAbove, members, member_at, without, has_place}
+use Rattle.realm_lists.specs.OrderedList.{IsAbove, members, member_at, without, has_place}
 use Rattle.realm_lists.specs.Finding.{AreRising, Finds, IsIndex, is_passing}
 use Rattle.realm_lists.specs.PlaceIndex.{is_key, place_of, places_under}
 use Rattle.realm_lists.specs.Tally.{count_in}
@@ -117,7 +117,7 @@ indexed_without rows requests invocations new_requests new_invocations counts ne
           (count_without (λ (call : Open). call.caller == caller) place rows call there);
     }
 
--- a session's calls stand at the places under its number
+-- a session's calls are at the places under its number
 pub callers_are_under : (requests : List ((ℕ × ℕ) × ℕ)) (rows : List (ℕ × Open)) (session : ℕ) → Finds by_request (place_of requests) rows
     → All (λ (row : ℕ × Open). of_caller session row.1 ≡ true → has_place (places_under requests session) row.0 ≡ true) rows
 callers_are_under requests rows session finds k d within here =
@@ -129,6 +129,6 @@ pub callees_are_under : (invocations : List ((ℕ × ℕ) × ℕ)) (rows : List 
 callees_are_under invocations rows session finds k d within here =
     place_is_under invocations (session, _) _ (finds (session, _) k d within (and_from _ _ here (eq-eqb _ _ refl)))
 
--- what an index tells is there
+-- what an index gives is there
 pub nothing_untold : {T : Type 0} (test : T → Bool) (there : Option T) → is_passing test there ≡ true → there ≡ None → ⊥
 nothing_untold test there passes none = false≢true (sym (ap (is_passing test) none) ∙ passes)

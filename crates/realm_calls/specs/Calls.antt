@@ -1,5 +1,5 @@
--- Open calls in order of opening, and how they end (WAMP specification, "Remote Procedure Calls", "Call Canceling"; that only so
--- many may be open, and how they end with a session, is this profile's: docs/PROTOCOL.md, "The realm").
+-- Open calls in order of opening, and how they end (WAMP specification, "Remote Procedure Calls", "Call Canceling"; the limit of open
+-- calls, and how they end with a session, is this profile's: docs/PROTOCOL.md, "The realm").
 use Rattle.std.specs.Prelude.{ℕ, ◌==◌, Bool, true, false, not, ◌&&◌, nat_lt, List, ◌∷◌, [], ◌++◌, length, map, filter, find, Option}
 use Rattle.std.specs.Prelude.{None, Some, Result, Ok, Err, if◌then◌else◌}
 use Rattle.std.specs.List.{list_any}
@@ -11,7 +11,7 @@ use Rattle.realm_calls.specs.declared.calls.Open.{Open}
 use Rattle.realm_calls.specs.declared.calls.Cancelled.{Cancelled}
 
 pub record Calls : Type 0 where
-  -- so many of a caller may be open at a time
+  -- at most this many of a caller may be open at a time
   pub limit : ℕ
   -- the open calls in order of opening
   pub list : List Open
@@ -65,7 +65,7 @@ open_of list callee = map (λ (call : Open). call.invocation) (filter (λ (call 
 abbrev pub end : List Open → Open → List Open
 end list call = filter (λ other. not (is_call call.caller call.request other)) list
 
--- what becomes of the calls where one is answered, and which one it is
+-- what becomes of the calls when one is answered, and which one it is
 pub record AfterAnswer : Type 0 where
   pub calls : Calls
   pub answer : Result Open RealmFault
@@ -118,22 +118,22 @@ is_by session call = call.caller == session && not (call.callee == session)
 abbrev pub is_other : ℕ → Open → Bool
 is_other session call = not (call.caller == session) && not (call.callee == session)
 
--- the calls to a session by others, which end where it leaves as a callee
+-- the calls to a session by others, which end when it leaves as a callee
 abbrev pub calls_to : List Open → ℕ → List Open
 calls_to list session = filter (is_to session) list
 
--- the calls by a session to others, which end where it leaves as a caller
+-- the calls by a session to others, which end when it leaves as a caller
 abbrev pub calls_by : List Open → ℕ → List Open
 calls_by list session = filter (is_by session) list
 
--- what is left where a callee has left; a call to itself stays
+-- what is left after a callee has left; a call to itself stays
 abbrev pub without_callee : List Open → ℕ → List Open
 without_callee list session = filter (λ call. not (is_to session call)) list
 
--- what is left where a caller has left; a call to itself ends, too
+-- what is left after a caller has left; a call to itself ends, too
 abbrev pub without_caller : List Open → ℕ → List Open
 without_caller list session = filter (λ (call : Open). not (call.caller == session)) list
 
--- what is left where a session has left
+-- what is left after a session has left
 abbrev pub without_session : List Open → ℕ → List Open
 without_session list session = filter (is_other session) list

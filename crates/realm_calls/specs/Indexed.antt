@@ -1,6 +1,6 @@
 -- How open calls are kept, so that one is found without a walk over all.
 use Rattle.std.specs.Prelude.{◌≡◌, ℕ, ◌==◌, Bool, true, List, [], ◌∷◌, AllPairs}
-use Rattle.realm_lists.specs.Rows.{members}
+use Rattle.realm_lists.specs.OrderedList.{members}
 use Rattle.realm_lists.specs.Finding.{IsIndex}
 use Rattle.realm_lists.specs.PlaceIndex.{place_of}
 use Rattle.realm_lists.specs.Tally.{count_in}

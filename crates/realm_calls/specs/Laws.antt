@@ -23,7 +23,7 @@ pub record AreSoundCalls (list : List Open) : Type 0 where
 abbrev pub NoneAreSound : Type 0
 NoneAreSound = AreSoundCalls []
 
--- where neither the caller's request is open nor the callee's invocation
+-- if neither the caller's request is open nor the callee's invocation
 abbrev pub OpenKeepsSound : Type 0
 OpenKeepsSound = (calls : Calls) (call : Open) → has calls.list call.caller call.request ≡ false
     → has_number (open_of calls.list call.callee) call.invocation ≡ false
@@ -54,7 +54,7 @@ AnsweredOnce = (calls : Calls) (callee invocation : ℕ) → AreSoundCalls calls
 abbrev pub EndedIsGone : Type 0
 EndedIsGone = (list : List Open) (call : Open) → has (end list call) call.caller call.request ≡ false
 
--- a session that leaves as a callee and then as a caller leaves no call behind that is by it or to it, and touches no other
+-- after a session has left as a callee and then as a caller, no call is by it or to it, and no other is touched
 abbrev pub LeavingEndsAll : Type 0
 LeavingEndsAll = (list : List Open) (session : ℕ) → without_caller (without_callee list session) session ≡ without_session list session
 

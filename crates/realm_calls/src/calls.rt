@@ -34,7 +34,7 @@ pub struct Cancelled {
 }
 
 impl Open {
-    // Whether it is by this session to another.
+    // Returns whether this session called another.
     fn is_by(&self, session: Id) -> bool
         ensures { result ≡ is_by session self.now }
     {
@@ -42,10 +42,10 @@ impl Open {
     }
 }
 
-/// The open calls of a realm in order of opening, of which each caller may have only so many.
+/// The open calls of a realm in order of opening, at most `limit` for each caller.
 ///
-/// Cost: a number of steps that is logarithmic in the number of open calls. Calls that tell of a session's calls, and those by which it
-/// leaves, take so many for each of its calls; `to_vec` takes a step for each open call.
+/// Cost: each method takes a number of steps that is logarithmic in the number of open calls. `open_of`, `leave_callee` and `leave_caller`
+/// take as many for each of the session's calls; `to_vec` takes a step for each open call.
 pub struct Calls {
     limit: u32,
     held: OpenCalls,
@@ -69,7 +69,7 @@ impl Model for Calls {
 }
 
 impl Calls {
-    /// No call is open, and at most `limit` of a caller are open at a time. Takes no memory.
+    /// Creates it with no call open, for at most `limit` open calls of a caller at a time. Does not allocate.
     pub fn new(alloc: Global, limit: u32) -> Calls
         ensures { result ≡ record { limit = limit; list = [] } }
     {
@@ -79,8 +79,8 @@ impl Calls {
         }
     }
 
-    /// Opens a call as the last one. Neither the caller's request is open, nor the callee's invocation. The faults are `Limit`,
-    /// exactly where the caller has as many open calls as it may have, and `Memory`; nothing has changed then.
+    /// Opens a call as the last one. Neither the caller's request nor the callee's invocation may be open. The faults are `Limit`, exactly
+    /// if the caller has `limit` open calls, and `Memory`; nothing has changed then.
     pub fn open(
         &mut self,
         caller: Id,
@@ -106,14 +106,14 @@ impl Calls {
         })
     }
 
-    /// Whether the caller has as many open calls as it may have: `open` answers `Limit` exactly then. Takes no memory.
+    /// Returns whether the caller has as many open calls as it may have: `open` returns `Limit` exactly then. Does not allocate.
     pub fn is_full(&self, caller: Id) -> bool
         ensures { result ≡ is_full self.now caller }
     {
         self.has_all(caller)
     }
 
-    // The same, and otherwise one more may be counted.
+    // Returns whether the caller has as many open calls as it may have; if not, their count may rise by one.
     fn has_all(&self, caller: Id) -> bool
         ensures full { result ≡ is_full self.now caller }
         ensures few { result ≡ false → count_of self.now.list caller + 1 < 2 ^ 64 }
@@ -121,7 +121,7 @@ impl Calls {
         !(self.held.count(caller) < u64::from(self.limit))
     }
 
-    /// The open calls in order of opening. The only fault is `Memory`.
+    /// Returns the open calls in order of opening. The only fault is `Memory`.
     pub fn to_vec(&self) -> Result<Vec<Open>, RealmFault>
         ensures list { IfOk result (λ list. list.items ≡ self.now.list) }
         ensures fault { IsOkUnless result fault.Memory }
@@ -129,28 +129,28 @@ impl Calls {
         self.held.to_vec()
     }
 
-    /// Whether the caller's request is open. Takes no memory.
+    /// Returns whether the caller's request is open. Does not allocate.
     pub fn has(&self, caller: Id, request: Id) -> bool
         ensures { result ≡ has self.now.list caller request }
     {
         self.held.find_call(caller, request).is_some()
     }
 
-    /// The caller's open call under this request. Takes no memory.
+    /// Returns the caller's open call under this request. Does not allocate.
     pub fn call_of(&self, caller: Id, request: Id) -> Option<&Open>
         ensures { option_map (λ call. call.now) result ≡ call_of self.now.list caller request }
     {
         self.held.find_call(caller, request)
     }
 
-    /// Whether the callee has this invocation open. Takes no memory.
+    /// Returns whether the callee has this invocation open. Does not allocate.
     pub fn is_invoked(&self, callee: Id, invocation: Id) -> bool
         ensures { result ≡ has_number (open_of self.now.list callee) invocation }
     {
         self.held.find_invocation(callee, invocation).is_some()
     }
 
-    /// The invocations that the callee has not answered, in order of opening. The only fault is `Memory`.
+    /// Returns the invocations that the callee has not answered, in order of opening. The only fault is `Memory`.
     pub fn open_of(&self, callee: Id) -> Result<Vec<Id>, RealmFault>
         ensures found { IfOk result (λ found. found.items ≡ open_of self.now.list callee) }
         ensures fault { IsOkUnless result fault.Memory }
@@ -159,8 +159,8 @@ impl Calls {
         invocations_of(&calls)
     }
 
-    /// The callee answers this invocation: the call, which ends. The only fault is `NotOpen`, where the callee has no such
-    /// invocation open; nothing has changed then. Takes no memory.
+    /// Ends the call that the callee answers by this invocation, and returns it. The only fault is `NotOpen`, if the callee has no such
+    /// invocation open; nothing has changed then. Does not allocate.
     pub fn answer(&mut self, callee: Id, invocation: Id) -> Result<Open, RealmFault>
         ensures answer { result ≡ (answer self.old callee invocation).answer }
         ensures calls { self.new ≡ (answer self.old callee invocation).calls }
@@ -173,10 +173,10 @@ impl Calls {
         Ok(call)
     }
 
-    /// The caller cancels the call of this request (WAMP specification, "Call Canceling"). With `Skip`, or where the callee did
-    /// not announce canceling, the call ends. With `Kill` the callee is to be interrupted, and its answer will end the call;
-    /// with `KillNoWait` it is to be interrupted, and the call ends. The only fault is `NotOpen`, where the caller has no such
-    /// request open; nothing has changed then. Takes no memory.
+    /// Cancels the caller's call under this request (WAMP specification, "Call Canceling"). With `Skip`, or if the callee did not announce
+    /// canceling, the call ends. With `Kill` the callee is to be interrupted, and its answer will end the call; with `KillNoWait` it is to
+    /// be interrupted, and the call ends. The only fault is `NotOpen`, if the caller has no such request open; nothing has changed then.
+    /// Does not allocate.
     pub fn cancel(
         &mut self,
         caller: Id,
@@ -197,8 +197,8 @@ impl Calls {
         Ok(cancelled)
     }
 
-    /// The session leaves as a callee: the calls to it by others, which end, in order of opening. Calls to itself stay until it
-    /// leaves as a caller. The only fault is `Memory`; nothing has changed then.
+    /// Ends the calls to the session by others, and returns them in order of opening. Its calls to itself stay until `leave_caller`. The
+    /// only fault is `Memory`; nothing has changed then.
     pub fn leave_callee(&mut self, session: Id) -> Result<Vec<Open>, RealmFault>
         ensures ended { IfOk result (λ ended. ended.items ≡ calls_to self.old.list session) }
         ensures ok { OnOk result (self.new ≡ with_list self.old (without_callee self.old.list session)) }
@@ -210,8 +210,8 @@ impl Calls {
         Ok(ended)
     }
 
-    /// The session leaves as a caller: its calls to others, which end, in order of opening. Its calls to itself end, too, but
-    /// are not among them. The only fault is `Memory`; nothing has changed then.
+    /// Ends the calls by the session, and returns those to others, in order of opening. Its calls to itself end, too, but are not among
+    /// them. The only fault is `Memory`; nothing has changed then.
     pub fn leave_caller(&mut self, session: Id) -> Result<Vec<Open>, RealmFault>
         ensures ended { IfOk result (λ ended. ended.items ≡ calls_by self.old.list session) }
         ensures ok { OnOk result (self.new ≡ with_list self.old (without_caller self.old.list session)) }
@@ -225,7 +225,7 @@ impl Calls {
     }
 }
 
-// What becomes of a call that is canceled.
+// Returns what becomes of a call that is canceled.
 fn cancel_one(call: &Open, mode: Mode, announces: bool) -> Cancelled
     ensures { result ≡ cancel_one call.now mode announces }
 {
@@ -248,7 +248,7 @@ fn cancel_one(call: &Open, mode: Mode, announces: bool) -> Cancelled
     }
 }
 
-// The invocations that these calls are known as.
+// Returns the invocations that these calls are known as.
 fn invocations_of(calls: &Vec<Open>) -> Result<Vec<Id>, RealmFault>
     ensures found { IfOk result (λ found. found.items ≡ map (λ call. call.invocation) calls.now.items) }
     ensures fault { IsOkUnless result fault.Memory }
@@ -260,7 +260,7 @@ fn invocations_of(calls: &Vec<Open>) -> Result<Vec<Id>, RealmFault>
     Ok(found)
 }
 
-// The calls by the session to others.
+// Returns the calls by the session to others.
 fn calls_by(calls: &Vec<Open>, session: Id) -> Result<Vec<Open>, RealmFault>
     ensures found { IfOk result (λ found. found.items ≡ calls_by calls.now.items session) }
     ensures fault { IsOkUnless result fault.Memory }

@@ -1,9 +1,9 @@
-//! Laws of open calls, each the contract of a function that does nothing.
+//! Laws of open calls, each the contract of a function with an empty body.
 ghost use Rattle.realm_calls.specs.Laws.{NoneAreSound, OpenKeepsSound, AnswerKeepsSound, CancelKeepsSound, CalleeKeepsSound};
 ghost use Rattle.realm_calls.specs.Laws.{CallerKeepsSound, AnsweredOnce, EndedIsGone, LeavingEndsAll, LeavingNamesAll};
 
-/// No two open calls have one caller and request, nor one callee and invocation: so it is at first, and each change keeps it.
-/// Takes no memory.
+/// No two open calls have one caller and request, nor one callee and invocation: this holds at first, and each change keeps it. Does not
+/// allocate.
 pub fn open_calls_are_sound()
     ensures none { NoneAreSound }
     ensures opened { OpenKeepsSound }
@@ -13,8 +13,8 @@ pub fn open_calls_are_sound()
     ensures caller { CallerKeepsSound }
 {}
 
-/// An invocation is answered once, a call that has ended is open no more, and a session that leaves leaves no call behind.
-/// Takes no memory.
+/// An invocation is answered once, a call that has ended is not open any more, and no call of a session remains after it has left. Does not
+/// allocate.
 pub fn ended_calls_are_gone()
     ensures answered { AnsweredOnce }
     ensures ended { EndedIsGone }

@@ -1,8 +1,8 @@
-// The open calls in order of opening, and how one is found.
+//! The open calls in order of opening, with the indexes that find them.
 ghost use Rattle.std.specs.Prelude.{◌≡◌, ◌+◌, ◌-◌, ◌<◌, ◌^◌, ◌==◌, ℕ, false, not, None, Some, if◌then◌else◌, [], ◌∷◌, ◌++◌};
 ghost use Rattle.std.specs.Prelude.{filter, find, option_map, IfOk, OnOk, OnErr, IsOkUnless};
 ghost use Rattle.realm_sessions.specs.declared.fault.RealmFault.TheVariants as fault;
-ghost use Rattle.realm_lists.specs.Rows.{IsAbove, members};
+ghost use Rattle.realm_lists.specs.OrderedList.{IsAbove, members};
 ghost use Rattle.realm_lists.specs.PlaceIndex.{is_key, place_of, places_under};
 ghost use Rattle.realm_lists.specs.Tally.{count_in};
 ghost use Rattle.realm_calls.specs.Calls.{is_call, is_invocation, has, has_invocation, call_of, count_of, end, calls_to};
@@ -10,17 +10,17 @@ ghost use Rattle.realm_calls.specs.Calls.{without_callee, without_caller};
 ghost use Rattle.realm_calls.specs.Indexed.{AreApart, of_caller, of_callee, end_all};
 
 use crate::calls::Open;
-use realm_lists::{PlaceIndex, Rows, Tally};
+use realm_lists::{OrderedList, PlaceIndex, Tally};
 use realm_sessions::RealmFault;
 use std::alloc::Global;
 use std::marker::Model;
 use wamp_ids::Id;
 
-// The open calls. Each stands at a place, under which its caller and request are kept, and its callee and invocation; and how many calls
-// each caller has is counted.
+// The open calls. Each is at a place; one index leads from its caller and request to the place, another from its callee and invocation. The
+// calls of each caller are counted.
 pub struct OpenCalls {
     alloc: Global,
-    rows: Rows<Open>,
+    rows: OrderedList<Open>,
     requests: PlaceIndex<(u64, u64)>,
     invocations: PlaceIndex<(u64, u64)>,
     counts: Tally,
@@ -40,7 +40,7 @@ impl Drop for OpenCalls {
 
 impl Model for OpenCalls {
     ghost use Rattle.std.specs.Prelude.{List};
-    ghost use Rattle.realm_lists.specs.Rows.{members};
+    ghost use Rattle.realm_lists.specs.OrderedList.{members};
     ghost use Rattle.realm_calls.specs.declared.calls.Open.{Open};
 
     ghost Value = { List Open };
@@ -53,27 +53,27 @@ impl Model for OpenCalls {
 }
 
 impl OpenCalls {
-    // No call is open.
+    // Creates it with no call open.
     pub fn new(alloc: Global) -> OpenCalls
         ensures { result ≡ [] }
     {
         OpenCalls {
             alloc,
-            rows: Rows::new(alloc),
+            rows: OrderedList::new(alloc),
             requests: PlaceIndex::new(alloc),
             invocations: PlaceIndex::new(alloc),
             counts: Tally::new(alloc),
         }
     }
 
-    // How many of the calls are the caller's.
+    // Returns how many of the calls are the caller's.
     pub fn count(&self, caller: Id) -> u64
         ensures { result ≡ count_of self.now caller }
     {
         self.counts.count(caller.get())
     }
 
-    // The caller's call under this request.
+    // Returns the caller's call under this request.
     pub fn find_call(&self, caller: Id, request: Id) -> Option<&Open>
         ensures { option_map (λ call. call.now) result ≡ call_of self.now caller request }
     {
@@ -83,7 +83,7 @@ impl OpenCalls {
         self.rows.get(place)
     }
 
-    // The call that the callee knows as this invocation.
+    // Returns the call that the callee knows as this invocation.
     pub fn find_invocation(&self, callee: Id, invocation: Id) -> Option<&Open>
         ensures { option_map (λ call. call.now) result ≡ find (is_invocation callee invocation) self.now }
     {
@@ -93,7 +93,7 @@ impl OpenCalls {
         self.rows.get(place)
     }
 
-    // The open calls in order of opening.
+    // Returns the open calls in order of opening.
     pub fn to_vec(&self) -> Result<Vec<Open>, RealmFault>
         ensures list { IfOk result (λ list. list.items ≡ self.now) }
         ensures fault { IsOkUnless result fault.Memory }
@@ -101,7 +101,7 @@ impl OpenCalls {
         Ok(self.rows.to_vec(self.alloc)?)
     }
 
-    // The calls to the callee.
+    // Returns the calls to the callee.
     pub fn of_callee(&self, session: Id) -> Result<Vec<Open>, RealmFault>
         ensures found { IfOk result (λ found. found.items ≡ filter (of_callee session) self.now) }
         ensures fault { IsOkUnless result fault.Memory }
@@ -112,7 +112,7 @@ impl OpenCalls {
         Ok(to_callee(calls, session))
     }
 
-    // The calls of the caller.
+    // Returns the calls of the caller.
     pub fn of_caller(&self, session: Id) -> Result<Vec<Open>, RealmFault>
         ensures found { IfOk result (λ found. found.items ≡ filter (of_caller session) self.now) }
         ensures fault { IsOkUnless result fault.Memory }
@@ -123,7 +123,7 @@ impl OpenCalls {
         Ok(by_caller(calls, session))
     }
 
-    // The calls to the session by others.
+    // Returns the calls to the session by others.
     pub fn calls_to(&self, session: Id) -> Result<Vec<Open>, RealmFault>
         ensures found { IfOk result (λ found. found.items ≡ calls_to self.now session) }
         ensures fault { IsOkUnless result fault.Memory }
@@ -132,7 +132,7 @@ impl OpenCalls {
         Ok(by_others(calls, session))
     }
 
-    // The call comes as the last one.
+    // Adds the call as the last one.
     pub fn push(&mut self, call: Open) -> Result<(), RealmFault>
         requires new { has self.old call.caller call.request ≡ false }
         requires free { has_invocation self.old call.callee call.invocation ≡ false }
@@ -157,14 +157,15 @@ impl OpenCalls {
         Ok(())
     }
 
-    // No two of the calls are one caller's under one request.
+    // Shows that no two of the calls are one caller's under one request.
     pub fn are_apart(&self)
         ensures { AreApart self.now }
     {
+        // for the proof
         let _ = self.rows.get(0);
     }
 
-    // The call ends.
+    // Ends the call.
     pub fn end(&mut self, ended: &Open)
         ensures { self.new ≡ end self.old ended.now }
     {
@@ -179,7 +180,7 @@ impl OpenCalls {
         count_less(&mut self.counts, gone.caller);
     }
 
-    // These calls end, one after the other.
+    // Ends these calls, one after the other.
     fn end_all(&mut self, ended: &[Open])
         ensures { self.new ≡ end_all self.old ended.now }
     {
@@ -188,26 +189,28 @@ impl OpenCalls {
         }
     }
 
-    // The calls to the session by others end, which are these.
+    // Ends the calls to the session by others, which are these.
     pub fn end_all_to(&mut self, session: Id, ended: &[Open])
         requires { ended.now ≡ calls_to self.old session }
         ensures { self.new ≡ without_callee self.old session }
     {
+        // for the proof
         self.are_apart();
         self.end_all(ended);
     }
 
-    // The caller's calls end, which are these.
+    // Ends the caller's calls, which are these.
     pub fn end_all_of(&mut self, session: Id, ended: &[Open])
         requires { ended.now ≡ filter (of_caller session) self.old }
         ensures { self.new ≡ without_caller self.old session }
     {
+        // for the proof
         self.are_apart();
         self.end_all(ended);
     }
 }
 
-// Those of the calls that are to the callee.
+// Retains the calls that are to the callee.
 fn to_callee(mut calls: Vec<Open>, session: Id) -> Vec<Open>
     ensures { result.items ≡ filter (of_callee session) calls.items }
 {
@@ -215,7 +218,7 @@ fn to_callee(mut calls: Vec<Open>, session: Id) -> Vec<Open>
     calls
 }
 
-// Those of the calls that are the caller's.
+// Retains the calls that are the caller's.
 fn by_caller(mut calls: Vec<Open>, session: Id) -> Vec<Open>
     ensures { result.items ≡ filter (of_caller session) calls.items }
 {
@@ -223,7 +226,7 @@ fn by_caller(mut calls: Vec<Open>, session: Id) -> Vec<Open>
     calls
 }
 
-// Those of the calls that are not the session's.
+// Retains the calls that are not the session's.
 fn by_others(mut calls: Vec<Open>, session: Id) -> Vec<Open>
     ensures { result.items ≡ filter (λ call. not (of_caller session call)) calls.items }
 {
@@ -231,14 +234,14 @@ fn by_others(mut calls: Vec<Open>, session: Id) -> Vec<Open>
     calls
 }
 
-// The place of this key.
+// Returns the place of this key.
 fn place_in(index: &PlaceIndex<(u64, u64)>, first: Id, second: Id) -> Option<u64>
     ensures { result ≡ place_of index.now (first, second) }
 {
     index.get((first.get(), second.get()))
 }
 
-// The places of the keys that begin with this id.
+// Returns the places of the keys that begin with this id.
 fn places_of(
     index: &PlaceIndex<(u64, u64)>,
     alloc: Global,
@@ -250,7 +253,7 @@ fn places_of(
     Ok(index.places_under(alloc, first.get())?)
 }
 
-// This key has no place any more.
+// Removes the place of this key.
 fn remove_key(index: &mut PlaceIndex<(u64, u64)>, first: Id, second: Id)
     ensures { (key : ℕ × ℕ) → place_of index.new key
         ≡ (if is_key (first, second) key then None else place_of index.old key) }
@@ -258,7 +261,7 @@ fn remove_key(index: &mut PlaceIndex<(u64, u64)>, first: Id, second: Id)
     index.remove((first.get(), second.get()));
 }
 
-// One more call of the caller.
+// Counts one more call of the caller.
 fn count_more(counts: &mut Tally, caller: Id) -> Result<(), RealmFault>
     requires { count_in counts.old caller + 1 < 2 ^ 64 }
     ensures ok { OnOk result ((other : ℕ) → count_in counts.new other
@@ -270,7 +273,7 @@ fn count_more(counts: &mut Tally, caller: Id) -> Result<(), RealmFault>
     Ok(())
 }
 
-// One call of the caller less.
+// Counts one call of the caller less.
 fn count_less(counts: &mut Tally, caller: Id)
     ensures { (other : ℕ) → count_in counts.new other
         ≡ (if caller == other then count_in counts.old other - 1 else count_in counts.old other) }
@@ -278,7 +281,7 @@ fn count_less(counts: &mut Tally, caller: Id)
     counts.take(caller.get());
 }
 
-// This key has this place now.
+// Sets the place of this key.
 fn put_key(
     index: &mut PlaceIndex<(u64, u64)>,
     first: Id,
@@ -294,9 +297,9 @@ fn put_key(
     Ok(())
 }
 
-// The call comes as the last one, and is counted.
+// Adds the call as the last one, and counts it.
 fn put_row(
-    rows: &mut Rows<Open>,
+    rows: &mut OrderedList<Open>,
     counts: &mut Tally,
     place: u64,
     call: &Open,

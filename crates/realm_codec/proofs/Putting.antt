@@ -1,4 +1,4 @@
--- Octets put at the end of a list, one part behind the other.
+-- Octets put at the end of a list, one part after the other.
 use Rattle.std.proofs.Common.{◌≡◌, ℕ, Bool, ◌∷◌, [], ap, ◌∙◌, List, ◌++◌}
 use Rattle.std.proofs.lemmas.List.{append_assoc}
 use Rattle.wamp_message_types.specs.declared.read_result.UnfitKind.{UnfitKind}

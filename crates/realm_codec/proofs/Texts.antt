@@ -1,4 +1,4 @@
--- A message's text behind its length: how it is put, and what is read of it.
+-- A message's text after its length: how it is put, and what is read of it.
 use Rattle.std.specs.Prelude.{◌≢◌, Result, Err, IfOk, IfErr, OnOk}
 use Rattle.std.specs.Result.{result_and}
 use Rattle.command_codec.specs.declared.fault.CodecFault.{CodecFault}
@@ -21,7 +21,7 @@ use Rattle.realm_acts.specs.Act.{same_read, read_itself}
 use Rattle.realm_codec.specs.Parts.{tagged, length_form}
 use Rattle.realm_codec.specs.Text.{text_octets, text_spelling, is_written, text_reading}
 
--- what was read is taken where it is written as its text
+-- what was read is taken if it is written as its text
 pub text_taken : (text : List ℕ) (read : Read) (checked : Result (Unit {0}) CodecFault) → read ≡ read_of text
     → OnOk checked (is_written text read ≡ true) → IfOk (result_and checked (Ok read)) (λ r. text_reading text ≡ Ok r)
 unfolding text_reading
@@ -47,7 +47,7 @@ leb-above n most over = go (leb n most) refl
     go true t = absurd (over (let h = leb-true n most t in omega arith))
     go false t = refl
 
--- what was put behind a list is as long as its text
+-- what was put after a list is as long as its text
 pub text_length : (mid items text : List ℕ) (all begin : ℕ) → items ≡ mid ++ text → all ≡ length items → begin ≡ length mid
     → all - begin ≡ length text
 text_length mid items text all begin is a b =
@@ -94,7 +94,7 @@ filled old number text items start is at =
     ∙ ap (λ l. front ++ (number ++ l)) last
     ∙ append_assoc old (0 ∷ []) (number ++ text)
 
--- what is taken back, and what stands
+-- what is taken back, and what stays
 pub cut_back : (old front text mid items : List ℕ) (start : ℕ) → mid ≡ old ++ front → items ≡ mid ++ text → start ≡ length old
     → take start items ≡ old
 cut_back old front text mid items start first is at =

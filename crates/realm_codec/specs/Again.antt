@@ -13,9 +13,9 @@ use Rattle.command_codec.specs.Entry.{joined}
 use Rattle.command_codec.specs.Number.{number_octets, number_reading, is_within}
 use Rattle.command_codec.proofs.Numbers.{same_ok, number_again, number_spelled}
 use Rattle.command_codec.proofs.Entries.{left_of, where_spelled, joined_parts, then_parts}
-use Rattle.wamp_message_layouts.specs.declared.fault.MessageFault.{MessageFault}
-use Rattle.wamp_message_layouts.specs.declared.fault.MessageFault.TheVariants as fault
-use Rattle.wamp_message_layouts.specs.Fault.{number_of}
+use Rattle.wamp_message_types.specs.declared.fault.MessageFault.{MessageFault}
+use Rattle.wamp_message_types.specs.declared.fault.MessageFault.TheVariants as fault
+use Rattle.wamp_message_types.specs.Fault.{number_of}
 use Rattle.wamp_message_types.specs.declared.message.Message.{Message}
 use Rattle.wamp_message_types.specs.declared.read_result.UnfitKind.{UnfitKind}
 use Rattle.wamp_message_types.specs.declared.read_result.UnfitKind.TheVariants as kind

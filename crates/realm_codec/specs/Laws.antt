@@ -7,7 +7,7 @@ use Rattle.wamp_messages.specs.Writing.{text_of}
 use Rattle.realm_codec.specs.Parts.{length_form}
 use Rattle.realm_codec.specs.Text.{text_octets, text_spelling}
 
--- a message with the ids, payloads and texts that messages have is spelled exactly where its text is not too long
+-- a message with the ids, payloads and texts that messages have is spelled exactly if its text is not too long
 abbrev pub MessagesAreSpelled : Type 0
 MessagesAreSpelled =
     (m : Message) → IsMessage m

@@ -3,8 +3,8 @@ use Rattle.std.specs.Prelude.{ℕ, ◌^◌, ◌-◌, Bool, true, false, ◌==◌
 use Rattle.command_codec.specs.declared.fault.CodecFault.TheVariants.{Short, Range}
 use Rattle.command_codec.specs.declared.number.Form.{Form}
 use Rattle.command_codec.specs.Number.{Reading}
-use Rattle.wamp_message_layouts.specs.declared.fault.MessageFault.{MessageFault}
-use Rattle.wamp_message_layouts.specs.declared.fault.MessageFault.TheVariants as fault
+use Rattle.wamp_message_types.specs.declared.fault.MessageFault.{MessageFault}
+use Rattle.wamp_message_types.specs.declared.fault.MessageFault.TheVariants as fault
 use Rattle.wamp_message_types.specs.declared.read_result.UnfitKind.{UnfitKind}
 use Rattle.wamp_message_types.specs.declared.read_result.UnfitKind.TheVariants as kind
 
@@ -15,12 +15,12 @@ id_form = record { width = 8; low = 1; high = 2 ^ 53 }
 abbrev pub length_form : Form
 length_form = record { width = 4; low = 0; high = 2 ^ 32 - 1 }
 
--- behind a tag
+-- after a tag
 abbrev pub tagged : ℕ → Option (List ℕ) → Option (List ℕ)
 tagged tag None = None
 tagged tag (Some octets) = Some (tag ∷ octets)
 
--- a value and the octets behind it, or an octet that is out of its range
+-- a value and the octets after it, or an octet that is out of its range
 abbrev pub chosen : {A : Type 0} → Option A → List ℕ → Reading A
 chosen None rest = Err Range
 chosen (Some value) rest = Ok (value, rest)

@@ -4,8 +4,8 @@ use Rattle.std.specs.Prelude.{if◌then◌else◌}
 use Rattle.command_codec.specs.declared.fault.CodecFault.TheVariants.{Short, Tag}
 use Rattle.command_codec.specs.Coder.{and_then}
 use Rattle.command_codec.specs.Number.{Reading, number_octets, number_reading, is_within}
-use Rattle.wamp_message_layouts.specs.declared.fault.MessageFault.{MessageFault}
-use Rattle.wamp_message_layouts.specs.Fault.{number_of}
+use Rattle.wamp_message_types.specs.declared.fault.MessageFault.{MessageFault}
+use Rattle.wamp_message_types.specs.Fault.{number_of}
 use Rattle.wamp_message_types.specs.declared.read_result.UnfitKind.{UnfitKind}
 use Rattle.wamp_message_types.specs.declared.read_result.UnfitKind.TheVariants as kind
 use Rattle.wamp_message_types.specs.declared.read_result.Read.{Read}

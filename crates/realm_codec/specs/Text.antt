@@ -1,4 +1,4 @@
--- A message in a body (docs/CONSENSUS.md, "Entry bytes"): the text that is written of it, behind its length.
+-- A message in a body (docs/CONSENSUS.md, "Entry bytes"): its written text, after its length.
 use Rattle.std.specs.Prelude.{ℕ, Bool, false, ◌&&◌, nat_le, Option, Some, None, List, ◌++◌, length, take, drop, Result, Ok, Err, if◌then◌else◌}
 use Rattle.std.specs.Str.{bytes_eq}
 use Rattle.command_codec.specs.declared.fault.CodecFault.{CodecFault}
@@ -29,16 +29,16 @@ is_written text (Good m) = bytes_eq (text_of m) text
 is_written text (Unfit kind request quiet) = false
 is_written text (Bad fault) = false
 
--- what is read, where that text is the one that is written of it
+-- what is read, if that text is the one that is written of it
 unfoldable pub text_reading : List ℕ → Result Read CodecFault
 text_reading text = if is_written text (read_of text) then Ok (read_of text) else Err Range
 
--- and the octets behind it
+-- and the octets after it
 abbrev pub read_before : List ℕ → Result Read CodecFault → Reading Read
 read_before rest (Ok read) = Ok (read, rest)
 read_before rest (Err fault) = Err fault
 
--- so many octets are the text
+-- this many octets are the text
 abbrev pub text_behind : ℕ → List ℕ → Reading Read
 text_behind n octets = if nat_le n (length octets) then read_before (drop n octets) (text_reading (take n octets)) else Err Short
 

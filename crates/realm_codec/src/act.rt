@@ -14,10 +14,10 @@ use std::alloc::Global;
 use wamp_ids::{Id, LAST_ID};
 use wamp_message_types::Read;
 
-/// How acts are spelled: a tag, and for what was said its draw and what was read.
+/// The octets of an act: a tag, and for what was said its draw and what was read.
 ///
-/// A message stands as the text that is written of it. `put` writes it straight behind its length, which it then fills in; `take` parses
-/// the text once, and prints once to see that it is the one that is written. Both are linear in the length of the octets.
+/// A message is encoded as its written text. `put` writes the text directly after room for its length, which it then fills in; `take`
+/// parses the text once, and writes it once to check that it is the one text of its message. Both are linear in the length of the octets.
 pub struct ActCoder;
 
 impl Coder<Act> for ActCoder {
@@ -85,7 +85,7 @@ fn put_draw(draw: Id, out: &mut Vec<u8>) -> Result<(), CodecFault>
     Ok(())
 }
 
-// What was said, behind its tag.
+// Takes what was said, after its tag.
 fn take_said(alloc: Global, octets: &[u8]) -> Result<(Act, &[u8]), CodecFault>
     ensures taken { IfOk result (λ read. said_reading octets.now ≡ Ok (read.0, read.1.now)) }
     ensures fault { IfErr result (λ fault. fault ≢ CodecFault.Memory → said_reading octets.now ≡ Err fault) }
@@ -109,7 +109,7 @@ const ID: Form = Form {
     high: LAST_ID,
 };
 
-// The id at the head of the octets, and the octets behind it.
+// Takes the id at the head of the octets; returns it and the octets after it.
 pub(crate) fn take_id(octets: &[u8]) -> Result<(Id, &[u8]), CodecFault>
     ensures { MatchResult result (λ read. number_reading id_form octets.now ≡ Ok (read.0, read.1.now))
         (λ fault. number_reading id_form octets.now ≡ Err fault) }

@@ -1,8 +1,8 @@
-// What was read, as octets.
+//! What was read from a client, as octets.
 ghost use Rattle.std.specs.Prelude.{◌≡◌, ◌≢◌, Ok, Err, IfOk, IfErr, MatchResult};
 ghost use Rattle.command_codec.specs.Coder.{Puts};
 ghost use Rattle.realm_codec.specs.Parts.{choice_reading, kind_octet, kinds, quiet_octet, quiets, faults};
-ghost use Rattle.wamp_message_layouts.specs.Fault.{number_of};
+ghost use Rattle.wamp_message_types.specs.Fault.{number_of};
 ghost use Rattle.realm_codec.specs.Read.{read_spelling, may_be_quiet, unfit_spelling, fault_spelling, read_reading, unfit_reading, fault_reading};
 
 use crate::act::take_id;
@@ -10,8 +10,7 @@ use crate::text::{put_text, take_text};
 use command_codec::CodecFault;
 use std::alloc::Global;
 use wamp_ids::Id;
-use wamp_message_layouts::MessageFault;
-use wamp_message_types::{Read, UnfitKind};
+use wamp_message_types::{MessageFault, Read, UnfitKind};
 
 // Puts what was read.
 pub(crate) fn put_read(read: &Read, out: &mut Vec<u8>) -> Result<(), CodecFault>
@@ -28,7 +27,7 @@ pub(crate) fn put_read(read: &Read, out: &mut Vec<u8>) -> Result<(), CodecFault>
     }
 }
 
-// The octet of a kind, which is its message's code.
+// Returns the octet of a kind, which is its message's code.
 fn kind_octet(kind: UnfitKind) -> u8
     ensures { result ≡ kind_octet kind }
 {
@@ -74,7 +73,7 @@ fn put_fault(fault: MessageFault, out: &mut Vec<u8>) -> Result<(), CodecFault>
     Ok(())
 }
 
-// What was read, at the head of the octets, and the octets behind it.
+// Takes what was read at the head of the octets; returns it and the octets after it.
 pub(crate) fn take_read(alloc: Global, octets: &[u8]) -> Result<(Read, &[u8]), CodecFault>
     ensures taken { IfOk result (λ read. read_reading octets.now ≡ Ok (read.0, read.1.now)) }
     ensures fault { IfErr result (λ fault. fault ≢ CodecFault.Memory → read_reading octets.now ≡ Err fault) }
@@ -90,7 +89,7 @@ pub(crate) fn take_read(alloc: Global, octets: &[u8]) -> Result<(Read, &[u8]), C
     }
 }
 
-// An unfit request behind its tag.
+// Takes an unfit request, after its tag.
 fn take_unfit(octets: &[u8]) -> Result<(Read, &[u8]), CodecFault>
     ensures taken { IfOk result (λ read. unfit_reading octets.now ≡ Ok (read.0, read.1.now)) }
     ensures fault { IfErr result (λ fault. unfit_reading octets.now ≡ Err fault) }
@@ -149,7 +148,7 @@ fn take_quiet(kind: UnfitKind, octets: &[u8]) -> Result<(bool, &[u8]), CodecFaul
     }
 }
 
-// A fault behind its tag.
+// Takes a fault, after its tag.
 fn take_fault(octets: &[u8]) -> Result<(Read, &[u8]), CodecFault>
     ensures taken { IfOk result (λ read. fault_reading octets.now ≡ Ok (read.0, read.1.now)) }
     ensures fault { IfErr result (λ fault. fault_reading octets.now ≡ Err fault) }

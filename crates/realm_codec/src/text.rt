@@ -1,4 +1,4 @@
-// A message as octets: the text that is written of it, behind its length.
+//! A message as octets: its written text, after its length.
 ghost use Rattle.std.specs.Prelude.{◌≡◌, ◌≢◌, ◌+◌, ◌≤◌, ◌++◌, true, false, Ok, Err, IfOk, IfErr, OnOk, length, take, drop};
 ghost use Rattle.command_codec.specs.Coder.{Puts};
 ghost use Rattle.std.specs.Str.{bytes_eq};
@@ -18,7 +18,7 @@ const LENGTH: Form = Form {
     high: 4_294_967_295,
 };
 
-// Puts a message with its tag: the text straight behind room for its length, which is then filled in.
+// Puts a message with its tag: the text directly after room for its length, which is then filled in.
 pub(crate) fn put_text(message: &Message, out: &mut Vec<u8>) -> Result<(), CodecFault>
     ensures { Puts result (tagged 0 (text_spelling message.now)) out.old.items out.new.items }
 {
@@ -45,7 +45,7 @@ fn fill_in(octets: &mut [u8], at: usize, count: u32)
     octets[at..at + 4].copy_from_slice(&count.to_be_bytes());
 }
 
-// A message behind its tag.
+// Takes a message, after its tag.
 pub(crate) fn take_text(alloc: Global, octets: &[u8]) -> Result<(Read, &[u8]), CodecFault>
     ensures taken { IfOk result (λ read. good_reading octets.now ≡ Ok (read.0, read.1.now)) }
     ensures fault { IfErr result (λ fault. fault ≢ CodecFault.Memory → good_reading octets.now ≡ Err fault) }
@@ -60,7 +60,7 @@ pub(crate) fn take_text(alloc: Global, octets: &[u8]) -> Result<(Read, &[u8]), C
     }
 }
 
-// What a text is read as, where it is the one that is written of it.
+// Returns what a text is read as, if it is the one that is written of it.
 fn read_text(alloc: Global, text: &[u8]) -> Result<Read, CodecFault>
     ensures taken { IfOk result (λ read. text_reading text.now ≡ Ok read) }
     ensures fault { IfErr result (λ fault. fault ≢ CodecFault.Memory → text_reading text.now ≡ Err fault) }
@@ -71,7 +71,7 @@ fn read_text(alloc: Global, text: &[u8]) -> Result<Read, CodecFault>
     check_written(alloc, &read, text).and(Ok(read))
 }
 
-// Whether what was read is a message whose text is this one: else `Range`.
+// Checks that what was read is a message whose written text is this one; `Range` if not.
 fn check_written(alloc: Global, read: &Read, text: &[u8]) -> Result<(), CodecFault>
     ensures written { OnOk result (is_written text.now read.now ≡ true) }
     ensures fault { IfErr result (λ fault. fault ≢ CodecFault.Memory

@@ -6,7 +6,7 @@ use Rattle.std.specs.BTreeMap.{is_at as is_key_at}
 use Rattle.std.proofs.lemmas.Bool.{cond-true, cond-false, false≢true}
 use Rattle.wamp_ids.specs.Pattern.{PatternValue}
 use Rattle.wamp_patterns.specs.Table.{AreInOrder, same_pattern}
-use Rattle.realm_lists.specs.Rows.{IsAbove, member_at, with_member, without}
+use Rattle.realm_lists.specs.OrderedList.{IsAbove, member_at, with_member, without}
 use Rattle.realm_lists.specs.Finding.{AreRising}
 use Rattle.realm_lists.proofs.Finding.{same_at}
 use Rattle.realm_groups.specs.Groups.{after_left, alter_at, id_at, is_held, left_at, stays}
@@ -61,7 +61,7 @@ module _ {G : Type 0} where
             ap (without id) (none_altered id change rows is) ∙ none_without id rows is ∙ sym (none_left sessions_of id change rows is)
         go (Some x) is h = goes_left sessions_of id change rows x is h
 
-    -- where none is taken out, none was there
+    -- if none is taken out, none was there
     pub none_gone : member_at id (alter_at id change rows) ≡ None → without id (alter_at id change rows) ≡ rows
     none_gone h = go (member_at id rows) refl
         (sym (cond-true (at id id) (option_map change (member_at id rows)) (member_at id rows) (same_at id id refl))

@@ -20,7 +20,7 @@ use Rattle.wamp_ids.specs.Pattern.{PatternValue}
 use Rattle.wamp_patterns.specs.Matching.{matches}
 use Rattle.wamp_patterns.specs.Ranking.{matching}
 use Rattle.wamp_patterns.proofs.Placing.{sorted_put}
-use Rattle.realm_lists.specs.Rows.{member_at, members}
+use Rattle.realm_lists.specs.OrderedList.{member_at, members}
 use Rattle.realm_lists.specs.Finding.{AreRising}
 use Rattle.realm_lists.proofs.Finding.{at_is, at_same, same_at}
 use Rattle.realm_lists.proofs.Gathering.{same_rows}
@@ -183,7 +183,7 @@ module _ {G : Type 0} (id_of : G → ℕ) (pattern_of : G → PatternValue) (ses
       let it = of_table id_of pattern_of sessions_of rows patterns last kept uri (e.0, n) at.0 in
       ap (λ p. matches p uri) (ap pattern_of (same_some (sym is ∙ it.1)) ∙ it.2) ∙ at.1))
 
-  -- the groups of the ids that the table tells are those that match
+  -- the groups of the ids that the table gives are those that match
   pub gathered_match : values_of (gathered rows [] ids) ≡ matching pattern_of (members rows) uri
   gathered_match =
       ap (λ (xs : List (ℕ × G)). members xs) (gathered_is rows ids kept.rising)

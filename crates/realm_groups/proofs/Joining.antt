@@ -10,7 +10,7 @@ use Rattle.std.specs.Map.{keys_of}
 use Rattle.std.proofs.lemmas.Bool.{cond-true, cond-false, cond_both, both_ways, false≢true, eqb-true, eq-eqb, false_from_ne_true}
 use Rattle.std.proofs.lemmas.Map.Keys.{sorted_head, sorted_tail}
 use Rattle.realm_sessions.specs.Members.{has_member, has_members, joined, others}
-use Rattle.realm_lists.specs.Rows.{IsAbove, member_at, members}
+use Rattle.realm_lists.specs.OrderedList.{IsAbove, member_at, members}
 use Rattle.realm_lists.specs.Finding.{AreRising}
 use Rattle.realm_lists.proofs.Finding.{at_same, same_at, rising_tail}
 use Rattle.realm_lists.proofs.Gathering.{same_rows}
@@ -96,7 +96,7 @@ look_marked (id ∷ ids) q = go (at q id) (look_marked ids q)
     go true h = refl
     go false h = h
 
--- ids that rise and are the same are one list
+-- rising lists of the same ids are equal
 same_ids : (ids more : List ℕ) → IsStrictlySortedBy nat_cmp ids → IsStrictlySortedBy nat_cmp more
     → ((q : ℕ) → has_id_in ids q ≡ has_id_in more q) → ids ≡ more
 same_ids ids more sorted sorted_more same =
@@ -138,7 +138,7 @@ module _ {G : Type 0} (sessions_of : G → List ℕ) where
   abbrev found : ℕ → Option G → Bool
   found session o = found_session sessions_of session o
 
-  -- the sessions are told of these groups
+  -- the sets of the sessions have these groups
   abbrev pub Told : List (ℕ × List ℕ) → List (ℕ × G) → Type 0
   Told sets rows = (session id : ℕ) → has_id_in (ids_of sets session) id ≡ found session (member_at id rows)
 
@@ -169,7 +169,7 @@ module _ {G : Type 0} (sessions_of : G → List ℕ) where
       go false same b here =
           put other q ∙ ap (λ b. cond (b && is_id id q) true (has_id_in (ids_of sets other) q)) same ∙ told other q
 
-  -- what is told where the group of one id has become another one
+  -- what the sets have if the group of one id has become another one
   told_at : (sets after : List (ℕ × List ℕ)) (rows new : List (ℕ × G)) (session id : ℕ) (value : Bool) (o : Option G)
       → Told_more session id value sets after → ((q : ℕ) → member_at q new ≡ cond (at q id) o (member_at q rows))
       → found session o ≡ value → ((other : ℕ) → (other ≡ session → ⊥) → found other o ≡ found other (member_at id rows))
@@ -227,7 +227,7 @@ module _ {G : Type 0} (sessions_of : G → List ℕ) where
       first true = refl
       first false = refl
 
-  -- who is in a group that a session has left
+  -- which sessions are in a group that a session has left
   left_found : (session other : ℕ) (left : G → G) (x : G) → sessions_of (left x) ≡ others session (sessions_of x)
       → found other (if_held sessions_of (left x)) ≡ has_member other (others session (sessions_of x))
   left_found session other left x one = go (is_held sessions_of (left x)) refl

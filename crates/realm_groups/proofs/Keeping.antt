@@ -8,7 +8,7 @@ use Rattle.std.proofs.lemmas.Bool.{cond-true, cond_both, both_ways, false≢true
 use Rattle.std.proofs.lemmas.List.Elements.{All-map, All-weaker, All-push}
 use Rattle.wamp_ids.specs.Pattern.{PatternValue}
 use Rattle.wamp_patterns.specs.Table.{AreInOrder, same_pattern}
-use Rattle.realm_lists.specs.Rows.{IsAbove, member_at, members}
+use Rattle.realm_lists.specs.OrderedList.{IsAbove, member_at, members}
 use Rattle.realm_lists.specs.Finding.{AreRising, is_passing}
 use Rattle.realm_lists.proofs.Finding.{at_same, same_at, find_none}
 use Rattle.realm_groups.specs.Groups.{AreKept, alter_at, has_id, id_at, is_at, is_held}
@@ -25,7 +25,7 @@ module _ {G : Type 0} (id_of : G → ℕ) (pattern_of : G → PatternValue) (ses
   Kept rows patterns last = AreKept id_of pattern_of sessions_of rows patterns last
 
   module _ (rows : List (ℕ × G)) (patterns : List (PatternValue × ℕ)) (last : ℕ) (kept : Kept rows patterns last) where
-    -- ---- who is found
+    -- ---- what is found
 
     pub single_id : (id : ℕ) → Singles (has_id id_of id) id rows
     single_id id = all_stand (λ (row : ℕ × G). has_id id_of id row.1 ≡ at id row.0) rows kept.rising
@@ -75,7 +75,7 @@ module _ {G : Type 0} (id_of : G → ℕ) (pattern_of : G → PatternValue) (ses
             let it = passes (is_at pattern_of p) (member_at id rows) (kept.told p id h) in
             absurd (none_some (sym none ∙ found_pattern p id h ∙ it.1))
 
-    -- ---- the patterns are told as before
+    -- ---- the patterns lead where they did
 
     pub kept_same : (after : List (PatternValue × ℕ)) → AreInOrder after → ((p : PatternValue) → id_at after p ≡ id_at patterns p)
         → Kept rows after last
@@ -145,7 +145,7 @@ module _ {G : Type 0} (id_of : G → ℕ) (pattern_of : G → PatternValue) (ses
       abbrev changed : List (ℕ × G)
       changed = alter_at id change rows
 
-      -- who is found then is who was, or what it became
+      -- what is found then is what was, or what it became
       was : (n : ℕ) (y : G) → member_at n changed ≡ Some y
           → (z : G) × (member_at n rows ≡ Some z) × (id_of y ≡ id_of z) × (pattern_of y ≡ pattern_of z)
       was n y is = go (at n id) refl (member_at id rows) refl (sym (look_altered n id change rows) ∙ is)

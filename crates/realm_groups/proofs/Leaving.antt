@@ -4,7 +4,7 @@ use Rattle.std.proofs.Common.{[], ◌∷◌, Option, None, Some, refl, sym, ap, 
 use Rattle.std.specs.List.{All, list_any}
 use Rattle.std.proofs.lemmas.Bool.{cond-true, cond-false}
 use Rattle.std.proofs.lemmas.List.Elements.{All-head, All-tail}
-use Rattle.realm_lists.specs.Rows.{member_at, members}
+use Rattle.realm_lists.specs.OrderedList.{member_at, members}
 use Rattle.realm_lists.specs.Finding.{AreRising}
 use Rattle.realm_lists.proofs.Finding.{at_same, rising_tail}
 use Rattle.realm_groups.specs.Groups.{change_first, departed, each, found_session, has_session}
@@ -28,7 +28,7 @@ module _ {G : Type 0} (sessions_of : G → List ℕ) (left : ℕ → G → G) (s
       last false = refl
   any_step test row rest false o none same = same refl
 
-  -- the session is in some group that passes the test of an id exactly where it is in the one that is found
+  -- the session is in some group that passes the test of an id exactly if it is in the one that is found
   pub any_single : (test : G → Bool) (id : ℕ) (rows : List (ℕ × G)) → AreRising rows → Singles test id rows
       → list_any (λ group. test group && is_in group) (members rows) ≡ found_session sessions_of session (member_at id rows)
   any_single test id [] rising single = refl
@@ -84,7 +84,7 @@ module _ {G : Type 0} (sessions_of : G → List ℕ) (left : ℕ → G → G) (s
       (λ h. stays_single test id rows (All-tail Single row rows single)
       (λ x is. here x (cond-false (at id row.0) (Some row.1) (member_at id rows) h ∙ is)))
 
-  -- who is in none of the groups leaves them as they are
+  -- a session that is in none of the groups leaves them as they are
   pub each_none : (rows : List (ℕ × G)) → All (λ (row : ℕ × G). is_in row.1 ≡ false) rows → each gone (members rows) ≡ members rows
   each_none [] none = refl
   each_none (row ∷ rows) none =
@@ -110,7 +110,7 @@ module _ {G : Type 0} (sessions_of : G → List ℕ) (left : ℕ → G → G) (s
       (sym (cond-true (is_in row.1) (if_held sessions_of (left session row.1)) (Some row.1) (here refl)))
   each_step row rows others false here off rest = ap (λ (xs : List G). put_first (gone row.1) xs) (rest refl)
 
-  -- who has left one group has the others still to leave
+  -- a session that has left one group has the others still to leave
   pub each_left : (id : ℕ) (rows : List (ℕ × G)) → ((x : G) → member_at id rows ≡ Some x → is_in x ≡ true)
       → ((x : G) → is_in (left session x) ≡ false)
       → each gone (members (left_at sessions_of id (left session) rows)) ≡ each gone (members rows)

@@ -7,7 +7,7 @@ use Rattle.std.specs.BTreeMap.{is_at as is_key_at}
 use Rattle.std.specs.Map.{keys_of}
 use Rattle.std.proofs.lemmas.Bool.{cond-true, cond-false, cond_both, both_ways, false_from_ne_true, false≢true}
 use Rattle.std.proofs.lemmas.List.Elements.{All-head, All-tail, All-nil, All-cons}
-use Rattle.realm_lists.specs.Rows.{IsAbove, member_at, members, with_member, without}
+use Rattle.realm_lists.specs.OrderedList.{IsAbove, member_at, members, with_member, without}
 use Rattle.realm_lists.specs.Finding.{AreRising}
 use Rattle.realm_lists.proofs.Finding.{at_same, same_at, rising_head, rising_tail}
 use Rattle.realm_lists.proofs.Members.{at_holds}
@@ -32,7 +32,7 @@ two_ways false true f g = g refl
 two_ways false false f g = refl
 
 module _ {G : Type 0} where
-  -- none stands at the first one's id behind it
+  -- none is at the first one's id after it
   pub none_behind : (row : ℕ × G) (rows : List (ℕ × G)) (q : ℕ) → AreRising (row ∷ rows) → q ≡ row.0 → member_at q rows ≡ None
   none_behind row rows q rising same = none (member_at q rows) refl
     where
@@ -41,7 +41,7 @@ module _ {G : Type 0} where
       none (Some x) is =
           absurd (at_holds (λ (other : ℕ × G). row.0 ≡ other.0 → ⊥) q rows x is (rising_head row rows rising) (sym same))
 
-  -- what holds of whoever is found at an id holds of all
+  -- what holds of the group that is found at an id holds of all
   pub all_stand : (P : ℕ × G → Type 0) (rows : List (ℕ × G)) → AreRising rows
       → ((id : ℕ) (group : G) → member_at id rows ≡ Some group → P (id, group)) → All P rows
   all_stand P [] rising h = All-nil P
@@ -134,7 +134,7 @@ module _ {G : Type 0} where
       pushed_step q id x row rows (at q row.0) (at q id) refl refl (All-head (λ (row : ℕ × G). row.0 < id) row rows above)
       (look_pushed q id x rows (All-tail (λ (row : ℕ × G). row.0 < id) row rows above))
 
-  -- none stands at an id above all
+  -- none is at an id above all
   pub none_above : (id : ℕ) (rows : List (ℕ × G)) → IsAbove id rows → member_at id rows ≡ None
   none_above id [] above = refl
   none_above id (row ∷ rows) above =
@@ -152,7 +152,7 @@ module _ {G : Type 0} where
   set_step id change row rows x true is rest = ap (λ (y : G). (row.0, change y) ∷ rows) (sym (same_some is))
   set_step id change row rows x false is rest = ap (λ (xs : List (ℕ × G)). row ∷ xs) (rest is)
 
-  -- the changed one, put in the stead of the one that was there
+  -- the changed one, put in place of the one that was there
   pub set_altered : (id : ℕ) (change : G → G) (rows : List (ℕ × G)) (x : G) → member_at id rows ≡ Some x
       → with_member id (change x) rows ≡ alter_at id change rows
   set_altered id change [] x is = refl

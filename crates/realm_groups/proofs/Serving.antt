@@ -1,4 +1,4 @@
--- Who serves among the groups is who serves among their patterns.
+-- The group that serves is the one whose pattern serves.
 use Rattle.std.proofs.Common.{◌≡◌, ℕ, Bool, true, false, not, List}
 use Rattle.std.proofs.Common.{Option, None, Some, is_some, option_map, refl, sym, ap, ◌∙◌}
 use Rattle.std.specs.List.{list_any}
@@ -7,7 +7,7 @@ use Rattle.wamp_ids.specs.Pattern.{PatternValue}
 use Rattle.wamp_patterns.specs.Matching.{matches}
 use Rattle.wamp_patterns.specs.Ranking.{better, is_unbeaten, matching, serves}
 use Rattle.wamp_patterns.proofs.Serving.{one_unbeaten, some_serves}
-use Rattle.realm_lists.specs.Rows.{member_at, members}
+use Rattle.realm_lists.specs.OrderedList.{member_at, members}
 use Rattle.realm_lists.specs.Finding.{is_passing}
 use Rattle.realm_groups.specs.Groups.{id_at, is_at}
 use Rattle.realm_groups.proofs.Rows.{none_some, same_some}
@@ -39,7 +39,7 @@ module _ {X : Type 0} (pattern_of : X → PatternValue) (list : List X) (uri : L
   none_match none x there = false_from_ne_true (fits x)
       (λ on. false≢true (ap is_some (sym none) ∙ some_serves pattern_of list uri ∙ has_any fits list x there on))
 
-  -- who serves stands there, matches, and is beaten by none that matches
+  -- a server is there, matches, and is beaten by none that matches
   pub server_is : (x : X) → serves pattern_of list uri ≡ Some x
       → Has list x × (matches (pattern_of x) uri ≡ true)
       × ((y : X) → Has list y → matches (pattern_of y) uri ≡ true → better (pattern_of y) (pattern_of x) ≡ false)
@@ -54,7 +54,7 @@ module _ {X : Type 0} (pattern_of : X → PatternValue) (list : List X) (uri : L
             (has_any (λ other. better (pattern_of other) (pattern_of x)) fit y (has_kept fits list y there on) bad)),
       )
 
-  -- whoever stands there, matches and is beaten by none serves, if no other has its pattern
+  -- a group that is there, matches and is beaten by none serves, if no other has its pattern
   pub serves_is : (x : X) → Has list x → matches (pattern_of x) uri ≡ true
       → ((y : X) → Has list y → matches (pattern_of y) uri ≡ true → better (pattern_of y) (pattern_of x) ≡ false)
       → ((y : X) → Has list y → pattern_of y ≡ pattern_of x → y ≡ x) → serves pattern_of list uri ≡ Some x
@@ -72,7 +72,7 @@ module _ {X : Type 0} (pattern_of : X → PatternValue) (list : List X) (uri : L
 
 module _ {G : Type 0} (id_of : G → ℕ) (pattern_of : G → PatternValue) (sessions_of : G → List ℕ) (rows : List (ℕ × G))
     (patterns : List (PatternValue × ℕ)) (last : ℕ) (kept : Kept id_of pattern_of sessions_of rows patterns last) (uri : List ℕ) where
-  -- each group's pattern stands in the table, under its id
+  -- each group's pattern is in the table, with its id
   in_table : (x : G) → Has (members rows) x → (n : ℕ) × (member_at n rows ≡ Some x) × Has patterns (pattern_of x, n)
   in_table x there =
       let it = has_member rows x kept.rising there in (it.0, it.1, kept_has patterns (pattern_of x) it.0 (kept.found it.0 x it.1))
@@ -102,7 +102,7 @@ module _ {G : Type 0} (id_of : G → ℕ) (pattern_of : G → PatternValue) (ses
       (same_some (sym (kept.found at.0 y at.1) ∙ ap (id_at patterns) same ∙ kept.found e.1 it.0 it.1)) ∙ it.1))
       ∙ sym it.1
 
-  -- by the id that the table tells
+  -- by the id that the table gives
   pub best_none : option_map (λ e. e.1) (serves (λ e. e.0) patterns uri) ≡ None → serves pattern_of (members rows) uri ≡ None
   best_none none = some_or_none (serves (λ e. e.0) patterns uri) none_serves
       (λ e is. absurd (none_some (sym none ∙ ap (option_map (λ (e : PatternValue × ℕ). e.1)) is)))

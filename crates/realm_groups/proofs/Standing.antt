@@ -1,4 +1,4 @@
--- Who stands in a list.
+-- What is in a list.
 use Rattle.std.proofs.Common.{◌≡◌, ℕ, suc, Bool, true, false, cond, ◌||◌, List}
 use Rattle.std.proofs.Common.{[], ◌∷◌, filter, find, Option, Some, nat_eq}
 use Rattle.std.proofs.Common.{refl, sym, ap, ◌∙◌, ◌⊎◌, inl, inr}
@@ -11,7 +11,7 @@ use Rattle.std.proofs.lemmas.Map.Keys.{IsDistinct-from_sorted}
 use Rattle.wamp_ids.specs.Pattern.{PatternValue}
 use Rattle.wamp_patterns.specs.Table.{AreInOrder, pattern_cmp, same_pattern}
 use Rattle.wamp_patterns.proofs.Order.{pattern_total}
-use Rattle.realm_lists.specs.Rows.{member_at, members}
+use Rattle.realm_lists.specs.OrderedList.{member_at, members}
 use Rattle.realm_lists.specs.Finding.{AreRising}
 use Rattle.realm_lists.proofs.Finding.{same_at, rising_tail}
 use Rattle.realm_groups.specs.Groups.{id_at}
@@ -120,7 +120,7 @@ has_kept_at es e ordered h =
     let it = has_place_of es e h in
     lookup_from_place (eq_by_cmp_equiv pattern_total) es it.0 e.0 e.1 (IsDistinct-from_sorted pattern_cmp (keys_of es) ordered) it.1
 
--- a value that stands in a table stands under a key
+-- a value that is in a table is under a key
 pub value_has : (es : List (PatternValue × ℕ)) (n : ℕ) → list_any (nat_eq n) (values_of es) ≡ true → (p : PatternValue) × Has es (p, n)
 value_has es n on =
     let it = any_has (nat_eq n) (values_of es) on in under es it.0 (eqb-true n it.0 it.2) it.1

@@ -1,4 +1,4 @@
--- Groups of sessions by ascending id, each under a pattern. What a group is, is told by functions: its id, its pattern, its sessions.
+-- Groups of sessions by ascending id, each with a pattern. Functions give a group's id, its pattern and its sessions.
 use Rattle.std.specs.Prelude.{◌≡◌, ℕ, ◌==◌, ◌+◌, ◌≤◌, Bool, false, true, List}
 use Rattle.std.specs.Prelude.{[], ◌∷◌, ◌++◌, map, Option, None, Some, if◌then◌else◌}
 use denote.Ref.{Bor}
@@ -9,7 +9,7 @@ use Rattle.wamp_ids.specs.Id.{last_id}
 use Rattle.wamp_ids.specs.Pattern.{PatternValue}
 use Rattle.wamp_patterns.specs.Table.{AreInOrder, same_pattern}
 use Rattle.realm_sessions.specs.Members.{has_member, has_members}
-use Rattle.realm_lists.specs.Rows.{IsAbove, member_at}
+use Rattle.realm_lists.specs.OrderedList.{IsAbove, member_at}
 use Rattle.realm_lists.specs.Finding.{AreRising, is_passing}
 use Rattle.realm_groups.specs.IdSets.{has_id_in, ids_of}
 
@@ -70,7 +70,7 @@ abbrev pub each : {G : Type 0} → (G → Option G) → List G → List G
 each change [] = []
 each change (first ∷ rest) = put_first (change first) (each change rest)
 
--- ---- how they are kept
+-- ---- how they are stored
 
 -- the group of this id, changed
 abbrev pub alter_at : {G : Type 0} → ℕ → (G → G) → List (ℕ × G) → List (ℕ × G)
@@ -100,7 +100,7 @@ stays sessions_of change (Some group) = is_held sessions_of (change group)
 abbrev pub id_at : List (PatternValue × ℕ) → PatternValue → Option ℕ
 id_at patterns pattern = lookup (same_pattern pattern) patterns
 
--- each group stands under its id, which no other has, and under its pattern; and it has sessions
+-- each group is at its id, which no other has, and under its pattern; and it has sessions
 pub record AreKept {G : Type 0} (id_of : G → ℕ) (pattern_of : G → PatternValue) (sessions_of : G → List ℕ) (rows : List (ℕ × G))
     (patterns : List (PatternValue × ℕ)) (last : ℕ) : Type 0 where
   pub rising : AreRising rows
@@ -112,7 +112,7 @@ pub record AreKept {G : Type 0} (id_of : G → ℕ) (pattern_of : G → PatternV
   pub held : (id : ℕ) (group : G) → member_at id rows ≡ Some group → is_held sessions_of group ≡ true
   pub within : IsAbove (last + 1) rows
 
--- and of each session it is told in which groups it is
+-- and each session's set has the groups that it is in
 pub record AreGrouped {G : Type 0} (id_of : G → ℕ) (pattern_of : G → PatternValue) (sessions_of : G → List ℕ) (rows : List (ℕ × G))
     (patterns : List (PatternValue × ℕ)) (sets : List (ℕ × List ℕ)) (last : ℕ) : Type 0 where
   pub kept : AreKept id_of pattern_of sessions_of rows patterns last

@@ -6,37 +6,37 @@ ghost use Rattle.realm_sessions.specs.declared.fault.RealmFault.TheVariants as f
 use realm_sessions::RealmFault;
 use wamp_ids::{Id, Pattern};
 
-/// Sessions that stand together under one pattern, with an id.
+/// A group of sessions with one pattern and an id.
 pub trait Group: Drop {
     ghost id_of: { Self → ℕ };
 
     ghost pattern_of: { Self → PatternValue };
 
-    /// Its sessions in the order of joining, or as they take turns.
+    /// Its sessions in the order of joining, or of their turns.
     ghost sessions_of: { Self → List ℕ };
 
-    /// With the session as the last one.
+    /// The group with the session as its last one.
     ghost with: { ℕ → Self → Self };
 
-    /// Without the session.
+    /// The group without the session.
     ghost without: { ℕ → Self → Self };
 
-    /// Takes no memory.
+    /// Returns the pattern of the group. Does not allocate.
     fn pattern(&self) -> &Pattern<'static>
         ensures { result.now ≡ pattern_of self.now };
 
-    /// Whether there is a session. Takes no memory.
+    /// Returns whether the group has a session. Does not allocate.
     fn has_some(&self) -> bool
         ensures { result ≡ has_members (sessions_of self.now) };
 
-    /// The session, which is none of the group's, is the last one now. The only fault is `Memory`; nothing has changed then.
+    /// Adds the session, which is not in the group, as the last one. The only fault is `Memory`; nothing has changed then.
     fn join(&mut self, session: Id) -> Result<(), RealmFault>
         requires { has_member session (sessions_of self.old) ≡ false }
         ensures ok { OnOk result (self.new ≡ with session self.old) }
         ensures err { OnErr result (self.new ≡ self.old) }
         ensures fault { IsOkUnless result fault.Memory };
 
-    /// The session is none of the group's any more. Takes no memory.
+    /// Removes the session, if it is in the group. Does not allocate.
     fn leave(&mut self, session: Id)
         ensures { self.new ≡ without session self.old };
 
@@ -57,7 +57,7 @@ pub trait Group: Drop {
 pub trait Turning: Group {
     ghost turned: { Self → Self };
 
-    /// The first session is the last now, if they take turns. Takes no memory.
+    /// Makes the first session the last one, if they take turns. Does not allocate.
     fn turn(&mut self)
         ensures { self.new ≡ turned self.old };
 

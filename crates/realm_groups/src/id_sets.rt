@@ -8,7 +8,7 @@ use std::collections::btree_set::Iter;
 use std::collections::{BTreeMap, BTreeSet};
 use std::marker::Model;
 
-// A set of ids, which is seen as the list of them, which rises.
+// A set of ids. Its value is the ascending list of them.
 #[derive(Drop)]
 pub(crate) struct IdSet {
     ids: BTreeSet<u64>,
@@ -58,7 +58,7 @@ impl IdSet {
         Ok(())
     }
 
-    // Whether there are others then.
+    // Removes the id; returns whether others are left.
     fn remove(&mut self, id: u64) -> bool
         ensures ids { (q : ℕ) → has_id_in self.new q ≡ (if is_id id q then false else has_id_in self.old q) }
         ensures none { result ≡ false → self.new ≡ [] }
@@ -75,7 +75,7 @@ impl IdSet {
     }
 }
 
-// Sets of ids by sessions: what a session has costs a number of steps that is logarithmic in the number of sessions.
+// The ids of each session. Each call takes a number of steps that is logarithmic in the number of sessions and of the ids.
 #[derive(Drop)]
 pub(crate) struct IdSets {
     sets: BTreeMap<u64, IdSet>,
@@ -102,7 +102,7 @@ impl IdSets {
         }
     }
 
-    // How many ids the session has.
+    // Returns how many ids the session has.
     #[tactic(auto, using(crate::proofs::Sets::none_rising))]
     pub(crate) fn count(&self, session: u64) -> usize
         ensures count { result ≡ length (ids_of self.now session) }
@@ -123,7 +123,7 @@ impl IdSets {
         }
     }
 
-    // The session has this id, too. The only error is want of memory; nothing has changed then.
+    // Adds the id to the session's. Fails only if memory runs out, and then changes nothing.
     pub(crate) fn add(&mut self, alloc: Global, session: u64, id: u64) -> Result<(), AllocError>
         ensures ok { OnOk result ((other q : ℕ) → has_id_in (ids_of self.new other) q
             ≡ (if session == other && is_id id q then true else has_id_in (ids_of self.old other) q)) }
@@ -135,7 +135,7 @@ impl IdSets {
         self.add_first(alloc, session, id)
     }
 
-    // The same for a session that has none.
+    // Adds the id of a session that has none. Fails only if memory runs out, and then changes nothing.
     fn add_first(&mut self, alloc: Global, session: u64, id: u64) -> Result<(), AllocError>
         requires { ids_of self.old session ≡ [] }
         ensures ok { OnOk result ((other q : ℕ) → has_id_in (ids_of self.new other) q
@@ -150,7 +150,7 @@ impl IdSets {
         Ok(())
     }
 
-    // The session does not have this id. Takes no memory.
+    // Removes the id from the session's. Does not allocate.
     pub(crate) fn remove(&mut self, session: u64, id: u64)
         ensures { (other q : ℕ) → has_id_in (ids_of self.new other) q
             ≡ (if session == other && is_id id q then false else has_id_in (ids_of self.old other) q) }
@@ -163,7 +163,7 @@ impl IdSets {
         }
     }
 
-    // All ids of the session, which has none then. Takes no memory.
+    // Removes all ids of the session and returns them. Does not allocate.
     pub(crate) fn take(&mut self, session: u64) -> Option<IdSet>
         ensures some { IfSome result (λ set. set ≡ ids_of self.old session) }
         ensures none { IfNone result (ids_of self.old session ≡ []) }

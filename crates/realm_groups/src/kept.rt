@@ -1,7 +1,7 @@
-// Groups by their ids, and the ids of their patterns.
+//! Groups by their ids, and the ids of their patterns.
 ghost use Rattle.std.specs.Prelude.{◌≡◌, ◌+◌, ◌∷◌, [], ◌++◌, ℕ, true, false, None, Some, OnOk, OnErr, IsOkUnless};
 ghost use Rattle.realm_sessions.specs.declared.fault.RealmFault.TheVariants as fault;
-ghost use Rattle.realm_lists.specs.Rows.{IsAbove, member_at, members};
+ghost use Rattle.realm_lists.specs.OrderedList.{IsAbove, member_at, members};
 ghost use Rattle.realm_lists.specs.Finding.{AreRising};
 ghost use Rattle.realm_groups.specs.Groups.{AreKept, StayKept, alter_at, departed, each, found_session, id_at, is_held, left_at, stays};
 ghost use Rattle.realm_groups.specs.IdSets.{has_id_in};
@@ -13,7 +13,7 @@ use std::collections::BTreeMap;
 use wamp_ids::Id;
 use wamp_patterns::PatternTable;
 
-// The group comes as the last one.
+// Adds the group as the last one.
 pub(crate) fn put_in<G: Group>(
     rows: &mut BTreeMap<u64, G>,
     patterns: &mut PatternTable<u64>,
@@ -42,7 +42,7 @@ pub(crate) fn put_in<G: Group>(
     Err(RealmFault::Memory)
 }
 
-// The session joins the group of this id, in which it is not.
+// Adds the session to the group of this id, in which it must not be.
 pub(crate) fn join_in<G: Group>(
     rows: &mut BTreeMap<u64, G>,
     id: u64,
@@ -59,7 +59,7 @@ pub(crate) fn join_in<G: Group>(
     group.join(session)
 }
 
-// The session leaves the group of this id, in which it is.
+// Removes the session from the group of this id, in which it is, and the group if it has no session then.
 pub(crate) fn leave_in<G: Group>(
     rows: &mut BTreeMap<u64, G>,
     patterns: &mut PatternTable<u64>,
@@ -79,7 +79,7 @@ pub(crate) fn leave_in<G: Group>(
     let _ = patterns.remove(gone.pattern());
 }
 
-// The session leaves the group of this id. Whether there is one that has sessions then.
+// Removes the session from the group of this id. Returns whether there is a group that has sessions then.
 fn leave_at<G: Group>(rows: &mut BTreeMap<u64, G>, session: Id, id: u64) -> bool
     ensures rows { rows.new.entries ≡ alter_at id (G.without session) rows.old.entries }
     ensures stays { result ≡ stays G.sessions_of (G.without session) (member_at id rows.old.entries) }
@@ -91,7 +91,7 @@ fn leave_at<G: Group>(rows: &mut BTreeMap<u64, G>, session: Id, id: u64) -> bool
     group.has_some()
 }
 
-// The session leaves the groups of these ids, which are those that it is in.
+// Removes the session from the groups of these ids, which are all that it is in.
 pub(crate) fn leave_each<G: Group>(
     rows: &mut BTreeMap<u64, G>,
     patterns: &mut PatternTable<u64>,
@@ -111,7 +111,7 @@ pub(crate) fn leave_each<G: Group>(
     }
 }
 
-// The sessions of the group of this id take turns.
+// Lets the sessions of the group of this id take turns.
 pub(crate) fn turn_in<G: Turning>(rows: &mut BTreeMap<u64, G>, id: u64)
     ensures { rows.new.entries ≡ alter_at id G.turned rows.old.entries }
 {

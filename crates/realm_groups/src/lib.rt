@@ -1,4 +1,4 @@
-//! Groups of sessions, each under a pattern and with an id: the callees of registrations, the members of subscriptions.
+//! Groups of sessions, each with a pattern and an id: the callees of registrations, the members of subscriptions.
 #![tactic(auto)]
 
 mod group;

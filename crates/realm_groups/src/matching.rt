@@ -1,9 +1,9 @@
-// The groups whose patterns match a URI.
+//! The groups whose patterns match a URI.
 ghost use Rattle.std.specs.Prelude.{◌≡◌, ◌<◌, ℕ, [], length, IfOk, OnOk, IsOkUnless, map, option_copied};
 ghost use Rattle.std.specs.Map.{values_of};
 ghost use Rattle.wamp_patterns.specs.Ranking.{matching, serves};
 ghost use Rattle.realm_sessions.specs.declared.fault.RealmFault.TheVariants as fault;
-ghost use Rattle.realm_lists.specs.Rows.{member_at, members};
+ghost use Rattle.realm_lists.specs.OrderedList.{member_at, members};
 ghost use Rattle.realm_groups.specs.Groups.{AreKept, gathered, shown, with_found};
 
 use crate::group::Group;
@@ -13,7 +13,7 @@ use std::collections::BTreeMap;
 use wamp_ids::Uri;
 use wamp_patterns::PatternTable;
 
-// The group whose pattern serves the URI.
+// Returns the group whose pattern serves the URI.
 pub(crate) fn best_in<'a, G: Group>(
     rows: &'a BTreeMap<u64, G>,
     patterns: &PatternTable<u64>,
@@ -28,7 +28,7 @@ pub(crate) fn best_in<'a, G: Group>(
     rows.get(id)
 }
 
-// The groups whose patterns match the URI, by ascending id.
+// Returns the groups whose patterns match the URI, by ascending id.
 pub(crate) fn matching_in<'a, G: Group>(
     alloc: Global,
     rows: &'a BTreeMap<u64, G>,
@@ -49,7 +49,7 @@ pub(crate) fn matching_in<'a, G: Group>(
     values(alloc, &found)
 }
 
-// The group of the one id, where there is one: no map is made for it.
+// Returns the group of the only id, if there is an id: no map is needed for it.
 fn sole<'a, G: Group>(
     alloc: Global,
     rows: &'a BTreeMap<u64, G>,
@@ -71,7 +71,7 @@ fn sole<'a, G: Group>(
     Ok(found)
 }
 
-// The groups of these ids, by ascending id.
+// Returns the groups of these ids, by ascending id.
 fn gathered<'a, G: Group>(
     alloc: Global,
     rows: &'a BTreeMap<u64, G>,
@@ -87,7 +87,7 @@ fn gathered<'a, G: Group>(
     Ok(found)
 }
 
-// Puts the group of this id, if there is one.
+// Adds the group of this id, if there is one.
 fn add_found<'a, G: Group>(
     rows: &'a BTreeMap<u64, G>,
     id: u64,
@@ -103,7 +103,7 @@ fn add_found<'a, G: Group>(
     Ok(())
 }
 
-// The groups in order.
+// Returns the groups in order.
 #[tactic(auto, using(crate::proofs::Gathering::values_shown))]
 fn values<'a, G: Group>(
     alloc: Global,

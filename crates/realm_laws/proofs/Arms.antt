@@ -9,8 +9,8 @@ use Rattle.wamp_ids.specs.declared.policy.Invoke.{Invoke}
 use Rattle.wamp_ids.specs.declared.uri.UriFault.{UriFault}
 use Rattle.wamp_ids.specs.Pattern.{PatternValue, pattern_of}
 use Rattle.wamp_values.specs.declared.args.Args.{Args}
-use Rattle.wamp_message_layouts.specs.declared.request_kind.RequestKind.{RequestKind}
-use Rattle.wamp_message_layouts.specs.declared.request_kind.RequestKind.TheVariants as kind
+use Rattle.wamp_message_types.specs.declared.request_kind.RequestKind.{RequestKind}
+use Rattle.wamp_message_types.specs.declared.request_kind.RequestKind.TheVariants as kind
 use Rattle.wamp_message_types.specs.declared.message.Message.TheVariants as message
 use Rattle.wamp_message_types.specs.declared.publish.Publish.{Publish}
 use Rattle.wamp_message_types.specs.declared.session.Hello.{Hello}
@@ -26,19 +26,19 @@ use Rattle.realm_sessions.specs.Links.{is_taken, by_transport, set_session, conn
 use Rattle.realm_sessions.specs.Sessions.{Opened, opened, open_session}
 use Rattle.realm_sessions.proofs.SoundLinks.{connected_sound, opened_sound}
 use Rattle.realm_sessions.proofs.FreeIds.{found_free}
-use Rattle.realm_registrations.specs.Registry.{Registry}
-use Rattle.realm_registrations.specs.Registry as registrations
+use Rattle.realm_registrations.specs.Registrations.{Registrations}
+use Rattle.realm_registrations.specs.Registrations as registering
 use Rattle.realm_subscriptions.specs.Subscriptions.{Subscriptions}
-use Rattle.realm_subscriptions.specs.Subscribing as subscriptions
+use Rattle.realm_subscriptions.specs.Subscribing as subscribing
 use Rattle.realm_subscriptions.specs.Receiving.{receivers}
-use Rattle.realm_subscriptions.specs.Leaving as topics_left
-use Rattle.realm_sayings.specs.declared.act.Say.{Say}
-use Rattle.realm_sayings.specs.Sayings.{invalid_uri, no_such_subscription, no_such_realm, limit}
-use Rattle.realm_sayings.specs.Events.{event_of, event_to, is_open_topic}
+use Rattle.realm_subscriptions.specs.Leaving as leaving
+use Rattle.realm_machine.specs.declared.sayings.say.Say.{Say}
+use Rattle.realm_machine.specs.Sayings.{invalid_uri, no_such_subscription, no_such_realm, limit}
+use Rattle.realm_machine.specs.Sayings.Events.{event_of, event_to, is_open_topic}
 use Rattle.realm_machine.specs.declared.requester.Requester.{Requester}
 use Rattle.realm_machine.specs.Config.{Config}
-use Rattle.realm_machine.specs.Content.{Content, Step, quiet, reply, refuse, refuse_by, with_links, with_topics}
-use Rattle.realm_machine.specs.Content.{with_registry}
+use Rattle.realm_machine.specs.Content.{Content, Step, quiet, reply, refuse, refuse_by, with_links, with_subscriptions}
+use Rattle.realm_machine.specs.Content.{with_registrations}
 use Rattle.realm_machine.specs.Leaving.{stop}
 use Rattle.realm_machine.specs.Opening.{welcomed, open_at}
 use Rattle.realm_machine.specs.Subscribing.{subscribed, subscribe_to, subscribe}
@@ -118,33 +118,33 @@ open_moves config c t draw hello base here =
 
 -- ---- requests that are no CALL: what is said is no final reply, and neither sessions nor calls change
 
-topics_moves : (c : Content) (topics : Subscriptions) (said : List Say) → Base c → IsSilent said
-    → Moves c (record { content = with_topics c topics; says = said })
-topics_moves c topics said base silent =
-    still_moves c (with_topics c topics) said
+subscriptions_moves : (c : Content) (subscriptions : Subscriptions) (said : List Say) → Base c → IsSilent said
+    → Moves c (record { content = with_subscriptions c subscriptions; says = said })
+subscriptions_moves c subscriptions said base silent =
+    still_moves c (with_subscriptions c subscriptions) said
     (record { links = base.links; known = base.known; served = base.served; calls = base.calls }) refl
     (λ t call h stands. stands) silent
 
-registry_moves : (c : Content) (registry : Registry) (said : List Say) → Base c → IsSilent said
-    → Moves c (record { content = with_registry c registry; says = said })
-registry_moves c registry said base silent =
-    still_moves c (with_registry c registry) said
+registrations_moves : (c : Content) (registrations : Registrations) (said : List Say) → Base c → IsSilent said
+    → Moves c (record { content = with_registrations c registrations; says = said })
+registrations_moves c registrations said base silent =
+    still_moves c (with_registrations c registrations) said
     (record { links = base.links; known = base.known; served = base.served; calls = base.calls }) refl
     (λ t call h stands. stands) silent
 
-subscribed_moves : (c : Content) (requester : Requester) (request : ℕ) (topics : Subscriptions)
+subscribed_moves : (c : Content) (requester : Requester) (request : ℕ) (subscriptions : Subscriptions)
     (answer : Result ℕ RealmFault) → Base c
-    → Moves c (subscribed c requester request topics answer)
-subscribed_moves c requester request topics (Ok id) base =
-    topics_moves c topics (subscribed c requester request topics (Ok id)).says base (λ u r. refl)
-subscribed_moves c requester request topics (Err fault) base =
+    → Moves c (subscribed c requester request subscriptions answer)
+subscribed_moves c requester request subscriptions (Ok id) base =
+    subscriptions_moves c subscriptions (subscribed c requester request subscriptions (Ok id)).says base (λ u r. refl)
+subscribed_moves c requester request subscriptions (Err fault) base =
     said_moves c (refuse c requester.transport kind.Subscribe request limit).says base (λ u r. refl)
 
 subscribe_to_moves : (c : Content) (requester : Requester) (request : ℕ) (asked : Result PatternValue UriFault) → Base c
     → Moves c (subscribe_to c requester request asked)
 subscribe_to_moves c requester request (Ok pattern) base =
-    subscribed_moves c requester request (subscriptions.subscribe c.topics requester.session pattern).subscriptions
-    (subscriptions.subscribe c.topics requester.session pattern).answer base
+    subscribed_moves c requester request (subscribing.subscribe c.subscriptions requester.session pattern).subscriptions
+    (subscribing.subscribe c.subscriptions requester.session pattern).answer base
 subscribe_to_moves c requester request (Err fault) base =
     said_moves c (refuse c requester.transport kind.Subscribe request invalid_uri).says base (λ u r. refl)
 
@@ -155,17 +155,17 @@ subscribe_moves c requester it base = subscribe_to_moves c requester it.request 
 pub unsubscribe_moves : (c : Content) (requester : Requester) (it : Unsubscribe) → Base c
     → Moves c (unsubscribe c requester it)
 unsubscribe_moves c requester it base =
-    let topics = topics_left.unsubscribe c.topics requester.session it.subscription in
+    let subscriptions = leaving.unsubscribe c.subscriptions requester.session it.subscription in
     let done =
-    reply (with_topics c topics) requester.transport (message.Unsubscribed (record { request = it.request })) in
+    reply (with_subscriptions c subscriptions) requester.transport (message.Unsubscribed (record { request = it.request })) in
     let refused = refuse c requester.transport kind.Unsubscribe it.request no_such_subscription in
-    cond_both (topics_left.is_in c.topics requester.session it.subscription) done refused (λ (s : Step). Moves c s)
-    (λ _. topics_moves c topics done.says base (λ u r. refl)) (λ _. said_moves c refused.says base (λ u r. refl))
+    cond_both (leaving.is_in c.subscriptions requester.session it.subscription) done refused (λ (s : Step). Moves c s)
+    (λ _. subscriptions_moves c subscriptions done.says base (λ u r. refl)) (λ _. said_moves c refused.says base (λ u r. refl))
 
 silent_events : (c : Content) (topic : List ℕ) (publication : ℕ) (args : Args) (except : Option ℕ)
     → IsSilent (events c topic publication args except)
 silent_events c topic publication args except t r =
-    count_flat_none (is_final t r) (event_to c.sessions.list topic publication args) (receivers c.topics topic except)
+    count_flat_none (is_final t r) (event_to c.sessions.list topic publication args) (receivers c.subscriptions topic except)
     (λ receiver. silent_to c.sessions.list receiver.member (message.Event (event_of topic publication args receiver))
     (λ q. refl) t r)
 
@@ -195,20 +195,20 @@ refuse_by_moves c t k request None silent base = quiet_moves c base
 refuse_by_moves c t k request (Some error) silent base =
     said_moves c (refuse c t k request error).says base (silent error)
 
-registered_moves : (c : Content) (requester : Requester) (request : ℕ) (registry : Registry)
+registered_moves : (c : Content) (requester : Requester) (request : ℕ) (registrations : Registrations)
     (answer : Result ℕ RealmFault) → Base c
-    → Moves c (registered c requester request registry answer)
-registered_moves c requester request registry (Ok id) base =
-    registry_moves c registry (registered c requester request registry (Ok id)).says base (λ u r. refl)
-registered_moves c requester request registry (Err fault) base =
+    → Moves c (registered c requester request registrations answer)
+registered_moves c requester request registrations (Ok id) base =
+    registrations_moves c registrations (registered c requester request registrations (Ok id)).says base (λ u r. refl)
+registered_moves c requester request registrations (Err fault) base =
     refuse_by_moves c requester.transport kind.Register request (uri_of fault) (λ text u r. refl) base
 
 register_for_moves : (c : Content) (requester : Requester) (request : ℕ) (invoke : Invoke)
     (asked : Result PatternValue UriFault) → Base c
     → Moves c (register_for c requester request invoke asked)
 register_for_moves c requester request invoke (Ok pattern) base =
-    registered_moves c requester request (registrations.register c.registry requester.session pattern invoke).registry
-    (registrations.register c.registry requester.session pattern invoke).answer base
+    registered_moves c requester request (registering.register c.registrations requester.session pattern invoke).registrations
+    (registering.register c.registrations requester.session pattern invoke).answer base
 register_for_moves c requester request invoke (Err fault) base =
     said_moves c (refuse c requester.transport kind.Register request invalid_uri).says base (λ u r. refl)
 
@@ -216,17 +216,17 @@ pub register_moves : (c : Content) (requester : Requester) (it : Register) → B
 register_moves c requester it base =
     register_for_moves c requester it.request it.invoke (pattern_of it.procedure it.matching) base
 
-unregistered_moves : (c : Content) (requester : Requester) (request : ℕ) (registry : Registry)
+unregistered_moves : (c : Content) (requester : Requester) (request : ℕ) (registrations : Registrations)
     (answer : Result (Unit {0}) RealmFault)
-    → Base c → Moves c (unregistered c requester request registry answer)
-unregistered_moves c requester request registry (Ok done) base =
-    registry_moves c registry (unregistered c requester request registry (Ok done)).says base (λ u r. refl)
-unregistered_moves c requester request registry (Err fault) base =
+    → Base c → Moves c (unregistered c requester request registrations answer)
+unregistered_moves c requester request registrations (Ok done) base =
+    registrations_moves c registrations (unregistered c requester request registrations (Ok done)).says base (λ u r. refl)
+unregistered_moves c requester request registrations (Err fault) base =
     refuse_by_moves c requester.transport kind.Unregister request (uri_of fault) (λ text u r. refl) base
 
 pub unregister_moves : (c : Content) (requester : Requester) (it : Unregister) → Base c
     → Moves c (unregister c requester it)
 unregister_moves c requester it base =
     unregistered_moves c requester it.request
-    (registrations.unregister c.registry requester.session it.registration).registry
-    (registrations.unregister c.registry requester.session it.registration).answer base
+    (registering.unregister c.registrations requester.session it.registration).registrations
+    (registering.unregister c.registrations requester.session it.registration).answer base

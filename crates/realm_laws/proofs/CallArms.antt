@@ -11,7 +11,7 @@ use Rattle.wamp_ids.specs.declared.policy.Mode.TheVariants.{Skip, Kill, KillNoWa
 use Rattle.wamp_ids.specs.Uri.{uri_of as read_uri, is_reserved}
 use Rattle.wamp_ids.specs.declared.uri.UriFault.{UriFault}
 use Rattle.wamp_values.specs.declared.args.Args.{Args}
-use Rattle.wamp_message_layouts.specs.declared.request_kind.RequestKind.TheVariants as kind
+use Rattle.wamp_message_types.specs.declared.request_kind.RequestKind.TheVariants as kind
 use Rattle.wamp_message_types.specs.declared.message.Message.{Message}
 use Rattle.wamp_message_types.specs.declared.message.Message.TheVariants as message
 use Rattle.wamp_message_types.specs.declared.call.Call.{Call}
@@ -27,18 +27,18 @@ use Rattle.realm_sessions.proofs.FreeInvocations.{free_invocation_free}
 use Rattle.realm_sessions.proofs.Invoking.{invoked_links}
 use Rattle.realm_calls.proofs.SoundCalls.{opened_sound as call_opened}
 use Rattle.realm_registrations.specs.declared.registration.Chosen.{Chosen}
-use Rattle.realm_registrations.specs.Registry.{Registry, choose, turn}
+use Rattle.realm_registrations.specs.Registrations.{Registrations, choose, turn}
 use Rattle.realm_calls.specs.declared.calls.Open.{Open}
 use Rattle.realm_calls.specs.Calls.{is_call, is_invocation, has, call_of, is_full, open_call, with_call, open_of, end}
 use Rattle.realm_calls.specs.Calls.{cancel_one}
-use Rattle.realm_sayings.specs.declared.act.Say.{Say}
-use Rattle.realm_sayings.specs.Sayings.{say, to_session, refusal, invalid_uri, invalid_argument, no_such_procedure}
-use Rattle.realm_sayings.specs.Sayings.{limit, canceled}
-use Rattle.realm_sayings.specs.Invocations.{interrupt, invocation, failure}
+use Rattle.realm_machine.specs.declared.sayings.say.Say.{Say}
+use Rattle.realm_machine.specs.Sayings.{say, to_session, refusal, invalid_uri, invalid_argument, no_such_procedure}
+use Rattle.realm_machine.specs.Sayings.{limit, canceled}
+use Rattle.realm_machine.specs.Sayings.Invocations.{interrupt, invocation, failure}
 use Rattle.realm_machine.specs.declared.requester.Requester.{Requester}
 use Rattle.realm_machine.specs.Content.{Content, Step, quiet, refuse, with_calls}
 use Rattle.realm_machine.specs.Leaving.{violation}
-use Rattle.realm_machine.specs.Calling.{refuse_call, invoke, call_chosen, call_open, call_read, call_text}
+use Rattle.realm_machine.specs.Calling.{refuse_call, invoke, call_chosen, call_uri}
 use Rattle.realm_machine.specs.Calling.{on_call}
 use Rattle.realm_machine.specs.Calling.{canceled_as, cancel_found, on_cancel, replied, reply_to, on_yield}
 use Rattle.realm_machine.specs.Calling.{on_failure, unfit_call}
@@ -96,14 +96,14 @@ reply_moves c callee request answer is base =
 pub yield_moves : (c : Content) (requester : Requester) (it : Yield) → Base c → Moves c (on_yield c requester it)
 yield_moves c requester it base =
     reply_moves c requester.session it.request
-    (λ request. message.Reply (record { request = request; args = it.args })) (λ r q. refl) base
+    (λ request. message.CallResult (record { request = request; args = it.args })) (λ r q. refl) base
 
 pub failure_moves : (c : Content) (requester : Requester) (request : ℕ) (error : List ℕ) (args : Args) → Base c
     → Moves c (on_failure c requester request error args)
 failure_moves c requester request error args base =
     reply_moves c requester.session request (failure error args) (λ r q. refl) base
 
--- the caller is told that its call is canceled, behind something that is no final reply
+-- the caller gets the ERROR for its canceled call, after something that is no final reply
 canceled_pays : (c : Content) (t : Transport) (call : Open) (front : List Say)
     → at c.sessions.list t call.caller ≡ true → IsSilent front
     → (u : Transport) (r : ℕ)
@@ -204,7 +204,7 @@ refused_owes c t request error base none = record {
       omega (arith, off, said);
 }
 
--- who has a next invocation is there, and the invocation is not open
+-- a session that has a next invocation is there, and the invocation is not open
 served_by : (links : List Link) (taken : List ℕ) (callee id : ℕ) (o : Option Link) → find (has_id callee) links ≡ o
     → invocation_of taken (found_session o) ≡ Some id → (is_taken links callee ≡ true) × (has_number taken id ≡ false)
 served_by links taken callee id None e h = absurd (none h)
@@ -231,24 +231,24 @@ invoked_holds links callee id u q list =
     and_from (call.request == q) (at links u call.caller) parts.0 (invoked_at links callee id u call.caller parts.1))
 
 -- a call is opened, and its callee is sent something
-abbrev opening : Content → ℕ → ℕ → ℕ → ℕ → Registry → Message → Step
-opening c session request callee id registry m = record {
+abbrev opening : Content → ℕ → ℕ → ℕ → ℕ → Registrations → Message → Step
+opening c session request callee id registrations m = record {
   content = record {
     sessions = with_list c.sessions (set_invocation c.sessions.list callee id);
-    registry = registry;
-    topics = c.topics;
+    registrations = registrations;
+    subscriptions = c.subscriptions;
     calls = with_call c.calls (open_call session request callee id);
   };
   says = to_session (set_invocation c.sessions.list callee id) callee m;
 }
 
-opening_base : (c : Content) (t : Transport) (session request callee id : ℕ) (registry : Registry) (m : Message)
+opening_base : (c : Content) (t : Transport) (session request callee id : ℕ) (registrations : Registrations) (m : Message)
     → Base c
     → at c.sessions.list t session ≡ true → has c.calls.list session request ≡ false
     → is_taken c.sessions.list callee ≡ true
     → has_number (open_of c.calls.list callee) id ≡ false
-    → Base (opening c session request callee id registry m).content
-opening_base c t session request callee id registry m base here off there_is free =
+    → Base (opening c session request callee id registrations m).content
+opening_base c t session request callee id registrations m base here off there_is free =
     let links = c.sessions.list in
     let new = open_call session request callee id in
     record {
@@ -265,11 +265,11 @@ opening_base c t session request callee id registry m base here off there_is fre
     }
 
 -- how many calls are open then
-opening_opens : (c : Content) (session request callee id : ℕ) (registry : Registry) (m : Message) (u : Transport)
+opening_opens : (c : Content) (session request callee id : ℕ) (registrations : Registrations) (m : Message) (u : Transport)
     (q : ℕ)
-    → opens (opening c session request callee id registry m).content u q
+    → opens (opening c session request callee id registrations m).content u q
     ≤ opens c u q + bit (request == q && at (set_invocation c.sessions.list callee id) u session)
-opening_opens c session request callee id registry m u q =
+opening_opens c session request callee id registrations m u q =
     let links' = set_invocation c.sessions.list callee id in
     let new = open_call session request callee id in
     let less : count (holds links' u q) c.calls.list ≤ opens c u q =
@@ -278,20 +278,20 @@ opening_opens c session request callee id registry m u q =
     + (bit (request == q && at links' u session) + 0) = count_append (holds links' u q) c.calls.list (new ∷ []) in
     omega (arith, less, both)
 
-opening_owes : (c : Content) (t : Transport) (session request callee id : ℕ) (registry : Registry) (m : Message)
+opening_owes : (c : Content) (t : Transport) (session request callee id : ℕ) (registrations : Registrations) (m : Message)
     → Base c
     → at c.sessions.list t session ≡ true → opens c t request ≡ 0 → has c.calls.list session request ≡ false
     → is_taken c.sessions.list callee ≡ true → has_number (open_of c.calls.list callee) id ≡ false
-    → ((q : ℕ) → is_final_message q m ≡ false) → Owes c t request (opening c session request callee id registry m)
-opening_owes c t session request callee id registry m base here none off there_is free silent = record {
-  base = opening_base c t session request callee id registry m base here off there_is free;
+    → ((q : ℕ) → is_final_message q m ≡ false) → Owes c t request (opening c session request callee id registrations m)
+opening_owes c t session request callee id registrations m base here none off there_is free silent = record {
+  base = opening_base c t session request callee id registrations m base here off there_is free;
   owed =
       let last : bit (request == request && at (set_invocation c.sessions.list callee id) t session) ≤ 1 =
       bit_one (request == request && at (set_invocation c.sessions.list callee id) t session) in
-      let more : opens (opening c session request callee id registry m).content t request
+      let more : opens (opening c session request callee id registrations m).content t request
       ≤ opens c t request + bit (request == request && at (set_invocation c.sessions.list callee id) t session) =
-      opening_opens c session request callee id registry m t request in
-      let said : finals t request (opening c session request callee id registry m).says ≡ 0 =
+      opening_opens c session request callee id registrations m t request in
+      let said : finals t request (opening c session request callee id registrations m).says ≡ 0 =
       silent_to (set_invocation c.sessions.list callee id) callee m silent t request in
       omega (arith, last, more, said, none);
   paid = λ u q other.
@@ -301,10 +301,10 @@ opening_owes c t session request callee id registry m base here none off there_i
       other (one_transport c.sessions.list t u session base.links here
       (invoked_at c.sessions.list callee id u session parts.1))
       (eqb-true request q parts.0))) in
-      let more : opens (opening c session request callee id registry m).content u q
+      let more : opens (opening c session request callee id registrations m).content u q
       ≤ opens c u q + bit (request == q && at (set_invocation c.sessions.list callee id) u session) =
-      opening_opens c session request callee id registry m u q in
-      let said : finals u q (opening c session request callee id registry m).says ≡ 0 =
+      opening_opens c session request callee id registrations m u q in
+      let said : finals u q (opening c session request callee id registrations m).says ≡ 0 =
       silent_to (set_invocation c.sessions.list callee id) callee m silent u q in
       omega (arith, off, more, said);
 }
@@ -320,7 +320,7 @@ invoked_owes c requester call chosen (Some id) base off e here none =
     let is = served_by c.sessions.list (open_of c.calls.list chosen.callee) chosen.callee id
     (find (has_id chosen.callee) c.sessions.list) refl e in
     opening_owes c requester.transport requester.session call.request chosen.callee id
-    (turn c.registry chosen.registration)
+    (turn c.registrations chosen.registration)
     (invocation id chosen call) base here none off is.0 is.1 (λ q. refl)
 
 chosen_owes : (c : Content) (requester : Requester) (call : Call) (o : Option Chosen) → Base c
@@ -338,17 +338,17 @@ chosen_owes c requester call (Some chosen) base off here none =
     (λ _. invoked_owes c requester call chosen
     (invocation_of taken (session_with c.sessions.list chosen.callee)) base off refl here none)
 
-call_read_owes : (c : Content) (requester : Requester) (call : Call) (o : Result (List ℕ) UriFault) → Base c
+call_uri_owes : (c : Content) (requester : Requester) (call : Call) (o : Result (List ℕ) UriFault) → Base c
     → has c.calls.list requester.session call.request ≡ false
     → at c.sessions.list requester.transport requester.session ≡ true
     → opens c requester.transport call.request ≡ 0
-    → Owes c requester.transport call.request (call_read c requester call o)
-call_read_owes c requester call (Ok uri) base new here none =
-    cond_both (is_reserved uri) (refuse_call c requester call no_such_procedure) (call_open c requester call uri)
+    → Owes c requester.transport call.request (call_uri c requester call o)
+call_uri_owes c requester call (Ok uri) base new here none =
+    cond_both (is_reserved uri) (refuse_call c requester call no_such_procedure) (call_chosen c requester call (choose c.registrations uri))
     (λ (s : Step). Owes c requester.transport call.request s)
     (λ _. refused_owes c requester.transport call.request no_such_procedure base none)
-    (λ _. chosen_owes c requester call (choose c.registry uri) base new here none)
-call_read_owes c requester call (Err fault) base new here none =
+    (λ _. chosen_owes c requester call (choose c.registrations uri) base new here none)
+call_uri_owes c requester call (Err fault) base new here none =
     refused_owes c requester.transport call.request invalid_uri base none
 
 pub call_owes : (c : Content) (requester : Requester) (call : Call) → Base c
@@ -357,10 +357,10 @@ pub call_owes : (c : Content) (requester : Requester) (call : Call) → Base c
     → Owes c requester.transport call.request (on_call c requester call)
 call_owes c requester call base once here =
     let t = requester.transport in
-    cond_both (has c.calls.list requester.session call.request) (violation c t) (call_text c requester call)
+    cond_both (has c.calls.list requester.session call.request) (violation c t) (call_uri c requester call (read_uri call.procedure))
     (λ (s : Step). Owes c t call.request s)
     (λ _. moves_owes c t call.request (violation c t) (violation_moves c t base) once)
-    (λ new. call_read_owes c requester call (read_uri call.procedure) base new here
+    (λ new. call_uri_owes c requester call (read_uri call.procedure) base new here
     (none_open c t requester.session call.request base here new))
 
 -- an unfit one is refused, or quiet

@@ -1,4 +1,4 @@
--- What stands in a list.
+-- What is in a list.
 use Rattle.std.proofs.Common.{◌≡◌, ◌⊎◌, inl, inr, ⊎_elim, Bool, true, false, ◌||◌, refl, sym, ◌∙◌, ap, subst, List, []}
 use Rattle.std.proofs.Common.{◌∷◌}
 use Rattle.std.proofs.Common.{Some, None, find, filter}
@@ -67,7 +67,7 @@ pub All-has : {A : Type 0} (P : A → Type 0) {xs : List A} {x : A} → All P xs
 All-has P all (in_front {x = x} {xs = xs}) = All-head P x xs all
 All-has P all (further {x = x} {y = y} {xs = xs} h) = All-has P (All-tail P y xs all) h
 
--- where no two are as R denies, two that are as R denies are one
+-- if no two are as R denies, two that are as R denies are one
 pub two_are_one : {A : Type 0} (R : A → A → Type 0) {xs : List A} {x y : A} → AllPairs R xs → Has xs x → Has xs y
     → (R x y → ⊥) → (R y x → ⊥) → x ≡ y
 two_are_one R {y = y} pairs (in_front {x = x} {xs = xs}) h off back =

@@ -10,7 +10,7 @@ pub realm_sound_in_logs : RealmIsSoundInLogs
 realm_sound_in_logs config log n = realm_sound config (inputs (take n log))
 
 pub registrations_sound_in_logs : RegistrationsAreSoundInLogs
-registrations_sound_in_logs config log n = (realm_sound_in_logs config log n).registry
+registrations_sound_in_logs config log n = (realm_sound_in_logs config log n).registrations
 
 pub open_calls_sound_in_logs : OpenCallsAreSoundInLogs
 open_calls_sound_in_logs config log n = open_calls_sound config (inputs (take n log))

@@ -1,5 +1,5 @@
--- An open call is paid for by its final reply: of the open calls under a request of a transport no step makes more,
--- and where it says a final reply one call fewer is open.
+-- An open call is paid for by its final reply: no step makes the open calls under a request of a transport more, and each final reply that
+-- it says leaves one call fewer open.
 use Rattle.std.proofs.Common.{◌≡◌, inl, inr, ⊎_elim, ℕ, ◌+◌, ◌≤◌, ◌==◌, Bool, true, false, not, ◌&&◌, refl, sym, ◌∙◌}
 use Rattle.std.proofs.Common.{ap, subst, List, []}
 use Rattle.std.proofs.Common.{◌∷◌, ◌++◌, filter, Option, Some, None, arith}
@@ -8,7 +8,7 @@ use Rattle.std.proofs.lemmas.Bool.{cond_both, and_parts, and_from, eq-eqb, both_
 use Rattle.paxos_packets.specs.declared.transport.Transport.{Transport}
 use Rattle.paxos_packets.specs.Transport.{same_transport}
 use Rattle.wamp_ids.specs.declared.policy.Mode.TheVariants.{KillNoWait}
-use Rattle.wamp_message_layouts.specs.declared.request_kind.RequestKind.TheVariants as kind
+use Rattle.wamp_message_types.specs.declared.request_kind.RequestKind.TheVariants as kind
 use Rattle.wamp_message_types.specs.declared.message.Message.{Message}
 use Rattle.realm_sessions.specs.declared.links.Link.{Link}
 use Rattle.realm_sessions.specs.Links.{is_taken, by_transport, transport_of, announces, set_session, without_transport}
@@ -18,11 +18,11 @@ use Rattle.realm_calls.specs.declared.calls.Open.{Open}
 use Rattle.realm_calls.specs.Calls.{is_to, calls_to, calls_by, without_callee, without_caller}
 use Rattle.realm_calls.specs.Laws.{AreSoundCalls}
 use Rattle.realm_calls.proofs.SoundCalls.{kept_sound}
-use Rattle.realm_sayings.specs.declared.act.Say.{Say}
-use Rattle.realm_sayings.specs.Sayings.{say, shut, say_to, to_session, refusal, abort, goodbye as goodbye_for, canceled}
-use Rattle.realm_sayings.specs.Sayings.{protocol_violation, goodbye_and_out}
-use Rattle.realm_sayings.specs.Endings.{end_for_caller, end_for_callee, farewell}
-use Rattle.realm_sayings.specs.Invocations.{interrupt}
+use Rattle.realm_machine.specs.declared.sayings.say.Say.{Say}
+use Rattle.realm_machine.specs.Sayings.{say, shut, say_to, to_session, refusal, abort, goodbye as goodbye_for, canceled}
+use Rattle.realm_machine.specs.Sayings.{protocol_violation, goodbye_and_out}
+use Rattle.realm_machine.specs.Sayings.Endings.{end_for_caller, end_for_callee, farewell}
+use Rattle.realm_machine.specs.Sayings.Invocations.{interrupt}
 use Rattle.realm_machine.specs.Content.{Content, Step, quiet, and_then, with_links, with_calls}
 use Rattle.realm_machine.specs.Leaving.{leave_session, leave}
 use Rattle.realm_machine.specs.Leaving.{remove, stop, violation, aborted, goodbye, one_gone, all_gone}
@@ -34,7 +34,7 @@ use Rattle.realm_laws.proofs.Standing.{at, IsEmptyAt, one_id, place_at, session_
 use Rattle.realm_laws.proofs.Standing.{set_taken}
 use Rattle.realm_laws.proofs.Standing.{removed_at, removed_taken}
 
--- the call is under this request, and its caller stands at this transport
+-- the call is under this request, and its caller is at this transport
 abbrev pub holds : List Link → Transport → ℕ → Open → Bool
 holds links t r call = call.request == r && at links t call.caller
 
@@ -181,7 +181,7 @@ others_left list session call h =
     (has_filter (λ (it : Open). not (it.caller == session)) (without_callee list session) h) in
     (by, callee_off (call.callee == session) (call.caller == session) to by)
 
--- its calls end, and each caller is told of its own
+-- its calls end, and each caller gets the ERROR for its own
 left_moves : (c : Content) (t : Transport) (session : ℕ) → Base c → by_transport c.sessions.list t ≡ Some (Some session)
     → Moves c (leave_session c t (Some (Some session)))
 left_moves c t session base found = record { base = left_base; pays = left_pays }
@@ -285,7 +285,7 @@ remove_moves c t base =
     moves_then c (leave c t) (λ d. quiet (with_links d (without_transport d.sessions.list t))) left
     (go_moves (leave c t).content t left.base (leave_empty c t base))
 
--- something that is no final reply is said behind
+-- something that is no final reply is said after it
 behind_moves : (c : Content) (a : Step) (said : List Say) → Moves c a → IsSilent said
     → Moves c (and_then a (λ d. record { content = d; says = said }))
 behind_moves c a said moves silent =

@@ -4,15 +4,15 @@ use Rattle.std.proofs.Common.{Option, None, Some, refl, ◌∙◌}
 use Rattle.std.proofs.lemmas.Bool.{cond_both}
 use Rattle.wamp_ids.specs.declared.uri.UriFault.{UriFault}
 use Rattle.wamp_message_types.specs.declared.message.Message.{Message}
-use Rattle.realm_sayings.specs.Sayings.{limit, no_such_procedure}
+use Rattle.realm_machine.specs.Sayings.{limit, no_such_procedure}
 use Rattle.realm_machine.specs.declared.requester.Requester.{Requester}
 use Rattle.realm_machine.specs.Config.{Config}
 use Rattle.realm_machine.specs.Content.{Content}
 use Rattle.realm_machine.specs.Leaving.{violation}
 use Rattle.realm_laws.specs.Laws.{IsSound}
 use Rattle.wamp_ids.specs.Uri.{is_reserved}
-use Rattle.realm_registrations.specs.Registry as registrations
-use Rattle.realm_registrations.proofs.SoundRegistrations as sound_registry
+use Rattle.realm_registrations.specs.Registrations as registering
+use Rattle.realm_registrations.proofs.SoundRegistrations as sound_registrations
 use Rattle.wamp_ids.specs.Uri.{uri_of as read_uri}
 use Rattle.wamp_ids.specs.declared.policy.Mode.{Mode}
 use Rattle.wamp_message_types.specs.declared.call.Call.{Call as CallMessage}
@@ -23,7 +23,7 @@ use Rattle.realm_calls.specs.declared.calls.Open.{Open}
 use Rattle.realm_calls.specs.declared.calls.Cancelled.{Cancelled}
 use Rattle.realm_calls.specs.Calls.{Calls, has, open_of, cancel_one, without_cancelled}
 use Rattle.realm_calls.specs.Calls as calls
-use Rattle.realm_machine.specs.Calling.{refuse_call, invoke, call_chosen, call_open, call_read, call_text, on_call}
+use Rattle.realm_machine.specs.Calling.{refuse_call, invoke, call_chosen, call_uri, on_call}
 use Rattle.realm_machine.specs.Calling.{cancel_found, replied, reply_to}
 use Rattle.std.specs.Prelude.{find}
 use Rattle.realm_sessions.proofs.Invoking.{invoked_links}
@@ -37,12 +37,12 @@ with_calls_sound : (config : Config) (c : Content) (calls : Calls) → calls.lim
 with_calls_sound config c calls same ok =
     record {
       limit = ok.limit;
-      topics_limit = ok.topics_limit;
-      registry_limit = ok.registry_limit;
+      subscriptions_limit = ok.subscriptions_limit;
+      registrations_limit = ok.registrations_limit;
       calls_limit = same;
       links = ok.links;
-      registry = ok.registry;
-      topics = ok.topics;
+      registrations = ok.registrations;
+      subscriptions = ok.subscriptions;
     }
 
 invoked_sound : (config : Config) (c : Content) (r : Requester) (asked : CallMessage) (chosen : Chosen) (o : Option ℕ)
@@ -52,12 +52,12 @@ invoked_sound config c r asked chosen None ok = ok
 invoked_sound config c r asked chosen (Some id) ok =
     record {
       limit = ok.limit;
-      topics_limit = ok.topics_limit;
-      registry_limit = ok.registry_limit;
+      subscriptions_limit = ok.subscriptions_limit;
+      registrations_limit = ok.registrations_limit;
       calls_limit = ok.calls_limit;
       links = invoked_links c.sessions.list chosen.callee id ok.links;
-      registry = sound_registry.turn_sound c.registry chosen.registration ok.registry;
-      topics = ok.topics;
+      registrations = sound_registrations.turn_sound c.registrations chosen.registration ok.registrations;
+      subscriptions = ok.subscriptions;
     }
 
 chosen_sound : (config : Config) (c : Content) (r : Requester) (asked : CallMessage) (o : Option Chosen)
@@ -71,19 +71,19 @@ chosen_sound config c r asked (Some chosen) ok =
     (λ _. ok)
     (λ _. invoked_sound config c r asked chosen (invocation_of taken (session_with c.sessions.list chosen.callee)) ok)
 
-call_read_sound : (config : Config) (c : Content) (r : Requester) (asked : CallMessage) (o : Result (List ℕ) UriFault)
+call_uri_sound : (config : Config) (c : Content) (r : Requester) (asked : CallMessage) (o : Result (List ℕ) UriFault)
     → IsSound config c
-    → Keeps config (call_read c r asked o)
-call_read_sound config c r asked (Ok uri) ok =
-    cond_both (is_reserved uri) (refuse_call c r asked no_such_procedure) (call_open c r asked uri) (Keeps config)
-    (λ _. ok) (λ _. chosen_sound config c r asked (registrations.choose c.registry uri) ok)
-call_read_sound config c r asked (Err fault) ok = ok
+    → Keeps config (call_uri c r asked o)
+call_uri_sound config c r asked (Ok uri) ok =
+    cond_both (is_reserved uri) (refuse_call c r asked no_such_procedure) (call_chosen c r asked (registering.choose c.registrations uri)) (Keeps config)
+    (λ _. ok) (λ _. chosen_sound config c r asked (registering.choose c.registrations uri) ok)
+call_uri_sound config c r asked (Err fault) ok = ok
 
 pub call_sound : (config : Config) (c : Content) (r : Requester) (asked : CallMessage) → IsSound config c
     → Keeps config (on_call c r asked)
 call_sound config c r asked ok =
-    cond_both (has c.calls.list r.session asked.request) (violation c r.transport) (call_text c r asked) (Keeps config)
-    (λ _. violation_sound config c r.transport ok) (λ _. call_read_sound config c r asked (read_uri asked.procedure) ok)
+    cond_both (has c.calls.list r.session asked.request) (violation c r.transport) (call_uri c r asked (read_uri asked.procedure)) (Keeps config)
+    (λ _. violation_sound config c r.transport ok) (λ _. call_uri_sound config c r asked (read_uri asked.procedure) ok)
 
 -- canceling changes no limit
 canceled_limit : (list : Calls) (it : Cancelled) → (without_cancelled list it).limit ≡ list.limit

@@ -5,8 +5,8 @@ use Rattle.std.proofs.lemmas.Bool.{cond_both}
 use Rattle.paxos_packets.specs.declared.transport.Transport.{Transport}
 use Rattle.wamp_ids.specs.declared.uri.UriFault.{UriFault}
 use Rattle.wamp_ids.specs.Pattern.{PatternValue}
-use Rattle.wamp_message_layouts.specs.declared.request_kind.RequestKind.{RequestKind}
-use Rattle.wamp_message_layouts.specs.declared.request_kind.RequestKind.TheVariants as kind
+use Rattle.wamp_message_types.specs.declared.request_kind.RequestKind.{RequestKind}
+use Rattle.wamp_message_types.specs.declared.request_kind.RequestKind.TheVariants as kind
 use Rattle.wamp_message_types.specs.declared.session.Hello.{Hello as HelloMessage}
 use Rattle.wamp_message_types.specs.declared.publish.Publish.{Publish as PublishMessage}
 use Rattle.wamp_message_types.specs.declared.subscribe.Unsubscribe.{Unsubscribe as UnsubscribeMessage}
@@ -16,17 +16,17 @@ use Rattle.realm_sessions.specs.declared.fault.RealmFault.TheVariants as fault
 use Rattle.realm_sessions.specs.Laws.{AreSoundLinks}
 use Rattle.realm_sessions.specs.Links.{by_transport, session_count, new_session_id}
 use Rattle.realm_sessions.specs.Sessions.{Sessions, Opened, opened, open_session}
-use Rattle.realm_sayings.specs.Sayings.{limit, no_such_realm, no_such_subscription, invalid_uri}
-use Rattle.realm_sayings.specs.Events.{is_open_topic}
+use Rattle.realm_machine.specs.Sayings.{limit, no_such_realm, no_such_subscription, invalid_uri}
+use Rattle.realm_machine.specs.Sayings.Events.{is_open_topic}
 use Rattle.realm_machine.specs.declared.requester.Requester.{Requester}
 use Rattle.realm_machine.specs.Config.{Config}
 use Rattle.realm_subscriptions.specs.declared.subscription.Subscription.{Subscription}
 use Rattle.realm_subscriptions.specs.Subscriptions.{Subscriptions, subscription_on, is_full}
 use Rattle.realm_subscriptions.specs.Subscription.{is_member}
 use Rattle.realm_subscriptions.specs.Subscribing.{Subscribed}
-use Rattle.realm_subscriptions.specs.Subscribing as subscriptions
+use Rattle.realm_subscriptions.specs.Subscribing as subscribing
 use Rattle.realm_subscriptions.specs.Leaving as left
-use Rattle.realm_machine.specs.Content.{Content, Step, quiet, reply, refuse, refuse_by, with_topics, with_registry}
+use Rattle.realm_machine.specs.Content.{Content, Step, quiet, reply, refuse, refuse_by, with_subscriptions, with_registrations}
 use Rattle.realm_machine.specs.Leaving.{leave_session, leave, remove, stop, violation, aborted, goodbye}
 use Rattle.realm_machine.specs.Opening.{welcome, welcomed, open_at}
 use Rattle.realm_machine.specs.Subscribing.{subscribed, subscribe_to}
@@ -40,17 +40,17 @@ use Rattle.wamp_message_types.specs.declared.register.Unregister.{Unregister as 
 use Rattle.realm_sessions.specs.Fault.{uri_of}
 use Rattle.realm_registrations.specs.declared.registration.Registration.{Registration}
 use Rattle.realm_registrations.specs.Registration.{may_join}
-use Rattle.realm_registrations.specs.Registry.{Registry, Registered, Unregistered, refused, register_at}
-use Rattle.realm_registrations.specs.Registry.{registration_at, with_registration}
-use Rattle.realm_registrations.specs.Registry.{with_callee_at, is_callee, without_callee_of}
-use Rattle.realm_registrations.specs.Registry as registrations
+use Rattle.realm_registrations.specs.Registrations.{Registrations, Registered, Unregistered, refused, register_at}
+use Rattle.realm_registrations.specs.Registrations.{registration_at, with_registration}
+use Rattle.realm_registrations.specs.Registrations.{with_callee_at, is_callee, without_callee_of}
+use Rattle.realm_registrations.specs.Registrations as registering
 use Rattle.realm_registrations.specs.Laws.{AreSoundRegistrations}
-use Rattle.realm_registrations.proofs.SoundRegistrations as sound_registry
+use Rattle.realm_registrations.proofs.SoundRegistrations as sound_registrations
 use Rattle.realm_machine.specs.Registering.{registered, register_for, unregistered, unregister}
 use Rattle.realm_machine.specs.Calling.{invoke}
 use Rattle.realm_sessions.proofs.SoundLinks as links
 use Rattle.realm_sessions.proofs.FreeIds.{open_sound}
-use Rattle.realm_subscriptions.proofs.Sound as topics
+use Rattle.realm_subscriptions.proofs.Sound as sound_subscriptions
 
 abbrev pub Keeps : Config → Step → Type 0
 Keeps config step = IsSound config step.content
@@ -63,12 +63,12 @@ left_sound config c t None ok = ok
 left_sound config c t (Some None) ok = ok
 left_sound config c t (Some (Some session)) ok = record {
   limit = ok.limit;
-  topics_limit = ok.topics_limit;
-  registry_limit = ok.registry_limit;
+  subscriptions_limit = ok.subscriptions_limit;
+  registrations_limit = ok.registrations_limit;
   calls_limit = ok.calls_limit;
   links = links.closed_sound c.sessions.list t ok.links;
-  registry = sound_registry.leave_sound c.registry session ok.registry;
-  topics = topics.leave_sound c.topics session ok.topics;
+  registrations = sound_registrations.leave_sound c.registrations session ok.registrations;
+  subscriptions = sound_subscriptions.leave_sound c.subscriptions session ok.subscriptions;
 }
 
 leave_sound : (config : Config) (c : Content) (t : Transport) → IsSound config c → Keeps config (leave c t)
@@ -79,12 +79,12 @@ remove_sound config c t ok =
     let gone = leave_sound config c t ok in
     record {
       limit = gone.limit;
-      topics_limit = gone.topics_limit;
-      registry_limit = gone.registry_limit;
+      subscriptions_limit = gone.subscriptions_limit;
+      registrations_limit = gone.registrations_limit;
       calls_limit = gone.calls_limit;
       links = links.removed_sound (leave c t).content.sessions.list t gone.links;
-      registry = gone.registry;
-      topics = gone.topics;
+      registrations = gone.registrations;
+      subscriptions = gone.subscriptions;
     }
 
 stop_sound : (config : Config) (c : Content) (t : Transport) (reason : List ℕ) → IsSound config c
@@ -108,12 +108,12 @@ welcome_sound : (config : Config) (c : Content) (t : Transport) (sessions : Sess
 welcome_sound config c t sessions (Ok id) same fine ok =
     record {
       limit = same;
-      topics_limit = ok.topics_limit;
-      registry_limit = ok.registry_limit;
+      subscriptions_limit = ok.subscriptions_limit;
+      registrations_limit = ok.registrations_limit;
       calls_limit = ok.calls_limit;
       links = fine;
-      registry = ok.registry;
-      topics = ok.topics;
+      registrations = ok.registrations;
+      subscriptions = ok.subscriptions;
     }
 welcome_sound config c t sessions (Err refused) same fine ok = stop_sound config c t limit ok
 
@@ -142,25 +142,25 @@ hello_sound config c t draw hello ok =
 -- ---- subscribing and publishing
 
 -- subscribing changes no limit
-topics_limit_kept : (topics : Subscriptions) (session : ℕ) (pattern : PatternValue)
-    → (subscriptions.subscribe topics session pattern).subscriptions.limit ≡ topics.limit
-topics_limit_kept topics session pattern = by_found (subscription_on topics pattern)
+subscriptions_limit_kept : (subscriptions : Subscriptions) (session : ℕ) (pattern : PatternValue)
+    → (subscribing.subscribe subscriptions session pattern).subscriptions.limit ≡ subscriptions.limit
+subscriptions_limit_kept subscriptions session pattern = by_found (subscription_on subscriptions pattern)
   where
-    unless_full_kept : (id : ℕ) (changed : Subscriptions) → changed.limit ≡ topics.limit
-        → (subscriptions.unless_full topics session id changed).subscriptions.limit ≡ topics.limit
+    unless_full_kept : (id : ℕ) (changed : Subscriptions) → changed.limit ≡ subscriptions.limit
+        → (subscribing.unless_full subscriptions session id changed).subscriptions.limit ≡ subscriptions.limit
     unless_full_kept id changed same =
-        cond_both (is_full topics session) (record { subscriptions = topics; answer = Err fault.Limit })
-        (record { subscriptions = changed; answer = Ok id }) (λ (d : Subscribed). d.subscriptions.limit ≡ topics.limit)
+        cond_both (is_full subscriptions session) (record { subscriptions = subscriptions; answer = Err fault.Limit })
+        (record { subscriptions = changed; answer = Ok id }) (λ (d : Subscribed). d.subscriptions.limit ≡ subscriptions.limit)
         (λ _. refl) (λ _. same)
 
     by_found : (o : Option Subscription)
-        → (subscriptions.subscribe_to topics session pattern o).subscriptions.limit ≡ topics.limit
-    by_found None = unless_full_kept (topics.last + 1) (subscriptions.add topics session pattern) refl
+        → (subscribing.subscribe_to subscriptions session pattern o).subscriptions.limit ≡ subscriptions.limit
+    by_found None = unless_full_kept (subscriptions.last + 1) (subscribing.add subscriptions session pattern) refl
     by_found (Some found) =
-        cond_both (is_member session found) (record { subscriptions = topics; answer = Ok found.id })
-        (subscriptions.unless_full topics session found.id (subscriptions.join topics session pattern))
-        (λ (d : Subscribed). d.subscriptions.limit ≡ topics.limit) (λ _. refl)
-        (λ _. unless_full_kept found.id (subscriptions.join topics session pattern) refl)
+        cond_both (is_member session found) (record { subscriptions = subscriptions; answer = Ok found.id })
+        (subscribing.unless_full subscriptions session found.id (subscribing.join subscriptions session pattern))
+        (λ (d : Subscribed). d.subscriptions.limit ≡ subscriptions.limit) (λ _. refl)
+        (λ _. unless_full_kept found.id (subscribing.join subscriptions session pattern) refl)
 
 subscribed_sound : (config : Config) (c : Content) (r : Requester) (request : ℕ) (changed : Subscriptions)
     (answer : Result ℕ RealmFault)
@@ -169,12 +169,12 @@ subscribed_sound : (config : Config) (c : Content) (r : Requester) (request : �
 subscribed_sound config c r request changed (Ok id) same fine ok =
     record {
       limit = ok.limit;
-      topics_limit = same;
-      registry_limit = ok.registry_limit;
+      subscriptions_limit = same;
+      registrations_limit = ok.registrations_limit;
       calls_limit = ok.calls_limit;
       links = ok.links;
-      registry = ok.registry;
-      topics = fine;
+      registrations = ok.registrations;
+      subscriptions = fine;
     }
 subscribed_sound config c r request changed (Err refused) same fine ok = ok
 
@@ -182,27 +182,27 @@ pub subscribe_to_sound : (config : Config) (c : Content) (r : Requester) (reques
     (asked : Result PatternValue UriFault) → IsSound config c
     → Keeps config (subscribe_to c r request asked)
 subscribe_to_sound config c r request (Ok pattern) ok =
-    let due = subscriptions.subscribe c.topics r.session pattern in
+    let due = subscribing.subscribe c.subscriptions r.session pattern in
     subscribed_sound config c r request due.subscriptions due.answer
-    (topics_limit_kept c.topics r.session pattern ∙ ok.topics_limit)
-    (topics.subscribe_sound c.topics r.session pattern ok.topics) ok
+    (subscriptions_limit_kept c.subscriptions r.session pattern ∙ ok.subscriptions_limit)
+    (sound_subscriptions.subscribe_sound c.subscriptions r.session pattern ok.subscriptions) ok
 subscribe_to_sound config c r request (Err fault) ok = ok
 
 pub unsubscribe_sound : (config : Config) (c : Content) (r : Requester) (asked : UnsubscribeMessage) → IsSound config c
     → Keeps config (unsubscribe c r asked)
 unsubscribe_sound config c r asked ok =
-    let changed = with_topics c (left.unsubscribe c.topics r.session asked.subscription) in
-    cond_both (left.is_in c.topics r.session asked.subscription)
+    let changed = with_subscriptions c (left.unsubscribe c.subscriptions r.session asked.subscription) in
+    cond_both (left.is_in c.subscriptions r.session asked.subscription)
     (reply changed r.transport (told.Unsubscribed (record { request = asked.request })))
     (refuse c r.transport kind.Unsubscribe asked.request no_such_subscription) (Keeps config)
     (λ _. record {
       limit = ok.limit;
-      topics_limit = ok.topics_limit;
-      registry_limit = ok.registry_limit;
+      subscriptions_limit = ok.subscriptions_limit;
+      registrations_limit = ok.registrations_limit;
       calls_limit = ok.calls_limit;
       links = ok.links;
-      registry = ok.registry;
-      topics = topics.unsubscribe_sound c.topics r.session asked.subscription ok.topics;
+      registrations = ok.registrations;
+      subscriptions = sound_subscriptions.unsubscribe_sound c.subscriptions r.session asked.subscription ok.subscriptions;
     })
     (λ _. ok)
 
@@ -222,17 +222,17 @@ publish_sound config c r asked ok =
 
 -- ---- registering
 
-with_registry_sound : (config : Config) (c : Content) (changed : Registry) → changed.limit ≡ config.limits.registrations
-    → AreSoundRegistrations changed → IsSound config c → IsSound config (with_registry c changed)
-with_registry_sound config c changed same fine ok =
+with_registrations_sound : (config : Config) (c : Content) (changed : Registrations) → changed.limit ≡ config.limits.registrations
+    → AreSoundRegistrations changed → IsSound config c → IsSound config (with_registrations c changed)
+with_registrations_sound config c changed same fine ok =
     record {
       limit = ok.limit;
-      topics_limit = ok.topics_limit;
-      registry_limit = same;
+      subscriptions_limit = ok.subscriptions_limit;
+      registrations_limit = same;
       calls_limit = ok.calls_limit;
       links = ok.links;
-      registry = fine;
-      topics = ok.topics;
+      registrations = fine;
+      subscriptions = ok.subscriptions;
     }
 
 refused_for_sound : (config : Config) (c : Content) (t : Transport) (k : RequestKind) (request : ℕ)
@@ -242,38 +242,38 @@ refused_for_sound config c t k request None ok = ok
 refused_for_sound config c t k request (Some error) ok = ok
 
 -- registering changes no limit
-register_at_limit : (registry : Registry) (session : ℕ) (pattern : PatternValue) (invoke : Invoke)
+register_at_limit : (registrations : Registrations) (session : ℕ) (pattern : PatternValue) (invoke : Invoke)
     (o : Option Registration)
-    → (register_at registry session pattern invoke o).registry.limit ≡ registry.limit
-register_at_limit registry session pattern invoke None =
-    cond_both (registrations.is_full registry session) (refused registry fault.Limit)
-    (record { registry = with_registration registry session pattern invoke; answer = Ok (registry.last + 1) })
-    (λ (r : Registered). r.registry.limit ≡ registry.limit) (λ _. refl) (λ _. refl)
-register_at_limit registry session pattern invoke (Some found) =
-    cond_both (not (may_join session invoke found)) (refused registry fault.AlreadyExists) joins
-    (λ (r : Registered). r.registry.limit ≡ registry.limit) (λ _. refl)
-    (λ _. cond_both (registrations.is_full registry session) (refused registry fault.Limit) joined
-    (λ (r : Registered). r.registry.limit ≡ registry.limit) (λ _. refl) (λ _. refl))
+    → (register_at registrations session pattern invoke o).registrations.limit ≡ registrations.limit
+register_at_limit registrations session pattern invoke None =
+    cond_both (registering.is_full registrations session) (refused registrations fault.Limit)
+    (record { registrations = with_registration registrations session pattern invoke; answer = Ok (registrations.last + 1) })
+    (λ (r : Registered). r.registrations.limit ≡ registrations.limit) (λ _. refl) (λ _. refl)
+register_at_limit registrations session pattern invoke (Some found) =
+    cond_both (not (may_join session invoke found)) (refused registrations fault.AlreadyExists) joins
+    (λ (r : Registered). r.registrations.limit ≡ registrations.limit) (λ _. refl)
+    (λ _. cond_both (registering.is_full registrations session) (refused registrations fault.Limit) joined
+    (λ (r : Registered). r.registrations.limit ≡ registrations.limit) (λ _. refl) (λ _. refl))
   where
     joined : Registered
-    joined = record { registry = with_callee_at registry session pattern; answer = Ok found.id }
+    joined = record { registrations = with_callee_at registrations session pattern; answer = Ok found.id }
 
     joins : Registered
-    joins = if registrations.is_full registry session then refused registry fault.Limit else joined
+    joins = if registering.is_full registrations session then refused registrations fault.Limit else joined
 
-register_limit : (registry : Registry) (session : ℕ) (pattern : PatternValue) (invoke : Invoke)
-    → (registrations.register registry session pattern invoke).registry.limit ≡ registry.limit
-register_limit registry session pattern invoke =
-    cond_both (is_reserved pattern.text) (refused registry fault.InvalidUri)
-    (register_at registry session pattern invoke (registration_at registry pattern))
-    (λ (r : Registered). r.registry.limit ≡ registry.limit)
-    (λ _. refl) (λ _. register_at_limit registry session pattern invoke (registration_at registry pattern))
+register_limit : (registrations : Registrations) (session : ℕ) (pattern : PatternValue) (invoke : Invoke)
+    → (registering.register registrations session pattern invoke).registrations.limit ≡ registrations.limit
+register_limit registrations session pattern invoke =
+    cond_both (is_reserved pattern.text) (refused registrations fault.InvalidUri)
+    (register_at registrations session pattern invoke (registration_at registrations pattern))
+    (λ (r : Registered). r.registrations.limit ≡ registrations.limit)
+    (λ _. refl) (λ _. register_at_limit registrations session pattern invoke (registration_at registrations pattern))
 
-registered_sound : (config : Config) (c : Content) (r : Requester) (request : ℕ) (changed : Registry)
+registered_sound : (config : Config) (c : Content) (r : Requester) (request : ℕ) (changed : Registrations)
     (answer : Result ℕ RealmFault)
     → changed.limit ≡ config.limits.registrations → AreSoundRegistrations changed → IsSound config c
     → Keeps config (registered c r request changed answer)
-registered_sound config c r request changed (Ok id) same fine ok = with_registry_sound config c changed same fine ok
+registered_sound config c r request changed (Ok id) same fine ok = with_registrations_sound config c changed same fine ok
 registered_sound config c r request changed (Err fault) same fine ok =
     refused_for_sound config c r.transport kind.Register request (uri_of fault) ok
 
@@ -281,32 +281,32 @@ pub register_for_sound : (config : Config) (c : Content) (r : Requester) (reques
     (asked : Result PatternValue UriFault)
     → IsSound config c → Keeps config (register_for c r request invoke asked)
 register_for_sound config c r request invoke (Ok pattern) ok =
-    let due = registrations.register c.registry r.session pattern invoke in
-    registered_sound config c r request due.registry due.answer
-    (register_limit c.registry r.session pattern invoke ∙ ok.registry_limit)
-    (sound_registry.register_sound c.registry r.session pattern invoke ok.registry) ok
+    let due = registering.register c.registrations r.session pattern invoke in
+    registered_sound config c r request due.registrations due.answer
+    (register_limit c.registrations r.session pattern invoke ∙ ok.registrations_limit)
+    (sound_registrations.register_sound c.registrations r.session pattern invoke ok.registrations) ok
 register_for_sound config c r request invoke (Err fault) ok = ok
 
-unregister_limit : (registry : Registry) (session id : ℕ)
-    → (registrations.unregister registry session id).registry.limit ≡ registry.limit
-unregister_limit registry session id =
-    cond_both (is_callee registry session id)
-    (record { registry = without_callee_of registry session id; answer = Ok tt })
-    (record { registry = registry; answer = Err fault.NoSuchRegistration })
-    (λ (r : Unregistered). r.registry.limit ≡ registry.limit) (λ _. refl) (λ _. refl)
+unregister_limit : (registrations : Registrations) (session id : ℕ)
+    → (registering.unregister registrations session id).registrations.limit ≡ registrations.limit
+unregister_limit registrations session id =
+    cond_both (is_callee registrations session id)
+    (record { registrations = without_callee_of registrations session id; answer = Ok tt })
+    (record { registrations = registrations; answer = Err fault.NoSuchRegistration })
+    (λ (r : Unregistered). r.registrations.limit ≡ registrations.limit) (λ _. refl) (λ _. refl)
 
-unregistered_sound : (config : Config) (c : Content) (r : Requester) (request : ℕ) (changed : Registry)
+unregistered_sound : (config : Config) (c : Content) (r : Requester) (request : ℕ) (changed : Registrations)
     (answer : Result (Unit {0}) RealmFault)
     → changed.limit ≡ config.limits.registrations → AreSoundRegistrations changed → IsSound config c
     → Keeps config (unregistered c r request changed answer)
-unregistered_sound config c r request changed (Ok done) same fine ok = with_registry_sound config c changed same fine ok
+unregistered_sound config c r request changed (Ok done) same fine ok = with_registrations_sound config c changed same fine ok
 unregistered_sound config c r request changed (Err fault) same fine ok =
     refused_for_sound config c r.transport kind.Unregister request (uri_of fault) ok
 
 pub unregister_sound : (config : Config) (c : Content) (r : Requester) (asked : UnregisterMessage) → IsSound config c
     → Keeps config (unregister c r asked)
 unregister_sound config c r asked ok =
-    let due = registrations.unregister c.registry r.session asked.registration in
-    unregistered_sound config c r asked.request due.registry due.answer
-    (unregister_limit c.registry r.session asked.registration ∙ ok.registry_limit)
-    (sound_registry.unregister_sound c.registry r.session asked.registration ok.registry) ok
+    let due = registering.unregister c.registrations r.session asked.registration in
+    unregistered_sound config c r asked.request due.registrations due.answer
+    (unregister_limit c.registrations r.session asked.registration ∙ ok.registrations_limit)
+    (sound_registrations.unregister_sound c.registrations r.session asked.registration ok.registrations) ok

@@ -5,12 +5,12 @@ use Rattle.std.proofs.lemmas.Bool.{cond_both, cond-false, not_from_true}
 use Rattle.std.proofs.lemmas.Slice.Eq.{bytes_eq-Decides}
 use Rattle.paxos_packets.specs.declared.transport.Transport.{Transport}
 use Rattle.wamp_ids.specs.Pattern.{pattern_of}
-use Rattle.wamp_message_layouts.specs.declared.request_kind.RequestKind.{RequestKind}
-use Rattle.wamp_message_layouts.specs.declared.request_kind.RequestKind.TheVariants as kind
+use Rattle.wamp_message_types.specs.declared.request_kind.RequestKind.{RequestKind}
+use Rattle.wamp_message_types.specs.declared.request_kind.RequestKind.TheVariants as kind
 use Rattle.wamp_message_types.specs.declared.message.Message.{Message}
 use Rattle.wamp_message_types.specs.declared.message.Message.TheVariants.{Hello, Abort, Goodbye, Error, Publish, Subscribe}
 use Rattle.wamp_message_types.specs.declared.message.Message.TheVariants.{Unsubscribe, Register, Unregister}
-use Rattle.wamp_message_types.specs.declared.message.Message.TheVariants.{Call, Cancel, Yield, Reply}
+use Rattle.wamp_message_types.specs.declared.message.Message.TheVariants.{Call, Cancel, Yield, CallResult}
 use Rattle.wamp_message_types.specs.declared.read_result.UnfitKind.{UnfitKind}
 use Rattle.wamp_message_types.specs.declared.read_result.UnfitKind.TheVariants as unfit
 use Rattle.wamp_message_types.specs.declared.read_result.Read.{Read}
@@ -21,8 +21,8 @@ use Rattle.realm_sessions.specs.Links.{by_transport, of_origin, session_count}
 use Rattle.replica_machine.specs.declared.input.Input.{Input}
 use Rattle.replica_machine.specs.declared.input.Input.TheVariants.{Boot, Lost, Item}
 use Rattle.realm_sessions.specs.Sessions.{open_session}
-use Rattle.realm_sayings.specs.Sayings.{no_such_realm, invalid_argument}
-use Rattle.realm_sayings.specs.Invocations.{failure}
+use Rattle.realm_machine.specs.Sayings.{no_such_realm, invalid_argument}
+use Rattle.realm_machine.specs.Sayings.Invocations.{failure}
 use Rattle.realm_machine.specs.declared.requester.Requester.{Requester}
 use Rattle.realm_machine.specs.Config.{Config}
 use Rattle.realm_machine.specs.Content.{Content, empty}
@@ -31,14 +31,14 @@ use Rattle.realm_machine.specs.Opening.{welcomed}
 use Rattle.realm_machine.specs.Step.{refuse_unless, on_unfit, on_error, on_request, on_opening, on_message, on_read}
 use Rattle.realm_machine.specs.Step.{on_transport, next, after_input}
 use Rattle.realm_laws.specs.Laws.{IsSound, EmptyIsSound, EachInputKeepsSound, EveryRealmIsSound, OpensWhereRoom, after}
-use Rattle.realm_registrations.proofs.SoundRegistrations as sound_registry
+use Rattle.realm_registrations.proofs.SoundRegistrations as sound_registrations
 use Rattle.wamp_values.specs.declared.args.Args.TheVariants.{Nothing}
 use Rattle.wamp_message_types.specs.declared.error.Error as error
 use Rattle.realm_calls.specs.Calls.{has}
 use Rattle.realm_calls.specs.Calls as calls
 use Rattle.realm_sessions.proofs.SoundLinks as links
 use Rattle.realm_sessions.proofs.FreeIds as free
-use Rattle.realm_subscriptions.proofs.Sound as topics
+use Rattle.realm_subscriptions.proofs.Sound as sound_subscriptions
 use Rattle.realm_laws.proofs.SoundParts.{Keeps, remove_sound, violation_sound, aborted_sound, goodbye_sound}
 use Rattle.realm_laws.proofs.SoundParts.{hello_sound, subscribe_to_sound, unsubscribe_sound, publish_sound}
 use Rattle.realm_laws.proofs.SoundParts.{register_for_sound, unregister_sound}
@@ -87,7 +87,7 @@ request_sound config c r (Call asked) ok = call_sound config c r asked ok
 request_sound config c r (Cancel asked) ok =
     cancel_sound config c r asked.mode (calls.call_of c.calls.list r.session asked.request) ok
 request_sound config c r (Yield asked) ok =
-    reply_sound config c r.session asked.request (λ request. Reply (record { request = request; args = asked.args })) ok
+    reply_sound config c r.session asked.request (λ request. CallResult (record { request = request; args = asked.args })) ok
 request_sound config c r message ok = violation_sound config c r.transport ok
 
 opening_sound : (config : Config) (c : Content) (t : Transport) (draw : ℕ) (message : Message) → IsSound config c
@@ -123,12 +123,12 @@ transport_sound config c t draw read (Some session) ok = read_sound config c t s
 pub empty_sound : EmptyIsSound
 empty_sound config = record {
   limit = refl;
-  topics_limit = refl;
-  registry_limit = refl;
+  subscriptions_limit = refl;
+  registrations_limit = refl;
   calls_limit = refl;
   links = links.nothing_sound;
-  registry = sound_registry.nothing_sound config.limits.registrations;
-  topics = topics.nothing_sound config.limits.subscriptions;
+  registrations = sound_registrations.nothing_sound config.limits.registrations;
+  subscriptions = sound_subscriptions.nothing_sound config.limits.subscriptions;
 }
 
 act_sound : (config : Config) (c : Content) (t : Transport) (act : Act) → IsSound config c
@@ -136,12 +136,12 @@ act_sound : (config : Config) (c : Content) (t : Transport) (act : Act) → IsSo
 act_sound config c t Connect ok =
     record {
       limit = ok.limit;
-      topics_limit = ok.topics_limit;
-      registry_limit = ok.registry_limit;
+      subscriptions_limit = ok.subscriptions_limit;
+      registrations_limit = ok.registrations_limit;
       calls_limit = ok.calls_limit;
       links = links.connected_sound c.sessions.list t ok.links;
-      registry = ok.registry;
-      topics = ok.topics;
+      registrations = ok.registrations;
+      subscriptions = ok.subscriptions;
     }
 act_sound config c t (Said draw read) ok = transport_sound config c t draw read (by_transport c.sessions.list t) ok
 act_sound config c t Hung ok = remove_sound config c t ok

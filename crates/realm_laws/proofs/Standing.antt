@@ -1,4 +1,4 @@
--- At which transport a session stands, and what each change of the links leaves of that.
+-- At which transport a session is, and what each change of the links leaves of that.
 use Rattle.std.proofs.Common.{◌≡◌, ◌≢◌, ◌⊎◌, inl, inr, ⊎_elim, ℕ, ◌==◌, Bool, true, false, not, ◌&&◌, refl, sym, ◌∙◌}
 use Rattle.std.proofs.Common.{ap, subst, List, [], ◌∷◌}
 use Rattle.std.proofs.Common.{◌++◌, map, filter, find, Option, Some, None, option_map}
@@ -20,7 +20,7 @@ use Rattle.realm_sessions.proofs.Pairs.{All-not_found}
 abbrev pub stands : Transport → ℕ → Link → Bool
 stands t s link = is_of t link && has_id s link
 
--- the session stands at the transport
+-- the session is at the transport
 abbrev pub at : List Link → Transport → ℕ → Bool
 at links t s = list_any (stands t s) links
 
@@ -34,7 +34,7 @@ stands_parts t s link h = and_parts (is_of t link) (has_id s link) h
 stand : (t : Transport) (s : ℕ) (link : Link) → is_of t link ≡ true → has_id s link ≡ true → stands t s link ≡ true
 stand t s link of has = and_from (is_of t link) (has_id s link) of has
 
--- ---- one session stands at one transport
+-- ---- one session is at one transport
 
 session_is : (s r : ℕ) (o : Option Session) → is_session s o ≡ true → is_session r o ≡ true → s ≡ r
 session_is s r None h g = absurd (false≢true h)
@@ -77,7 +77,7 @@ at_taken links t s h =
 some_is : {A : Type 0} {x y : A} → Some x ≡ Some y → x ≡ y
 some_is h = cc
 
--- where a session is found it stands
+-- a session is where it is found
 place_found : (links : List Link) (s : ℕ) (t : Transport) (o : Option Link) → find (has_id s) links ≡ o
     → option_map (λ (l : Link). l.transport) o ≡ Some t → at links t s ≡ true
 place_found links s t None e h = absurd (none h)
@@ -91,7 +91,7 @@ place_found links s t (Some link) e h =
 pub place_at : (links : List Link) (s : ℕ) (t : Transport) → transport_of links s ≡ Some t → at links t s ≡ true
 place_at links s t h = place_found links s t (find (has_id s) links) refl h
 
--- the session that a transport has stands there
+-- the session that a transport has is there
 id_is : (s : ℕ) (o : Option Session) → option_map (λ (x : Session). x.id) o ≡ Some s → is_session s o ≡ true
 id_is s None h = absurd (none h)
   where
@@ -116,7 +116,7 @@ pub session_at : (links : List Link) (t : Transport) (s : ℕ) → by_transport 
     → at links t s ≡ true
 session_at links t s h = session_found links t s (find (is_of t) links) refl h
 
--- ---- no session stands at a transport without one
+-- ---- no session is at a transport without one
 
 abbrev pub IsEmptyAt : List Link → Transport → Type 0
 IsEmptyAt links t = (s : ℕ) → at links t s ≡ true → ⊥
@@ -181,7 +181,7 @@ put_of t o u link =
 put_else : (t : Transport) (o : Option Session) (link : Link) → is_of t link ≡ false → put_session t o link ≡ link
 put_else t o link off = cond-false (is_of t link) (record { transport = link.transport; session = o }) link off
 
--- who stands after a session was set stood before, or is that one
+-- a session that is there after one was set was there before, or is that one
 pub set_at : (links : List Link) (t : Transport) (o : Option Session) (u : Transport) (s : ℕ)
     → at (set_session links t o) u s ≡ true
     → ((t ≡ u) × (is_session s o ≡ true)) ⊎ (at links u s ≡ true)
@@ -199,7 +199,7 @@ pub cleared_at : (links : List Link) (t u : Transport) (s : ℕ) → at (set_ses
     → at links u s ≡ true
 cleared_at links t u s h = ⊎_elim (λ new. absurd (false≢true new.1)) (λ old. old) (set_at links t None u s h)
 
--- nobody stands where the session ended
+-- no session is where the session ended
 pub cleared_empty : (links : List Link) (t : Transport) → IsEmptyAt (set_session links t None) t
 cleared_empty links t s h =
     let a = has_any (stands t s) (set_session links t None) h in
@@ -210,7 +210,7 @@ cleared_empty links t s h =
     cond-true (is_of t b.0) (record { transport = b.0.transport; session = None }) b.0 of in
     false≢true (ap (has_id s) (sym now) ∙ (ap (has_id s) b.2 ∙ parts.1))
 
--- whoever did not stand there keeps its id
+-- a session that was not there keeps its id
 pub set_taken : (links : List Link) (t : Transport) (o : Option Session) (s : ℕ) → (at links t s ≡ true → ⊥)
     → is_taken links s ≡ true
     → is_taken (set_session links t o) s ≡ true

@@ -8,8 +8,8 @@ use Rattle.paxos_packets.specs.declared.transport.Transport.{Transport}
 use Rattle.paxos_packets.specs.Transport.{same_transport}
 use Rattle.replica_machine.specs.declared.input.Input.{Input}
 use Rattle.replica_machine.specs.declared.input.Input.TheVariants.{Boot, Lost, Item}
-use Rattle.wamp_message_layouts.specs.declared.request_kind.RequestKind.{RequestKind}
-use Rattle.wamp_message_layouts.specs.declared.request_kind.RequestKind.TheVariants as kind
+use Rattle.wamp_message_types.specs.declared.request_kind.RequestKind.{RequestKind}
+use Rattle.wamp_message_types.specs.declared.request_kind.RequestKind.TheVariants as kind
 use Rattle.wamp_message_types.specs.declared.error.Error as error
 use Rattle.wamp_message_types.specs.declared.message.Message.{Message}
 use Rattle.wamp_message_types.specs.declared.message.Message.TheVariants.{Hello, Welcome, Abort, Goodbye, Error, Publish}
@@ -17,7 +17,7 @@ use Rattle.wamp_message_types.specs.declared.message.Message.TheVariants.{Publis
 use Rattle.wamp_message_types.specs.declared.message.Message.TheVariants.{Subscribe, Subscribed, Unsubscribe, Unsubscribed}
 use Rattle.wamp_message_types.specs.declared.message.Message.TheVariants.{Event, Register}
 use Rattle.wamp_message_types.specs.declared.message.Message.TheVariants.{Registered, Unregister, Unregistered, Call, Cancel}
-use Rattle.wamp_message_types.specs.declared.message.Message.TheVariants.{Reply, Invocation}
+use Rattle.wamp_message_types.specs.declared.message.Message.TheVariants.{CallResult, Invocation}
 use Rattle.wamp_message_types.specs.declared.message.Message.TheVariants.{Interrupt, Yield}
 use Rattle.wamp_message_types.specs.declared.read_result.UnfitKind.{UnfitKind}
 use Rattle.wamp_message_types.specs.declared.read_result.UnfitKind.TheVariants as unfit
@@ -30,7 +30,7 @@ use Rattle.realm_calls.proofs.SoundCalls.{nothing_sound as no_calls}
 use Rattle.realm_sessions.specs.Links.{is_taken}
 use Rattle.realm_acts.specs.declared.act.Act.{Act}
 use Rattle.realm_acts.specs.declared.act.Act.TheVariants.{Connect, Said, Hung}
-use Rattle.realm_sayings.specs.Sayings.{invalid_argument}
+use Rattle.realm_machine.specs.Sayings.{invalid_argument}
 use Rattle.realm_machine.specs.declared.requester.Requester.{Requester}
 use Rattle.realm_machine.specs.Config.{Config}
 use Rattle.realm_machine.specs.Content.{Content, Step, empty, quiet, refuse}
@@ -52,7 +52,7 @@ use Rattle.realm_laws.proofs.Arms.{register_moves}
 use Rattle.realm_laws.proofs.Arms.{unregister_moves}
 use Rattle.realm_laws.proofs.CallArms.{yield_moves, failure_moves, on_cancel_moves, Owes, call_owes, unfit_call_owes}
 
--- what a step owes, where its input asks as this test says
+-- what a step owes, if its input asks as this test says
 record Steps (c : Content) (asking : Transport → ℕ → Bool) (s : Step) : Type 0 where
   base : Base s.content
   owed : (t : Transport) (r : ℕ) → asking t r ≡ true → opens s.content t r + finals t r s.says ≤ 1
@@ -69,7 +69,7 @@ moves_step c asking s once moves = record {
   paid = λ t r _. moves.pays t r;
 }
 
--- where the input asks at this transport under this request alone
+-- if the input asks only at this transport under this request
 owes_step : (c : Content) (t : Transport) (r : ℕ) (s : Step) → Owes c t r s
     → Steps c (λ u q. r == q && same_transport t u) s
 owes_step c t r s owes = record {
@@ -134,7 +134,7 @@ request_step config c t session draw (Unsubscribed it) base once here = moves_st
 request_step config c t session draw (Event it) base once here = moves_step c _ _ once (violation_moves c t base)
 request_step config c t session draw (Registered it) base once here = moves_step c _ _ once (violation_moves c t base)
 request_step config c t session draw (Unregistered it) base once here = moves_step c _ _ once (violation_moves c t base)
-request_step config c t session draw (Reply it) base once here = moves_step c _ _ once (violation_moves c t base)
+request_step config c t session draw (CallResult it) base once here = moves_step c _ _ once (violation_moves c t base)
 request_step config c t session draw (Invocation it) base once here = moves_step c _ _ once (violation_moves c t base)
 request_step config c t session draw (Interrupt it) base once here = moves_step c _ _ once (violation_moves c t base)
 
@@ -158,7 +158,7 @@ opening_moves config c t draw (Unregister it) base here = violation_moves c t ba
 opening_moves config c t draw (Unregistered it) base here = violation_moves c t base
 opening_moves config c t draw (Call it) base here = violation_moves c t base
 opening_moves config c t draw (Cancel it) base here = violation_moves c t base
-opening_moves config c t draw (Reply it) base here = violation_moves c t base
+opening_moves config c t draw (CallResult it) base here = violation_moves c t base
 opening_moves config c t draw (Invocation it) base here = violation_moves c t base
 opening_moves config c t draw (Interrupt it) base here = violation_moves c t base
 opening_moves config c t draw (Yield it) base here = violation_moves c t base
@@ -241,7 +241,7 @@ once_after config c input base once t r =
 
 -- ---- traces
 
--- each answer stands right behind what asks
+-- each answer comes directly after what asks
 abbrev answers_calls : Bool → List Letter → Bool
 answers_calls pending [] = true
 answers_calls pending (Asked ∷ letters) = answers_calls true letters

@@ -22,12 +22,12 @@ use Rattle.realm_laws.specs.Trace.{Letter, trace, begins_with_answer, has_two_an
 pub record IsSound (config : Config) (c : Content) : Type 0 where
   -- sessions, subscriptions, registrations and calls are held to the limits of the configuration
   pub limit : c.sessions.limit ≡ config.limits.sessions
-  pub topics_limit : c.topics.limit ≡ config.limits.subscriptions
-  pub registry_limit : c.registry.limit ≡ config.limits.registrations
+  pub subscriptions_limit : c.subscriptions.limit ≡ config.limits.subscriptions
+  pub registrations_limit : c.registrations.limit ≡ config.limits.registrations
   pub calls_limit : c.calls.limit ≡ config.limits.calls
   pub links : AreSoundLinks c.sessions.list
-  pub registry : AreSoundRegistrations c.registry
-  pub topics : AreSoundSubscriptions c.topics
+  pub registrations : AreSoundRegistrations c.registrations
+  pub subscriptions : AreSoundSubscriptions c.subscriptions
 
 -- the content after these inputs
 abbrev pub after : Config → Content → List (Input Act) → Content
@@ -68,8 +68,8 @@ EveryOpenCallIsSound = (config : Config) (inputs : List (Input Act))
 
 -- ---- a session has an id
 
--- a HELLO to this realm opens a session with an id of its own while it may have one more: it is never refused for want
--- of an id
+-- a HELLO to this realm opens a session with an id that no other has while it may have one more: it is never refused because the ids ran
+-- out
 abbrev pub OpensWhereRoom : Type 0
 OpensWhereRoom = (config : Config) (c : Content) (t : Transport) (draw : ℕ) (canceling : Bool) → is_id draw ≡ true
     → config.limits.sessions < 2 ^ 32 → c.sessions.limit ≡ config.limits.sessions

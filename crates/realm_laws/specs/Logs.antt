@@ -19,7 +19,7 @@ at_prefix config log n = state (realm_of config) (take n log)
 -- at each prefix a text and match have one registration at most, each has a callee, and one under `single` exactly one
 abbrev pub RegistrationsAreSoundInLogs : Type 0
 RegistrationsAreSoundInLogs = (config : Config) (log : List (Entry Act)) (n : ℕ)
-    → AreSoundRegistrations (at_prefix config log n).registry
+    → AreSoundRegistrations (at_prefix config log n).registrations
 
 -- and all else that every realm keeps
 abbrev pub RealmIsSoundInLogs : Type 0

@@ -4,19 +4,19 @@ use Rattle.paxos_packets.specs.declared.transport.Transport.{Transport}
 use Rattle.paxos_packets.specs.Transport.{same_transport}
 use Rattle.replica_machine.specs.declared.input.Input.{Input}
 use Rattle.replica_machine.specs.declared.input.Input.TheVariants.{Boot, Lost, Item}
-use Rattle.wamp_message_layouts.specs.declared.request_kind.RequestKind.{RequestKind}
-use Rattle.wamp_message_layouts.specs.declared.request_kind.RequestKind.TheVariants as kind
+use Rattle.wamp_message_types.specs.declared.request_kind.RequestKind.{RequestKind}
+use Rattle.wamp_message_types.specs.declared.request_kind.RequestKind.TheVariants as kind
 use Rattle.wamp_message_types.specs.declared.message.Message.{Message}
-use Rattle.wamp_message_types.specs.declared.message.Message.TheVariants.{Error, Call, Reply}
+use Rattle.wamp_message_types.specs.declared.message.Message.TheVariants.{Error, Call, CallResult}
 use Rattle.wamp_message_types.specs.declared.read_result.UnfitKind.{UnfitKind}
 use Rattle.wamp_message_types.specs.declared.read_result.UnfitKind.TheVariants as unfit
 use Rattle.wamp_message_types.specs.declared.read_result.Read.{Read}
 use Rattle.wamp_message_types.specs.declared.read_result.Read.TheVariants.{Good, Unfit, Bad}
 use Rattle.realm_acts.specs.declared.act.Act.{Act}
 use Rattle.realm_acts.specs.declared.act.Act.TheVariants.{Connect, Said, Hung}
-use Rattle.realm_sayings.specs.declared.act.Out.{Out}
-use Rattle.realm_sayings.specs.declared.act.Out.TheVariants.{Send, Close}
-use Rattle.realm_sayings.specs.declared.act.Say.{Say}
+use Rattle.realm_machine.specs.declared.sayings.say.Out.{Out}
+use Rattle.realm_machine.specs.declared.sayings.say.Out.TheVariants.{Send, Close}
+use Rattle.realm_machine.specs.declared.sayings.say.Say.{Say}
 use Rattle.realm_machine.specs.Config.{Config}
 use Rattle.realm_machine.specs.Content.{Content}
 use Rattle.realm_machine.specs.Step.{after_input, said_at}
@@ -61,7 +61,7 @@ is_call_kind kind = false
 
 -- a RESULT, or an ERROR on a CALL
 abbrev pub is_final_message : ℕ → Message → Bool
-is_final_message request (Reply reply) = reply.request == request
+is_final_message request (CallResult reply) = reply.request == request
 is_final_message request (Error error) = is_call_kind error.kind && error.request == request
 is_final_message request message = false
 

@@ -1,11 +1,11 @@
--- Another member comes in the stead of the one at a place: what stands where, how many pass, and what the look-ups tell.
+-- Another member replaces the one at a place: what is at which place, how many pass, and what the look-ups give.
 use Rattle.std.proofs.Common.{◌≡◌, ℕ, ◌+◌, Bool, true, false, cond, List, [], ◌∷◌, ◌++◌, length, filter, Option, None, Some, nat_cmp}
 use Rattle.std.proofs.Common.{refl, sym, ap, subst, ◌∙◌, arith}
 use Rattle.std.specs.List.{All, list_any}
 use Rattle.std.specs.BTreeMap.{is_at}
 use Rattle.std.proofs.lemmas.Bool.{cond-true, cond-false, both_ways}
 use Rattle.std.proofs.lemmas.List.Elements.{All-head, All-tail, All-nil, All-cons}
-use Rattle.realm_lists.specs.Rows.{members, member_at, with_member}
+use Rattle.realm_lists.specs.OrderedList.{members, member_at, with_member}
 use Rattle.realm_lists.specs.Finding.{AreRising, IsIndex, is_passing}
 use Rattle.realm_lists.proofs.Finding.{at_same, same_at, rising_head, rising_tail, finds_pushed}
 use Rattle.realm_lists.proofs.Members.{leads_at, none_from_any}
@@ -17,7 +17,7 @@ none_some h = cc
 same_some : {T : Type 0} {x y : T} → Some x ≡ Some y → x ≡ y
 same_some h = cc
 
--- ---- who stands where
+-- ---- which member is where
 
 here_step : {T : Type 0} (row : ℕ × T) (rows : List (ℕ × T)) (place : ℕ) (old new : T) (c : Bool) → is_at (nat_cmp place) row.0 ≡ c
     → cond c (Some row.1) (member_at place rows) ≡ Some old
@@ -119,7 +119,7 @@ count_with test place (row ∷ rows) old new is =
 
 -- ---- the index, as a member changes
 
--- what is told after the new member has come in the old one's stead
+-- what the look-ups give after the new member has replaced the old one
 abbrev told_after : Bool → Bool → ℕ → Option ℕ → Option ℕ
 told_after is was place before = cond is (Some place) (cond was None before)
 
@@ -144,7 +144,7 @@ changed_told {T} test before rows place number old new false false n o there tol
     o (ap test (same_some (sym there ∙ ap (λ (n : ℕ). member_at n rows) same ∙ it.1)) ∙ it.2) in
     ap (is_passing test) (with_elsewhere rows place number new apart ∙ it.1) ∙ it.2
 
--- another member comes in the stead of the one at a place; no other had its keys
+-- another member replaces the one at a place; no other had its keys
 pub index_changed : {K T : Type 0} (test : K → T → Bool) (before after : K → Option ℕ) (rows : List (ℕ × T)) (place : ℕ) (old new : T)
     → AreRising rows → member_at place rows ≡ Some old
     → ((key : K) → test key new ≡ true → test key old ≡ false → list_any (test key) (members rows) ≡ false)
@@ -170,7 +170,7 @@ kept_told : (place : ℕ) (before : Option ℕ) (b : Bool) → (b ≡ true → b
 kept_told place before true is = is refl
 kept_told place before false is = refl
 
--- another member of the same keys comes in the stead of the one at a place
+-- another member with the same keys replaces the one at a place
 pub index_kept : {K T : Type 0} (test : K → T → Bool) (place_of : K → Option ℕ) (rows : List (ℕ × T)) (place : ℕ) (old new : T)
     → AreRising rows → member_at place rows ≡ Some old → ((key : K) → test key new ≡ test key old)
     → IsIndex test place_of rows → IsIndex test place_of (with_member place new rows)

@@ -1,4 +1,4 @@
--- What is found by a look-up is what a walk over the list finds; and look-ups that find go on finding where a member comes or goes.
+-- What a look-up finds is what a walk over the list finds; and look-ups go on finding when a member comes or goes.
 use Rattle.std.proofs.Common.{◌≡◌, ℕ, ◌==◌, Bool, true, false, not, ◌||◌, cond, List, [], ◌∷◌, ◌++◌, map, filter, find, Option}
 use Rattle.std.proofs.Common.{None, Some, nat_cmp}
 use Rattle.std.proofs.Common.{refl, sym, ap, ◌∙◌, ◌⊎◌, ⊎_elim, is_some, subst}
@@ -11,12 +11,12 @@ use Rattle.std.specs.Map.{keys_of}
 use Rattle.std.proofs.lemmas.Bool.{cond-true, cond-false, both_ways, eqb-true, eq-eqb, false_from_ne_true, false≢true}
 use Rattle.std.proofs.lemmas.List.Elements.{All-head, All-tail, All-nil, All-cons, All-weaker, All-push}
 use Rattle.std.proofs.lemmas.Map.Keys.{sorted_head, sorted_tail}
-use Rattle.realm_lists.specs.Rows.{members, member_at, without, with_member}
+use Rattle.realm_lists.specs.OrderedList.{members, member_at, without, with_member}
 use Rattle.realm_lists.specs.Finding.{AreRising, Leads, Finds, passing, found_at}
 
 -- ---- places
 
--- a place is told from another by their numbers
+-- places differ if their numbers do
 pub at_is : (place other : ℕ) → is_at (nat_cmp place) other ≡ (place == other)
 at_is place other = unsigned_tied place other
 
@@ -38,7 +38,7 @@ apart_from {T} place [] h = All-nil (λ (row : ℕ × T). place ≡ row.0 → �
 apart_from {T} place (row ∷ rows) h =
     All-cons (λ (row : ℕ × T). place ≡ row.0 → ⊥) row rows (not_less place row.0 h.0) (apart_from place rows h.1)
 
--- no other member stands at the first one's place
+-- no other member is at the first one's place
 pub rising_head : {T : Type 0} (row : ℕ × T) (rows : List (ℕ × T)) → AreRising (row ∷ rows)
     → All (λ (other : ℕ × T). row.0 ≡ other.0 → ⊥) rows
 rising_head row rows h = apart_from row.0 rows (sorted_head nat_cmp row.0 (keys_of rows) h)
@@ -46,7 +46,7 @@ rising_head row rows h = apart_from row.0 rows (sorted_head nat_cmp row.0 (keys_
 pub rising_tail : {T : Type 0} (row : ℕ × T) (rows : List (ℕ × T)) → AreRising (row ∷ rows) → AreRising rows
 rising_tail row rows h = sorted_tail nat_cmp row.0 (keys_of rows) h
 
--- ---- where none passes
+-- ---- if none passes
 
 pub find_none : {T : Type 0} (test : T → Bool) (rows : List (ℕ × T)) → All (λ (row : ℕ × T). test row.1 ≡ false) rows
     → find test (members rows) ≡ None
@@ -72,14 +72,14 @@ some_is h = cc
 none_is_some : {place : ℕ} → None ≡ Some place → ⊥
 none_is_some h = cc
 
--- none passes where the look-up tells of none
+-- none passes if the look-up gives none
 pub none_passes : {T : Type 0} (test : T → Bool) (rows : List (ℕ × T)) → Leads test None rows
     → All (λ (row : ℕ × T). test row.1 ≡ false) rows
 none_passes {T} test rows leads =
     All-weaker (λ (row : ℕ × T). test row.1 ≡ true → None ≡ Some row.0) (λ (row : ℕ × T). test row.1 ≡ false)
     (λ row h. false_from_ne_true (test row.1) (λ here. none_is_some (h here))) rows leads
 
--- nor where it tells of the place of another
+-- nor if it gives the place of another
 pub others_fail : {T : Type 0} (test : T → Bool) (place : ℕ) (rows : List (ℕ × T)) → Leads test (Some place) rows
     → All (λ (row : ℕ × T). place ≡ row.0 → ⊥) rows → All (λ (row : ℕ × T). test row.1 ≡ false) rows
 others_fail {T} test place rows leads apart k d within =
@@ -109,7 +109,7 @@ found_is_some {T} test place (row ∷ rows) rising leads =
     (λ other apart same. apart (sym (at_same place row.0 at) ∙ same)) rows (rising_head row rows rising))))
     (found_is_some test place rows (rising_tail row rows rising) (All-tail Lead row rows leads))
 
--- what a walk finds is what stands at the place that the look-up tells, if it passes
+-- what a walk finds is the member at the place that the look-up gives, if it passes
 pub found_is : {T : Type 0} (test : T → Bool) (place : Option ℕ) (rows : List (ℕ × T)) → AreRising rows → Leads test place rows
     → find test (members rows) ≡ found_at test place rows
 found_is test None rows rising leads = find_none test rows (none_passes test rows leads)
@@ -124,7 +124,7 @@ pub any_is_find : {T : Type 0} (test : T → Bool) (list : List T) → list_any 
 any_is_find test [] = refl
 any_is_find test (x ∷ list) = any_step test x list (test x) (any_is_find test list)
 
--- whether one passes is told by what stands at the place
+-- whether one passes shows at the place
 pub any_is : {T : Type 0} (test : T → Bool) (place : Option ℕ) (rows : List (ℕ × T)) → AreRising rows → Leads test place rows
     → list_any test (members rows) ≡ is_some (found_at test place rows)
 any_is test place rows rising leads = any_is_find test (members rows) ∙ ap is_some (found_is test place rows rising leads)
@@ -148,7 +148,7 @@ without_step {T} test place row rows member false at passes is off all rest =
     let kept = filter (λ member. not (test member)) (members rows) in
     cond-true (not (test row.1)) (row.1 ∷ kept) kept (ap not (off refl)) ∙ ap (λ (list : List T). row.1 ∷ list) (rest is)
 
--- where the member at the place passes, all but it are kept
+-- if the member at the place passes, all others are kept
 pub without_is : {T : Type 0} (test : T → Bool) (place : ℕ) (rows : List (ℕ × T)) (member : T) → AreRising rows
     → Leads test (Some place) rows → member_at place rows ≡ Some member → test member ≡ true
     → filter (λ member. not (test member)) (members rows) ≡ members (without place rows)
@@ -166,7 +166,7 @@ without_is {T} test place (row ∷ rows) member rising leads is passes =
 
 -- ---- look-ups go on finding
 
--- a look-up that tells another place only of keys whose test none passes
+-- a look-up that gives another place only for keys whose test none passes
 pub finds_more : {K T : Type 0} (test : K → T → Bool) (before after : K → Option ℕ) (rows : List (ℕ × T))
     → ((key : K) → (after key ≡ before key) ⊎ All (λ (row : ℕ × T). test key row.1 ≡ false) rows)
     → Finds test before rows → Finds test after rows
@@ -200,7 +200,7 @@ without_apart P place (row ∷ rows) rising all =
     apart_step P place row rows (is_at (nat_cmp place) row.0) refl (All-head P row rows all) (All-tail P row rows all)
     (rising_head row rows rising) (without_apart P place rows (rising_tail row rows rising) (All-tail P row rows all))
 
--- the member at a place goes, and with it what the look-up tells of it
+-- the member at a place goes, and with it what the look-up gives for it
 pub finds_without : {K T : Type 0} (test : K → T → Bool) (before after : K → Option ℕ) (rows : List (ℕ × T)) (place : ℕ)
     → AreRising rows → ((key : K) → (after key ≡ before key) ⊎ (before key ≡ Some place))
     → Finds test before rows → Finds test after (without place rows)
@@ -228,7 +228,7 @@ with_all P place member (row ∷ rows) new all =
     leads_step P place member row rows (is_at (nat_cmp place) row.0) refl new (All-head P row rows all) (All-tail P row rows all)
     (with_all P place member rows new (All-tail P row rows all))
 
--- another member comes in the stead of the one at a place
+-- another member replaces the one at a place
 pub finds_with : {K T : Type 0} (test : K → T → Bool) (place_of : K → Option ℕ) (rows : List (ℕ × T)) (place : ℕ) (member : T)
     → ((key : K) → test key member ≡ true → place_of key ≡ Some place)
     → Finds test place_of rows → Finds test place_of (with_member place member rows)
@@ -262,7 +262,7 @@ change_step {T} test change place row rows member true at passes is off all rest
 change_step {T} test change place row rows member false at passes is off all rest =
     λ i. cond-false (test row.1) (change row.1) row.1 (off refl) i ∷ rest is i
 
--- where the member at the place passes, it alone is changed
+-- if the member at the place passes, only it is changed
 pub change_is : {T : Type 0} (test : T → Bool) (change : T → T) (place : ℕ) (rows : List (ℕ × T)) (member : T) → AreRising rows
     → Leads test (Some place) rows → member_at place rows ≡ Some member → test member ≡ true
     → map (λ member. cond (test member) (change member) member) (members rows) ≡ members (with_member place (change member) rows)
@@ -278,7 +278,7 @@ change_is {T} test change place (row ∷ rows) member rising leads is passes =
     (λ other apart same. apart (sym (at_same place row.0 at) ∙ same)) rows (rising_head row rows rising))))
     (λ there. change_is test change place rows member (rising_tail row rows rising) more there passes)
 
--- ---- where nothing is found
+-- ---- if nothing is found
 
 none_step : {T : Type 0} (test : T → Bool) (row : ℕ × T) (rows : List (ℕ × T)) (b : Bool) → test row.1 ≡ b
     → cond b (Some row.1) (find test (members rows)) ≡ None
@@ -317,7 +317,7 @@ among_step test row kept rows false true h within rest =
     cond-false (test row.1) (row.1 ∷ filter test (members kept)) (filter test (members kept)) h ∙ rest
 among_step test row kept rows false false h within rest = rest
 
--- those who pass are among more
+-- those that pass are among more
 pub among_is : {T : Type 0} (test : T → Bool) (more : ℕ × T → Bool) (rows : List (ℕ × T))
     → All (λ (row : ℕ × T). test row.1 ≡ true → more row ≡ true) rows
     → filter test (members (filter more rows)) ≡ filter test (members rows)

@@ -14,7 +14,7 @@ use Rattle.std.proofs.lemmas.Map.Entries.{lookup-filter-keys}
 use Rattle.std.proofs.lemmas.Map.Keys.{sorted_head}
 use Rattle.std.proofs.lemmas.List.Elements.{All-head, All-tail, All-nil, All-cons, All-weaker}
 use Rattle.std.proofs.lemmas.List.Kept.{IsStrictlySortedBy-filter}
-use Rattle.realm_lists.specs.Rows.{member_at, has_place, members_at}
+use Rattle.realm_lists.specs.OrderedList.{member_at, has_place, members_at}
 use Rattle.realm_lists.specs.Finding.{AreRising}
 use Rattle.realm_lists.proofs.Finding.{at_is, at_same, same_at, rising_tail}
 
@@ -60,7 +60,7 @@ none_step rows place q seen false off is = rw (or_false seen) refl
 none_step {T} rows place q true true at is = refl
 none_step {T} rows place q false true at is = sym (ap (λ (p : ℕ). member_at p rows) (eqb-true q place at) ∙ is)
 
--- there is none at a place
+-- no member is at a place
 pub put_none : {T : Type 0} (rows : List (ℕ × T)) (place q : ℕ) (seen : Bool) (before : Option T)
     → member_at place rows ≡ None → before ≡ cond seen (member_at q rows) None
     → before ≡ cond (seen || nat_eq q place) (member_at q rows) None
@@ -78,7 +78,7 @@ keys_kept : {T : Type 0} (test : ℕ → Bool) (rows : List (ℕ × T))
 keys_kept test [] = refl
 keys_kept test (row ∷ rows) = keys_step test row rows (test row.0) (keys_kept test rows)
 
--- ---- rising lists with the same members at each number are one
+-- ---- rising lists with the same members at each number are equal
 
 none_some : {T : Type 0} {x : T} → None ≡ Some x → ⊥
 none_some h = cc

@@ -6,7 +6,7 @@ use Rattle.std.specs.BTreeMap.{is_at}
 use Rattle.std.proofs.lemmas.Bool.{cond-true, cond-false, or_parts}
 use Rattle.std.proofs.lemmas.List.Elements.{All-head, All-tail, All-nil, All-cons, All-map}
 use Rattle.std.proofs.lemmas.List.Kept.{AllPairs-cons}
-use Rattle.realm_lists.specs.Rows.{members, member_at, without}
+use Rattle.realm_lists.specs.OrderedList.{members, member_at, without}
 use Rattle.realm_lists.specs.Finding.{AreRising, Leads, Finds}
 use Rattle.realm_lists.proofs.Finding.{at_same, rising_head, rising_tail}
 
@@ -33,7 +33,7 @@ at_holds P place (row ∷ rows) member is all =
     holds_step P place row rows member (is_at (nat_cmp place) row.0) refl is (All-head P row rows all)
     (λ there. at_holds P place rows member there (All-tail P row rows all))
 
--- the member at a place that passes a key's test is the one that the look-up tells
+-- the member at a place that passes a key's test is the one that the look-up gives
 pub leads_at : {T : Type 0} (test : T → Bool) (told : Option ℕ) (place : ℕ) (rows : List (ℕ × T)) (member : T)
     → member_at place rows ≡ Some member → test member ≡ true → Leads test told rows → told ≡ Some place
 leads_at {T} test told place rows member is passes leads =
@@ -65,7 +65,7 @@ count_step {T} test place row rows member false false h is rest =
     cond-false (test row.1) (row.1 ∷ filter test (members (without place rows))) (filter test (members (without place rows))) h in
     rw kept (rest is)
 
--- one less passes where the member at a place passes and goes
+-- one less passes if the member at a place passes and goes
 pub count_without : {T : Type 0} (test : T → Bool) (place : ℕ) (rows : List (ℕ × T)) (member : T) → member_at place rows ≡ Some member
     → length (filter test (members (without place rows))) + cond (test member) 1 0 ≡ length (filter test (members rows))
 count_without test place [] member is = absurd (nothing is)
@@ -75,7 +75,7 @@ count_without test place [] member is = absurd (nothing is)
 count_without test place (row ∷ rows) member is =
     count_step test place row rows member (test row.1) (is_at (nat_cmp place) row.0) refl is (count_without test place rows member)
 
--- the members with one behind them
+-- the members with one after them
 pub members_pushed : {T : Type 0} (rows : List (ℕ × T)) (place : ℕ) (member : T)
     → members (rows ++ (place, member) ∷ []) ≡ members rows ++ member ∷ []
 members_pushed [] place member = refl
@@ -93,7 +93,7 @@ counted_one : {T : Type 0} (test : T → Bool) (member : T) (b : Bool)
 counted_one test member true = refl
 counted_one test member false = refl
 
--- one more passes where the one that comes passes
+-- one more passes if the one that comes passes
 pub count_pushed : {T : Type 0} (test : T → Bool) (list : List T) (member : T)
     → length (filter test (list ++ member ∷ [])) ≡ length (filter test list) + cond (test member) 1 0
 count_pushed test [] member = counted_one test member (test member)

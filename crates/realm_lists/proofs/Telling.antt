@@ -1,11 +1,11 @@
--- A look-up goes on telling of all members by their keys, and of nothing else, where a member comes or goes.
+-- A look-up goes on giving all members by their keys, and nothing else, when a member comes or goes.
 use Rattle.std.proofs.Common.{◌≡◌, ℕ, ◌<◌, Bool, true, false, cond, List, [], ◌∷◌, ◌++◌, Option, None, Some, nat_cmp, if◌then◌else◌}
 use Rattle.std.proofs.Common.{refl, sym, ap, subst, ◌∙◌, ◌⊎◌, inl, inr, arith}
 use Rattle.std.specs.List.{All, list_any}
 use Rattle.std.specs.BTreeMap.{is_at}
 use Rattle.std.proofs.lemmas.Bool.{cond-true, cond-false, both_ways, false_from_ne_true, false≢true}
 use Rattle.std.proofs.lemmas.List.Elements.{All-head, All-tail}
-use Rattle.realm_lists.specs.Rows.{IsAbove, members, member_at, without}
+use Rattle.realm_lists.specs.OrderedList.{IsAbove, members, member_at, without}
 use Rattle.realm_lists.specs.Finding.{AreRising, Leads, IsIndex, is_passing}
 use Rattle.realm_lists.proofs.Finding.{at_same, same_at, finds_more, finds_pushed, finds_without}
 use Rattle.realm_lists.proofs.Members.{at_holds, leads_at, none_from_any}
@@ -59,7 +59,7 @@ at_other (row ∷ rows) place other apart =
     other_step row rows place other (is_at (nat_cmp place) row.0) (is_at (nat_cmp other) row.0) refl refl apart
     (at_other rows place other apart)
 
--- ---- who stands at a place
+-- ---- which member is at a place
 
 pub passing_is : {T : Type 0} (test : T → Bool) (o : Option T) → is_passing test o ≡ true
     → (member : T) × (o ≡ Some member) × (test member ≡ true)
@@ -81,7 +81,7 @@ untold test place_of rows key none ok =
 
 -- ---- the index, as members come and go
 
--- another look-up that tells the same
+-- another look-up that gives the same
 pub index_same : {K T : Type 0} (test : K → T → Bool) (before after : K → Option ℕ) (rows : List (ℕ × T))
     → ((key : K) → after key ≡ before key) → IsIndex test before rows → IsIndex test after rows
 index_same test before after rows same ok = record {

@@ -1,8 +1,8 @@
--- What a walk finds, by what stands at the place that a look-up tells.
+-- What a walk finds, by what is at the place that a look-up gives.
 use Rattle.std.proofs.Common.{◌≡◌, ℕ, Bool, true, List, cond, is_some, option_map, map, filter, find, Option, None, Some, refl}
 use Rattle.std.proofs.Common.{sym, ap, subst, ◌∙◌, not}
 use Rattle.std.proofs.lemmas.Bool.{cond-true, false≢true}
-use Rattle.realm_lists.specs.Rows.{members, member_at, without, with_member}
+use Rattle.realm_lists.specs.OrderedList.{members, member_at, without, with_member}
 use Rattle.realm_lists.specs.Finding.{AreRising, Leads, IsIndex, passing, is_passing}
 use Rattle.realm_lists.proofs.Finding.{find_none, none_passes, found_is, without_is, change_is, unchanged_all}
 
@@ -30,7 +30,7 @@ passing_all : {T : Type 0} (test : T → Bool) (o : Option T) → is_passing tes
 passing_all test None h = refl
 passing_all test (Some member) h = cond-true (test member) (Some member) None h
 
--- who stands at the place that is told, where it passes, is who is found
+-- the member at the given place is the one that is found, if it passes
 pub told_member : {T : Type 0} (test : T → Bool) (told : Option ℕ) (rows : List (ℕ × T)) (place : ℕ) → AreRising rows
     → told ≡ Some place → Leads test told rows → is_passing test (member_at place rows) ≡ true
     → find test (members rows) ≡ member_at place rows
@@ -39,7 +39,7 @@ told_member test told rows place rising is leads passes =
 
 -- ---- by the key's look-up
 
--- somebody stands at the place that is told
+-- there is a member at the place that is given
 pub told_somebody : {K T : Type 0} (test : K → T → Bool) (look_up : K → Option ℕ) (rows : List (ℕ × T)) (key : K) (place : ℕ)
     → IsIndex test look_up rows → look_up key ≡ Some place → member_at place rows ≡ None → ⊥
 told_somebody test look_up rows key place ok is none = false≢true (sym (ap (is_passing (test key)) none) ∙ ok.told key place is)
@@ -56,7 +56,7 @@ told_changed test look_up rows key place member change rising ok is there =
     change_is (test key) change place rows member rising (subst (λ o. Leads (test key) o rows) is (ok.found key)) there
     (told_passes test look_up rows key place member ok is there)
 
--- nobody is where none is told
+-- there is no member if no place is given
 pub told_unchanged : {K T : Type 0} (test : K → T → Bool) (look_up : K → Option ℕ) (rows : List (ℕ × T)) (key : K) (change : T → T)
     → IsIndex test look_up rows → look_up key ≡ None
     → map (λ member. cond (test key member) (change member) member) (members rows) ≡ members rows

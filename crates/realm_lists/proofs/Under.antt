@@ -11,7 +11,7 @@ use Rattle.std.specs.BTreeMap.Range.{entries_between, range_contains}
 use Rattle.std.specs.Map.{values_of}
 use Rattle.std.proofs.lemmas.Bool.{false_from_ne_true, eqb-true, eq-eqb}
 use Rattle.std.proofs.lemmas.List.Elements.{filter_agree}
-use Rattle.realm_lists.specs.Rows.{has_place}
+use Rattle.realm_lists.specs.OrderedList.{has_place}
 use Rattle.realm_lists.specs.PlaceIndex.{pair_cmp, is_key, place_of, places_under}
 
 other_number : (a b : ℕ) → (a ≡ b → ⊥) → (a == b) ≡ false
@@ -87,7 +87,7 @@ then_is Less y = refl
 then_is Equal y = refl
 then_is Greater y = refl
 
--- a key is told from another by its numbers
+-- keys differ if their numbers do
 pub pair_at : (a b : ℕ × ℕ) → is_at (pair_cmp a) b ≡ is_key a b
 pair_at a b =
     then_is (nat_cmp a.0 b.0) (nat_cmp a.1 b.1)

@@ -1,8 +1,8 @@
--- A walk over the members ends at the place that a look-up tells.
+-- A walk over the members ends at the place that a look-up gives.
 use Rattle.std.proofs.Common.{◌≡◌, ℕ, Bool, true, false, cond, List, [], ◌∷◌, Option, None, Some, refl, sym, ◌∙◌}
 use Rattle.std.specs.List.{All, list_any}
 use Rattle.std.proofs.lemmas.List.Elements.{All-head, All-tail}
-use Rattle.realm_lists.specs.Rows.{members}
+use Rattle.realm_lists.specs.OrderedList.{members}
 use Rattle.realm_lists.specs.Finding.{IsIndex, place_where}
 use Rattle.realm_lists.proofs.Telling.{untold}
 

@@ -1,4 +1,4 @@
-pub mod Rows
+pub mod OrderedList
 pub mod Finding
 pub mod PlaceIndex
 pub mod Tally

@@ -1,12 +1,12 @@
-//! Lists in the order in which their members came, from which any member can be taken, and in which members are found by keys.
+//! Lists that keep the order in which their members came, from which any member can be removed, and the indexes that find members by keys.
 #![tactic(auto)]
 
+mod ordered_list;
 mod place_index;
 mod place_table;
-mod rows;
 mod tally;
 
+pub use ordered_list::OrderedList;
 pub use place_index::PlaceIndex;
 pub use place_table::PlaceTable;
-pub use rows::Rows;
 pub use tally::Tally;

@@ -5,9 +5,9 @@ use std::alloc::{AllocError, Global};
 use std::collections::BTreeMap;
 use std::marker::Model;
 
-/// Places by keys.
+/// An ordered index: the places of keys.
 ///
-/// Cost: each call takes a number of steps that is logarithmic in the number of keys; `places_under` one more for each place.
+/// Cost: each call takes a number of steps that is logarithmic in the number of keys; `places_under` takes one more for each place.
 pub struct PlaceIndex<K: Ord> {
     places: BTreeMap<K, u64>,
 }
@@ -30,7 +30,7 @@ impl<K: Ord> Model for PlaceIndex<K> {
 }
 
 impl<K: Ord + Drop> PlaceIndex<K> {
-    /// No place. Takes no memory.
+    /// Creates an empty index. Does not allocate.
     pub fn new(alloc: Global) -> PlaceIndex<K>
         ensures { result ≡ [] }
     {
@@ -39,14 +39,14 @@ impl<K: Ord + Drop> PlaceIndex<K> {
         }
     }
 
-    /// The place of this key. Takes no memory.
+    /// Returns the place of this key. Does not allocate.
     pub fn get(&self, key: K) -> Option<u64>
         ensures { result ≡ place_at K.cmp self.now key }
     {
         self.places.get(&key).copied()
     }
 
-    /// This key has this place now. The only error is want of memory; nothing has changed then.
+    /// Sets the place of this key. Fails only if memory runs out, and then changes nothing.
     pub fn put(&mut self, key: K, place: u64) -> Result<(), AllocError>
         ensures ok { OnOk result ((other : K) → place_at K.cmp self.new other
             ≡ (if K.eq key other then Some place else place_at K.cmp self.old other)) }
@@ -58,7 +58,7 @@ impl<K: Ord + Drop> PlaceIndex<K> {
         Ok(())
     }
 
-    /// This key has no place any more. Takes no memory.
+    /// Removes the place of this key, if it has one. Does not allocate.
     pub fn remove(&mut self, key: K)
         ensures { (other : K) → place_at K.cmp self.new other
             ≡ (if K.eq key other then None else place_at K.cmp self.old other) }
@@ -68,7 +68,7 @@ impl<K: Ord + Drop> PlaceIndex<K> {
 }
 
 impl PlaceIndex<(u64, u64)> {
-    /// The places of the keys that begin with this number, by their second number. The only error is want of memory.
+    /// Returns the places of the keys that begin with this number, in the order of their second number. Fails only if memory runs out.
     pub fn places_under(&self, alloc: Global, first: u64) -> Result<Vec<u64>, AllocError>
         requires { first + 1 < 2 ^ 64 }
         ensures { IfOk result (λ found. found.items ≡ places_under self.now first) }

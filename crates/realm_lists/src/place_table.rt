@@ -6,9 +6,9 @@ use std::alloc::{AllocError, Global};
 use std::hash::Hash;
 use std::marker::Model;
 
-/// Places by keys, which are found by hash and are in no order: `PlaceIndex` is for those that are asked for by a part of them.
+/// A hash table: the places of keys, in no order. Where keys are looked up by a part of them, use `PlaceIndex`.
 ///
-/// Cost: each call takes a number of steps that is the same for any number of keys, as a rule; `put` at times one for each key.
+/// Cost: each call takes a number of steps that does not depend on the number of keys, as a rule; at times `put` takes one for each key.
 pub struct PlaceTable<K: Ord + Hash> {
     places: IndexMap<K, u64>,
 }
@@ -28,7 +28,7 @@ impl<K: Ord + Hash> Model for PlaceTable<K> {
 }
 
 impl<K: Ord + Hash + Drop> PlaceTable<K> {
-    /// No place. Takes no memory.
+    /// Creates an empty table. Does not allocate.
     pub fn new(alloc: Global) -> PlaceTable<K>
         ensures { result ≡ [] }
     {
@@ -37,14 +37,14 @@ impl<K: Ord + Hash + Drop> PlaceTable<K> {
         }
     }
 
-    /// The place of this key. Takes no memory.
+    /// Returns the place of this key. Does not allocate.
     pub fn get(&self, key: K) -> Option<u64>
         ensures { result ≡ place_at K.cmp self.now key }
     {
         self.places.get(&key).copied()
     }
 
-    /// This key has this place now. The only error is want of memory; nothing has changed then.
+    /// Sets the place of this key. Fails only if memory runs out, and then changes nothing.
     pub fn put(&mut self, key: K, place: u64) -> Result<(), AllocError>
         ensures ok { OnOk result ((other : K) → place_at K.cmp self.new other
             ≡ (if K.eq key other then Some place else place_at K.cmp self.old other)) }
@@ -56,7 +56,7 @@ impl<K: Ord + Hash + Drop> PlaceTable<K> {
         Ok(())
     }
 
-    /// This key has no place any more. Takes no memory.
+    /// Removes the place of this key, if it has one. Does not allocate.
     pub fn remove(&mut self, key: K)
         ensures { (other : K) → place_at K.cmp self.new other
             ≡ (if K.eq key other then None else place_at K.cmp self.old other) }

@@ -5,7 +5,7 @@ use std::alloc::{AllocError, Global};
 use std::collections::BTreeMap;
 use std::marker::Model;
 
-/// How many there are of each number.
+/// A counter for each number.
 ///
 /// Cost: each call takes a number of steps that is logarithmic in the number of numbers that are counted.
 pub struct Tally {
@@ -31,7 +31,7 @@ impl Model for Tally {
 }
 
 impl Tally {
-    /// None of any. Takes no memory.
+    /// Creates a tally in which each count is 0. Does not allocate.
     pub fn new(alloc: Global) -> Tally
         ensures { result ≡ [] }
     {
@@ -40,14 +40,14 @@ impl Tally {
         }
     }
 
-    /// How many there are of this number. Takes no memory.
+    /// Returns the count of this number. Does not allocate.
     pub fn count(&self, key: u64) -> u64
         ensures { result ≡ count_in self.now key }
     {
         self.counts.get(&key).copied().unwrap_or(0)
     }
 
-    /// One more of this number. The only error is want of memory; nothing has changed then.
+    /// Adds one to the count of this number. Fails only if memory runs out, and then changes nothing.
     pub fn add(&mut self, key: u64) -> Result<(), AllocError>
         requires { count_in self.old key + 1 < 2 ^ 64 }
         ensures ok { OnOk result ((other : ℕ) → count_in self.new other
@@ -61,7 +61,7 @@ impl Tally {
         Ok(())
     }
 
-    /// One less of this number. Takes no memory.
+    /// Takes one from the count of this number, unless it is 0. Does not allocate.
     pub fn take(&mut self, key: u64)
         ensures { (other : ℕ) → count_in self.new other
             ≡ (if key == other then count_in self.old other - 1 else count_in self.old other) }

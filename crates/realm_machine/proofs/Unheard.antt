@@ -1,21 +1,21 @@
--- A transport that hangs up is told nothing: others are told of the calls that end with its session.
+-- Nothing is said to a transport that hangs up: others hear of the calls that end with its session.
 use Rattle.std.proofs.Common.{◌≡◌, ℕ, Bool, true, false, List, [], ◌∷◌, ◌++◌, Option, None, Some, option_map, find, refl, if◌then◌else◌}
 use Rattle.std.specs.List.{All, flat_map}
 use Rattle.std.proofs.lemmas.Bool.{cond_both, false≢true}
 use Rattle.std.proofs.lemmas.List.Elements.{All-nil, All-cons, All-append}
 use Rattle.paxos_packets.specs.declared.transport.Transport.{Transport}
 use Rattle.paxos_packets.specs.Transport.{same_transport}
-use Rattle.wamp_message_layouts.specs.declared.request_kind.RequestKind.TheVariants as kind
+use Rattle.wamp_message_types.specs.declared.request_kind.RequestKind.TheVariants as kind
 use Rattle.wamp_ids.specs.declared.policy.Mode.TheVariants.{KillNoWait}
 use Rattle.wamp_message_types.specs.declared.message.Message.{Message}
 use Rattle.realm_sessions.specs.declared.links.Link.{Link}
 use Rattle.realm_sessions.specs.Links.{is_of, has_id, by_transport, announces, put_session, set_session}
 use Rattle.realm_calls.specs.declared.calls.Open.{Open}
 use Rattle.realm_calls.specs.Calls.{calls_to, calls_by, without_callee}
-use Rattle.realm_sayings.specs.declared.act.Say.{Say}
-use Rattle.realm_sayings.specs.Sayings.{say, say_to, to_session, refusal, canceled}
-use Rattle.realm_sayings.specs.Invocations.{interrupt}
-use Rattle.realm_sayings.specs.Endings.{end_for_caller, end_for_callee}
+use Rattle.realm_machine.specs.declared.sayings.say.Say.{Say}
+use Rattle.realm_machine.specs.Sayings.{say, say_to, to_session, refusal, canceled}
+use Rattle.realm_machine.specs.Sayings.Invocations.{interrupt}
+use Rattle.realm_machine.specs.Sayings.Endings.{end_for_caller, end_for_callee}
 use Rattle.realm_machine.specs.Content.{Content}
 use Rattle.realm_machine.specs.Leaving.{leave_session, leave}
 use Rattle.realm_machine.specs.Laws.{HungUpIsToldNothing}

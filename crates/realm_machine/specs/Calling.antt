@@ -6,21 +6,21 @@ use Rattle.wamp_ids.specs.declared.uri.UriFault.{UriFault}
 use Rattle.wamp_ids.specs.Uri.{uri_of, is_reserved}
 use Rattle.wamp_values.specs.declared.args.Args.{Args}
 use Rattle.wamp_values.specs.declared.args.Args.TheVariants.{Nothing}
-use Rattle.wamp_message_layouts.specs.declared.request_kind.RequestKind.TheVariants as kind
+use Rattle.wamp_message_types.specs.declared.request_kind.RequestKind.TheVariants as kind
 use Rattle.wamp_message_types.specs.declared.message.Message.{Message}
-use Rattle.wamp_message_types.specs.declared.message.Message.TheVariants.{Reply}
+use Rattle.wamp_message_types.specs.declared.message.Message.TheVariants.{CallResult}
 use Rattle.wamp_message_types.specs.declared.call.Call.{Call}
 use Rattle.wamp_message_types.specs.declared.call.Cancel.{Cancel}
 use Rattle.wamp_message_types.specs.declared.call.Yield.{Yield}
 use Rattle.realm_sessions.specs.Links.{announces}
 use Rattle.realm_sessions.specs.Sessions.{Invoked, next_invocation}
 use Rattle.realm_registrations.specs.declared.registration.Chosen.{Chosen}
-use Rattle.realm_registrations.specs.Registry.{choose, turn}
+use Rattle.realm_registrations.specs.Registrations.{choose, turn}
 use Rattle.realm_calls.specs.declared.calls.Open.{Open}
 use Rattle.realm_calls.specs.declared.calls.Cancelled.{Cancelled}
 use Rattle.realm_calls.specs.Calls.{is_invocation, has, call_of, is_full, open_call, with_call, open_of, end, cancel_one, without_cancelled}
-use Rattle.realm_sayings.specs.Sayings.{to_session, invalid_uri, invalid_argument, no_such_procedure, limit}
-use Rattle.realm_sayings.specs.Invocations.{invocation, interrupted, told_canceled, failure}
+use Rattle.realm_machine.specs.Sayings.{to_session, invalid_uri, invalid_argument, no_such_procedure, limit}
+use Rattle.realm_machine.specs.Sayings.Invocations.{invocation, interrupted, told_canceled, failure}
 use Rattle.realm_machine.specs.declared.requester.Requester.{Requester}
 use Rattle.realm_machine.specs.Content.{Content, Step, quiet, refuse, with_calls}
 use Rattle.realm_machine.specs.Leaving.{violation}
@@ -30,50 +30,44 @@ use Rattle.realm_machine.specs.Leaving.{violation}
 abbrev pub refuse_call : Content → Requester → Call → List ℕ → Step
 refuse_call c requester call error = refuse c requester.transport kind.Call call.request error
 
--- the callee is invoked under this id, and callees that take turns do so; that an id is found is a law of sessions
+-- the call is open under this invocation id of the callee, callees that take turns do so, and the callee gets the INVOCATION; that an id is
+-- found is a law of sessions
 abbrev pub invoke_under : Content → Requester → Call → Chosen → Option ℕ → Step
 invoke_under c requester call chosen None = refuse_call c requester call limit
 invoke_under c requester call chosen (Some id) = record {
   content = record {
     sessions = c.sessions;
-    registry = turn c.registry chosen.registration;
-    topics = c.topics;
+    registrations = turn c.registrations chosen.registration;
+    subscriptions = c.subscriptions;
     calls = with_call c.calls (open_call requester.session call.request chosen.callee id);
   };
   says = to_session c.sessions.list chosen.callee (invocation id chosen call);
 }
 
--- the same under its next id, which is its last one now
+-- under the callee's next id, which is its last one now
 abbrev pub invoke : Content → Requester → Call → Chosen → Invoked → Step
 invoke c requester call chosen invoked =
     invoke_under (record c { sessions = invoked.sessions }) requester call chosen invoked.answer
 
--- a procedure that this callee serves, or none
+-- a procedure that this callee serves, or that none does
 abbrev pub call_chosen : Content → Requester → Call → Option Chosen → Step
 call_chosen c requester call None = refuse_call c requester call no_such_procedure
 call_chosen c requester call (Some chosen) =
     if is_full c.calls requester.session then refuse_call c requester call limit
     else invoke c requester call chosen (next_invocation c.sessions chosen.callee (open_of c.calls.list chosen.callee))
 
--- the procedure of this URI
-abbrev pub call_open : Content → Requester → Call → List ℕ → Step
-call_open c requester call uri = call_chosen c requester call (choose c.registry uri)
-
-abbrev pub call_uri : Content → Requester → Call → List ℕ → Step
-call_uri c requester call uri =
-    if is_reserved uri then refuse_call c requester call no_such_procedure else call_open c requester call uri
-
-abbrev pub call_read : Content → Requester → Call → Result (List ℕ) UriFault → Step
-call_read c requester call (Ok uri) = call_uri c requester call uri
-call_read c requester call (Err fault) = refuse_call c requester call invalid_uri
-
-abbrev pub call_text : Content → Requester → Call → Step
-call_text c requester call = call_read c requester call (uri_of call.procedure)
+-- a procedure that is this URI, or that is none
+abbrev pub call_uri : Content → Requester → Call → Result (List ℕ) UriFault → Step
+call_uri c requester call (Err fault) = refuse_call c requester call invalid_uri
+call_uri c requester call (Ok uri) =
+    if is_reserved uri then refuse_call c requester call no_such_procedure
+    else call_chosen c requester call (choose c.registrations uri)
 
 -- a request that is open breaks the protocol
 abbrev pub on_call : Content → Requester → Call → Step
 on_call c requester call =
-    if has c.calls.list requester.session call.request then violation c requester.transport else call_text c requester call
+    if has c.calls.list requester.session call.request then violation c requester.transport
+    else call_uri c requester call (uri_of call.procedure)
 
 -- ---- CANCEL
 
@@ -107,7 +101,7 @@ reply_to c callee request answer = replied c answer (find (is_invocation callee 
 
 abbrev pub on_yield : Content → Requester → Yield → Step
 on_yield c requester yield =
-    reply_to c requester.session yield.request (λ request. Reply (record { request = request; args = yield.args }))
+    reply_to c requester.session yield.request (λ request. CallResult (record { request = request; args = yield.args }))
 
 -- the invocation failed
 abbrev pub on_failure : Content → Requester → ℕ → List ℕ → Args → Step

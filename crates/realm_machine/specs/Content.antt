@@ -4,14 +4,14 @@ use Rattle.std.specs.declared.vec.Vec.{Vec}
 use Rattle.std.specs.declared.alloc.Global.{Global}
 use Rattle.paxos_packets.specs.declared.transport.Transport.{Transport}
 use Rattle.wamp_message_types.specs.declared.message.Message.{Message}
-use Rattle.wamp_message_layouts.specs.declared.request_kind.RequestKind.{RequestKind}
-use Rattle.realm_sayings.specs.declared.act.Say.{Say}
-use Rattle.realm_sayings.specs.Sayings.{say, refusal}
+use Rattle.wamp_message_types.specs.declared.request_kind.RequestKind.{RequestKind}
+use Rattle.realm_machine.specs.declared.sayings.say.Say.{Say}
+use Rattle.realm_machine.specs.Sayings.{say, refusal}
 use Rattle.realm_sessions.specs.declared.links.Link.{Link}
 use Rattle.realm_sessions.specs.declared.fault.RealmFault.{RealmFault}
 use Rattle.realm_sessions.specs.Fault.{uri_of}
 use Rattle.realm_sessions.specs.Sessions.{Sessions, with_list}
-use Rattle.realm_registrations.specs.Registry.{Registry, no_registrations}
+use Rattle.realm_registrations.specs.Registrations.{Registrations, no_registrations}
 use Rattle.realm_subscriptions.specs.Subscriptions.{Subscriptions, no_subscriptions}
 use Rattle.realm_calls.specs.declared.calls.Open.{Open}
 use Rattle.realm_calls.specs.Calls.{Calls}
@@ -20,27 +20,27 @@ use Rattle.realm_machine.specs.declared.config.Limits.{Limits}
 
 pub record Content : Type 0 where
   pub sessions : Sessions
-  pub registry : Registry
-  pub topics : Subscriptions
+  pub registrations : Registrations
+  pub subscriptions : Subscriptions
   pub calls : Calls
 
 -- nothing, under these limits
 abbrev pub empty : Limits → Content
 empty limits = record {
   sessions = record { limit = limits.sessions; list = [] };
-  registry = no_registrations limits.registrations;
-  topics = no_subscriptions limits.subscriptions;
+  registrations = no_registrations limits.registrations;
+  subscriptions = no_subscriptions limits.subscriptions;
   calls = record { limit = limits.calls; list = [] };
 }
 
 abbrev pub with_links : Content → List Link → Content
 with_links c links = record c { sessions = with_list c.sessions links }
 
-abbrev pub with_registry : Content → Registry → Content
-with_registry c registry = record c { registry = registry }
+abbrev pub with_registrations : Content → Registrations → Content
+with_registrations c registrations = record c { registrations = registrations }
 
-abbrev pub with_topics : Content → Subscriptions → Content
-with_topics c topics = record c { topics = topics }
+abbrev pub with_subscriptions : Content → Subscriptions → Content
+with_subscriptions c subscriptions = record c { subscriptions = subscriptions }
 
 abbrev pub with_calls : Content → List Open → Content
 with_calls c list = record c { calls = calls.with_list c.calls list }
@@ -77,6 +77,6 @@ and_then first second = record {
   says = first.says ++ (second first.content).says;
 }
 
--- a method takes the step: it says what the step says, and leaves its content; want of memory alone may keep it from that
+-- a method takes the step: it says what the step says, and leaves its content, unless memory runs out
 abbrev pub Does : {E : Type 0} → Result (Vec Say Global) E → Content → Step → Type 0
 Does result new step = IfOk result (λ says. (says.items ≡ step.says) × (new ≡ step.content))

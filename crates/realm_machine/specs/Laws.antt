@@ -7,13 +7,13 @@ use Rattle.replica_machine.specs.Log.{machine_from}
 use Rattle.replica_machine.specs.Replay.{Machine, state, sayings}
 use Rattle.realm_acts.specs.declared.act.Act.{Act}
 use Rattle.realm_acts.specs.declared.act.Act.TheVariants.{Hung}
-use Rattle.realm_sayings.specs.declared.act.Say.{Say}
+use Rattle.realm_machine.specs.declared.sayings.say.Say.{Say}
 use Rattle.realm_machine.specs.Config.{Config}
 use Rattle.realm_machine.specs.Content.{Content}
 use Rattle.realm_machine.specs.Step.{says}
 use Rattle.realm_machine.specs.Machine.{Live, realm_of, begun, next_live, said_live, to}
 
--- whoever hangs up is told nothing, whatever ends with its session
+-- nothing is said to a transport that hangs up, whatever ends with its session
 abbrev pub HungUpIsToldNothing : Type 0
 HungUpIsToldNothing = (config : Config) (c : Content) (t : Transport)
     → All (λ (it : Say). same_transport it.transport t ≡ false) (says config c t Hung)

@@ -3,11 +3,11 @@ use Rattle.std.specs.Prelude.{ℕ, List, [], ◌∷◌, Option, None, Some}
 use Rattle.std.specs.List.{flat_map}
 use Rattle.paxos_packets.specs.declared.transport.Transport.{Transport}
 use Rattle.realm_sessions.specs.Links.{by_transport, of_origin, set_session, without_transport}
-use Rattle.realm_registrations.specs.Registry as registrations
+use Rattle.realm_registrations.specs.Registrations as registrations
 use Rattle.realm_subscriptions.specs.Leaving as subscriptions
 use Rattle.realm_calls.specs.Calls.{calls_to, calls_by, without_callee, without_caller}
-use Rattle.realm_sayings.specs.Sayings.{say, shut, abort, goodbye as goodbye_for, protocol_violation, goodbye_and_out}
-use Rattle.realm_sayings.specs.Endings.{end_for_caller, end_for_callee, farewell}
+use Rattle.realm_machine.specs.Sayings.{say, shut, abort, goodbye as goodbye_for, protocol_violation, goodbye_and_out}
+use Rattle.realm_machine.specs.Sayings.Endings.{end_for_caller, end_for_callee, farewell}
 use Rattle.realm_machine.specs.Content.{Content, Step, quiet, reply, and_then, with_links, with_calls}
 
 -- ---- calls end with a session
@@ -36,16 +36,16 @@ closed c t = with_links c (set_session c.sessions.list t None)
 abbrev pub withdraw : Content → ℕ → Content
 withdraw c session = record {
   sessions = c.sessions;
-  registry = registrations.leave c.registry session;
-  topics = subscriptions.leave c.topics session;
+  registrations = registrations.leave c.registrations session;
+  subscriptions = subscriptions.leave c.subscriptions session;
   calls = c.calls;
 }
 
--- its calls end, and others are told of them
+-- its calls end, and others hear of them
 abbrev pub end_session : Content → ℕ → Step
 end_session c session = and_then (end_calls_to c session) (λ d. and_then (end_calls_by d session) (λ e. quiet (withdraw e session)))
 
--- the session is told nothing itself, since its transport is without it by then
+-- nothing is said to the session itself, since its transport is without it by then
 abbrev pub leave_session : Content → Transport → Option (Option ℕ) → Step
 leave_session c t None = quiet c
 leave_session c t (Some None) = quiet c

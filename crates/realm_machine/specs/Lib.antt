@@ -1,4 +1,5 @@
 pub mod Config
+pub mod Sayings
 pub mod Content
 pub mod Leaving
 pub mod Opening

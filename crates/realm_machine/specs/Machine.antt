@@ -4,7 +4,7 @@ use Rattle.paxos_packets.specs.declared.transport.Transport.{Transport}
 use Rattle.replica_machine.specs.declared.input.Input.{Input}
 use Rattle.replica_machine.specs.Replay.{Machine}
 use Rattle.realm_acts.specs.declared.act.Act.{Act}
-use Rattle.realm_sayings.specs.declared.act.Say.{Say}
+use Rattle.realm_machine.specs.declared.sayings.say.Say.{Say}
 use Rattle.realm_machine.specs.Config.{Config}
 use Rattle.realm_machine.specs.Content.{Content, empty}
 use Rattle.realm_machine.specs.Step.{after_input, said_at}

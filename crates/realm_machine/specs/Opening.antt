@@ -6,12 +6,12 @@ use Rattle.wamp_message_types.specs.declared.session.Hello.{Hello}
 use Rattle.wamp_message_types.specs.declared.message.Message.TheVariants.{Welcome}
 use Rattle.realm_sessions.specs.declared.fault.RealmFault.{RealmFault}
 use Rattle.realm_sessions.specs.Sessions.{Sessions, Opened, open_session}
-use Rattle.realm_sayings.specs.Sayings.{limit, no_such_realm}
+use Rattle.realm_machine.specs.Sayings.{limit, no_such_realm}
 use Rattle.realm_machine.specs.Config.{Config}
 use Rattle.realm_machine.specs.Content.{Content, Step, reply}
 use Rattle.realm_machine.specs.Leaving.{stop}
 
--- the content with these sessions, and what the client is told; a session is refused for the limit alone
+-- the content with these sessions, and what is said to the client; a session is refused only for the limit
 abbrev pub welcome : Content → Transport → Sessions → Result ℕ RealmFault → Step
 welcome c t sessions (Ok id) = reply (record c { sessions = sessions }) t (Welcome (record { session = id }))
 welcome c t sessions (Err fault) = stop c t limit

@@ -2,22 +2,22 @@
 use Rattle.std.specs.Prelude.{ℕ, List, [], ◌∷◌, ◌++◌, Option, None, Some, if◌then◌else◌}
 use Rattle.std.specs.List.{flat_map}
 use Rattle.wamp_values.specs.declared.args.Args.{Args}
-use Rattle.wamp_message_layouts.specs.declared.request_kind.RequestKind.TheVariants as kind
+use Rattle.wamp_message_types.specs.declared.request_kind.RequestKind.TheVariants as kind
 use Rattle.wamp_message_types.specs.declared.publish.Publish.{Publish}
 use Rattle.wamp_message_types.specs.declared.message.Message.TheVariants as message
 use Rattle.realm_subscriptions.specs.Receiving.{receivers}
-use Rattle.realm_sayings.specs.declared.act.Say.{Say}
-use Rattle.realm_sayings.specs.Sayings.{say, invalid_uri}
-use Rattle.realm_sayings.specs.Events.{event_to, is_open_topic}
+use Rattle.realm_machine.specs.declared.sayings.say.Say.{Say}
+use Rattle.realm_machine.specs.Sayings.{say, invalid_uri}
+use Rattle.realm_machine.specs.Sayings.Events.{event_to, is_open_topic}
 use Rattle.realm_machine.specs.declared.requester.Requester.{Requester}
 use Rattle.realm_machine.specs.Content.{Content, Step, quiet, refuse}
 
 -- the events of a publication: subscriptions by ascending id, the members of each in the order of joining
 abbrev pub events : Content → List ℕ → ℕ → Args → Option ℕ → List Say
 events c topic publication args except =
-    flat_map (event_to c.sessions.list topic publication args) (receivers c.topics topic except)
+    flat_map (event_to c.sessions.list topic publication args) (receivers c.subscriptions topic except)
 
--- the client is told that its publication was made
+-- the PUBLISHED that confirms a publication to its client
 abbrev pub published : Requester → ℕ → Say
 published requester request = say requester.transport (message.Published (record { request = request; publication = requester.draw }))
 

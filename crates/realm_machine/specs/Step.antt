@@ -3,13 +3,13 @@ use Rattle.std.specs.Prelude.{ℕ, Bool, List, Option, None, Some, if◌then◌e
 use Rattle.paxos_packets.specs.declared.transport.Transport.{Transport}
 use Rattle.replica_machine.specs.declared.input.Input.{Input}
 use Rattle.replica_machine.specs.declared.input.Input.TheVariants.{Boot, Lost, Item}
-use Rattle.wamp_message_layouts.specs.declared.request_kind.RequestKind.{RequestKind}
-use Rattle.wamp_message_layouts.specs.declared.request_kind.RequestKind.TheVariants as kind
+use Rattle.wamp_message_types.specs.declared.request_kind.RequestKind.{RequestKind}
+use Rattle.wamp_message_types.specs.declared.request_kind.RequestKind.TheVariants as kind
 use Rattle.wamp_message_types.specs.declared.error.Error as error
 use Rattle.wamp_message_types.specs.declared.message.Message.{Message}
 use Rattle.wamp_message_types.specs.declared.message.Message.TheVariants.{Hello, Welcome, Abort, Goodbye, Error, Publish, Published}
 use Rattle.wamp_message_types.specs.declared.message.Message.TheVariants.{Subscribe, Subscribed, Unsubscribe, Unsubscribed, Event, Register}
-use Rattle.wamp_message_types.specs.declared.message.Message.TheVariants.{Registered, Unregister, Unregistered, Call, Cancel, Reply, Invocation}
+use Rattle.wamp_message_types.specs.declared.message.Message.TheVariants.{Registered, Unregister, Unregistered, Call, Cancel, CallResult, Invocation}
 use Rattle.wamp_message_types.specs.declared.message.Message.TheVariants.{Interrupt, Yield}
 use Rattle.wamp_message_types.specs.declared.read_result.UnfitKind.{UnfitKind}
 use Rattle.wamp_message_types.specs.declared.read_result.UnfitKind.TheVariants as unfit
@@ -17,8 +17,8 @@ use Rattle.wamp_message_types.specs.declared.read_result.Read.{Read}
 use Rattle.wamp_message_types.specs.declared.read_result.Read.TheVariants.{Good, Unfit, Bad}
 use Rattle.realm_acts.specs.declared.act.Act.{Act}
 use Rattle.realm_acts.specs.declared.act.Act.TheVariants.{Connect, Said, Hung}
-use Rattle.realm_sayings.specs.declared.act.Say.{Say}
-use Rattle.realm_sayings.specs.Sayings.{invalid_argument}
+use Rattle.realm_machine.specs.declared.sayings.say.Say.{Say}
+use Rattle.realm_machine.specs.Sayings.{invalid_argument}
 use Rattle.realm_machine.specs.declared.requester.Requester.{Requester}
 use Rattle.realm_machine.specs.Config.{Config}
 use Rattle.realm_sessions.specs.Links.{by_transport, connect}
@@ -71,7 +71,7 @@ on_request config c requester (Unsubscribed it) = violation c requester.transpor
 on_request config c requester (Event it) = violation c requester.transport
 on_request config c requester (Registered it) = violation c requester.transport
 on_request config c requester (Unregistered it) = violation c requester.transport
-on_request config c requester (Reply it) = violation c requester.transport
+on_request config c requester (CallResult it) = violation c requester.transport
 on_request config c requester (Invocation it) = violation c requester.transport
 on_request config c requester (Interrupt it) = violation c requester.transport
 

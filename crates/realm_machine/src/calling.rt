@@ -1,99 +1,50 @@
-// How a client calls a procedure, cancels a call, and answers an invocation.
-ghost use Rattle.std.specs.Prelude.{◌≡◌, ◌++◌, false, IfSome, IfOk};
+//! How a client calls a procedure, cancels a call, and answers an invocation.
+ghost use Rattle.std.specs.Prelude.{◌≡◌, ◌++◌, false, IfOk};
 ghost use Rattle.realm_calls.specs.Calls.{has, open_of};
-ghost use Rattle.realm_sessions.specs.Links.{has_number};
 ghost use Rattle.realm_sessions.specs.Sessions.{next_invocation};
-ghost use Rattle.realm_sayings.specs.Invocations.{interrupted, told_canceled};
+ghost use Rattle.realm_machine.specs.Sayings.Invocations.{interrupted, told_canceled};
 ghost use Rattle.realm_machine.specs.Content.{Does};
-ghost use Rattle.realm_machine.specs.Calling.{refuse_call, invoke_under, invoke, call_chosen, call_open, call_uri};
-ghost use Rattle.realm_machine.specs.Calling.{call_text, on_call, on_cancel, on_yield, on_failure, unfit_yield};
+ghost use Rattle.realm_machine.specs.Calling.{refuse_call, invoke, on_call, on_cancel, on_yield, on_failure, unfit_yield};
 
 use crate::content::Content;
+use crate::memory::Memory;
 use crate::requester::Requester;
+use crate::sayings::{
+    INVALID_ARGUMENT, INVALID_URI, LIMIT, NO_SUCH_PROCEDURE, Say, add_interrupt, add_told_canceled,
+    failure, invocation,
+};
 use paxos_packets::Transport;
 use realm_calls::Cancelled;
 use realm_registrations::Chosen;
-use realm_sayings::{
-    INVALID_ARGUMENT, INVALID_URI, LIMIT, Memory, NO_SUCH_PROCEDURE, Say, add_interrupt,
-    add_told_canceled, failure, invocation,
-};
 use realm_sessions::laws::invocation_ids_are_found;
 use wamp_ids::{Id, Uri};
-use wamp_message_layouts::RequestKind;
-use wamp_message_types::{Call, Cancel, Message, Reply, Yield};
+use wamp_message_types::{Call, CallResult, Cancel, Message, RequestKind, Yield};
 use wamp_values::Args;
 
 impl Content {
-    // A client calls a procedure.
+    // Opens a call, and invokes the callee that serves the procedure.
     pub fn on_call(&mut self, requester: Requester, call: &Call) -> Result<Vec<Say>, Memory>
         ensures { Does result self.new (on_call self.old requester call.now) }
     {
         if self.calls.has(requester.session, call.request) {
             return self.violation(requester.transport);
         }
-        self.call_text(requester, call)
-    }
-
-    // The same under a request that is not open.
-    fn call_text(&mut self, requester: Requester, call: &Call) -> Result<Vec<Say>, Memory>
-        requires { has self.old.calls.list requester.session call.now.request ≡ false }
-        ensures { Does result self.new (call_text self.old requester call.now) }
-    {
         let Ok(procedure) = Uri::of(call.procedure.as_str()) else {
             return self.refuse_call(requester, call, INVALID_URI);
         };
-        self.call_uri(requester, call, &procedure)
-    }
-
-    fn call_uri(
-        &mut self,
-        requester: Requester,
-        call: &Call,
-        procedure: &Uri<'_>,
-    ) -> Result<Vec<Say>, Memory>
-        requires { has self.old.calls.list requester.session call.now.request ≡ false }
-        ensures { Does result self.new (call_uri self.old requester call.now procedure.now) }
-    {
         if procedure.is_reserved() {
             return self.refuse_call(requester, call, NO_SUCH_PROCEDURE);
         }
-        self.call_open(requester, call, procedure)
-    }
-
-    // The same where the URI is not the router's own.
-    fn call_open(
-        &mut self,
-        requester: Requester,
-        call: &Call,
-        procedure: &Uri<'_>,
-    ) -> Result<Vec<Say>, Memory>
-        requires { has self.old.calls.list requester.session call.now.request ≡ false }
-        ensures { Does result self.new (call_open self.old requester call.now procedure.now) }
-    {
-        let chosen = self.registry.choose(procedure);
-        self.call_chosen(requester, call, &chosen)
-    }
-
-    // The same where this callee serves the procedure, or none does.
-    fn call_chosen(
-        &mut self,
-        requester: Requester,
-        call: &Call,
-        chosen: &Option<Chosen>,
-    ) -> Result<Vec<Say>, Memory>
-        requires { has self.old.calls.list requester.session call.now.request ≡ false }
-        ensures { Does result self.new (call_chosen self.old requester call.now chosen.now) }
-    {
-        let Some(chosen) = chosen else {
+        let Some(chosen) = self.registrations.choose(&procedure) else {
             return self.refuse_call(requester, call, NO_SUCH_PROCEDURE);
         };
         if self.calls.is_full(requester.session) {
             return self.refuse_call(requester, call, LIMIT);
         }
-        self.invoke(requester, call, chosen)
+        self.invoke(requester, call, &chosen)
     }
 
-    // The callee is invoked under its next id.
+    // Opens the call under the callee's next invocation id, and sends the callee the INVOCATION.
     fn invoke(
         &mut self,
         requester: Requester,
@@ -105,14 +56,25 @@ impl Content {
             (next_invocation self.old.sessions chosen.now.callee (open_of self.old.calls.list chosen.now.callee))) }
     {
         let passed = self.passed_over(chosen.callee)?;
-        self.invoke_next(requester, call, chosen, &passed)
+        // for the proof
+        invocation_ids_are_found();
+        let Some(id) = self.sessions.next_invocation(chosen.callee, &passed) else {
+            return self.refuse_call(requester, call, LIMIT);
+        };
+        self.calls
+            .open(requester.session, call.request, chosen.callee, id)?;
+        self.registrations.turn(chosen.registration);
+        let place = self.sessions.by_id(chosen.callee);
+        let message = invocation(id, chosen, call)?;
+        self.say_to(&place, message)
     }
 
-    // The open invocations that the callee's next id has to pass over: none where the id behind its last one is not open.
+    // Returns the open invocations that the callee's next id has to pass over: none if the id after its last one is not open.
     fn passed_over(&self, callee: Id) -> Result<Vec<Id>, Memory>
         ensures { IfOk result (λ passed. next_invocation self.now.sessions callee passed.items
             ≡ next_invocation self.now.sessions callee (open_of self.now.calls.list callee)) }
     {
+        // for the proof
         invocation_ids_are_found();
         let Some(due) = self.sessions.due_invocation(callee) else {
             return Ok(self.calls.open_of(callee)?);
@@ -123,48 +85,7 @@ impl Content {
         Ok(Vec::new(self.alloc))
     }
 
-    // The same where its next id has to pass over these.
-    fn invoke_next(
-        &mut self,
-        requester: Requester,
-        call: &Call,
-        chosen: &Chosen,
-        passed: &[Id],
-    ) -> Result<Vec<Say>, Memory>
-        requires new { has self.old.calls.list requester.session call.now.request ≡ false }
-        requires next { next_invocation self.old.sessions chosen.now.callee passed.now
-            ≡ next_invocation self.old.sessions chosen.now.callee (open_of self.old.calls.list chosen.now.callee) }
-        ensures { Does result self.new (invoke self.old requester call.now chosen.now
-            (next_invocation self.old.sessions chosen.now.callee (open_of self.old.calls.list chosen.now.callee))) }
-    {
-        invocation_ids_are_found();
-        let id = self.sessions.next_invocation(chosen.callee, passed);
-        self.invoke_under(requester, call, chosen, &id)
-    }
-
-    // The callee is invoked under this id.
-    fn invoke_under(
-        &mut self,
-        requester: Requester,
-        call: &Call,
-        chosen: &Chosen,
-        id: &Option<Id>,
-    ) -> Result<Vec<Say>, Memory>
-        requires new { has self.old.calls.list requester.session call.now.request ≡ false }
-        requires free { IfSome id.now (λ id. has_number (open_of self.old.calls.list chosen.now.callee) id ≡ false) }
-        ensures { Does result self.new (invoke_under self.old requester call.now chosen.now id.now) }
-    {
-        let Some(id) = id else {
-            return self.refuse_call(requester, call, LIMIT);
-        };
-        self.calls
-            .open(requester.session, call.request, chosen.callee, *id)?;
-        self.registry.turn(chosen.registration);
-        let place = self.sessions.by_id(chosen.callee);
-        let message = invocation(*id, chosen, call)?;
-        self.say_to(&place, message)
-    }
-
+    // Refuses the CALL with this error.
     fn refuse_call(
         &self,
         requester: Requester,
@@ -176,7 +97,7 @@ impl Content {
         self.refuse(requester.transport, RequestKind::Call, call.request, error)
     }
 
-    // A client cancels a call of its own.
+    // Cancels a call of the client; an unknown request is ignored.
     pub fn on_cancel(&mut self, requester: Requester, cancel: &Cancel) -> Result<Vec<Say>, Memory>
         ensures { Does result self.new (on_cancel self.old requester cancel.now) }
     {
@@ -193,7 +114,7 @@ impl Content {
         self.say_canceled(requester.transport, &cancelled)
     }
 
-    // What the callee and the caller of a call that was canceled are told.
+    // Returns what is said to the callee and to the caller of a call that was canceled.
     fn say_canceled(&self, transport: Transport, it: &Cancelled) -> Result<Vec<Say>, Memory>
         ensures { IfOk result (λ says. says.items
             ≡ interrupted self.now.sessions.list it.now.call it.now.interrupt ++ told_canceled transport it.now) }
@@ -204,7 +125,7 @@ impl Content {
         Ok(says)
     }
 
-    // A callee answers an invocation.
+    // Ends the call that a callee answers, and sends its caller the RESULT; an unknown invocation is ignored.
     pub fn on_yield(&mut self, requester: Requester, answer: &Yield) -> Result<Vec<Say>, Memory>
         ensures { Does result self.new (on_yield self.old requester answer.now) }
     {
@@ -212,14 +133,14 @@ impl Content {
             return Ok(Vec::new(self.alloc));
         };
         let place = self.sessions.by_id(call.caller);
-        let message = Message::Reply(Reply {
+        let message = Message::CallResult(CallResult {
             request: call.request,
             args: answer.args.copy()?,
         });
         self.say_to(&place, message)
     }
 
-    // A callee says that an invocation failed.
+    // Ends the call whose callee says that it failed, and sends its caller the ERROR; an unknown invocation is ignored.
     pub fn on_failure(
         &mut self,
         requester: Requester,
@@ -237,7 +158,7 @@ impl Content {
         self.say_to(&place, message)
     }
 
-    // A callee's answer is unfit: its call ends all the same.
+    // Ends the call of a callee's unfit answer as if the callee had refused it with `INVALID_ARGUMENT`.
     pub fn unfit_yield(&mut self, requester: Requester, request: Id) -> Result<Vec<Say>, Memory>
         ensures { Does result self.new (unfit_yield self.old requester request) }
     {

@@ -3,7 +3,7 @@ ghost use Rattle.std.specs.Prelude.{◌≡◌, bytes_eq};
 use std::marker::Model;
 use wamp_ids::Text;
 
-/// How much a realm holds at the most.
+/// How much a realm holds at most.
 #[derive(Clone, Copy, Debug, PartialEq, Eq)]
 pub struct Limits {
     /// Sessions of the realm.
@@ -16,7 +16,7 @@ pub struct Limits {
     pub calls: u32,
 }
 
-// What a realm is made with.
+// The configuration of a realm.
 pub struct Config {
     pub name: Text,
     pub limits: Limits,
@@ -40,7 +40,7 @@ impl Model for Config {
 }
 
 impl Config {
-    // Whether the realm has this name.
+    // Returns whether the realm has this name.
     pub fn is_named(&self, name: &Text) -> bool
         ensures { result ≡ bytes_eq name.now self.now.name }
     {

@@ -1,27 +1,26 @@
 ghost use Rattle.std.specs.Prelude.{◌≡◌, IfOk};
-ghost use Rattle.realm_sayings.specs.Sayings.{say_to};
+ghost use Rattle.realm_machine.specs.Sayings.{say_to};
 ghost use Rattle.realm_machine.specs.Content.{Does, empty, reply, refuse, refuse_for};
 
 use crate::config::Limits;
+use crate::memory::Memory;
+use crate::sayings::{Say, refusal};
 use paxos_packets::Transport;
 use realm_calls::Calls;
 use realm_registrations::Registrations;
-use realm_sayings::{Memory, Say, refusal};
 use realm_sessions::{RealmFault, Sessions};
 use realm_subscriptions::Subscriptions;
 use std::alloc::Global;
 use std::marker::Model;
 use wamp_ids::Id;
-use wamp_message_layouts::RequestKind;
-use wamp_message_types::Message;
+use wamp_message_types::{Message, RequestKind};
 
-// The content of a realm. What it does for an act comes in parts, each a case of the step. An error, for want of memory alone,
-// may leave a part undone.
+// The content of a realm. Its methods are the cases of the step. They fail only if memory runs out, and may then have done a part.
 pub struct Content {
     pub alloc: Global,
     pub sessions: Sessions,
-    pub registry: Registrations,
-    pub topics: Subscriptions,
+    pub registrations: Registrations,
+    pub subscriptions: Subscriptions,
     pub calls: Calls,
 }
 
@@ -30,8 +29,8 @@ impl Drop for Content {
         let Content {
             alloc: _,
             sessions: _sessions,
-            registry: _registry,
-            topics: _topics,
+            registrations: _registrations,
+            subscriptions: _subscriptions,
             calls: _calls,
         } = self;
     }
@@ -42,31 +41,31 @@ impl Model for Content {
 
     ghost Value = { Content };
 
-    ghost view = { λ a. record { sessions = a.sessions; registry = a.registry; topics = a.topics; calls = a.calls } };
+    ghost view = { λ a. record { sessions = a.sessions; registrations = a.registrations; subscriptions = a.subscriptions; calls = a.calls } };
 }
 
 impl Content {
-    // No transport, no registration, no subscription and no call, under these limits.
+    // Creates it with no transport, registration, subscription or call, under these limits.
     pub fn new(alloc: Global, limits: Limits) -> Content
         ensures { result ≡ empty limits }
     {
         Content {
             alloc,
             sessions: Sessions::new(alloc, limits.sessions),
-            registry: Registrations::new(alloc, limits.registrations),
-            topics: Subscriptions::new(alloc, limits.subscriptions),
+            registrations: Registrations::new(alloc, limits.registrations),
+            subscriptions: Subscriptions::new(alloc, limits.subscriptions),
             calls: Calls::new(alloc, limits.calls),
         }
     }
 
-    // The transport is sent the message, and nothing else is said.
+    // Sends the transport the message, and says nothing else.
     pub fn reply(&self, transport: Transport, message: Message) -> Result<Vec<Say>, Memory>
         ensures { Does result self.now (reply self.now transport message) }
     {
         Ok(vec![in self.alloc; Say::send(transport, message)]?)
     }
 
-    // The transport is sent the message, if there is one.
+    // Sends the message to the transport, if there is one.
     pub fn say_to(&self, place: &Option<Transport>, message: Message) -> Result<Vec<Say>, Memory>
         ensures { IfOk result (λ says. says.items ≡ say_to place.now message) }
     {
@@ -79,7 +78,7 @@ impl Content {
         }
     }
 
-    // The request is refused for this error.
+    // Refuses the request with this error.
     pub fn refuse(
         &self,
         transport: Transport,
@@ -93,7 +92,7 @@ impl Content {
         self.reply(transport, message)
     }
 
-    // The request is refused for this fault of a part.
+    // Refuses the request with the error of a part's fault; says nothing for a fault without one.
     pub fn refuse_for(
         &self,
         transport: Transport,

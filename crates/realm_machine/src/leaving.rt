@@ -1,4 +1,4 @@
-// How a client leaves, why it is made to, and how a node's transports go.
+//! How a client leaves or is made to leave, and how the transports of a node go.
 ghost use Rattle.std.specs.Prelude.{Some, Option};
 ghost use Rattle.realm_sessions.specs.Links.{of_origin};
 ghost use Rattle.realm_machine.specs.Content.{Does};
@@ -7,15 +7,16 @@ ghost use Rattle.realm_machine.specs.Leaving.{leave_session};
 ghost use Rattle.realm_machine.specs.Leaving.{remove, stop, violation, aborted, goodbye, one_gone, all_gone, gone};
 
 use crate::content::Content;
-use paxos_packets::Transport;
-use realm_sayings::{
-    GOODBYE_AND_OUT, Memory, PROTOCOL_VIOLATION, Say, add_close, add_end, add_farewell,
-    add_goodbye, end_for_callees, end_for_callers,
+use crate::memory::Memory;
+use crate::sayings::{
+    GOODBYE_AND_OUT, PROTOCOL_VIOLATION, Say, add_close, add_end, add_farewell, add_goodbye,
+    end_for_callees, end_for_callers,
 };
+use paxos_packets::Transport;
 use wamp_ids::Id;
 
 impl Content {
-    // The calls to the session by others end, and their callers are told.
+    // Ends the calls to the session by others, and sends their callers an ERROR.
     fn end_calls_to(&mut self, session: Id) -> Result<Vec<Say>, Memory>
         ensures { Does result self.new (end_calls_to self.old session) }
     {
@@ -23,7 +24,7 @@ impl Content {
         end_for_callers(self.alloc, &self.sessions, &ended)
     }
 
-    // The session's calls to others end, and the callees that announced canceling are told; those to itself end silently.
+    // Ends the session's calls to others, and interrupts the callees that announced canceling; its calls to itself end silently.
     fn end_calls_by(&mut self, session: Id) -> Result<Vec<Say>, Memory>
         ensures { Does result self.new (end_calls_by self.old session) }
     {
@@ -31,7 +32,7 @@ impl Content {
         end_for_callees(self.alloc, &self.sessions, &ended)
     }
 
-    // The transport's session leaves its calls, its registrations and its subscriptions, and is no more; the transport stays.
+    // Ends the transport's session with its calls, registrations and subscriptions; the transport stays.
     pub fn leave(&mut self, transport: Transport) -> Result<Vec<Say>, Memory>
         ensures { Does result self.new (leave self.old transport) }
     {
@@ -48,7 +49,7 @@ impl Content {
         self.end_session(session)
     }
 
-    // The session's calls end, then its registrations and its subscriptions.
+    // Ends the session's calls, then its registrations and its subscriptions.
     fn end_session(&mut self, session: Id) -> Result<Vec<Say>, Memory>
         ensures { Does result self.new (end_session self.old session) }
     {
@@ -56,13 +57,13 @@ impl Content {
         let mut interrupts = self.end_calls_by(session)?;
         let done = says.append(&mut interrupts);
         drop(interrupts);
-        self.registry.leave(session);
-        self.topics.leave(session);
+        self.registrations.leave(session);
+        self.subscriptions.leave(session);
         done?;
         Ok(says)
     }
 
-    // The transport goes, after its session has left.
+    // Removes the transport, after its session has left.
     pub fn remove(&mut self, transport: Transport) -> Result<Vec<Say>, Memory>
         ensures { Does result self.new (remove self.old transport) }
     {
@@ -71,7 +72,7 @@ impl Content {
         Ok(says)
     }
 
-    // The transport is sent why, and closed.
+    // Removes the transport, sends it an ABORT with this reason, and closes it.
     pub fn stop(&mut self, transport: Transport, reason: &str) -> Result<Vec<Say>, Memory>
         ensures { Does result self.new (stop self.old transport reason.now) }
     {
@@ -80,14 +81,14 @@ impl Content {
         Ok(says)
     }
 
-    // The client broke the protocol.
+    // Stops a client that broke the protocol.
     pub fn violation(&mut self, transport: Transport) -> Result<Vec<Say>, Memory>
         ensures { Does result self.new (violation self.old transport) }
     {
         self.stop(transport, PROTOCOL_VIOLATION)
     }
 
-    // The client aborted.
+    // Removes the transport of a client that aborted, and closes it.
     pub fn aborted(&mut self, transport: Transport) -> Result<Vec<Say>, Memory>
         ensures { Does result self.new (aborted self.old transport) }
     {
@@ -96,7 +97,7 @@ impl Content {
         Ok(says)
     }
 
-    // The client ends its session.
+    // Ends the session at the request of its client, and answers with a GOODBYE.
     pub fn goodbye(&mut self, transport: Transport) -> Result<Vec<Say>, Memory>
         ensures { Does result self.new (goodbye self.old transport) }
     {
@@ -105,7 +106,7 @@ impl Content {
         Ok(says)
     }
 
-    // One transport of a node that is gone goes.
+    // Removes one transport of a node that is gone.
     fn one_gone(&mut self, transport: Transport) -> Result<Vec<Say>, Memory>
         ensures { Does result self.new (one_gone self.old transport) }
     {
@@ -116,7 +117,7 @@ impl Content {
         Ok(says)
     }
 
-    // The transports that the node took go, one after the other.
+    // Removes the transports that the node took, one after the other.
     pub fn gone(&mut self, node: u8) -> Result<Vec<Say>, Memory>
         ensures { Does result self.new (gone self.old node) }
     {

@@ -1,7 +1,7 @@
-//! One realm of a WAMP router as a machine: sessions, registrations, subscriptions,
-//! publications and calls (WAMP specification, basic profile; canceling, patterns, shared registrations).
-//! What a client does goes in as an act, what is said to transports comes out as sayings; docs/PROTOCOL.md, "The realm",
-//! has the rules. The laws on sessions, registrations, subscriptions and calls stand in the crate `realm_laws`.
+//! One realm of a WAMP router as a machine: sessions, registrations, subscriptions, publications and calls (WAMP specification, basic
+//! profile; canceling, patterns, shared registrations). What a client does goes in as an act; what is said to transports comes out as
+//! sayings. docs/PROTOCOL.md, "The realm", has the rules. The laws on sessions, registrations, subscriptions and calls are in the crate
+//! `realm_laws`.
 #![tactic(auto)]
 
 mod calling;
@@ -10,11 +10,14 @@ mod content;
 pub mod laws;
 mod leaving;
 mod machine;
+mod memory;
 mod opening;
 mod publishing;
 mod realm;
 mod registering;
 mod requester;
+mod sayings;
+mod served;
 mod step;
 mod subscribing;
 mod unsubscribing;
@@ -23,7 +26,7 @@ pub use config::Limits;
 pub use paxos_packets::{Shared, Transport};
 pub use realm::Realm;
 pub use realm_acts::Act;
-pub use realm_sayings::{Out, Say};
 pub use replica_machine::Failed;
+pub use sayings::{Out, Say};
 pub use wamp_ids::Id;
 pub use wamp_message_types::{Message, Read};

@@ -1,10 +1,10 @@
 use crate::realm::Realm;
+use crate::sayings::Say;
 use paxos_packets::Transport;
 use realm_acts::Act;
-use realm_sayings::Say;
 use replica_machine::{Failed, Input, Machine};
 
-// The begin of a boot and the loss of a node end what the node's boot before had; an item is an act of its transport.
+// A boot's begin and a node's loss end what the node's earlier boot had; an item is an act of its transport.
 impl Machine for Realm {
     type Body = Act;
 

@@ -1,4 +1,4 @@
-// How a client opens a session.
+//! How a client opens a session.
 ghost use Rattle.std.specs.Prelude.{◌≡◌, Some, None};
 ghost use Rattle.realm_sessions.specs.Links.{by_transport};
 ghost use Rattle.realm_machine.specs.Content.{Does};
@@ -6,13 +6,14 @@ ghost use Rattle.realm_machine.specs.Opening.{open_at};
 
 use crate::config::Config;
 use crate::content::Content;
+use crate::memory::Memory;
+use crate::sayings::{LIMIT, NO_SUCH_REALM, Say};
 use paxos_packets::Transport;
-use realm_sayings::{LIMIT, Memory, NO_SUCH_REALM, Say};
 use wamp_ids::Id;
 use wamp_message_types::{Hello, Message, Welcome};
 
 impl Content {
-    // A client at a connected transport without a session asks for one.
+    // Opens a session for a client at a connected transport that has none.
     pub fn open_at(
         &mut self,
         config: &Config,

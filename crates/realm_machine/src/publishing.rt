@@ -1,18 +1,18 @@
-// How a client publishes to a topic's members.
+//! How a client publishes to a topic's subscribers.
 ghost use Rattle.std.specs.Prelude.{◌≡◌, ◌++◌, OnOk};
 ghost use Rattle.realm_machine.specs.Content.{Does};
 ghost use Rattle.realm_machine.specs.Publishing.{publish, events};
 
 use crate::content::Content;
+use crate::memory::Memory;
 use crate::requester::Requester;
-use realm_sayings::{INVALID_URI, Memory, Say, add_events_to, open_topic};
+use crate::sayings::{INVALID_URI, Say, add_events_to, open_topic};
 use wamp_ids::{Id, Uri};
-use wamp_message_layouts::RequestKind;
-use wamp_message_types::{Message, Publish, Published};
+use wamp_message_types::{Message, Publish, Published, RequestKind};
 use wamp_values::Args;
 
 impl Content {
-    // A client publishes an event: it is sent a reply where it asked for that, and the topic's members get the event.
+    // Publishes an event: the client is sent a reply if it asked for one, and the topic's subscribers get the event.
     pub fn publish(&self, requester: Requester, asked: &Publish) -> Result<Vec<Say>, Memory>
         ensures { Does result self.now (publish self.now requester asked.now) }
     {
@@ -57,7 +57,7 @@ impl Content {
         ensures { OnOk result (says.new.items
             ≡ says.old.items ++ events self.now topic.now publication args.now except) }
     {
-        let receivers = self.topics.receivers(topic, except)?;
+        let receivers = self.subscriptions.receivers(topic, except)?;
         add_events_to(
             &self.sessions,
             says,

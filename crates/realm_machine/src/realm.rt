@@ -4,9 +4,9 @@ ghost use Rattle.realm_machine.specs.Realm.{Acts, Goes};
 
 use crate::config::{Config, Limits};
 use crate::content::Content;
+use crate::sayings::Say;
 use paxos_packets::Transport;
 use realm_acts::Act;
-use realm_sayings::Say;
 use replica_machine::Failed;
 use std::alloc::Global;
 use std::marker::Model;
@@ -16,7 +16,7 @@ use wamp_ids::Text;
 /// calls.
 pub struct Realm {
     config: Config,
-    // Nothing once the realm failed.
+    // `None` once the realm has failed.
     content: Option<Content>,
 }
 
@@ -38,7 +38,7 @@ impl Model for Realm {
 }
 
 impl Realm {
-    /// A realm of this name, with no transport. Takes no memory.
+    /// Creates a realm of this name, with no transport. Does not allocate.
     pub fn new(alloc: Global, name: String, limits: Limits) -> Realm
         ensures config { result.config ≡ record { name = string_bytes name; limits = limits } }
         ensures content { result.content ≡ Some (empty limits) }
@@ -52,13 +52,14 @@ impl Realm {
         }
     }
 
-    /// What one act at a transport makes the realm say, in order, and to whom.
+    /// Takes one act at a transport, and returns what the realm says to which transports, in order.
     ///
-    /// An error comes only for want of memory. The realm is failed then, and answers the same to each later act.
+    /// Fails only if memory runs out. The realm has failed then, and returns the same error for each later call.
     ///
-    /// Cost: a number of steps that is logarithmic in what stands: to find a transport, a session, a call, a registration or a subscription,
-    /// for each receiver of an event, for each call that ends with a session and for each group that it leaves. A PUBLISH and a CALL ask
-    /// once for each length of prefixes and each shape of wildcards that stands. Who joins or leaves a registration goes over its callees.
+    /// Cost: a number of steps that is logarithmic in the realm's content: to find a transport, a session, a call, a registration or a
+    /// subscription, for each receiver of an event, for each call that ends with a session and for each group that it leaves. A PUBLISH and
+    /// a CALL take a look-up for each length of prefixes and each shape of wildcards in use. Joining or leaving a registration goes over
+    /// its callees.
     pub fn act(&mut self, transport: Transport, act: &Act) -> Result<Vec<Say>, Failed>
         ensures act { Acts self.old.config self.old.content transport act.now result self.new.content }
         ensures config { self.new.config ≡ self.old.config }
@@ -73,11 +74,12 @@ impl Realm {
         Ok(says)
     }
 
-    /// What the end of this node makes the realm say: its transports go, one after the other, in the order in which they came.
+    /// Removes the transports of this node, one after the other, in the order in which they came, and returns what the realm says to which
+    /// transports, in order.
     ///
-    /// An error comes only for want of memory. The realm is failed then, and answers the same to each later act.
+    /// Fails only if memory runs out. The realm has failed then, and returns the same error for each later call.
     ///
-    /// Cost: that of an end of a session for each transport of the node.
+    /// Cost: that of the end of a session for each transport of the node.
     pub fn gone(&mut self, node: u8) -> Result<Vec<Say>, Failed>
         ensures gone { Goes self.old.content node result self.new.content }
         ensures config { self.new.config ≡ self.old.config }

@@ -1,17 +1,17 @@
-// How a client registers procedures and withdraws them.
+//! How a client registers procedures and withdraws them.
 ghost use Rattle.realm_machine.specs.Content.{Does};
 ghost use Rattle.realm_machine.specs.Registering.{register, unregister};
 
 use crate::content::Content;
+use crate::memory::Memory;
 use crate::requester::Requester;
-use realm_sayings::{INVALID_URI, Memory, Say};
+use crate::sayings::{INVALID_URI, Say};
 use realm_sessions::RealmFault;
 use wamp_ids::Pattern;
-use wamp_message_layouts::RequestKind;
-use wamp_message_types::{Message, Register, Registered, Unregister, Unregistered};
+use wamp_message_types::{Message, Register, Registered, RequestKind, Unregister, Unregistered};
 
 impl Content {
-    // A client wants to be called for the procedures that a pattern matches.
+    // Registers the client for the procedures that a pattern matches.
     pub fn register(&mut self, requester: Requester, asked: &Register) -> Result<Vec<Say>, Memory>
         ensures { Does result self.new (register self.old requester asked.now) }
     {
@@ -21,7 +21,7 @@ impl Content {
             return self.refuse(transport, RequestKind::Register, request, INVALID_URI);
         };
         match self
-            .registry
+            .registrations
             .register(requester.session, &pattern, asked.invoke)
         {
             Ok(registration) => {
@@ -36,7 +36,7 @@ impl Content {
         }
     }
 
-    // A client wants to be called for them no more.
+    // Withdraws a registration of the client.
     pub fn unregister(
         &mut self,
         requester: Requester,
@@ -47,7 +47,7 @@ impl Content {
         let transport = requester.transport;
         let request = asked.request;
         match self
-            .registry
+            .registrations
             .unregister(requester.session, asked.registration)
         {
             Ok(()) => self.reply(transport, Message::Unregistered(Unregistered { request })),

@@ -1,23 +1,23 @@
-// What an act does, by what the client sends.
+//! What an act does, by what the client sends.
 ghost use Rattle.std.specs.Prelude.{◌≡◌, Some, None};
 ghost use Rattle.realm_sessions.specs.Links.{by_transport};
 ghost use Rattle.realm_machine.specs.Content.{Does};
 ghost use Rattle.realm_machine.specs.Calling.{unfit_call};
-ghost use Rattle.wamp_message_layouts.specs.declared.request_kind.RequestKind.TheVariants as kind;
+ghost use Rattle.wamp_message_types.specs.declared.request_kind.RequestKind.TheVariants as kind;
 ghost use Rattle.realm_machine.specs.Step.{refuse_unless, on_unfit, on_error, on_request, on_opening, on_message, on_read, on_act};
 
 use crate::config::Config;
 use crate::content::Content;
+use crate::memory::Memory;
 use crate::requester::Requester;
+use crate::sayings::{INVALID_ARGUMENT, Say};
 use paxos_packets::Transport;
 use realm_acts::Act;
-use realm_sayings::{INVALID_ARGUMENT, Memory, Say};
 use wamp_ids::Id;
-use wamp_message_layouts::RequestKind;
-use wamp_message_types::{Error, Message, Read, UnfitKind};
+use wamp_message_types::{Error, Message, Read, RequestKind, UnfitKind};
 
 impl Content {
-    // The step of an act.
+    // Takes the step of an act.
     pub fn on_act(
         &mut self,
         config: &Config,
@@ -73,7 +73,8 @@ impl Content {
         }
     }
 
-    // An unfit CALL of an open request, and an unfit answer to an invocation, are so however quiet they are.
+    // Refuses an unfit request. An unfit CALL under an open request breaks the protocol, and an unfit answer ends its call, even if it is
+    // quiet.
     fn on_unfit(
         &mut self,
         requester: Requester,
@@ -156,7 +157,7 @@ impl Content {
         }
     }
 
-    // A client without a session.
+    // Takes the message of a client without a session.
     fn on_opening(
         &mut self,
         config: &Config,
@@ -174,7 +175,7 @@ impl Content {
         }
     }
 
-    // A client with a session. The last ten kinds are those that only the router sends.
+    // Takes the message of a client with a session. The last ten kinds are those that only the router sends.
     fn on_request(
         &mut self,
         config: &Config,
@@ -204,13 +205,13 @@ impl Content {
             Message::Event(_) => self.violation(transport),
             Message::Registered(_) => self.violation(transport),
             Message::Unregistered(_) => self.violation(transport),
-            Message::Reply(_) => self.violation(transport),
+            Message::CallResult(_) => self.violation(transport),
             Message::Invocation(_) => self.violation(transport),
             Message::Interrupt(_) => self.violation(transport),
         }
     }
 
-    // An ERROR answers an invocation, or breaks the protocol.
+    // Takes an ERROR: it answers an invocation, or breaks the protocol.
     fn on_error(&mut self, requester: Requester, error: &Error) -> Result<Vec<Say>, Memory>
         ensures { Does result self.new (on_error self.old requester error.now.kind error.now) }
     {

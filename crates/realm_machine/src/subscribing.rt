@@ -1,18 +1,18 @@
-// How a client subscribes to a pattern of topics.
+//! How a client subscribes to a pattern of topics.
 ghost use Rattle.realm_machine.specs.Content.{Does, refuse};
-ghost use Rattle.wamp_message_layouts.specs.declared.request_kind.RequestKind.TheVariants as kind;
+ghost use Rattle.wamp_message_types.specs.declared.request_kind.RequestKind.TheVariants as kind;
 ghost use Rattle.realm_machine.specs.Subscribing.{subscribe};
 
 use crate::content::Content;
+use crate::memory::Memory;
 use crate::requester::Requester;
-use realm_sayings::{INVALID_URI, LIMIT, Memory, Say};
+use crate::sayings::{INVALID_URI, LIMIT, Say};
 use realm_sessions::RealmFault;
 use wamp_ids::{Id, Pattern};
-use wamp_message_layouts::RequestKind;
-use wamp_message_types::{Message, Subscribe, Subscribed};
+use wamp_message_types::{Message, RequestKind, Subscribe, Subscribed};
 
 impl Content {
-    // A client asks for the events of the topics that a pattern matches.
+    // Subscribes the client to the topics that a pattern matches.
     pub fn subscribe(&mut self, requester: Requester, asked: &Subscribe) -> Result<Vec<Say>, Memory>
         ensures { Does result self.new (subscribe self.old requester asked.now) }
     {
@@ -20,7 +20,7 @@ impl Content {
         let Ok(pattern) = Pattern::of(asked.topic.as_str(), asked.matching) else {
             return self.refuse_subscribe(requester, request, INVALID_URI);
         };
-        match self.topics.subscribe(requester.session, &pattern) {
+        match self.subscriptions.subscribe(requester.session, &pattern) {
             Ok(subscription) => self.reply(
                 requester.transport,
                 Message::Subscribed(Subscribed {

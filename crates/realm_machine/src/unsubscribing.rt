@@ -1,15 +1,15 @@
-// How a client leaves one of its subscriptions.
+//! How a client leaves one of its subscriptions.
 ghost use Rattle.realm_machine.specs.Content.{Does};
 ghost use Rattle.realm_machine.specs.Unsubscribing.{unsubscribe};
 
 use crate::content::Content;
+use crate::memory::Memory;
 use crate::requester::Requester;
-use realm_sayings::{Memory, NO_SUCH_SUBSCRIPTION, Say};
-use wamp_message_layouts::RequestKind;
-use wamp_message_types::{Message, Unsubscribe, Unsubscribed};
+use crate::sayings::{NO_SUCH_SUBSCRIPTION, Say};
+use wamp_message_types::{Message, RequestKind, Unsubscribe, Unsubscribed};
 
 impl Content {
-    // A client asks for no more of a subscription's events.
+    // Takes the client out of a subscription.
     pub fn unsubscribe(
         &mut self,
         requester: Requester,
@@ -18,7 +18,7 @@ impl Content {
         ensures { Does result self.new (unsubscribe self.old requester asked.now) }
     {
         let left = self
-            .topics
+            .subscriptions
             .unsubscribe(requester.session, asked.subscription);
         let request = asked.request;
         match left {

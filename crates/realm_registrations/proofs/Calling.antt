@@ -11,7 +11,7 @@ use Rattle.wamp_patterns.specs.Ranking.{matching, is_unbeaten}
 use Rattle.wamp_patterns.proofs.Serving.{some_serves}
 use Rattle.realm_registrations.specs.declared.registration.Registration.{Registration}
 use Rattle.realm_registrations.specs.Registration.{called, chosen}
-use Rattle.realm_registrations.specs.Registry.{Registry, serving, found_chosen, choose}
+use Rattle.realm_registrations.specs.Registrations.{Registrations, serving, found_chosen, choose}
 use Rattle.realm_registrations.specs.Laws.{IsSoundRegistration, AreSoundRegistrations}
 use Rattle.realm_registrations.proofs.Changes.{found_holds}
 
@@ -31,16 +31,16 @@ mapped_is f (Some x) = refl
 chosen_is : (r : Registration) → IsSoundRegistration r → is_some (chosen r) ≡ true
 chosen_is r ok = mapped_is _ (called r.invoke r.callees) ∙ called_is r.invoke r.callees ok.held
 
-found_is : (registry : Registry) (uri : List ℕ) → AreSoundRegistrations registry → (o : Option Registration) → serving registry uri ≡ o
+found_is : (registrations : Registrations) (uri : List ℕ) → AreSoundRegistrations registrations → (o : Option Registration) → serving registrations uri ≡ o
     → is_some (found_chosen o) ≡ is_some o
-found_is registry uri ok None is = refl
-found_is registry uri ok (Some r) is =
+found_is registrations uri ok None is = refl
+found_is registrations uri ok (Some r) is =
     let pattern_of : Registration → PatternValue = λ (x : Registration). x.pattern in
-    let fit = matching pattern_of registry.list uri in
+    let fit = matching pattern_of registrations.list uri in
     chosen_is r (found_holds (is_unbeaten pattern_of fit) IsSoundRegistration r fit is
-    (All-filter (λ (x : Registration). matches x.pattern uri) IsSoundRegistration registry.list ok.registrations))
+    (All-filter (λ (x : Registration). matches x.pattern uri) IsSoundRegistration registrations.list ok.each))
 
-pub called_where_matched : (registry : Registry) (uri : List ℕ) → AreSoundRegistrations registry
-    → is_some (choose registry uri) ≡ list_any (λ (r : Registration). matches r.pattern uri) registry.list
-called_where_matched registry uri ok =
-    found_is registry uri ok (serving registry uri) refl ∙ some_serves (λ (r : Registration). r.pattern) registry.list uri
+pub called_where_matched : (registrations : Registrations) (uri : List ℕ) → AreSoundRegistrations registrations
+    → is_some (choose registrations uri) ≡ list_any (λ (r : Registration). matches r.pattern uri) registrations.list
+called_where_matched registrations uri ok =
+    found_is registrations uri ok (serving registrations uri) refl ∙ some_serves (λ (r : Registration). r.pattern) registrations.list uri

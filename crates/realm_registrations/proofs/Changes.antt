@@ -10,7 +10,7 @@ use Rattle.std.proofs.lemmas.List.Folds.{list_any_more}
 use Rattle.std.proofs.lemmas.List.Kept.{AllPairs-cons}
 use Rattle.realm_sessions.proofs.Pairs.{AllPairs-nil, AllPairs-head, AllPairs-tail}
 use Rattle.realm_registrations.specs.declared.registration.Registration.{Registration}
-use Rattle.realm_registrations.specs.Registry.{change_first}
+use Rattle.realm_registrations.specs.Registrations.{change_first}
 
 module _ (test : Registration → Bool) (change : Registration → Registration) where
   -- the one at this place is the first that passes

@@ -54,7 +54,7 @@ joined_behind (suc i) s (x ∷ xs) ys within =
     ∙ joined_behind i s xs (ys ++ x ∷ []) (omega arith)
     ∙ ap (λ zs. (drop i xs ++ zs) ++ s ∷ []) (append_assoc ys (x ∷ []) (take i xs))
 
--- who is put before the cursor, which goes on, is seen as the last
+-- a session that is put before the cursor, which moves on, is seen as the last
 pub seen_joined : (i s : ℕ) (xs : List ℕ) → i ≤ length xs → seen (i + 1) (insert xs i s) ≡ joined s (seen i xs)
 seen_joined i s xs within =
     let next : i + 1 ≡ suc i = omega arith in ap (λ n. seen n (insert xs i s)) next ∙ joined_behind i s xs [] within

@@ -8,7 +8,7 @@ use Rattle.realm_sessions.specs.Members.{has_member, others}
 use Rattle.realm_groups.specs.Groups as groups
 use Rattle.realm_registrations.specs.declared.registration.Registration.{Registration}
 use Rattle.realm_registrations.specs.Registration.{has_callee, has_callees, without_callee}
-use Rattle.realm_registrations.specs.Registry.{change_first, found_callee}
+use Rattle.realm_registrations.specs.Registrations.{change_first, found_callee}
 
 abbrev callees_of : Registration → List ℕ
 callees_of r = r.callees

@@ -1,4 +1,4 @@
--- What every registry keeps: ids rise, each text and match has one registration, each registration its callees, each of them once, and
+-- What the registrations of a realm keep: ids rise, each text and match has one registration, each registration its callees, each of them once, and
 -- one under `single`.
 use Rattle.std.proofs.Common.{◌≡◌, ◌≢◌, ℕ, ◌+◌, ◌<◌, ◌≤◌, ◌==◌, Bool, true, false, not, ◌&&◌, List, [], ◌∷◌, length, map, filter}
 use Rattle.std.proofs.Common.{nat_lt, cond, Ok, Option, None, Some, refl, sym, subst, ◌∙◌, arith, length-append, Err}
@@ -19,9 +19,9 @@ use Rattle.realm_sessions.proofs.Pairs.{AllPairs-nil, AllPairs-head, AllPairs-ta
 use Rattle.realm_registrations.specs.declared.registration.Registration.{Registration}
 use Rattle.realm_registrations.specs.Registration.{is_at, has_id, has_callee, has_callees, is_shared, same_invoke, may_join}
 use Rattle.realm_registrations.specs.Registration.{with_callee, without_callee, takes_turns, turned}
-use Rattle.realm_registrations.specs.Registry.{Registry, Registered, Unregistered, no_registrations, with_list, registration_at, is_full}
-use Rattle.realm_registrations.specs.Registry.{change_first, refused, with_registration, with_callee_at, register_at, register}
-use Rattle.realm_registrations.specs.Registry.{is_callee, without_callee_of, unregister, leave, turn}
+use Rattle.realm_registrations.specs.Registrations.{Registrations, Registered, Unregistered, no_registrations, with_list, registration_at, is_full}
+use Rattle.realm_registrations.specs.Registrations.{change_first, refused, with_registration, with_callee_at, register_at, register}
+use Rattle.realm_registrations.specs.Registrations.{is_callee, without_callee_of, unregister, leave, turn}
 use Rattle.realm_registrations.specs.Laws.{IsSoundRegistration, AreSoundRegistrations, Call, after_call, after}
 use Rattle.realm_registrations.proofs.Changes.{All-change_first, AllPairs-change_first, All-found_changed}
 
@@ -37,13 +37,13 @@ record AreListed (list : List Registration) (last : ℕ) : Type 0 where
   handed_out : All (λ (r : Registration). r.id ≤ last) list
   one_each : AllPairs Differ list
 
-listed : (registry : Registry) → AreSoundRegistrations registry → AreListed registry.list registry.last
-listed registry ok = record { ids = ok.ids; handed_out = ok.handed_out; one_each = ok.one_each }
+listed : (registrations : Registrations) → AreSoundRegistrations registrations → AreListed registrations.list registrations.last
+listed registrations ok = record { ids = ok.ids; handed_out = ok.handed_out; one_each = ok.one_each }
 
-sound : (registry : Registry) → AreListed registry.list registry.last → registry.last ≤ last_id → All IsSoundRegistration registry.list
-    → AreSoundRegistrations registry
-sound registry ok last each =
-    record { ids = ok.ids; handed_out = ok.handed_out; last = last; one_each = ok.one_each; registrations = each }
+sound : (registrations : Registrations) → AreListed registrations.list registrations.last → registrations.last ≤ last_id → All IsSoundRegistration registrations.list
+    → AreSoundRegistrations registrations
+sound registrations ok last each =
+    record { ids = ok.ids; handed_out = ok.handed_out; last = last; one_each = ok.one_each; each = each }
 
 pub nothing_sound : (limit : ℕ) → AreSoundRegistrations (no_registrations limit)
 nothing_sound limit = record {
@@ -51,7 +51,7 @@ nothing_sound limit = record {
   handed_out = All-nil (λ (r : Registration). r.id ≤ 0);
   last = omega arith;
   one_each = AllPairs-nil Differ;
-  registrations = All-nil IsSoundRegistration;
+  each = All-nil IsSoundRegistration;
 }
 
 -- a change of callees alone
@@ -117,33 +117,33 @@ turned_names = record {
 alone : (session : ℕ) → AllPairs (λ (a b : ℕ). a ≢ b) (session ∷ [])
 alone session i j d before within = absurd (omega arith)
 
-added_listed : (registry : Registry) (session : ℕ) (pattern : PatternValue) (invoke : Invoke) → registration_at registry pattern ≡ None
-    → AreListed registry.list registry.last → AreListed (with_registration registry session pattern invoke).list (registry.last + 1)
-added_listed registry session pattern invoke none ok =
-    let new : Registration = record { id = registry.last + 1; pattern = pattern; invoke = invoke; callees = session ∷ [] } in
-    let below : All (λ (r : Registration). r.id ≤ registry.last + 1) registry.list =
-    All-weaker (λ (r : Registration). r.id ≤ registry.last) (λ (r : Registration). r.id ≤ registry.last + 1)
-    (λ r h. omega arith) registry.list ok.handed_out in
-    let rise : All (λ (r : Registration). Rise r new) registry.list =
-    All-weaker (λ (r : Registration). r.id ≤ registry.last) (λ (r : Registration). Rise r new)
-    (λ r h. omega arith) registry.list ok.handed_out in
-    let differ : All (λ (r : Registration). Differ r new) registry.list =
+added_listed : (registrations : Registrations) (session : ℕ) (pattern : PatternValue) (invoke : Invoke) → registration_at registrations pattern ≡ None
+    → AreListed registrations.list registrations.last → AreListed (with_registration registrations session pattern invoke).list (registrations.last + 1)
+added_listed registrations session pattern invoke none ok =
+    let new : Registration = record { id = registrations.last + 1; pattern = pattern; invoke = invoke; callees = session ∷ [] } in
+    let below : All (λ (r : Registration). r.id ≤ registrations.last + 1) registrations.list =
+    All-weaker (λ (r : Registration). r.id ≤ registrations.last) (λ (r : Registration). r.id ≤ registrations.last + 1)
+    (λ r h. omega arith) registrations.list ok.handed_out in
+    let rise : All (λ (r : Registration). Rise r new) registrations.list =
+    All-weaker (λ (r : Registration). r.id ≤ registrations.last) (λ (r : Registration). Rise r new)
+    (λ r h. omega arith) registrations.list ok.handed_out in
+    let differ : All (λ (r : Registration). Differ r new) registrations.list =
     All-weaker (λ (r : Registration). is_at pattern r ≡ false) (λ (r : Registration). Differ r new)
-    (λ r off same. both_ways (is_at pattern r) off ((kept_as_one r.pattern pattern).1 same)) registry.list
-    (All-not_found (is_at pattern) registry.list none) in
+    (λ r off same. both_ways (is_at pattern r) off ((kept_as_one r.pattern pattern).1 same)) registrations.list
+    (All-not_found (is_at pattern) registrations.list none) in
     record {
-      ids = all_pairs_push Rise registry.list new ok.ids (λ k d within. rise k d within);
-      handed_out = All-push (λ (r : Registration). r.id ≤ registry.last + 1) registry.list new below (omega arith);
-      one_each = all_pairs_push Differ registry.list new ok.one_each (λ k d within. differ k d within);
+      ids = all_pairs_push Rise registrations.list new ok.ids (λ k d within. rise k d within);
+      handed_out = All-push (λ (r : Registration). r.id ≤ registrations.last + 1) registrations.list new below (omega arith);
+      one_each = all_pairs_push Differ registrations.list new ok.one_each (λ k d within. differ k d within);
     }
 
-added_sound : (registry : Registry) (session : ℕ) (pattern : PatternValue) (invoke : Invoke) → registration_at registry pattern ≡ None
-    → registry.last < last_id → AreSoundRegistrations registry → AreSoundRegistrations (with_registration registry session pattern invoke)
-added_sound registry session pattern invoke none room ok =
-    let new : Registration = record { id = registry.last + 1; pattern = pattern; invoke = invoke; callees = session ∷ [] } in
-    sound (with_registration registry session pattern invoke)
-    (added_listed registry session pattern invoke none (listed registry ok)) (omega arith)
-    (All-push IsSoundRegistration registry.list new ok.registrations
+added_sound : (registrations : Registrations) (session : ℕ) (pattern : PatternValue) (invoke : Invoke) → registration_at registrations pattern ≡ None
+    → registrations.last < last_id → AreSoundRegistrations registrations → AreSoundRegistrations (with_registration registrations session pattern invoke)
+added_sound registrations session pattern invoke none room ok =
+    let new : Registration = record { id = registrations.last + 1; pattern = pattern; invoke = invoke; callees = session ∷ [] } in
+    sound (with_registration registrations session pattern invoke)
+    (added_listed registrations session pattern invoke none (listed registrations ok)) (omega arith)
+    (All-push IsSoundRegistration registrations.list new ok.each
     (record { callees = alone session; held = omega arith; single = λ _. refl }))
 
 not_single : (invoke : Invoke) → is_shared invoke ≡ true → invoke ≡ Single → ⊥
@@ -164,49 +164,49 @@ one_more session invoke r may ok =
       single = λ is. absurd (not_single r.invoke parts.0 is);
     }
 
-joined_sound : (registry : Registry) (session : ℕ) (pattern : PatternValue) (invoke : Invoke) (found : Registration)
-    → registration_at registry pattern ≡ Some found → may_join session invoke found ≡ true
-    → AreSoundRegistrations registry → AreSoundRegistrations (with_callee_at registry session pattern)
-joined_sound registry session pattern invoke found is may ok =
-    sound (with_callee_at registry session pattern)
-    (changed_listed (with_callee session) (callee_names session) (is_at pattern) registry.list registry.last (listed registry ok)) ok.last
-    (All-found_changed (is_at pattern) (with_callee session) IsSoundRegistration found (one_more session invoke found may) registry.list is
-    ok.registrations)
+joined_sound : (registrations : Registrations) (session : ℕ) (pattern : PatternValue) (invoke : Invoke) (found : Registration)
+    → registration_at registrations pattern ≡ Some found → may_join session invoke found ≡ true
+    → AreSoundRegistrations registrations → AreSoundRegistrations (with_callee_at registrations session pattern)
+joined_sound registrations session pattern invoke found is may ok =
+    sound (with_callee_at registrations session pattern)
+    (changed_listed (with_callee session) (callee_names session) (is_at pattern) registrations.list registrations.last (listed registrations ok)) ok.last
+    (All-found_changed (is_at pattern) (with_callee session) IsSoundRegistration found (one_more session invoke found may) registrations.list is
+    ok.each)
 
-room_left : (registry : Registry) (session : ℕ) → is_full registry session ≡ false → registry.last < last_id
-room_left registry session room = ltb-true registry.last last_id (not-false (nat_lt registry.last last_id)
-    ((or_parts (not (nat_lt (length (filter (has_callee session) registry.list)) registry.limit)) (not (nat_lt registry.last last_id)) room).1))
+room_left : (registrations : Registrations) (session : ℕ) → is_full registrations session ≡ false → registrations.last < last_id
+room_left registrations session room = ltb-true registrations.last last_id (not-false (nat_lt registrations.last last_id)
+    ((or_parts (not (nat_lt (length (filter (has_callee session) registrations.list)) registrations.limit)) (not (nat_lt registrations.last last_id)) room).1))
 
-register_at_sound : (registry : Registry) (session : ℕ) (pattern : PatternValue) (invoke : Invoke) (o : Option Registration)
-    → registration_at registry pattern ≡ o → AreSoundRegistrations registry
-    → AreSoundRegistrations (register_at registry session pattern invoke o).registry
-register_at_sound registry session pattern invoke None is ok =
-    cond_both (is_full registry session) (refused registry fault.Limit)
-    (record { registry = with_registration registry session pattern invoke; answer = Ok (registry.last + 1) })
-    (λ (r : Registered). AreSoundRegistrations r.registry)
-    (λ _. ok) (λ room. added_sound registry session pattern invoke is (room_left registry session room) ok)
-register_at_sound registry session pattern invoke (Some found) is ok =
-    cond_both (not (may_join session invoke found)) (refused registry fault.AlreadyExists)
-    (cond (is_full registry session) (refused registry fault.Limit)
-    (record { registry = with_callee_at registry session pattern; answer = Ok found.id }))
-    (λ (r : Registered). AreSoundRegistrations r.registry)
+register_at_sound : (registrations : Registrations) (session : ℕ) (pattern : PatternValue) (invoke : Invoke) (o : Option Registration)
+    → registration_at registrations pattern ≡ o → AreSoundRegistrations registrations
+    → AreSoundRegistrations (register_at registrations session pattern invoke o).registrations
+register_at_sound registrations session pattern invoke None is ok =
+    cond_both (is_full registrations session) (refused registrations fault.Limit)
+    (record { registrations = with_registration registrations session pattern invoke; answer = Ok (registrations.last + 1) })
+    (λ (r : Registered). AreSoundRegistrations r.registrations)
+    (λ _. ok) (λ room. added_sound registrations session pattern invoke is (room_left registrations session room) ok)
+register_at_sound registrations session pattern invoke (Some found) is ok =
+    cond_both (not (may_join session invoke found)) (refused registrations fault.AlreadyExists)
+    (cond (is_full registrations session) (refused registrations fault.Limit)
+    (record { registrations = with_callee_at registrations session pattern; answer = Ok found.id }))
+    (λ (r : Registered). AreSoundRegistrations r.registrations)
     (λ _. ok)
-    (λ may. cond_both (is_full registry session) (refused registry fault.Limit)
-    (record { registry = with_callee_at registry session pattern; answer = Ok found.id })
-    (λ (r : Registered). AreSoundRegistrations r.registry)
-    (λ _. ok) (λ _. joined_sound registry session pattern invoke found is (not-false (may_join session invoke found) may) ok))
+    (λ may. cond_both (is_full registrations session) (refused registrations fault.Limit)
+    (record { registrations = with_callee_at registrations session pattern; answer = Ok found.id })
+    (λ (r : Registered). AreSoundRegistrations r.registrations)
+    (λ _. ok) (λ _. joined_sound registrations session pattern invoke found is (not-false (may_join session invoke found) may) ok))
 
-pub register_sound : (registry : Registry) (session : ℕ) (pattern : PatternValue) (invoke : Invoke) → AreSoundRegistrations registry
-    → AreSoundRegistrations (register registry session pattern invoke).registry
-register_sound registry session pattern invoke ok =
-    cond_both (is_reserved pattern.text) (refused registry fault.InvalidUri)
-    (register_at registry session pattern invoke (registration_at registry pattern))
-    (λ (r : Registered). AreSoundRegistrations r.registry)
-    (λ _. ok) (λ _. register_at_sound registry session pattern invoke (registration_at registry pattern) refl ok)
+pub register_sound : (registrations : Registrations) (session : ℕ) (pattern : PatternValue) (invoke : Invoke) → AreSoundRegistrations registrations
+    → AreSoundRegistrations (register registrations session pattern invoke).registrations
+register_sound registrations session pattern invoke ok =
+    cond_both (is_reserved pattern.text) (refused registrations fault.InvalidUri)
+    (register_at registrations session pattern invoke (registration_at registrations pattern))
+    (λ (r : Registered). AreSoundRegistrations r.registrations)
+    (λ _. ok) (λ _. register_at_sound registrations session pattern invoke (registration_at registrations pattern) refl ok)
 
 -- ---- a session leaves
 
--- each callee stands in it once, and one at the most under `single`
+-- each callee is in it once, and at most one under `single`
 record IsLeft (r : Registration) : Type 0 where
   callees : AllPairs (λ (a b : ℕ). a ≢ b) r.callees
   single : r.invoke ≡ Single → length r.callees ≤ 1
@@ -241,20 +241,20 @@ held_again r h =
     record { callees = h.0.callees; held = held; single = λ is. let one = h.0.single is in omega (arith, held, one) }
 
 -- those without callees go
-emptied_sound : (registry : Registry) (list : List Registration) → AreListed list registry.last → registry.last ≤ last_id
-    → All IsLeft list → AreSoundRegistrations (with_list registry (filter has_callees list))
-emptied_sound registry list ok last each =
-    sound (with_list registry (filter has_callees list)) (filtered_listed has_callees list registry.last ok) last
+emptied_sound : (registrations : Registrations) (list : List Registration) → AreListed list registrations.last → registrations.last ≤ last_id
+    → All IsLeft list → AreSoundRegistrations (with_list registrations (filter has_callees list))
+emptied_sound registrations list ok last each =
+    sound (with_list registrations (filter has_callees list)) (filtered_listed has_callees list registrations.last ok) last
     (All-weaker (λ (r : Registration). IsLeft r × (has_callees r ≡ true)) IsSoundRegistration held_again (filter has_callees list)
     (All-passed has_callees IsLeft list each))
 
-pub leave_sound : (registry : Registry) (session : ℕ) → AreSoundRegistrations registry → AreSoundRegistrations (leave registry session)
-leave_sound registry session ok =
-    emptied_sound registry (map (without_callee session) registry.list)
-    (mapped_listed (without_callee session) (left_names session) registry.list registry.last (listed registry ok)) ok.last
-    (All-map IsLeft (without_callee session) registry.list
-    (All-weaker IsSoundRegistration (λ (r : Registration). IsLeft (without_callee session r)) (without_left session) registry.list
-    ok.registrations))
+pub leave_sound : (registrations : Registrations) (session : ℕ) → AreSoundRegistrations registrations → AreSoundRegistrations (leave registrations session)
+leave_sound registrations session ok =
+    emptied_sound registrations (map (without_callee session) registrations.list)
+    (mapped_listed (without_callee session) (left_names session) registrations.list registrations.last (listed registrations ok)) ok.last
+    (All-map IsLeft (without_callee session) registrations.list
+    (All-weaker IsSoundRegistration (λ (r : Registration). IsLeft (without_callee session r)) (without_left session) registrations.list
+    ok.each))
 
 left_again : (session : ℕ) (r : Registration) → IsLeft r → IsLeft (without_callee session r)
 left_again session r ok = record {
@@ -262,21 +262,21 @@ left_again session r ok = record {
   single = λ is. let one = ok.single is in let less = fewer (λ member. not (member == session)) r.callees in omega (arith, one, less);
 }
 
-withdrawn_sound : (registry : Registry) (session id : ℕ) → AreSoundRegistrations registry
-    → AreSoundRegistrations (without_callee_of registry session id)
-withdrawn_sound registry session id ok =
-    emptied_sound registry (change_first (has_id id) (without_callee session) registry.list)
-    (changed_listed (without_callee session) (left_names session) (has_id id) registry.list registry.last (listed registry ok)) ok.last
-    (All-change_first (has_id id) (without_callee session) IsLeft (left_again session) registry.list
-    (All-weaker IsSoundRegistration IsLeft sound_left registry.list ok.registrations))
+withdrawn_sound : (registrations : Registrations) (session id : ℕ) → AreSoundRegistrations registrations
+    → AreSoundRegistrations (without_callee_of registrations session id)
+withdrawn_sound registrations session id ok =
+    emptied_sound registrations (change_first (has_id id) (without_callee session) registrations.list)
+    (changed_listed (without_callee session) (left_names session) (has_id id) registrations.list registrations.last (listed registrations ok)) ok.last
+    (All-change_first (has_id id) (without_callee session) IsLeft (left_again session) registrations.list
+    (All-weaker IsSoundRegistration IsLeft sound_left registrations.list ok.each))
 
-pub unregister_sound : (registry : Registry) (session id : ℕ) → AreSoundRegistrations registry
-    → AreSoundRegistrations (unregister registry session id).registry
-unregister_sound registry session id ok =
-    cond_both (is_callee registry session id) (record { registry = without_callee_of registry session id; answer = Ok tt })
-    (record { registry = registry; answer = Err fault.NoSuchRegistration })
-    (λ (r : Unregistered). AreSoundRegistrations r.registry)
-    (λ _. withdrawn_sound registry session id ok) (λ _. ok)
+pub unregister_sound : (registrations : Registrations) (session id : ℕ) → AreSoundRegistrations registrations
+    → AreSoundRegistrations (unregister registrations session id).registrations
+unregister_sound registrations session id ok =
+    cond_both (is_callee registrations session id) (record { registrations = without_callee_of registrations session id; answer = Ok tt })
+    (record { registrations = registrations; answer = Err fault.NoSuchRegistration })
+    (λ (r : Unregistered). AreSoundRegistrations r.registrations)
+    (λ _. withdrawn_sound registrations session id ok) (λ _. ok)
 
 -- ---- callees take turns
 
@@ -301,23 +301,23 @@ turned_one r ok =
     })
     (λ _. ok)
 
-pub turn_sound : (registry : Registry) (id : ℕ) → AreSoundRegistrations registry → AreSoundRegistrations (turn registry id)
-turn_sound registry id ok =
-    sound (turn registry id)
-    (changed_listed turned turned_names (has_id id) registry.list registry.last (listed registry ok)) ok.last
-    (All-change_first (has_id id) turned IsSoundRegistration turned_one registry.list ok.registrations)
+pub turn_sound : (registrations : Registrations) (id : ℕ) → AreSoundRegistrations registrations → AreSoundRegistrations (turn registrations id)
+turn_sound registrations id ok =
+    sound (turn registrations id)
+    (changed_listed turned turned_names (has_id id) registrations.list registrations.last (listed registrations ok)) ok.last
+    (All-change_first (has_id id) turned IsSoundRegistration turned_one registrations.list ok.each)
 
 -- ---- whatever calls were made
 
-call_sound : (registry : Registry) (call : Call) → AreSoundRegistrations registry → AreSoundRegistrations (after_call registry call)
-call_sound registry (Call.Register session pattern invoke) ok = register_sound registry session pattern invoke ok
-call_sound registry (Call.Unregister session id) ok = unregister_sound registry session id ok
-call_sound registry (Call.Leave session) ok = leave_sound registry session ok
-call_sound registry (Call.Turn id) ok = turn_sound registry id ok
+call_sound : (registrations : Registrations) (call : Call) → AreSoundRegistrations registrations → AreSoundRegistrations (after_call registrations call)
+call_sound registrations (Call.Register session pattern invoke) ok = register_sound registrations session pattern invoke ok
+call_sound registrations (Call.Unregister session id) ok = unregister_sound registrations session id ok
+call_sound registrations (Call.Leave session) ok = leave_sound registrations session ok
+call_sound registrations (Call.Turn id) ok = turn_sound registrations id ok
 
-calls_sound : (calls : List Call) (registry : Registry) → AreSoundRegistrations registry → AreSoundRegistrations (after registry calls)
-calls_sound [] registry ok = ok
-calls_sound (call ∷ calls) registry ok = calls_sound calls (after_call registry call) (call_sound registry call ok)
+calls_sound : (calls : List Call) (registrations : Registrations) → AreSoundRegistrations registrations → AreSoundRegistrations (after registrations calls)
+calls_sound [] registrations ok = ok
+calls_sound (call ∷ calls) registrations ok = calls_sound calls (after_call registrations call) (call_sound registrations call ok)
 
 pub every_sound : (limit : ℕ) (calls : List Call) → AreSoundRegistrations (after (no_registrations limit) calls)
 every_sound limit calls = calls_sound calls (no_registrations limit) (nothing_sound limit)

@@ -7,42 +7,42 @@ use Rattle.wamp_ids.specs.Id.{last_id}
 use Rattle.wamp_ids.specs.Pattern.{PatternValue}
 use Rattle.wamp_patterns.specs.Matching.{matches}
 use Rattle.realm_registrations.specs.declared.registration.Registration.{Registration}
-use Rattle.realm_registrations.specs.Registry.{Registry, no_registrations, register, unregister, leave, turn, choose}
+use Rattle.realm_registrations.specs.Registrations.{Registrations, no_registrations, register, unregister, leave, turn, choose}
 
 pub record IsSoundRegistration (registration : Registration) : Type 0 where
-  -- each callee stands in it once
+  -- each callee is in it once
   pub callees : AllPairs (λ (a b : ℕ). a ≢ b) registration.callees
   -- it has one
   pub held : 0 < length registration.callees
   -- and only one under `single`
   pub single : registration.invoke ≡ Single → length registration.callees ≡ 1
 
-pub record AreSoundRegistrations (registry : Registry) : Type 0 where
+pub record AreSoundRegistrations (registrations : Registrations) : Type 0 where
   -- ids rise
-  pub ids : AllPairs (λ (a b : Registration). a.id < b.id) registry.list
+  pub ids : AllPairs (λ (a b : Registration). a.id < b.id) registrations.list
   -- none is above the last one that was handed out, and that is an id
-  pub handed_out : All (λ (registration : Registration). registration.id ≤ registry.last) registry.list
-  pub last : registry.last ≤ last_id
+  pub handed_out : All (λ (registration : Registration). registration.id ≤ registrations.last) registrations.list
+  pub last : registrations.last ≤ last_id
   -- there is one for each text and match
-  pub one_each : AllPairs (λ (a b : Registration). a.pattern ≢ b.pattern) registry.list
-  pub registrations : All IsSoundRegistration registry.list
+  pub one_each : AllPairs (λ (a b : Registration). a.pattern ≢ b.pattern) registrations.list
+  pub each : All IsSoundRegistration registrations.list
 
 abbrev pub NoneAreSound : Type 0
 NoneAreSound = (limit : ℕ) → AreSoundRegistrations (no_registrations limit)
 
 abbrev pub RegisterKeepsSound : Type 0
-RegisterKeepsSound = (registry : Registry) (session : ℕ) (pattern : PatternValue) (invoke : Invoke)
-    → AreSoundRegistrations registry → AreSoundRegistrations (register registry session pattern invoke).registry
+RegisterKeepsSound = (registrations : Registrations) (session : ℕ) (pattern : PatternValue) (invoke : Invoke)
+    → AreSoundRegistrations registrations → AreSoundRegistrations (register registrations session pattern invoke).registrations
 
 abbrev pub UnregisterKeepsSound : Type 0
-UnregisterKeepsSound = (registry : Registry) (session id : ℕ)
-    → AreSoundRegistrations registry → AreSoundRegistrations (unregister registry session id).registry
+UnregisterKeepsSound = (registrations : Registrations) (session id : ℕ)
+    → AreSoundRegistrations registrations → AreSoundRegistrations (unregister registrations session id).registrations
 
 abbrev pub LeaveKeepsSound : Type 0
-LeaveKeepsSound = (registry : Registry) (session : ℕ) → AreSoundRegistrations registry → AreSoundRegistrations (leave registry session)
+LeaveKeepsSound = (registrations : Registrations) (session : ℕ) → AreSoundRegistrations registrations → AreSoundRegistrations (leave registrations session)
 
 abbrev pub TurnKeepsSound : Type 0
-TurnKeepsSound = (registry : Registry) (id : ℕ) → AreSoundRegistrations registry → AreSoundRegistrations (turn registry id)
+TurnKeepsSound = (registrations : Registrations) (id : ℕ) → AreSoundRegistrations registrations → AreSoundRegistrations (turn registrations id)
 
 -- ---- whatever calls were made
 
@@ -53,22 +53,22 @@ pub data Call : Type 0 where
   Leave : ℕ → Call
   Turn : ℕ → Call
 
-abbrev pub after_call : Registry → Call → Registry
-after_call registry (Call.Register session pattern invoke) = (register registry session pattern invoke).registry
-after_call registry (Call.Unregister session id) = (unregister registry session id).registry
-after_call registry (Call.Leave session) = leave registry session
-after_call registry (Call.Turn id) = turn registry id
+abbrev pub after_call : Registrations → Call → Registrations
+after_call registrations (Call.Register session pattern invoke) = (register registrations session pattern invoke).registrations
+after_call registrations (Call.Unregister session id) = (unregister registrations session id).registrations
+after_call registrations (Call.Leave session) = leave registrations session
+after_call registrations (Call.Turn id) = turn registrations id
 
 -- the registrations after these calls
-abbrev pub after : Registry → List Call → Registry
-after registry calls = fold after_call registry calls
+abbrev pub after : Registrations → List Call → Registrations
+after registrations calls = fold after_call registrations calls
 
-abbrev pub EveryRegistryIsSound : Type 0
-EveryRegistryIsSound = (limit : ℕ) (calls : List Call) → AreSoundRegistrations (after (no_registrations limit) calls)
+abbrev pub CallsKeepSound : Type 0
+CallsKeepSound = (limit : ℕ) (calls : List Call) → AreSoundRegistrations (after (no_registrations limit) calls)
 
 -- ---- a call finds a callee
 
--- a callee is chosen exactly where a registration matches
+-- a callee is chosen exactly if a registration matches
 abbrev pub CalledWhereMatched : Type 0
-CalledWhereMatched = (registry : Registry) (uri : List ℕ) → AreSoundRegistrations registry
-    → is_some (choose registry uri) ≡ list_any (λ (registration : Registration). matches registration.pattern uri) registry.list
+CalledWhereMatched = (registrations : Registrations) (uri : List ℕ) → AreSoundRegistrations registrations
+    → is_some (choose registrations uri) ≡ list_any (λ (registration : Registration). matches registration.pattern uri) registrations.list

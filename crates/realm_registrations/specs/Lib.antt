@@ -1,5 +1,5 @@
 pub mod Callees
 pub mod Registration
-pub mod Registry
+pub mod Registrations
 pub mod Laws
 pub mod Turning

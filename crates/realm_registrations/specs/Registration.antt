@@ -76,7 +76,7 @@ takes_turns First = false
 takes_turns Last = false
 takes_turns RoundRobin = true
 
--- callees that take turns: the first comes behind the last
+-- callees that take turns: the first comes after the last
 abbrev pub turned : Registration → Registration
 turned registration =
     if takes_turns registration.invoke then record registration { callees = rotated registration.callees } else registration

@@ -3,25 +3,26 @@ ghost use Rattle.realm_sessions.specs.declared.fault.RealmFault.TheVariants as f
 ghost use Rattle.realm_sessions.specs.Members.{has_member, has_members, joined, others, rotated};
 ghost use Rattle.realm_registrations.specs.Callees.{one};
 
-use crate::turns::Turns;
+use crate::rotation::Rotation;
 use realm_sessions::RealmFault;
 use std::alloc::Global;
 use std::marker::Model;
 use wamp_ids::Id;
 
-/// The sessions that are called under a registration, in the order of their turns. One who is alone takes no memory.
+/// The sessions that are called under a registration, in the order of their turns. A single callee is stored inline, and takes no
+/// allocation.
 ///
-/// Cost: `turn` and who is called take one step, `has`, `join` and `leave` go over the callees of this registration.
+/// Cost: `turn`, `first` and `last` take one step; `has`, `join` and `leave` go over the callees of this registration.
 pub struct Callees {
     alone: Option<Id>,
-    turns: Turns,
+    rotation: Rotation,
 }
 
 impl Drop for Callees {
     fn drop(self) {
         let Callees {
             alone: _,
-            turns: _turns,
+            rotation: _rotation,
         } = self;
     }
 }
@@ -32,83 +33,83 @@ impl Model for Callees {
 
     ghost Value = { List ℕ };
 
-    ghost view = { λ a. one a.alone ++ a.turns };
+    ghost view = { λ a. one a.alone ++ a.rotation };
 
-    ghost invariant = { λ a. (session : ℕ) → a.alone ≡ Some session → a.turns ≡ [] };
+    ghost invariant = { λ a. (session : ℕ) → a.alone ≡ Some session → a.rotation ≡ [] };
 }
 
 impl Callees {
-    /// The session alone. Takes no memory.
+    /// Creates it with this session alone. Does not allocate.
     pub fn of(alloc: Global, session: Id) -> Callees
         ensures { result ≡ session ∷ [] }
     {
         Callees {
             alone: Some(session),
-            turns: Turns::new(alloc),
+            rotation: Rotation::new(alloc),
         }
     }
 
-    /// The first in turn. Takes no memory.
+    /// Returns the first in turn. Does not allocate.
     pub fn first(&self) -> Option<Id>
         ensures { result ≡ slice_get self.now 0 }
     {
         match self.alone {
             Some(session) => Some(session),
-            None => self.turns.first(),
+            None => self.rotation.first(),
         }
     }
 
-    /// The last in turn. Takes no memory.
+    /// Returns the last in turn. Does not allocate.
     pub fn last(&self) -> Option<Id>
         ensures { result ≡ slice_get self.now (length self.now - 1) }
     {
         match self.alone {
             Some(session) => Some(session),
-            None => self.turns.last(),
+            None => self.rotation.last(),
         }
     }
 
-    /// Whether the session is one of them. Takes no memory.
+    /// Returns whether the session is a callee. Does not allocate.
     pub fn has(&self, session: Id) -> bool
         ensures { result ≡ has_member session self.now }
     {
         match self.alone {
             Some(member) => member == session,
-            None => self.turns.has(session),
+            None => self.rotation.has(session),
         }
     }
 
-    /// Whether there is one. Takes no memory.
+    /// Returns whether there is a callee. Does not allocate.
     pub fn has_some(&self) -> bool
         ensures { result ≡ has_members self.now }
     {
         match self.alone {
             Some(_) => true,
-            None => self.turns.has_some(),
+            None => self.rotation.has_some(),
         }
     }
 
-    /// The session is the last in turn now. The only fault is `Memory`; nothing has changed then.
+    /// Adds the session as the last in turn. The only fault is `Memory`; nothing has changed then.
     pub fn join(&mut self, session: Id) -> Result<(), RealmFault>
         ensures ok { OnOk result (self.new ≡ joined session self.old) }
         ensures err { OnErr result (self.new ≡ self.old) }
         ensures fault { IsOkUnless result fault.Memory }
     {
         let Some(member) = self.alone else {
-            return self.turns.join(session);
+            return self.rotation.join(session);
         };
-        let turns = self.turns.of_two(member, session)?;
+        let rotation = self.rotation.of_two(member, session)?;
         self.alone = None;
-        self.turns = turns;
+        self.rotation = rotation;
         Ok(())
     }
 
-    /// The session is none of them any more. Takes no memory.
+    /// Removes the session, if it is a callee. Does not allocate.
     pub fn leave(&mut self, session: Id)
         ensures { self.new ≡ others session self.old }
     {
         let Some(member) = self.alone else {
-            self.turns.leave(session);
+            self.rotation.leave(session);
             return;
         };
         if member == session {
@@ -116,13 +117,13 @@ impl Callees {
         }
     }
 
-    /// The first in turn is the last now. Takes no memory.
+    /// Makes the first in turn the last. Does not allocate.
     pub fn turn(&mut self)
         ensures { self.new ≡ rotated self.old }
     {
         let None = self.alone else {
             return;
         };
-        self.turns.turn();
+        self.rotation.turn();
     }
 }

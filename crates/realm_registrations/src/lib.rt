@@ -5,9 +5,9 @@
 mod callees;
 pub mod laws;
 mod registration;
-mod registry;
-mod turns;
+mod registrations;
+mod rotation;
 
 pub use callees::Callees;
 pub use registration::{Chosen, Registration};
-pub use registry::Registrations;
+pub use registrations::Registrations;

@@ -26,7 +26,7 @@ impl Drop for Registration {
     }
 }
 
-/// Who is called for a procedure.
+/// The callee that is chosen for a procedure.
 #[derive(Clone, Copy, Debug, PartialEq, Eq)]
 pub struct Chosen {
     /// The registration that serves it.
@@ -44,14 +44,14 @@ impl Registration {
         self.callees.has(session)
     }
 
-    // Whether the session may join it under this policy.
+    // Returns whether the session may join it under this policy.
     pub fn may_join(&self, session: Id, invoke: Invoke) -> bool
         ensures { result ≡ may_join session invoke self.now }
     {
         is_shared(self.invoke) && is_same(self.invoke, invoke) && !self.has_callee(session)
     }
 
-    // The callee that is called next.
+    // Returns the callee that is called next.
     pub fn chosen(&self) -> Option<Chosen>
         ensures { result ≡ chosen self.now }
     {

@@ -1,4 +1,4 @@
--- What is wanted where a part refuses for another cause than want of memory.
+-- What is refused for another cause than that memory ran out.
 use Rattle.std.proofs.Common.{◌≡◌, ◌≢◌, Result, Err, refl, sym}
 use Rattle.realm_sessions.specs.declared.fault.RealmFault.{RealmFault}
 use Rattle.realm_sessions.specs.declared.fault.RealmFault.TheVariants.{InvalidUri, InvalidArgument, Limit, AlreadyExists}

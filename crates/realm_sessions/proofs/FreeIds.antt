@@ -1,4 +1,4 @@
--- A free id is found among as many ids as there are links and one more: so many ids in a row differ, and each session takes one of them.
+-- A free id is found among as many ids as there are links and one more: that many ids in a row differ, and each session takes one of them.
 use Rattle.std.proofs.Common.{◌≡◌, ℕ, zero, suc, ◌+◌, ◌<◌, ◌≤◌, ◌==◌, Bool, true, false, ◌||◌, nat_lt, nat_le, List, [], ◌∷◌}
 use Rattle.std.proofs.Common.{length, filter, Option, None, Some, Result, Ok, Err, refl, sym, ap, subst, ◌∙◌, ◌⊎◌, ⊎_elim, inl, inr, arith}
 use Rattle.std.proofs.lemmas.Bool.{cond_both, cond-true, cond-false, cases_lt, lt-ltb, le-ltb, le-leb, leb-true, eqb-true, and_parts}
@@ -62,7 +62,7 @@ hits_or p q (suc k) =
     let rest : hits (λ j. p j || q j) k ≤ hits p k + hits q k = hits_or p q k in
     omega (arith, here, rest)
 
--- ---- of different ids, each session takes one at the most
+-- ---- of different ids, each session takes one at most
 
 abbrev pub AreDifferent : (ℕ → ℕ) → ℕ → Type 0
 AreDifferent f k = (i j : ℕ) → i < j → j < k → f i ≡ f j → ⊥
@@ -99,7 +99,7 @@ few_sessions (link ∷ links) =
 
 -- ---- ids in a row
 
--- the id so many places on
+-- the id that many places on
 abbrev pub ahead : ℕ → ℕ → ℕ
 ahead zero id = id
 ahead (suc j) id = ahead j (id_after id)
@@ -111,7 +111,7 @@ after_cases id =
     (λ high. inr (high, cond-false (nat_lt id last_id) (id + 1) 1 (le-ltb id last_id high)))
     (cases_lt id last_id)
 
--- so many places on, before or behind the greatest id
+-- that many places on, before or after the greatest id
 abbrev pub IsAhead : ℕ → ℕ → ℕ → Type 0
 IsAhead j id found = ((id + j ≤ last_id) × (found ≡ id + j)) ⊎ ((last_id < id + j) × (found + last_id ≡ id + j))
 
@@ -156,7 +156,7 @@ each_turn : (used : ℕ → Bool) (id turns : ℕ) → used id ≡ true → ((j 
 each_turn used id turns here later zero below = here
 each_turn used id turns here later (suc j) below = later j (omega arith)
 
--- where nothing is found, all ids in a row are used
+-- if nothing is found, all ids in a row are used
 pub all_used : (turns : ℕ) (used : ℕ → Bool) (id : ℕ) → free_from turns used id ≡ None → (j : ℕ) → j < turns → used (ahead j id) ≡ true
 all_used zero used id h = λ j below. absurd (omega arith)
 all_used (suc turns) used id h =

@@ -1,4 +1,4 @@
--- A free id of an invocation is found unless all are taken: so many ids in a row differ, and each one that is taken is one of the list.
+-- A free id of an invocation is found unless all are taken: that many ids in a row differ, and each one that is taken is one of the list.
 use Rattle.std.proofs.Common.{◌≡◌, ℕ, zero, suc, ◌+◌, ◌-◌, ◌<◌, ◌≤◌, ◌==◌, Bool, true, false, nat_lt, nat_le, List, [], ◌∷◌}
 use Rattle.std.proofs.Common.{length, Option, None, Some, IfSome, option_map, refl, sym, ap, ◌∙◌, ⊎_elim, inl, inr, arith}
 use Rattle.std.proofs.lemmas.Bool.{cond-true, cond-false, cases_lt, leb-true, ltb-true, ltb-false, eqb-true, and_parts}
@@ -34,7 +34,7 @@ crowded ids from low high none few =
     number_hits (λ j. ahead j from) k (differ from k low high few) ids in
     omega (arith, all, most)
 
--- ---- each id is so many places behind another
+-- ---- each id is some number of places after another
 
 -- how far it is to an id
 abbrev way : ℕ → ℕ → Bool → ℕ

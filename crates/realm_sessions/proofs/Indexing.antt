@@ -4,7 +4,7 @@ use Rattle.std.proofs.Common.{refl, sym, ap, subst, ◌∙◌, arith, if◌then�
 use Rattle.std.proofs.lemmas.Bool.{eqb-true, false≢true}
 use Rattle.paxos_packets.specs.declared.transport.Transport.{Transport}
 use Rattle.paxos_packets.specs.Transport.{same_transport}
-use Rattle.realm_lists.specs.Rows.{IsAbove, members, member_at, without, with_member}
+use Rattle.realm_lists.specs.OrderedList.{IsAbove, members, member_at, without, with_member}
 use Rattle.realm_lists.specs.Finding.{AreRising, IsIndex}
 use Rattle.realm_lists.proofs.Members.{count_pushed, count_without, members_pushed}
 use Rattle.realm_lists.proofs.Telling.{index_came, index_back, index_gone}

@@ -56,7 +56,7 @@ Apart a b = a.transport ≢ b.transport
 
 -- ---- of all links
 
--- what is shown of an element that is found, where the change of each element keeps the test and what is shown
+-- what is shown of an element that is found, if the change of each element keeps the test and what is shown
 found_same : {Y : Type 0} (f : Link → Link) (test : Link → Bool) (show : Option Link → Y) → ((x : Link) → test (f x) ≡ test x)
     → ((x : Link) → show (Some (f x)) ≡ show (Some x)) → (xs : List Link) → show (find test (map f xs)) ≡ show (find test xs)
 found_same f test show keeps shown [] = refl

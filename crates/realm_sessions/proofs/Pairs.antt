@@ -65,7 +65,7 @@ found_here test Q x xs found false e h q one rest =
     All-cons (λ x. test x ≡ true → Q x) x xs (λ passes. absurd (both_ways (test x) e passes))
     (rest (sym (cond-false (test x) (Some x) (find test xs) e) ∙ h))
 
--- where no two pass the test, only the element that is found passes it
+-- if no two pass the test, only the element that is found passes it
 pub All-found : {X : Type 0} (test : X → Bool) (Q : X → Type 0) (xs : List X) (found : X) → find test xs ≡ Some found → Q found
     → AllPairs (λ a b. test a ≡ true → test b ≡ true → ⊥) xs → All (λ x. test x ≡ true → Q x) xs
 All-found test Q [] found e q one = All-nil (λ x. test x ≡ true → Q x)

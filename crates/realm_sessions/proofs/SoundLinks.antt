@@ -1,4 +1,4 @@
--- What every realm keeps of its links: each transport stands there once, and no two sessions have one id.
+-- What every realm keeps of its links: each transport is there once, and no two sessions have one id.
 use Rattle.std.proofs.Common.{◌≡◌, ◌≢◌, ℕ, ◌==◌, true, false, not, ◌&&◌, List, [], ◌∷◌, ◌++◌, Option, None, Some, refl, sym, ap, subst}
 use Rattle.std.proofs.Common.{◌∙◌, ◌⊎◌, ⊎_elim, inl, inr}
 use Rattle.std.specs.List.{All}

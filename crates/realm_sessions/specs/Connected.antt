@@ -3,7 +3,7 @@ use Rattle.std.specs.Prelude.{◌≡◌, ℕ, ◌-◌, List, Option, IfSome, if�
 use Rattle.std.specs.declared.cmp.Ordering.{Ordering}
 use Rattle.std.specs.Ordering.{nat_cmp, ordering_then}
 use Rattle.paxos_packets.specs.declared.transport.Transport.{Transport}
-use Rattle.realm_lists.specs.Rows.{members}
+use Rattle.realm_lists.specs.OrderedList.{members}
 use Rattle.realm_lists.specs.Finding.{IsIndex}
 use Rattle.realm_lists.specs.PlaceIndex.{place_at}
 use Rattle.realm_sessions.specs.declared.links.Link.{Link}
@@ -17,7 +17,7 @@ transport_cmp a b = ordering_then (nat_cmp a.node b.node) (ordering_then (nat_cm
 abbrev pub place_of : List (Transport × ℕ) → Transport → Option ℕ
 place_of entries t = place_at transport_cmp entries t
 
--- where it is kept, it tells of each id what the look-up tells
+-- if it is kept, it gives for each id what the look-up gives
 abbrev pub Follows : Option (List (ℕ × ℕ)) → (ℕ → Option ℕ) → Type 0
 Follows ids look_up = IfSome ids (λ entries. (id : ℕ) → place_at nat_cmp entries id ≡ look_up id)
 
@@ -29,6 +29,6 @@ pub record AreIndexed (rows : List (ℕ × Link)) (transports : List (Transport 
   pub ids_follow : Follows ids look_up
   pub counted : count ≡ session_count (members rows)
 
--- so many without this session
+-- the count without this session
 abbrev pub less_one : ℕ → Option Session → ℕ
 less_one count session = if is_open session then count - 1 else count

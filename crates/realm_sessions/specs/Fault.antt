@@ -28,7 +28,7 @@ uri_of NoSuchProcedure = Some (codes "wamp.error.no_such_procedure")
 uri_of NotOpen = None
 uri_of Memory = None
 
--- what is answered is what is wanted; where memory runs out, no refusal was wanted
+-- what is answered is what is wanted; if memory runs out, no refusal was wanted
 abbrev pub Answers : {A : Type 0} → Result A RealmFault → Result A RealmFault → Type 0
 Answers (Err Memory) wanted = IsOk wanted
 Answers given wanted = given ≡ wanted

@@ -14,7 +14,7 @@ abbrev pub AreOtherSessions : Link → Link → Type 0
 AreOtherSessions a b = (id : ℕ) → has_id id a ≡ true → has_id id b ≡ true → ⊥
 
 pub record AreSoundLinks (links : List Link) : Type 0 where
-  -- each transport stands there once
+  -- each transport is there once
   pub transports : AllPairs (λ (a b : Link). a.transport ≢ b.transport) links
   -- no two sessions have one id
   pub sessions : AllPairs AreOtherSessions links
@@ -46,14 +46,14 @@ abbrev pub FreeIdIsFound : Type 0
 FreeIdIsFound = (links : List Link) (draw : ℕ) → is_id draw ≡ true → session_count links < last_id
     → (id : ℕ) × (is_id id ≡ true) × (is_taken links id ≡ false) × (new_session_id links draw ≡ Some id)
 
--- so a session is opened, with an id of its own, where one more may be: none is ever refused for want of an id
+-- so a session is opened, with an id that no other has, if one more may be: none is refused because the ids ran out
 abbrev pub OpensWhereRoom : Type 0
 OpensWhereRoom = (sessions : Sessions) (t : Transport) (draw : ℕ) (canceling : Bool) → is_id draw ≡ true
     → sessions.limit < 2 ^ 32 → session_count sessions.list < sessions.limit
     → (id : ℕ) × (is_id id ≡ true) × (is_taken sessions.list id ≡ false)
     × (open_session sessions t draw canceling ≡ opened sessions t canceling (Some id))
 
--- and the limit is the fault exactly where as many are open as may be
+-- and the limit is the fault exactly if as many are open as may be
 abbrev pub LimitWhereFull : Type 0
 LimitWhereFull = (sessions : Sessions) (t : Transport) (draw : ℕ) (canceling : Bool) → is_id draw ≡ true
     → sessions.limit < 2 ^ 32
@@ -71,12 +71,12 @@ abbrev pub NextIsFree : Type 0
 NextIsFree = (sessions : Sessions) (id : ℕ) (taken : List ℕ)
     → IfSome (next_invocation sessions id taken).answer (λ invocation. has_number taken invocation ≡ false)
 
--- and there is none exactly where all 2^53 are taken
+-- and there is none exactly if all 2^53 are taken
 abbrev pub NoneWhereAllAreTaken : Type 0
 NoneWhereAllAreTaken = (taken : List ℕ) (last : Option ℕ)
     → (free_invocation taken last ≡ None) ↔ ((id : ℕ) → is_id id ≡ true → has_number taken id ≡ true)
 
--- what is taken besides makes no difference where the id behind the last one is not
+-- what else is taken makes no difference if the id after the last one is not
 abbrev pub DueIsNext : Type 0
 DueIsNext = (sessions : Sessions) (id due : ℕ) (taken : List ℕ) → due_invocation sessions.list id ≡ Some due
     → has_number taken due ≡ false → next_invocation sessions id taken ≡ next_invocation sessions id []

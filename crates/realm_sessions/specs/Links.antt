@@ -34,11 +34,11 @@ is_connected links t = list_any (is_of t) links
 abbrev pub id_of : Link → Option ℕ
 id_of link = option_map (λ (session : Session). session.id) link.session
 
--- the id of the transport's session, none where it is connected without one
+-- the id of the transport's session, none if it is connected without one
 abbrev pub by_transport : List Link → Transport → Option (Option ℕ)
 by_transport links t = option_map id_of (find (is_of t) links)
 
--- where a session's transport is
+-- the transport of a session
 abbrev pub transport_of : List Link → ℕ → Option Transport
 transport_of links id = option_map (λ (link : Link). link.transport) (find (has_id id) links)
 
@@ -61,7 +61,7 @@ of_origin links node = map (λ (link : Link). link.transport) (filter (λ (link 
 abbrev pub is_taken : List Link → ℕ → Bool
 is_taken links id = list_any (has_id id) links
 
--- the first id from this one on that is not used, among so many; ids go round
+-- the first id from this one on that is not used, among that many; ids wrap around
 abbrev pub free_from : ℕ → (ℕ → Bool) → ℕ → Option ℕ
 free_from zero is_used id = None
 free_from (suc turns) is_used id = if is_used id then free_from turns is_used (id_after id) else Some id
@@ -104,11 +104,11 @@ abbrev pub invocation_after : Option ℕ → ℕ
 invocation_after None = 1
 invocation_after (Some last) = id_after last
 
--- the first id behind the last invocation's that is not taken
+-- the first id after the last invocation's that is not taken
 abbrev pub free_invocation : List ℕ → Option ℕ → Option ℕ
 free_invocation taken last = free_from (suc (length taken)) (has_number taken) (invocation_after last)
 
--- the id behind the session's last invocation, which is its next one's unless it is taken
+-- the id after the session's last invocation, which is its next one's unless it is taken
 abbrev pub due_invocation : List Link → ℕ → Option ℕ
 due_invocation links id = option_map (λ (session : Session). invocation_after session.last_invocation) (session_with links id)
 

@@ -16,7 +16,7 @@ joined session members = members ++ session ∷ []
 abbrev pub others : ℕ → List ℕ → List ℕ
 others session members = filter (λ member. not (member == session)) members
 
--- the first comes behind the last
+-- the first comes after the last
 abbrev pub rotated : List ℕ → List ℕ
 rotated [] = []
 rotated (first ∷ rest) = rest ++ first ∷ []

@@ -1,4 +1,4 @@
-// The connected transports in the order in which they came, and how one is found.
+//! The connected transports in the order in which they came, with the indexes that find them.
 ghost use Rattle.std.specs.Prelude.{◌≡◌, ◌+◌, ◌<◌, ◌^◌, false, None, Some, [], ◌∷◌, ◌++◌, length, find, option_map, IfOk, OnOk};
 ghost use Rattle.std.specs.Prelude.{OnErr, IsOkUnless};
 ghost use Rattle.realm_sessions.specs.declared.fault.RealmFault.TheVariants as fault;
@@ -10,16 +10,16 @@ use crate::fault::RealmFault;
 use crate::links::{Link, Session};
 use crate::session_index::SessionIndex;
 use paxos_packets::Transport;
-use realm_lists::{PlaceTable, Rows};
+use realm_lists::{OrderedList, PlaceTable};
 use std::alloc::Global;
 use std::marker::Model;
 use wamp_ids::Id;
 
-// The connected transports. Each stands at a place, under which its transport is kept, and its session's id if it has one; and how
-// many sessions there are is counted.
+// The connected transports. Each is at a place; one index leads from its transport to the place, another from its session's id, if it has
+// one. The sessions are counted.
 pub struct Connected {
     alloc: Global,
-    rows: Rows<Link>,
+    rows: OrderedList<Link>,
     transports: PlaceTable<Transport>,
     ids: SessionIndex,
     count: u64,
@@ -39,7 +39,7 @@ impl Drop for Connected {
 
 impl Model for Connected {
     ghost use Rattle.std.specs.Prelude.{List};
-    ghost use Rattle.realm_lists.specs.Rows.{members};
+    ghost use Rattle.realm_lists.specs.OrderedList.{members};
     ghost use Rattle.realm_sessions.specs.declared.links.Link.{Link};
 
     ghost Value = { List Link };
@@ -52,34 +52,34 @@ impl Model for Connected {
 }
 
 impl Connected {
-    // No transport is connected.
+    // Creates it with no transport connected.
     pub fn new(alloc: Global) -> Connected
         ensures { result ≡ [] }
     {
         Connected {
             alloc,
-            rows: Rows::new(alloc),
+            rows: OrderedList::new(alloc),
             transports: PlaceTable::new(alloc),
             ids: SessionIndex::new(alloc),
             count: 0,
         }
     }
 
-    // How many transports are connected.
+    // Returns how many transports are connected.
     pub fn len(&self) -> usize
         ensures { result ≡ length self.now }
     {
         self.rows.len()
     }
 
-    // How many sessions are open.
+    // Returns how many sessions are open.
     pub fn session_count(&self) -> u64
         ensures { result ≡ session_count self.now }
     {
         self.count
     }
 
-    // The transport's link, if it is connected.
+    // Returns the transport's link, if it is connected.
     pub fn link_of(&self, transport: Transport) -> Option<&Link>
         ensures { option_map (λ link. link.now) result ≡ find (is_of transport) self.now }
     {
@@ -89,7 +89,7 @@ impl Connected {
         self.rows.get(place)
     }
 
-    // The link of the session of this id.
+    // Returns the link of the session of this id.
     pub fn link_with(&self, id: Id) -> Option<&Link>
         ensures { option_map (λ link. link.now) result ≡ find (has_id id) self.now }
     {
@@ -99,7 +99,7 @@ impl Connected {
         self.rows.get(place)
     }
 
-    // The links in order.
+    // Returns the links in order.
     pub fn to_vec(&self) -> Result<Vec<Link>, RealmFault>
         ensures list { IfOk result (λ list. list.items ≡ self.now) }
         ensures fault { IsOkUnless result fault.Memory }
@@ -107,7 +107,7 @@ impl Connected {
         Ok(self.rows.to_vec(self.alloc)?)
     }
 
-    // The transports that this node took.
+    // Returns the transports that this node took.
     pub fn of_origin(&self, node: u8) -> Result<Vec<Transport>, RealmFault>
         ensures found { IfOk result (λ found. found.items ≡ of_origin self.now node) }
         ensures fault { IsOkUnless result fault.Memory }
@@ -121,7 +121,7 @@ impl Connected {
         Ok(found)
     }
 
-    // The transport comes as the last one, without a session.
+    // Adds the transport as the last one, without a session.
     pub fn push(&mut self, transport: Transport) -> Result<(), RealmFault>
         requires { is_connected self.old transport ≡ false }
         ensures ok { OnOk result (self.new ≡ self.old ++ record { transport = transport; session = None } ∷ []) }
@@ -143,7 +143,7 @@ impl Connected {
         Ok(())
     }
 
-    // The transport, which has no session, has this one now.
+    // Gives the session to the transport, which has none.
     pub fn open(&mut self, transport: Transport, session: Session)
         requires there { by_transport self.old transport ≡ Some None }
         requires new { is_taken self.old session.id ≡ false }
@@ -163,7 +163,7 @@ impl Connected {
         self.count += 1;
     }
 
-    // The transport has no session any more.
+    // Ends the transport's session, if it has one.
     pub fn close(&mut self, transport: Transport)
         ensures { self.new ≡ set_session self.old transport None }
     {
@@ -180,7 +180,7 @@ impl Connected {
         self.count = less_one(self.count, &gone);
     }
 
-    // The transport is connected no more.
+    // Removes the transport, if it is connected.
     pub fn remove(&mut self, transport: Transport)
         ensures { self.new ≡ without_transport self.old transport }
     {
@@ -195,7 +195,7 @@ impl Connected {
         self.count = less_one(self.count, &gone.session);
     }
 
-    // The last invocation of the session of this id is this one now.
+    // Makes this invocation the last one of the session of this id.
     pub fn invoke(&mut self, id: Id, invocation: Id)
         ensures { self.new ≡ set_invocation self.old id invocation }
     {
@@ -210,7 +210,7 @@ impl Connected {
     }
 }
 
-// So many without this session.
+// Returns the count without this session.
 fn less_one(count: u64, session: &Option<Session>) -> u64
     ensures { result ≡ less_one count session.now }
 {

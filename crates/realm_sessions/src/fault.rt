@@ -4,7 +4,7 @@ ghost use Rattle.realm_sessions.specs.Fault.{number_of, uri_of};
 use std::alloc::{AllocError, AllocFailed};
 use thiserror::Error;
 
-/// Why a part of a realm refuses what is asked of it.
+/// Why a part of a realm refuses a call.
 #[derive(Clone, Copy, Debug, PartialEq, Eq, Hash, Error)]
 pub enum RealmFault {
     #[error("the URI is none, or is the router's own")]
@@ -28,7 +28,7 @@ pub enum RealmFault {
 }
 
 impl RealmFault {
-    /// The fault's number, 101 to 109.
+    /// Returns the fault's number, 101 to 109.
     pub fn number(self) -> u8
         ensures { result ≡ number_of self }
     {
@@ -45,8 +45,8 @@ impl RealmFault {
         }
     }
 
-    /// The URI under which a client is told of the fault (WAMP specification, "Predefined URIs"; the limit's is this
-    /// profile's): the first seven have one. Takes no memory.
+    /// Returns the URI that an ERROR names for the fault (WAMP specification, "Predefined URIs"; the limit's is this profile's): the first
+    /// seven faults have one. Does not allocate.
     pub fn uri(self) -> Option<&'static str>
         ensures { option_map (λ text. text.now) result ≡ uri_of self }
     {

@@ -22,7 +22,7 @@ pub struct Link {
 }
 
 impl Link {
-    // Whether its session has this id.
+    // Returns whether its session has this id.
     pub fn has_id(&self, id: Id) -> bool
         ensures { result ≡ has_id id self.now }
     {
@@ -32,7 +32,7 @@ impl Link {
         }
     }
 
-    // The link, with this session now, or none.
+    // Returns the link with this session in place of its own, or with none.
     pub fn with_session(&self, session: Option<Session>) -> Link
         ensures { result ≡ record { transport = self.now.transport; session = session } }
     {
@@ -42,7 +42,7 @@ impl Link {
         }
     }
 
-    // The link, with this invocation as its session's last one.
+    // Returns the link with this invocation as its session's last one.
     pub fn with_invocation(&self, invocation: Id) -> Link
         ensures { result ≡ record { transport = self.now.transport; session = invoked invocation self.now.session } }
     {
@@ -57,14 +57,14 @@ impl Link {
     }
 }
 
-// Whether the id is among these.
+// Returns whether the id is among these.
 fn has_number(ids: &[Id], id: Id) -> bool
     ensures { result ≡ has_number ids.now id }
 {
     ids.iter().any(|other| *other == id)
 }
 
-// The first id behind the last invocation's that is not taken. Goes over `taken` once more for each id that is taken.
+// Returns the first id after the last invocation's that is not taken. Goes over `taken` once more for each id that is taken.
 pub fn free_invocation(taken: &[Id], last: Option<Id>) -> Option<Id>
     ensures first { result ≡ free_invocation taken.now last }
     ensures free { IfSome result (λ id. has_number taken.now id ≡ false) }
@@ -83,7 +83,7 @@ pub fn free_invocation(taken: &[Id], last: Option<Id>) -> Option<Id>
     }
 }
 
-// The id behind the last invocation's.
+// Returns the id after the last invocation's.
 pub fn invocation_after(last: Option<Id>) -> Id
     ensures { result ≡ invocation_after last }
 {

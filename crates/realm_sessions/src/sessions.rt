@@ -13,11 +13,11 @@ use std::alloc::Global;
 use std::marker::Model;
 use wamp_ids::Id;
 
-/// The connected transports of a realm in the order in which they came, and their sessions, of which only so many may be open.
+/// The connected transports of a realm in the order in which they came, and their sessions, of which at most `limit` are open at a time.
 ///
-/// Cost: a number of steps that is logarithmic in the number of transports, `open` so many more for each id that it finds taken.
-/// `of_origin` and `to_vec` take a step for each transport. Where memory wanted for a session's id in `open`, each call that asks for a
-/// session by its id goes over the transports from then on.
+/// Cost: each call takes a number of steps that is logarithmic in the number of transports, and `open` as many again for each id that it
+/// finds taken. `of_origin` and `to_vec` take a step for each transport. If memory runs out for a session's id in `open`, each call that
+/// looks up a session by its id goes over the transports from then on.
 pub struct Sessions {
     limit: u32,
     held: Connected,
@@ -41,7 +41,7 @@ impl Model for Sessions {
 }
 
 impl Sessions {
-    /// No transport is connected, and at most `limit` sessions are open at a time. Takes no memory.
+    /// Creates it with no transport connected, for at most `limit` open sessions at a time. Does not allocate.
     pub fn new(alloc: Global, limit: u32) -> Sessions
         ensures { result ≡ record { limit = limit; list = [] } }
     {
@@ -64,9 +64,9 @@ impl Sessions {
         self.held.push(transport)
     }
 
-    /// Opens a session at a connected transport that has none. Its id is the draw, or the next one upwards that no session
-    /// has. The only fault is `Limit`, which comes exactly where as many sessions are open as may be (`laws`); nothing has
-    /// changed then. Takes no memory.
+    /// Opens a session at a connected transport that has none, and returns its id: the draw, or the next one upwards that no session has.
+    /// The only fault is `Limit`, exactly if `limit` sessions are open (`laws`); nothing has changed then. If memory runs out for its id,
+    /// that is no fault, but slows look-ups down (see the type).
     pub fn open(
         &mut self,
         transport: Transport,
@@ -92,7 +92,7 @@ impl Sessions {
         Ok(id)
     }
 
-    // Whether as many sessions are open as may be; otherwise one more may be counted.
+    // Returns whether as many sessions are open as may be; if not, the count may rise by one.
     fn has_all(&self) -> bool
         ensures all { result ≡ not (nat_lt (session_count self.now.list) self.now.limit) }
         ensures few { result ≡ false → session_count self.now.list + 1 < 2 ^ 64 }
@@ -100,31 +100,30 @@ impl Sessions {
         !(self.held.session_count() < u64::from(self.limit))
     }
 
-    // Whether the transport is connected.
+    // Returns whether the transport is connected.
     fn is_connected(&self, transport: Transport) -> bool
         ensures { result ≡ is_connected self.now.list transport }
     {
         self.held.link_of(transport).is_some()
     }
 
-    /// The transport's session ends, if it has one; the transport stays. Takes no memory.
+    /// Ends the transport's session, if it has one; the transport stays. Does not allocate.
     pub fn close(&mut self, transport: Transport)
         ensures { self.new ≡ with_list self.old (set_session self.old.list transport None) }
     {
         self.held.close(transport);
     }
 
-    /// The transport is connected no more. Takes no memory.
+    /// Removes the transport, if it is connected. Does not allocate.
     pub fn remove(&mut self, transport: Transport)
         ensures { self.new ≡ with_list self.old (without_transport self.old.list transport) }
     {
         self.held.remove(transport);
     }
 
-    /// The id of the session's next invocation, which is its last one now: the first one behind its last that is not `taken`;
-    /// ids begin at 1 and go round (WAMP specification, "IDs"). `None` without that session, and otherwise only where all 2^53
-    /// are taken (`laws`); nothing has changed then. Goes over `taken` once, and once more for each id that it finds taken.
-    /// Takes no memory.
+    /// Returns the id of the session's next invocation, and makes it the session's last one. It is the first after the last that is not
+    /// `taken`; ids begin at 1 and wrap around (WAMP specification, "IDs"). `None` without that session, and otherwise only if all 2^53 are
+    /// taken (`laws`); nothing has changed then. Goes over `taken` once, and once more for each id that it finds taken. Does not allocate.
     pub fn next_invocation(&mut self, id: Id, taken: &[Id]) -> Option<Id>
         ensures answer { result ≡ (next_invocation self.old id taken.now).answer }
         ensures sessions { self.new ≡ (next_invocation self.old id taken.now).sessions }
@@ -136,8 +135,8 @@ impl Sessions {
         Some(invocation)
     }
 
-    /// The id behind the session's last invocation: its next one's, unless it is taken (`laws`). `None` without that session. Takes no
-    /// memory.
+    /// Returns the id after the session's last invocation, which its next one has unless it is taken (`laws`). `None` without that session.
+    /// Does not allocate.
     pub fn due_invocation(&self, id: Id) -> Option<Id>
         ensures { result ≡ due_invocation self.now.list id }
     {
@@ -145,7 +144,7 @@ impl Sessions {
         Some(invocation_after(session.last_invocation))
     }
 
-    /// The connected transports and their sessions, in the order in which they came. The only fault is `Memory`.
+    /// Returns the connected transports and their sessions, in the order in which they came. The only fault is `Memory`.
     pub fn to_vec(&self) -> Result<Vec<Link>, RealmFault>
         ensures list { IfOk result (λ list. list.items ≡ self.now.list) }
         ensures fault { IsOkUnless result fault.Memory }
@@ -153,7 +152,8 @@ impl Sessions {
         self.held.to_vec()
     }
 
-    /// The id of the transport's session, `Some(None)` where it is connected without one. Takes no memory.
+    /// Returns the id of the transport's session, `Some(None)` if it is connected without one, and `None` if it is not connected. Does not
+    /// allocate.
     pub fn by_transport(&self, transport: Transport) -> Option<Option<Id>>
         ensures { result ≡ by_transport self.now.list transport }
     {
@@ -161,7 +161,7 @@ impl Sessions {
         Some(link.session.map(|session| session.id))
     }
 
-    /// Where the session of this id is. Takes no memory.
+    /// Returns the transport of the session of this id. Does not allocate.
     pub fn by_id(&self, id: Id) -> Option<Transport>
         ensures { result ≡ transport_of self.now.list id }
     {
@@ -169,7 +169,7 @@ impl Sessions {
         Some(link.transport)
     }
 
-    /// Whether the session of this id announced call canceling as a callee. Takes no memory.
+    /// Returns whether the session of this id announced call canceling as a callee. Does not allocate.
     pub fn announces(&self, id: Id) -> bool
         ensures { result ≡ announces self.now.list id }
     {
@@ -182,7 +182,7 @@ impl Sessions {
         }
     }
 
-    /// The transports that this node took, in the order in which they came. The only fault is `Memory`.
+    /// Returns the transports that this node took, in the order in which they came. The only fault is `Memory`.
     pub fn of_origin(&self, node: u8) -> Result<Vec<Transport>, RealmFault>
         ensures found { IfOk result (λ found. found.items ≡ of_origin self.now.list node) }
         ensures fault { IsOkUnless result fault.Memory }
@@ -191,14 +191,15 @@ impl Sessions {
     }
 }
 
-// Whether a session has this id.
+// Returns whether a session has this id.
 fn is_taken(held: &Connected, id: Id) -> bool
     ensures { result ≡ is_taken held.now id }
 {
     held.link_with(id).is_some()
 }
 
-// The id for a new session: the draw, or the next one upwards that no session has. Asks once more for each id that is taken.
+// Returns the id for a new session: the draw, or the next one upwards that no session has. Takes one more look-up for each id that is
+// taken.
 fn new_id(held: &Connected, draw: Id) -> Option<Id>
     ensures first { result ≡ new_session_id held.now draw }
     ensures free { IfSome result (λ id. is_taken held.now id ≡ false) }
@@ -213,7 +214,7 @@ fn new_id(held: &Connected, draw: Id) -> Option<Id>
     if is_taken(held, id) { None } else { Some(id) }
 }
 
-// The session of this id.
+// Returns the session of this id.
 fn session_with(held: &Connected, id: Id) -> Option<Session>
     ensures { result ≡ session_with held.now id }
 {

@@ -6,13 +6,13 @@ use Rattle.std.specs.List.{list_any}
 use Rattle.std.specs.BTreeMap.{is_at}
 use Rattle.std.proofs.lemmas.Bool.{eqb-true, false≢true}
 use Rattle.realm_sessions.specs.Members.{has_member, joined, others}
-use Rattle.realm_lists.specs.Rows.{IsAbove, member_at, members, without}
+use Rattle.realm_lists.specs.OrderedList.{IsAbove, member_at, members, without}
 use Rattle.realm_lists.specs.Finding.{AreRising, IsIndex, is_passing}
 use Rattle.realm_lists.proofs.Finding.{any_is_find, kept_all}
 use Rattle.realm_lists.proofs.Members.{members_pushed}
 use Rattle.realm_lists.proofs.Telling.{index_back, index_came, index_gone}
 use Rattle.realm_lists.proofs.Told.{told_none, told_without}
-use Rattle.realm_subscriptions.specs.Members.{is_session, place_of}
+use Rattle.realm_subscriptions.specs.Subscribers.{is_session, place_of}
 
 either_or : (a b : Bool) → b ≡ true → (a || b) ≡ true
 either_or true b h = refl
@@ -35,7 +35,7 @@ there test place (row ∷ rows) h =
 abbrev pub Indexed : List (ℕ × ℕ) → List (ℕ × ℕ) → Type 0
 Indexed places rows = IsIndex is_session (place_of places) rows
 
--- a session is a member exactly where it has a place
+-- a session is a member exactly if it has a place
 pub member_is : (places rows : List (ℕ × ℕ)) (session : ℕ) → Indexed places rows
     → is_some (place_of places session) ≡ has_member session (members rows)
 member_is places rows session ok = go (place_of places session) refl

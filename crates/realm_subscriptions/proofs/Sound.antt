@@ -150,7 +150,7 @@ added_sound s session pattern none room ok =
       each = All-push IsSoundSubscription s.list new ok.each (record { members = alone session; held = omega arith });
     }
 
--- where a session may have one more, an id is left
+-- if a session may have one more, an id is left
 id_left : (s : Subscriptions) (session : ℕ) → is_full s session ≡ false → s.last < last_id
 id_left s session h =
     let parts = or_parts (not (nat_lt (count_of s session) s.limit)) (not (nat_lt s.last last_id)) h in
@@ -216,7 +216,7 @@ All-passed test P (x ∷ xs) h =
     cond_both (test x) (x ∷ filter test xs) (filter test xs) (All (λ x. P x × (test x ≡ true)))
     (λ passes. All-cons (λ x. P x × (test x ≡ true)) x (filter test xs) (All-head P x xs h, passes) rest) (λ _. rest)
 
--- each member stands in it once
+-- each member is in it once
 abbrev HasEachOnce : Subscription → Type 0
 HasEachOnce s = AllPairs AreApart s.members
 

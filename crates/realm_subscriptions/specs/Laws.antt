@@ -8,7 +8,7 @@ use Rattle.realm_subscriptions.specs.Subscribing.{subscribe}
 use Rattle.realm_subscriptions.specs.Leaving.{unsubscribe, leave}
 
 pub record IsSoundSubscription (subscription : Subscription) : Type 0 where
-  -- each member stands in it once
+  -- each member is in it once
   pub members : AllPairs (λ (a b : ℕ). a ≢ b) subscription.members
   -- it has one
   pub held : 0 < length subscription.members

@@ -1,4 +1,4 @@
-pub mod Members
+pub mod Subscribers
 pub mod Subscription
 pub mod Subscriptions
 pub mod Subscribing

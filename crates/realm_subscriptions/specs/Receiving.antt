@@ -1,4 +1,4 @@
--- Who gets an event (WAMP specification, "Publish and Subscribe", "Pattern-based Subscriptions", "Publisher Exclusion").
+-- The receivers of an event (WAMP specification, "Publish and Subscribe", "Pattern-based Subscriptions", "Publisher Exclusion").
 use Rattle.std.specs.Prelude.{ℕ, ◌==◌, Bool, true, not, List, map, filter, Option, None, Some}
 use Rattle.std.specs.List.{flat_map}
 use Rattle.wamp_patterns.specs.Ranking.{matching}

@@ -8,7 +8,7 @@ use Rattle.realm_subscriptions.specs.declared.subscription.Subscription.{Subscri
 use Rattle.realm_subscriptions.specs.Subscription.{is_on, is_member, with_member}
 use Rattle.realm_subscriptions.specs.Subscriptions.{Subscriptions, with_list, subscription_on, is_full, change_first}
 
--- what becomes of the subscriptions where a session asks for one, and what is answered
+-- what becomes of the subscriptions when a session asks for one, and what is returned
 pub record Subscribed : Type 0 where
   pub subscriptions : Subscriptions
   pub answer : Result ℕ RealmFault
@@ -18,14 +18,14 @@ abbrev pub join : Subscriptions → ℕ → PatternValue → Subscriptions
 join subscriptions session pattern =
     with_list subscriptions (change_first (is_on pattern) (λ subscription. Some (with_member session subscription)) subscriptions.list)
 
--- the pattern has a subscription of its own now, with the next id and the session as its member
+-- the pattern has a new subscription, with the next id and the session as its member
 abbrev pub add : Subscriptions → ℕ → PatternValue → Subscriptions
 add subscriptions session pattern = record subscriptions {
   list = subscriptions.list ++ record { id = subscriptions.last + 1; pattern = pattern; members = session ∷ [] } ∷ [];
   last = subscriptions.last + 1;
 }
 
--- a session that is no member, where the subscription would have this id
+-- a session that is no member, if the subscription would have this id
 abbrev pub unless_full : Subscriptions → ℕ → ℕ → Subscriptions → Subscribed
 unless_full subscriptions session id changed =
     if is_full subscriptions session then record { subscriptions = subscriptions; answer = Err Limit }

@@ -6,7 +6,7 @@ use Rattle.realm_subscriptions.specs.declared.subscription.Subscription.{Subscri
 use Rattle.realm_subscriptions.specs.Subscription.{is_on, is_member}
 
 pub record Subscriptions : Type 0 where
-  -- a session may be a member of so many
+  -- a session may be a member of at most this many
   pub limit : ℕ
   pub list : List Subscription
   -- the greatest id that was handed out, 0 before the first

@@ -2,17 +2,17 @@ ghost use Rattle.std.specs.Prelude.{◌≡◌, false, [], OnOk, OnErr, IfOk, IsO
 ghost use Rattle.realm_sessions.specs.declared.fault.RealmFault.TheVariants as fault;
 ghost use Rattle.realm_sessions.specs.Members.{has_member, has_members, joined, others};
 
-use realm_lists::{PlaceIndex, Rows};
+use realm_lists::{OrderedList, PlaceIndex};
 use realm_sessions::RealmFault;
 use std::alloc::Global;
 use std::marker::Model;
 use wamp_ids::Id;
 
-// The members of a subscription who joined while it had others, in the order of joining, each once.
+// The members of a subscription that joined while it had others, in the order of joining, each once.
 //
 // Cost: each call takes a number of steps that is logarithmic in the number of members, `to_vec` one for each.
 pub struct Later {
-    rows: Rows<Id>,
+    rows: OrderedList<Id>,
     places: PlaceIndex<u64>,
 }
 
@@ -27,9 +27,9 @@ impl Drop for Later {
 
 impl Model for Later {
     ghost use Rattle.std.specs.Prelude.{List, ℕ};
-    ghost use Rattle.realm_lists.specs.Rows.{members};
+    ghost use Rattle.realm_lists.specs.OrderedList.{members};
     ghost use Rattle.realm_lists.specs.Finding.{IsIndex};
-    ghost use Rattle.realm_subscriptions.specs.Members.{is_session, place_of};
+    ghost use Rattle.realm_subscriptions.specs.Subscribers.{is_session, place_of};
 
     ghost Value = { List ℕ };
 
@@ -39,17 +39,17 @@ impl Model for Later {
 }
 
 impl Later {
-    // None. Takes no memory.
+    // Creates it with no member. Does not allocate.
     pub fn new(alloc: Global) -> Later
         ensures { result ≡ [] }
     {
         Later {
-            rows: Rows::new(alloc),
+            rows: OrderedList::new(alloc),
             places: PlaceIndex::new(alloc),
         }
     }
 
-    // Their ids, in the order of joining. The only fault is `Memory`.
+    // Returns their ids, in the order of joining. The only fault is `Memory`.
     pub fn to_vec(&self, alloc: Global) -> Result<Vec<Id>, RealmFault>
         ensures list { IfOk result (λ list. list.items ≡ self.now) }
         ensures fault { IsOkUnless result fault.Memory }
@@ -57,21 +57,21 @@ impl Later {
         Ok(self.rows.to_vec(alloc)?)
     }
 
-    // Whether the session is one of them. Takes no memory.
+    // Returns whether the session is one of them. Does not allocate.
     pub fn has(&self, session: Id) -> bool
         ensures { result ≡ has_member session self.now }
     {
         self.places.get(session.get()).is_some()
     }
 
-    // Whether there is one. Takes no memory.
+    // Returns whether there is a member. Does not allocate.
     pub fn has_some(&self) -> bool
         ensures { result ≡ has_members self.now }
     {
         self.rows.len() > 0
     }
 
-    // The session, which is none of them, is the last of them now. The only fault is `Memory`; nothing has changed then.
+    // Adds the session, which must not be one of them, as the last one. The only fault is `Memory`; nothing has changed then.
     pub fn join(&mut self, session: Id) -> Result<(), RealmFault>
         requires { has_member session self.old ≡ false }
         ensures ok { OnOk result (self.new ≡ joined session self.old) }
@@ -90,7 +90,7 @@ impl Later {
         Ok(())
     }
 
-    // The session is none of them any more. Takes no memory.
+    // Removes the session, if it is one of them. Does not allocate.
     pub fn leave(&mut self, session: Id)
         ensures { self.new ≡ others session self.old }
     {

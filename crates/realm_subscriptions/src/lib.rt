@@ -4,13 +4,13 @@
 mod later;
 pub mod laws;
 mod leaving;
-mod members;
 mod receiving;
+mod subscribers;
 mod subscribing;
 mod subscription;
 mod subscriptions;
 
-pub use members::Members;
 pub use receiving::Receiver;
+pub use subscribers::Subscribers;
 pub use subscription::Subscription;
 pub use subscriptions::Subscriptions;

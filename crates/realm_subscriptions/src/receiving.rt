@@ -1,4 +1,4 @@
-// Who gets an event.
+//! Who gets an event.
 ghost use Rattle.std.specs.Prelude.{◌≡◌, ◌++◌, [], ◌∷◌, ℕ, List, Option, map, filter, OnOk, IfOk, IsOkUnless};
 ghost use Rattle.std.specs.List.{flat_map};
 ghost use Rattle.wamp_patterns.specs.Ranking.{matching};
@@ -12,7 +12,7 @@ use realm_sessions::RealmFault;
 use std::alloc::Global;
 use wamp_ids::{Id, Match, Uri};
 
-/// One that gets an event: a member of a subscription, and how that matched the event's URI.
+/// A receiver of an event: a member of a subscription, and how that matched the event's URI.
 #[derive(Clone, Copy, Debug, PartialEq, Eq)]
 pub struct Receiver {
     pub subscription: Id,
@@ -20,11 +20,11 @@ pub struct Receiver {
     pub member: Id,
 }
 
-// What has receivers of events.
+// A group that has receivers of events.
 pub(crate) trait Receiving: Group {
     ghost receivers: { Option ℕ → Self → List Receiver };
 
-    // Its receivers come behind those found. The only fault is `Memory`.
+    // Appends its receivers to those found. The only fault is `Memory`.
     fn add_receivers(
         &self,
         alloc: Global,
@@ -54,7 +54,7 @@ impl Receiving for Subscription {
     }
 }
 
-// The receivers among the groups whose patterns match the URI.
+// Returns the receivers among the groups whose patterns match the URI.
 pub(crate) fn receivers_in<G: Receiving>(
     alloc: Global,
     groups: &Groups<G>,
@@ -71,7 +71,7 @@ pub(crate) fn receivers_in<G: Receiving>(
     receivers_among(alloc, &list, except)
 }
 
-// The receivers of these groups, one after the other.
+// Returns the receivers of these groups, one after the other.
 fn receivers_among<G: Receiving>(
     alloc: Global,
     list: &[&G],
@@ -87,7 +87,7 @@ fn receivers_among<G: Receiving>(
     Ok(found)
 }
 
-// Those of these members who get the event.
+// Appends those of these members that get the event.
 fn add_members(
     found: &mut Vec<Receiver>,
     subscription: &Subscription,
@@ -104,7 +104,7 @@ fn add_members(
     Ok(())
 }
 
-// This member, if the event is for him.
+// Appends this member, if the event is for it.
 fn add_member(
     found: &mut Vec<Receiver>,
     subscription: &Subscription,
@@ -125,7 +125,7 @@ fn add_member(
     Ok(())
 }
 
-// Whether the event is for this member.
+// Returns whether the event is for this member.
 fn is_for(except: &Option<Id>, member: Id) -> bool
     ensures { result ≡ is_for except.now member }
 {

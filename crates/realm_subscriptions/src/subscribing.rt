@@ -1,4 +1,4 @@
-// How a session comes to a pattern's subscription.
+//! How a session subscribes to a pattern.
 ghost use Rattle.std.specs.Prelude.{◌≡◌, ◌+◌, ◌<◌, None, true, false, IsOk, OnOk, OnErr, IfOk, IsOkUnless};
 ghost use Rattle.wamp_ids.specs.Id.{last_id};
 ghost use Rattle.realm_sessions.specs.declared.fault.RealmFault.TheVariants as fault;
@@ -6,14 +6,14 @@ ghost use Rattle.realm_sessions.specs.Fault.{Answers};
 ghost use Rattle.realm_subscriptions.specs.Subscriptions.{is_full, subscription_on};
 ghost use Rattle.realm_subscriptions.specs.Subscribing.{subscribe, subscribe_to, add, join, is_subscribed};
 
-use crate::members::Members;
+use crate::subscribers::Subscribers;
 use crate::subscription::Subscription;
 use crate::subscriptions::Subscriptions;
 use realm_sessions::RealmFault;
 use wamp_ids::{Id, LAST_ID, Pattern};
 
 impl Subscriptions {
-    // The session is answered its id where it is a member of the pattern's subscription, or comes to it.
+    // Returns the id of the pattern's subscription, of which the session is a member then.
     pub(crate) fn subscribe_to(
         &mut self,
         session: Id,
@@ -38,7 +38,7 @@ impl Subscriptions {
         Ok(id)
     }
 
-    // The session comes as the last member of the pattern's subscription.
+    // Adds the session as the last member of the pattern's subscription.
     fn join(&mut self, session: Id, pattern: &Pattern<'_>) -> Result<(), RealmFault>
         requires { is_subscribed self.old session pattern.now ≡ false }
         ensures ok { OnOk result (self.new ≡ join self.old session pattern.now) }
@@ -49,7 +49,7 @@ impl Subscriptions {
         Ok(())
     }
 
-    // The same where the pattern has no subscription.
+    // Adds a subscription for a pattern that has none, unless the session may not have another one.
     fn subscribe_anew(&mut self, session: Id, pattern: &Pattern<'_>) -> Result<Id, RealmFault>
         requires { subscription_on self.old pattern.now ≡ None }
         ensures answer { Answers result (subscribe_to self.old session pattern.now None).answer }
@@ -62,7 +62,7 @@ impl Subscriptions {
         self.add(session, pattern)
     }
 
-    // The pattern has a subscription of its own now, of which this is the id, and the session is its member.
+    // Adds a subscription for the pattern with the session as its member, and returns its id.
     fn add(&mut self, session: Id, pattern: &Pattern<'_>) -> Result<Id, RealmFault>
         requires ids { self.old.last < last_id }
         requires new { subscription_on self.old pattern.now ≡ None }
@@ -74,7 +74,7 @@ impl Subscriptions {
         let Ok(pattern) = pattern.copy(self.alloc) else {
             return Err(RealmFault::Memory);
         };
-        let members = Members::of(self.alloc, session);
+        let members = Subscribers::of(self.alloc, session);
         let Some(id) = Id::new(self.groups.last() + 1) else {
             unreachable!();
         };
@@ -89,7 +89,7 @@ impl Subscriptions {
         Ok(id)
     }
 
-    // Whether the session may have no more: it has as many subscriptions as it may have, or the ids are spent.
+    // Returns whether the session may not have another one: it has as many subscriptions as it may have, or no id is left.
     fn is_full(&self, session: Id) -> bool
         ensures { result ≡ is_full self.now session }
     {

@@ -1,7 +1,7 @@
 ghost use Rattle.std.specs.Prelude.{◌≡◌};
 ghost use Rattle.realm_subscriptions.specs.Subscription.{is_member};
 
-use crate::members::Members;
+use crate::subscribers::Subscribers;
 use realm_groups::Group;
 use realm_sessions::RealmFault;
 use wamp_ids::{Id, Pattern};
@@ -10,7 +10,7 @@ use wamp_ids::{Id, Pattern};
 pub struct Subscription {
     pub id: Id,
     pub pattern: Pattern<'static>,
-    pub members: Members,
+    pub members: Subscribers,
 }
 
 impl Drop for Subscription {
@@ -24,7 +24,7 @@ impl Drop for Subscription {
 }
 
 impl Subscription {
-    // Whether the session is a member.
+    // Returns whether the session is a member.
     pub(crate) fn has(&self, session: Id) -> bool
         ensures { result ≡ is_member session self.now }
     {

@@ -14,9 +14,10 @@ use std::alloc::Global;
 use std::marker::Model;
 use wamp_ids::{Id, Pattern, Uri};
 
-/// The subscriptions of a realm by ascending id, of which a session may have only so many.
+/// The subscriptions of a realm by ascending id, at most `limit` for each session.
 ///
-/// Cost: each call takes a number of steps that is logarithmic in the number of subscriptions and of sessions, and what is said beside it.
+/// Cost: each call takes a number of steps that is logarithmic in the number of subscriptions and of sessions, plus what its own comment
+/// says.
 pub struct Subscriptions {
     pub(crate) limit: u32,
     pub(crate) alloc: Global,
@@ -42,7 +43,7 @@ impl Model for Subscriptions {
 }
 
 impl Subscriptions {
-    /// No subscription, and no id handed out. A session may be a member of `limit` subscriptions. Takes no memory.
+    /// Creates it with no subscription and no id handed out. A session may be a member of `limit` subscriptions. Does not allocate.
     pub fn new(alloc: Global, limit: u32) -> Subscriptions
         ensures { result ≡ no_subscriptions limit }
     {
@@ -53,11 +54,11 @@ impl Subscriptions {
         }
     }
 
-    /// The session becomes the last member of the pattern's subscription, of which this is the id; a pattern without one gets one, with
-    /// the next id. A session that is a member already is answered the same id, and nothing changes. The faults are `Limit`, for a
-    /// session with as many subscriptions as it may have and where the ids are spent, and then `Memory`; nothing has changed then.
+    /// Adds the session as the last member of the pattern's subscription, and returns the subscription's id; a pattern without one gets
+    /// one, with the next id. For a session that is a member already it returns the id, and nothing changes. The faults are `Limit`, if the
+    /// session has `limit` subscriptions or no id is left, and then `Memory`; nothing has changed then.
     ///
-    /// Cost: the pattern is copied for a new subscription alone.
+    /// Cost: the pattern is copied only for a new subscription.
     pub fn subscribe(&mut self, session: Id, pattern: &Pattern<'_>) -> Result<Id, RealmFault>
         ensures answer { Answers result (subscribe self.old session pattern.now).answer }
         ensures ok { OnOk result (self.new ≡ (subscribe self.old session pattern.now).subscriptions) }
@@ -67,8 +68,8 @@ impl Subscriptions {
         self.subscribe_to(session, pattern)
     }
 
-    /// The session leaves the subscription of this id, which is no more where it was the last member. The only fault is
-    /// `NoSuchSubscription`, where the session is not a member of one of this id; nothing has changed then. Takes no memory.
+    /// Removes the session from the subscription of this id, and the subscription if that was its last member. The only fault is
+    /// `NoSuchSubscription`, if the session is not a member of a subscription of this id; nothing has changed then. Does not allocate.
     pub fn unsubscribe(&mut self, session: Id, id: Id) -> Result<(), RealmFault>
         ensures answer { MatchBool (is_in self.old session id) (result ≡ Ok tt) (result ≡ Err fault.NoSuchSubscription) }
         ensures subscriptions { self.new ≡ unsubscribe self.old session id }
@@ -81,16 +82,17 @@ impl Subscriptions {
         Ok(())
     }
 
-    /// The session leaves all its subscriptions; those without members are no more. Takes no memory. Goes over those subscriptions.
+    /// Removes the session from all its subscriptions, and the subscriptions that have no member left. Does not allocate. Goes over those
+    /// subscriptions.
     pub fn leave(&mut self, session: Id)
         ensures { self.new ≡ leave self.old session }
     {
         self.leave_all(session);
     }
 
-    /// Who gets an event under this URI: the members, in the order of joining, of each subscription whose pattern matches it, by ascending
-    /// id over all three matches, without the session `except`. The only fault is `Memory`. Takes what a table of patterns takes to find
-    /// those that match, and memory and steps for them and their members.
+    /// Returns the receivers of an event under this URI: the members, in the order of joining, of each subscription whose pattern matches
+    /// it, by ascending id over all three matches, without the session `except`. The only fault is `Memory`. Takes what a table of patterns
+    /// takes to find those that match, and memory and steps for them and their members.
     pub fn receivers(&self, uri: &Uri<'_>, except: Option<Id>) -> Result<Vec<Receiver>, RealmFault>
         ensures found { IfOk result (λ found. found.items ≡ receivers self.now uri.now except) }
         ensures fault { IsOkUnless result fault.Memory }
@@ -98,7 +100,7 @@ impl Subscriptions {
         receivers_in(self.alloc, &self.groups, uri, &except)
     }
 
-    /// How many subscriptions there are. Takes no memory.
+    /// Returns the number of subscriptions. Does not allocate.
     pub fn len(&self) -> usize
         ensures { result ≡ length self.now.list }
     {

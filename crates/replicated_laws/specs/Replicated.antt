@@ -5,7 +5,7 @@ use Rattle.replica_follower.specs.Following.{Followed}
 use Rattle.replica_machine.specs.Replay.{state, said}
 use Rattle.realm_registrations.specs.Laws.{AreSoundRegistrations}
 use Rattle.realm_acts.specs.declared.act.Act.{Act}
-use Rattle.realm_sayings.specs.declared.act.Say.{Say}
+use Rattle.realm_machine.specs.declared.sayings.say.Say.{Say}
 use Rattle.realm_machine.specs.Config.{Config}
 use Rattle.realm_machine.specs.Machine.{realm_of, live_of}
 use Rattle.realm_machine.specs.Realm.{State}
@@ -24,7 +24,7 @@ Realms = Held Act State Say
 -- at each prefix of each node's log: a text and match have one registration at most, each has a callee, and one under `single` exactly one;
 -- all else that every realm keeps; and what its open calls keep
 pub record AreSoundAlongLogs (w : Realms) : Type 0 where
-  pub registrations : (config : Config) (node n : ℕ) → AreSoundRegistrations (at_prefix config (log_in w node) n).registry
+  pub registrations : (config : Config) (node n : ℕ) → AreSoundRegistrations (at_prefix config (log_in w node) n).registrations
   pub realm : (config : Config) (node n : ℕ) → IsSound config (at_prefix config (log_in w node) n)
   pub calls : (config : Config) (node n : ℕ) → AreSoundOpenCalls (at_prefix config (log_in w node) n)
 
@@ -33,7 +33,7 @@ abbrev pub RepliesAnswerCallsAlongLogs : Realms → Type 0
 RepliesAnswerCallsAlongLogs w =
     (config : Config) (node : ℕ) (t : Transport) (request : ℕ) → IsTrace (log_trace config t request (log_in w node))
 
--- each realm that is not given up is the written one behind the log where it stands, of which its node's log is a front
+-- each realm that has not been given up is the written one after the log that it has applied, of which its node's log is a prefix
 abbrev pub RealmsFollow : Config → Realms → Type 0
 RealmsFollow config w =
     (i : ℕ) (f : Followed Act State Say) → slice_get w.machines i ≡ Some f → f.given_up ≡ false

@@ -1,4 +1,4 @@
-//! Laws of a world whose machines are realms, each the contract of a function that does nothing.
+//! Laws of a world whose machines are realms, each the contract of a function with an empty body.
 ghost use Rattle.std.specs.Prelude.{List};
 ghost use Rattle.paxos_node.specs.declared.event.Event.{Event};
 ghost use Rattle.realm_acts.specs.declared.act.Act.{Act};
@@ -13,12 +13,12 @@ use cluster_world::World;
 use realm_machine::Realm;
 
 /// Along the log of each node the realm's laws hold: at each prefix there is at most one registration for each text and match, each has a
-/// callee, and one under `single` has exactly one; all else that every realm keeps, and what its open calls keep, holds there, too. Of a
-/// transport and a request each final reply stands behind a CALL that took effect, and no two behind one.
+/// callee, and one under `single` has exactly one; everything else that every realm keeps, and what its open calls keep, holds there, too.
+/// For each transport and request, every final reply comes after a CALL that took effect, and no two after the same one.
 ///
-/// Where all realms were made with one configuration, each that is not given up has the content of the written realm behind the log where it
-/// stands, of which its node's log is a front; and each transport of the present boot of a node that is up was handed what the written realm
-/// says to it along that node's log. Takes no memory.
+/// If all realms were made with one configuration, each realm that has not been given up has the content of the written realm after the log
+/// that it has applied, of which its node's log is a prefix; and each transport of the present boot of a node that is up was handed what
+/// the written realm says to it along that node's log. Does not allocate.
 pub fn replicated_realm(world: &World<Realm>)
     ensures sound { AreSoundAlongLogs world.now }
     ensures replies { RepliesAnswerCallsAlongLogs world.now }

@@ -1,6 +1,6 @@
 use Rattle.std.proofs.Common.{◌≡◌, ◌∷◌, ℕ, nat_cmp, sym, ap, subst, ◌∙◌}
 use Rattle.std.specs.List.Sorted.{IsStrictlySortedBy}
-use Rattle.realm_lists.specs.Rows.{member_at, members}
+use Rattle.realm_lists.specs.OrderedList.{member_at, members}
 use Rattle.realm_groups.specs.Groups.{departed, each, found_session}
 use Rattle.realm_groups.specs.IdSets.{has_id_in}
 use Rattle.realm_groups.proofs.Joining.{behind_sorted, gone_member, is_in_first, is_in_none, others_left, rest_told}

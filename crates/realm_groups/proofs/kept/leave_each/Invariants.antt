@@ -1,6 +1,6 @@
 use Rattle.std.proofs.Common.{◌≡◌, ℕ, nat_cmp}
 use Rattle.std.specs.List.Sorted.{IsStrictlySortedBy}
-use Rattle.realm_lists.specs.Rows.{member_at, members}
+use Rattle.realm_lists.specs.OrderedList.{member_at, members}
 use Rattle.realm_lists.specs.Finding.{AreRising}
 use Rattle.realm_groups.specs.Groups.{StayKept, departed, each, found_session}
 use Rattle.realm_groups.specs.IdSets.{has_id_in}

@@ -4,7 +4,7 @@ use Rattle.std.proofs.Common.{nat_cmp, subst, sym, ap, ◌∙◌}
 use Rattle.std.specs.Map.{remove_entry}
 use Rattle.wamp_patterns.specs.Table.{same_pattern}
 use Rattle.realm_groups.specs.Groups.{id_at}
-use Rattle.realm_lists.specs.Rows.{member_at, without}
+use Rattle.realm_lists.specs.OrderedList.{member_at, without}
 use Rattle.realm_groups.proofs.Changes.{gone_rows, held_there, kept_left, none_gone, stays_rows}
 use Rattle.realm_groups.proofs.Keeping.{kept_altered}
 use Rattle.realm_groups.proofs.Patterns.{id_at_removed}

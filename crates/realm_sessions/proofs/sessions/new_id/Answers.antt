@@ -4,7 +4,7 @@ use Rattle.wamp_ids.specs.Id.{id_after}
 use Rattle.realm_sessions.specs.Links.{free_from, is_taken}
 use Rattle.realm_sessions.proofs.sessions.new_id.Goals as goal
 
--- where the id is used, one turn less finds the same from the next
+-- if the id is used, one turn less finds the same from the next
 turned : (used : ℕ → Bool) (most turn id : ℕ) → turn < most → used id ≡ true
     → free_from (suc (most - (turn + 1))) used (id_after id) ≡ free_from (suc (most - turn)) used id
 turned used most turn id within taken =

@@ -1,6 +1,6 @@
 use Rattle.std.proofs.Common.{ℕ, sym, ap, ◌∙◌}
 use Rattle.realm_lists.specs.Finding.{is_passing}
-use Rattle.realm_lists.specs.Rows.{member_at}
+use Rattle.realm_lists.specs.OrderedList.{member_at}
 use Rattle.realm_lists.specs.PlaceIndex.{place_of}
 use Rattle.realm_lists.proofs.Finding.{kept_all}
 use Rattle.realm_lists.proofs.Told.{told_none, told_without}

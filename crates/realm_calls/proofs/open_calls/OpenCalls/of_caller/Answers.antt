@@ -1,5 +1,5 @@
 use Rattle.std.proofs.Common.{ℕ, List, filter, ap, ◌∙◌}
-use Rattle.realm_lists.specs.Rows.{members, members_at, has_place}
+use Rattle.realm_lists.specs.OrderedList.{members, members_at, has_place}
 use Rattle.realm_lists.specs.PlaceIndex.{places_under}
 use Rattle.realm_lists.proofs.Finding.{among_is}
 use Rattle.realm_calls.specs.Indexed.{of_caller}

@@ -6,7 +6,7 @@ use Rattle.realm_groups.proofs.groups.Groups.count.Goals as goal
 
 pub returns : goal.returns
 returns g c = rw (← c.self.view_is)
-    (c.count.ensures.count ∙ ap (λ s. length (ids_of c.self.inside.sets s)) c.get.ensures.value
-    ∙ count_is g.G.Group.sessions_of c.self.inside.sets c.self.inside.rows.entries c.args.session c.self.invariant.kept.rising
-    (subst (λ s. IsStrictlySortedBy nat_cmp (ids_of c.self.inside.sets s)) c.get.ensures.value c.count.ensures.ordered)
+    (c.count.ensures.count ∙ ap (λ s. length (ids_of c.self.inside.by_session s)) c.get.ensures.value
+    ∙ count_is g.G.Group.sessions_of c.self.inside.by_session c.self.inside.by_id.entries c.args.session c.self.invariant.kept.rising
+    (subst (λ s. IsStrictlySortedBy nat_cmp (ids_of c.self.inside.by_session s)) c.get.ensures.value c.count.ensures.ordered)
     c.self.invariant.joined)

@@ -1,5 +1,5 @@
 use Rattle.std.proofs.Common.{◌≡◌, ◌++◌}
-use Rattle.realm_lists.specs.Rows.{members}
+use Rattle.realm_lists.specs.OrderedList.{members}
 use Rattle.realm_sessions.specs.Links.{of_origin}
 use Rattle.realm_sessions.proofs.connected.Connected.of_origin.Given as goal
 

@@ -1,5 +1,5 @@
 use Rattle.std.proofs.Common.{is_some, ap, ◌∙◌}
-use Rattle.realm_subscriptions.specs.Members.{place_of}
+use Rattle.realm_subscriptions.specs.Subscribers.{place_of}
 use Rattle.realm_subscriptions.proofs.Joined.{member_is}
 use Rattle.realm_subscriptions.proofs.later.Later.has.Goals as goal
 

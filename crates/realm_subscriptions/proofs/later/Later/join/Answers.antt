@@ -1,5 +1,5 @@
 use Rattle.std.proofs.Common.{◌≡◌, ℕ, Some, None, nat_eq, subst, if◌then◌else◌}
-use Rattle.realm_subscriptions.specs.Members.{place_of}
+use Rattle.realm_subscriptions.specs.Subscribers.{place_of}
 use Rattle.realm_subscriptions.proofs.Joined.{joined_back, joined_index}
 use Rattle.realm_subscriptions.proofs.later.Later.join.Goals as goal
 

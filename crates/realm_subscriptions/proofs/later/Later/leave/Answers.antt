@@ -1,5 +1,5 @@
 use Rattle.std.proofs.Common.{◌≡◌, ℕ, None, nat_eq, subst, sym, ap, ◌∙◌, if◌then◌else◌}
-use Rattle.realm_subscriptions.specs.Members.{place_of}
+use Rattle.realm_subscriptions.specs.Subscribers.{place_of}
 use Rattle.realm_subscriptions.proofs.Joined.{left_index, left_list, left_none}
 use Rattle.realm_subscriptions.proofs.later.Later.leave.Goals as goal
 

@@ -1,0 +1,7 @@
+-- What is left after `retain` is what its test keeps.
+use Rattle.std.proofs.Common.{rules}
+use Rattle.std.proofs.lemmas.Fn.{filter_same}
+use Rattle.realm_registrations.proofs.rotation.retain_others.Goals as goal
+
+pub returns : goal.returns
+returns c = filter_same _ _ _ (λ x b f' k. search rules) _ _ c.retain.ensures.filtered

@@ -1,5 +1,0 @@
-use Rattle.std.proofs.Common.{rules}
-use Rattle.realm_sayings.proofs.events.told_topic.Goals as goal
-
-pub returns-in-Exact : goal.returns-in-Exact
-returns-in-Exact c = search rules

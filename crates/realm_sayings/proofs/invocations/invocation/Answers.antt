@@ -1,5 +1,0 @@
-use Rattle.std.proofs.Common.{rules}
-use Rattle.realm_sayings.proofs.invocations.invocation.Goals as goal
-
-pub returns : goal.returns
-returns c = search rules

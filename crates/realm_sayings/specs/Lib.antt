@@ -1,4 +1,0 @@
-pub mod Sayings
-pub mod Invocations
-pub mod Endings
-pub mod Events
