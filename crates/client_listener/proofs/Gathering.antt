@@ -11,7 +11,7 @@ use Rattle.client_listener.specs.Writing.{written_of}
 use Rattle.client_listener.specs.Gathering.{StopsBy, Gathers}
 use Rattle.client_listener.proofs.Sending.{written_more, all_go_more, allowed_more}
 
--- so much was taken, and all of it was put behind the octets that waited
+-- this much was taken, and all of it was put after the octets that waited
 pub record Gathered (allows : List ToClient → ToClient → Type 0) (limit : ℕ) (before after : List ToClient) (old new : List ℕ)
     : Type 0 where
   pub items : List ToClient
@@ -41,12 +41,12 @@ module _ (allows : List ToClient → ToClient → Type 0) (limit : ℕ) (before 
     taken : after' ≡ before ++ (u.items ++ item ∷ [])
     taken = e ∙ ap (λ (a : List ToClient). a ++ item ∷ []) u.are_taken ∙ append_assoc before u.items (item ∷ [])
 
-    -- its protocol allows it behind the others
+    -- its protocol allows it after the others
     allowed : Allowed allows before (u.items ++ item ∷ [])
     allowed = allowed_more allows before u.items item u.are_allowed
         (subst (λ (a : List ToClient). allows a item) u.are_taken one)
 
-    -- its frame waits behind the others
+    -- its frame waits after the others
     goes_on : (new' : List ℕ) → goes limit item ≡ true → new' ≡ new ++ frame_of item → Gathered allows limit before after' old new'
     goes_on new' go w = record {
       items = u.items ++ item ∷ [];

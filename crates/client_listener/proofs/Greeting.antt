@@ -1,4 +1,4 @@
--- A client is greeted where its handshake was read, and then answered.
+-- A client is greeted when its handshake was read, and then answered.
 use Rattle.std.proofs.Common.{◌≡◌, ℕ, Bool, List, length, Option, Result, Ok, Err, refl, sym, subst}
 use Rattle.std.specs.Io.KnownBytes.{Consumes}
 use Rattle.wamp_rawsocket.specs.declared.handshake_answer.Answer.{Answer}

@@ -17,15 +17,15 @@ use Rattle.client_listener.specs.Reading.{items_of, put_of, left_of, IsFaulty}
 use Rattle.client_listener.specs.Inlet.{is_broken, Inflow, IsFront, PutsOn}
 use Rattle.client_listener.proofs.Putting.{never_taken, other_fault}
 
--- ---- what stands behind a stream's frames
+-- ---- what comes after a stream's frames
 
--- where a stream is not broken, more may come
+-- if a stream is not broken, more may come
 not_broken : (frames : Frames) → is_broken frames ≡ false → end_of frames ≡ partial
 not_broken ended e = refl
 not_broken (broken shown) e = absurd cc
 not_broken (frame kind payload others) e = not_broken others e
 
--- where it is, a fault stands there
+-- if it is, there is a fault
 is_faulty : (frames : Frames) → is_broken frames ≡ true → IsFaulty (end_of frames)
 is_faulty ended e = absurd cc
 is_faulty (broken shown) e = tt
@@ -63,7 +63,7 @@ stays read before after old new n h u = record {
   stands = λ more. u.stands more ∙ ap (λ (o : Option (List ℕ)). is_broken (left_of o more)) (sym h);
 }
 
--- ---- where nothing waits for room
+-- ---- if nothing waits for room
 
 module _ (read : List ℕ) (before after : List FromClient) (old : Pending) (none : old.next ≡ None) (u : Inflow read before after old) where
   -- what was put is all in the ring
@@ -74,7 +74,7 @@ module _ (read : List ℕ) (before after : List FromClient) (old : Pending) (non
   due_now : (rest : Frames) → left_of old.held [] ≡ rest → put_of read ≡ u.put ++ items_of rest
   due_now rest e = ap put_of (sym (append-nil read)) ∙ u.is_due [] ∙ ap (λ (l : Frames). u.put ++ items_of l) e
 
-  -- and whether a fault stands behind it
+  -- and whether a fault comes after it
   stands_now : (rest : Frames) → left_of old.held [] ≡ rest → is_broken (frames_of read) ≡ is_broken rest
   stands_now rest e = ap (λ (o : List ℕ). is_broken (frames_of o)) (sym (append-nil read)) ∙ u.stands [] ∙ ap is_broken e
 
@@ -83,7 +83,7 @@ module _ (read : List ℕ) (before after : List FromClient) (old : Pending) (non
   hung_left rest e h = ap (λ (o : List FromClient). before ++ o) (due_now rest e ∙ ap (λ (o : List FromClient). u.put ++ o) h)
       ∙ sym (append_assoc before u.put (Hung ∷ [])) ∙ ap (λ (a : List FromClient). a ++ Hung ∷ []) (sym all_put)
 
-  -- memory ran out: what was put is a front
+  -- memory ran out: what was put is a prefix
   pub is_front : IsFront read before after
   is_front = record {
     put = u.put;
@@ -109,7 +109,7 @@ module _ (read : List ℕ) (before after : List FromClient) (old : Pending) (non
         stands = λ more. u.stands more ∙ ap is_broken (left more);
       }
 
-  -- the same, by what is held: no frame comes of a fault
+  -- a frame was cut off, by what is held: no frame comes of a fault
   cut_from : (f : Frame) (held : Option (List ℕ)) (new : Pending) → old.held ≡ held → Takes (Ok (Some f)) held new.held
       → new.next ≡ item_of f.kind f.payload → Inflow read before after new
   cut_from f None new h t n = absurd (never_taken (Ok (Some f)) (Some f) fault.Frame refl t)

@@ -50,7 +50,7 @@ pub waits_first : (start now : Option (List ℕ)) (before after : List FromClien
     → Underway start now before after (Some []) → Waits start now before after held
 waits_first start now before after held e u = rw e (u, frames_at_end [] refl)
 
--- what was read is held behind the rest
+-- what was read is held after the rest
 left_fed : (held new : Option (List ℕ)) (read more : List ℕ) → new ≡ option_map (λ octets. octets ++ read) held
     → left_of held (read ++ more) ≡ left_of new more
 left_fed None new read more e = rw e refl
@@ -117,7 +117,7 @@ no_frame start now before after (Some held) new t u = rw t.1 (u, ap frames_of (a
 abbrev pub OwesNothing : Result (Unit {0}) ListenFault → List FromClient → Type 0
 OwesNothing result last = (input : Option (List ℕ)) (octets : List ℕ) (rest : List FromClient) → EndsBut last result input octets rest
 
--- it is cut short, with so much read behind what was fed
+-- it is cut short, with these octets read after what was fed
 pub cut_off : (result : Result (Unit {0}) ListenFault) (start now later : Option (List ℕ)) (before after after' : List FromClient)
     (held : Option (List ℕ)) (read : List ℕ) → OwesNothing result (Hung ∷ [])
     → Underway start now before after held → Consumes now later read → after' ≡ after → Stops result start later before after'
@@ -186,7 +186,7 @@ at_end false start now later before after held new e f w =
       is_left = (refl, stands_now start now before after held ended u w.1, is_all start later u.octets read f.1);
     }
 
--- a read failed, or memory ran out behind it
+-- a read failed, or memory ran out after it
 pub fill_stops : (other : ListenFault) (start now later : Option (List ℕ)) (before after : List FromClient) (held new : Option (List ℕ))
     → Fills (Err other) now later held new
     → Waits start now before after held → Stops (Err other) start later before after

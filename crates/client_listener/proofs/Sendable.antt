@@ -31,7 +31,7 @@ use Rattle.wamp_message_types.specs.contracts.register.Unregister as unregister
 use Rattle.wamp_message_types.specs.contracts.register.Unregistered as unregistered
 use Rattle.wamp_message_types.specs.contracts.call.Call as call
 use Rattle.wamp_message_types.specs.contracts.call.Cancel as cancel
-use Rattle.wamp_message_types.specs.contracts.call.Reply as reply
+use Rattle.wamp_message_types.specs.contracts.call.CallResult as reply
 use Rattle.wamp_message_types.specs.contracts.call.Invocation as invocation
 use Rattle.wamp_message_types.specs.contracts.call.Interrupt as interrupt
 use Rattle.wamp_message_types.specs.contracts.call.Yield as yield

@@ -107,7 +107,7 @@ module _ (allows : List ToClient → ToClient → Type 0) where
     allowed : Allowed allows before (u.took ++ item ∷ [])
     allowed = allowed_more before u.took item u.are_allowed (subst (λ (a : List ToClient). allows a item) u.are_taken one)
 
-    -- its frame waits behind the others
+    -- its frame waits after the others
     goes_on : (waiting' : List ℕ) → goes limit item ≡ true → waiting' ≡ waiting ++ frame_of item
         → Underway allows limit before after' old now waiting'
     goes_on waiting' go w = record {
@@ -142,7 +142,7 @@ module _ (allows : List ToClient → ToClient → Type 0) where
     pub write_failed : (later : Option (List ℕ)) → Takes allows limit (Err fault.Write) before after' old later
     write_failed later = takes (Err fault.Write) later tt
 
-    -- its frame was put behind the others, and few octets wait
+    -- its frame was put after the others, and few octets wait
     pub heard_on : (outcome : Result Bool ListenFault) (waiting' : List ℕ) → outcome ≡ Ok true → Hears limit item outcome waiting waiting'
         → Underway allows limit before after' old now waiting'
     heard_on outcome waiting' on h =

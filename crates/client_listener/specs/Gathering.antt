@@ -18,7 +18,7 @@ StopsBy limit (Err fault.Wide) rest = (item : ToClient) × (rest ≡ item ∷ []
 StopsBy limit (Err fault.Memory) rest = (item : ToClient) × (rest ≡ item ∷ [])
 StopsBy limit (Err other) rest = ⊥
 
--- these items were taken out of a ring, each as its protocol allows; the frames of all but a rest were put behind the octets that waited
+-- these items were taken out of a ring, each as its protocol allows; the frames of all but a rest were put after the octets that waited
 pub record Gathers (allows : List ToClient → ToClient → Type 0) (limit : ℕ) (result : Result Bool ListenFault)
     (before after : List ToClient) (old new : List ℕ) : Type 0 where
   pub items : List ToClient

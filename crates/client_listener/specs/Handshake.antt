@@ -42,7 +42,7 @@ module _ {W : Type 0} (contents : W → Option (List ℕ)) (answer : Answer) (ol
     refuses : (octets : List ℕ) → answer ≡ Refuse octets → Appends (contents old) (contents new) octets → TurnsAway
     hangs : answer ≡ Hang → new ≡ old → TurnsAway
 
-  -- the terms were told and hold, or the client was turned away, or the writer failed
+  -- the terms were written and hold, or the client was turned away, or the writer failed
   abbrev pub Answers : Result ℕ ListenFault → Type 0
   Answers (Ok limit) = (octets : List ℕ) × (answer ≡ Terms limit octets) × Appends (contents old) (contents new) octets
   Answers (Err Handshake) = TurnsAway
@@ -50,7 +50,7 @@ module _ {W : Type 0} (contents : W → Option (List ℕ)) (answer : Answer) (ol
   Answers (Err fault) = ⊥
 
 -- A stream is one value with what is left to be read of it and what was written to it. What a write does to the one and a read
--- to the other is the stream's own affair, so clauses name the state in which it was read and not yet written.
+-- to the other depends on the stream, so clauses name the state in which it was read and not yet written.
 module _ {S : Type 0} (remaining contents : S → Option (List ℕ)) (room : Bool) (old new : S) where
   -- four octets were read up to this state, and this is the answer to them
   pub record Asked (answer : Answer) (read : S) : Type 0 where

@@ -15,7 +15,7 @@ is_broken ended = false
 is_broken (broken shown) = true
 is_broken (frame kind payload others) = is_broken others
 
--- of what is due for these octets so much is in the ring or waits for room, and what is held is what remains, whatever octets come
+-- of what is due for these octets a part is in the ring or waits for room, and what is held is what remains, whatever octets come
 pub record Inflow (read : List ℕ) (before after : List FromClient) (pending : Pending) : Type 0 where
   pub put : List FromClient
   pub are_put : after ++ option_to_list pending.next ≡ before ++ put
@@ -27,7 +27,7 @@ abbrev pub IsPut : List ℕ → List FromClient → List FromClient → Pending 
 IsPut read before after pending = Inflow read before after pending × (pending.next ≡ None)
     × (before ++ put_of read ≡ after ++ Hung ∷ [])
 
--- what was put is a front of what is due for these octets
+-- what was put is a prefix of what is due for these octets
 pub record IsFront (read : List ℕ) (before after : List FromClient) : Type 0 where
   pub put : List FromClient
   pub are_put : after ≡ before ++ put

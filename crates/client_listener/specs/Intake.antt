@@ -29,12 +29,12 @@ abbrev pub held_len : Option (List ℕ) → ℕ
 held_len None = 0
 held_len (Some held) = length held
 
--- these octets are held behind the others, or memory ran out
+-- these octets are held after the others, or memory ran out
 abbrev pub Feeds : Result Bool ListenFault → List ℕ → Option (List ℕ) → Option (List ℕ) → Type 0
 Feeds (Ok more) octets old new = (more ≡ true) × (new ≡ option_map (λ held. held ++ octets) old)
 Feeds (Err other) octets old new = other ≡ fault.Memory
 
--- what was read is held behind the others; or the reader ended, or a read failed, or memory ran out
+-- what was read is held after the others; or the reader ended, or a read failed, or memory ran out
 abbrev pub Fills : Result Bool ListenFault → Option (List ℕ) → Option (List ℕ) → Option (List ℕ) → Option (List ℕ) → Type 0
 Fills (Ok true) left later old new = (octets : List ℕ) × Consumes left later octets × (new ≡ option_map (λ held. held ++ octets) old)
 Fills (Ok false) left later old new = Consumes left later [] × IsAtEnd later × (new ≡ old)

@@ -34,14 +34,14 @@ goes limit Close = false
 
 -- ---- the frames that wait to be written
 
--- a frame was put behind the others, or it is too wide, or memory ran out
+-- a frame was put after the others, or it is too wide, or memory ran out
 abbrev pub Frames : ℕ → FrameKind → List ℕ → Result (Unit {0}) ListenFault → List ℕ → List ℕ → Type 0
 Frames limit kind payload (Ok x) old new = (is_over limit payload ≡ false) × (new ≡ old ++ frame_octets kind payload)
 Frames limit kind payload (Err fault.Wide) old new = (is_over limit payload ≡ true) × (new ≡ old)
 Frames limit kind payload (Err fault.Memory) old new = new ≡ old
 Frames limit kind payload (Err other) old new = ⊥
 
--- an item's frame was put behind the others, or it closes the transport, is too wide, or memory ran out
+-- an item's frame was put after the others, or it closes the transport, is too wide, or memory ran out
 abbrev pub Hears : ℕ → ToClient → Result Bool ListenFault → List ℕ → List ℕ → Type 0
 Hears limit item (Ok true) old new = (goes limit item ≡ true) × (new ≡ old ++ frame_of item)
 Hears limit item (Ok false) old new = (item ≡ Close) × (new ≡ old)

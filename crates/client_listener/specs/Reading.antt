@@ -1,4 +1,4 @@
--- What is put into a node's ring for the octets that a client sends behind its handshake (WAMP specification, "RawSocket
+-- What is put into a node's ring for the octets that a client sends after its handshake (WAMP specification, "RawSocket
 -- Transport").
 use Rattle.std.specs.Prelude.{◌≡◌, ℕ, Bool, true, false, List, [], ◌∷◌, ◌++◌, Option, None, Some, Result, Ok, Err, IfSome}
 use Rattle.std.specs.Option.{option_to_list}
@@ -25,13 +25,13 @@ items_of (frame kind payload others) = option_to_list (item_of kind payload) ++ 
 abbrev pub put_of : List ℕ → List FromClient
 put_of octets = Connect ∷ items_of (frames_of octets)
 
--- a fault stands here
+-- here is a fault
 abbrev pub IsFaulty : Front → Type 0
 IsFaulty partial = ⊥
 IsFaulty (whole kind payload rest) = ⊥
 IsFaulty (faulty shown) = Unit {0}
 
--- these octets are all that a reader had, where it tells what it has
+-- these octets are all that a reader had, if it says what it has
 abbrev pub IsAll : Option (List ℕ) → List ℕ → Type 0
 IsAll None octets = Unit {0}
 IsAll (Some input) octets = input ≡ octets
@@ -56,17 +56,17 @@ pub record PutsAllBut (last : List FromClient) (result : Result (Unit {0}) Liste
   pub is_due : put_of octets ≡ put ++ rest
   pub is_left : EndsBut last result old octets rest
 
--- all was put at the reader's end, at a fault of the frames and at a failed read; else a front of it
+-- all was put at the reader's end, at a fault of the frames and at a failed read; else a prefix of it
 abbrev pub Puts : Result (Unit {0}) ListenFault → Option (List ℕ) → Option (List ℕ) → List FromClient → List FromClient → Type 0
 Puts result old new before after = PutsAllBut [] result old new before after
 
--- the same, where what finished tells all that was put into the ring
+-- it ended so, and what finished shows all that was put into the ring
 abbrev pub Finishes : Result (Unit {0}) ListenFault → Option (List ℕ) → Option (List ℕ) → List FromClient
     → Option (Finished FromClient Global AnyItems) → Type 0
 Finishes result old new before finished = (after : List FromClient) × Puts result old new before after
     × IfSome finished (λ f. all_sent f ≡ after)
 
--- ---- How the reading stands between its steps. This is for private clauses.
+-- ---- The state of the reading between its steps. This is for private clauses.
 
 -- the item was put, or the turns are spent
 abbrev pub Adds : {T : Type 0} → Result (Unit {0}) ListenFault → T → List T → List T → ℕ → Type 0
@@ -78,7 +78,7 @@ abbrev pub left_of : Option (List ℕ) → List ℕ → Frames
 left_of None more = broken Failed
 left_of (Some held) more = frames_of (held ++ more)
 
--- so much was read and put; what is held is what remains of it, whatever octets come
+-- this much was read and put; what is held is what remains of it, whatever octets come
 pub record Underway (start now : Option (List ℕ)) (before after : List FromClient) (held : Option (List ℕ)) : Type 0 where
   pub octets : List ℕ
   pub are_read : Consumes start now octets
@@ -91,7 +91,7 @@ pub record Underway (start now : Option (List ℕ)) (before after : List FromCli
 abbrev pub Waits : Option (List ℕ) → Option (List ℕ) → List FromClient → List FromClient → Option (List ℕ) → Type 0
 Waits start now before after held = Underway start now before after held × (left_of held [] ≡ ended)
 
--- nothing more is put behind this outcome
+-- nothing more is put after this outcome
 abbrev pub is_cut_short : Result (Unit {0}) ListenFault → Bool
 is_cut_short (Err fault.Turns) = true
 is_cut_short (Err fault.Memory) = true

@@ -9,7 +9,7 @@ use Rattle.client_listener.specs.declared.items.ToClient.{ToClient}
 use Rattle.client_listener.specs.declared.items.ToClient.TheVariants.{Close}
 use Rattle.client_listener.specs.Outbox.{frame_of, is_wide, goes}
 
--- the frames of these items, one behind another
+-- the frames of these items, one after another
 abbrev pub written_of : List ToClient → List ℕ
 written_of [] = []
 written_of (item ∷ items) = frame_of item ++ written_of items
@@ -32,7 +32,7 @@ pub record Sends (limit : ℕ) (result : Result (Unit {0}) ListenFault) (took : 
   pub are_all : took ≡ items ++ rest
   pub is_left : EndsBy limit result rest
 
--- the same, but that nothing is known of what was written where a write failed
+-- the frames of the first were written, and then it ended; nothing is known of what was written if a write failed
 abbrev pub Written : ℕ → Result (Unit {0}) ListenFault → List ToClient → Option (List ℕ) → Option (List ℕ) → Type 0
 Written limit (Ok x) took old new = Sends limit (Ok x) took old new
 Written limit (Err fault.Write) took old new = Unit {0}
@@ -46,14 +46,14 @@ pub record Takes (allows : List ToClient → ToClient → Type 0) (limit : ℕ) 
   pub are_allowed : Allowed allows before took
   pub are_written : Written limit result took old new
 
--- the same, where the ring's end is gone then
+-- these items were taken and written so, and the ring's end is gone then
 abbrev pub Sent : (List ToClient → ToClient → Type 0) → ℕ → Result (Unit {0}) ListenFault → List ToClient → Option (List ℕ)
     → Option (List ℕ) → Type 0
 Sent allows limit result before old new = (after : List ToClient) × Takes allows limit result before after old new
 
--- ---- How the writing stands between its steps. This is for private clauses.
+-- ---- The state of the writing between its steps. This is for private clauses.
 
--- so much was taken and written, and the frames that wait are the rest of it
+-- this much was taken and written, and the frames that wait are the rest of it
 pub record Underway (allows : List ToClient → ToClient → Type 0) (limit : ℕ) (before after : List ToClient)
     (old now : Option (List ℕ)) (waiting : List ℕ) : Type 0 where
   pub took : List ToClient

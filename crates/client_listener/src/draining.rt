@@ -6,10 +6,10 @@ use crate::items::FromClient;
 use rtrb::{Consumer, Finished};
 use std::alloc::Global;
 
-/// What is left in a client's ring once its reader has finished, oldest first. What was taken out of the ring before, followed by this, is
-/// what the reader put, in order, each item once; the ring is empty then.
+/// Takes what is left in a client's ring once its reader has finished, oldest first. What was taken out of the ring before, followed by this,
+/// is what the reader put, in order, each item once; the ring is empty then.
 ///
-/// `Memory`, with the `Finished` handed back, where there was none for so many items: nothing was taken, and it may be tried again.
+/// `Memory`, with the `Finished` handed back, if memory for the items ran out: nothing was taken, and it may be tried again.
 pub fn drain(
     alloc: Global,
     consumer: &mut Consumer<FromClient>,
@@ -29,7 +29,7 @@ pub fn drain(
     }
 }
 
-// The same, of items of any type.
+// Takes what is left of items of any type.
 fn take_all<T: Drop>(
     alloc: Global,
     consumer: &mut Consumer<T>,

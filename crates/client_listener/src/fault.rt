@@ -25,7 +25,7 @@ pub enum ListenFault {
 }
 
 impl ListenFault {
-    /// The fault's number: 81 to 87, in the order of the variants.
+    /// Returns the fault's number: 81 to 87, in the order of the variants.
     pub fn number(self) -> u8
         ensures { result ≡ number_of self }
     {

@@ -9,8 +9,8 @@ use wamp_rawsocket::{Answer, answer};
 /// Reads a client's handshake from a stream and answers it, with the longest payload that the client takes as the result.
 /// `room` says whether one more client is taken on.
 ///
-/// Nothing behind the handshake's four octets is read; the answer is written and flushed. `Handshake` where it was refused,
-/// not answered at all or cut short, `Read` or `Write` where the stream failed. It takes no memory.
+/// Nothing after the handshake's four octets is read; the answer is written and flushed. `Handshake` if it was refused, not
+/// answered at all or cut short, `Read` or `Write` if the stream failed. It does not allocate.
 /// (WAMP specification, "RawSocket Transport", "Handshake".)
 pub fn greet<S: Read + Write>(stream: &mut S, room: bool) -> Result<u32, ListenFault>
     ensures { Greets S.remaining S.contents room stream.old stream.new result }
@@ -19,9 +19,9 @@ pub fn greet<S: Read + Write>(stream: &mut S, room: bool) -> Result<u32, ListenF
     answer_handshake(stream, octets, room)
 }
 
-/// The four octets of a client's handshake. Nothing behind them is read.
+/// Reads the four octets of a client's handshake, and nothing after them.
 ///
-/// `Handshake` where the reader ends before the fourth, `Read` where it failed. It takes no memory.
+/// `Handshake` if the reader ends before the fourth, `Read` if it failed. It does not allocate.
 pub fn read_handshake<R: Read>(reader: &mut R) -> Result<[u8; 4], ListenFault>
     ensures { ReadsHandshake result (R.remaining reader.old) (R.remaining reader.new) }
 {
@@ -38,7 +38,7 @@ pub fn read_handshake<R: Read>(reader: &mut R) -> Result<[u8; 4], ListenFault>
 /// Writes the answer to the four octets of a client's handshake, and flushes the writer. The result is the longest payload
 /// that the client takes. `room` says whether one more client is taken on.
 ///
-/// `Handshake` where it was refused, or not answered at all, `Write` where the writer failed. It takes no memory.
+/// `Handshake` if it was refused, or not answered at all, `Write` if the writer failed. It does not allocate.
 /// (WAMP specification, "RawSocket Transport", "Handshake".)
 pub fn answer_handshake<W: Write>(
     writer: &mut W,
@@ -60,7 +60,7 @@ pub fn answer_handshake<W: Write>(
     }
 }
 
-// The reader's next octet, or `None` at its end.
+// Reads the next octet. `None` at the reader's end.
 fn read_octet<R: Read>(reader: &mut R) -> Result<Option<u8>, ListenFault>
     ensures { GivesOctet result (R.remaining reader.old) (R.remaining reader.new) }
 {
@@ -72,7 +72,7 @@ fn read_octet<R: Read>(reader: &mut R) -> Result<Option<u8>, ListenFault>
     }
 }
 
-// Writes these octets, and flushes the writer. `Write` where it failed.
+// Writes these octets, and flushes the writer. `Write` if it failed.
 pub(crate) fn write_out<W: Write>(writer: &mut W, octets: &[u8]) -> Result<(), ListenFault>
     ensures { Writes result octets.now (W.contents writer.old) (W.contents writer.new) }
 {

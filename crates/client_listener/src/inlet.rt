@@ -19,7 +19,8 @@ use wamp_rawsocket::Splitter;
 /// What a client has sent that is not in its node's ring yet, for a thread that serves many clients and waits for none of them:
 /// octets that are no whole frame, and an item that found the ring full. A clause sees both.
 ///
-/// Whatever is fed and put in whatever order, what is put are the items of [`put_transport`](crate::put_transport), each once and in order.
+/// In whatever order octets are fed and items are put, what is put are the items of [`put_transport`](crate::put_transport), each once and in
+/// order.
 pub struct Inlet {
     splitter: Splitter,
     // What is put next.
@@ -48,7 +49,7 @@ impl Model for Inlet {
 }
 
 impl Inlet {
-    /// Nothing was read; `Connect` is put first. It takes no memory.
+    /// Makes an inlet that has read nothing; `Connect` is put first. It does not allocate.
     pub fn new(alloc: Global) -> Inlet
         ensures { (before : List FromClient) → Inflow [] before before result }
     {
@@ -58,8 +59,8 @@ impl Inlet {
         }
     }
 
-    /// Holds octets that were read behind the others, at the cost of a copy. `Memory`, also behind a `Frame` of [`Inlet::put`]: nothing
-    /// more is read then.
+    /// Holds octets that were read after the others, at the cost of a copy. `Memory`, also after a `Frame` of [`Inlet::put`]: nothing more is
+    /// read then.
     pub fn feed(&mut self, octets: &[u8]) -> Result<(), ListenFault>
         ensures fed { OnOk result ((read : List ℕ) (before after : List FromClient)
             → Inflow read before after self.old → Inflow (read ++ octets.now) before after self.new) }
@@ -71,10 +72,10 @@ impl Inlet {
         }
     }
 
-    /// Puts the items of all whole frames into a ring, as far as it has room. Answers whether all are put.
+    /// Puts the items of all whole frames into a ring, as far as it has room. Returns whether all are put.
     ///
-    /// `Frame` for what is no frame: the items of all frames before it are put. `Memory`: what was put is a front of what is due, and the
-    /// inlet is of no use then. It costs what its items cost, and takes the memory of one message at a time.
+    /// `Frame` for what is no frame: the items of all frames before it are put. `Memory`: what was put is a prefix of what is due, and the
+    /// inlet is of no use then. It costs what its items cost, and allocates for one message at a time.
     /// (WAMP specification, "RawSocket Transport".)
     pub fn put(
         &mut self,
@@ -97,7 +98,7 @@ impl Inlet {
         }
     }
 
-    /// Puts `Hung`, for a client of whom nothing more comes, once all is put; all that is due is put then. Answers whether the ring had
+    /// Puts `Hung`, for a client from which nothing more comes, once all is put; all that is due is put then. Returns whether the ring had
     /// room.
     pub fn hang(&self, producer: &mut Producer<FromClient>) -> bool
         ensures all { (read : List ℕ) (before : List FromClient)
@@ -111,7 +112,7 @@ impl Inlet {
         done
     }
 
-    // Takes the next whole frame, so that its item is put next. Answers whether one was there.
+    // Takes the next whole frame, so that its item is put next. Returns whether there was one.
     fn cut(&mut self, parser: &mut Parser) -> Result<bool, ListenFault>
         ensures cuts { (read : List ℕ) (before after : List FromClient)
             → self.old.next ≡ None → Inflow read before after self.old → CutsOn result read before after self.new }
@@ -126,8 +127,8 @@ impl Inlet {
     }
 }
 
-// Puts an item that waits, if one does and the ring has room. Answers whether none waits any more. It speaks of any item, so that no way
-// out drops one of many variants.
+// Puts an item that waits, if one does and the ring has room. Returns whether none waits any more. It is generic in the item, so that no exit
+// drops one of many variants.
 fn push<T: Drop>(waiting: &mut Option<T>, producer: &mut Producer<T>) -> bool
     ensures none { OnTrue result (waiting.new ≡ None) }
     ensures full { result ≡ false → (waiting.new ≡ waiting.old) × (sent producer.new ≡ sent producer.old) }

@@ -10,7 +10,7 @@ use std::marker::Model;
 use wamp_messages::{Parser, read_by};
 use wamp_rawsocket::{Frame, FrameFault, FrameKind, Splitter};
 
-/// How many octets one read takes at the most. The room of a read is cleared before it, so more of it would cost each small message.
+// The most octets of one read. The room of a read is cleared before it, so more of it would cost each small message.
 const CHUNK: usize = 1 << 14;
 
 // What a client's octets are read into, and cut into frames. A clause sees what the splitter holds.
@@ -45,7 +45,7 @@ impl Intake {
         })
     }
 
-    // Reads once. Answers whether the reader gave anything, or ended.
+    // Reads once. Returns whether the reader gave octets; it ended if not.
     pub fn fill<R: Read>(&mut self, reader: &mut R) -> Result<bool, ListenFault>
         ensures { Fills result (R.remaining reader.old) (R.remaining reader.new) self.old self.new }
     {
@@ -57,14 +57,14 @@ impl Intake {
         }
     }
 
-    // The next whole frame, if one is there.
+    // Takes the next whole frame. `None` if no whole one is held.
     pub fn next(&mut self) -> Result<Option<Frame>, ListenFault>
         ensures { Takes result self.old self.new }
     {
         next_frame(&mut self.splitter)
     }
 
-    // The item that is put for a frame, if one is.
+    // Makes the item that is put for a frame. `None` if none is.
     pub fn item(&mut self, frame: Frame) -> Result<Option<FromClient>, ListenFault>
         ensures item { Makes result (item_of frame.kind frame.payload) }
         ensures same { self.new ≡ self.old }
@@ -83,7 +83,7 @@ pub(crate) fn feed(splitter: &mut Splitter, octets: &[u8]) -> Result<bool, Liste
     }
 }
 
-// The next whole frame that a splitter holds, if one is there.
+// Takes the next whole frame that a splitter holds. `None` if it holds no whole one.
 pub(crate) fn next_frame(splitter: &mut Splitter) -> Result<Option<Frame>, ListenFault>
     ensures takes { Takes result splitter.old splitter.new }
     ensures spoils { result ≡ Err ListenFault.Frame → splitter.new ≡ None }
@@ -95,7 +95,7 @@ pub(crate) fn next_frame(splitter: &mut Splitter) -> Result<Option<Frame>, Liste
     }
 }
 
-// The item that is put for a frame, if one is.
+// Makes the item that is put for a frame. `None` if none is.
 pub(crate) fn item_for(parser: &mut Parser, frame: Frame) -> Result<Option<FromClient>, ListenFault>
     ensures { Makes result (item_of frame.kind frame.payload) }
 {

@@ -1,5 +1,10 @@
-//! What stands between a client's socket and a node's thread: the handshake, what the client sends as items of a ring, and
-//! what it is sent out of another.
+//! A client's connection between its socket and a node's thread: the handshake, what the client sends as items of one ring, and what it is sent
+//! out of another.
+//!
+//! A thread that serves many clients and may wait for none of them uses [`Inlet`] and [`Outbox`], with [`read_handshake`] and
+//! [`answer_handshake`]: so does the program. For a thread that has one client on a blocking stream there are [`greet`], [`read_transport`] or
+//! [`put_transport`], [`write_transport`] or [`take_transport`], and [`drain`]; the program does not call these. Both ways cut octets into
+//! frames, and make items and frames of these, by the same functions; what they put and write for the same octets and items is the same.
 #![tactic(auto)]
 
 mod draining;

@@ -17,10 +17,10 @@ use std::marker::Model;
 use wamp_messages::{Message, write_into};
 use wamp_rawsocket::{FrameFault, FrameKind, append_frame};
 
-/// How many octets of frames may wait while further items are taken.
+// The most octets of frames that may wait while further items are taken.
 const FULL: usize = 1 << 16;
 
-/// How many items are gathered at a time at the most.
+// The most items that are gathered at a time.
 const MOST_GATHERED: u32 = 1 << 16;
 
 /// The frames that wait to be written to one client. A clause sees the longest payload that the client takes, and the octets
@@ -51,7 +51,7 @@ impl Model for Outbox {
 }
 
 impl Outbox {
-    /// No frames, for a client that takes payloads of up to `limit` octets. It takes no memory.
+    /// Makes an outbox without frames, for a client that takes payloads of up to `limit` octets. It does not allocate.
     pub fn new(alloc: Global, limit: u32) -> Outbox
         ensures { result ≡ record { limit = limit; octets = [] } }
     {
@@ -62,21 +62,21 @@ impl Outbox {
         }
     }
 
-    /// How many octets wait to be written.
+    /// Returns how many octets wait to be written.
     pub fn len(&self) -> usize
         ensures { result ≡ length self.now.octets }
     {
         self.frames.len()
     }
 
-    // Whether further items may be taken before the frames are written: the transport stays open, and few octets wait.
+    // Returns whether further items may be taken before the frames are written: the transport stays open, and few octets wait.
     pub(crate) fn may_wait(&self, heard: &Result<bool, ListenFault>) -> bool
         ensures { OnTrue result (heard.now ≡ Ok true) }
     {
         matches!(heard, Ok(true)) && self.frames.len() <= FULL
     }
 
-    // Puts the frame of an item behind the others. Answers whether the transport stays open.
+    // Puts the frame of an item after the others. Returns whether the transport stays open.
     pub(crate) fn hear(&mut self, item: &ToClient) -> Result<bool, ListenFault>
         ensures hears { Hears self.old.limit item.now result self.old.octets self.new.octets }
         ensures limit { self.new.limit ≡ self.old.limit }
@@ -94,9 +94,9 @@ impl Outbox {
         }
     }
 
-    /// Puts a frame behind the others.
+    /// Puts a frame after the others.
     ///
-    /// `Wide` where its payload is longer than the client takes, and `Memory`; nothing is put then. The payload is copied once.
+    /// `Wide` if its payload is longer than the client takes, and `Memory`; nothing is put then. The payload is copied once.
     /// (WAMP specification, "RawSocket Transport", "Framing".)
     pub fn put(&mut self, kind: FrameKind, payload: &[u8]) -> Result<(), ListenFault>
         ensures frames { Frames self.old.limit kind payload.now result self.old.octets self.new.octets }
@@ -105,7 +105,7 @@ impl Outbox {
         append(&mut self.frames, kind, payload, self.limit)
     }
 
-    /// Puts the frame of a message behind the others, with the faults of [`Outbox::put`]. The message is written once, into memory
+    /// Puts the frame of a message after the others, with the faults of [`Outbox::put`]. The message is written once, into memory
     /// that is kept, and copied once.
     pub fn send(&mut self, message: &Message) -> Result<(), ListenFault>
         ensures frames { Frames self.old.limit FrameKind.Message (text_of message.now) result self.old.octets self.new.octets }
@@ -121,8 +121,8 @@ impl Outbox {
         )
     }
 
-    /// Takes items out of a ring, as far as some are at hand, and puts their frames behind the others, up to one behind which more than
-    /// 64 KiB wait. Answers whether the transport stays open; it does not once a `Close` is taken.
+    /// Takes items out of a ring, as far as some are at hand, and puts their frames after the others, up to one after which more than 64 KiB
+    /// wait. Returns whether the transport stays open; it does not once a `Close` is taken.
     ///
     /// `Wide` at a message or PONG that is longer than the client takes, and `Memory`: what was taken before waits. It waits for nothing,
     /// and takes at most 2^16 items. (WAMP specification, "RawSocket Transport", "Framing".)
@@ -149,7 +149,7 @@ impl Outbox {
     }
 
     /// Writes once what waits, if anything does, and drops what was written. An error leaves all as it was. What the writer left is moved
-    /// to the front, 64 KiB at the most behind frames that [`Outbox::gather`] put.
+    /// to the front, 64 KiB at the most after frames that [`Outbox::gather`] put.
     pub fn write_some<W: Write>(&mut self, writer: &mut W) -> io::Result<()>
         ensures wrote { OnOk result ((written : List ℕ) × (self.old.octets ≡ written ++ self.new.octets)
             × Appends (W.contents writer.old) (W.contents writer.new) written) }
@@ -168,7 +168,7 @@ impl Outbox {
         Ok(())
     }
 
-    /// Writes all that waits, and flushes the writer, also where nothing waits. `Write` where the writer failed.
+    /// Writes all that waits, and flushes the writer, also if nothing waits. `Write` if the writer failed.
     pub fn write_to<W: Write>(&mut self, writer: &mut W) -> Result<(), ListenFault>
         ensures empties { Empties result self.old.octets self.new.octets (W.contents writer.old) (W.contents writer.new) }
         ensures err { OnErr result (self.new ≡ self.old) }

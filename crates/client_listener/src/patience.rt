@@ -1,13 +1,13 @@
 use std::thread;
 use std::time::{Clock, Duration};
 
-/// How often a thread only looks again: a reader or writer that rests when it is asked to read or flush for nothing is asked by then.
+// How often a thread only looks again: a reader or writer that rests when it is asked to read or flush for nothing is asked by then.
 const LOOKS: u32 = 3;
 
-/// How often it only gives way, behind that, before it begins to sleep.
+// How often it only gives way after that, before it begins to sleep.
 const YIELDS: u32 = 64;
 
-/// How long it sleeps first, and at the most, in microseconds.
+// How long it sleeps first, and at the most, in microseconds.
 const FIRST_PAUSE: u64 = 50;
 
 const LONGEST_PAUSE: u64 = 1000;
@@ -21,7 +21,7 @@ pub(crate) struct Patience {
 }
 
 impl Patience {
-    // As before the first vain try.
+    // The patience of a thread before its first vain try.
     pub fn new() -> Patience {
         Patience {
             looks: LOOKS,
@@ -30,7 +30,7 @@ impl Patience {
         }
     }
 
-    // Waits behind a vain try.
+    // Waits after a vain try.
     pub fn wait(&mut self, clock: &impl Clock) {
         if self.looks > 0 {
             self.looks -= 1;

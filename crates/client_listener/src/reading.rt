@@ -17,8 +17,8 @@ use std::alloc::Global;
 use std::io::Read;
 use std::time::Clock;
 
-/// Puts what a client sends behind its handshake into a ring, as [`put_transport`] does, and answers beside the outcome what
-/// shows all that was put, or `None` if the ring's other end was dropped.
+/// Puts what a client sends after its handshake into a ring, as [`put_transport`] does. Returns the outcome, and what shows all that was put,
+/// or `None` if the ring's other end was dropped.
 pub fn read_transport<R: Read>(
     clock: &impl Clock,
     alloc: Global,
@@ -36,15 +36,15 @@ pub fn read_transport<R: Read>(
     (outcome, producer.finish())
 }
 
-/// Puts what a client sends behind its handshake into a ring: `Connect`, an item for each frame (none for a PONG), and `Hung`.
+/// Puts what a client sends after its handshake into a ring: `Connect`, an item for each frame (none for a PONG), and `Hung`.
 ///
 /// `Ok` at the reader's end alone; `Frame` for what is no frame, and `Read` for a read that failed: all is put then, `Hung`
-/// last. `Turns` once the turns are spent, or where the ring is full and its other end was dropped, and `Memory`: what was put is then a
-/// front of that.
+/// last. `Turns` once the turns are spent, or if the ring is full and its other end was dropped, and `Memory`: what was put is then a prefix of
+/// that.
 ///
 /// A turn is one read of up to 16 KiB, or one try that finds the ring full; `turns` counts them down, and of more than 2^32
-/// only 2^32 are left. Behind a vain try the reader is asked to read no octets, and from the fourth in a row on the thread
-/// gives way or sleeps, for 1 ms at the most. The memory that is taken does not grow with the length of the stream.
+/// only 2^32 are left. After a vain try the reader is asked to read no octets, and from the fourth in a row on the thread
+/// gives way or sleeps, for 1 ms at the most. What is allocated does not grow with the length of the stream.
 /// (WAMP specification, "RawSocket Transport".)
 pub fn put_transport<R: Read>(
     clock: &impl Clock,
@@ -67,7 +67,7 @@ pub fn put_transport<R: Read>(
     outcome
 }
 
-// Whether nothing more is put behind this outcome.
+// Returns whether nothing more is put after this outcome.
 fn is_cut_short(outcome: &Result<(), ListenFault>) -> bool
     ensures { result ≡ is_cut_short outcome.now }
 {
@@ -98,7 +98,7 @@ fn put_frames<R: Read>(
     }
 }
 
-// Reads once, and puts an item for each frame that is whole then. Answers whether more may come.
+// Reads once, and puts an item for each frame that is whole then. Returns whether more may come.
 fn turn<R: Read>(
     clock: &impl Clock,
     intake: &mut Intake,
@@ -145,7 +145,7 @@ fn put_whole<R: Read>(
     }
 }
 
-// Puts the item of the next frame. Answers whether a whole one was there.
+// Puts the item of the next frame. Returns whether there was a whole one.
 fn put_next<R: Read>(
     clock: &impl Clock,
     intake: &mut Intake,
@@ -171,7 +171,7 @@ fn put_next<R: Read>(
     Ok(true)
 }
 
-// Puts an item, as soon as the ring has room for it. It speaks of any item, so that each way out drops one of a type without variants.
+// Puts an item, as soon as the ring has room for it. It is generic in the item, so that each exit drops one of a type without variants.
 fn put<T: Drop, R: Read>(
     clock: &impl Clock,
     reader: &mut R,
@@ -201,7 +201,7 @@ fn put<T: Drop, R: Read>(
     }
 }
 
-// Reads no octets, so that a reader hears of each vain try. What it answers is heard at the next read.
+// Reads no octets, so that a reader notices each vain try. What it returns shows at the next read.
 fn ask<R: Read>(reader: &mut R)
     ensures { Consumes (R.remaining reader.old) (R.remaining reader.new) [] }
 {

@@ -3,10 +3,10 @@ ghost use Rattle.client_listener.specs.Turns.{Spends};
 
 use crate::fault::ListenFault;
 
-/// How many turns there are at the most.
+/// The most turns of a call.
 pub(crate) const MOST_TURNS: u64 = 1 << 32;
 
-// One turn is spent, if one is left.
+// Spends one turn. `Turns` if none is left.
 pub(crate) fn spend(turns: &mut u64) -> Result<(), ListenFault>
     ensures { Spends result turns.old turns.new }
 {

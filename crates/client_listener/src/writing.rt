@@ -31,11 +31,11 @@ pub fn write_transport<W: Write, P: Protocol<ToClient>>(
 /// Takes items out of a ring and writes their frames, to a client that takes payloads of up to `limit` octets.
 ///
 /// `Ok` once it took `Close`. `Wide` at a message or PONG that is longer than the client takes, `Memory`, and `Turns` once the
-/// turns are spent: what was taken before is written then. `Write` where a write failed. Nothing is taken behind any of these.
+/// turns are spent: what was taken before is written then. `Write` if a write failed. Nothing is taken after any of these.
 ///
-/// The frames of all items at hand are written and flushed together, and earlier where they pass 64 KiB. A turn is one try
+/// The frames of all items at hand are written and flushed together, and earlier if they pass 64 KiB. A turn is one try
 /// that finds the ring empty; `turns` counts them down, and of more than 2^32 only 2^32 are left. At a vain try the writer is
-/// flushed, and from the fourth in a row on the thread gives way or sleeps, for 1 ms at the most. The memory that is taken
+/// flushed, and from the fourth in a row on the thread gives way or sleeps, for 1 ms at the most. What is allocated
 /// does not grow with the number of items. (WAMP specification, "RawSocket Transport".)
 pub fn take_transport<W: Write, P: Protocol<ToClient>>(
     clock: &impl Clock,
@@ -53,7 +53,7 @@ pub fn take_transport<W: Write, P: Protocol<ToClient>>(
     *turns = (*turns).min(MOST_TURNS);
     let mut outbox = Outbox::new(alloc, limit);
     let mut patience = Patience::new();
-    // There is no end to the items themselves; so many are never reached.
+    // The items themselves have no end; this number of steps is never reached.
     for _step in 0..u64::MAX {
         match take_next(clock, &mut outbox, consumer, writer, &mut patience, turns) {
             Ok(true) => {}
@@ -66,7 +66,7 @@ pub fn take_transport<W: Write, P: Protocol<ToClient>>(
     Err(ListenFault::Turns)
 }
 
-// Takes the next item, or waits for one. Answers whether the transport stays open.
+// Takes the next item, or waits for one. Returns whether the transport stays open.
 fn take_next<W: Write, P: Protocol<ToClient>>(
     clock: &impl Clock,
     outbox: &mut Outbox,
@@ -96,7 +96,7 @@ fn take_next<W: Write, P: Protocol<ToClient>>(
     heard
 }
 
-// Writes all that waits, and waits behind a vain try.
+// Writes all that waits, and waits after a vain try.
 fn pause<W: Write>(
     clock: &impl Clock,
     outbox: &mut Outbox,

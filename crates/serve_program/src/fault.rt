@@ -1,15 +1,104 @@
 ghost use Rattle.std.specs.Prelude.{◌≡◌};
+ghost use Rattle.serve_program.specs.Fault.{number_of};
 
+use node_actor::{ActorFault, KeeperFault};
 use std::alloc::{AllocError, AllocFailed};
 use thiserror::Error;
+
+/// Why a node ended before its cluster did, or was not begun.
+#[derive(Clone, Copy, Debug, PartialEq, Eq, Drop, Error)]
+pub enum NodeFault {
+    /// The node's store did not open, or has failed.
+    #[error("{0}")]
+    Store(KeeperFault),
+    /// A fault has ended the node before.
+    #[error("the actor has failed before")]
+    Failed,
+    /// No round is left for a new ballot.
+    #[error("no round is left for a new ballot")]
+    Rounds,
+    /// No more entries may be pending, or no number is left for an act.
+    #[error("no room for one more pending entry")]
+    Full,
+    /// Another entry was learned in a slot.
+    #[error("another entry was learned in the slot")]
+    Disagree,
+    /// The node has applied that it is lost in its present boot.
+    #[error("the node is lost in its present boot")]
+    Lost,
+    /// The node's word at the table has counted all events that it can.
+    #[error("the node has taken all events that its word counts")]
+    Worn,
+    /// The node is none of the cluster's members.
+    #[error("the node is none of the cluster's members")]
+    NoMember,
+    /// Memory ran out.
+    #[error("no memory for the node")]
+    Memory,
+}
+
+impl NodeFault {
+    /// Returns the fault's number: the store's 61 to 66, 51, 71 to 76 as those of an actor, and 77 for a node that is no member.
+    pub fn number(self) -> u8
+        ensures { result ≡ number_of self }
+    {
+        match self {
+            NodeFault::Store(fault) => fault.number(),
+            NodeFault::Failed => 71,
+            NodeFault::Rounds => 51,
+            NodeFault::Full => 74,
+            NodeFault::Disagree => 72,
+            NodeFault::Lost => 73,
+            NodeFault::Worn => 75,
+            NodeFault::NoMember => 77,
+            NodeFault::Memory => 76,
+        }
+    }
+}
+
+impl From<KeeperFault> for NodeFault {
+    ghost use Rattle.std.specs.Prelude.{◌≡◌};
+    ghost use Rattle.serve_program.specs.declared.fault.NodeFault.TheVariants.{Store};
+
+    ghost from_gives = { λ fault made. made ≡ Store fault };
+
+    fn from(fault: KeeperFault) -> NodeFault {
+        NodeFault::Store(fault)
+    }
+}
+
+// An actor's fault keeps its number; what it says is dropped.
+impl<Y: Drop> From<ActorFault<Y>> for NodeFault {
+    ghost use Rattle.std.specs.Prelude.{◌≡◌};
+    ghost use Rattle.actor_parts.specs.Fault as actor;
+    ghost use Rattle.serve_program.specs.Fault.{number_of};
+
+    ghost from_gives = { λ fault made. number_of made ≡ actor.number_of fault };
+
+    fn from(fault: ActorFault<Y>) -> NodeFault {
+        match fault {
+            ActorFault::Failed => NodeFault::Failed,
+            ActorFault::Rounds => NodeFault::Rounds,
+            ActorFault::Full => NodeFault::Full,
+            ActorFault::Keeper(fault) => NodeFault::Store(fault),
+            ActorFault::Disagree => NodeFault::Disagree,
+            ActorFault::LostHere(says) => {
+                drop(says);
+                NodeFault::Lost
+            }
+            ActorFault::Worn => NodeFault::Worn,
+            ActorFault::Memory => NodeFault::Memory,
+        }
+    }
+}
 
 /// Why a cluster ended before its input did.
 #[derive(Clone, Copy, Debug, PartialEq, Eq, Drop, Error)]
 pub enum ServeFault {
-    /// A node ended with the fault of this number: 61 where its database does not open, else its actor's.
+    /// A node ended, or was not begun, by this fault, which is not that memory ran out.
     #[error("node {node}: {fault}")]
-    Node { node: u8, fault: u8 },
-    /// There was no memory, or no thread could be made.
+    Node { node: u8, fault: NodeFault },
+    /// Memory ran out, or no thread could be made.
     #[error("memory")]
     Memory,
     /// A port cannot be listened on.

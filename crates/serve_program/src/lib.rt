@@ -1,11 +1,14 @@
-//! A cluster that clients connect to: each node on a thread of its own, with its store and its port (docs/ARCHITECTURE.md, "Threads").
+//! A cluster that clients connect to: each node on a thread, with its store and its port (docs/ARCHITECTURE.md, "Threads").
 #![tactic(auto)]
 
 mod fault;
+mod lives;
 mod serve;
+mod source;
 mod station;
+mod stores;
 
 pub use actor_run::Gate;
-pub use fault::ServeFault;
-pub use node_actor::Members;
+pub use fault::{NodeFault, ServeFault};
+pub use node_actor::{KeeperFault, Members};
 pub use serve::serve_run;

@@ -3,16 +3,16 @@ ghost use Rattle.std.specs.Prelude.{◌≡◌, All, IfOk, OnOk};
 ghost use Rattle.mail_table.specs.Seats.{Owns};
 ghost use Rattle.paxos_node.specs.declared.view.Opened.TheVariants.{Never};
 
-use crate::fault::ServeFault;
+use crate::fault::{NodeFault, ServeFault};
 use crate::station::{Runs, Site, Station};
+use crate::stores::{Stores, find_stray};
 use actor_run::Gate;
 use crossbeam_channel::{Receiver, Sender, bounded};
 use mail_table::{Mail, NodeSeat, Office, found};
-use node_actor::Members;
+use node_actor::{KeeperFault, Members};
 use realm_machine::Act;
 use rtrb::{Consumer, Producer, RingBuffer};
-use serve_connections::{Arrival, Door, Lobby, keep_door};
-use serve_stores::Stores;
+use serve_connections::{Arrival, Door, Lobby, run_porter};
 use std::alloc::Global;
 use std::io::{Eprint, ErrorKind, Read, Write};
 use std::net::{Ipv4Addr, Net, TcpListener, TcpStream};
@@ -22,10 +22,10 @@ use std::thread;
 use std::thread::Threads;
 use std::time::{Clock, Instant};
 
-// How many connections wait at most to be seen by their node.
+// The most connections that wait to be seen by their node.
 const ARRIVALS: usize = 64;
 
-// How many ends may wait: one of each node, and that of the input.
+// The most ends that wait: one of each node, and that of the input.
 const ENDS: usize = 8;
 
 // What ends a cluster, or a part of it.
@@ -33,8 +33,8 @@ const ENDS: usize = 8;
 enum End {
     // The input has ended.
     Input,
-    // A node has ended, by a fault with this number if there is one.
-    Node { node: u8, fault: Option<u8> },
+    // A node has ended, by this fault if there is one.
+    Node { node: u8, fault: Option<NodeFault> },
 }
 
 // What is to be served.
@@ -48,8 +48,8 @@ struct Plan<'a> {
 
 // ---- before the threads
 
-// Where each node is woken.
-fn lobbies_of(alloc: Global, members: Members) -> Result<Vec<Arc<Lobby>>, ServeFault> {
+// Makes the lobby of each node, where it is woken.
+fn make_lobbies(alloc: Global, members: Members) -> Result<Vec<Arc<Lobby>>, ServeFault> {
     let mut lobbies = Vec::new(alloc);
     for _ in 0..members.count() {
         lobbies.push(Arc::new(alloc, Lobby::new())?)?;
@@ -57,8 +57,8 @@ fn lobbies_of(alloc: Global, members: Members) -> Result<Vec<Arc<Lobby>>, ServeF
     Ok(lobbies)
 }
 
-// A door for each node, the first one's at this port and each further one's at the next.
-fn doors_of<R: Net<Listener = TcpListener, Stream = TcpStream>>(
+// Opens a door for each node, the first one's at this port and each further one's at the next.
+fn open_doors<R: Net<Listener = TcpListener, Stream = TcpStream>>(
     rt: &R,
     alloc: Global,
     members: Members,
@@ -69,13 +69,13 @@ fn doors_of<R: Net<Listener = TcpListener, Stream = TcpStream>>(
         let Some(port) = port.checked_add(u16::from(below)) else {
             return Err(ServeFault::Port);
         };
-        doors.push(door_at(rt, port)?)?;
+        doors.push(open_door(rt, port)?)?;
     }
     Ok(doors)
 }
 
-// A door at this port.
-fn door_at<R: Net<Listener = TcpListener, Stream = TcpStream>>(
+// Opens a door at this port.
+fn open_door<R: Net<Listener = TcpListener, Stream = TcpStream>>(
     rt: &R,
     port: u16,
 ) -> Result<Door, ServeFault> {
@@ -88,8 +88,8 @@ fn door_at<R: Net<Listener = TcpListener, Stream = TcpStream>>(
     }
 }
 
-// Says where each node listens.
-fn tell<W: Write>(writer: &mut W, members: Members, port: u16) -> Result<(), ServeFault> {
+// Writes where each node listens.
+fn print_ports<W: Write>(writer: &mut W, members: Members, port: u16) -> Result<(), ServeFault> {
     for below in 0..members.count() {
         let node = below.saturating_add(1);
         let at = port.saturating_add(u16::from(below));
@@ -103,7 +103,7 @@ fn tell<W: Write>(writer: &mut W, members: Members, port: u16) -> Result<(), Ser
     }
 }
 
-// The station of the last of these seats, and where its porter puts what arrives.
+// Takes the last of these seats, and returns its station, and where its porter puts what arrives.
 fn station_of<'a>(
     alloc: Global,
     mail: &'a Mail<Act>,
@@ -120,10 +120,10 @@ fn station_of<'a>(
     let Some(seat) = seats.pop() else {
         return Err(ServeFault::Memory);
     };
-    Ok((Station::of(mail, members, seat, taken), arrivals))
+    Ok((Station::new(mail, members, seat, taken), arrivals))
 }
 
-// The stations of all these seats, the last one's first, and where their porters put what arrives.
+// Takes all these seats, the last one first, and returns their stations. Adds where their porters put what arrives to `porters`.
 fn stations_of<'a>(
     alloc: Global,
     mail: &'a Mail<Act>,
@@ -143,9 +143,9 @@ fn stations_of<'a>(
     Ok(stations)
 }
 
-// ---- threads that nobody joins
+// ---- threads that are not joined
 
-// The thread of a node's porter.
+// Starts the thread of a node's porter.
 fn start_porter<R: Threads + Wait + Clock + Eprint + Clone + Drop + Send + 'static>(
     rt: &R,
     alloc: Global,
@@ -158,14 +158,14 @@ fn start_porter<R: Threads + Wait + Clock + Eprint + Clone + Drop + Send + 'stat
     let lobby = Arc::try_clone(lobby)?;
     match thread::spawn(
         rt,
-        move || keep_door(theirs, alloc, door, lobby, arrivals, node),
+        move || run_porter(theirs, alloc, door, lobby, arrivals, node),
     ) {
         Ok(_) => Ok(()),
         Err(_) => Err(ServeFault::Memory),
     }
 }
 
-// The porters of all nodes, the last one first.
+// Starts the porters of all nodes, the last one first.
 fn start_porters<R: Threads + Wait + Clock + Eprint + Clone + Drop + Send + 'static>(
     rt: &R,
     alloc: Global,
@@ -187,8 +187,8 @@ fn start_porters<R: Threads + Wait + Clock + Eprint + Clone + Drop + Send + 'sta
     Ok(())
 }
 
-// Reads to the end.
-fn read_out<I: Read>(reader: &mut I) {
+// Reads to the end of the input, or to a read that fails.
+fn read_to_end<I: Read>(reader: &mut I) {
     let mut octets = [0u8; 512];
     for _ in 0..u64::MAX {
         match reader.read(&mut octets) {
@@ -200,8 +200,8 @@ fn read_out<I: Read>(reader: &mut I) {
     }
 }
 
-// The thread that waits for the end of the input.
-fn watch<R, I>(rt: &R, reader: I, ends: &Sender<End>) -> Result<(), ServeFault>
+// Starts the thread that waits for the end of the input.
+fn watch_input<R, I>(rt: &R, reader: I, ends: &Sender<End>) -> Result<(), ServeFault>
 where
     R: Threads + Wait + Clone + Drop + Send + 'static,
     I: Read + Drop + Send + 'static,
@@ -210,7 +210,7 @@ where
     let ends = ends.clone()?;
     let spawned = thread::spawn(rt, move || {
         let mut reader = reader;
-        read_out(&mut reader);
+        read_to_end(&mut reader);
         let _ = ends.send(&theirs, End::Input);
     });
     match spawned {
@@ -221,10 +221,10 @@ where
 
 // ---- the nodes' threads
 
-// What a fault of this number is, where a node ended by it.
-fn fault_of(node: u8, fault: u8) -> ServeFault {
+// Returns the cluster's fault, for a node that ended by this one.
+fn fault_of(node: u8, fault: NodeFault) -> ServeFault {
     match fault {
-        64 | 76 => ServeFault::Memory,
+        NodeFault::Memory | NodeFault::Store(KeeperFault::Memory) => ServeFault::Memory,
         fault => ServeFault::Node { node, fault },
     }
 }
@@ -251,7 +251,7 @@ fn await_end<R: Wait>(rt: &R, ends: &Receiver<End>, members: Members) -> Result<
     unreachable!()
 }
 
-// A node's thread.
+// Runs a node to its end, on its thread.
 fn run_node_thread<'b, R, G, T>(
     rt: &'b R,
     alloc: Global,
@@ -265,13 +265,14 @@ where
 {
     let node = station.node();
     let fault = station.run(rt, alloc, site).err();
-    if let Some(number) = fault {
-        let _ = eprintln!(rt; "node {node} has ended by fault {number}");
+    if let Some(fault) = fault {
+        let number = fault.number();
+        let _ = eprintln!(rt; "node {node} has ended by fault {number}: {fault}");
     }
     let _ = ends.send(rt, End::Node { node, fault });
 }
 
-// All nodes' threads, until an end comes. Generic in what runs on them, so that it crosses to a thread by its bound.
+// Runs all nodes' threads until an end comes. It is generic in what runs on them, so that this crosses to a thread by its bound.
 fn run_all<'b, R, G, T>(
     rt: &'b R,
     alloc: Global,
@@ -307,7 +308,7 @@ where
     })
 }
 
-// The same for these stations.
+// Runs all nodes' threads, for these stations.
 fn run_stations<'b, R, G>(
     rt: &'b R,
     alloc: Global,
@@ -323,7 +324,27 @@ where
     run_all(rt, alloc, stations, site, ends, members)
 }
 
-// The cluster over these stores.
+// Refuses a folder with the database of a node above the members, since a cluster's members stay the same.
+fn refuse_stray<R: Eprint>(
+    rt: &R,
+    host: &HostRuntime,
+    folder: &str,
+    members: Members,
+) -> Result<(), ServeFault> {
+    let Some(node) = find_stray(host, folder, members)? else {
+        return Ok(());
+    };
+    let count = members.count();
+    let _ = eprintln!(rt;
+        "{folder}/node-{node}.db is of a node above --nodes {count}: give --nodes as when the folder was made, or another folder"
+    );
+    Err(ServeFault::Node {
+        node,
+        fault: NodeFault::NoMember,
+    })
+}
+
+// Serves clients with a cluster over these stores.
 fn serve<R, I, W, G>(
     rt: &R,
     alloc: Global,
@@ -349,9 +370,9 @@ where
     G: Gate + Sync,
 {
     let members = plan.members;
-    let mut doors = doors_of(rt, alloc, members, plan.port)?;
-    tell(writer, members, plan.port)?;
-    let lobbies = lobbies_of(alloc, members)?;
+    let mut doors = open_doors(rt, alloc, members, plan.port)?;
+    print_ports(writer, members, plan.port)?;
+    let lobbies = make_lobbies(alloc, members)?;
     let (sender, receiver) = bounded(alloc, ENDS)?;
     let mut office = Office::new();
     let Ok((mail, mut seats)) = found(alloc, &mut office, members) else {
@@ -360,7 +381,7 @@ where
     let mut porters = Vec::new(alloc);
     let stations = stations_of(alloc, &mail, members, &mut seats, &mut porters)?;
     start_porters(rt, alloc, &lobbies, &mut doors, porters)?;
-    watch(rt, reader, &sender)?;
+    watch_input(rt, reader, &sender)?;
     let open = AtomicBool::new(true);
     let site = Site {
         stores,
@@ -374,7 +395,16 @@ where
     run_stations(rt, alloc, stations, &site, (&sender, &receiver), members)
 }
 
-/// Serves clients.
+/// Runs a cluster of these members, in the realm of this name, each node on a thread under this gate, and serves clients: node I at port
+/// `port + I - 1` of 127.0.0.1, with draws by this key. Rows are kept in `dir/node-I.db`, or in memory without a folder. It writes where each
+/// node listens before it serves clients.
+///
+/// It ends when the reader does, or by a fault. A node that is lost in its boot is no fault: it begins its next boot, without its clients. A
+/// folder that has the database of a node above the members is refused with `NoMember`, and a line on standard error names the file: nothing is
+/// opened or changed then.
+///
+/// It writes each boot, each node that begins to lead, and the fault by which a node ends, in a line on standard error. Threads that wait for a
+/// connection, for a client or for the reader are left.
 pub fn serve_run<R, I, W, G>(
     rt: &R,
     host: &HostRuntime,
@@ -410,7 +440,10 @@ where
     };
     let stores = match dir {
         None => Stores::Memory,
-        Some(folder) => Stores::Folder { host, folder },
+        Some(folder) => {
+            refuse_stray(rt, host, folder, members)?;
+            Stores::Folder { host, folder }
+        }
     };
     serve(rt, host.alloc(), reader, writer, plan, stores, gate)
 }

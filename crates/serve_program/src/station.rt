@@ -4,35 +4,24 @@ ghost use Rattle.mail_table.specs.Seats.{Owns};
 ghost use Rattle.realm_machine.specs.Machine.{has_failed};
 ghost use Rattle.paxos_node.specs.declared.view.Opened.TheVariants.{Never};
 
+use crate::fault::NodeFault;
+use crate::lives::run_lives;
+use crate::source::{Boots, Source};
+use crate::stores::{MemoryStore, Stores, open_node_store};
 use actor_run::{Feed, Gate, Seen};
 use node_actor::{Event, Keeper, Mail, Members, NodeSeat};
-use node_lives::{Boots, Source, run_lives};
 use realm_machine::{Act, Limits, Realm, Say};
 use rtrb::Consumer;
 use serve_connections::{Arrival, Lobby};
 use serve_feed::{ClientFeed, Home, Pace, Paced};
-use serve_stores::{Kept, Stores, open_in};
 use std::alloc::Global;
 use std::io::Eprint;
 use std::sync::atomic::{AtomicBool, Ordering};
 use std::sync::{Arc, Wait};
 use std::time::{Clock, Instant};
 
-// How much the realm holds at the most.
-const LIMITS: Limits = Limits {
-    sessions: 4096,
-    registrations: 1024,
-    subscriptions: 1024,
-    calls: 1024,
-};
-
-// The faults of want of memory, and of a seat that is of no member.
-const MEMORY: u8 = 76;
-
-const FOREIGN: u8 = 72;
-
-/// What all nodes' threads are told: the stores, the gate that each turn asks, whether the cluster is still to run, where each node is woken,
-/// and when the cluster began.
+/// What all nodes' threads share: the stores, the gate that each turn asks, whether the cluster is still to run, where each node is woken, the
+/// key of its draws, the realm's name, and when the cluster began.
 #[derive(Drop)]
 pub(crate) struct Site<'a, G> {
     pub stores: Stores<'a>,
@@ -44,14 +33,14 @@ pub(crate) struct Site<'a, G> {
     pub began: Option<Instant>,
 }
 
-// The gate of a node's turns, which is shut once the cluster is to end.
+// The gate of a node's turns, which shuts once the cluster is to end.
 #[derive(Drop)]
-struct Turns<'a, R: Wait + Clock, G: Gate> {
+struct ShutGate<'a, R: Wait + Clock, G: Gate> {
     open: &'a AtomicBool,
     paced: Paced<'a, R, G>,
 }
 
-impl<R: Wait + Clock, G: Gate> Gate for Turns<'_, R, G> {
+impl<R: Wait + Clock, G: Gate> Gate for ShutGate<'_, R, G> {
     fn pass(&self, node: u8, turn: u64) -> bool {
         self.open.load(Ordering::SeqCst)
             && self.paced.pass(node, turn)
@@ -59,7 +48,7 @@ impl<R: Wait + Clock, G: Gate> Gate for Turns<'_, R, G> {
     }
 }
 
-// What feeds a node: its clients. Each boot, and each time that it begins to lead, is told on standard error.
+// What feeds a node: its clients. It writes each boot, and each time that the node begins to lead, on standard error.
 #[derive(Drop)]
 struct Served<'a, R> {
     rt: &'a R,
@@ -109,23 +98,23 @@ struct Realms<'a> {
 }
 
 impl Source<Realm> for Realms<'_> {
-    fn first(&self, alloc: Global) -> Result<Realm, u8>
+    fn make_machine(&self, alloc: Global) -> Result<Realm, NodeFault>
         ensures { IfOk result (λ realm. has_failed realm ≡ false) }
     {
         match String::from_str(alloc, self.name) {
-            Ok(name) => Ok(Realm::new(alloc, name, LIMITS)),
-            Err(_) => Err(MEMORY),
+            Ok(name) => Ok(Realm::new(alloc, name, Limits::SERVED)),
+            Err(_) => Err(NodeFault::Memory),
         }
     }
 }
 
-/// What runs a node on a thread of its own.
+/// What runs a node on a thread.
 pub(crate) trait Runs<R, G> {
-    /// The number of the node.
+    /// Returns the node's number.
     fn node(&self) -> u8;
 
-    /// Runs the node to its end, and answers the number of the fault that ended it.
-    fn run<'b>(self, rt: &'b R, alloc: Global, site: &'b Site<'b, G>) -> Result<(), u8>;
+    /// Runs the node until its gate is shut. An error is the fault that ended it before.
+    fn run<'b>(self, rt: &'b R, alloc: Global, site: &'b Site<'b, G>) -> Result<(), NodeFault>;
 }
 
 /// A node that was never opened: its seat at the table, and where its clients' connections arrive.
@@ -141,7 +130,7 @@ pub(crate) struct Station<'a> {
 }
 
 impl<'a> Station<'a> {
-    pub fn of(
+    pub fn new(
         mail: &'a Mail<Act>,
         members: Members,
         seat: NodeSeat<Act>,
@@ -159,27 +148,29 @@ impl<'a> Station<'a> {
         }
     }
 
-    // The same, at this lobby.
+    // Runs the node at this lobby, over the store that the site names.
     fn run_at<'b, R: Wait + Clock + Eprint, G: Gate>(
         self,
         rt: &'b R,
         alloc: Global,
         site: &'b Site<'b, G>,
         lobby: &'b Lobby,
-    ) -> Result<(), u8> {
+    ) -> Result<(), NodeFault> {
         match site.stores {
-            Stores::Memory => self.run_over(rt, alloc, site, lobby, Kept::new(alloc)),
-            Stores::Folder { host, folder } => match open_in(host, folder, self.seat.node()) {
-                Ok(keeper) => self.run_over(rt, alloc, site, lobby, keeper),
-                Err(fault) => {
-                    drop(self);
-                    Err(fault.number())
+            Stores::Memory => self.run_over(rt, alloc, site, lobby, MemoryStore::new(alloc)),
+            Stores::Folder { host, folder } => {
+                match open_node_store(host, folder, self.seat.node()) {
+                    Ok(keeper) => self.run_over(rt, alloc, site, lobby, keeper),
+                    Err(fault) => {
+                        drop(self);
+                        Err(NodeFault::from(fault))
+                    }
                 }
-            },
+            }
         }
     }
 
-    // The same, over this store.
+    // Runs the node at this lobby, over this store.
     fn run_over<'b, R: Wait + Clock + Eprint, G: Gate, K: Keeper<Act> + Drop>(
         self,
         rt: &'b R,
@@ -187,25 +178,42 @@ impl<'a> Station<'a> {
         site: &'b Site<'b, G>,
         lobby: &'b Lobby,
         keeper: K,
-    ) -> Result<(), u8> {
+    ) -> Result<(), NodeFault> {
+        let pace = Pace::new();
+        self.run_paced(rt, alloc, site, lobby, &pace, keeper)
+    }
+
+    // Runs the node at this lobby, over this store, at this pace.
+    fn run_paced<'c, R: Wait + Clock + Eprint, G: Gate, K: Keeper<Act> + Drop>(
+        self,
+        rt: &'c R,
+        alloc: Global,
+        site: &'c Site<'_, G>,
+        lobby: &'c Lobby,
+        pace: &'c Pace,
+        keeper: K,
+    ) -> Result<(), NodeFault> {
         let Station {
             mail,
             members,
             seat,
             arrivals,
         } = self;
-        let pace = Pace::new();
-        serve_paced(
+        let node = seat.node();
+        let home = home_of(node, members, site, lobby, pace);
+        let gate = ShutGate {
+            open: site.open,
+            paced: Paced::new(rt, home, site.gate),
+        };
+        let again = home_of(node, members, site, lobby, pace);
+        let served = Served {
             rt,
-            (site.gate, site.open),
-            (lobby, site.lobbies),
-            &pace,
-            (members, site.key, site.realm, site.began),
-            alloc,
-            mail,
-            seat,
-            arrivals,
-            keeper,
+            node,
+            leads: false,
+            feed: ClientFeed::new(alloc, again, 0, arrivals),
+        };
+        run_fed(
+            alloc, mail, members, seat, site.realm, keeper, &gate, served,
         )
     }
 }
@@ -215,8 +223,8 @@ impl<R: Wait + Clock + Eprint, G: Gate> Runs<R, G> for Station<'_> {
         self.seat.node()
     }
 
-    // Opens the node over its store, and turns it until its gate is shut; a node that is lost begins its next boot.
-    fn run<'b>(self, rt: &'b R, alloc: Global, site: &'b Site<'b, G>) -> Result<(), u8> {
+    // Opens the node over its store, and turns it until its gate is shut. A node that is lost begins its next boot.
+    fn run<'b>(self, rt: &'b R, alloc: Global, site: &'b Site<'b, G>) -> Result<(), NodeFault> {
         match site
             .lobbies
             .get(usize::from(self.seat.node()).saturating_sub(1))
@@ -224,79 +232,33 @@ impl<R: Wait + Clock + Eprint, G: Gate> Runs<R, G> for Station<'_> {
             Some(lobby) => self.run_at(rt, alloc, site, lobby),
             None => {
                 drop(self);
-                Err(FOREIGN)
+                Err(NodeFault::NoMember)
             }
         }
     }
 }
 
-// Where the node of this number is at home, twice: for its gate, and for its feed.
-fn homes<'c>(
+// Returns what a node's gate or its feed is made from. It is made twice, since it is not copied while one of them holds it.
+fn home_of<'c, G>(
     node: u8,
     members: Members,
-    key: u64,
+    site: &'c Site<'_, G>,
     lobby: &'c Lobby,
-    lobbies: &'c [Arc<Lobby>],
     pace: &'c Pace,
-    began: Option<Instant>,
-) -> (Home<'c>, Home<'c>) {
-    (
-        Home {
-            node,
-            members,
-            key,
-            lobby,
-            lobbies,
-            pace,
-            began,
-        },
-        Home {
-            node,
-            members,
-            key,
-            lobby,
-            lobbies,
-            pace,
-            began,
-        },
-    )
+) -> Home<'c> {
+    Home {
+        node,
+        members,
+        key: site.key,
+        lobby,
+        lobbies: site.lobbies,
+        pace,
+        began: site.began,
+    }
 }
 
-// The node's lives, at this pace.
-fn serve_paced<'c, R: Wait + Clock + Eprint, G: Gate, K: Keeper<Act> + Drop>(
-    rt: &'c R,
-    gates: (&'c G, &'c AtomicBool),
-    places: (&'c Lobby, &'c [Arc<Lobby>]),
-    pace: &'c Pace,
-    cluster: (Members, u64, &str, Option<Instant>),
-    alloc: Global,
-    mail: &Mail<Act>,
-    seat: NodeSeat<Act>,
-    arrivals: Consumer<Arrival>,
-    keeper: K,
-) -> Result<(), u8>
-    requires owned { Owns mail.now seat }
-    requires fresh { seat.part.seen.opened ≡ Never }
-    requires table { cluster.0 ≡ mail.now.members }
-{
-    let (members, key, realm, began) = cluster;
-    let (gate, open) = gates;
-    let (lobby, lobbies) = places;
-    let (home, again) = homes(seat.node(), members, key, lobby, lobbies, pace, began);
-    let paced = Paced::new(rt, home, gate);
-    let turns = Turns { open, paced };
-    let feed = ClientFeed::new(alloc, again, 0, arrivals);
-    let served = Served {
-        rt,
-        node: seat.node(),
-        leads: false,
-        feed,
-    };
-    serve_out(alloc, mail, members, seat, realm, keeper, &turns, served)
-}
-
-// The node's lives, out of this feed.
-fn serve_out<R: Eprint, T: Gate, K: Keeper<Act> + Drop>(
+// Runs the node's lives, out of this feed.
+fn run_fed<R: Eprint, T: Gate, K: Keeper<Act> + Drop>(
     alloc: Global,
     mail: &Mail<Act>,
     members: Members,
@@ -305,7 +267,7 @@ fn serve_out<R: Eprint, T: Gate, K: Keeper<Act> + Drop>(
     keeper: K,
     gate: &T,
     served: Served<'_, R>,
-) -> Result<(), u8>
+) -> Result<(), NodeFault>
     requires owned { Owns mail.now seat }
     requires fresh { seat.part.seen.opened ≡ Never }
     requires table { members ≡ mail.now.members }

@@ -12,7 +12,7 @@ use Rattle.wamp_rawsocket.specs.declared.frame.FrameKind.{FrameKind}
 use Rattle.wamp_rawsocket.specs.declared.frame.FrameKind.TheVariants as kind
 use Rattle.wamp_rawsocket.specs.Splitter.{whole, faulty, front_of}
 use Rattle.wamp_rawsocket.proofs.Streams.{whole_leaves_less, frames_at_whole, frames_at_fault, frames_at_end}
-use Rattle.realm_sayings.specs.declared.act.Say.{Say}
+use Rattle.realm_machine.specs.declared.sayings.say.Say.{Say}
 use Rattle.realm_machine.specs.Config.{Config}
 use Rattle.realm_acts.specs.declared.act.Act.TheVariants.{Said, Hung}
 use Rattle.realm_machine.specs.Content.{Content}
@@ -133,11 +133,11 @@ unheard limit (first ∷ rest) after others =
     cond-false (same_transport first.transport client) (heard limit first.out (told limit rest after)) (told limit rest after)
     (All-head IsOther first rest others) ∙ unheard limit rest after (All-tail IsOther first rest others)
 
--- a client that hung up is told nothing
+-- nothing is said to a client that hung up
 pub hung_unheard : (config : Config) (c : Content) (limit : ℕ) (after : Run) → told limit (says config c client Hung) after ≡ after
 hung_unheard config c limit after = unheard limit (says config c client Hung) after (hung.hung_unheard config c client)
 
--- where no whole frame is there, nothing is due
+-- if no whole frame is held, nothing is due
 pub no_frame_due : (held new : Option (List ℕ)) (config : Config) (limit : ℕ) (c : Content) (draw : ℕ)
     → Takes (Ok None) held new → due_of config limit c draw held [] ≡ ends silent
 no_frame_due None new config limit c draw t = absurd (never_fault (Ok None) None (Transport 82) refl t)

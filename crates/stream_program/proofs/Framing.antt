@@ -1,4 +1,4 @@
--- What is put behind the replies by the outbox, told of what is due.
+-- What the outbox puts after the replies, in terms of what is due.
 use Rattle.std.proofs.Common.{◌≡◌, ℕ, List, Option, Ok, Err, refl, arith}
 use Rattle.std.proofs.lemmas.Bool.Decides.{nat_tests}
 use Rattle.wamp_rawsocket.specs.declared.frame.FrameKind.{FrameKind}

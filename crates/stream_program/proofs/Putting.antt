@@ -1,4 +1,4 @@
--- What was put behind the waiting replies, step by step.
+-- What was put after the waiting replies, step by step.
 use Rattle.std.proofs.Common.{◌≡◌, ℕ, ◌<◌, List, [], ◌++◌, length, Result, Ok, Err, refl, sym, ◌∙◌, ap, arith, append_assoc, append-nil}
 use Rattle.std.proofs.lemmas.Bool.Decides.{nat_tests}
 use Rattle.wamp_rawsocket.specs.declared.frame.FrameKind.{FrameKind}
@@ -10,7 +10,7 @@ use Rattle.stream_program.specs.declared.progress.Progress.TheVariants.{Onward, 
 use Rattle.stream_program.specs.Stream.{Run, ends, behind, too_wide, framed}
 use Rattle.stream_program.specs.Replies.{Puts, Answers}
 
--- nothing is put where a frame is wider than the client takes
+-- nothing is put if a frame is wider than the client takes
 pub framed_wide : (limit : ℕ) (kind : FrameKind) (payload : List ℕ) (after : Run) (old new : List ℕ) → outbound_limit limit < length payload
     → new ≡ old → Puts (Err (Transport 87)) (framed limit kind payload after) after old new
 framed_wide limit kind payload after old new wide e = record {
@@ -31,7 +31,7 @@ put_nothing due after old new e = record {
   is_left = tt;
 }
 
--- what is put behind is put behind all
+-- what is put after some is put after all
 pub behind-append : (front put : List ℕ) (run : Run) → behind front (behind put run) ≡ behind (front ++ put) run
 behind-append front put run = rw append_assoc refl
 
@@ -46,7 +46,7 @@ puts_then result due mid onward old between new p q = record {
   is_left = q.is_left;
 }
 
--- where it stops, what would follow does not matter
+-- once it stops, what would follow does not matter
 pub puts_fault : (fault : RunFault) (due onward other : Run) (old new : List ℕ) → Puts (Err fault) due onward old new
     → Puts (Err fault) due other old new
 puts_fault fault due onward other old new p = record { put = p.put; are_put = p.are_put; rest = p.rest; is_due = p.is_due; is_left = p.is_left }
@@ -58,14 +58,14 @@ puts_closed due onward other old new p = record { put = p.put; are_put = p.are_p
 pub puts_none : (due onward : Run) (old : List ℕ) → due ≡ onward → Puts (Ok Onward) due onward old old
 puts_none due onward old e = record { put = []; are_put = sym (append-nil old); rest = due; is_due = refl; is_left = e }
 
--- the transport stays open where it was not closed
+-- the transport stays open if it was not closed
 pub puts_open : (progress : Progress) (due onward : Run) (old new : List ℕ) → (progress ≡ Closed → ⊥)
     → Puts (Ok progress) due onward old new → Puts (Ok Onward) due onward old new
 puts_open Onward due onward old new stays p = p
 puts_open Waiting due onward old new stays p = absurd p.is_left
 puts_open Closed due onward old new stays p = absurd (stays refl)
 
--- where something was put, nothing waits
+-- if something was put, nothing waits
 pub puts_never_waits : (result : Result Progress RunFault) (due onward : Run) (old new : List ℕ) → Puts result due onward old new
     → result ≡ Ok Waiting → ⊥
 puts_never_waits (Ok Onward) due onward old new p e = cc
@@ -80,12 +80,12 @@ answers_puts (Ok Waiting) due onward old new p = absurd p.is_left
 answers_puts (Ok Closed) due onward old new p = p
 answers_puts (Err fault) due onward old new p = p
 
--- what is due, and what follows, may be told in other words
+-- what is due, and what follows, may be put in other words
 pub puts_same : (result : Result Progress RunFault) (due due' onward onward' : Run) (old new : List ℕ) → due' ≡ due → onward ≡ onward'
     → Puts result due onward old new → Puts result due' onward' old new
 puts_same result due due' onward onward' old new d o p = rw (d, ← o) p
 
--- what was put, told of the replies as a whole
+-- what was put, said of the replies as a whole
 pub put_whole : (result : Result Progress RunFault) (due onward : Run) (old new : List ℕ) (p : Puts result due onward old new)
     → behind old due ≡ behind new p.rest
 put_whole result due onward old new p =

@@ -17,7 +17,7 @@ use Rattle.stream_program.specs.Service.{due_at, HasActed, Performs}
 use Rattle.stream_program.specs.Turns.{Writes, IsOver, Tells, PerformsOut, Goes}
 use Rattle.stream_program.proofs.Putting.{behind-append, put_whole}
 
--- ---- the same run, told in other words or behind what was written
+-- ---- the same run, in other words or after what was written
 
 pub ended_same : (due due' : Run) (count : ℕ) (result : Result (Unit {0}) RunFault) (left old new : Option (List ℕ)) → due ≡ due'
     → Ended due' count result left old new → Ended due count result left old new
@@ -131,7 +131,7 @@ over_then owing between result old mid new p q left =
     ended_same (owing []) (behind p.written (between [])) 0 result left old new (p.is_due [])
     (ended_behind p.written (between []) 0 0 result left old mid new (omega arith) p.is_written (q left))
 
--- what was put behind the replies was written with them
+-- what was put after the replies was written with them
 pub tells_put : (result : Result Progress RunFault) (owing onward : List ℕ → Run) (replies put : List ℕ) (old new : Option (List ℕ))
     → ((more : List ℕ) → Puts result (owing more) (onward more) replies put) → Appends old new put
     → Tells result (λ more. behind replies (owing more)) onward old new

@@ -169,7 +169,7 @@ hung_at name octets input left old four e c = (
       (Appends-nil old) (inr refl),
 )
 
--- what the listener answers of a handshake, told of the run
+-- what the listener returns of a handshake, said of the run
 pub unheard_ends : (name : List ℕ) (fault : ListenFault) (input left old : Option (List ℕ)) → ReadsHandshake (Err fault) input left
     → Ends (run_of name) (Err (run_fault_of fault)) input left old old
 unheard_ends name listen.Handshake input left old p = cut_short name input left old p.0 p.1

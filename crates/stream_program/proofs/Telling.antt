@@ -1,6 +1,6 @@
--- What the client was told, saying by saying.
+-- What was said to the client, saying by saying.
 use Rattle.std.proofs.Common.{◌≡◌, ℕ, suc, ◌+◌, ◌<◌, true, List, ◌∷◌, drop, get_or, length, Ok, sym, ap, add-one, drop-cons}
-use Rattle.realm_sayings.specs.declared.act.Say.{Say}
+use Rattle.realm_machine.specs.declared.sayings.say.Say.{Say}
 use Rattle.paxos_packets.specs.Transport.{same_transport}
 use Rattle.stream_program.specs.declared.progress.Progress.{Progress}
 use Rattle.stream_program.specs.declared.progress.Progress.TheVariants.{Onward, Closed}
@@ -8,11 +8,11 @@ use Rattle.stream_program.specs.Stream.{Run, client, heard, told}
 use Rattle.stream_program.specs.Replies.{Puts}
 use Rattle.stream_program.proofs.Putting.{puts_then, puts_open}
 
--- of the sayings these are left; what the client is told by the others was put behind the replies
+-- of the sayings these are left; what the others say to the client was put after the replies
 abbrev pub Told : ℕ → List Say → List Say → List ℕ → List ℕ → Type 0
 Told limit says left old new = (after : Run) → Puts (Ok Onward) (told limit says after) (told limit left after) old new
 
--- what the client is told of a saying to it was put
+-- what a saying says to the client was put
 told_onward : (limit : ℕ) (says : List Say) (say : Say) (others : List Say) (old mid new : List ℕ)
     → same_transport say.transport client ≡ true → Told limit says (say ∷ others) old mid
     → ((after : Run) → Puts (Ok Onward) (heard limit say.out after) after mid new) → Told limit says others old new
@@ -27,7 +27,7 @@ drop_at says i say lt e = rw (add-one, drop-cons says i say) (ap (λ (first : Sa
 Told_at : (limit : ℕ) (says left left' : List Say) (old new : List ℕ) → left ≡ left' → Told limit says left old new → Told limit says left' old new
 Told_at limit says left left' old new e t = rw (← e) t
 
--- one saying further, where it is to the client
+-- one saying further, if it is to the client
 pub told_next : (limit : ℕ) (says : List Say) (i : ℕ) (say : Say) (old mid new : List ℕ) (here : ℕ) (progress : Progress) → i < length says
     → say ≡ get_or says i say → same_transport say.transport client ≡ true → Told limit says (drop i says) old mid → here ≡ limit
     → (progress ≡ Closed → ⊥) → ((after : Run) → Puts (Ok progress) (heard here say.out after) after mid new)

@@ -1,4 +1,4 @@
--- The statuses of faults, and how those of a client's transport are told (docs/PROTOCOL.md, "A stream").
+-- The statuses of faults, and how those of a client's transport are reported (docs/PROTOCOL.md, "A stream").
 use Rattle.std.specs.Prelude.{ℕ}
 use Rattle.client_listener.specs.declared.fault.ListenFault.{ListenFault}
 use Rattle.client_listener.specs.declared.fault.ListenFault.TheVariants as listen

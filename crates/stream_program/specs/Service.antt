@@ -26,7 +26,7 @@ due_of config limit c draw (Some held) more = answered config limit c draw (fram
 abbrev pub due : Service → List ℕ → Run
 due s more = due_of s.realm.config s.replies.limit (content_of s) s.draw s.splitter more
 
--- what is due where this happens at the transport, and then what follows
+-- what is due when this happens at the transport, and then what follows
 abbrev pub due_at : Service → Act → Run → Run
 due_at s act after = told s.replies.limit (says s.realm.config (content_of s) client act) after
 
@@ -38,7 +38,7 @@ content_after s act = Some (next s.realm.config (content_of s) client act)
 abbrev pub owed : Service → List ℕ → Run
 owed s more = behind s.replies.octets (due s more)
 
--- the service behind an act: the realm has taken its step, and this is the next draw
+-- the service after an act: the realm has taken its step, and this is the next draw
 pub record HasActed (old : Service) (act : Act) (draw : ℕ) (new : Service) : Type 0 where
   pub config : new.realm.config ≡ old.realm.config
   pub content : new.realm.content ≡ content_after old act
@@ -46,7 +46,7 @@ pub record HasActed (old : Service) (act : Act) (draw : ℕ) (new : Service) : T
   pub held : new.splitter ≡ old.splitter
   pub limit : new.replies.limit ≡ old.replies.limit
 
--- the act was done to the realm, and what the client is told was put behind the replies
+-- the act was given to the realm, and what it says to the client was put after the replies
 pub record Performs (result : Result Progress RunFault) (old : Service) (act : Act) (draw : ℕ) (new : Service) : Type 0 where
   pub puts : (after : Run) → Puts result (due_at old act after) after old.replies.octets new.replies.octets
   pub has_acted : OnOk result (HasActed old act draw new)
@@ -65,7 +65,7 @@ pub record IsFirst (name : List ℕ) (limit : ℕ) (s : Service) : Type 0 where
   pub limits : s.replies.limit ≡ limit
   pub no_replies : s.replies.octets ≡ []
 
--- a splitter shows the frame at its front, none where no whole one is there, or a fault; and what it holds behind it
+-- a splitter shows its first frame, none if it holds no whole one, or a fault; and what it holds after it
 abbrev pub Takes : Result (Option FrameRef) RunFault → Option (List ℕ) → Option (List ℕ) → Type 0
 Takes result None new = result ≡ Err (Transport 82)
 Takes (Ok (Some frame)) (Some held) new = (rest : List ℕ) × (front_of held ≡ whole frame.kind frame.payload.now rest) × (new ≡ Some rest)

@@ -16,9 +16,9 @@ use Rattle.wamp_rawsocket.specs.Frame.{frame_octets, outbound_limit}
 use Rattle.wamp_rawsocket.specs.Handshake.{answer_of}
 use Rattle.wamp_rawsocket.specs.Splitter.{Frames, ended, broken, frame, frames_of}
 use Rattle.realm_acts.specs.declared.act.Act.TheVariants.{Connect, Said, Hung}
-use Rattle.realm_sayings.specs.declared.act.Out.{Out}
-use Rattle.realm_sayings.specs.declared.act.Out.TheVariants.{Send, Close}
-use Rattle.realm_sayings.specs.declared.act.Say.{Say}
+use Rattle.realm_machine.specs.declared.sayings.say.Out.{Out}
+use Rattle.realm_machine.specs.declared.sayings.say.Out.TheVariants.{Send, Close}
+use Rattle.realm_machine.specs.declared.sayings.say.Say.{Say}
 use Rattle.realm_machine.specs.Config.{Config}
 use Rattle.realm_machine.specs.Content.{Content, empty}
 use Rattle.realm_machine.specs.Step.{next, says}
@@ -105,7 +105,7 @@ run_of name octets = ends unheard
 abbrev pub stream : List ℕ → List ℕ → List ℕ
 stream name octets = (run_of name octets).octets
 
--- behind this ending nothing more is read
+-- after this ending nothing more is read
 abbrev pub is_final : Ending → Bool
 is_final unheard = false
 is_final silent = false
@@ -120,13 +120,13 @@ answer_at closed = Ok tt
 answer_at broken_off = Err (run_fault.Transport 82)
 answer_at too_wide = Err (run_fault.Transport 87)
 
--- how many reads there are at the most
+-- the most reads of a run
 abbrev pub most_turns : ℕ
 most_turns = 2 ^ 32
 
--- ---- what a run leaves behind that was due this
+-- ---- what a run that was due this leaves
 
--- all of it was written, and nothing else; the answer is that of its ending, and bytes are left unread only behind a final one
+-- all of it was written, and nothing else; the answer is that of its ending, and bytes are left unread only after a final one
 pub record Serves (due : Run) (result : Result (Unit {0}) RunFault) (left old new : Option (List ℕ)) : Type 0 where
   pub is_written : Appends old new due.octets
   pub answer : result ≡ answer_at due.ending
@@ -137,14 +137,14 @@ pub record Stops (due : Run) (old new : Option (List ℕ)) : Type 0 where
   pub is_written : Appends old new due.octets
   pub is_open : is_final due.ending ≡ false
 
--- a front of it was written
+-- a prefix of it was written
 pub record Breaks (due : Run) (old new : Option (List ℕ)) : Type 0 where
   pub front : List ℕ
   pub rest : List ℕ
   pub is_front : due.octets ≡ front ++ rest
   pub is_written : Appends old new front
 
--- where so many octets were read: 83 a read failed, 84 a write failed, 85 the reads were spent, each of which read an octet at least
+-- if this many octets were read: 83 a read failed, 84 a write failed, 85 the reads were spent, each of which read an octet at least
 abbrev pub Ended : Run → ℕ → Result (Unit {0}) RunFault → Option (List ℕ) → Option (List ℕ) → Option (List ℕ) → Type 0
 Ended due count (Ok x) left old new = Serves due (Ok x) left old new
 Ended due count (Err (run_fault.Line number)) left old new = ⊥
@@ -156,6 +156,6 @@ Ended due count (Err (run_fault.Transport number)) left old new =
     (MatchBool (number == 85) (Stops due old new × (most_turns ≤ count))
     (Serves due (Err (run_fault.Transport number)) left old new)))
 
--- these octets were read, which are the reader's next ones where it tells its bytes, and what was due to them was written
+-- these octets were read, which are the reader's next ones if it says its bytes, and what was due to them was written
 abbrev pub Ends : (List ℕ → Run) → Result (Unit {0}) RunFault → Option (List ℕ) → Option (List ℕ) → Option (List ℕ) → Option (List ℕ) → Type 0
 Ends due result input left old new = (octets : List ℕ) × Consumes input left octets × Ended (due octets) (length octets) result left old new

@@ -1,4 +1,4 @@
--- How a run stands between its steps, and how a step ends it. This is for private clauses.
+-- The state of a run between its steps, and how a step ends it. This is for private clauses.
 use Rattle.std.specs.Prelude.{◌≡◌, ℕ, ◌≤◌, Bool, true, false, List, [], ◌++◌, length, Option, Result, Ok, Err, OnOk}
 use Rattle.std.specs.Io.KnownBytes.{Appends, Consumes}
 use Rattle.realm_acts.specs.declared.act.Act.{Act}
@@ -21,13 +21,13 @@ pub record Writes (owing onward : List ℕ → Run) (old new : Option (List ℕ)
 abbrev pub IsOver : (List ℕ → Run) → Result (Unit {0}) RunFault → Option (List ℕ) → Option (List ℕ) → Type 0
 IsOver owing result old new = (left : Option (List ℕ)) → Ended (owing []) 0 result left old new
 
--- what the client was told was written
+-- what was said to the client was written
 abbrev pub Tells : Result Progress RunFault → (List ℕ → Run) → (List ℕ → Run) → Option (List ℕ) → Option (List ℕ) → Type 0
 Tells (Ok Closed) owing onward old new = IsOver owing (Ok tt) old new
 Tells (Ok progress) owing onward old new = Writes owing onward old new
 Tells (Err fault) owing onward old new = IsOver owing (Err fault) old new
 
--- the act was done to the realm, and what the client was told of it was written
+-- the act was given to the realm, and what it says to the client was written
 pub record PerformsOut (result : Result Progress RunFault) (old : Service) (act : Act) (new : Service) (was now : Option (List ℕ)) : Type 0 where
   pub tells : (onward : List ℕ → Run) → Tells result (λ more. behind old.replies.octets (due_at old act (onward more))) onward was now
   pub none_waits : OnOk result (new.replies.octets ≡ [])
@@ -52,7 +52,7 @@ AnswersAll (Err fault) s t old new = IsOver (owed s) (Err fault) old new
 
 -- ---- steps over the reader, too
 
--- so many octets were read at least, and these written, and in place of what was owed this is owed now, whatever comes
+-- at least this many octets were read, and these written, and in place of what was owed this is owed now, whatever comes
 pub record Goes (owing onward : List ℕ → Run) (least : ℕ) (input left old new : Option (List ℕ)) : Type 0 where
   pub read : List ℕ
   pub are_read : Consumes input left read

@@ -13,7 +13,7 @@ use wamp_messages::Memory;
 pub enum RunFault {
     /// The line of this number, from 1, is no event of a script.
     Line(u64),
-    /// The store failed, with the number of its fault.
+    /// A node of the cluster failed, with the number of its fault.
     Store(u8),
     /// Memory ran out.
     Memory,
@@ -22,7 +22,7 @@ pub enum RunFault {
 }
 
 impl RunFault {
-    /// The status with which the program ends: 3 to 6, in the order of the variants.
+    /// Returns the status with which the program ends: 3 to 6, in the order of the variants.
     pub fn status(self) -> u8
         ensures { result ≡ status_of self }
     {

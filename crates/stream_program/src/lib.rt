@@ -1,5 +1,4 @@
-//! One client over a reader and a writer, from octets to octets (docs/PROTOCOL.md, "A stream"), and the faults and limits of the
-//! program's runs.
+//! One client over a reader and a writer, from octets to octets (docs/PROTOCOL.md, "A stream"), and the faults of the program's runs.
 #![tactic(auto)]
 
 mod fault;
@@ -11,5 +10,4 @@ mod turns;
 
 pub use fault::RunFault;
 pub use realm_machine::Limits;
-pub use service::LIMITS;
 pub use stream::stream_run;

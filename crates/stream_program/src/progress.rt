@@ -1,9 +1,9 @@
-// How things stand with a client after a step.
+// The state of a client after a step.
 #[derive(Clone, Copy, Debug, PartialEq, Eq)]
 pub(crate) enum Progress {
     // The transport stays open.
     Onward,
-    // There is nothing to be done before more was read.
+    // Nothing is to be done before more is read.
     Waiting,
     // The transport is closed.
     Closed,

@@ -36,7 +36,7 @@ impl Model for Replies {
 }
 
 impl Replies {
-    // No replies, for a client that takes payloads of up to `limit` octets. It takes no memory.
+    // Makes a queue without replies, for a client that takes payloads of up to `limit` octets. It does not allocate.
     pub fn new(alloc: Global, limit: u32) -> Replies
         ensures { result ≡ record { limit = limit; octets = [] } }
     {
@@ -45,14 +45,14 @@ impl Replies {
         }
     }
 
-    // How many octets wait to be written.
+    // Returns how many octets wait to be written.
     pub fn len(&self) -> usize
         ensures { result ≡ length self.now.octets }
     {
         self.outbox.len()
     }
 
-    // Puts a frame behind the others, if the client takes one so wide.
+    // Puts a frame after the others. A fault if its payload is longer than the client takes.
     #[tactic(auto, using(crate::proofs::Framing::frame_put, crate::proofs::Framing::frame_refused))]
     pub fn put(&mut self, kind: FrameKind, payload: &[u8]) -> Result<Progress, RunFault>
         ensures puts { (after : Run) → Puts result (framed self.old.limit kind payload.now after) after
@@ -63,7 +63,7 @@ impl Replies {
         Ok(Progress::Onward)
     }
 
-    // Puts the frame of a message behind the others.
+    // Puts the frame of a message after the others.
     #[tactic(auto, using(crate::proofs::Framing::frame_put, crate::proofs::Framing::frame_refused))]
     fn send(&mut self, message: &Message) -> Result<Progress, RunFault>
         ensures puts { (after : Run)
@@ -75,7 +75,7 @@ impl Replies {
         Ok(Progress::Onward)
     }
 
-    // Puts what the client is told of this behind the others.
+    // Puts what this says to the client after the others.
     fn hear(&mut self, out: &Out) -> Result<Progress, RunFault>
         ensures puts { (after : Run) → Puts result (heard self.old.limit out.now after) after
             self.old.octets self.new.octets }
@@ -87,8 +87,8 @@ impl Replies {
         }
     }
 
-    // Puts what the client is told of these behind the others, in order; nothing more once its transport is closed
-    // or a message is wider than the client takes.
+    // Puts what these say to the client after the others, in order; nothing more once its transport is closed or a message is longer than
+    // the client takes.
     pub fn tell(&mut self, says: &[Say]) -> Result<Progress, RunFault>
         ensures puts { (after : Run) → Puts result (told self.old.limit says.now after) after
             self.old.octets self.new.octets }
@@ -116,7 +116,7 @@ impl Replies {
     }
 }
 
-// Whether this is the transport of the one client.
+// Returns whether this is the transport of the one client.
 fn is_client(transport: Transport) -> bool
     ensures { result ≡ same_transport transport client }
 {

@@ -15,14 +15,6 @@ use wamp_ids::Id;
 use wamp_messages::{Parser, Read, read_by};
 use wamp_rawsocket::{FrameKind, FrameRef, Splitter};
 
-/// How much the realm of a run holds at the most.
-pub const LIMITS: Limits = Limits {
-    sessions: 4096,
-    registrations: 1024,
-    subscriptions: 1024,
-    calls: 1024,
-};
-
 // What serves one client: the realm, the frames that the client sends, and the replies to it.
 #[derive(Drop)]
 pub(crate) struct Service {
@@ -35,7 +27,7 @@ pub(crate) struct Service {
 }
 
 impl Service {
-    // What serves a client that takes payloads of up to `limit` octets, with a new realm of this name.
+    // Makes what serves a client that takes payloads of up to `limit` octets, with a new realm of this name.
     pub fn new(alloc: Global, realm: &str, limit: u32) -> Result<Service, RunFault>
         ensures first { IfOk result (IsFirst realm.now limit) }
         ensures memory { IfErr result (λ fault. fault ≡ RunFault.Memory) }
@@ -45,14 +37,14 @@ impl Service {
         Ok(Service {
             alloc,
             parser: Parser::new(alloc),
-            realm: Realm::new(alloc, name, LIMITS),
+            realm: Realm::new(alloc, name, Limits::SERVED),
             splitter: Splitter::new(alloc),
             draw,
             replies: Replies::new(alloc, limit),
         })
     }
 
-    // Takes the client's next octets; only memory can refuse them.
+    // Takes the client's next octets; they are refused only if memory runs out.
     pub fn feed(&mut self, octets: &[u8]) -> Result<(), RunFault>
         ensures ok { OnOk result (self.new ≡ record self.old {
           splitter = option_map (λ held. held ++ octets.now) self.old.splitter;
@@ -65,7 +57,7 @@ impl Service {
         }
     }
 
-    // Does what happens at the client's transport to the realm, and puts what the client is told behind the replies.
+    // Gives the realm what happens at the client's transport, and puts what it says to the client after the replies.
     pub fn act(&mut self, act: &Act) -> Result<Progress, RunFault>
         ensures { Performs result self.old act.now self.old.draw self.new }
     {
@@ -73,7 +65,7 @@ impl Service {
         self.replies.tell(says.as_slice())
     }
 
-    // Answers the next frame, if a whole one is there.
+    // Answers the next frame, if a whole one is held.
     pub fn answer_next(&mut self) -> Result<Progress, RunFault>
         ensures answers { (more : List ℕ) → Answers result (due self.old more) (due self.new more)
             self.old.replies.octets self.new.replies.octets }
@@ -102,7 +94,7 @@ impl Service {
         }
     }
 
-    // Answers what a message was read as, with this draw; the next one has the next.
+    // Answers what a message was read as, with the present draw; the next message has the next one.
     fn answer_message(&mut self, read: Shared<Read>) -> Result<Progress, RunFault>
         ensures { Performs result self.old (Act.Said self.old.draw read) (id_after self.old.draw) self.new }
     {
@@ -112,11 +104,11 @@ impl Service {
     }
 }
 
-// The next whole frame, where it lies, if one is there.
+// Returns the next whole frame without copying it. `None` if no whole one is held.
 fn front(splitter: &Splitter) -> Result<Option<FrameRef<'_>>, RunFault>
     ensures { Takes result splitter.now (option_map passed splitter.now) }
 {
-    match splitter.front() {
+    match splitter.peek() {
         Ok(front) => Ok(front),
         Err(_) => Err(RunFault::from(ListenFault::Frame)),
     }

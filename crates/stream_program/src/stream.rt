@@ -9,22 +9,22 @@ use realm_machine::Act;
 use std::alloc::Global;
 use std::io::{Read, Write};
 
-// How many octets one read takes at the most.
+// The most octets of one read.
 const CHUNK: usize = 1 << 16;
 
-// How many reads there are at the most.
+// The most reads of a run.
 const MOST_TURNS: u64 = 1 << 32;
 
 /// Serves one client over its bytes, handshake first: reads what it sends, and writes what the realm of this name answers.
 ///
-/// It ends with `Ok` where the reader ends, or where the realm closes the transport; nothing more is read then. A fault
-/// ends it, too: `Memory`, or `Transport` with 81 for a handshake that is refused, not answered at all or cut short, 82
+/// It ends with `Ok` when the reader ends, or when the realm closes the transport; nothing more is read then. A fault ends it,
+/// too: `Memory`, or `Transport` with 81 for a handshake that is refused, not answered at all or cut short, 82
 /// for what is no frame, 83 for a read that failed, 84 for a write that failed, 85 after 2^32 reads, and 87 for a
 /// message or PONG that is longer than the client takes. But for `Memory` and 84, all that is due to what was read is
 /// written by then.
 ///
-/// One turn is one read of up to 64 KiB. The replies to the frames that it completes are written and flushed before the
-/// next read, and earlier where they pass 64 KiB. The memory that is taken does not grow with the length of the run.
+/// A read takes up to 64 KiB. The replies to the frames that it completes are written and flushed before the next read, and
+/// earlier if they pass 64 KiB. What is allocated does not grow with the length of the run.
 /// (WAMP specification, "RawSocket Transport"; docs/PROTOCOL.md, "A stream".)
 pub fn stream_run<R: Read, W: Write>(
     alloc: Global,

@@ -9,10 +9,10 @@ use client_listener::ListenFault;
 use realm_machine::Act;
 use std::io::{Read, Write};
 
-// How many octets of replies may wait while further frames are answered.
+// The most octets of replies that may wait while further frames are answered.
 const FULL: usize = 1 << 16;
 
-// Reads once, into `chunk`, and answers all frames that are whole then. Answers whether the transport stays open.
+// Reads once, into `chunk`, and answers all frames that are whole then. Returns whether the transport stays open.
 pub(crate) fn turn<R: Read, W: Write>(
     reader: &mut R,
     writer: &mut W,
@@ -37,7 +37,7 @@ pub(crate) fn turn<R: Read, W: Write>(
     }
 }
 
-// Does what happens at the client's transport to the realm, and writes what the client is told.
+// Gives the realm what happens at the client's transport, and writes what it says to the client.
 pub(crate) fn act_out<W: Write>(
     writer: &mut W,
     service: &mut Service,
@@ -50,7 +50,7 @@ pub(crate) fn act_out<W: Write>(
     outcome
 }
 
-// Answers all frames that are whole. Answers whether the transport stays open.
+// Answers all frames that are whole. Returns whether the transport stays open.
 fn answer_frames<W: Write>(writer: &mut W, service: &mut Service) -> Result<bool, RunFault>
     ensures { AnswersAll result service.old service.new (W.contents writer.old) (W.contents writer.new) }
 {
@@ -64,7 +64,7 @@ fn answer_frames<W: Write>(writer: &mut W, service: &mut Service) -> Result<bool
     }
 }
 
-// Answers the next frame, and writes the replies where they are many or the turn ends.
+// Answers the next frame, and writes the replies if they are many or the turn ends.
 fn answer_frame<W: Write>(writer: &mut W, service: &mut Service) -> Result<Progress, RunFault>
     ensures steps { Steps result service.old service.new (W.contents writer.old) (W.contents writer.new) }
     ensures shrinks { result ≡ Ok Progress.Onward → held_len service.new.splitter < held_len service.old.splitter }

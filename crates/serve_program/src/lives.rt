@@ -1,40 +1,32 @@
+// The lives of a node on its thread: it is opened over its store and turned until its gate is shut. If it is lost in its boot it begins its
+// next one over the same store.
 ghost use Rattle.std.specs.Prelude.{◌≡◌, false, IfOk, IfSome};
 ghost use Rattle.mail_table.specs.Seats.{Owns};
 ghost use Rattle.paxos_node.specs.declared.view.Opened.TheVariants.{Never};
 
+use crate::fault::NodeFault;
 use crate::source::{Boots, Source};
 use actor_run::{Feed, Gate, run_node};
 use node_actor::{Actor, ActorFault, Body, Keeper, Machine, Mail, Members, NodeSeat, Post};
 use std::alloc::Global;
 
-// The faults of a node that is lost in its present boot, and of a seat that is of no member.
-const LOST: u8 = 73;
-
-const FOREIGN: u8 = 72;
-
-// The number of a fault, behind which all that is left of the node is let go.
-fn number_of<B: Body, Y: Drop, K: Drop>(left: (ActorFault<Y>, Post<B>, K)) -> u8 {
-    let number = left.0.number();
-    drop(left);
-    number
+// Returns the fault, and drops the rest of the node.
+fn fault_of<B: Body, Y: Drop, K: Drop>(left: (ActorFault<Y>, Post<B>, K)) -> NodeFault {
+    let (fault, post, keeper) = left;
+    drop(post);
+    drop(keeper);
+    NodeFault::from(fault)
 }
 
-// The number of a fault.
-fn told_number<Y: Drop>(fault: ActorFault<Y>) -> u8 {
-    let number = fault.number();
-    drop(fault);
-    number
-}
-
-// The actor of a node that was never opened, with this machine.
-fn opened_with<M: Machine, K: Keeper<M::Body> + Drop>(
+// Opens the actor of a node that was never opened, with this machine.
+fn open_with<M: Machine, K: Keeper<M::Body> + Drop>(
     alloc: Global,
     mail: &Mail<M::Body>,
     members: Members,
     seat: NodeSeat<M::Body>,
     machine: M,
     keeper: K,
-) -> Result<Actor<M, K>, u8>
+) -> Result<Actor<M, K>, NodeFault>
     requires owned { Owns mail.now seat }
     requires fresh { seat.part.seen.opened ≡ Never }
     requires table { members ≡ mail.now.members }
@@ -43,41 +35,41 @@ fn opened_with<M: Machine, K: Keeper<M::Body> + Drop>(
 {
     let me = seat.node();
     if me < 1 || members.count() < me {
-        return Err(FOREIGN);
+        return Err(NodeFault::NoMember);
     }
     match Actor::open(alloc, mail, seat, me, members, machine, keeper) {
         Ok(actor) => Ok(actor),
-        Err(left) => Err(number_of(left)),
+        Err(left) => Err(fault_of(left)),
     }
 }
 
-// The actor of a node that was never opened.
-fn opened<M: Machine, K: Keeper<M::Body> + Drop, S: Source<M>>(
+// Opens the actor of a node that was never opened.
+fn open_actor<M: Machine, K: Keeper<M::Body> + Drop, S: Source<M>>(
     alloc: Global,
     mail: &Mail<M::Body>,
     members: Members,
     seat: NodeSeat<M::Body>,
     source: &S,
     keeper: K,
-) -> Result<Actor<M, K>, u8>
+) -> Result<Actor<M, K>, NodeFault>
     requires owned { Owns mail.now seat }
     requires fresh { seat.part.seen.opened ≡ Never }
     requires table { members ≡ mail.now.members }
     ensures { IfOk result (λ actor. Owns mail.now actor.seat) }
 {
-    match source.first(alloc) {
-        Ok(machine) => opened_with(alloc, mail, members, seat, machine, keeper),
+    match source.make_machine(alloc) {
+        Ok(machine) => open_with(alloc, mail, members, seat, machine, keeper),
         Err(fault) => Err(fault),
     }
 }
 
-// The actor in its next boot, with a machine in its first content.
-fn restarted<M: Machine, K: Keeper<M::Body> + Drop>(
+// Crashes the actor, and restarts it with a machine in its first content.
+fn restart_actor<M: Machine, K: Keeper<M::Body> + Drop>(
     alloc: Global,
     mail: &Mail<M::Body>,
     actor: Actor<M, K>,
     machine: M,
-) -> Result<Actor<M, K>, u8>
+) -> Result<Actor<M, K>, NodeFault>
     requires owned { Owns mail.now actor.seat }
     requires machine { M.has_failed machine ≡ false }
     ensures { IfOk result (λ actor. Owns mail.now actor.seat) }
@@ -85,47 +77,47 @@ fn restarted<M: Machine, K: Keeper<M::Body> + Drop>(
     let (post, keeper) = actor.crash();
     match Actor::restart(alloc, mail, post, machine, keeper) {
         Ok(actor) => Ok(actor),
-        Err(left) => Err(number_of(left)),
+        Err(left) => Err(fault_of(left)),
     }
 }
 
-// The actor is turned until its gate is shut, or until a fault ends it, whose number is given.
-fn turned<M: Machine, K: Keeper<M::Body>, G: Gate, F: Feed<M::Body, M::Say>>(
+// Turns the actor until its gate is shut, or until a fault ends it, which is returned.
+fn run_until_shut<M: Machine, K: Keeper<M::Body>, G: Gate, F: Feed<M::Body, M::Say>>(
     mail: &Mail<M::Body>,
     actor: &mut Actor<M, K>,
     gate: &G,
     feed: &mut F,
-) -> Option<u8>
+) -> Option<NodeFault>
     requires owned { Owns mail.now actor.old.seat }
     ensures { Owns mail.now actor.new.seat }
 {
     match run_node(mail, actor, gate, feed) {
         Ok(()) => None,
-        Err(fault) => Some(told_number(fault)),
+        Err(fault) => Some(NodeFault::from(fault)),
     }
 }
 
-// One life of the node: the actor of its next one, with this machine, where it was lost; none where its gate is shut.
-fn life<M: Machine, K: Keeper<M::Body> + Drop, G: Gate, F: Feed<M::Body, M::Say>>(
+// Runs one life of the node. Returns the actor of its next one, with this machine, if it was lost, and none if its gate is shut.
+fn run_life<M: Machine, K: Keeper<M::Body> + Drop, G: Gate, F: Feed<M::Body, M::Say>>(
     alloc: Global,
     mail: &Mail<M::Body>,
     actor: Actor<M, K>,
     machine: M,
     gate: &G,
     feed: &mut F,
-) -> Result<Option<Actor<M, K>>, u8>
+) -> Result<Option<Actor<M, K>>, NodeFault>
     requires owned { Owns mail.now actor.seat }
     requires machine { M.has_failed machine ≡ false }
     ensures { IfOk result (λ next. IfSome next (λ actor. Owns mail.now actor.seat)) }
 {
     let mut actor = actor;
-    match turned(mail, &mut actor, gate, feed) {
+    match run_until_shut(mail, &mut actor, gate, feed) {
         None => {
             drop(actor);
             drop(machine);
             Ok(None)
         }
-        Some(LOST) => match restarted(alloc, mail, actor, machine) {
+        Some(NodeFault::Lost) => match restart_actor(alloc, mail, actor, machine) {
             Ok(actor) => Ok(Some(actor)),
             Err(fault) => Err(fault),
         },
@@ -137,15 +129,15 @@ fn life<M: Machine, K: Keeper<M::Body> + Drop, G: Gate, F: Feed<M::Body, M::Say>
     }
 }
 
-// One life, with a machine for the one behind it.
-fn next_life<M, K, S, G, F>(
+// Runs one life, with a machine for the one after it.
+fn run_next_life<M, K, S, G, F>(
     alloc: Global,
     mail: &Mail<M::Body>,
     actor: Actor<M, K>,
     source: &S,
     gate: &G,
     feed: &mut F,
-) -> Result<Option<Actor<M, K>>, u8>
+) -> Result<Option<Actor<M, K>>, NodeFault>
 where
     M: Machine,
     K: Keeper<M::Body> + Drop,
@@ -155,8 +147,8 @@ where
     requires owned { Owns mail.now actor.seat }
     ensures { IfOk result (λ next. IfSome next (λ actor. Owns mail.now actor.seat)) }
 {
-    match source.first(alloc) {
-        Ok(machine) => life(alloc, mail, actor, machine, gate, feed),
+    match source.make_machine(alloc) {
+        Ok(machine) => run_life(alloc, mail, actor, machine, gate, feed),
         Err(fault) => {
             drop(actor);
             Err(fault)
@@ -164,15 +156,15 @@ where
     }
 }
 
-// The node's lives, one after the other.
-fn lives<M, K, S, G, F>(
+// Runs the node's lives, one after the other.
+fn run_each_life<M, K, S, G, F>(
     alloc: Global,
     mail: &Mail<M::Body>,
     actor: Actor<M, K>,
     source: &S,
     gate: &G,
     feed: &mut F,
-) -> Result<(), u8>
+) -> Result<(), NodeFault>
 where
     M: Machine,
     K: Keeper<M::Body> + Drop,
@@ -183,7 +175,7 @@ where
 {
     let mut actor = actor;
     for _ in 0..u64::MAX {
-        match next_life(alloc, mail, actor, source, gate, feed) {
+        match run_next_life(alloc, mail, actor, source, gate, feed) {
             Err(fault) => return Err(fault),
             Ok(None) => return Ok(()),
             Ok(Some(next)) => {
@@ -196,12 +188,12 @@ where
     Ok(())
 }
 
-/// Opens the node over its store, with a machine from the source, and turns it until its gate is shut. A node that is lost (73) is crashed and
-/// restarted over the same store, which has not failed, with a new machine. The feed is told of each boot.
+/// Opens the node over its store, with a machine from the source, and turns it until its gate is shut. A node that is lost is crashed and
+/// restarted over the same store, which has not failed, with a new machine. The feed notes each boot.
 ///
-/// Any other fault ends the node, and its number is given: 72 for a seat of no member, the source's, the actor's, the store's. Seat, machine
-/// and store are gone behind it.
-pub fn run_lives<M, K, S, G, F>(
+/// Any other fault ends the node: `NoMember` for a seat of no member, the source's, the actor's or the store's. Seat, machine and store are
+/// dropped then.
+pub(crate) fn run_lives<M, K, S, G, F>(
     alloc: Global,
     mail: &Mail<M::Body>,
     members: Members,
@@ -210,7 +202,7 @@ pub fn run_lives<M, K, S, G, F>(
     keeper: K,
     gate: &G,
     feed: &mut F,
-) -> Result<(), u8>
+) -> Result<(), NodeFault>
 where
     M: Machine,
     K: Keeper<M::Body> + Drop,
@@ -221,10 +213,10 @@ where
     requires fresh { seat.part.seen.opened ≡ Never }
     requires table { members ≡ mail.now.members }
 {
-    match opened::<M, K, S>(alloc, mail, members, seat, source, keeper) {
+    match open_actor::<M, K, S>(alloc, mail, members, seat, source, keeper) {
         Ok(actor) => {
             feed.up(actor.me(), actor.boot());
-            lives(alloc, mail, actor, source, gate, feed)
+            run_each_life(alloc, mail, actor, source, gate, feed)
         }
         Err(fault) => Err(fault),
     }

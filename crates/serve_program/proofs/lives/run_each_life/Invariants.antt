@@ -1,5 +1,5 @@
 use Rattle.mail_table.specs.Seats.{Owns}
-use Rattle.node_lives.proofs.run.lives.Given as goal
+use Rattle.serve_program.proofs.lives.run_each_life.Given as goal
 
 -- the table owns the seat of the node's present life
 abbrev pub invariant-loop : goal.invariant-loop
