@@ -1,9 +1,10 @@
--- How the faults of a script and of a served cluster are told (docs/PROTOCOL.md, "A stream").
+-- How the faults of a script and of a served cluster are turned into the program's (docs/PROTOCOL.md, "A stream").
 use Rattle.client_listener.specs.declared.fault.ListenFault.TheVariants as listen
 use Rattle.script_program.specs.declared.fault.ScriptFault.{ScriptFault}
 use Rattle.script_program.specs.declared.fault.ScriptFault.TheVariants as script
 use Rattle.serve_program.specs.declared.fault.ServeFault.{ServeFault}
 use Rattle.serve_program.specs.declared.fault.ServeFault.TheVariants as serve
+use Rattle.serve_program.specs.Fault.{number_of}
 use Rattle.stream_program.specs.declared.fault.RunFault.{RunFault}
 use Rattle.stream_program.specs.declared.fault.RunFault.TheVariants.{Line, Store, Memory}
 use Rattle.stream_program.specs.Fault.{run_fault_of}
@@ -18,7 +19,7 @@ script_fault_of script.Reads = run_fault_of listen.Turns
 
 -- the fault of a run whose cluster was not served to its end
 abbrev pub serve_fault_of : ServeFault → RunFault
-serve_fault_of (serve.Node node number) = Store number
+serve_fault_of (serve.Node node fault) = Store (number_of fault)
 serve_fault_of serve.Memory = Memory
 serve_fault_of serve.Port = run_fault_of listen.Read
 serve_fault_of serve.Write = run_fault_of listen.Write

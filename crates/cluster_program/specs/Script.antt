@@ -1,4 +1,4 @@
--- What a run of a script leaves behind (docs/CONSENSUS.md, "Scripts").
+-- What a run of a script leaves (docs/SCRIPTS.md, "How a run ends").
 use Rattle.std.specs.Prelude.{◌≡◌, ℕ, List, Option, Result, Ok, Err}
 use Rattle.script_program.specs.declared.fault.ScriptFault.{ScriptFault}
 use Rattle.script_program.specs.Run.{Ends}
@@ -10,7 +10,7 @@ abbrev pub answer_to : Result (Unit {0}) ScriptFault → Result (Unit {0}) RunFa
 answer_to (Ok x) = Ok x
 answer_to (Err fault) = Err (script_fault_of fault)
 
--- the script ended so, in a realm of this name with this program's limits, and its fault is told as the program tells it
+-- the script ended like this, in a realm of this name with this program's limits, and its fault is turned into the program's
 pub record Plays (name : List ℕ) (members : ℕ) (result : Result (Unit {0}) RunFault) (input left old new : Option (List ℕ)) : Type 0 where
   pub ended : Result (Unit {0}) ScriptFault
   pub ends : Ends (config_of name) members ended input left old new

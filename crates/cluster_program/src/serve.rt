@@ -9,13 +9,13 @@ use std::time::Clock;
 use stream_program::RunFault;
 
 /// Runs a cluster of these members, in the realm of this name, each node on a thread of its own under this gate, and serves clients: node I
-/// at port `port + I - 1` of 127.0.0.1, with draws by this key. Rows are kept in `dir/node-I.db`, without a folder in memory. Where each
-/// node listens is written before clients are served.
+/// at port `port + I - 1` of 127.0.0.1, with draws by this key. Rows are kept in `dir/node-I.db`, or in memory if there is no folder. Writes
+/// where each node listens before clients are served.
 ///
-/// It ends when the reader does. A fault ends it: `Store` with the number of a node's fault, 61 where its database does not open, `Memory`,
-/// or `Transport` with 83 for a port that cannot be listened on and 84 for a write that failed. A node that is lost in its boot is
-/// no fault: it begins its next boot, without its clients. Threads that wait for a connection, for a client or for the reader are left.
-/// (docs/ARCHITECTURE.md, "Threads and rings".)
+/// Returns when the reader ends. Fails with `Store` and the number of a node's fault (61 if its database does not open, 77 if the folder has
+/// the database of a node above the members), with `Memory`, or with `Transport`: 83 if a port cannot be listened on, 84 if a write failed.
+/// A node that is lost in its boot is not a fault: it begins its next boot, without its clients. Threads that wait for a connection, for a
+/// client or for the reader are left. (docs/ARCHITECTURE.md, "Threads".)
 pub fn serve_run<R, I, W, G>(
     rt: &R,
     host: &HostRuntime,

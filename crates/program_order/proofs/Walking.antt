@@ -13,7 +13,7 @@ use Rattle.clap.specs.Simple.{App, Shape, filled, names_of, label_of, entered}
 use Rattle.clap.specs.Takes.{turn_passes, walk_passes, settle_passes, default_passes, is_valid, is_given as is_used, level_passes}
 use Rattle.clap.specs.Takes.{built_takes}
 use Rattle.clap.specs.declared.parser.matches.ValueSource.TheVariants.{CommandLine}
-use Rattle.option_args.specs.Args.{option_rule}
+use Rattle.program_order.specs.Program.{option_rule}
 use Rattle.program_order.specs.Order.{Options, option_words, given_in, is_given, is_name}
 
 -- an option as it is once the parser has built it
@@ -43,7 +43,7 @@ row_of o = record {
 abbrev held : List Row → Option (Text × List Text) → Held
 held rows pending = record { rows = rows; pending = pending; skip = 0 }
 
--- where the walk stands between two options: the last one is still to be settled
+-- where the walk is between two options: the last one is still to be settled
 abbrev between : List Row → Option (Text × List Text) → Walk
 between rows pending = record {
   held = held rows pending;
@@ -53,7 +53,7 @@ between rows pending = record {
   stopped = None;
 }
 
--- where it stands between an option's name and its value
+-- where it is between an option's name and its value
 abbrev within : List Row → Text → Walk
 within rows name = record {
   held = held rows (Some (name, []));
@@ -160,7 +160,7 @@ record Finds (s : Shape) (w : Walk) (words : List Text) (rows : List Row) : Type
   settled_last : settle_passes s.rules s.args_override_self (fold (walked s.rules []) w words).held ≡ true
   found : settled_rows s.rules (fold (walked s.rules []) w words).held.pending (fold (walked s.rules []) w words).held.rows ≡ rows
 
--- two words more
+-- two more words
 finds_two : (s : Shape) (w v u : Walk) (a b : Text) (words : List Text) (rows : List Row)
     → walked s.rules [] w a ≡ v → walked s.rules [] v b ≡ u → turn_passes s [] w a ≡ true → turn_passes s [] v b ≡ true
     → Finds s u words rows → Finds s w (a ∷ b ∷ words) rows

@@ -93,7 +93,7 @@ asked_in_rows name rows = asked_by name (λ id. first_of id rows)
 abbrev pub asked_in : List Text → Option Asked
 asked_in words = option_and_then (λ met. asked_in_rows met.0 met.1) (subcommand_of program words)
 
--- ---- what an answer says
+-- ---- what a result says
 
 abbrev pub IsFolder : Option Text → Type 0
 IsFolder dir = IfSome dir (λ name. is_name name ≡ true)
@@ -105,12 +105,12 @@ IsAllowed (script nodes realm) = (3 ≤ nodes) × (nodes ≤ 7) × (is_name real
 IsAllowed (serve nodes port key dir realm) = (3 ≤ nodes) × (nodes ≤ 7) × (1024 ≤ port) × (port ≤ 65529) × (key < 2 ^ 64)
     × IsFolder dir × (is_name realm ≡ true)
 
--- an option's value is the one that is given; where an allowed one is, only memory keeps it from being answered
+-- the value is the one that the option is given; if that is an allowed one, the only possible fault is memory
 abbrev pub Gives : {T : Type 0} → Option T → Result T UsageFault → Type 0
 Gives given (Ok value) = given ≡ Some value
 Gives given (Err fault) = is_some given ≡ true → fault ≡ Memory
 
--- the order is what is asked for; where something is, only memory keeps it from being answered
+-- the order is what is asked for; if something is, the only possible fault is memory
 abbrev pub Answers : Option Asked → Result Order UsageFault → Type 0
 Answers asked (Ok order) = asked ≡ Some (asked_of order)
 Answers asked (Err fault) = is_some asked ≡ true → fault ≡ Memory
@@ -157,7 +157,7 @@ pub record Asks (words : List Text) (asked : Asked) : Type 0 where
   pub are_options : are_options (options_of name) options ≡ true
   pub is_asked : asked_by name (given_in options) ≡ Some asked
 
--- such words are answered by what they ask for, memory aside
+-- such words give the order that they ask for, unless memory runs out
 abbrev pub AnswersAsked : List Text → Result Order UsageFault → Type 0
 AnswersAsked words result =
     (asked : Asked) → Asks words asked → MatchResult result (λ order. asked_of order ≡ asked) (λ fault. fault ≡ Memory)

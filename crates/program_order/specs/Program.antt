@@ -1,8 +1,12 @@
 -- The program's command line, as its parser sees it.
-use Rattle.std.specs.Prelude.{◌≡◌, true, List, ℕ, codes}
+use Rattle.std.specs.Prelude.{◌≡◌, true, List, ℕ, Some, codes}
+use Rattle.clap.specs.declared.builder.action.ArgAction.TheVariants.{Set}
 use Rattle.clap.specs.declared.builder.command.Command.{Command}
-use Rattle.clap.specs.Words.{AddsSubcommand, App, Rule, Shape, app_of, new_app, with_rule, with_subcommand}
-use Rattle.option_args.specs.Args.{option_rule}
+use Rattle.clap.specs.Words.{AddsSubcommand, App, Rule, Shape, app_of, new_app, new_rule, with_rule, with_subcommand}
+
+-- `--name VALUE`
+abbrev pub option_rule : List ℕ → Rule
+option_rule name = record (new_rule name) { long = Some name; action = Some Set; value_names = 1 }
 
 -- an option that has to be given
 abbrev pub required_rule : List ℕ → Rule

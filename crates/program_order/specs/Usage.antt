@@ -1,4 +1,4 @@
--- The statuses of a command line that is wrong (docs/PROTOCOL.md, "A stream").
+-- The statuses of a command line that is wrong (docs/PROTOCOL.md, "A stream"; docs/OPERATING.md).
 use Rattle.std.specs.Prelude.{ℕ}
 use Rattle.program_order.specs.declared.usage.UsageFault.{UsageFault}
 use Rattle.program_order.specs.declared.usage.UsageFault.TheVariants.{Usage, Memory}

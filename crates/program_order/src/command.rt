@@ -1,17 +1,16 @@
-// The program's command line, as its parser reads it.
-ghost use Rattle.std.specs.Prelude.{◌≡◌, false, IfOk, codes};
-ghost use Rattle.clap.specs.Words.{Shape, app_of, rule_of, with_subcommand};
-ghost use Rattle.option_args.specs.Args.{option_rule};
-ghost use Rattle.program_order.specs.Program.{required_rule, stream_shape, script_shape, serve_shape, bare, program, IsSubcommand};
+// Builds the program's command line, as its parser reads it.
+ghost use Rattle.std.specs.Prelude.{◌≡◌, IfOk};
+ghost use Rattle.clap.specs.Words.{Shape, app_of, with_subcommand};
+ghost use Rattle.program_order.specs.Program.{stream_shape, script_shape, serve_shape, bare, program, IsSubcommand};
 
-use clap::{Arg, Command};
-use option_args::option_arg;
+use crate::args::{dir_arg, key_arg, nodes_arg, port_arg, realm_arg};
+use clap::Command;
 use std::alloc::{AllocError, Global};
 
 // The program's version.
 const VERSION: &str = "0.1.0";
 
-// What the subcommands do, for its help.
+// What the subcommands do, for the help.
 const STREAM: &str =
     "Serves one client: its RawSocket octets on standard input, the router's on standard output";
 
@@ -21,7 +20,7 @@ const SCRIPT: &str =
 const SERVE: &str =
     "Runs a cluster whose nodes clients connect to by RawSocket and JSON, until standard input ends";
 
-// How a cluster is run, for the help of its subcommand.
+// How to run a cluster, for the help of its subcommand.
 const EXAMPLE: &str = "\
 Example: three nodes at 127.0.0.1:9000, 127.0.0.1:9001 and 127.0.0.1:9002, whose rows are kept in the folder data.
 They run until standard input ends (Ctrl-D); started again in the same way, they go on from their rows.
@@ -29,17 +28,19 @@ They run until standard input ends (Ctrl-D); started again in the same way, they
   mkdir data
   wampd serve --nodes 3 --port 9000 --key 7 --dir data";
 
-// How the program ends, for its help.
+// How the program ends, for the help.
 const STATUSES: &str = "\
 Exit status:
   0  the client ended, or was told goodbye; the script was played; the cluster's standard input ended
   2  the command line is wrong
-  3  a line of the script is no event
-  4  a node of the cluster failed; docs/PROTOCOL.md has the numbers of its faults
+  3  a line of the script is not an event
+  4  a node of the cluster failed
   5  no memory is left
-  6  the transport failed, or nothing can be written; docs/PROTOCOL.md has the numbers of its faults";
+  6  the transport failed, or nothing can be written
 
-// The program's command line.
+docs/OPERATING.md explains each status, and the numbers of faults on standard error.";
+
+// Returns the program's command line.
 pub(crate) fn command<'a>(alloc: Global) -> Result<Command<'a>, AllocError>
     ensures { IfOk result (λ c. app_of c ≡ program) }
 {
@@ -49,7 +50,7 @@ pub(crate) fn command<'a>(alloc: Global) -> Result<Command<'a>, AllocError>
     added(two, serve_command(alloc))
 }
 
-// The command with the subcommand; where that could not be made, the command is dropped.
+// Adds the subcommand to the command. If the subcommand could not be made, the command is dropped.
 fn added<'a>(
     command: Command<'a>,
     subcommand: Result<Command<'a>, AllocError>,
@@ -66,7 +67,7 @@ fn added<'a>(
     }
 }
 
-// The program's command line without its subcommands.
+// Returns the program's command line without its subcommands.
 fn bare_command<'a>(alloc: Global) -> Result<Command<'a>, AllocError>
     ensures { IfOk result (λ c. app_of c ≡ bare) }
 {
@@ -111,67 +112,4 @@ fn serve_command<'a>(alloc: Global) -> Result<Command<'a>, AllocError>
         .arg(key_arg(alloc))?
         .arg(dir_arg(alloc))?
         .arg(realm_arg(alloc))
-}
-
-fn realm_arg<'a>(alloc: Global) -> Arg<'a>
-    ensures rule { rule_of result ≡ option_rule (codes "realm") }
-    ensures local { result.global ≡ false }
-{
-    option_arg(
-        alloc,
-        "realm",
-        "NAME",
-        "The realm that is served [default: realm1]",
-    )
-}
-
-fn nodes_arg<'a>(alloc: Global) -> Arg<'a>
-    ensures rule { rule_of result ≡ required_rule (codes "nodes") }
-    ensures local { result.global ≡ false }
-{
-    option_arg(
-        alloc,
-        "nodes",
-        "N",
-        "How many nodes the cluster has, 3 to 7",
-    )
-    .required(true)
-}
-
-fn port_arg<'a>(alloc: Global) -> Arg<'a>
-    ensures rule { rule_of result ≡ required_rule (codes "port") }
-    ensures local { result.global ≡ false }
-{
-    option_arg(
-        alloc,
-        "port",
-        "P",
-        "The port of node 1, 1024 to 65529; node I listens on 127.0.0.1 at port P+I-1",
-    )
-    .required(true)
-}
-
-fn key_arg<'a>(alloc: Global) -> Arg<'a>
-    ensures rule { rule_of result ≡ required_rule (codes "key") }
-    ensures local { result.global ≡ false }
-{
-    option_arg(
-        alloc,
-        "key",
-        "K",
-        "The key of the cluster's random draws, 0 to 18446744073709551615",
-    )
-    .required(true)
-}
-
-fn dir_arg<'a>(alloc: Global) -> Arg<'a>
-    ensures rule { rule_of result ≡ option_rule (codes "dir") }
-    ensures local { result.global ≡ false }
-{
-    option_arg(
-        alloc,
-        "dir",
-        "FOLDER",
-        "The folder that keeps the nodes' rows, which has to be there [default: they are kept in memory]",
-    )
 }

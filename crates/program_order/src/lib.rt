@@ -1,6 +1,7 @@
-//! What the words of the program's command line ask for.
+//! Reads the words of the program's command line as an order.
 #![tactic(auto)]
 
+mod args;
 mod command;
 mod number;
 mod order;

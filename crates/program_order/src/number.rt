@@ -1,7 +1,7 @@
 ghost use Rattle.std.specs.Prelude.{◌≡◌, ◌<◌, ◌^◌};
 ghost use Rattle.program_order.specs.Number.{begins_with_digit, number_in};
 
-// The number up to `most` that is written in digits.
+// Returns the number up to `most` that the text writes in digits.
 pub(crate) fn number_in(text: &str, most: u64) -> Option<u64>
     ensures { result ≡ number_in most text.now }
 {

@@ -15,7 +15,7 @@ use clap::{ArgMatches, Command};
 use paxos_packets::Members;
 use std::alloc::{AllocError, Global};
 
-// The realm that is served where the command line names none.
+// The realm that is served if the command line names none.
 const DEFAULT_REALM: &str = "realm1";
 
 /// What a command line asks the program to do.
@@ -41,11 +41,11 @@ pub enum Order {
     },
 }
 
-/// The order that these words give, without the program's own name.
+/// Returns the order that these words give, without the program's own name.
 ///
 /// The name of a realm or of a folder is a text that is not empty and does not begin with `-`; a number of nodes is 3 to 7,
-/// a port 1024 to 65529, a key any number of 64 bits. A request for help or for the version is no order: `help_of` answers
-/// it.
+/// a port 1024 to 65529, a key any number of 64 bits. A request for help or for the version is not an order: `help_of` has its
+/// text.
 pub fn order_of<'a>(alloc: Global, words: &'a [String]) -> Result<Order, UsageFault>
     ensures answers { AnswersWords (map (λ s. string_bytes s) words.entry.now) result }
     ensures allowed { IfOk result (λ order. IsAllowed (asked_of order)) }
@@ -54,8 +54,8 @@ pub fn order_of<'a>(alloc: Global, words: &'a [String]) -> Result<Order, UsageFa
     order_in(alloc, words)
 }
 
-/// What to print where the words ask for help or for the version, as `--help`, `stream --help` and `--version` do; `None`
-/// where they do not.
+/// Returns what to print if the words ask for help or for the version, as `--help`, `stream --help` and `--version` do; else
+/// `None`.
 pub fn help_of<'a>(alloc: Global, words: &'a [String]) -> Result<Option<String>, UsageFault> {
     let Err(error) = parse(alloc, words)? else {
         return Ok(None);
@@ -66,7 +66,7 @@ pub fn help_of<'a>(alloc: Global, words: &'a [String]) -> Result<Option<String>,
     }
 }
 
-// What the command line's parser makes of the words.
+// Parses the words by the program's command line.
 fn parse<'a>(
     alloc: Global,
     words: &'a [String],
@@ -79,7 +79,7 @@ fn parse<'a>(
     Ok(command.try_get_matches_from(words))
 }
 
-// The order that these words give.
+// Returns the order that these words give.
 fn order_in<'a>(alloc: Global, words: &'a [String]) -> Result<Order, UsageFault>
     ensures answers { AnswersWords (map (λ s. string_bytes s) words.entry.now) result }
     ensures allowed { IfOk result (λ order. IsAllowed (asked_of order)) }
@@ -94,7 +94,7 @@ fn order_in<'a>(alloc: Global, words: &'a [String]) -> Result<Order, UsageFault>
     }
 }
 
-// The order of this subcommand with these options.
+// Returns the order of this subcommand with these options.
 fn order_by<'a>(alloc: Global, name: &str, options: &ArgMatches<'a>) -> Result<Order, UsageFault>
     ensures answers { Answers (asked_in_rows name.now (rows_of (found_of options.now))) result }
     ensures allowed { IfOk result (λ order. IsAllowed (asked_of order)) }
@@ -142,7 +142,7 @@ fn serve_by<'a>(alloc: Global, options: &ArgMatches<'a>) -> Result<Order, UsageF
     })
 }
 
-// The members of the cluster that is asked for.
+// Returns the members of the cluster that is asked for.
 fn nodes_by<'a>(alloc: Global, options: &ArgMatches<'a>) -> Result<Members, UsageFault>
     ensures { Gives (nodes_in (first_of (codes "nodes") (rows_of (found_of options.now)))) result }
 {
@@ -152,7 +152,7 @@ fn nodes_by<'a>(alloc: Global, options: &ArgMatches<'a>) -> Result<Members, Usag
     }
 }
 
-// The port of node 1.
+// Returns the port of node 1.
 fn port_by<'a>(alloc: Global, options: &ArgMatches<'a>) -> Result<u16, UsageFault>
     ensures gives { Gives (port_in (first_of (codes "port") (rows_of (found_of options.now)))) result }
     ensures allowed { IfOk result (λ port. (1024 ≤ port) × (port ≤ 65529)) }
@@ -163,7 +163,7 @@ fn port_by<'a>(alloc: Global, options: &ArgMatches<'a>) -> Result<u16, UsageFaul
     }
 }
 
-// The key of the draws.
+// Returns the key of the draws.
 fn key_by<'a>(alloc: Global, options: &ArgMatches<'a>) -> Result<u64, UsageFault>
     ensures { Gives (key_in (first_of (codes "key") (rows_of (found_of options.now)))) result }
 {
@@ -176,7 +176,7 @@ fn key_by<'a>(alloc: Global, options: &ArgMatches<'a>) -> Result<u64, UsageFault
     }
 }
 
-// The name of the folder that is given, if one is.
+// Returns the name of the folder, if one is given.
 fn dir_by<'a>(alloc: Global, options: &ArgMatches<'a>) -> Result<Option<String>, UsageFault>
     ensures gives { MatchResult result
         (λ dir. dir_in (first_of (codes "dir") (rows_of (found_of options.now))) ≡ Some (option_map (λ s. string_bytes s) dir))
@@ -193,7 +193,7 @@ fn dir_by<'a>(alloc: Global, options: &ArgMatches<'a>) -> Result<Option<String>,
     Ok(Some(String::from_str(alloc, dir)?))
 }
 
-// The name of the realm that is given, or else the default.
+// Returns the name of the realm that is given, or else the default.
 fn realm_by<'a>(alloc: Global, options: &ArgMatches<'a>) -> Result<String, UsageFault>
     ensures { MatchResult result
         (λ realm. realm_in (first_of (codes "realm") (rows_of (found_of options.now))) ≡ Some (string_bytes realm))
@@ -207,14 +207,14 @@ fn realm_by<'a>(alloc: Global, options: &ArgMatches<'a>) -> Result<String, Usage
     Ok(String::from_str(alloc, realm)?)
 }
 
-// The text that is given for this option, if one is.
+// Returns the text that is given for this option, if one is.
 fn option_of<'a>(options: &ArgMatches<'a>, name: &str) -> Option<&'a str>
     ensures { option_map (λ text. text.now) result ≡ first_of name.now (rows_of (found_of options.now)) }
 {
     options.get_str(name)
 }
 
-// The name, or that of the default realm.
+// Returns the name, or that of the default realm.
 fn named(text: Option<&str>) -> &str
     ensures { realm_in (option_map (λ text. text.now) text.entry) ≡ name_in result.now }
 {
@@ -233,7 +233,7 @@ fn is_name(text: &str) -> bool
     }
 }
 
-// The members of a cluster of so many nodes, if that is a number of nodes.
+// Returns the members of a cluster of this many nodes, if a cluster may have this many.
 fn nodes_in(text: Option<&str>) -> Option<Members>
     ensures { result ≡ nodes_in (option_map (λ s. s.now) text.entry) }
 {
@@ -241,7 +241,7 @@ fn nodes_in(text: Option<&str>) -> Option<Members>
     Members::new(count as u8)
 }
 
-// The port of this number, if the ports of all nodes of a cluster are ports.
+// Returns the port with this number, if the ports of all nodes of a cluster are then valid.
 fn port_in(text: Option<&str>) -> Option<u16>
     ensures { result ≡ port_in (option_map (λ s. s.now) text.entry) }
 {

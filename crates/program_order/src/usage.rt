@@ -8,7 +8,7 @@ use clap::error::ErrorKind;
 use std::alloc::{AllocError, Global};
 use thiserror::Error;
 
-// How the program is used, for a command line that is wrong.
+// How to use the program, for a command line that is wrong.
 const USAGE: &str = "\
 Usage: wampd stream [--realm NAME]
        wampd script --nodes N [--realm NAME]
@@ -25,10 +25,10 @@ Usage: wampd stream [--realm NAME]
 
 For more information, try 'wampd --help'.";
 
-/// Why a command line is no order.
+/// Why a command line is not an order.
 #[derive(Debug, Drop, Error)]
 pub enum UsageFault {
-    /// The words are no order; the text says what is wrong with them, and how the program is used.
+    /// The words are not an order. The text says what is wrong with them, and how to use the program.
     #[error("{0}")]
     Usage(String),
     #[error("memory")]
@@ -36,7 +36,7 @@ pub enum UsageFault {
 }
 
 impl UsageFault {
-    /// The status with which the program ends: 2, or 5 for want of memory.
+    /// Returns the status with which the program ends: 2, or 5 if memory ran out.
     pub fn status(&self) -> u8
         ensures { result ≡ usage_status_of self.now }
     {
@@ -55,12 +55,12 @@ impl From<AllocError> for UsageFault {
     }
 }
 
-/// The fault of a command line of which a word is no text, since it is not UTF-8.
+/// Returns the fault of a command line with a word that is not UTF-8.
 pub fn unreadable_words(alloc: Global) -> UsageFault {
     usage(alloc, "error: a word of the command line is not UTF-8")
 }
 
-// The fault that the command line's parser found.
+// Returns the fault that the command line's parser found.
 pub(crate) fn fault_of(alloc: Global, error: &clap::Error) -> UsageFault
     ensures { kind_of error.now ≡ OutOfMemory → result ≡ Memory }
 {
@@ -73,7 +73,7 @@ pub(crate) fn fault_of(alloc: Global, error: &clap::Error) -> UsageFault
     }
 }
 
-// The front of what the parser says: the cause, and what may have been meant. Its usage is told by `USAGE`.
+// Returns the beginning of what the parser says: the cause, and what may have been meant. `USAGE` replaces the usage that follows.
 fn cause_in(text: &str) -> &str {
     for end in ["\n\nUsage:", "\n\nFor more information"] {
         if let Some((cause, _usage)) = text.split_once(end) {
@@ -83,7 +83,7 @@ fn cause_in(text: &str) -> &str {
     text
 }
 
-// The fault of this cause.
+// Returns the fault with this cause.
 pub(crate) fn usage(alloc: Global, cause: &str) -> UsageFault {
     match format!(in alloc; "{cause}\n\n{USAGE}") {
         Ok(text) => UsageFault::Usage(text),

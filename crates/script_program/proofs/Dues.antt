@@ -4,11 +4,11 @@ use Rattle.std.specs.Prelude.{slice_get}
 use Rattle.std.specs.List.{enumerate_from, find}
 use Rattle.paxos_packets.specs.declared.packet.Packet.{Packet}
 use Rattle.realm_acts.specs.declared.act.Act.{Act}
-use Rattle.waiting_packets.specs.Waiting as waiting
+use Rattle.script_program.specs.Waiting as waiting
 use Rattle.cluster_world.specs.Scripts.{is_due}
 use Rattle.script_program.specs.Player.{waits_from}
 
--- none is, or one that stands at this place and has the number behind it
+-- none is, or one that is at this place and has the next number
 abbrev pub Finds : List (Packet Act) → Option ℕ → Option (ℕ × Packet Act) → Type 0
 Finds sent None None = Unit {0}
 Finds sent None (Some e) = ⊥

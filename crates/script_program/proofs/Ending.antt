@@ -6,23 +6,23 @@ use Rattle.std.proofs.KnownBytes.{Appends-nil, Appends-trans}
 use Rattle.paxos_packets.specs.declared.transport.Transport.{Transport}
 use Rattle.realm_acts.specs.declared.act.Act.{Act}
 use Rattle.realm_acts.specs.Act.{same_act}
-use Rattle.realm_sayings.specs.declared.act.Say.{Say}
+use Rattle.realm_machine.specs.declared.sayings.say.Say.{Say}
 use Rattle.realm_machine.specs.Config.{Config}
 use Rattle.realm_machine.specs.Machine.{realm_of}
 use Rattle.realm_machine.specs.Laws.{live_realm}
 use Rattle.cluster_world.specs.Has.{Has}
 use Rattle.cluster_world.specs.Told.{WereHanded}
 use Rattle.cluster_world.specs.World.{World, played}
-use Rattle.script_lines.specs.declared.line.Line.{Line}
-use Rattle.script_lines.specs.declared.lines.LinesFault.{LinesFault}
-use Rattle.script_lines.specs.declared.lines.LinesFault.TheVariants as lines
-use Rattle.script_lines.specs.Lines.{script_of, FailsBy}
+use Rattle.script_program.specs.declared.lines.line.Line.{Line}
+use Rattle.script_program.specs.declared.lines.LinesFault.{LinesFault}
+use Rattle.script_program.specs.declared.lines.LinesFault.TheVariants as lines
+use Rattle.script_program.specs.Lines.{script_of, FailsBy}
 use Rattle.script_program.specs.Playing.{HandsOutAsRealm, events_of}
 use Rattle.script_program.specs.declared.fault.ScriptFault.{ScriptFault}
 use Rattle.script_program.specs.declared.fault.ScriptFault.TheVariants as fault
 use Rattle.script_program.specs.Reading.{WereRead, StopsBy}
 use Rattle.script_program.specs.Printing.{Passes, Prints, PrintsSome, Closes, Writes, WritesSome}
-use Rattle.script_program.specs.Text.{nodes_text, told_text, world_text, world_of, IsTextOf}
+use Rattle.script_program.specs.WorldText.{nodes_text, told_text, world_text, world_of, IsTextOf}
 use Rattle.script_program.specs.Run.{fault_of, LacksLines, ReadsLines, Ends}
 use Rattle.script_program.proofs.Pages.{prints_part, prints_then}
 

@@ -29,7 +29,7 @@ read_fewer m n input left octets le p = record { are_read = p.are_read; enough =
 
 -- ---- the loop of reads
 
--- what was put behind the text so far, in so many reads at least
+-- what was appended to the text so far, in at least this many reads
 pub record Reading (count : ℕ) (input mid : Option (List ℕ)) (old text : List ℕ) : Type 0 where
   pub read : List ℕ
   pub were_read : WereRead count input mid read

@@ -1,3 +1,9 @@
+mod Cutting
+mod Numbers
+mod Words
+mod Firsts
+mod Pairs
+mod Queues
 mod Waits
 mod Dues
 mod Steps
@@ -5,6 +11,7 @@ mod Turns
 mod Handing
 mod Intake
 mod Pages
+mod Appending
 mod Texts
 mod Nodes
 mod Ending

@@ -2,14 +2,14 @@
 use Rattle.std.proofs.Common.{◌≡◌, ℕ, suc, ◌+◌, ◌-◌, ◌<◌, ◌≤◌, arith, Bool, List, ◌++◌, Option, Err, ap}
 use Rattle.paxos_packets.specs.declared.entry.Entry.{Entry}
 use Rattle.cluster_world.specs.World.{World, node_at}
-use Rattle.script_text.specs.Text.{node_text}
+use Rattle.script_program.specs.Text.{node_text}
 use Rattle.script_program.specs.declared.fault.ScriptFault.{ScriptFault}
 use Rattle.script_program.specs.Printing.{Passes, Prints, Underway}
-use Rattle.script_program.specs.Text.{nodes_from, nodes_text}
+use Rattle.script_program.specs.WorldText.{nodes_from, nodes_text}
 use Rattle.script_program.proofs.Pages.{begins, goes_on, goes_wrong, is_over}
 
 module _ {B : Type 0} (w : World B) (members : ℕ) where
-  -- the lines of this node and of those behind it are under way
+  -- the lines of this node and of those after it are under way
   abbrev pub NodesLeft : ℕ → Option (List ℕ) → Option (List ℕ) → List ℕ → List ℕ → Type 0
   NodesLeft below old new waited waits = Underway old new waited waits (nodes_text members w) (nodes_from w (below + 1) (members - below))
 

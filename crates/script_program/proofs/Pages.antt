@@ -6,7 +6,7 @@ use Rattle.script_program.specs.declared.fault.ScriptFault.{ScriptFault}
 use Rattle.script_program.specs.declared.fault.ScriptFault.TheVariants as fault
 use Rattle.script_program.specs.Printing.{Passes, Breaks, Prints, Underway}
 
--- a text was put behind what waited, and nothing was written
+-- a text was appended to what waited, and nothing was written
 pub passes_put : (old : Option (List ℕ)) (waited waits text : List ℕ) → waits ≡ waited ++ text → Passes old old waited waits text
 passes_put old waited waits text e = record { written = []; is_written = Appends-nil old; is_all = sym e }
 
@@ -40,7 +40,7 @@ module _ (old mid : Option (List ℕ)) (waited between text more : List ℕ) (p 
     is_all = together q.rest q.written q.is_all;
   }
 
-  -- a text was put behind another
+  -- a text was appended to another
   pub prints_then : (result : Result (Unit {0}) ScriptFault) (new : Option (List ℕ)) (waits : List ℕ)
       → Prints result mid new between waits more
       → Prints result old new waited waits (text ++ more)
@@ -51,11 +51,11 @@ module _ (old mid : Option (List ℕ)) (waited between text more : List ℕ) (p 
   prints_then (Err fault.Write) new waits q = q
   prints_then (Err fault.Reads) new waits q = q
 
--- there was no memory for a text
+-- memory ran out for a text
 pub breaks_unput : (old : Option (List ℕ)) (all : List ℕ) → Breaks old old all
 breaks_unput old all = record { written = []; rest = all; is_written = Appends-nil old; is_all = refl }
 
--- a front of the front is a front
+-- the beginning of a beginning is a beginning
 pub prints_same : (result : Result (Unit {0}) ScriptFault) (old new : Option (List ℕ)) (waited waits text same : List ℕ) → text ≡ same
     → Prints result old new waited waits text → Prints result old new waited waits same
 prints_same result old new waited waits text same e p =

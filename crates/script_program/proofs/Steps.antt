@@ -20,10 +20,10 @@ use Rattle.cluster_world.specs.StandsAt.{StandsAt}
 use Rattle.cluster_world.specs.World.{World, first_world, next, done, played, was_sent, node_at}
 use Rattle.script_program.specs.declared.player.Player.{Player}
 use Rattle.script_program.specs.Player.{IsAt, waits_from, send_all}
-use Rattle.waiting_packets.specs.Waiting.{mark_at, with_delivered}
+use Rattle.script_program.specs.Waiting.{mark_at, with_delivered}
 use Rattle.script_program.proofs.Waits.{count, sent_more, members_stay, marked}
 
--- what an event sends comes behind what was sent
+-- what an event sends comes after what was sent
 sends : (members : ℕ) (w : World Act) (e : Event Act) → (more : List (Packet Act)) × ((next same_act members w e).sent ≡ w.sent ++ more)
 sends members w e = go (was_sent same_act e w.sent && possible e x)
   where
@@ -35,7 +35,7 @@ sends members w e = go (was_sent same_act e w.sent && possible e x)
     go true = (_, refl)
     go false = ([], sym (append-nil w.sent))
 
--- the player is where the script is behind an event, once its world has played it and what was sent waits
+-- the player is where the script is after an event, once its world has played it and what was sent waits
 pub happened : (config : Config) (members : ℕ) (old new : Player) (s : Stage Act) (e : Event Act) → IsAt config members old s
     → new.world.members ≡ old.world.members
     → StandsAt same_act live_of (live_realm config) new.world (s.events ++ e ∷ [])
@@ -82,7 +82,7 @@ grown members e s =
     let k = ap length more.1 ∙ length-append s.world.sent more.0 in
     omega (arith, k)
 
--- and behind a delivery, once the packet is marked
+-- and after a delivery, once the packet is marked
 pub has_delivered : (config : Config) (members : ℕ) (old new : Player) (s : Stage Act) (place : ℕ) → place < length s.world.sent
     → IsAt config members old s → new.world ≡ old.world → new.waiting ≡ with_delivered place old.waiting
     → IsAt config members new (record { world = s.world; events = s.events; delivered = (place + 1) ∷ s.delivered })

@@ -2,8 +2,8 @@
 use Rattle.std.proofs.Common.{◌≡◌, ℕ, ◌+◌, ◌<◌, Bool, List, [], ◌∷◌, ◌++◌, length, get_or, drop, map, ap, sym, ◌∙◌, append_assoc, codes}
 use Rattle.std.proofs.lemmas.List.{drop_more}
 use Rattle.paxos_packets.specs.declared.transport.Transport.{Transport}
-use Rattle.realm_sayings.specs.declared.act.Say.{Say}
-use Rattle.script_text.specs.Text.{numbers_text, up_text, said_text, handed_text}
+use Rattle.realm_machine.specs.declared.sayings.say.Say.{Say}
+use Rattle.script_program.specs.Text.{numbers_text, up_text, said_text, handed_text}
 
 pub node_cut : (n : ℕ) (up : Bool) (log : List ℕ) → (codes "node" ++ (numbers_text (n ∷ []) ++ (up_text up ++ 10 ∷ []))) ++ log
     ≡ codes "node" ++ (numbers_text (n ∷ []) ++ (up_text up ++ (10 ∷ log)))

@@ -17,9 +17,9 @@ use Rattle.realm_machine.specs.Content.{empty}
 use Rattle.realm_machine.specs.Laws.{live_realm}
 use Rattle.realm_machine.specs.Machine.{begun, live_of}
 use Rattle.realm_machine.specs.Realm.{State}
-use Rattle.script_lines.specs.declared.line.Line.{Line}
-use Rattle.script_lines.specs.declared.line.Line.TheVariants as line
-use Rattle.waiting_packets.specs.Waiting as waiting
+use Rattle.script_program.specs.declared.lines.line.Line.{Line}
+use Rattle.script_program.specs.declared.lines.line.Line.TheVariants as line
+use Rattle.script_program.specs.Waiting as waiting
 use Rattle.cluster_world.specs.Scripts.{Stage, first_stage, first_due, deliver, deliver_no, deliver_first, flush, most_deliveries}
 use Rattle.cluster_world.specs.Scripts.{take_line, stage_behind}
 use Rattle.cluster_world.specs.StandsAt.{HaveContent, StandsAt}

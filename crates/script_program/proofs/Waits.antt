@@ -7,8 +7,8 @@ use Rattle.std.proofs.lemmas.Bool.{ne_eqb, eq-eqb}
 use Rattle.std.proofs.lemmas.List.{length-append, append-nil}
 use Rattle.paxos_packets.specs.declared.packet.Packet.{Packet}
 use Rattle.realm_acts.specs.declared.act.Act.{Act}
-use Rattle.waiting_packets.specs.declared.waiting.Sent.{Sent}
-use Rattle.waiting_packets.specs.Waiting.{Packets, mark_at}
+use Rattle.script_program.specs.declared.player.waiting.Sent.{Sent}
+use Rattle.script_program.specs.Waiting.{Packets, mark_at}
 use Rattle.cluster_world.specs.Scripts.{is_delivered}
 use Rattle.script_program.specs.Player.{wait_of, waits_from, send_one, send_all}
 

@@ -1,6 +1,14 @@
+pub mod Number
+pub mod Line
+pub mod Lines
+pub mod Putting
+pub mod Examples
+pub mod Waiting
+pub mod Queue
 pub mod Playing
 pub mod Player
 pub mod Reading
 pub mod Printing
 pub mod Text
+pub mod WorldText
 pub mod Run

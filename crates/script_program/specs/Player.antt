@@ -9,18 +9,18 @@ use Rattle.realm_machine.specs.Content.{empty}
 use Rattle.realm_machine.specs.Realm.{State}
 use Rattle.realm_machine.specs.Machine.{live_of}
 use Rattle.realm_machine.specs.Laws.{live_realm}
-use Rattle.waiting_packets.specs.declared.waiting.Sent.{Sent}
-use Rattle.waiting_packets.specs.Waiting.{Packets, with_sent}
+use Rattle.script_program.specs.declared.player.waiting.Sent.{Sent}
+use Rattle.script_program.specs.Waiting.{Packets, with_sent}
 use Rattle.cluster_world.specs.Scripts.{Stage, is_delivered, first_due, deliver, flush}
 use Rattle.cluster_world.specs.StandsAt.{StandsAt}
 use Rattle.cluster_world.specs.World.{played}
 use Rattle.script_program.specs.declared.player.Player.{Player}
 
--- a realm with no transport
+-- a realm without transports
 abbrev pub first_realm : Config → State
 first_realm config = record { config = config; content = Some (empty config.limits) }
 
--- a packet that was sent, with its number, as it waits where lines have delivered those with these numbers
+-- a packet that was sent, with its number, as it waits once lines have delivered those with these numbers
 abbrev pub wait_of : List ℕ → ℕ × Packet Act → Sent
 wait_of delivered e = record { sender = e.1.sender; addressee = e.1.addressee; is_delivered = is_delivered delivered e.0 }
 
@@ -56,7 +56,7 @@ DeliversFirst config members among false s p = (first_due members among s ≡ No
 DeliversFirst config members among true s p =
     (e : ℕ × Packet Act) × (first_due members among s ≡ Some e) × IsAt config members p (deliver same_act members e.0 e.1 s)
 
--- so many packets of a flush are left, at the most
+-- at most this many packets of a flush are left
 pub record IsFlushing (config : Config) (members : ℕ) (among : List Bool) (more : ℕ) (p : Player) (whole : Stage Act) : Type 0 where
   pub stage : Stage Act
   pub is_at : IsAt config members p stage

@@ -1,4 +1,4 @@
--- The world that the lines of a script lead to (docs/CONSENSUS.md, "Scripts").
+-- The world that the lines of a script lead to (docs/SCRIPTS.md).
 use Rattle.std.specs.Prelude.{◌≡◌, ℕ, zero, suc, List, [], ◌∷◌}
 use Rattle.std.specs.List.{flat_map}
 use Rattle.paxos_packets.specs.declared.transport.Transport.{Transport}
@@ -6,18 +6,18 @@ use Rattle.paxos_node.specs.declared.event.Event.{Event}
 use Rattle.paxos_node.specs.declared.event.Event.TheVariants.{Take, Tick, Start, Suspect, Crash, Restart}
 use Rattle.realm_acts.specs.declared.act.Act.{Act}
 use Rattle.realm_acts.specs.Act.{same_act}
-use Rattle.realm_sayings.specs.declared.act.Say.{Say}
+use Rattle.realm_machine.specs.declared.sayings.say.Say.{Say}
 use Rattle.realm_machine.specs.Config.{Config}
 use Rattle.realm_machine.specs.Realm.{State}
 use Rattle.realm_machine.specs.Machine.{live_of, realm_of}
 use Rattle.realm_machine.specs.Laws.{live_realm}
-use Rattle.script_lines.specs.declared.line.Line.{Line}
-use Rattle.script_lines.specs.declared.line.Line.TheVariants as line
+use Rattle.script_program.specs.declared.lines.line.Line.{Line}
+use Rattle.script_program.specs.declared.lines.line.Line.TheVariants as line
 use Rattle.cluster_world.specs.Scripts as scripts
 use Rattle.cluster_world.specs.StandsAt.{Held, StandsAt}
 use Rattle.cluster_world.specs.World.{World, handed}
 
--- what a line is in a script of the world; there is no packet 0, and no line that a text spells tells of it
+-- what a line is in a script of the world; there is no packet 0, and no line that a text spells names it
 abbrev pub in_script : Line → List (scripts.Line Act)
 in_script (line.Take n t act) = scripts.Happens (Take n t act) ∷ []
 in_script (line.Tick n) = scripts.Happens (Tick n) ∷ []

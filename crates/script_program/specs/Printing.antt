@@ -4,20 +4,20 @@ use Rattle.std.specs.Io.KnownBytes.{Appends}
 use Rattle.script_program.specs.declared.fault.ScriptFault.{ScriptFault}
 use Rattle.script_program.specs.declared.fault.ScriptFault.TheVariants as fault
 
--- of what waited and the text behind it a front was written, and the rest waits
+-- of what waited, followed by the text, the beginning was written, and the rest waits
 pub record Passes (old new : Option (List ℕ)) (waited waits text : List ℕ) : Type 0 where
   pub written : List ℕ
   pub is_written : Appends old new written
   pub is_all : waited ++ text ≡ written ++ waits
 
--- a front of it was written
+-- the beginning of it was written
 pub record Breaks (old new : Option (List ℕ)) (all : List ℕ) : Type 0 where
   pub written : List ℕ
   pub rest : List ℕ
   pub is_written : Appends old new written
   pub is_all : all ≡ written ++ rest
 
--- the text was put behind what waited
+-- the text was appended to what waited
 abbrev pub Prints : Result (Unit {0}) ScriptFault → Option (List ℕ) → Option (List ℕ) → List ℕ → List ℕ → List ℕ → Type 0
 Prints (Ok x) old new waited waits text = Passes old new waited waits text
 Prints (Err (fault.Line number)) old new waited waits text = ⊥
@@ -31,13 +31,13 @@ abbrev pub Closes : Result (Unit {0}) ScriptFault → Option (List ℕ) → Opti
 Closes (Ok x) old new waited = Appends old new waited
 Closes (Err met) old new waited = met ≡ fault.Write
 
--- a text is under way: of the whole these are written or wait, and the rest is still to come
+-- a text is under way: of the whole text this much is written or waits, and the rest is still to come
 pub record Underway (old new : Option (List ℕ)) (waited waits whole rest : List ℕ) : Type 0 where
   pub text : List ℕ
   pub passes : Passes old new waited waits text
   pub is_whole : text ++ rest ≡ whole
 
--- ---- a text of which there is one, told by what holds of it
+-- ---- a text that is unique, described by what holds of it
 
 abbrev pub PrintsSome : (List ℕ → Type 0) → Result (Unit {0}) ScriptFault → Option (List ℕ) → Option (List ℕ) → List ℕ → List ℕ → Type 0
 PrintsSome IsText result old new waited waits = (text : List ℕ) × IsText text × Prints result old new waited waits text

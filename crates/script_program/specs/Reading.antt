@@ -5,16 +5,16 @@ use Rattle.std.specs.Io.KnownBytes.{Consumes, IsAtEnd}
 use Rattle.script_program.specs.declared.fault.ScriptFault.{ScriptFault}
 use Rattle.script_program.specs.declared.fault.ScriptFault.TheVariants as fault
 
--- how many reads there are at the most
+-- how many reads are made at most
 abbrev pub most_reads : ℕ
 most_reads = 2 ^ 32
 
--- these octets were read, and so many at least
+-- these octets were read, at least `least` of them
 pub record WereRead (least : ℕ) (input left : Option (List ℕ)) (octets : List ℕ) : Type 0 where
   pub are_read : Consumes input left octets
   pub enough : least ≤ length octets
 
--- an octet or more was put behind the text, or the reader is at its end
+-- one octet or more was appended to the text, or the reader is at its end
 abbrev pub ReadsOnce : Result Bool ScriptFault → Option (List ℕ) → Option (List ℕ) → List ℕ → List ℕ → Type 0
 ReadsOnce (Ok true) input left old new = (read : List ℕ) × WereRead 1 input left read × (new ≡ old ++ read)
 ReadsOnce (Ok false) input left old new = WereRead 0 input left [] × IsAtEnd left × (new ≡ old)
@@ -32,7 +32,7 @@ StopsBy fault.Read input left = (octets : List ℕ) × WereRead 0 input left oct
 StopsBy fault.Write input left = ⊥
 StopsBy fault.Reads input left = (octets : List ℕ) × WereRead most_reads input left octets
 
--- all that the reader gives was put behind the text
+-- all that the reader gives was appended to the text
 abbrev pub ReadsInto : Result (Unit {0}) ScriptFault → Option (List ℕ) → Option (List ℕ) → List ℕ → List ℕ → Type 0
 ReadsInto (Ok x) input left old new = (read : List ℕ) × WereRead 0 input left read × IsAtEnd left × (new ≡ old ++ read)
 ReadsInto (Err fault) input left old new = StopsBy fault input left

@@ -1,40 +1,62 @@
--- The text of a world (docs/CONSENSUS.md, "Scripts").
-use Rattle.std.specs.Prelude.{◌≡◌, ℕ, zero, suc, ◌+◌, List, [], ◌++◌, map}
+-- The lines of a world's text, as a script's run writes them (docs/SCRIPTS.md, "What is printed").
+use Rattle.std.specs.Prelude.{ℕ, ◌+◌, Bool, true, false, List, [], ◌∷◌, ◌++◌, codes}
+use Rattle.std.specs.Fmt.{decimal}
 use Rattle.std.specs.List.{flat_map}
+use Rattle.paxos_packets.specs.declared.entry.Entry.{Entry}
+use Rattle.paxos_packets.specs.declared.entry.Entry.TheVariants.{Noop, Boot, Lost, Item}
 use Rattle.paxos_packets.specs.declared.transport.Transport.{Transport}
-use Rattle.realm_sayings.specs.declared.act.Say.{Say}
-use Rattle.realm_acts.specs.declared.act.Act.{Act}
-use Rattle.realm_acts.specs.Act.{same_act}
-use Rattle.realm_machine.specs.Config.{Config}
-use Rattle.realm_machine.specs.Machine.{realm_of}
-use Rattle.cluster_world.specs.Told.{WereHanded}
-use Rattle.cluster_world.specs.World.{World, node_at, played}
-use Rattle.script_lines.specs.declared.line.Line.{Line}
-use Rattle.script_program.specs.Playing.{events_of}
-use Rattle.script_text.specs.Text.{node_text, handed_text}
+use Rattle.replica_machine.specs.Effects.{effects}
+use Rattle.realm_machine.specs.declared.sayings.say.Out.{Out}
+use Rattle.realm_machine.specs.declared.sayings.say.Out.TheVariants.{Send, Close}
+use Rattle.wamp_messages.specs.Writing.{text_of}
 
--- so many nodes, from this one on: each with its log, slot 1 first
-abbrev pub nodes_from : {B : Type 0} → World B → ℕ → ℕ → List ℕ
-nodes_from w n zero = []
-nodes_from w n (suc more) = node_text n (node_at w.nodes n).up (node_at w.nodes n).applied ++ nodes_from w (n + 1) more
+-- each number after a space
+abbrev pub numbers_text : List ℕ → List ℕ
+numbers_text numbers = flat_map (λ n. 32 ∷ decimal n) numbers
 
-abbrev pub nodes_text : {B : Type 0} → ℕ → World B → List ℕ
-nodes_text members w = nodes_from w 1 members
+abbrev pub effect_text : Bool → List ℕ
+effect_text true = codes " took"
+effect_text false = codes " skipped"
 
--- what transports were handed, one after the other
-abbrev pub told_text : List (Transport × List Say) → List ℕ
-told_text told = flat_map (λ p. handed_text p.0 (map (λ say. say.out) p.1)) told
+-- ---- a line of a log
 
--- the nodes of a world, and then what its transports were handed
-abbrev pub world_text : {B : Type 0} → ℕ → World B → List (Transport × List Say) → List ℕ
-world_text members w told = nodes_text members w ++ told_text told
+-- a slot, the name of its entry, the entry's numbers, and whether it took effect
+abbrev pub named_text : ℕ → List ℕ → List ℕ → Bool → List ℕ
+named_text slot name numbers took = decimal slot ++ (name ++ (numbers_text numbers ++ (effect_text took ++ 10 ∷ [])))
 
--- the world that the events of these lines lead to, each flush written out
-abbrev pub world_of : ℕ → List Line → World Act
-world_of members lines = played same_act members (events_of members lines)
+abbrev pub entry_text : {B : Type 0} → ℕ → Entry B → Bool → List ℕ
+entry_text slot Noop took = decimal slot ++ (codes " noop" ++ 10 ∷ [])
+entry_text slot (Boot n b) took = named_text slot (codes " boot") (n ∷ b ∷ []) took
+entry_text slot (Lost n b) took = named_text slot (codes " lost") (n ∷ b ∷ []) took
+entry_text slot (Item n b seq t x) took = named_text slot (codes " item") (n ∷ b ∷ seq ∷ t ∷ []) took
 
--- it is the text of that world, where the realm of each node is one of this configuration
-pub record IsTextOf (config : Config) (members : ℕ) (lines : List Line) (text : List ℕ) : Type 0 where
-  pub told : List (Transport × List Say)
-  pub were_handed : WereHanded (realm_of config) (world_of members lines) told
-  pub is_text : text ≡ world_text members (world_of members lines) told
+-- the entries from this slot on, with whether each took effect
+abbrev pub log_from : {B : Type 0} → ℕ → List (Entry B) → List Bool → List ℕ
+log_from slot [] took = []
+log_from slot (e ∷ es) [] = []
+log_from slot (e ∷ es) (took ∷ others) = entry_text slot e took ++ log_from (slot + 1) es others
+
+-- a whole log, slot 1 first
+abbrev pub log_text : {B : Type 0} → List (Entry B) → List ℕ
+log_text log = log_from 1 log (effects log)
+
+-- ---- a node; the log of one that is down is empty
+
+abbrev pub up_text : Bool → List ℕ
+up_text true = codes " up"
+up_text false = codes " down"
+
+abbrev pub node_text : {B : Type 0} → ℕ → Bool → List (Entry B) → List ℕ
+node_text n up log = codes "node" ++ (numbers_text (n ∷ []) ++ (up_text up ++ (10 ∷ log_text log)))
+
+-- ---- what a transport was handed
+
+abbrev pub out_text : Out → List ℕ
+out_text (Send message) = text_of message
+out_text Close = codes "close"
+
+abbrev pub said_text : Transport → Out → List ℕ
+said_text t out = codes "to" ++ (numbers_text (t.node ∷ t.boot ∷ t.number ∷ []) ++ (32 ∷ (out_text out ++ 10 ∷ [])))
+
+abbrev pub handed_text : Transport → List Out → List ℕ
+handed_text t outs = flat_map (said_text t) outs

@@ -1,13 +1,13 @@
 ghost use Rattle.std.specs.Prelude.{◌≡◌};
 
-use script_lines::LinesFault;
+use crate::lines::LinesFault;
 use std::alloc::{AllocError, AllocFailed};
 use thiserror::Error;
 
 /// Why a script was not run to its end.
 #[derive(Clone, Copy, Debug, PartialEq, Eq, Error)]
 pub enum ScriptFault {
-    /// The line of this number, from 1, is no event.
+    /// The line with this number, counted from 1, is not an event.
     #[error("line {0}: not an event")]
     Line(u64),
     #[error("out of memory")]
@@ -16,7 +16,7 @@ pub enum ScriptFault {
     Read,
     #[error("the text cannot be written")]
     Write,
-    /// The script is longer than the reads that are made.
+    /// The script was not at its end after the last read that is made.
     #[error("too many reads")]
     Reads,
 }

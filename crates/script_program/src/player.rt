@@ -1,3 +1,4 @@
+// Plays lines on a world, and delivers what a flush finds.
 ghost use Rattle.std.specs.Prelude.{◌≡◌, ◌+◌, ℕ, IfOk, OnOk, List, [], slice_get, length, drop, option_copied};
 ghost use Rattle.paxos_node.specs.declared.event.Event as occurred;
 ghost use Rattle.paxos_node.specs.declared.event.Event.TheVariants as happens;
@@ -6,29 +7,35 @@ ghost use Rattle.realm_acts.specs.Act.{same_act};
 ghost use Rattle.realm_machine.specs.Config.{Config};
 ghost use Rattle.realm_machine.specs.Laws.{live_realm};
 ghost use Rattle.realm_machine.specs.Machine.{live_of};
-ghost use Rattle.script_lines.specs.declared.line.Line.TheVariants as line;
+ghost use Rattle.script_program.specs.declared.lines.line.Line.TheVariants as line;
 ghost use Rattle.cluster_world.specs.Scripts.{Stage, first_stage, happen, deliver_no, flush, most_deliveries, stage_behind};
 ghost use Rattle.cluster_world.specs.StandsAt.{StandsAt};
 ghost use Rattle.cluster_world.specs.World.{played};
 ghost use Rattle.script_program.specs.Playing.{IsPlayed, in_script, script_of};
 ghost use Rattle.script_program.specs.Player.{IsAt, DeliversFirst, send_all, send_if};
 
-use crate::realms::realms_of;
+mod queue;
+mod realms;
+mod waiting;
+
+use crate::lines::Line;
+use crate::player::realms::realms_of;
+use crate::player::waiting::Waiting;
 use cluster_world::{Memory, World};
 use paxos_node::Event;
 use paxos_packets::{Body, Members, NodeSet, Packet};
 use realm_acts::Act;
 use realm_machine::{Limits, Realm};
-use script_lines::Line;
 use std::alloc::Global;
-use waiting_packets::Waiting;
 
-// How many packets one flush delivers at the most.
+// How many packets one flush delivers at most.
 const MOST_DELIVERIES: u32 = 100_000;
 
-/// The world that the lines of a script lead to, in a cluster of these members each of which has a realm of this name.
+/// Plays the lines of a script in a cluster of these members, each of which has a realm of this name, and returns the world to which
+/// they lead.
 ///
-/// `Memory` comes where there was none for the world. A line takes the time of its events; a delivery beyond that a constant.
+/// Fails with `Memory` if memory runs out; the world is dropped then. A line takes the time of its events, and a delivery constant time
+/// beyond that.
 pub fn play(
     alloc: Global,
     members: Members,
@@ -49,7 +56,7 @@ pub fn play(
     }
 }
 
-// A world, and its packets as flushes find them.
+// A world, and beside it its packets as flushes find them.
 #[derive(Drop)]
 pub(crate) struct Player {
     alloc: Global,
@@ -58,7 +65,7 @@ pub(crate) struct Player {
 }
 
 impl Player {
-    // Before the first line.
+    // Starts before the first line.
     fn new(alloc: Global, members: Members, realm: &str, limits: Limits) -> Result<Player, Memory>
         ensures { IfOk result (λ player. IsAt (record { name = realm.now; limits = limits }) members player (first_stage members)) }
     {
@@ -79,7 +86,7 @@ impl Player {
         self.world
     }
 
-    // All lines, in order.
+    // Plays all lines, in order.
     fn take_all(&mut self, lines: &[Line]) -> Result<(), Memory>
         ensures { (config : Config) (members : ℕ) (s : Stage acted.Act) → IsAt config members self.old s →
             OnOk result (IsAt config members self.new (stage_behind same_act members (script_of lines.now) s)) }
@@ -90,7 +97,7 @@ impl Player {
         Ok(())
     }
 
-    // What the line says.
+    // Plays one line.
     fn take(&mut self, line: &Line) -> Result<(), Memory>
         ensures { (config : Config) (members : ℕ) (s : Stage acted.Act) → IsAt config members self.old s →
             OnOk result (IsAt config members self.new (stage_behind same_act members (in_script line.now) s)) }
@@ -110,7 +117,7 @@ impl Player {
         }
     }
 
-    // The node takes a copy of the act.
+    // Lets the node take a copy of the act.
     fn take_act(&mut self, node: u8, number: u32, act: &Act) -> Result<(), Memory>
         ensures { (config : Config) (members : ℕ) (s : Stage acted.Act) → IsAt config members self.old s →
             OnOk result (IsAt config members self.new (happen same_act members (happens.Take node number act.now) s)) }
@@ -125,7 +132,7 @@ impl Player {
         })
     }
 
-    // One event happens, and what it sends waits.
+    // Lets one event happen, and adds the packets that it sends to those that wait.
     fn happen(&mut self, event: Event<Act>) -> Result<(), Memory>
         ensures { (config : Config) (members : ℕ) (s : Stage acted.Act) → IsAt config members self.old s →
             OnOk result (IsAt config members self.new (happen same_act members event s)) }
@@ -139,7 +146,7 @@ impl Player {
         send_new(&self.world, &mut self.waiting)
     }
 
-    // The packet with this number, from 1, reaches its addressee, if it was sent.
+    // Delivers the packet with this number, counted from 1, if it was sent.
     fn deliver_no(&mut self, number: u64) -> Result<(), Memory>
         ensures { (config : Config) (members : ℕ) (s : Stage acted.Act) → IsAt config members self.old s →
             OnOk result (IsAt config members self.new (stage_behind same_act members (in_script (line.Deliver number)) s)) }
@@ -150,7 +157,7 @@ impl Player {
         }
     }
 
-    // The packet at this place, from 0, reaches its addressee, if it was sent.
+    // Delivers the packet at this place, counted from 0, if it was sent.
     fn deliver_at(&mut self, place: usize) -> Result<(), Memory>
         ensures { (config : Config) (members : ℕ) (s : Stage acted.Act) → IsAt config members self.old s →
             OnOk result (IsAt config members self.new (deliver_no same_act members (place + 1) (slice_get s.world.sent place) s)) }
@@ -166,7 +173,7 @@ impl Player {
         Ok(())
     }
 
-    // The first packet that is due between these nodes reaches its addressee, if one is; and whether one was.
+    // Delivers the first packet that is due between these nodes. Returns whether there was one.
     fn deliver_first(&mut self, among: NodeSet) -> Result<bool, Memory>
         ensures { (config : Config) (members : ℕ) (s : Stage acted.Act) → IsAt config members self.old s →
             IfOk result (λ was_due. DeliversFirst config members among was_due s self.new) }
@@ -178,7 +185,7 @@ impl Player {
         Ok(true)
     }
 
-    // Each packet that is due between these nodes reaches its addressee, until none is, or so many were delivered.
+    // Delivers the packets that are due between these nodes, until none is left, or `MOST_DELIVERIES` were delivered.
     fn flush(&mut self, among: NodeSet) -> Result<(), Memory>
         ensures { (config : Config) (members : ℕ) (s : Stage acted.Act) → IsAt config members self.old s →
             OnOk result (IsAt config members self.new (flush same_act members among most_deliveries s)) }
@@ -192,7 +199,7 @@ impl Player {
     }
 }
 
-// The first world of these members.
+// Returns the first world of these members.
 fn first_world(
     alloc: Global,
     members: Members,
@@ -206,7 +213,7 @@ fn first_world(
     World::new(alloc, members, realms)
 }
 
-// Puts the packets that the world has sent since to those that wait.
+// Adds the packets that the world has sent since the last call to those that wait.
 fn send_new(world: &World<Realm>, waiting: &mut Waiting) -> Result<(), Memory>
     ensures { (config : Config) (es : List (occurred.Event acted.Act)) →
         StandsAt same_act live_of (live_realm config) world.now es →
@@ -218,7 +225,7 @@ fn send_new(world: &World<Realm>, waiting: &mut Waiting) -> Result<(), Memory>
     Ok(())
 }
 
-// The packet at this place, from 0, of those that were ever sent.
+// Returns the packet at this place, counted from 0 over all that were ever sent, or `None`.
 fn packet_at(world: &World<Realm>, place: usize) -> Option<&Packet<Act>>
     ensures { (config : Config) (es : List (occurred.Event acted.Act)) →
         StandsAt same_act live_of (live_realm config) world.now es →

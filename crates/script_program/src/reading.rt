@@ -1,4 +1,4 @@
-// The whole script is read before its first line runs.
+// Reads a script, all of it before its first line is played.
 ghost use Rattle.std.specs.Prelude.{◌≡◌, ◌<◌, length};
 ghost use Rattle.script_program.specs.Reading.{ReadsAll, ReadsInto, ReadsOnce};
 
@@ -6,13 +6,13 @@ use crate::fault::ScriptFault;
 use std::alloc::Global;
 use std::io::Read;
 
-// How many octets one read takes at the most.
+// How many octets one read takes at most.
 const CHUNK: usize = 1 << 16;
 
-// How many reads there are at the most.
+// How many reads are made at most.
 const MOST_READS: u64 = 1 << 32;
 
-// All that the reader gives.
+// Returns all that the reader gives.
 pub(crate) fn read_all<R: Read>(alloc: Global, reader: &mut R) -> Result<Vec<u8>, ScriptFault>
     ensures { ReadsAll result (R.remaining reader.old) (R.remaining reader.new) }
 {
@@ -22,7 +22,7 @@ pub(crate) fn read_all<R: Read>(alloc: Global, reader: &mut R) -> Result<Vec<u8>
     Ok(text)
 }
 
-// Puts all that the reader gives into the text, by reads into the chunk.
+// Appends all that the reader gives to the text, by reads into the chunk.
 fn read_into<R: Read>(
     reader: &mut R,
     chunk: &mut [u8],
@@ -39,7 +39,7 @@ fn read_into<R: Read>(
     Err(ScriptFault::Reads)
 }
 
-// Puts what one read gives into the text. Answers whether there may be more.
+// Appends what one read gives to the text. Returns whether there may be more.
 fn read_once<R: Read>(
     reader: &mut R,
     chunk: &mut [u8],

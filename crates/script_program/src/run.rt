@@ -1,22 +1,22 @@
 ghost use Rattle.script_program.specs.Run.{Ends, ReadsLines};
 
 use crate::fault::ScriptFault;
+use crate::lines::{Line, lines_of};
 use crate::player::play;
 use crate::reading::read_all;
-use crate::world::write_world;
+use crate::text::write_world;
 use paxos_packets::Members;
 use realm_machine::Limits;
-use script_lines::{Line, lines_of};
 use std::alloc::Global;
 use std::io::{Read, Write};
 
 /// Plays a script in a cluster of these members, each of which has a realm of this name with these limits: reads it whole,
 /// plays its lines, and writes the text of the world that they lead to.
 ///
-/// `Line` comes with the first line that is no event, `Read` where a read failed, `Reads` after 2^32 reads of up to 64 KiB;
-/// nothing is written with these. `Write` comes where a write failed, and `Memory` where there was none: what was written is
-/// then a front of the text. The text goes through a buffer of 64 KiB. Takes memory for the script, its world and what was
-/// said in it.
+/// Fails with `Line` at the first line that is not an event, with `Read` if a read failed, and with `Reads` after 2^32 reads of up
+/// to 64 KiB; nothing is written with these. Fails with `Write` if a write failed, and with `Memory` if memory runs out; what was
+/// written with `Memory` is the beginning of the text, or nothing. The text goes through a buffer of 64 KiB. Allocates for the script,
+/// its world and what was said in it.
 pub fn script_run<R: Read, W: Write>(
     alloc: Global,
     reader: &mut R,
@@ -37,7 +37,7 @@ pub fn script_run<R: Read, W: Write>(
     written
 }
 
-// The lines of all that the reader gives.
+// Reads all that the reader gives, and returns its lines.
 fn read_lines<R: Read>(
     alloc: Global,
     reader: &mut R,

@@ -14,10 +14,10 @@ use std::sync::Wait;
 use std::thread::Threads;
 use std::time::Clock;
 
-// The status where the help or the version cannot be written: that of a transport that failed.
+// The status if the help or the version cannot be written: that of a transport that failed.
 const UNWRITTEN: u8 = 6;
 
-// The words of the command line, without the program's own name.
+// Returns the words of the command line, without the program's own name.
 fn words_of(rt: &HostRuntime) -> Result<Vec<String>, UsageFault> {
     let args = match env::args(rt) {
         Ok(args) => args,
@@ -107,7 +107,7 @@ where
     }
 }
 
-// The fault on a line of its own on standard error, and its status.
+// Says the fault on standard error, and returns its status.
 fn failure(rt: &HostRuntime, fault: RunFault) -> ExitCode {
     let _ = eprintln!(rt; "{fault}");
     ExitCode::from(fault.status())

@@ -1,6 +1,6 @@
 use Rattle.std.proofs.Common.{List, subst}
 use Rattle.realm_machine.specs.Config.{Config}
-use Rattle.script_lines.specs.declared.line.Line.{Line}
+use Rattle.script_program.specs.declared.lines.line.Line.{Line}
 use Rattle.script_program.specs.Playing.{IsPlayed}
 use Rattle.script_program.proofs.Ending.{ends_played}
 use Rattle.script_program.proofs.run.script_run.Goals as goal

@@ -2,7 +2,7 @@ use Rattle.std.proofs.Common.{◌≡◌, suc, sym, subst, arith}
 use Rattle.std.specs.Prelude.{OnOk}
 use Rattle.std.proofs.lemmas.Result.{on_ok_weaker}
 use Rattle.realm_acts.specs.Act.{same_act}
-use Rattle.script_lines.specs.declared.line.Line.TheVariants as line
+use Rattle.script_program.specs.declared.lines.line.Line.TheVariants as line
 use Rattle.cluster_world.specs.Scripts.{stage_behind}
 use Rattle.script_program.specs.Player.{IsAt}
 use Rattle.script_program.specs.Playing.{in_script}

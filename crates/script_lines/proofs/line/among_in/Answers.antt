@@ -1,6 +1,0 @@
-use Rattle.std.proofs.Common.{◌∙◌}
-use Rattle.script_lines.proofs.Texts.{among_words}
-use Rattle.script_lines.proofs.line.among_in.Goals as goal
-
-pub returns-in-Some : goal.returns-in-Some
-returns-in-Some c = rw c.in-Some.is (c.listed.ensures ∙ among_words c.args.members c.in-Some.text.now)

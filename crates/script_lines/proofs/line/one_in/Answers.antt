@@ -1,6 +1,0 @@
-use Rattle.std.proofs.Common.{rules}
-use Rattle.script_lines.proofs.Texts.{one_more}
-use Rattle.script_lines.proofs.line.one_in.Goals as goal
-
-pub returns-then-is_some-clause-value : goal.returns-then-is_some-clause-value
-returns-then-is_some-clause-value c = search (rules, one_more)

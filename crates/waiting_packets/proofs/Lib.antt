@@ -1,3 +1,0 @@
-pub mod Firsts
-pub mod Pairs
-pub mod Queues
