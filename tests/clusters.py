@@ -1,9 +1,9 @@
 """What tests/serve, tests/restart, tests/stall and tests/burst share: a client, a cluster of the built program, publishers and
-subscribers at full speed, threads that stand still, and processors that are busy. Every wait is bounded, and what was started is ended by
-end_all.
+subscribers at full speed, threads that stand still, and processors that are busy. Every wait is bounded, and end_all ends what was
+started.
 
-It is a module, and the program of its own helper processes (class Helper): clusters.py WORK OPTIONS, where WORK is `publish` or `read`.
-WAMPD names another program than crates/wampd/out/wampd.
+It is a module, and also the program of its own helper processes (class Helper): clusters.py WORK OPTIONS, where WORK is `publish` or
+`read`. WAMPD names a program to use in place of crates/wampd/out/wampd.
 """
 import atexit
 import collections
@@ -25,15 +25,15 @@ import time
 HERE = os.path.dirname(os.path.abspath(__file__))
 PROGRAM = os.environ.get("WAMPD", os.path.join(HERE, "..", "crates", "wampd", "out", "wampd"))
 NODES = 3
-# Seconds: for one answer, and for a program to be up or to end.
+# Seconds to wait for one answer, and for a program to be up or to end.
 PATIENCE = 30
 PATIENCE_OF_RUNS = 60
 # Seconds after which a busy loop ends by itself.
 PATIENCE_OF_LOOPS = 1800
-# Seconds without an acknowledgement from which on that is noted as a gap, and seconds between two notes of how much was sent.
+# Seconds without an acknowledgement that count as a gap, and seconds between two notes of how much was sent.
 GAP = 0.05
 NOTE = 0.01
-# Seconds that a subscriber leaves between two reads, so that it takes many events at once; sockets hold far more.
+# Seconds that a subscriber waits between two reads, so that it takes many events at once; sockets hold far more.
 NAP = 0.002
 GREETING = bytes([0x7F, 0xF1, 0, 0])
 ANSWER = bytes([0x7F, 0xB1, 0, 0])
@@ -60,12 +60,12 @@ def frame(payload, kind=0):
 
 
 def message(*parts):
-    """A message's payload."""
+    """Returns a message's payload."""
     return json.dumps(parts, separators=(",", ":")).encode()
 
 
 def frames(octets):
-    """The payloads of the whole frames at the front of these octets, and the octets after them."""
+    """Returns the payloads of the whole frames at the beginning of these octets, and the octets after them."""
     payloads, at, end = [], 0, len(octets)
     while end - at >= 4:
         after = at + 4 + int.from_bytes(octets[at + 1 : at + 4], "big")
@@ -80,7 +80,7 @@ def frames(octets):
 
 
 def opened(port, receive_buffer=None, patience=PATIENCE):
-    """A connected stream, each of whose reads and writes is bounded."""
+    """Returns a connected stream. Each of its reads and writes is bounded."""
     stream = socket.socket()
     stream.settimeout(patience)
     if receive_buffer:
@@ -95,7 +95,7 @@ def opened(port, receive_buffer=None, patience=PATIENCE):
 
 
 class Client:
-    """A connection to a port, its handshake done."""
+    """A connection to a port, after the handshake."""
 
     def __init__(self, port, receive_buffer=None, greeting=GREETING, patience=PATIENCE):
         self.stream = opened(port, receive_buffer, patience)
@@ -105,7 +105,7 @@ class Client:
         self.request = 0
 
     def octets(self, count):
-        """So many octets, or EOFError where the connection ended before."""
+        """Reads `count` octets. Raises EOFError if the connection ends before."""
         got = b""
         while len(got) < count:
             more = self.stream.recv(count - len(got))
@@ -125,7 +125,7 @@ class Client:
         return head[0], self.octets(int.from_bytes(head[1:], "big"))
 
     def hear(self, *front):
-        """The next message, which has to begin so."""
+        """Reads the next message, which has to begin with `front`."""
         kind, payload = self.hear_frame()
         hold(kind == 0, f"a frame of type {kind} where a message was due")
         got = json.loads(payload)
@@ -133,7 +133,7 @@ class Client:
         return got
 
     def is_heard(self, seconds):
-        """Whether something comes within this number of seconds."""
+        """Returns whether something comes within this number of seconds."""
         return bool(select.select([self.stream], [], [], seconds)[0])
 
     def next_request(self):
@@ -145,13 +145,13 @@ class Client:
         return self.hear(2)[1]
 
     def ask(self, code, answer, *rest):
-        """A request with options and what follows; what stands after its number in the answer."""
+        """Makes a request with options and `rest`. Returns what follows the request's number in the answer."""
         request = self.next_request()
         self.say(code, request, {}, *rest)
         return self.hear(answer, request)[2]
 
     def ask_for(self, code, answer, number):
-        """A request that takes a number's thing back."""
+        """Makes a request that takes back what has this number."""
         request = self.next_request()
         self.say(code, request, number)
         self.hear(answer, request)
@@ -163,7 +163,7 @@ class Client:
         return self.ask(64, 65, procedure)
 
     def is_free(self, procedure):
-        """Whether nobody has registered the procedure; the client registers and unregisters it then."""
+        """Returns whether nobody has registered the procedure. If so, the client registers it and unregisters it again."""
         request = self.next_request()
         self.say(64, request, {}, procedure)
         answer = self.hear()
@@ -175,13 +175,13 @@ class Client:
         return True
 
     def say_publish(self, topic, *args):
-        """Publishes, to be acknowledged; the request."""
+        """Publishes, to be acknowledged. Returns the request's number."""
         request = self.next_request()
         self.say(16, request, {"acknowledge": True}, topic, list(args))
         return request
 
     def publish(self, topic, *args):
-        """An acknowledged publication's id."""
+        """Publishes, waits for the acknowledgement, and returns the publication's id."""
         return self.hear(17, self.say_publish(topic, *args))[2]
 
     def call(self, procedure, *args):
@@ -190,13 +190,13 @@ class Client:
         return request
 
     def answer_calls(self, count):
-        """Answers this number of calls, each by its arguments."""
+        """Answers this number of calls, each with its arguments."""
         for _ in range(count):
             invocation = self.hear(68)
             self.say(70, invocation[1], {}, invocation[4])
 
     def ended(self):
-        """Reads until the connection ends; how many octets came."""
+        """Reads until the connection ends. Returns how many octets came."""
         count = 0
         while True:
             try:
@@ -212,8 +212,8 @@ class Client:
 
 
 def welcomed(port, limit, begin=None):
-    """Seconds from `begin` on, which is now where none is named, until a client is welcomed at this port; None after `limit` of them.
-    Where a connection is refused or ends before, another is tried."""
+    """Waits until a client is welcomed at this port. Returns the seconds from `begin` (by default now) until then, or None after `limit`
+    seconds. If a connection is refused or ends before, tries another one."""
     begin = begin or time.monotonic()
     while (left := begin + limit - time.monotonic()) > 0:
         try:
@@ -231,7 +231,7 @@ def welcomed(port, limit, begin=None):
 
 
 def free_port():
-    """The first of as many free ports as there are nodes, below those that the system hands out."""
+    """Returns the first of as many free ports as there are nodes, below those that the system hands out."""
     for _ in range(1000):
         port = random.randrange(10000, 32000)
         try:
@@ -271,17 +271,17 @@ class Cluster:
         return self
 
     def told(self):
-        """What standard error has so far."""
+        """Returns what was written to standard error so far."""
         with open(self.errors.name, errors="replace") as errors:
             return errors.read()
 
     def leaders(self):
-        """The nodes that have said that they lead, in that order."""
+        """Returns the nodes that have said that they lead, in that order."""
         return [int(node) for node in re.findall(r"^node (\d) leads$", self.told(), re.M)]
 
     def takes_over(self, limit):
-        """Seconds from the moment at which the last node is up until one leads: so long it takes to prepare a ballot, and to take over all
-        votes that are reported. None if that does not come within `limit` seconds."""
+        """Returns the seconds from the moment at which the last node is up until one leads: the time to prepare a ballot, and to take over
+        all votes that are reported. Returns None if that takes more than `limit` seconds."""
         until = time.monotonic() + limit
         up = None
         while time.monotonic() < until:
@@ -297,25 +297,25 @@ class Cluster:
         return Client(self.port + node - 1, **options)
 
     def clients(self):
-        """A client of each node, all of them joined."""
+        """Returns a client of each node, all of them joined."""
         clients = [self.client(node + 1) for node in range(NODES)]
         for client in clients:
             client.join()
         return clients
 
     def ports(self, count, nodes=range(1, NODES + 1)):
-        """The ports of so many clients, which these nodes share."""
+        """Returns the ports for this many clients, spread over these nodes."""
         return [self.port + nodes[at % len(nodes)] - 1 for at in range(count)]
 
     def welcomes(self, limit, begin=None):
-        """For each node, seconds from `begin` on until a client is welcomed at it, or None after `limit` of them."""
+        """Returns for each node the seconds from `begin` until a client is welcomed at it, or None after `limit` seconds."""
         begin = begin or time.monotonic()
         answers = [in_thread(welcomed, self.port + node, limit, begin) for node in range(NODES)]
         return [answer(2 * limit) for answer in answers]
 
     def node_threads(self):
-        """The system's numbers of the nodes' threads, by node. In the order of their start the program's threads are the first one, the
-        porters', the input's, and the nodes', the last node's first. That each is its node's is shown here: while it stands still its
+        """Returns the system's numbers of the nodes' threads, by node. In the order of their start the program's threads are the first one,
+        the porters', the input's, and the nodes', the last node's first. Shows that each thread is its node's: while it stands still, its
         node answers no PING and its porter answers a handshake, and the other nodes answer."""
         folder = f"/proc/{self.child.pid}/task"
         until = time.monotonic() + PATIENCE
@@ -339,22 +339,22 @@ class Cluster:
         return threads
 
     def end(self):
-        """Waits for its end, and gives its status."""
+        """Waits for its end, and returns its status."""
         try:
             return self.child.wait(PATIENCE_OF_RUNS)
         except subprocess.TimeoutExpired:
             raise Fault("it does not end") from None
 
     def tell(self, line):
-        """A line on its standard input."""
+        """Writes a line to its standard input."""
         self.child.stdin.write(line + b"\n")
         self.child.stdin.flush()
 
     def stop(self):
-        """Ends its input; it has to end well."""
+        """Ends its input. It has to end with status 0 then."""
         self.child.stdin.close()
         status = self.end()
-        hold(status == 0, f"status {status} where its input has ended; standard error: {self.told()!r}")
+        hold(status == 0, f"status {status} after the end of its input; standard error: {self.told()!r}")
 
     def kill(self):
         self.child.kill()
@@ -369,7 +369,7 @@ class Cluster:
 
 
 def in_thread(work, *args):
-    """Runs this in a thread; a call that waits for its end, and gives or raises what it gave or raised."""
+    """Runs `work` in a thread. Returns a function that waits for its end, and returns or raises what it returned or raised."""
     found = []
 
     def run():
@@ -397,7 +397,7 @@ SYSTEM = ctypes.CDLL(None, use_errno=True)
 SYSTEM.ptrace.restype = ctypes.c_long
 SYSTEM.ptrace.argtypes = [ctypes.c_long, ctypes.c_long, ctypes.c_void_p, ctypes.c_void_p]
 SEIZE, INTERRUPT, DETACH = 0x4206, 0x4207, 17
-# That a thread of another process is waited for.
+# Lets waitpid(2) wait for a thread of another process.
 ANY_THREAD = 0x40000000
 
 
@@ -426,8 +426,8 @@ def let_go(thread):
 
 @contextlib.contextmanager
 def held(*threads):
-    """These threads of a child get no processor inside of this (ptrace(2), which needs root or the same user's leave). Its other threads go
-    on. The thread that enters this has to leave it, too; where this process ends, they are let go."""
+    """Holds these threads of a child: they get no processor inside the block (ptrace(2), which needs root, or permission for the same user).
+    The child's other threads go on. The thread that enters the block has to leave it, too; if this process ends, they are released."""
     taken = []
     try:
         for thread in threads:
@@ -453,7 +453,7 @@ while os.getppid() == parent and time.monotonic() < until:
 
 @contextlib.contextmanager
 def busy(count):
-    """So many busy loops run inside of this. They end by themselves where this process has ended."""
+    """Runs `count` busy loops inside the block. They end by themselves if this process ends."""
     text = BUSY.format(seconds=PATIENCE_OF_LOOPS)
     loops = [subprocess.Popen([sys.executable, "-c", text], stdin=subprocess.DEVNULL) for _ in range(count)]
     try:
@@ -480,11 +480,11 @@ class Publisher:
         self.back = b'"%s"' % (b"x" * octets)
         self.sent = self.done = 0
         self.rest = b""
-        # When each publication was sent that is not acknowledged yet.
+        # When each publication that is not acknowledged yet was sent.
         self.times = collections.deque()
 
     def send(self, count):
-        """So many publications more, at once."""
+        """Sends `count` more publications at once."""
         now = time.monotonic()
         out = []
         for at in range(self.sent, self.sent + count):
@@ -494,20 +494,20 @@ class Publisher:
         self.stream.sendall(b"".join(out))
 
     def take(self):
-        """The seconds that each publication took whose acknowledgement has come."""
+        """Takes the acknowledgements that have come. Returns the seconds that each of these publications took."""
         more = self.stream.recv(1 << 18)
         hold(more, "a publisher was closed")
         payloads, self.rest = frames(self.rest + more)
         now = time.monotonic()
         for payload in payloads:
             self.done += 1
-            hold(payload.startswith(b"[17,%d," % self.done), f"{payload[:200]!r} where publication {self.done} was to be acknowledged")
+            hold(payload.startswith(b"[17,%d," % self.done), f"{payload[:200]!r} instead of the acknowledgement of publication {self.done}")
         return [now - self.times.popleft() for _ in payloads]
 
 
 class Load:
-    """Publishers, one at each of these ports, each of which keeps `flight` acknowledged publications under way, `each` of them in all
-    where that is given. The arguments of a publication are its publisher's number, its own, from 0 on, and `octets` letters."""
+    """Publishers, one at each of these ports. Each keeps `flight` acknowledged publications under way, and makes `each` of them in all, if
+    that is given. The arguments of a publication are its publisher's number, its own number, from 0 on, and `octets` letters."""
 
     def __init__(self, ports, flight=16, each=None, topic="test.topic", octets=32):
         self.flight = flight
@@ -520,8 +520,8 @@ class Load:
             self.at[publisher.stream.fileno()] = publisher
         self.is_open = True
         self.sent = self.done = 0
-        # The seconds that each publication took; where nothing was acknowledged for a while, when that began and how long it lasted; how
-        # many publications had been sent by when.
+        # The seconds that each publication took; the gaps in which nothing was acknowledged, as when each began and how long it lasted; and
+        # how many publications had been sent by which time.
         self.took = []
         self.gaps = []
         self.notes = []
@@ -541,8 +541,8 @@ class Load:
             self.send(publisher, self.flight)
 
     def turn(self, seconds=0.1):
-        """Takes what comes within so many seconds, and sends as many publications more. The files that it polls beside its own, and that
-        have something to be read."""
+        """Takes what comes within `seconds`, and sends as many new publications. Returns which of the other files that it polls have
+        something to read."""
         others = []
         for number, _ in self.poll.poll(seconds):
             publisher = self.at.get(number)
@@ -559,7 +559,7 @@ class Load:
         return others
 
     def note(self, now):
-        """Something was acknowledged."""
+        """Notes that something was acknowledged now."""
         if now - self.last >= GAP:
             self.gaps.append((self.last, now - self.last))
         self.last = now
@@ -567,7 +567,7 @@ class Load:
             self.notes.append((now, self.sent))
 
     def is_done(self):
-        """Whether all is acknowledged."""
+        """Returns whether all is acknowledged."""
         return self.done == self.sent and (self.each is None or self.sent == self.each * len(self.publishers))
 
     def run(self, limit, until=None):
@@ -578,7 +578,7 @@ class Load:
             self.turn()
 
     def finish(self, limit=PATIENCE):
-        """Sends no more, and waits until all is acknowledged; with the time until it gives up, that is a gap, too."""
+        """Sends no more, and waits until all is acknowledged. If it gives up after `limit` seconds, notes these as a gap, too."""
         self.is_open = False
         self.each = None
         end = time.monotonic() + limit
@@ -594,7 +594,7 @@ class Load:
 
 
 def fill(cluster, count, clients=16, flight=16, limit=600):
-    """So many clients of a cluster have `count` publications acknowledged; how many seconds that took."""
+    """Lets `clients` clients of a cluster have `count` publications acknowledged. Returns how many seconds that took."""
     load = Load(cluster.ports(clients), flight, each=max(1, count // clients))
     begin = time.monotonic()
     load.begin()
@@ -604,7 +604,7 @@ def fill(cluster, count, clients=16, flight=16, limit=600):
 
 
 def share_of(values, share):
-    """The value that this share of them does not exceed; 0 of none."""
+    """Returns the value that this share of the values does not exceed; 0 if there are none."""
     values = sorted(values)
     return values[min(len(values) - 1, int(share * len(values)))] if values else 0.0
 
@@ -613,7 +613,7 @@ def share_of(values, share):
 
 
 class Helper:
-    """A process that does one of WORKS with these options. It and the program say lines of JSON to each other. It ends with its input."""
+    """A process that does one of WORKS with these options. It and the program exchange lines of JSON. It ends when its input ends."""
 
     running = []
 
@@ -625,13 +625,13 @@ class Helper:
         Helper.running.append(self)
 
     def tell(self, value):
-        """Says this to it, unless it has ended: what it said before is still heard."""
+        """Sends it this value, unless it has ended: what it said before can still be read."""
         with contextlib.suppress(BrokenPipeError):
             self.child.stdin.write(json.dumps(value).encode() + b"\n")
             self.child.stdin.flush()
 
     def hear(self, limit):
-        """What it says next."""
+        """Returns the next value that it sends."""
         until = time.monotonic() + limit
         while b"\n" not in self.rest:
             left = until - time.monotonic()
@@ -668,8 +668,8 @@ def say(value):
 
 
 def work_publish(ports, flight=16, topic="test.topic", octets=32, limit=PATIENCE):
-    """A Load that begins with the first line and ends with the next; then what it saw. A publication that is not acknowledged `limit`
-    seconds later is given up."""
+    """Runs a Load that begins with the first line and ends with the next, and then says what it saw. Gives up a publication that is not
+    acknowledged `limit` seconds later."""
     load = Load(ports, flight, topic=topic, octets=octets)
     say("ready")
     if not sys.stdin.buffer.readline():
@@ -694,13 +694,13 @@ def work_publish(ports, flight=16, topic="test.topic", octets=32, limit=PATIENCE
     )
 
 
-# The front of an event's arguments: its publisher's number, and its own.
+# The beginning of an event's arguments: its publisher's number, and its own.
 COUNTED = re.compile(rb"\{\},\[(\d+),(\d+),")
 
 
 class Reader:
-    """A subscriber that reads as fast as it can: how many publications of each publisher it had, and how many it lost; which was the
-    first that came where another was due."""
+    """A subscriber that reads as fast as it can. Counts the publications that it had of each publisher, and notes the first one that came
+    out of order."""
 
     def __init__(self, port, topic):
         client = Client(port)
@@ -713,7 +713,7 @@ class Reader:
         self.wrong = None
 
     def take(self):
-        """Takes what has come; whether the connection goes on."""
+        """Takes what has come. Returns whether the connection is still open."""
         try:
             more = self.stream.recv(1 << 20)
         except ConnectionError:
@@ -735,8 +735,8 @@ class Reader:
 
 
 def work_read(port, topic="test.topic", limit=PATIENCE):
-    """A Reader. A line tells it how many publications there are of each publisher; it says what it saw once it has had them, or after
-    `limit` seconds, or at once where it is closed."""
+    """Runs a Reader. A line on its input gives the number of publications of each publisher. It says what it saw once it has had them all,
+    or after `limit` seconds, or at once if it is closed."""
     reader = Reader(port, topic)
     say("ready")
     totals, until, is_closed = None, None, False
@@ -761,7 +761,7 @@ WORKS = {"publish": work_publish, "read": work_read}
 
 
 def row(*cells):
-    """A row of a table."""
+    """Prints a row of a table."""
     print(f"| {' | '.join(map(str, cells))} |", flush=True)
 
 
@@ -776,7 +776,7 @@ def need_program(name):
 
 
 def bounded(seconds):
-    """After so many seconds the program is in Fault; where it is told to end, it ends what it started, too."""
+    """Raises Fault after `seconds`. If the program is terminated, it ends what it started, too."""
 
     def out_of_time(_signal, _frame):
         raise Fault(f"all together took more than {seconds} s")

@@ -26,7 +26,7 @@ pub trait Life<M: Machine, K: Keeper<M::Body>> {
     /// The store of a node that has gone down, opened again.
     fn reopened(&self, keeper: K) -> K;
 
-    /// What they do. Answers whether node 2 is to begin again.
+    /// What they do. Returns whether node 2 is to begin again.
     fn live(
         &mut self,
         mail: &Mail<M::Body>,
@@ -103,7 +103,7 @@ pub fn opened<M: Machine, K: Keeper<M::Body>>(
     }
 }
 
-/// A turn; whether a packet moved.
+/// Takes a turn. Returns whether a packet moved.
 pub fn turn<M: Machine, K: Keeper<M::Body>>(
     rt: &impl Abort,
     mail: &Mail<M::Body>,
@@ -156,7 +156,7 @@ pub fn all_turns<M: Machine, K: Keeper<M::Body>>(
     panic!(rt; "packets without end")
 }
 
-/// Puts a seat behind these.
+/// Puts a seat at the end of these.
 pub fn put_seat<B: Body>(
     rt: &impl Abort,
     mail: &Mail<B>,
@@ -171,7 +171,7 @@ pub fn put_seat<B: Body>(
     seats.push(seat).expect(rt, "room for a seat");
 }
 
-/// The actor's seat; its log is let go.
+/// Drops the actor's log, and returns its seat.
 pub fn seat_of<M: Machine, K: Keeper<M::Body> + Drop>(actor: Actor<M, K>) -> NodeSeat<M::Body>
     ensures { result ≡ actor.seat }
 {
@@ -284,7 +284,7 @@ fn live_at<M: Machine, K: Keeper<M::Body> + Drop, L: Life<M, K>>(
     put_seat(rt, mail, seats, seat_of(three));
 }
 
-/// Three nodes are opened at a table of their own, live so, and are gathered.
+/// Opens three nodes at a new table, lets them live so, and gathers them.
 pub fn live<M: Machine, K: Keeper<M::Body> + Drop, L: Life<M, K>>(
     rt: &impl Abort,
     alloc: Global,

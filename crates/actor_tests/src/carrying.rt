@@ -4,7 +4,7 @@ use crate::hearing::{Heard, Told, told};
 use node_actor::{Entry, Keeper, Machine};
 use std::process::Abort;
 use test_checks::check;
-use test_stands::{Answer, Station, count_of, told_of};
+use test_stands::{Answer, SeatedActor, count_of, told_of};
 
 // How often each node turns at most.
 const MOST_ROUNDS: u32 = 1_000;
@@ -38,7 +38,7 @@ pub fn hear<Y: Drop>(rt: &impl Abort, heard: &mut Heard<Y>, node: u8, done: Answ
     }
 }
 
-/// The fault of a call, 0 where there is none.
+/// Returns the number of a call's fault, 0 if it has none.
 pub fn number<Y: Drop>(done: Answer<Y>) -> u8 {
     match count_of(done) {
         Ok(_) => 0,
@@ -46,25 +46,25 @@ pub fn number<Y: Drop>(done: Answer<Y>) -> u8 {
     }
 }
 
-/// The station of a node among those of the last node, the one before, and so on.
+/// The actor of a node among those of the last node, the one before, and so on.
 pub fn at<'t, 'a, M: Machine, K: Keeper<M::Body>>(
     rt: &impl Abort,
-    stations: &'t mut [Station<'a, M, K>],
+    actors: &'t mut [SeatedActor<'a, M, K>],
     node: u8,
-) -> &'t mut Station<'a, M, K> {
-    let place = stations.len().saturating_sub(usize::from(node));
-    stations.get_mut(place).expect(rt, "a node")
+) -> &'t mut SeatedActor<'a, M, K> {
+    let place = actors.len().saturating_sub(usize::from(node));
+    actors.get_mut(place).expect(rt, "a node")
 }
 
 // A turn of one node; whether a packet moved.
 fn turn<M: Machine, K: Keeper<M::Body>>(
     rt: &impl Abort,
-    station: &mut Station<'_, M, K>,
+    actor: &mut SeatedActor<'_, M, K>,
     heard: &mut Heard<M::Say>,
     node: u8,
 ) -> bool {
-    let done = station.turn();
-    let moved = done.is_ok() && station.has_moved();
+    let done = actor.turn();
+    let moved = done.is_ok() && actor.has_moved();
     hear(rt, heard, node, done);
     moved
 }
@@ -72,12 +72,12 @@ fn turn<M: Machine, K: Keeper<M::Body>>(
 // A turn of each node, of node 1 first; whether a packet moved.
 fn round<M: Machine, K: Keeper<M::Body>>(
     rt: &impl Abort,
-    stations: &mut [Station<'_, M, K>],
+    actors: &mut [SeatedActor<'_, M, K>],
     heard: &mut Heard<M::Say>,
 ) -> bool {
     let mut moved = false;
     for node in 1..=3 {
-        moved = turn(rt, at(rt, stations, node), heard, node) || moved;
+        moved = turn(rt, at(rt, actors, node), heard, node) || moved;
     }
     moved
 }
@@ -85,11 +85,11 @@ fn round<M: Machine, K: Keeper<M::Body>>(
 /// All nodes turn, one after another, until no packet is left that can go.
 pub fn all_turns<M: Machine, K: Keeper<M::Body>>(
     rt: &impl Abort,
-    stations: &mut [Station<'_, M, K>],
+    actors: &mut [SeatedActor<'_, M, K>],
     heard: &mut Heard<M::Say>,
 ) {
     for _ in 0..MOST_ROUNDS {
-        if !round(rt, stations, heard) {
+        if !round(rt, actors, heard) {
             return;
         }
     }
@@ -109,19 +109,19 @@ fn are_told<B>(log: &[Entry<B>], wants: &[Told]) -> bool {
 /// Asserts what the log of a node is.
 pub fn has_log<M: Machine, K: Keeper<M::Body>>(
     rt: &impl Abort,
-    station: &Station<'_, M, K>,
+    actor: &SeatedActor<'_, M, K>,
     wants: &[Told],
 ) {
-    check!(rt; are_told(station.log(), wants));
+    check!(rt; are_told(actor.log(), wants));
 }
 
 /// Asserts what the logs of all nodes are.
 pub fn have_log<M: Machine, K: Keeper<M::Body>>(
     rt: &impl Abort,
-    stations: &[Station<'_, M, K>],
+    actors: &[SeatedActor<'_, M, K>],
     wants: &[Told],
 ) {
-    for station in stations {
-        has_log(rt, station, wants);
+    for actor in actors {
+        has_log(rt, actor, wants);
     }
 }

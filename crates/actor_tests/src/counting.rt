@@ -9,10 +9,10 @@ use std::process::Abort;
 use store_keeper::MemKeeper;
 use test_checks::{check, check_eq};
 use test_machines::{Count, Number};
-use test_stands::{Answer, Source, Station, close_log};
+use test_stands::{Answer, SeatedActor, Source, close_log};
 
 /// An actor that adds up, over a keeper in memory.
-pub type Counting<'a> = Station<'a, Count, MemKeeper<Number>>;
+pub type Counting<'a> = SeatedActor<'a, Count, MemKeeper<Number>>;
 
 /// What these say.
 pub type Sum = (Transport, u64);
@@ -48,39 +48,39 @@ impl Source<Count, MemKeeper<Number>> for Failing {
 pub enum Asked {
     /// It begins a ballot.
     Start,
-    /// Time has passed.
+    /// Lets time pass.
     Tick,
-    /// A turn.
+    /// Takes a turn.
     Turn,
     /// It takes this number of this transport.
     Take { transport: u32, number: u32 },
 }
 
-/// What the actor answers.
-pub fn ask(station: &mut Counting<'_>, asked: Asked) -> Answer<Sum> {
+/// What the actor returns.
+pub fn ask(actor: &mut Counting<'_>, asked: Asked) -> Answer<Sum> {
     match asked {
-        Asked::Start => station.start(),
-        Asked::Tick => station.tick(),
-        Asked::Turn => station.turn(),
-        Asked::Take { transport, number } => station.take(transport, Number::new(number)),
+        Asked::Start => actor.start(),
+        Asked::Tick => actor.tick(),
+        Asked::Turn => actor.turn(),
+        Asked::Take { transport, number } => actor.take(transport, Number::new(number)),
     }
 }
 
-/// The fault of what the node is asked for, 0 where there is none.
-pub fn fault_at(rt: &impl Abort, stations: &mut [Counting<'_>], node: u8, asked: Asked) -> u8 {
-    let station = at(rt, stations, node);
-    number(ask(station, asked))
+/// Returns the number of the fault of what the node is asked for, 0 if it has none.
+pub fn fault_at(rt: &impl Abort, actors: &mut [Counting<'_>], node: u8, asked: Asked) -> u8 {
+    let actor = at(rt, actors, node);
+    number(ask(actor, asked))
 }
 
 fn hear_at(
     rt: &impl Abort,
-    stations: &mut [Counting<'_>],
+    actors: &mut [Counting<'_>],
     heard: &mut Heard<Sum>,
     node: u8,
     asked: Asked,
 ) {
-    let station = at(rt, stations, node);
-    hear(rt, heard, node, ask(station, asked));
+    let actor = at(rt, actors, node);
+    hear(rt, heard, node, ask(actor, asked));
 }
 
 /// What nodes are asked for, one after the other; with node 0 all turn in rotation, whatever is asked.
@@ -91,27 +91,22 @@ pub const ALL: (u8, Asked) = (0, Asked::Turn);
 
 fn step(
     rt: &impl Abort,
-    stations: &mut [Counting<'_>],
+    actors: &mut [Counting<'_>],
     heard: &mut Heard<Sum>,
     node: u8,
     asked: Asked,
 ) {
     if node == 0 {
-        all_turns(rt, stations, heard);
+        all_turns(rt, actors, heard);
     } else {
-        hear_at(rt, stations, heard, node, asked);
+        hear_at(rt, actors, heard, node, asked);
     }
 }
 
 /// They are asked for it.
-pub fn goes(
-    rt: &impl Abort,
-    stations: &mut [Counting<'_>],
-    heard: &mut Heard<Sum>,
-    script: Script,
-) {
+pub fn goes(rt: &impl Abort, actors: &mut [Counting<'_>], heard: &mut Heard<Sum>, script: Script) {
     for (node, asked) in script {
-        step(rt, stations, heard, *node, *asked);
+        step(rt, actors, heard, *node, *asked);
     }
 }
 
@@ -151,33 +146,33 @@ const AT_TWO: Transport = Transport {
 
 const SUMS: &[Sum] = &[(AT_TWO, 5), (AT_TWO, 11)];
 
-fn serves(rt: &impl Abort, stations: &mut [Counting<'_>], heard: &mut Heard<Sum>) {
-    goes(rt, stations, heard, SESSION);
-    have_log(rt, stations, FOUR);
+fn serves(rt: &impl Abort, actors: &mut [Counting<'_>], heard: &mut Heard<Sum>) {
+    goes(rt, actors, heard, SESSION);
+    have_log(rt, actors, FOUR);
     check!(rt; heard.says.as_slice() == SUMS && heard.faults.is_empty());
 }
 
 // How long the log is that an actor leaves, and what its machine has added up.
-fn left_of(station: Counting<'_>) -> (usize, u64) {
-    let log = station.leave();
+fn left_of(actor: Counting<'_>) -> (usize, u64) {
+    let log = actor.leave();
     let left = (log.applied().len(), log.machine().sum());
     close_log(log);
     left
 }
 
-fn leave_all(rt: &impl Abort, stations: &mut Vec<Counting<'_>>) {
+fn leave_all(rt: &impl Abort, actors: &mut Vec<Counting<'_>>) {
     for _ in 0..3u8 {
-        let station = stations.pop().expect(rt, "a node");
-        check_eq!(rt; left_of(station), (4, 11));
+        let actor = actors.pop().expect(rt, "a node");
+        check_eq!(rt; left_of(actor), (4, 11));
     }
 }
 
 /// The session goes through all three, which leave.
-pub fn serve_and_leave(rt: &impl Abort, alloc: Global, stations: &mut Vec<Counting<'_>>) {
+pub fn serve_and_leave(rt: &impl Abort, alloc: Global, actors: &mut Vec<Counting<'_>>) {
     let mut heard = Heard::nothing(alloc);
-    serves(rt, stations.as_mut_slice(), &mut heard);
+    serves(rt, actors.as_mut_slice(), &mut heard);
     drop(heard);
-    leave_all(rt, stations);
+    leave_all(rt, actors);
 }
 
 #[test]
@@ -185,16 +180,10 @@ fn one_session_goes_through_three_nodes(rt: HostRuntime) {
     tried(&rt, rt.alloc(), &NONE_FAILS, Trial::Serves);
 }
 
-/// Whether a call of the node answers that its store failed, as is wanted.
-pub fn fails(
-    rt: &impl Abort,
-    alloc: Global,
-    stations: &mut [Counting<'_>],
-    node: u8,
-    wanted: bool,
-) {
+/// Whether a call of the node fails since its store failed, as is wanted.
+pub fn fails(rt: &impl Abort, alloc: Global, actors: &mut [Counting<'_>], node: u8, wanted: bool) {
     let mut heard = Heard::nothing(alloc);
-    goes(rt, stations, &mut heard, SESSION);
+    goes(rt, actors, &mut heard, SESSION);
     let failed = heard.faults.first() == Some(&(node, 61));
     drop(heard);
     check!(rt; failed == wanted);

@@ -22,25 +22,25 @@ const ENDING: &[Row] = &[
     (2, Asked::Tick, 71),
 ];
 
-fn ends(rt: &impl Abort, stations: &mut [Counting<'_>]) {
+fn ends(rt: &impl Abort, actors: &mut [Counting<'_>]) {
     for (node, asked, number) in ENDING {
-        let found = fault_at(rt, stations, *node, *asked);
+        let found = fault_at(rt, actors, *node, *asked);
         check_eq!(rt; found, *number);
     }
 }
 
 /// The actor that goes on from this one, its store opened again.
-pub fn restarted<'a>(alloc: Global, station: Counting<'a>) -> Option<Counting<'a>> {
-    let (left, keeper) = station.crash();
+pub fn restarted<'a>(alloc: Global, actor: Counting<'a>) -> Option<Counting<'a>> {
+    let (left, keeper) = actor.crash();
     again(left.restart(alloc, Count::new(alloc), keeper.reopen()))
 }
 
-// The second actor goes on, between the others. Whether it does.
-fn restart_second(alloc: Global, stations: &mut Vec<Counting<'_>>) -> bool {
-    let Some((first, second)) = pop_two(stations) else {
+// Lets the second actor go on, between the others. Returns whether it does.
+fn restart_second(alloc: Global, actors: &mut Vec<Counting<'_>>) -> bool {
+    let Some((first, second)) = pop_two(actors) else {
         return false;
     };
-    push_two(stations, first, restarted(alloc, second))
+    push_two(actors, first, restarted(alloc, second))
 }
 
 const BOTH: &[Told] = &[('b', 1, 1, 0), ('b', 2, 2, 0)];
@@ -55,22 +55,22 @@ const GOING_ON: Script = &[
     ALL,
 ];
 
-fn goes_on(rt: &impl Abort, stations: &mut [Counting<'_>], heard: &mut Heard<Sum>) {
-    goes(rt, stations, heard, GOING_ON);
-    have_log(rt, stations, BOTH);
+fn goes_on(rt: &impl Abort, actors: &mut [Counting<'_>], heard: &mut Heard<Sum>) {
+    goes(rt, actors, heard, GOING_ON);
+    have_log(rt, actors, BOTH);
     check!(rt; heard.faults.is_empty());
 }
 
-fn runs(rt: &impl Abort, alloc: Global, stations: &mut Vec<Counting<'_>>, heard: &mut Heard<Sum>) {
-    ends(rt, stations.as_mut_slice());
-    check!(rt; restart_second(alloc, stations));
-    goes_on(rt, stations.as_mut_slice(), heard);
+fn runs(rt: &impl Abort, alloc: Global, actors: &mut Vec<Counting<'_>>, heard: &mut Heard<Sum>) {
+    ends(rt, actors.as_mut_slice());
+    check!(rt; restart_second(alloc, actors));
+    goes_on(rt, actors.as_mut_slice(), heard);
 }
 
 /// An actor whose store fails goes on.
-pub fn outlives(rt: &impl Abort, alloc: Global, stations: &mut Vec<Counting<'_>>) {
+pub fn outlives(rt: &impl Abort, alloc: Global, actors: &mut Vec<Counting<'_>>) {
     let mut heard = Heard::nothing(alloc);
-    runs(rt, alloc, stations, &mut heard);
+    runs(rt, alloc, actors, &mut heard);
     drop(heard);
 }
 

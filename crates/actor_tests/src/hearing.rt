@@ -6,7 +6,7 @@ use std::panic::Expect;
 use std::process::Abort;
 use test_checks::check;
 
-/// What a call of an actor answers.
+/// What a call of an actor returns.
 pub type Answer<Y> = Result<Vec<Y>, ActorFault<Y>>;
 
 /// What calls answered: what was said, what was said as its node was lost, and the numbers of nodes and of their faults.
@@ -49,7 +49,7 @@ pub fn hear<Y: Drop>(rt: &impl Abort, heard: &mut Heard<Y>, node: u8, done: Answ
     drop(done);
 }
 
-/// The fault of a call, 0 where there is none.
+/// Returns the number of a call's fault, 0 if it has none.
 pub fn number<Y: Drop>(done: Answer<Y>) -> u8 {
     let number = match &done {
         Ok(_) => 0,
@@ -62,7 +62,7 @@ pub fn number<Y: Drop>(done: Answer<Y>) -> u8 {
 /// An entry without its body: the letter of its kind, its node, its boot, and its number.
 pub type Told = (char, u8, u64, u64);
 
-/// What is told of an entry.
+/// What is shown of an entry.
 pub fn told<B>(entry: &Entry<B>) -> Told {
     match entry {
         Entry::Noop => ('n', 0, 0, 0),

@@ -1,4 +1,4 @@
-// Two nodes, each on a thread of its own.
+// Two nodes, each on its own thread.
 ghost use Rattle.cluster_world.specs.Has.{Has};
 ghost use Rattle.mail_table.specs.Seats.{Owns};
 ghost use Rattle.actor_tests.specs.Standing.{Knows};
@@ -25,7 +25,7 @@ const POSTS: u64 = 10_000;
 
 const FETCHES: u64 = 1_000_000;
 
-// Tries to post until a try wins; whether one did.
+// Tries to post until a try wins. Returns whether one did.
 fn post_to_second(mail: &Mail<Number>, one: &mut NodeSeat<Number>, packet: Packet<Number>) -> bool
     requires owned { Owns mail.now one.old }
     requires members { 3 ≤ mail.now.members }

@@ -38,7 +38,7 @@ pub(crate) fn opened(
     Ok(Node::of(alloc, seat.node(), members, rows)?)
 }
 
-// What the node plans where it is up: a first ballot, or a tick.
+// What the node plans if it is up: a first ballot, or a tick.
 fn planned(node: &Node<Number>, me: u8, starts: bool) -> Result<Outcome<Number>, Fail>
     requires me { node.now.me ≡ me }
     ensures up { OnOk result (node.now.state.up ≡ true) }
@@ -55,7 +55,7 @@ fn planned(node: &Node<Number>, me: u8, starts: bool) -> Result<Outcome<Number>,
     Ok(node.plan(&Event::Tick { node: me })?)
 }
 
-// The node takes a step of its own, and sends these packets.
+// Lets the node take a step, and sends these packets.
 pub(crate) fn stepped(
     mail: &Mail<Number>,
     seat: &mut NodeSeat<Number>,

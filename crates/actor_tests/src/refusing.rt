@@ -20,7 +20,7 @@ const ONE: Asked = Asked::Take {
     number: 1,
 };
 
-// How many acts the actor takes of so many.
+// Returns how many of `count` acts the actor takes.
 fn takes(actor: &mut Counting<'_>, count: u32) -> u32 {
     let mut done = 0u32;
     for _ in 0..count {
@@ -68,9 +68,9 @@ fn passes(rt: &impl Abort, actor: &mut Counting<'_>) {
     }
 }
 
-/// What the actor of node 1 does where it stands: it fills up, or what is no event passes it.
-pub fn first_does(rt: &impl Abort, stations: &mut [Counting<'_>], fills: bool) {
-    let actor = at(rt, stations, 1);
+/// What the actor of node 1 does before anything has come: it fills up, or what is no event passes it.
+pub fn first_does(rt: &impl Abort, actors: &mut [Counting<'_>], fills: bool) {
+    let actor = at(rt, actors, 1);
     if fills {
         fills_up(rt, actor);
     } else {
@@ -99,7 +99,7 @@ pub fn begins_again(rt: &impl Abort, alloc: Global, actor: Counting<'_>) {
 
 // Restarts on other stores.
 
-// A store of a node that was started so often, and then promised this round, if one.
+// A store of a node that was started this often, and then promised this round, if one is given.
 fn keeper_with(rt: &impl Abort, alloc: Global, boots: u64, round: u64) -> MemKeeper<Number> {
     let mut keeper = MemKeeper::new(alloc);
     for _ in 0..boots {
@@ -130,7 +130,7 @@ fn boots_of(rt: &impl Abort, keeper: &mut MemKeeper<Number>) -> u64 {
     rows.boot
 }
 
-// What is left behind a restart on a store of another node, and whether it answered 62 and began no boot.
+// What is left after a restart on a store of another node, and whether that returned 62 and began no boot.
 fn refused<'a>(
     rt: &impl Abort,
     alloc: Global,
@@ -139,7 +139,7 @@ fn refused<'a>(
     boots: u64,
 ) -> (Left<'a, Count>, bool) {
     match left.restart(alloc, Count::new(alloc), keeper) {
-        Begun::Again(_station) => panic!(rt; "an actor"),
+        Begun::Again(_actor) => panic!(rt; "an actor"),
         Begun::Not(number, left, mut keeper) => {
             let found = boots_of(rt, &mut keeper);
             drop(keeper);
@@ -174,7 +174,7 @@ fn ended<'a>(actor: Counting<'a>) -> Left<'a, Count> {
     left
 }
 
-/// An actor that has promised the round 1 of its own goes down, and is not restarted on other stores.
+/// An actor that has promised its own round 1 goes down, and is not restarted on other stores.
 pub fn refuses(rt: &impl Abort, alloc: Global, actor: Counting<'_>) {
     let all = refuses_all(rt, alloc, ended(actor));
     check!(rt; all);

@@ -123,7 +123,7 @@ fn have_log<M: Machine, K: Keeper<M::Body>>(
     is_log(rt, three.log(), wants);
 }
 
-// Node 2 is lost once node 1 takes it to be, and its next call answers 71.
+// Node 2 is lost once node 1 takes it to be, and its next call returns 71.
 fn is_lost<M: Machine, K: Keeper<M::Body>>(
     rt: &impl Abort,
     mail: &Mail<M::Body>,
@@ -147,7 +147,7 @@ fn is_lost<M: Machine, K: Keeper<M::Body>>(
     is_log(rt, three.log(), FIVE);
 }
 
-// The session, and then, if so, the loss of node 2. Answers whether it begins again.
+// The session, and then, if so, the loss of node 2. Returns whether it begins again.
 fn lives<M: Machine, K: Keeper<M::Body>>(
     rt: &impl Abort,
     mail: &Mail<M::Body>,
@@ -176,7 +176,7 @@ fn lives<M: Machine, K: Keeper<M::Body>>(
     matches!(fate, Fate::Returns)
 }
 
-// Node 2, which has begun again, tells of its next boot, and learns what it lacks.
+// Node 2, which has begun again, reports its next boot, and learns what it lacks.
 fn tells<M: Machine, K: Keeper<M::Body>>(
     rt: &impl Abort,
     mail: &Mail<M::Body>,
@@ -209,7 +209,7 @@ const ENDS: &[(Fate, [u64; 7], &[&str])] = &[
     (Fate::Returns, [6, 6, 6, 0, 0, 0, 0], SHUTDOWN),
 ];
 
-// A session, behind which this becomes of node 2.
+// A session, after which this becomes of node 2.
 #[derive(Drop)]
 struct Session<'a, R> {
     rt: &'a R,

@@ -1,4 +1,4 @@
-// Three nodes, each run on a thread of its own.
+// Three nodes, each run on its own thread.
 ghost use Rattle.mail_table.specs.Seats.{Owns};
 
 use crate::actors::{Life, live};
@@ -23,8 +23,8 @@ type Adding = Actor<Count, MemKeeper<Number>>;
 type Sum = (Transport, u64);
 
 // How many acts each node takes, how many of them may wait for their answers, after how many turns in which nothing came it ticks, in a row or
-// not, and after how many it lets other threads go first. No number of turns ends a run: where the host takes a processor away, one thread makes
-// millions of them while another stands still.
+// not, and after how many it lets other threads go first. No number of turns ends a run: if the host takes a processor away, one thread makes
+// millions of them while another is at rest.
 const ACTS: u32 = 1_000;
 
 const WINDOW: u32 = 16;
@@ -48,7 +48,7 @@ impl<'a> Gate for Until<'a> {
     }
 }
 
-// Gives a start to node 1, the acts of a node, each of a transport of its own, from 1 on, and ticks; counts the answers that come in order.
+// Gives a start to node 1, the acts of a node, each of another transport, from 1 on, and ticks; counts the answers that come in order.
 #[derive(Drop)]
 struct Acts<'a> {
     node: u8,
@@ -103,7 +103,7 @@ impl<'a> Acts<'a> {
         })
     }
 
-    // A tick, after each so many turns in which nothing came. What came between them does not begin the count anew: a tick sends something to
+    // A tick, after each `QUIET` turns in which nothing came. What came between them does not begin the count anew: a tick sends something to
     // each other node, so the fastest one would keep the others from ever ticking, and acts that were taken before their node knew who leads
     // would wait for ever.
     fn tick(&mut self, came: bool) -> Option<Event<Number>> {

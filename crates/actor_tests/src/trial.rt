@@ -6,7 +6,7 @@ use std::alloc::Global;
 use std::process::Abort;
 use store_keeper::MemKeeper;
 use test_machines::{Count, Number};
-use test_stands::{Plays, with_stations};
+use test_stands::{Plays, with_actors};
 
 /// What is tried: with all three, or with that of node 1.
 #[derive(Clone, Copy)]
@@ -28,8 +28,8 @@ struct Trying<R> {
 }
 
 // What is tried with the actor of node 1 alone, which ends there.
-fn try_first(rt: &impl Abort, alloc: Global, stations: &mut Vec<Counting<'_>>, restarts: bool) {
-    let first = stations.pop().expect(rt, "a node");
+fn try_first(rt: &impl Abort, alloc: Global, actors: &mut Vec<Counting<'_>>, restarts: bool) {
+    let first = actors.pop().expect(rt, "a node");
     if restarts {
         begins_again(rt, alloc, first);
     } else {
@@ -40,22 +40,16 @@ fn try_first(rt: &impl Abort, alloc: Global, stations: &mut Vec<Counting<'_>>, r
 impl<R: Abort> Plays<Count, MemKeeper<Number>> for Trying<&R> {
     type End = ();
 
-    fn play(&mut self, stations: &mut Vec<Counting<'_>>) {
+    fn play(&mut self, actors: &mut Vec<Counting<'_>>) {
         let (rt, alloc) = (self.rt, self.alloc);
         match self.trial {
-            Trial::Serves => serve_and_leave(rt, alloc, stations),
-            Trial::Fails { node, wanted } => fails(
-                rt,
-                alloc,
-                stations.as_mut_slice(),
-                node,
-                wanted,
-            ),
-            Trial::Outlives => outlives(rt, alloc, stations),
-            Trial::Fills => first_does(rt, stations.as_mut_slice(), true),
-            Trial::Rests => first_does(rt, stations.as_mut_slice(), false),
-            Trial::Restarts => try_first(rt, alloc, stations, true),
-            Trial::Refuses => try_first(rt, alloc, stations, false),
+            Trial::Serves => serve_and_leave(rt, alloc, actors),
+            Trial::Fails { node, wanted } => fails(rt, alloc, actors.as_mut_slice(), node, wanted),
+            Trial::Outlives => outlives(rt, alloc, actors),
+            Trial::Fills => first_does(rt, actors.as_mut_slice(), true),
+            Trial::Rests => first_does(rt, actors.as_mut_slice(), false),
+            Trial::Restarts => try_first(rt, alloc, actors, true),
+            Trial::Refuses => try_first(rt, alloc, actors, false),
         }
     }
 }
@@ -63,7 +57,7 @@ impl<R: Abort> Plays<Count, MemKeeper<Number>> for Trying<&R> {
 /// Tries it with three actors over stores in memory, of which one may fail.
 pub fn tried(rt: &impl Abort, alloc: Global, failing: &Failing, trial: Trial) {
     let mut trying = Trying { rt, alloc, trial };
-    with_stations::<Count, MemKeeper<Number>, _, _>(alloc, failing, &mut trying).expect(
+    with_actors::<Count, MemKeeper<Number>, _, _>(alloc, failing, &mut trying).expect(
         rt,
         "three actors",
     );

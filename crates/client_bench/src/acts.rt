@@ -97,7 +97,7 @@ fn add_registration(
     add_text(alloc, plan, number, text.as_str())
 }
 
-// The four subscriptions of a session: a topic, a prefix and a wildcard of its own, and the topic of all.
+// The four subscriptions of a session: its own topic, prefix and wildcard, and the topic of all.
 fn add_subscriptions(
     alloc: Global,
     plan: &mut Vec<Planned>,
@@ -112,7 +112,7 @@ fn add_subscriptions(
     add_subscription(alloc, plan, number, "exact", "all.a.x")
 }
 
-// Its two registrations: a procedure and a prefix of its own.
+// Its two registrations: its own procedure and prefix.
 fn add_registrations(
     alloc: Global,
     plan: &mut Vec<Planned>,
@@ -187,7 +187,7 @@ fn add_connect(alloc: Global, plan: &mut Vec<Planned>, number: u64) -> Result<()
     add(plan, number, Act::Hung)
 }
 
-/// The acts of an operation that was done so often before, among so many sessions.
+/// Returns the acts of an operation that was done `done` times before, among `sessions` sessions.
 pub fn plan_of(
     alloc: Global,
     operation: Operation,
@@ -199,18 +199,18 @@ pub fn plan_of(
     let number = (done % sessions).saturating_add(1);
     let other = (number % sessions).saturating_add(1);
     let invocation = (done / sessions).saturating_add(1);
-    let behind = done.saturating_add(1);
+    let next = done.saturating_add(1);
     let subscription = sessions
         .saturating_mul(3)
         .saturating_add(1)
-        .saturating_add(behind);
-    let registration = sessions.saturating_mul(2).saturating_add(behind);
+        .saturating_add(next);
+    let registration = sessions.saturating_mul(2).saturating_add(next);
     match operation {
         Operation::Publish => add_publish(alloc, &mut plan, number, other)?,
         Operation::Call => add_call(alloc, &mut plan, number, other, invocation)?,
         Operation::Subscribe => add_subscribe(alloc, &mut plan, number, subscription)?,
         Operation::Register => add_register(alloc, &mut plan, number, registration)?,
-        Operation::Connect => add_connect(alloc, &mut plan, sessions.saturating_add(behind))?,
+        Operation::Connect => add_connect(alloc, &mut plan, sessions.saturating_add(next))?,
     }
     Ok(plan)
 }

@@ -18,7 +18,7 @@ usage: client_bench S N
   Counts are printed, and on standard error the nanoseconds of an operation in its fastest turn, its messages being read
   before. S is at most 1,000,000, and so is N";
 
-// The words of the command line, without the program's own name; none where they cannot be read.
+// Returns the words of the command line, without the program's own name.
 fn words_of(rt: &HostRuntime) -> Result<Vec<String>, Error> {
     let mut words = Vec::new(rt.alloc());
     for word in env::args(rt)?.skip(1) {
@@ -40,7 +40,7 @@ fn misuse(rt: &HostRuntime) -> ExitCode {
     ExitCode::from(2)
 }
 
-// The status of a run, whose fault is told on standard error.
+// Returns the status of a run, and prints its fault on standard error.
 fn ended(rt: &HostRuntime, done: Result<(), BenchFault>) -> ExitCode {
     match done {
         Ok(()) => ExitCode::SUCCESS,

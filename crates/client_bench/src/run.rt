@@ -1,11 +1,11 @@
-// A realm alone, with so many sessions, and how long its operations take.
+// A realm alone, with a number of sessions, and how long its operations take.
 use crate::acts::{Operation, Planned, opening_of, plan_of};
 use crate::fault::BenchFault;
 use realm_machine::{Limits, Realm};
 use std::alloc::Global;
 use std::time::Instant;
 
-// How often each operation has its turn; of each its fastest turn is told.
+// How often each operation has its turn; of each its fastest turn is printed.
 const TURNS: u64 = 8;
 
 const OPERATIONS: [Operation; 5] = [
@@ -79,7 +79,7 @@ fn once(
     Ok(taken)
 }
 
-// A turn of so many, whose time is kept where no turn before was as fast.
+// A turn of this many operations, whose time is kept if no turn before was as fast.
 fn turn(
     rt: &HostRuntime,
     realm: &mut Realm,
@@ -135,7 +135,7 @@ fn measure_all(
     Ok(())
 }
 
-/// Opens so many sessions, and does each operation in turns of so many.
+/// Opens `sessions` sessions, and does each operation in turns of `times`.
 pub fn run(rt: &HostRuntime, sessions: u64, times: u64) -> Result<(), BenchFault> {
     let mut realm = realm_of(rt.alloc(), sessions)?;
     measure_all(rt, &mut realm, sessions, times)

@@ -409,7 +409,7 @@ fn is_gone(rt: &impl Abort, alloc: Global, realm: &mut Realm, rows: &[Gone], say
     check!(rt; is_told_gone(rt, alloc, realm, ""));
 }
 
-// What the end of node 3 makes the realm say behind these rows, once.
+// Checks what the end of node 3 makes the realm say after these rows, once.
 fn check_gone(rt: &impl Abort, alloc: Global, rows: &[Gone], says: &str) {
     let mut realm = realm_of(rt, alloc, 4096);
     is_gone(rt, alloc, &mut realm, rows, says);

@@ -1,4 +1,4 @@
-// Rows on open calls.
+// Rows on open calls: steps, and what comes of each.
 ghost use Rattle.std.specs.Prelude.{◌≡◌};
 ghost use Rattle.realm_sessions.specs.Links.{has_number};
 
@@ -9,59 +9,65 @@ use std::process::Abort;
 use test_checks::check;
 use wamp_ids::{Id, Mode};
 
+// A caller and its request.
+type Request = (u64, u64);
+
+// A callee and the id of an invocation there.
+type Invocation = (u64, u64);
+
+// What is done or asked, and what comes of it.
+enum Step {
+    // The request opens a call with this invocation.
+    Open(Request, Invocation, Result<(), RealmFault>),
+    // The request or the invocation is open already, so that no call may be opened with both.
+    IsOpen(Request, Invocation),
+    // Whether the request is open.
+    Has(Request, bool),
+    // Whether the caller has as many open calls as it may have.
+    IsFull(u64, bool),
+    // The callee of the request, if that is open.
+    Callee(Request, Option<u64>),
+    // Whether the invocation is open.
+    IsInvoked(Invocation, bool),
+    // The open invocations of a callee.
+    Invocations(u64, &'static [u64]),
+    // The open calls, oldest first.
+    Calls(&'static [Request]),
+    // The callee answers an invocation, which ends this call.
+    Answer(Invocation, Result<Request, RealmFault>),
+    // The caller cancels its request in this mode, at a callee that announced call canceling or did not: whether that ends the call, and the
+    // mode of the INTERRUPT.
+    Cancel(Request, Mode, bool, Result<(bool, Option<Mode>), RealmFault>),
+    // A callee leaves, which ends these calls.
+    CalleeLeaves(u64, &'static [Request]),
+    // A caller leaves, which ends these calls.
+    CallerLeaves(u64, &'static [Request]),
+}
+
 fn id(rt: &impl Abort, number: u64) -> Id {
     Id::new(number).expect(rt, "an id")
 }
 
-// Two numbers as one, of which the second has so many digits.
-fn pair(first: u64, second: u64, scale: u64) -> u64 {
-    first.wrapping_mul(scale).wrapping_add(second)
+fn request_of(call: &Open) -> Request {
+    (call.caller.get(), call.request.get())
 }
 
-// A call as a number: its caller's digit, then its request's.
-fn number_of(call: &Open) -> u64 {
-    pair(call.caller.get(), call.request.get(), 10)
+// Whether these are the calls, in this order.
+fn are_calls(calls: &[Open], wanted: &[Request]) -> bool {
+    calls.len() == wanted.len()
+        && calls
+            .iter()
+            .zip(wanted.iter())
+            .all(|(call, wanted)| request_of(call) == *wanted)
 }
 
-// The calls' numbers, one behind the other.
-fn numbers_of(calls: &[Open]) -> u64 {
-    let mut numbers = 0;
-    for call in calls {
-        numbers = pair(numbers, number_of(call), 100);
-    }
-    numbers
-}
-
-// The ids' digits, one behind the other.
-fn digits_of(ids: &[Id]) -> u64 {
-    let mut digits = 0;
-    for id in ids {
-        digits = pair(digits, id.get(), 10);
-    }
-    digits
-}
-
-fn digit_of(interrupt: Option<Mode>) -> u64 {
-    match interrupt {
-        None => 0,
-        Some(Mode::Skip) => 1,
-        Some(Mode::Kill) => 2,
-        Some(Mode::KillNoWait) => 3,
-    }
-}
-
-// The call's number, 1 where it ended, and the mode of the INTERRUPT, from 1 on, or 0.
-fn number_of_cancelled(cancelled: &Cancelled) -> u64 {
-    let ended = if cancelled.is_ended { 1 } else { 0 };
-    let outcome = pair(ended, digit_of(cancelled.interrupt), 10);
-    pair(number_of(&cancelled.call), outcome, 100)
-}
-
-fn answer_of(given: Result<u64, RealmFault>) -> u64 {
-    match given {
-        Ok(answer) => answer,
-        Err(fault) => fault.number() as u64,
-    }
+// Whether these are the ids, in this order.
+fn are_ids(ids: &[Id], wanted: &[u64]) -> bool {
+    ids.len() == wanted.len()
+        && ids
+            .iter()
+            .zip(wanted.iter())
+            .all(|(id, wanted)| id.get() == *wanted)
 }
 
 fn is_among(ids: &[Id], id: Id) -> bool
@@ -70,199 +76,227 @@ fn is_among(ids: &[Id], id: Id) -> bool
     ids.iter().any(|other| *other == id)
 }
 
-// The fault's number, or 0; 1 where the request or the invocation is open.
-fn opened(rt: &impl Abort, calls: &mut Calls, call: &Open) -> u64 {
+fn call_of(rt: &impl Abort, request: Request, invocation: Invocation) -> Open {
+    Open {
+        caller: id(rt, request.0),
+        request: id(rt, request.1),
+        callee: id(rt, invocation.0),
+        invocation: id(rt, invocation.1),
+    }
+}
+
+// Opens the call; `None` if its request or its invocation is open already.
+fn opened(rt: &impl Abort, calls: &mut Calls, call: &Open) -> Option<Result<(), RealmFault>> {
     let taken = calls.open_of(call.callee).expect(rt, "room for ids");
     if is_among(&taken, call.invocation) || calls.has(call.caller, call.request) {
-        return 1;
+        return None;
     }
-    let given = calls.open(call.caller, call.request, call.callee, call.invocation);
-    answer_of(given.map(|()| 0))
+    Some(calls.open(call.caller, call.request, call.callee, call.invocation))
 }
 
-fn canceled(calls: &mut Calls, call: &Open, mode: Mode, announces: bool) -> u64 {
-    let given = calls.cancel(call.caller, call.request, mode, announces);
-    answer_of(given.map(|cancelled| number_of_cancelled(&cancelled)))
-}
-
-// The open invocations of the callee.
-fn invocations(rt: &impl Abort, calls: &Calls, callee: Id) -> u64 {
-    let found = calls.open_of(callee).expect(rt, "room for ids");
-    digits_of(&found)
-}
-
-fn without_callee(rt: &impl Abort, calls: &mut Calls, callee: Id) -> u64 {
-    let ended = calls.leave_callee(callee).expect(rt, "room for calls");
-    numbers_of(&ended)
-}
-
-fn without_caller(rt: &impl Abort, calls: &mut Calls, caller: Id) -> u64 {
-    let ended = calls.leave_caller(caller).expect(rt, "room for calls");
-    numbers_of(&ended)
-}
-
-// What is asked, if the word asks whether something is so.
-fn told(calls: &Calls, word: &str, call: &Open) -> Option<bool> {
-    if word == "has" {
-        return Some(calls.has(call.caller, call.request));
-    }
-    if word == "full" {
-        return Some(calls.is_full(call.caller));
-    }
-    if word == "invoked" {
-        return Some(calls.is_invoked(call.callee, call.invocation));
-    }
-    None
-}
-
-// What one step answers.
-fn step(rt: &impl Abort, calls: &mut Calls, word: &str, call: &Open) -> u64 {
-    if word == "open" {
-        return opened(rt, calls, call);
-    }
-    if let Some(holds) = told(calls, word, call) {
-        return if holds { 1 } else { 0 };
-    }
-    if word == "invocations" {
-        return invocations(rt, calls, call.callee);
-    }
-    if word == "answer" {
-        let given = calls.answer(call.callee, call.invocation);
-        return answer_of(given.map(|call| number_of(&call)));
-    }
-    if word == "callee leaves" {
-        return without_callee(rt, calls, call.callee);
-    }
-    if word == "caller leaves" {
-        return without_caller(rt, calls, call.caller);
-    }
-    if word == "open calls" {
-        let open = calls.to_vec().expect(rt, "room for calls");
-        return numbers_of(&open);
-    }
-    if word == "callee" {
-        return match calls.call_of(call.caller, call.request) {
-            Some(found) => found.callee.get(),
-            None => 0,
-        };
-    }
-    stopped(calls, word, call)
-}
-
-// A cancellation: the mode, and whether the callee announced it.
-fn stopped(calls: &mut Calls, word: &str, call: &Open) -> u64 {
-    if word == "skip" {
-        return canceled(calls, call, Mode::Skip, true);
-    }
-    if word == "kill" {
-        return canceled(calls, call, Mode::Kill, true);
-    }
-    if word == "kill unannounced" {
-        return canceled(calls, call, Mode::Kill, false);
-    }
-    canceled(calls, call, Mode::KillNoWait, true)
-}
-
-// The word, then caller, request, callee and invocation, and the answer.
-type Row = (&'static str, u64, u64, u64, u64, u64);
-
-fn call_of(rt: &impl Abort, row: &Row) -> Open {
-    Open {
-        caller: id(rt, row.1),
-        request: id(rt, row.2),
-        callee: id(rt, row.3),
-        invocation: id(rt, row.4),
+fn opens(
+    rt: &impl Abort,
+    calls: &mut Calls,
+    request: Request,
+    invocation: Invocation,
+    wanted: Result<(), RealmFault>,
+) -> bool {
+    let call = call_of(rt, request, invocation);
+    match opened(rt, calls, &call) {
+        Some(outcome) => outcome == wanted,
+        None => false,
     }
 }
 
-fn is_answered(rt: &impl Abort, calls: &mut Calls, row: &Row) -> bool {
-    let call = call_of(rt, row);
-    step(rt, calls, row.0, &call) == row.5
+fn is_open(rt: &impl Abort, calls: &mut Calls, request: Request, invocation: Invocation) -> bool {
+    let call = call_of(rt, request, invocation);
+    opened(rt, calls, &call).is_none()
 }
 
-fn goes(rt: &impl Abort, calls: &mut Calls, rows: &[Row]) {
-    for row in rows {
-        check!(rt; is_answered(rt, calls, row), (row.0, row.1, row.2));
+fn has(rt: &impl Abort, calls: &Calls, request: Request) -> bool {
+    calls.has(id(rt, request.0), id(rt, request.1))
+}
+
+// The callee of the request, if that is open.
+fn callee_of(rt: &impl Abort, calls: &Calls, request: Request) -> Option<u64> {
+    match calls.call_of(id(rt, request.0), id(rt, request.1)) {
+        Some(call) => Some(call.callee.get()),
+        None => None,
     }
 }
 
-const OPENS_AND_ANSWERS_CALLS: &[Row] = &[
-    ("has", 1, 5, 9, 1, 0),
-    ("full", 1, 5, 9, 1, 0),
-    ("open", 1, 5, 9, 1, 0),
-    ("open", 1, 5, 9, 2, 1),
-    ("open", 2, 5, 9, 1, 1),
-    ("has", 1, 5, 9, 1, 1),
-    ("callee", 1, 5, 1, 1, 9),
-    ("open", 1, 6, 1, 1, 0),
-    ("full", 1, 5, 9, 1, 1),
-    ("open", 1, 7, 9, 2, 103),
-    ("full", 2, 5, 9, 1, 0),
-    ("open", 2, 5, 9, 3, 0),
-    ("open", 2, 6, 1, 2, 0),
-    ("invocations", 1, 1, 9, 1, 13),
-    ("invocations", 1, 1, 1, 1, 12),
-    ("invocations", 1, 1, 3, 1, 0),
-    ("invoked", 1, 1, 9, 3, 1),
-    ("invoked", 1, 1, 9, 2, 0),
-    ("open calls", 1, 1, 1, 1, 15_16_25_26),
-    ("answer", 1, 1, 9, 2, 108),
-    ("answer", 1, 1, 9, 3, 25),
-    ("answer", 1, 1, 9, 3, 108),
-    ("has", 2, 5, 9, 3, 0),
-    ("callee", 2, 5, 1, 1, 0),
-    ("full", 2, 5, 9, 1, 0),
-    ("open", 2, 7, 9, 3, 0),
-    ("open calls", 1, 1, 1, 1, 15_16_26_27),
+fn is_invoked(rt: &impl Abort, calls: &Calls, invocation: Invocation) -> bool {
+    calls.is_invoked(id(rt, invocation.0), id(rt, invocation.1))
+}
+
+fn are_invocations(rt: &impl Abort, calls: &Calls, callee: u64, wanted: &[u64]) -> bool {
+    let found = calls.open_of(id(rt, callee)).expect(rt, "room for ids");
+    are_ids(&found, wanted)
+}
+
+fn are_open(rt: &impl Abort, calls: &Calls, wanted: &[Request]) -> bool {
+    let open = calls.to_vec().expect(rt, "room for calls");
+    are_calls(&open, wanted)
+}
+
+fn answers(
+    rt: &impl Abort,
+    calls: &mut Calls,
+    invocation: Invocation,
+    wanted: Result<Request, RealmFault>,
+) -> bool {
+    let given = calls.answer(id(rt, invocation.0), id(rt, invocation.1));
+    given.map(|call| request_of(&call)) == wanted
+}
+
+// Whether the canceled call is that of the request, and has this outcome.
+fn is_canceled(canceled: &Cancelled, request: Request, wanted: (bool, Option<Mode>)) -> bool {
+    request_of(&canceled.call) == request
+        && canceled.is_ended == wanted.0
+        && canceled.interrupt == wanted.1
+}
+
+fn cancels(
+    rt: &impl Abort,
+    calls: &mut Calls,
+    request: Request,
+    mode: Mode,
+    announces: bool,
+    wanted: Result<(bool, Option<Mode>), RealmFault>,
+) -> bool {
+    let given = calls.cancel(id(rt, request.0), id(rt, request.1), mode, announces);
+    match (given, wanted) {
+        (Ok(canceled), Ok(wanted)) => is_canceled(&canceled, request, wanted),
+        (Err(fault), Err(wanted)) => fault == wanted,
+        (Ok(_), Err(_)) | (Err(_), Ok(_)) => false,
+    }
+}
+
+fn callee_leaves(rt: &impl Abort, calls: &mut Calls, callee: u64, wanted: &[Request]) -> bool {
+    let ended = calls
+        .leave_callee(id(rt, callee))
+        .expect(rt, "room for calls");
+    are_calls(&ended, wanted)
+}
+
+fn caller_leaves(rt: &impl Abort, calls: &mut Calls, caller: u64, wanted: &[Request]) -> bool {
+    let ended = calls
+        .leave_caller(id(rt, caller))
+        .expect(rt, "room for calls");
+    are_calls(&ended, wanted)
+}
+
+// Takes the step. Returns whether it comes as it says.
+fn take(rt: &impl Abort, calls: &mut Calls, step: &Step) -> bool {
+    match step {
+        Step::Open(request, invocation, wanted) => {
+            opens(rt, calls, *request, *invocation, *wanted)
+        },
+        Step::IsOpen(request, invocation) => is_open(rt, calls, *request, *invocation),
+        Step::Has(request, wanted) => has(rt, calls, *request) == *wanted,
+        Step::IsFull(caller, wanted) => calls.is_full(id(rt, *caller)) == *wanted,
+        Step::Callee(request, wanted) => callee_of(rt, calls, *request) == *wanted,
+        Step::IsInvoked(invocation, wanted) => is_invoked(rt, calls, *invocation) == *wanted,
+        Step::Invocations(callee, wanted) => are_invocations(rt, calls, *callee, wanted),
+        Step::Calls(wanted) => are_open(rt, calls, wanted),
+        Step::Answer(invocation, wanted) => answers(rt, calls, *invocation, *wanted),
+        Step::Cancel(request, mode, announces, wanted) => {
+            cancels(rt, calls, *request, *mode, *announces, *wanted)
+        },
+        Step::CalleeLeaves(callee, wanted) => callee_leaves(rt, calls, *callee, wanted),
+        Step::CallerLeaves(caller, wanted) => caller_leaves(rt, calls, *caller, wanted),
+    }
+}
+
+// Takes all steps; a note on a failed check is the step's place among them, from 0 on.
+fn take_all(rt: &impl Abort, calls: &mut Calls, steps: &[Step]) {
+    for (place, step) in steps.iter().enumerate() {
+        check!(rt; take(rt, calls, step), place);
+    }
+}
+
+const OPENS_AND_ANSWERS_CALLS: &[Step] = &[
+    Step::Has((1, 5), false),
+    Step::IsFull(1, false),
+    Step::Open((1, 5), (9, 1), Ok(())),
+    Step::IsOpen((1, 5), (9, 2)),
+    Step::IsOpen((2, 5), (9, 1)),
+    Step::Has((1, 5), true),
+    Step::Callee((1, 5), Some(9)),
+    Step::Open((1, 6), (1, 1), Ok(())),
+    Step::IsFull(1, true),
+    Step::Open((1, 7), (9, 2), Err(RealmFault::Limit)),
+    Step::IsFull(2, false),
+    Step::Open((2, 5), (9, 3), Ok(())),
+    Step::Open((2, 6), (1, 2), Ok(())),
+    Step::Invocations(9, &[1, 3]),
+    Step::Invocations(1, &[1, 2]),
+    Step::Invocations(3, &[]),
+    Step::IsInvoked((9, 3), true),
+    Step::IsInvoked((9, 2), false),
+    Step::Calls(&[(1, 5), (1, 6), (2, 5), (2, 6)]),
+    Step::Answer((9, 2), Err(RealmFault::NotOpen)),
+    Step::Answer((9, 3), Ok((2, 5))),
+    Step::Answer((9, 3), Err(RealmFault::NotOpen)),
+    Step::Has((2, 5), false),
+    Step::Callee((2, 5), None),
+    Step::IsFull(2, false),
+    Step::Open((2, 7), (9, 3), Ok(())),
+    Step::Calls(&[(1, 5), (1, 6), (2, 6), (2, 7)]),
 ];
 
 #[test]
 fn opens_and_answers_calls(rt: HostRuntime) {
     let mut calls = Calls::new(rt.alloc(), 2);
-    goes(&rt, &mut calls, OPENS_AND_ANSWERS_CALLS);
+    take_all(&rt, &mut calls, OPENS_AND_ANSWERS_CALLS);
 }
 
-const CANCELS_CALLS: &[Row] = &[
-    ("kill", 2, 5, 1, 1, 108),
-    ("open", 2, 5, 9, 1, 0),
-    ("open", 2, 6, 9, 2, 0),
-    ("open", 2, 7, 9, 3, 0),
-    ("kill", 2, 5, 1, 1, 25_02),
-    ("kill", 2, 5, 1, 1, 25_02),
-    ("has", 2, 5, 1, 1, 1),
-    ("kill no wait", 2, 5, 1, 1, 25_13),
-    ("kill", 2, 5, 1, 1, 108),
-    ("answer", 1, 1, 9, 1, 108),
-    ("skip", 2, 6, 1, 1, 26_10),
-    ("skip", 2, 6, 1, 1, 108),
-    ("kill unannounced", 2, 7, 1, 1, 27_10),
-    ("open calls", 1, 1, 1, 1, 0),
+const CANCELS_CALLS: &[Step] = &[
+    Step::Cancel((2, 5), Mode::Kill, true, Err(RealmFault::NotOpen)),
+    Step::Open((2, 5), (9, 1), Ok(())),
+    Step::Open((2, 6), (9, 2), Ok(())),
+    Step::Open((2, 7), (9, 3), Ok(())),
+    Step::Cancel((2, 5), Mode::Kill, true, Ok((false, Some(Mode::Kill)))),
+    Step::Cancel((2, 5), Mode::Kill, true, Ok((false, Some(Mode::Kill)))),
+    Step::Has((2, 5), true),
+    Step::Cancel(
+        (2, 5),
+        Mode::KillNoWait,
+        true,
+        Ok((true, Some(Mode::KillNoWait))),
+    ),
+    Step::Cancel((2, 5), Mode::Kill, true, Err(RealmFault::NotOpen)),
+    Step::Answer((9, 1), Err(RealmFault::NotOpen)),
+    Step::Cancel((2, 6), Mode::Skip, true, Ok((true, None))),
+    Step::Cancel((2, 6), Mode::Skip, true, Err(RealmFault::NotOpen)),
+    Step::Cancel((2, 7), Mode::Kill, false, Ok((true, None))),
+    Step::Calls(&[]),
 ];
 
 #[test]
 fn cancels_calls(rt: HostRuntime) {
     let mut calls = Calls::new(rt.alloc(), 4);
-    goes(&rt, &mut calls, CANCELS_CALLS);
+    take_all(&rt, &mut calls, CANCELS_CALLS);
 }
 
-const ENDS_THE_CALLS_OF_A_SESSION: &[Row] = &[
-    ("open", 4, 1, 5, 1, 0),
-    ("open", 4, 2, 4, 1, 0),
-    ("open", 3, 5, 4, 2, 0),
-    ("open", 2, 6, 4, 3, 0),
-    ("open", 3, 7, 2, 1, 0),
-    ("open", 4, 3, 2, 2, 0),
-    ("callee leaves", 1, 1, 4, 1, 35_26),
-    ("open calls", 1, 1, 1, 1, 41_42_37_43),
-    ("caller leaves", 4, 1, 1, 1, 41_43),
-    ("open calls", 1, 1, 1, 1, 37),
-    ("callee leaves", 1, 1, 4, 1, 0),
-    ("caller leaves", 4, 1, 1, 1, 0),
-    ("open calls", 1, 1, 1, 1, 37),
+const ENDS_THE_CALLS_OF_A_SESSION: &[Step] = &[
+    Step::Open((4, 1), (5, 1), Ok(())),
+    Step::Open((4, 2), (4, 1), Ok(())),
+    Step::Open((3, 5), (4, 2), Ok(())),
+    Step::Open((2, 6), (4, 3), Ok(())),
+    Step::Open((3, 7), (2, 1), Ok(())),
+    Step::Open((4, 3), (2, 2), Ok(())),
+    Step::CalleeLeaves(4, &[(3, 5), (2, 6)]),
+    Step::Calls(&[(4, 1), (4, 2), (3, 7), (4, 3)]),
+    Step::CallerLeaves(4, &[(4, 1), (4, 3)]),
+    Step::Calls(&[(3, 7)]),
+    Step::CalleeLeaves(4, &[]),
+    Step::CallerLeaves(4, &[]),
+    Step::Calls(&[(3, 7)]),
 ];
 
 #[test]
 fn ends_the_calls_of_a_session(rt: HostRuntime) {
     let mut calls = Calls::new(rt.alloc(), 4);
-    goes(&rt, &mut calls, ENDS_THE_CALLS_OF_A_SESSION);
+    take_all(&rt, &mut calls, ENDS_THE_CALLS_OF_A_SESSION);
 }

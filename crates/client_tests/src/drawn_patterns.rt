@@ -39,7 +39,7 @@ fn draw_match(words: &mut ChaCha20Rng) -> Match {
     }
 }
 
-// Puts a drawn pattern with its number, if it is one; the number that stood there does not stand any more.
+// Puts a drawn pattern with its number, if it is one; the number that was there is not in the table any more.
 fn put_drawn(
     rt: &impl Abort,
     alloc: Global,
@@ -110,20 +110,20 @@ fn rank(matching: Match) -> u8 {
     }
 }
 
-// Whether the first stands before the second: exact, then prefix, then wildcard, each by text.
+// Whether the first comes before the second: exact, then prefix, then wildcard, each by text.
 fn stands_before(one: &Pattern<'_>, other: &Pattern<'_>) -> bool {
     let (rank, other_rank) = (rank(one.matching()), rank(other.matching()));
     rank < other_rank || rank == other_rank && one.as_str() < other.as_str()
 }
 
-// Whether these are as many as the scan found, all match, and stand in order.
+// Whether these are as many as the scan found, all match, and are in order.
 fn are_all(drawn: &[Drawn], uri: &Uri<'_>, found: &[&usize], count: usize) -> bool {
     let mut before: Option<&Drawn> = None;
     for number in found {
         let Some(one) = drawn.get(**number) else {
             return false;
         };
-        if !one.stands || !matches(&one.pattern, uri) || !is_behind(before, one) {
+        if !one.stands || !matches(&one.pattern, uri) || !is_after(before, one) {
             return false;
         }
         before = Some(one);
@@ -131,14 +131,14 @@ fn are_all(drawn: &[Drawn], uri: &Uri<'_>, found: &[&usize], count: usize) -> bo
     found.len() == count
 }
 
-fn is_behind(before: Option<&Drawn>, one: &Drawn) -> bool {
+fn is_after(before: Option<&Drawn>, one: &Drawn) -> bool {
     match before {
         Some(before) => stands_before(&before.pattern, &one.pattern),
         None => true,
     }
 }
 
-// What the table answers for this URI, beside the scan; how many match.
+// Compares what the table returns for this URI with the scan. Returns how many match.
 fn compare(rt: &impl Abort, table: &PatternTable<usize>, drawn: &[Drawn], uri: &Uri<'_>) -> usize {
     let (best, count) = scan(drawn, uri);
     check_eq!(rt; table.best(uri).copied(), best);
@@ -147,7 +147,7 @@ fn compare(rt: &impl Abort, table: &PatternTable<usize>, drawn: &[Drawn], uri: &
     count
 }
 
-// Draws until so many patterns were put.
+// Draws until `most` patterns were put.
 fn fill(
     rt: &impl Abort,
     alloc: Global,
@@ -240,7 +240,7 @@ fn take_half(table: &mut PatternTable<usize>, drawn: &mut [Drawn]) {
     }
 }
 
-// Draws few patterns, then many, then takes half of them out again; after each the table answers as the scan.
+// Draws few patterns, then many, then takes half of them out again; after each the table agrees with the scan.
 fn draws_and_asks(
     rt: &impl Abort,
     alloc: Global,

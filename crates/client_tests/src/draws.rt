@@ -1,6 +1,6 @@
 // Draws beside those that another ChaCha20 gives (the Python package `cryptography`).
 use crate::check::Check;
-use serve_draws::Draws;
+use serve_policy::Draws;
 use std::process::Abort;
 use test_checks::check;
 

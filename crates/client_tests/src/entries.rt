@@ -36,7 +36,7 @@ fn said(rt: &impl Abort, alloc: Global, read: &[u8], text: &str) -> Vec<u8> {
     item(rt, alloc, body.as_slice(), text)
 }
 
-// What the octets are taken as: the number of the fault, the letter of the act where the entry is put as these octets again, or 0.
+// What the octets are taken as: the number of the fault, the letter of the act if the entry is put as these octets again, or 0.
 fn answer(alloc: Global, octets: &[u8]) -> u8 {
     match take_entry::<Act, ActCoder>(alloc, octets) {
         Ok(entry) => {
@@ -157,7 +157,7 @@ fn unfit(rt: &impl Abort, alloc: Global, kind: UnfitKind, quiet: bool) -> Entry<
     }
 }
 
-// The number of the fault for which the entry is not put, 0 where it is.
+// Returns the number of the fault for which the entry is not put, 0 if it is put.
 fn refusal(alloc: Global, entry: &Entry<Act>) -> u8 {
     let mut out = Vec::new(alloc);
     match put_entry::<Act, ActCoder>(entry, &mut out) {
@@ -166,7 +166,7 @@ fn refusal(alloc: Global, entry: &Entry<Act>) -> u8 {
     }
 }
 
-// The same for an unfit request.
+// Does so for an unfit request.
 fn unfit_refusal(rt: &impl Abort, alloc: Global, kind: UnfitKind, quiet: bool) -> u8 {
     let entry = unfit(rt, alloc, kind, quiet);
     let number = refusal(alloc, &entry);
@@ -204,7 +204,7 @@ fn is_subscribe(entry: &Entry<Act>, number: u64) -> bool {
     }
 }
 
-// Whether an entry is equal to its copy, which tells the same letter.
+// Whether an entry is equal to its copy, which has the same letter.
 fn is_equal(entry: &Entry<Act>, copy: &Entry<Act>) -> bool {
     entry.same(copy) && letter(copy) == letter(entry)
 }

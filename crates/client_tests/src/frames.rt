@@ -70,7 +70,7 @@ fn shows_faults_by_four_octets(rt: HostRuntime) {
     check!(&rt; FrameFault::Failed.number() == 35);
 }
 
-// Whether the next frame is a message with so many octets.
+// Whether the next frame is a message with `length` octets.
 fn is_message(rt: &impl Abort, splitter: &mut Splitter, length: usize) -> bool {
     match splitter.next().expect(rt, "no fault") {
         Some(Frame { kind, payload }) => kind == FrameKind::Message && payload.len() == length,
@@ -78,7 +78,7 @@ fn is_message(rt: &impl Abort, splitter: &mut Splitter, length: usize) -> bool {
     }
 }
 
-// Feeds the piece so often. Whether no frame was whole before the last one.
+// Feeds the piece `times` times. Returns whether no frame was whole before the last one.
 fn waits(rt: &impl Abort, splitter: &mut Splitter, piece: &[u8], times: u32) -> bool {
     let mut waited = true;
     for _ in 0..times {

@@ -9,7 +9,7 @@ fn next_of(number: u64) -> Option<u64> {
     Some(Id::new(number)?.next().get())
 }
 
-// A number, and the id behind it.
+// A number, and the id after it.
 const NEXT: &[(u64, Option<u64>)] = &[
     (0, None),
     (1, Some(2)),
@@ -74,7 +74,7 @@ const URIS: &[(&str, u8)] = &[
     ("é.ü", 0),
 ];
 
-// The faults of a text of so many octets, which is read, and found.
+// Returns the faults of a text of `length` octets, which is read, and found.
 fn faults_of(rt: &impl Abort, alloc: Global, length: usize) -> (u8, u8) {
     let octets = vec![in alloc; b'a'; length].expect(rt, "room for a text");
     let text = String::from_utf8(octets).expect(rt, "a text");
@@ -123,7 +123,7 @@ fn takes_uris_apart(rt: HostRuntime) {
 }
 
 #[test]
-fn want_of_memory_has_number_five(rt: HostRuntime) {
+fn out_of_memory_has_number_five(rt: HostRuntime) {
     check_eq!(&rt; Memory.number(), 5);
     check_eq!(&rt; UriFault::Memory.number(), 5);
 }

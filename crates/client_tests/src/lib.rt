@@ -1,5 +1,5 @@
-//! Tests of what a client meets, from ids to messages and frames, of acts as octets, of the realm and its parts, and of a script's lines and
-//! the text of nodes, logs and sayings, over the crates' public surfaces. A crate with tests is proved twice, so they stand here.
+//! Tests of what a client meets, from ids to messages and frames, of acts as octets, and of the realm and its parts, over the crates' public
+//! surfaces. A crate with tests is proved twice, so they are here.
 #![tactic(auto)]
 
 #[cfg(test)]
@@ -19,8 +19,6 @@ mod frames;
 #[cfg(test)]
 mod ids;
 #[cfg(test)]
-mod lines;
-#[cfg(test)]
 mod messages;
 #[cfg(test)]
 mod pattern_tables;
@@ -34,7 +32,5 @@ mod registrations;
 mod sessions;
 #[cfg(test)]
 mod subscriptions;
-#[cfg(test)]
-mod text;
 #[cfg(test)]
 mod values;

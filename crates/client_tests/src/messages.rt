@@ -10,7 +10,7 @@ const WELCOME: &str = "[2,1,{\"roles\":{\"broker\":{\"features\":{\
     \"dealer\":{\"features\":{\"call_canceling\":true,\
     \"pattern_based_registration\":true,\"shared_registration\":true}}}}]";
 
-// The number of the fault, or 0 where there is none.
+// Returns the number of the fault, or 0 if there is none.
 fn fault_number(done: &Read) -> u8 {
     match done {
         Read::Bad(fault) => fault.number(),
@@ -19,7 +19,7 @@ fn fault_number(done: &Read) -> u8 {
 }
 
 // What is read. It has no contract, so that nothing is known of the value: a proof carries what is known through each drop. What owns one
-// drops it by std's call, since an exit of its own would be proved for each kind of message.
+// drops it by std's call, since a separate exit would be proved for each kind of message.
 fn read_of(rt: &impl Abort, alloc: Global, octets: &[u8]) -> Read {
     read(alloc, octets).expect(rt, "room for a message")
 }
@@ -249,7 +249,7 @@ fn is_read_in(rt: &impl Abort, parser: &mut Parser, alloc: Global, text: &str) -
 }
 
 #[test]
-fn one_parser_tells_the_fault_of_each_text(rt: HostRuntime) {
+fn one_parser_finds_the_fault_of_each_text(rt: HostRuntime) {
     let mut parser = Parser::new(rt.alloc());
     for (text, number) in [
         ("[32,1,{},\"a\"]", 0),
@@ -279,6 +279,6 @@ fn one_parser_reads_message_after_message(rt: HostRuntime) {
 }
 
 #[test]
-fn want_of_memory_has_number_27(rt: HostRuntime) {
+fn out_of_memory_has_number_27(rt: HostRuntime) {
     check_eq!(&rt; Memory.number(), 27);
 }

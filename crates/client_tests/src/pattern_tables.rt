@@ -51,69 +51,89 @@ fn the_longer_prefix_is_better_and_any_prefix_than_a_wildcard(rt: HostRuntime) {
     }
 }
 
-// The value that stood there, or that is found, or the fault's number; 0 where there is none.
-fn answer(table: &mut PatternTable<u8>, word: &str, pattern: &Pattern<'_>, value: u8) -> u8 {
-    if word == "get" {
-        return table.get(pattern).copied().unwrap_or(0);
-    }
-    if word == "remove" {
-        return table.remove(pattern).unwrap_or(0);
-    }
-    match table.put(pattern, value) {
-        Ok(old) => old.unwrap_or(0),
-        Err((_value, memory)) => memory.number(),
-    }
+// What is done with a table or asked of it, and what comes of it.
+#[derive(Drop)]
+enum Step<'a> {
+    // A value is put for a pattern: the value that it replaces.
+    Put(&'a str, Match, u8, Option<u8>),
+    // The value of a pattern.
+    Get(&'a str, Match, Option<u8>),
+    // A pattern is removed: its value.
+    Remove(&'a str, Match, Option<u8>),
+    // The value of the pattern that serves a URI.
+    Best(&'a str, Option<u8>),
+    // The values of all patterns that match a URI, in the table's order.
+    All(&'a str, &'a [u8]),
 }
 
-fn best(rt: &impl Abort, table: &PatternTable<u8>, uri: &str) -> u8 {
-    let uri = Uri::of(uri).expect(rt, "a URI");
-    table.best(&uri).copied().unwrap_or(0)
+fn pattern<'a>(rt: &impl Abort, text: &'a str, matching: Match) -> Pattern<'a> {
+    Pattern::of(text, matching).expect(rt, "a pattern")
 }
 
-// The values of all patterns that match, a digit for each.
-fn all(rt: &impl Abort, table: &PatternTable<u8>, uri: &str) -> u64 {
-    let uri = Uri::of(uri).expect(rt, "a URI");
-    let mut digits: u64 = 0;
-    for value in table.all(&uri).expect(rt, "room for all values") {
-        digits = digits.wrapping_mul(10).wrapping_add(*value as u64);
-    }
-    digits
-}
-
-// What one step answers.
-fn step(
+fn put(
     rt: &impl Abort,
     table: &mut PatternTable<u8>,
-    word: &str,
     text: &str,
     matching: Match,
     value: u8,
-) -> u64 {
-    if word == "all" {
-        return all(rt, table, text);
-    }
-    if word == "best" {
-        return best(rt, table, text) as u64;
-    }
-    let pattern = Pattern::of(text, matching).expect(rt, "a pattern");
-    answer(table, word, &pattern, value) as u64
+) -> Option<u8> {
+    let pattern = pattern(rt, text, matching);
+    table.put(&pattern, value).expect(rt, "room for a value")
 }
 
-// What is done with which text, match and value, and what is answered.
-type Row<'a> = (&'a str, &'a str, Match, u8, u64);
+fn get(rt: &impl Abort, table: &PatternTable<u8>, text: &str, matching: Match) -> Option<u8> {
+    table.get(&pattern(rt, text, matching)).copied()
+}
 
-// Takes these steps one after the other, each with its answer.
-fn check_in(rt: &impl Abort, table: &mut PatternTable<u8>, rows: &[Row<'_>]) {
-    for (word, text, matching, value, answer) in rows {
-        let given = step(rt, table, word, text, *matching, *value);
-        check_eq!(rt; given, *answer, (word, text, value));
+fn remove(
+    rt: &impl Abort,
+    table: &mut PatternTable<u8>,
+    text: &str,
+    matching: Match,
+) -> Option<u8> {
+    table.remove(&pattern(rt, text, matching))
+}
+
+fn best(rt: &impl Abort, table: &PatternTable<u8>, uri: &str) -> Option<u8> {
+    let uri = Uri::of(uri).expect(rt, "a URI");
+    table.best(&uri).copied()
+}
+
+// Whether these are the values of all patterns that match, in this order.
+fn are_all(rt: &impl Abort, table: &PatternTable<u8>, uri: &str, wanted: &[u8]) -> bool {
+    let uri = Uri::of(uri).expect(rt, "a URI");
+    let values = table.all(&uri).expect(rt, "room for all values");
+    values.len() == wanted.len()
+        && values
+            .iter()
+            .zip(wanted.iter())
+            .all(|(value, wanted)| **value == *wanted)
+}
+
+// Takes the step. Returns whether it comes as it says.
+fn take(rt: &impl Abort, table: &mut PatternTable<u8>, step: &Step<'_>) -> bool {
+    match step {
+        Step::Put(text, matching, value, wanted) => {
+            put(rt, table, text, *matching, *value) == *wanted
+        },
+        Step::Get(text, matching, wanted) => get(rt, table, text, *matching) == *wanted,
+        Step::Remove(text, matching, wanted) => remove(rt, table, text, *matching) == *wanted,
+        Step::Best(uri, wanted) => best(rt, table, uri) == *wanted,
+        Step::All(uri, wanted) => are_all(rt, table, uri, wanted),
     }
 }
 
-// The same at an empty table.
-fn check(rt: &impl Abort, alloc: Global, rows: &[Row<'_>]) {
+// Takes all steps; a note on a failed check is the step's place among them, from 0 on.
+fn take_all(rt: &impl Abort, table: &mut PatternTable<u8>, steps: &[Step<'_>]) {
+    for (place, step) in steps.iter().enumerate() {
+        check!(rt; take(rt, table, step), place);
+    }
+}
+
+// Takes these steps at an empty table.
+fn check(rt: &impl Abort, alloc: Global, steps: &[Step<'_>]) {
     let mut table = PatternTable::new(alloc);
-    check_in(rt, &mut table, rows);
+    take_all(rt, &mut table, steps);
     drop(table);
 }
 
@@ -131,35 +151,35 @@ fn one_of_two_wildcards_serves(rt: HostRuntime) {
         ("a.b...", "a..c.d.e", "a.b.c.d.e", 1),
     ] {
         let rows = [
-            ("put", one, wildcard, 1, 0),
-            ("put", other, wildcard, 2, 0),
-            ("best", uri, wildcard, 0, serves),
-            ("remove", one, wildcard, 0, 1),
-            ("put", one, wildcard, 1, 0),
-            ("best", uri, wildcard, 0, serves),
+            Step::Put(one, wildcard, 1, None),
+            Step::Put(other, wildcard, 2, None),
+            Step::Best(uri, Some(serves)),
+            Step::Remove(one, wildcard, Some(1)),
+            Step::Put(one, wildcard, 1, None),
+            Step::Best(uri, Some(serves)),
         ];
         check(&rt, rt.alloc(), rows.as_slice());
     }
 }
 
-const NEXT_SERVES: &[Row<'static>] = &[
-    ("put", "a.", Match::Wildcard, 1, 0),
-    ("put", "a", Match::Prefix, 2, 0),
-    ("put", "a.", Match::Prefix, 3, 0),
-    ("put", "a.b", Match::Exact, 4, 0),
-    ("best", "a.b", Match::Exact, 0, 4),
-    ("remove", "a.b", Match::Exact, 0, 4),
-    ("remove", "a.b", Match::Exact, 0, 0),
-    ("best", "a.b", Match::Exact, 0, 3),
-    ("remove", "a.", Match::Prefix, 0, 3),
-    ("remove", "a.", Match::Prefix, 0, 0),
-    ("best", "a.b", Match::Exact, 0, 2),
-    ("remove", "a", Match::Prefix, 0, 2),
-    ("remove", "a", Match::Prefix, 0, 0),
-    ("best", "a.b", Match::Exact, 0, 1),
-    ("remove", "a.", Match::Wildcard, 0, 1),
-    ("remove", "a.", Match::Wildcard, 0, 0),
-    ("best", "a.b", Match::Exact, 0, 0),
+const NEXT_SERVES: &[Step<'static>] = &[
+    Step::Put("a.", Match::Wildcard, 1, None),
+    Step::Put("a", Match::Prefix, 2, None),
+    Step::Put("a.", Match::Prefix, 3, None),
+    Step::Put("a.b", Match::Exact, 4, None),
+    Step::Best("a.b", Some(4)),
+    Step::Remove("a.b", Match::Exact, Some(4)),
+    Step::Remove("a.b", Match::Exact, None),
+    Step::Best("a.b", Some(3)),
+    Step::Remove("a.", Match::Prefix, Some(3)),
+    Step::Remove("a.", Match::Prefix, None),
+    Step::Best("a.b", Some(2)),
+    Step::Remove("a", Match::Prefix, Some(2)),
+    Step::Remove("a", Match::Prefix, None),
+    Step::Best("a.b", Some(1)),
+    Step::Remove("a.", Match::Wildcard, Some(1)),
+    Step::Remove("a.", Match::Wildcard, None),
+    Step::Best("a.b", None),
 ];
 
 #[test]
@@ -167,20 +187,20 @@ fn the_next_serves_once_the_best_is_removed(rt: HostRuntime) {
     check(&rt, rt.alloc(), NEXT_SERVES);
 }
 
-const ORDER_IS_NO_RANK: &[Row<'static>] = &[
-    ("put", "a.b", Match::Exact, 4, 0),
-    ("put", "a.", Match::Prefix, 3, 0),
-    ("put", "a", Match::Prefix, 2, 0),
-    ("put", "a.", Match::Wildcard, 1, 0),
-    ("best", "a.b", Match::Exact, 0, 4),
-    ("remove", "a.b", Match::Exact, 0, 4),
-    ("best", "a.b", Match::Exact, 0, 3),
-    ("remove", "a.", Match::Prefix, 0, 3),
-    ("best", "a.b", Match::Exact, 0, 2),
-    ("remove", "a", Match::Prefix, 0, 2),
-    ("best", "a.b", Match::Exact, 0, 1),
-    ("remove", "a.", Match::Wildcard, 0, 1),
-    ("best", "a.b", Match::Exact, 0, 0),
+const ORDER_IS_NO_RANK: &[Step<'static>] = &[
+    Step::Put("a.b", Match::Exact, 4, None),
+    Step::Put("a.", Match::Prefix, 3, None),
+    Step::Put("a", Match::Prefix, 2, None),
+    Step::Put("a.", Match::Wildcard, 1, None),
+    Step::Best("a.b", Some(4)),
+    Step::Remove("a.b", Match::Exact, Some(4)),
+    Step::Best("a.b", Some(3)),
+    Step::Remove("a.", Match::Prefix, Some(3)),
+    Step::Best("a.b", Some(2)),
+    Step::Remove("a", Match::Prefix, Some(2)),
+    Step::Best("a.b", Some(1)),
+    Step::Remove("a.", Match::Wildcard, Some(1)),
+    Step::Best("a.b", None),
 ];
 
 #[test]
@@ -188,17 +208,17 @@ fn the_order_of_putting_is_no_rank(rt: HostRuntime) {
     check(&rt, rt.alloc(), ORDER_IS_NO_RANK);
 }
 
-const ALL_IN_ORDER: &[Row<'static>] = &[
-    ("put", "a.", Match::Wildcard, 7, 0),
-    ("put", "a", Match::Prefix, 3, 0),
-    ("put", ".", Match::Wildcard, 5, 0),
-    ("put", "b", Match::Prefix, 8, 0),
-    ("put", "a.b", Match::Exact, 1, 0),
-    ("put", "", Match::Prefix, 2, 0),
-    ("put", ".b", Match::Wildcard, 6, 0),
-    ("put", "a.c", Match::Exact, 9, 0),
-    ("put", "a.", Match::Prefix, 4, 0),
-    ("all", "a.b", Match::Exact, 0, 1_234_567),
+const ALL_IN_ORDER: &[Step<'static>] = &[
+    Step::Put("a.", Match::Wildcard, 7, None),
+    Step::Put("a", Match::Prefix, 3, None),
+    Step::Put(".", Match::Wildcard, 5, None),
+    Step::Put("b", Match::Prefix, 8, None),
+    Step::Put("a.b", Match::Exact, 1, None),
+    Step::Put("", Match::Prefix, 2, None),
+    Step::Put(".b", Match::Wildcard, 6, None),
+    Step::Put("a.c", Match::Exact, 9, None),
+    Step::Put("a.", Match::Prefix, 4, None),
+    Step::All("a.b", &[1, 2, 3, 4, 5, 6, 7]),
 ];
 
 #[test]
@@ -206,23 +226,23 @@ fn gives_all_that_match_in_order(rt: HostRuntime) {
     check(&rt, rt.alloc(), ALL_IN_ORDER);
 }
 
-const WILDCARD_SERVES: &[Row<'static>] = &[
-    ("put", "a.b", Match::Exact, 1, 0),
-    ("put", "", Match::Prefix, 2, 0),
-    ("put", "a", Match::Prefix, 3, 0),
-    ("put", "a.", Match::Prefix, 4, 0),
-    ("put", ".", Match::Wildcard, 5, 0),
-    ("put", ".b", Match::Wildcard, 6, 0),
-    ("put", "a.", Match::Wildcard, 7, 0),
-    ("all", "a.b", Match::Exact, 0, 1_234_567),
-    ("best", "a.b", Match::Exact, 0, 1),
-    ("remove", "a.b", Match::Exact, 0, 1),
-    ("best", "a.b", Match::Exact, 0, 4),
-    ("remove", "a.", Match::Prefix, 0, 4),
-    ("remove", "a", Match::Prefix, 0, 3),
-    ("remove", "", Match::Prefix, 0, 2),
-    ("best", "a.b", Match::Exact, 0, 7),
-    ("all", "a.b", Match::Exact, 0, 567),
+const WILDCARD_SERVES: &[Step<'static>] = &[
+    Step::Put("a.b", Match::Exact, 1, None),
+    Step::Put("", Match::Prefix, 2, None),
+    Step::Put("a", Match::Prefix, 3, None),
+    Step::Put("a.", Match::Prefix, 4, None),
+    Step::Put(".", Match::Wildcard, 5, None),
+    Step::Put(".b", Match::Wildcard, 6, None),
+    Step::Put("a.", Match::Wildcard, 7, None),
+    Step::All("a.b", &[1, 2, 3, 4, 5, 6, 7]),
+    Step::Best("a.b", Some(1)),
+    Step::Remove("a.b", Match::Exact, Some(1)),
+    Step::Best("a.b", Some(4)),
+    Step::Remove("a.", Match::Prefix, Some(4)),
+    Step::Remove("a", Match::Prefix, Some(3)),
+    Step::Remove("", Match::Prefix, Some(2)),
+    Step::Best("a.b", Some(7)),
+    Step::All("a.b", &[5, 6, 7]),
 ];
 
 #[test]
@@ -230,15 +250,15 @@ fn the_wildcard_serves_once_all_prefixes_are_removed(rt: HostRuntime) {
     check(&rt, rt.alloc(), WILDCARD_SERVES);
 }
 
-const ONE_VALUE: &[Row<'static>] = &[
-    ("put", "a.b", Match::Exact, 4, 0),
-    ("put", "a.", Match::Prefix, 3, 0),
-    ("get", "a.b", Match::Exact, 0, 4),
-    ("put", "a.b", Match::Exact, 5, 4),
-    ("get", "a.b", Match::Exact, 0, 5),
-    ("get", "a.b", Match::Prefix, 0, 0),
-    ("put", "a.b", Match::Prefix, 6, 0),
-    ("get", "a.b", Match::Exact, 0, 5),
+const ONE_VALUE: &[Step<'static>] = &[
+    Step::Put("a.b", Match::Exact, 4, None),
+    Step::Put("a.", Match::Prefix, 3, None),
+    Step::Get("a.b", Match::Exact, Some(4)),
+    Step::Put("a.b", Match::Exact, 5, Some(4)),
+    Step::Get("a.b", Match::Exact, Some(5)),
+    Step::Get("a.b", Match::Prefix, None),
+    Step::Put("a.b", Match::Prefix, 6, None),
+    Step::Get("a.b", Match::Exact, Some(5)),
 ];
 
 #[test]
@@ -247,6 +267,6 @@ fn puts_one_value_for_a_text_and_match(rt: HostRuntime) {
 }
 
 #[test]
-fn want_of_memory_has_number_36(rt: HostRuntime) {
+fn out_of_memory_has_number_36(rt: HostRuntime) {
     check_eq!(&rt; Memory.number(), 36);
 }

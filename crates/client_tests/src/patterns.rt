@@ -42,7 +42,7 @@ fn reads_patterns(rt: HostRuntime) {
     }
 }
 
-// The faults of a text of so many octets, as it matches in each way.
+// Returns the faults of a text of `length` octets, as it matches in each way.
 fn faults_of(rt: &impl Abort, alloc: Global, length: usize) -> (u8, u8, u8) {
     let octets = vec![in alloc; b'a'; length].expect(rt, "room for a text");
     let text = String::from_utf8(octets).expect(rt, "a text");

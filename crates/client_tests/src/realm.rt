@@ -22,7 +22,7 @@ fn shared(rt: &impl Abort, alloc: Global, text: &str) -> Shared<Read> {
     Shared::new(alloc, read).expect(rt, "room to share it")
 }
 
-// `connect`, `hang up`, or the text of a message.
+// `connect`, `hang up`, or the text of a message or of what is none, which begins as JSON: another word ends the test.
 fn parsed(rt: &impl Abort, alloc: Global, draw: u64, text: &str) -> Act {
     if text == "connect" {
         return Act::Connect;
@@ -30,6 +30,7 @@ fn parsed(rt: &impl Abort, alloc: Global, draw: u64, text: &str) -> Act {
     if text == "hang up" {
         return Act::Hung;
     }
+    check!(rt; text.starts_with("[") || text.starts_with("{"), text);
     let draw = Id::new(draw).expect(rt, "an id");
     let read = shared(rt, alloc, text);
     Act::Said { draw, read }
@@ -42,7 +43,7 @@ fn spelled(rt: &impl Abort, alloc: Global, out: &Out) -> Vec<u8> {
     }
 }
 
-// Appends `NUMBER TEXT;`, the text cut behind 60 octets.
+// Appends `NUMBER TEXT;`, the text cut after 60 octets.
 fn append(rt: &impl Abort, alloc: Global, all: &mut Vec<u8>, say: &Say) {
     let number = format!(in alloc; "{} ", say.transport.number).expect(rt, "room for a number");
     all.extend_from_slice(number.as_bytes())
@@ -118,7 +119,7 @@ fn goes(rt: &impl Abort, alloc: Global, realm: &mut Realm, rows: &[Row]) {
 /// A HELLO.
 pub const HELLO: &str = "[1,\"realm1\",{}]";
 
-// A client as which one of four connects, and what its HELLO is answered where its number is the draw.
+// A client as which one of four connects, and what its HELLO is answered if its number is the draw.
 const CLIENTS: &[(u32, u64, &str)] = &[
     (
         1,

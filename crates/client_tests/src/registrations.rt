@@ -1,146 +1,154 @@
-// Rows on registrations: who registers and withdraws, and who is called.
+// Rows on registrations: steps of sessions that register and withdraw, and which callee is called.
 use crate::check::Check;
 use realm_registrations::Registrations;
+use realm_sessions::RealmFault;
 use std::alloc::Global;
 use std::process::Abort;
 use test_checks::check;
 use wamp_ids::{Id, Invoke, Match, Pattern, Uri};
 
-// How a word registers: exactly under a policy, or alone under another match.
-fn way_of(word: &str) -> Option<(Match, Invoke)> {
-    if word == "single" {
-        return Some((Match::Exact, Invoke::Single));
-    }
-    if word == "first" {
-        return Some((Match::Exact, Invoke::First));
-    }
-    if word == "last" {
-        return Some((Match::Exact, Invoke::Last));
-    }
-    if word == "roundrobin" {
-        return Some((Match::Exact, Invoke::RoundRobin));
-    }
-    if word == "prefix" {
-        return Some((Match::Prefix, Invoke::Single));
-    }
-    if word == "wildcard" {
-        return Some((Match::Wildcard, Invoke::Single));
-    }
-    None
+// By which match and policy a session registers.
+type Way = (Match, Invoke);
+
+const SINGLE: Way = (Match::Exact, Invoke::Single);
+
+const FIRST: Way = (Match::Exact, Invoke::First);
+
+const LAST: Way = (Match::Exact, Invoke::Last);
+
+const ROUND_ROBIN: Way = (Match::Exact, Invoke::RoundRobin);
+
+const PREFIX: Way = (Match::Prefix, Invoke::Single);
+
+const WILDCARD: Way = (Match::Wildcard, Invoke::Single);
+
+// What is done or asked, and what comes of it.
+#[derive(Drop)]
+enum Step<'a> {
+    // A session registers for a pattern: the registration's id.
+    Register(u64, &'a str, Way, Result<u64, RealmFault>),
+    // A session withdraws from a registration.
+    Unregister(u64, u64, Result<(), RealmFault>),
+    // A session leaves.
+    Leave(u64),
+    // The registration's callees take turns.
+    Turn(u64),
+    // The callee that a call of the URI goes to.
+    Callee(&'a str, Option<u64>),
+    // The registration that serves the URI.
+    Serving(&'a str, Option<u64>),
+    // The callee that a call of the URI goes to; then its registration's callees take turns.
+    Call(&'a str, Option<u64>),
 }
 
-// The registration's id, or the fault's number; 0 where the text is no pattern.
-fn registered(
+fn id(rt: &impl Abort, number: u64) -> Id {
+    Id::new(number).expect(rt, "an id")
+}
+
+fn registers(
+    rt: &impl Abort,
     registrations: &mut Registrations,
-    session: Id,
+    session: u64,
     text: &str,
-    way: (Match, Invoke),
-) -> u64 {
-    let Ok(pattern) = Pattern::of(text, way.0) else {
-        return 0;
-    };
-    match registrations.register(session, &pattern, way.1) {
-        Ok(id) => id.get(),
-        Err(fault) => fault.number() as u64,
-    }
+    way: Way,
+    wanted: Result<u64, RealmFault>,
+) -> bool {
+    let pattern = Pattern::of(text, way.0).expect(rt, "a pattern");
+    let given = registrations.register(id(rt, session), &pattern, way.1);
+    given.map(|id| id.get()) == wanted
 }
 
-fn unregistered(registrations: &mut Registrations, session: Id, id: Id) -> u64 {
-    match registrations.unregister(session, id) {
-        Ok(()) => 0,
-        Err(fault) => fault.number() as u64,
-    }
+fn unregisters(
+    rt: &impl Abort,
+    registrations: &mut Registrations,
+    session: u64,
+    registration: u64,
+    wanted: Result<(), RealmFault>,
+) -> bool {
+    registrations.unregister(id(rt, session), id(rt, registration)) == wanted
 }
 
-// The registration that serves, or the callee that is called; 0 where there is none.
-fn chosen(registrations: &Registrations, uri: &str, wants_callee: bool) -> u64 {
-    let Ok(uri) = Uri::of(uri) else {
-        return 0;
-    };
+fn leaves(rt: &impl Abort, registrations: &mut Registrations, session: u64) -> bool {
+    registrations.leave(id(rt, session));
+    true
+}
+
+fn turns(rt: &impl Abort, registrations: &mut Registrations, registration: u64) -> bool {
+    registrations.turn(id(rt, registration));
+    true
+}
+
+// The registration that serves the URI, and its callee.
+fn chosen(rt: &impl Abort, registrations: &Registrations, uri: &str) -> Option<(Id, Id)> {
+    let uri = Uri::of(uri).expect(rt, "a URI");
     match registrations.choose(&uri) {
-        Some(chosen) if wants_callee => chosen.callee.get(),
-        Some(chosen) => chosen.registration.get(),
-        None => 0,
+        Some(chosen) => Some((chosen.registration, chosen.callee)),
+        None => None,
     }
 }
 
-// The callee that is called, if there is one, and then its registration takes turns.
-fn called(registrations: &mut Registrations, text: &str) -> u64 {
-    let callee = chosen(registrations, text, true);
-    if let Some(id) = Id::new(chosen(registrations, text, false)) {
-        registrations.turn(id);
-    }
-    callee
+fn callee(rt: &impl Abort, registrations: &Registrations, uri: &str) -> Option<u64> {
+    let (_, callee) = chosen(rt, registrations, uri)?;
+    Some(callee.get())
 }
 
-// What one step answers.
-fn step(registrations: &mut Registrations, word: &str, session: u64, id: u64, text: &str) -> u64 {
-    if word == "callee" {
-        return chosen(registrations, text, true);
-    }
-    if word == "call" {
-        return called(registrations, text);
-    }
-    if word == "serving" {
-        return chosen(registrations, text, false);
-    }
-    if word == "turn" {
-        if let Some(id) = Id::new(id) {
-            registrations.turn(id);
-        }
-        return 0;
-    }
-    let Some(session) = Id::new(session) else {
-        return 0;
-    };
-    if word == "leave" {
-        registrations.leave(session);
-        return 0;
-    }
-    if let Some(way) = way_of(word) {
-        return registered(registrations, session, text, way);
-    }
-    match Id::new(id) {
-        Some(id) => unregistered(registrations, session, id),
-        None => 0,
+fn serving(rt: &impl Abort, registrations: &Registrations, uri: &str) -> Option<u64> {
+    let (registration, _) = chosen(rt, registrations, uri)?;
+    Some(registration.get())
+}
+
+// Returns the callee that is called, if there is one; then its registration's callees take turns.
+fn called(rt: &impl Abort, registrations: &mut Registrations, uri: &str) -> Option<u64> {
+    let (registration, callee) = chosen(rt, registrations, uri)?;
+    registrations.turn(registration);
+    Some(callee.get())
+}
+
+// Takes the step. Returns whether it comes as it says.
+fn take(rt: &impl Abort, registrations: &mut Registrations, step: &Step<'_>) -> bool {
+    match step {
+        Step::Register(session, text, way, wanted) => {
+            registers(rt, registrations, *session, text, *way, *wanted)
+        },
+        Step::Unregister(session, registration, wanted) => {
+            unregisters(rt, registrations, *session, *registration, *wanted)
+        },
+        Step::Leave(session) => leaves(rt, registrations, *session),
+        Step::Turn(registration) => turns(rt, registrations, *registration),
+        Step::Callee(uri, wanted) => callee(rt, registrations, uri) == *wanted,
+        Step::Serving(uri, wanted) => serving(rt, registrations, uri) == *wanted,
+        Step::Call(uri, wanted) => called(rt, registrations, uri) == *wanted,
     }
 }
 
-// What is done by whom, with which id and text, and what is answered.
-type Row<'a> = (&'a str, u64, u64, &'a str, u64);
-
-fn is_answered(registrations: &mut Registrations, row: &Row<'_>) -> bool {
-    let (word, session, id, text, answer) = *row;
-    step(registrations, word, session, id, text) == answer
-}
-
-fn goes(rt: &impl Abort, registrations: &mut Registrations, rows: &[Row<'_>]) {
-    for row in rows {
-        check!(rt; is_answered(registrations, row), (row.0, row.1, row.3));
+// Takes all steps; a note on a failed check is the step's place among them, from 0 on.
+fn take_all(rt: &impl Abort, registrations: &mut Registrations, steps: &[Step<'_>]) {
+    for (place, step) in steps.iter().enumerate() {
+        check!(rt; take(rt, registrations, step), place);
     }
 }
 
-// These rows, with this limit.
-fn check(rt: &impl Abort, alloc: Global, limit: u32, rows: &[Row<'_>]) {
+// Takes these steps at registrations with this limit.
+fn check(rt: &impl Abort, alloc: Global, limit: u32, steps: &[Step<'_>]) {
     let mut registrations = Registrations::new(alloc, limit);
-    goes(rt, &mut registrations, rows);
+    take_all(rt, &mut registrations, steps);
 }
 
-const THE_LAST_THAT_REGISTERED_IS_CALLED: &[Row<'static>] = &[
-    ("callee", 0, 0, "p", 0),
-    ("last", 1, 0, "p", 1),
-    ("last", 2, 0, "p", 1),
-    ("serving", 0, 0, "p", 1),
-    ("callee", 0, 0, "p", 2),
-    ("leave", 2, 0, "", 0),
-    ("callee", 0, 0, "p", 1),
-    ("leave", 1, 0, "", 0),
-    ("callee", 0, 0, "p", 0),
-    ("first", 1, 0, "p", 2),
-    ("first", 2, 0, "p", 2),
-    ("callee", 0, 0, "p", 1),
-    ("turn", 0, 2, "", 0),
-    ("callee", 0, 0, "p", 1),
+const THE_LAST_THAT_REGISTERED_IS_CALLED: &[Step<'static>] = &[
+    Step::Callee("p", None),
+    Step::Register(1, "p", LAST, Ok(1)),
+    Step::Register(2, "p", LAST, Ok(1)),
+    Step::Serving("p", Some(1)),
+    Step::Callee("p", Some(2)),
+    Step::Leave(2),
+    Step::Callee("p", Some(1)),
+    Step::Leave(1),
+    Step::Callee("p", None),
+    Step::Register(1, "p", FIRST, Ok(2)),
+    Step::Register(2, "p", FIRST, Ok(2)),
+    Step::Callee("p", Some(1)),
+    Step::Turn(2),
+    Step::Callee("p", Some(1)),
 ];
 
 #[test]
@@ -148,21 +156,21 @@ fn the_last_that_registered_is_called(rt: HostRuntime) {
     check(&rt, rt.alloc(), 8, THE_LAST_THAT_REGISTERED_IS_CALLED);
 }
 
-const CALLEES_TAKE_TURNS: &[Row<'static>] = &[
-    ("roundrobin", 1, 0, "p", 1),
-    ("roundrobin", 2, 0, "p", 1),
-    ("callee", 0, 0, "p", 1),
-    ("turn", 0, 1, "", 0),
-    ("roundrobin", 3, 0, "p", 1),
-    ("callee", 0, 0, "p", 2),
-    ("turn", 0, 1, "", 0),
-    ("callee", 0, 0, "p", 1),
-    ("turn", 0, 1, "", 0),
-    ("callee", 0, 0, "p", 3),
-    ("turn", 0, 1, "", 0),
-    ("callee", 0, 0, "p", 2),
-    ("turn", 0, 7, "", 0),
-    ("callee", 0, 0, "p", 2),
+const CALLEES_TAKE_TURNS: &[Step<'static>] = &[
+    Step::Register(1, "p", ROUND_ROBIN, Ok(1)),
+    Step::Register(2, "p", ROUND_ROBIN, Ok(1)),
+    Step::Callee("p", Some(1)),
+    Step::Turn(1),
+    Step::Register(3, "p", ROUND_ROBIN, Ok(1)),
+    Step::Callee("p", Some(2)),
+    Step::Turn(1),
+    Step::Callee("p", Some(1)),
+    Step::Turn(1),
+    Step::Callee("p", Some(3)),
+    Step::Turn(1),
+    Step::Callee("p", Some(2)),
+    Step::Turn(7),
+    Step::Callee("p", Some(2)),
 ];
 
 #[test]
@@ -170,29 +178,29 @@ fn callees_take_turns(rt: HostRuntime) {
     check(&rt, rt.alloc(), 8, CALLEES_TAKE_TURNS);
 }
 
-const A_NEWCOMER_COMES_LAST: &[Row<'static>] = &[
-    ("roundrobin", 1, 0, "p", 1),
-    ("roundrobin", 2, 0, "p", 1),
-    ("roundrobin", 3, 0, "p", 1),
-    ("call", 0, 0, "p", 1),
-    ("call", 0, 0, "p", 2),
-    ("roundrobin", 4, 0, "p", 1),
-    ("call", 0, 0, "p", 3),
-    ("call", 0, 0, "p", 1),
-    ("call", 0, 0, "p", 2),
-    ("call", 0, 0, "p", 4),
-    ("call", 0, 0, "p", 3),
-    ("unregister", 2, 1, "", 0),
-    ("call", 0, 0, "p", 1),
-    ("call", 0, 0, "p", 4),
-    ("call", 0, 0, "p", 3),
-    ("leave", 1, 0, "", 0),
-    ("call", 0, 0, "p", 4),
-    ("leave", 4, 0, "", 0),
-    ("call", 0, 0, "p", 3),
-    ("leave", 3, 0, "", 0),
-    ("call", 0, 0, "p", 0),
-    ("roundrobin", 5, 0, "p", 2),
+const A_NEWCOMER_COMES_LAST: &[Step<'static>] = &[
+    Step::Register(1, "p", ROUND_ROBIN, Ok(1)),
+    Step::Register(2, "p", ROUND_ROBIN, Ok(1)),
+    Step::Register(3, "p", ROUND_ROBIN, Ok(1)),
+    Step::Call("p", Some(1)),
+    Step::Call("p", Some(2)),
+    Step::Register(4, "p", ROUND_ROBIN, Ok(1)),
+    Step::Call("p", Some(3)),
+    Step::Call("p", Some(1)),
+    Step::Call("p", Some(2)),
+    Step::Call("p", Some(4)),
+    Step::Call("p", Some(3)),
+    Step::Unregister(2, 1, Ok(())),
+    Step::Call("p", Some(1)),
+    Step::Call("p", Some(4)),
+    Step::Call("p", Some(3)),
+    Step::Leave(1),
+    Step::Call("p", Some(4)),
+    Step::Leave(4),
+    Step::Call("p", Some(3)),
+    Step::Leave(3),
+    Step::Call("p", None),
+    Step::Register(5, "p", ROUND_ROBIN, Ok(2)),
 ];
 
 #[test]
@@ -200,34 +208,34 @@ fn a_newcomer_comes_last(rt: HostRuntime) {
     check(&rt, rt.alloc(), 8, A_NEWCOMER_COMES_LAST);
 }
 
-const REGISTRATIONS_ARE_REFUSED: &[Row<'static>] = &[
-    ("single", 1, 0, "wamp.x", 101),
-    ("prefix", 1, 0, "wamp", 101),
-    ("wildcard", 1, 0, "wamp..x", 101),
-    ("single", 1, 0, "a.b", 1),
-    ("single", 2, 0, "a.b", 104),
-    ("single", 1, 0, "a.b", 104),
-    ("first", 2, 0, "a.b", 104),
-    ("prefix", 2, 0, "a.b", 2),
-    ("last", 1, 0, "c", 3),
-    ("first", 2, 0, "c", 104),
-    ("last", 2, 0, "c", 3),
-    ("last", 2, 0, "c", 104),
-    ("single", 2, 0, "d", 103),
-    ("last", 1, 0, "c", 104),
-    ("single", 1, 0, "d", 103),
-    ("roundrobin", 3, 0, "d", 4),
-    ("roundrobin", 1, 0, "d", 103),
-    ("unregister", 3, 1, "", 105),
-    ("unregister", 1, 9, "", 105),
-    ("unregister", 1, 1, "", 0),
-    ("unregister", 1, 1, "", 105),
-    ("single", 1, 0, "a.b", 5),
-    ("leave", 2, 0, "", 0),
-    ("callee", 0, 0, "c", 1),
-    ("single", 2, 0, "e", 6),
-    ("wildcard", 2, 0, "", 7),
-    ("single", 2, 0, "f", 103),
+const REGISTRATIONS_ARE_REFUSED: &[Step<'static>] = &[
+    Step::Register(1, "wamp.x", SINGLE, Err(RealmFault::InvalidUri)),
+    Step::Register(1, "wamp", PREFIX, Err(RealmFault::InvalidUri)),
+    Step::Register(1, "wamp..x", WILDCARD, Err(RealmFault::InvalidUri)),
+    Step::Register(1, "a.b", SINGLE, Ok(1)),
+    Step::Register(2, "a.b", SINGLE, Err(RealmFault::AlreadyExists)),
+    Step::Register(1, "a.b", SINGLE, Err(RealmFault::AlreadyExists)),
+    Step::Register(2, "a.b", FIRST, Err(RealmFault::AlreadyExists)),
+    Step::Register(2, "a.b", PREFIX, Ok(2)),
+    Step::Register(1, "c", LAST, Ok(3)),
+    Step::Register(2, "c", FIRST, Err(RealmFault::AlreadyExists)),
+    Step::Register(2, "c", LAST, Ok(3)),
+    Step::Register(2, "c", LAST, Err(RealmFault::AlreadyExists)),
+    Step::Register(2, "d", SINGLE, Err(RealmFault::Limit)),
+    Step::Register(1, "c", LAST, Err(RealmFault::AlreadyExists)),
+    Step::Register(1, "d", SINGLE, Err(RealmFault::Limit)),
+    Step::Register(3, "d", ROUND_ROBIN, Ok(4)),
+    Step::Register(1, "d", ROUND_ROBIN, Err(RealmFault::Limit)),
+    Step::Unregister(3, 1, Err(RealmFault::NoSuchRegistration)),
+    Step::Unregister(1, 9, Err(RealmFault::NoSuchRegistration)),
+    Step::Unregister(1, 1, Ok(())),
+    Step::Unregister(1, 1, Err(RealmFault::NoSuchRegistration)),
+    Step::Register(1, "a.b", SINGLE, Ok(5)),
+    Step::Leave(2),
+    Step::Callee("c", Some(1)),
+    Step::Register(2, "e", SINGLE, Ok(6)),
+    Step::Register(2, "", WILDCARD, Ok(7)),
+    Step::Register(2, "f", SINGLE, Err(RealmFault::Limit)),
 ];
 
 #[test]
@@ -235,21 +243,21 @@ fn registrations_are_refused(rt: HostRuntime) {
     check(&rt, rt.alloc(), 2, REGISTRATIONS_ARE_REFUSED);
 }
 
-const ONE_REGISTRATION_SERVES: &[Row<'static>] = &[
-    ("wildcard", 1, 0, "a.", 1),
-    ("prefix", 1, 0, "a", 2),
-    ("prefix", 1, 0, "a.", 3),
-    ("single", 1, 0, "a.b", 4),
-    ("serving", 0, 0, "a.b", 4),
-    ("unregister", 1, 4, "", 0),
-    ("serving", 0, 0, "a.b", 3),
-    ("unregister", 1, 3, "", 0),
-    ("serving", 0, 0, "a.b", 2),
-    ("unregister", 1, 2, "", 0),
-    ("serving", 0, 0, "a.b", 1),
-    ("callee", 0, 0, "a.b", 1),
-    ("unregister", 1, 1, "", 0),
-    ("serving", 0, 0, "a.b", 0),
+const ONE_REGISTRATION_SERVES: &[Step<'static>] = &[
+    Step::Register(1, "a.", WILDCARD, Ok(1)),
+    Step::Register(1, "a", PREFIX, Ok(2)),
+    Step::Register(1, "a.", PREFIX, Ok(3)),
+    Step::Register(1, "a.b", SINGLE, Ok(4)),
+    Step::Serving("a.b", Some(4)),
+    Step::Unregister(1, 4, Ok(())),
+    Step::Serving("a.b", Some(3)),
+    Step::Unregister(1, 3, Ok(())),
+    Step::Serving("a.b", Some(2)),
+    Step::Unregister(1, 2, Ok(())),
+    Step::Serving("a.b", Some(1)),
+    Step::Callee("a.b", Some(1)),
+    Step::Unregister(1, 1, Ok(())),
+    Step::Serving("a.b", None),
 ];
 
 #[test]
@@ -270,12 +278,12 @@ fn one_of_two_wildcards_is_chosen(rt: HostRuntime) {
         ("a.b...", "a..c.d.e", "a.b.c.d.e", 1),
     ] {
         let rows = [
-            ("wildcard", 1, 0, one, 1),
-            ("wildcard", 2, 0, other, 2),
-            ("callee", 0, 0, uri, serves),
-            ("leave", 1, 0, "", 0),
-            ("wildcard", 1, 0, one, 3),
-            ("callee", 0, 0, uri, serves),
+            Step::Register(1, one, WILDCARD, Ok(1)),
+            Step::Register(2, other, WILDCARD, Ok(2)),
+            Step::Callee(uri, Some(serves)),
+            Step::Leave(1),
+            Step::Register(1, one, WILDCARD, Ok(3)),
+            Step::Callee(uri, Some(serves)),
         ];
         check(&rt, rt.alloc(), 8, rows.as_slice());
     }

@@ -1,6 +1,6 @@
-// Rows on sessions and on the faults of a realm's parts.
+// Rows on sessions: steps, and what comes of each; and on the faults of a realm's parts.
 use crate::check::Check;
-use realm_sessions::{RealmFault, Sessions, Transport};
+use realm_sessions::{Link, RealmFault, Sessions, Transport};
 use std::process::Abort;
 use test_checks::{check, check_eq};
 use wamp_ids::Id;
@@ -13,148 +13,172 @@ fn transport(node: u8, number: u32) -> Transport {
     }
 }
 
-// The id that is opened, the fault's number, or 0 where nothing is asked.
-fn opened(sessions: &mut Sessions, number: u32, draw: u64) -> u64 {
+// What is done with a transport of node 1 or asked of it, by its number, or of a session; and what comes of it.
+enum Step {
+    // The transport is connected.
+    Connect(u32, Result<(), RealmFault>),
+    // A session is opened there by this draw: its id.
+    Open(u32, u64, Result<u64, RealmFault>),
+    // No session may be opened there, since the transport is not connected, or has one.
+    MayNotOpen(u32, u64),
+    // Its session is closed, if it has one.
+    Close(u32),
+    // The transport is removed.
+    Remove(u32),
+    // Its session's id.
+    Session(u32, u64),
+    // The transport is connected, and has no session.
+    NoSession(u32),
+    NotConnected(u32),
+    // The number of the transport of the session with this id, if it is open, and whether it announced call canceling.
+    Place(u64, Option<u32>, bool),
+}
+
+fn id(rt: &impl Abort, number: u64) -> Id {
+    Id::new(number).expect(rt, "an id")
+}
+
+// Opens a session by this draw, which announces call canceling at transport 1 alone; `None` if the transport is not connected, or has a session.
+fn opened(sessions: &mut Sessions, number: u32, draw: Id) -> Option<Result<Id, RealmFault>> {
     let transport = transport(1, number);
-    let Some(draw) = Id::new(draw) else {
-        return 0;
-    };
     if let Some(None) = sessions.by_transport(transport) {
-        match sessions.open(transport, draw, number == 1) {
-            Ok(id) => id.get(),
-            Err(fault) => fault.number() as u64,
-        }
+        Some(sessions.open(transport, draw, number == 1))
     } else {
-        0
+        None
     }
 }
 
-// The id of the transport's session, 0 where it has none, 8 where it is not connected.
-fn session_at(sessions: &Sessions, number: u32) -> u64 {
-    match sessions.by_transport(transport(1, number)) {
-        Some(Some(id)) => id.get(),
-        Some(None) => 0,
-        None => 8,
+fn opens(
+    rt: &impl Abort,
+    sessions: &mut Sessions,
+    number: u32,
+    draw: u64,
+    wanted: Result<u64, RealmFault>,
+) -> bool {
+    match opened(sessions, number, id(rt, draw)) {
+        Some(outcome) => outcome.map(|id| id.get()) == wanted,
+        None => false,
     }
 }
 
-// Where the session is, ten more where it announced call canceling; 0 where there is none.
-fn place_of(sessions: &Sessions, id: u64) -> u64 {
-    let Some(id) = Id::new(id) else {
-        return 0;
-    };
-    let announced = if sessions.announces(id) { 10 } else { 0 };
+fn session_at(sessions: &Sessions, number: u32) -> Option<Option<Id>> {
+    sessions.by_transport(transport(1, number))
+}
+
+// The number of the transport of the session with this id.
+fn place_of(sessions: &Sessions, id: Id) -> Option<u32> {
     match sessions.by_id(id) {
-        Some(transport) => announced + transport.number as u64,
-        None => announced,
+        Some(transport) => Some(transport.number),
+        None => None,
     }
 }
 
-// What one step answers.
-fn step(sessions: &mut Sessions, word: &str, number: u32, id: u64) -> u64 {
-    if word == "connect" {
-        return match sessions.connect(transport(1, number)) {
-            Ok(()) => 0,
-            Err(fault) => fault.number() as u64,
-        };
-    }
-    if word == "open" {
-        return opened(sessions, number, id);
-    }
-    if word == "close" {
-        sessions.close(transport(1, number));
-        return 0;
-    }
-    if word == "remove" {
-        sessions.remove(transport(1, number));
-        return 0;
-    }
-    if word == "session" {
-        return session_at(sessions, number);
-    }
-    place_of(sessions, id)
+fn is_placed(
+    rt: &impl Abort,
+    sessions: &Sessions,
+    number: u64,
+    place: Option<u32>,
+    announces: bool,
+) -> bool {
+    let id = id(rt, number);
+    place_of(sessions, id) == place && sessions.announces(id) == announces
 }
 
-// A word, the number of a transport, an id, and the answer.
-type Row = (&'static str, u32, u64, u64);
+fn close(sessions: &mut Sessions, number: u32) -> bool {
+    sessions.close(transport(1, number));
+    true
+}
 
-const ROWS: &[Row] = &[
-    ("session", 1, 0, 8),
-    ("open", 1, 5, 0),
-    ("connect", 1, 0, 0),
-    ("session", 1, 0, 0),
-    ("open", 1, 5, 5),
-    ("connect", 1, 0, 0),
-    ("session", 1, 0, 5),
-    ("connect", 2, 0, 0),
-    ("open", 2, 5, 6),
-    ("place", 0, 5, 11),
-    ("place", 0, 6, 2),
-    ("place", 0, 7, 0),
-    ("connect", 3, 0, 0),
-    ("open", 3, 9, 103),
-    ("session", 3, 0, 0),
-    ("close", 1, 0, 0),
-    ("session", 1, 0, 0),
-    ("place", 0, 5, 0),
-    ("open", 3, 9_007_199_254_740_992, 9_007_199_254_740_992),
-    ("remove", 2, 0, 0),
-    ("session", 2, 0, 8),
-    ("open", 1, 9_007_199_254_740_992, 1),
-    ("place", 0, 9_007_199_254_740_992, 3),
+fn remove(sessions: &mut Sessions, number: u32) -> bool {
+    sessions.remove(transport(1, number));
+    true
+}
+
+// Takes the step. Returns whether it comes as it says.
+fn take(rt: &impl Abort, sessions: &mut Sessions, step: &Step) -> bool {
+    match step {
+        Step::Connect(number, wanted) => sessions.connect(transport(1, *number)) == *wanted,
+        Step::Open(number, draw, wanted) => opens(rt, sessions, *number, *draw, *wanted),
+        Step::MayNotOpen(number, draw) => opened(sessions, *number, id(rt, *draw)).is_none(),
+        Step::Close(number) => close(sessions, *number),
+        Step::Remove(number) => remove(sessions, *number),
+        Step::Session(number, wanted) => {
+            session_at(sessions, *number) == Some(Some(id(rt, *wanted)))
+        },
+        Step::NoSession(number) => session_at(sessions, *number) == Some(None),
+        Step::NotConnected(number) => session_at(sessions, *number).is_none(),
+        Step::Place(number, place, announces) => {
+            is_placed(rt, sessions, *number, *place, *announces)
+        },
+    }
+}
+
+const STEPS: &[Step] = &[
+    Step::NotConnected(1),
+    Step::MayNotOpen(1, 5),
+    Step::Connect(1, Ok(())),
+    Step::NoSession(1),
+    Step::Open(1, 5, Ok(5)),
+    Step::Connect(1, Ok(())),
+    Step::Session(1, 5),
+    Step::Connect(2, Ok(())),
+    Step::Open(2, 5, Ok(6)),
+    Step::Place(5, Some(1), true),
+    Step::Place(6, Some(2), false),
+    Step::Place(7, None, false),
+    Step::Connect(3, Ok(())),
+    Step::Open(3, 9, Err(RealmFault::Limit)),
+    Step::NoSession(3),
+    Step::Close(1),
+    Step::NoSession(1),
+    Step::Place(5, None, false),
+    Step::Open(3, 9_007_199_254_740_992, Ok(9_007_199_254_740_992)),
+    Step::Remove(2),
+    Step::NotConnected(2),
+    Step::Open(1, 9_007_199_254_740_992, Ok(1)),
+    Step::Place(9_007_199_254_740_992, Some(3), false),
 ];
 
-fn is_answered(sessions: &mut Sessions, row: &Row) -> bool {
-    let (word, number, id, answer) = *row;
-    step(sessions, word, number, id) == answer
-}
-
-fn goes(rt: &impl Abort, sessions: &mut Sessions) {
-    for row in ROWS {
-        check!(rt; is_answered(sessions, row), (row.0, row.1, row.2));
+// Takes all steps; a note on a failed check is the step's place among them, from 0 on.
+fn take_all(rt: &impl Abort, sessions: &mut Sessions) {
+    for (place, step) in STEPS.iter().enumerate() {
+        check!(rt; take(rt, sessions, step), place);
     }
 }
 
 #[test]
 fn opens_and_closes_sessions(rt: HostRuntime) {
     let mut sessions = Sessions::new(rt.alloc(), 2);
-    goes(&rt, &mut sessions);
+    take_all(&rt, &mut sessions);
 }
 
-// The session's next invocation, 0 where there is none.
-fn next_of(sessions: &mut Sessions, session: u64, taken: &[Id]) -> u64 {
-    let Some(session) = Id::new(session) else {
-        return 0;
-    };
+// The id of the session's next invocation; `None` if there is no such session.
+fn next_of(sessions: &mut Sessions, session: Id, taken: &[Id]) -> Option<u64> {
     match sessions.next_invocation(session, taken) {
-        Some(invocation) => invocation.get(),
-        None => 0,
+        Some(invocation) => Some(invocation.get()),
+        None => None,
     }
 }
 
-// The id behind the session's last invocation, 0 where there is no session.
-fn due_of(rt: &impl Abort, sessions: &Sessions, session: u64) -> u64 {
+// The id after that of the session's last invocation; `None` if there is no such session.
+fn due_of(rt: &impl Abort, sessions: &Sessions, session: u64) -> Option<u64> {
     match sessions.due_invocation(id(rt, session)) {
-        Some(invocation) => invocation.get(),
-        None => 0,
+        Some(invocation) => Some(invocation.get()),
+        None => None,
     }
 }
 
-// A session, two ids that are taken, and its next invocation.
-const INVOCATIONS: &[(u64, [u64; 2], u64)] = &[
-    (5, [9_007_199_254_740_992, 4], 1),
-    (5, [9_007_199_254_740_992, 4], 2),
-    (6, [1, 4], 2),
-    (6, [1, 4], 3),
-    (6, [1, 4], 5),
-    (5, [1, 4], 3),
-    (5, [4, 1], 5),
-    (7, [1, 4], 0),
+// A session, two ids that are taken, and the id of its next invocation.
+const INVOCATIONS: &[(u64, [u64; 2], Option<u64>)] = &[
+    (5, [9_007_199_254_740_992, 4], Some(1)),
+    (5, [9_007_199_254_740_992, 4], Some(2)),
+    (6, [1, 4], Some(2)),
+    (6, [1, 4], Some(3)),
+    (6, [1, 4], Some(5)),
+    (5, [1, 4], Some(3)),
+    (5, [4, 1], Some(5)),
+    (7, [1, 4], None),
 ];
-
-fn id(rt: &impl Abort, number: u64) -> Id {
-    Id::new(number).expect(rt, "an id")
-}
 
 // Connects a transport.
 fn connect(rt: &impl Abort, sessions: &mut Sessions, transport: Transport) {
@@ -164,10 +188,11 @@ fn connect(rt: &impl Abort, sessions: &mut Sessions, transport: Transport) {
 }
 
 // Connects two transports, and opens sessions 5 and 6 there.
-fn open_both(rt: &impl Abort, sessions: &mut Sessions) -> (u64, u64) {
+fn open_both(rt: &impl Abort, sessions: &mut Sessions) {
     connect(rt, sessions, transport(1, 1));
     connect(rt, sessions, transport(1, 2));
-    (opened(sessions, 1, 5), opened(sessions, 2, 6))
+    check!(rt; opens(rt, sessions, 1, 5, Ok(5)));
+    check!(rt; opens(rt, sessions, 2, 6, Ok(6)));
 }
 
 fn is_next(
@@ -175,20 +200,20 @@ fn is_next(
     sessions: &mut Sessions,
     session: u64,
     taken: [u64; 2],
-    next: u64,
+    next: Option<u64>,
 ) -> bool {
     let taken = [id(rt, taken[0]), id(rt, taken[1])];
-    next_of(sessions, session, &taken) == next
+    next_of(sessions, id(rt, session), &taken) == next
 }
 
 fn hands_out(rt: &impl Abort, sessions: &mut Sessions) {
-    check!(rt; open_both(rt, sessions) == (5, 6));
-    check!(rt; due_of(rt, sessions, 5) == 1);
+    open_both(rt, sessions);
+    check!(rt; due_of(rt, sessions, 5) == Some(1));
     for (session, taken, next) in INVOCATIONS {
         check!(rt; is_next(rt, sessions, *session, *taken, *next), session);
     }
-    check!(rt; due_of(rt, sessions, 5) == 6 && due_of(rt, sessions, 7) == 0);
-    check!(rt; place_of(sessions, 5) == 11);
+    check!(rt; due_of(rt, sessions, 5) == Some(6) && due_of(rt, sessions, 7).is_none());
+    check!(rt; is_placed(rt, sessions, 5, Some(1), true));
 }
 
 #[test]
@@ -208,16 +233,19 @@ fn are_of(rt: &impl Abort, sessions: &Sessions, node: u8, wanted: &[Transport]) 
     found.as_slice() == wanted
 }
 
+// Whether the transports have these numbers, in this order.
+fn are_numbered(links: &[Link], wanted: &[u32]) -> bool {
+    links.len() == wanted.len()
+        && links
+            .iter()
+            .zip(wanted.iter())
+            .all(|(link, number)| link.transport.number == *number)
+}
+
 // Whether all transports are there in the order in which they came.
 fn are_in_order(rt: &impl Abort, sessions: &Sessions) -> bool {
     let links = sessions.to_vec().expect(rt, "room for transports");
-    let mut numbers: u64 = 0;
-    for link in &links {
-        numbers = numbers
-            .wrapping_mul(10)
-            .wrapping_add(link.transport.number as u64);
-    }
-    numbers == 4_123
+    are_numbered(&links, &[4, 1, 2, 3])
 }
 
 fn gives_all(rt: &impl Abort, sessions: &mut Sessions) {

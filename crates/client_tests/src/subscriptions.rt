@@ -1,144 +1,177 @@
-// Rows on subscriptions.
+// Rows on subscriptions: steps, and what comes of each.
 use crate::check::Check;
+use realm_sessions::RealmFault;
 use realm_subscriptions::{Receiver, Subscriptions};
 use std::process::Abort;
 use test_checks::check;
 use wamp_ids::{Id, Match, Pattern, Uri};
 
-// The id that is answered, or the fault's number; 0 where nothing is asked.
-fn subscribed(subscriptions: &mut Subscriptions, session: u64, text: &str, matching: Match) -> u64 {
-    let Some(session) = Id::new(session) else {
-        return 0;
+// A receiver of an event: its subscription, how that matches, and its session.
+type Reached = (u64, Match, u64);
+
+// What is done or asked, and what comes of it.
+enum Step {
+    // A session subscribes to a pattern: the subscription's id.
+    Subscribe(u64, &'static str, Match, Result<u64, RealmFault>),
+    // A session withdraws from a subscription.
+    Unsubscribe(u64, u64, Result<(), RealmFault>),
+    // A session leaves: the number of subscriptions that are left.
+    Leave(u64, usize),
+    // The receivers of an event on the URI, except this session.
+    Receivers(&'static str, Option<u64>, &'static [Reached]),
+}
+
+fn id(rt: &impl Abort, number: u64) -> Id {
+    Id::new(number).expect(rt, "an id")
+}
+
+fn subscribes(
+    rt: &impl Abort,
+    subscriptions: &mut Subscriptions,
+    session: u64,
+    text: &str,
+    matching: Match,
+    wanted: Result<u64, RealmFault>,
+) -> bool {
+    let pattern = Pattern::of(text, matching).expect(rt, "a pattern");
+    let given = subscriptions.subscribe(id(rt, session), &pattern);
+    given.map(|id| id.get()) == wanted
+}
+
+fn unsubscribes(
+    rt: &impl Abort,
+    subscriptions: &mut Subscriptions,
+    session: u64,
+    subscription: u64,
+    wanted: Result<(), RealmFault>,
+) -> bool {
+    subscriptions.unsubscribe(id(rt, session), id(rt, subscription)) == wanted
+}
+
+fn leaves(rt: &impl Abort, subscriptions: &mut Subscriptions, session: u64, left: usize) -> bool {
+    subscriptions.leave(id(rt, session));
+    subscriptions.len() == left
+}
+
+fn reached(receiver: &Receiver) -> Reached {
+    (
+        receiver.subscription.get(),
+        receiver.matching,
+        receiver.member.get(),
+    )
+}
+
+// Whether these are the receivers, in this order.
+fn are_reached(receivers: &[Receiver], wanted: &[Reached]) -> bool {
+    receivers.len() == wanted.len()
+        && receivers
+            .iter()
+            .zip(wanted.iter())
+            .all(|(receiver, wanted)| reached(receiver) == *wanted)
+}
+
+fn reaches(
+    rt: &impl Abort,
+    subscriptions: &Subscriptions,
+    uri: &str,
+    except: Option<u64>,
+    wanted: &[Reached],
+) -> bool {
+    let uri = Uri::of(uri).expect(rt, "a URI");
+    let except = match except {
+        Some(session) => Some(id(rt, session)),
+        None => None,
     };
-    let Ok(pattern) = Pattern::of(text, matching) else {
-        return 0;
-    };
-    match subscriptions.subscribe(session, &pattern) {
-        Ok(id) => id.get(),
-        Err(fault) => fault.number() as u64,
+    let receivers = subscriptions
+        .receivers(&uri, except)
+        .expect(rt, "room for receivers");
+    are_reached(&receivers, wanted)
+}
+
+// Takes the step. Returns whether it comes as it says.
+fn take(rt: &impl Abort, subscriptions: &mut Subscriptions, step: &Step) -> bool {
+    match step {
+        Step::Subscribe(session, text, matching, wanted) => {
+            subscribes(rt, subscriptions, *session, text, *matching, *wanted)
+        },
+        Step::Unsubscribe(session, subscription, wanted) => {
+            unsubscribes(rt, subscriptions, *session, *subscription, *wanted)
+        },
+        Step::Leave(session, left) => leaves(rt, subscriptions, *session, *left),
+        Step::Receivers(uri, except, wanted) => {
+            reaches(rt, subscriptions, uri, *except, wanted)
+        },
     }
 }
 
-// 0, or the fault's number.
-fn unsubscribed(subscriptions: &mut Subscriptions, session: u64, id: u64) -> u64 {
-    let Some(session) = Id::new(session) else {
-        return 1;
-    };
-    let Some(id) = Id::new(id) else {
-        return 1;
-    };
-    match subscriptions.unsubscribe(session, id) {
-        Ok(()) => 0,
-        Err(fault) => fault.number() as u64,
-    }
-}
-
-fn digit(matching: Match) -> u64 {
-    match matching {
-        Match::Exact => 1,
-        Match::Prefix => 2,
-        Match::Wildcard => 3,
-    }
-}
-
-// The receivers as one number: for each three digits, its subscription, match and member; 109 for want of memory.
-fn told(subscriptions: &Subscriptions, uri: &str, except: u64) -> u64 {
-    let Ok(uri) = Uri::of(uri) else {
-        return 1;
-    };
-    match subscriptions.receivers(&uri, Id::new(except)) {
-        Ok(found) => number_of(found.as_slice()),
-        Err(fault) => fault.number() as u64,
-    }
-}
-
-fn number_of(found: &[Receiver]) -> u64 {
-    let mut number: u64 = 0;
-    for receiver in found {
-        for figure in [
-            receiver.subscription.get(),
-            digit(receiver.matching),
-            receiver.member.get(),
-        ] {
-            number = number.wrapping_mul(10).wrapping_add(figure);
-        }
-    }
-    number
-}
-
-// What one step answers.
-fn step(subscriptions: &mut Subscriptions, word: &str, session: u64, text: &str, id: u64) -> u64 {
-    if word == "exact" {
-        return subscribed(subscriptions, session, text, Match::Exact);
-    }
-    if word == "prefix" {
-        return subscribed(subscriptions, session, text, Match::Prefix);
-    }
-    if word == "wildcard" {
-        return subscribed(subscriptions, session, text, Match::Wildcard);
-    }
-    if word == "unsubscribe" {
-        return unsubscribed(subscriptions, session, id);
-    }
-    if word == "leave" {
-        if let Some(session) = Id::new(session) {
-            subscriptions.leave(session);
-        }
-        return subscriptions.len() as u64;
-    }
-    told(subscriptions, text, id)
-}
-
-// What is done by whom, with which text and id, and what is answered.
-type Row = (&'static str, u64, &'static str, u64, u64);
-
-const ROWS: &[Row] = &[
-    ("unsubscribe", 7, "", 1, 106),
-    ("exact", 7, "a.b", 0, 1),
-    ("exact", 7, "a.b", 0, 1),
-    ("unsubscribe", 8, "", 1, 106),
-    ("unsubscribe", 7, "", 1, 0),
-    ("unsubscribe", 7, "", 1, 106),
-    ("wildcard", 7, "a.", 0, 2),
-    ("prefix", 7, "a", 0, 3),
-    ("exact", 8, "a.b", 0, 4),
-    ("exact", 7, "a.b", 0, 4),
-    ("told", 0, "a.b", 0, 237_327_418_417),
-    ("told", 0, "a.b", 7, 418),
-    ("told", 0, "a.c", 0, 237_327),
-    ("told", 0, "ab.c", 9, 327),
-    ("told", 0, "b", 0, 0),
-    ("exact", 7, "c", 0, 103),
-    ("exact", 7, "a.b", 0, 4),
-    ("exact", 8, "c", 0, 5),
-    ("unsubscribe", 8, "", 5, 0),
-    ("exact", 8, "c", 0, 6),
-    ("unsubscribe", 8, "", 4, 0),
-    ("told", 0, "a.b", 0, 237_327_417),
-    ("leave", 7, "", 0, 1),
-    ("told", 0, "a.b", 0, 0),
-    ("told", 0, "c", 0, 618),
-    ("prefix", 7, "", 0, 7),
-    ("wildcard", 7, ".", 0, 8),
-    ("told", 0, "a.b", 0, 727_837),
-    ("told", 0, "c", 0, 618_727),
-    ("leave", 8, "", 0, 2),
-    ("leave", 7, "", 0, 0),
+const STEPS: &[Step] = &[
+    Step::Unsubscribe(7, 1, Err(RealmFault::NoSuchSubscription)),
+    Step::Subscribe(7, "a.b", Match::Exact, Ok(1)),
+    Step::Subscribe(7, "a.b", Match::Exact, Ok(1)),
+    Step::Unsubscribe(8, 1, Err(RealmFault::NoSuchSubscription)),
+    Step::Unsubscribe(7, 1, Ok(())),
+    Step::Unsubscribe(7, 1, Err(RealmFault::NoSuchSubscription)),
+    Step::Subscribe(7, "a.", Match::Wildcard, Ok(2)),
+    Step::Subscribe(7, "a", Match::Prefix, Ok(3)),
+    Step::Subscribe(8, "a.b", Match::Exact, Ok(4)),
+    Step::Subscribe(7, "a.b", Match::Exact, Ok(4)),
+    Step::Receivers(
+        "a.b",
+        None,
+        &[
+            (2, Match::Wildcard, 7),
+            (3, Match::Prefix, 7),
+            (4, Match::Exact, 8),
+            (4, Match::Exact, 7),
+        ],
+    ),
+    Step::Receivers("a.b", Some(7), &[(4, Match::Exact, 8)]),
+    Step::Receivers(
+        "a.c",
+        None,
+        &[(2, Match::Wildcard, 7), (3, Match::Prefix, 7)],
+    ),
+    Step::Receivers("ab.c", Some(9), &[(3, Match::Prefix, 7)]),
+    Step::Receivers("b", None, &[]),
+    Step::Subscribe(7, "c", Match::Exact, Err(RealmFault::Limit)),
+    Step::Subscribe(7, "a.b", Match::Exact, Ok(4)),
+    Step::Subscribe(8, "c", Match::Exact, Ok(5)),
+    Step::Unsubscribe(8, 5, Ok(())),
+    Step::Subscribe(8, "c", Match::Exact, Ok(6)),
+    Step::Unsubscribe(8, 4, Ok(())),
+    Step::Receivers(
+        "a.b",
+        None,
+        &[
+            (2, Match::Wildcard, 7),
+            (3, Match::Prefix, 7),
+            (4, Match::Exact, 7),
+        ],
+    ),
+    Step::Leave(7, 1),
+    Step::Receivers("a.b", None, &[]),
+    Step::Receivers("c", None, &[(6, Match::Exact, 8)]),
+    Step::Subscribe(7, "", Match::Prefix, Ok(7)),
+    Step::Subscribe(7, ".", Match::Wildcard, Ok(8)),
+    Step::Receivers(
+        "a.b",
+        None,
+        &[(7, Match::Prefix, 7), (8, Match::Wildcard, 7)],
+    ),
+    Step::Receivers("c", None, &[(6, Match::Exact, 8), (7, Match::Prefix, 7)]),
+    Step::Leave(8, 2),
+    Step::Leave(7, 0),
 ];
 
-fn is_answered(subscriptions: &mut Subscriptions, row: &Row) -> bool {
-    let (word, session, text, id, answer) = *row;
-    step(subscriptions, word, session, text, id) == answer
-}
-
-fn goes(rt: &impl Abort, subscriptions: &mut Subscriptions) {
-    for row in ROWS {
-        check!(rt; is_answered(subscriptions, row), (row.0, row.1, row.2));
+// Takes all steps; a note on a failed check is the step's place among them, from 0 on.
+fn take_all(rt: &impl Abort, subscriptions: &mut Subscriptions) {
+    for (place, step) in STEPS.iter().enumerate() {
+        check!(rt; take(rt, subscriptions, step), place);
     }
 }
 
 #[test]
 fn comes_to_subscriptions_and_leaves_them(rt: HostRuntime) {
     let mut subscriptions = Subscriptions::new(rt.alloc(), 3);
-    goes(&rt, &mut subscriptions);
+    take_all(&rt, &mut subscriptions);
 }

@@ -11,7 +11,7 @@ use wamp_values::{
     text_option,
 };
 
-// `inside` within so many arrays, or objects.
+// Returns `inside` within `depth` arrays, or objects.
 fn nested(
     rt: &impl Abort,
     alloc: Global,
@@ -39,7 +39,7 @@ fn payload(rt: &impl Abort, alloc: Global, text: &str) -> Payload {
     Payload::check(value(rt, alloc, text)).expect(rt, "a payload")
 }
 
-// The number of the fault, or 0 where the value is a payload.
+// Returns the number of the fault, or 0 if the value is a payload.
 fn fault_of(value: Value) -> u8 {
     match Payload::check(value) {
         Ok(_) => 0,
@@ -125,7 +125,7 @@ fn append(rt: &impl Abort, alloc: Global, text: &str, out: &mut Vec<u8>) {
         .expect(rt, "room for a text");
 }
 
-// Whether that payload is written so, behind what is there.
+// Whether that payload is written so, at the end of what is there.
 fn is_appended(rt: &impl Abort, alloc: Global, text: &str, written: &str) -> bool {
     let mut out = Vec::from_slice(alloc, b"a,").expect(rt, "room for a text");
     append(rt, alloc, text, &mut out);

@@ -5,10 +5,10 @@ use crate::fault::BenchFault;
 use std::alloc::Global;
 use store_keeper::MemKeeper;
 use test_machines::{Count, Number};
-use test_stands::{NODES, Plays, Source, Station, count_of, with_stations};
+use test_stands::{NODES, Plays, SeatedActor, Source, count_of, with_actors};
 
 /// An actor that adds up, over a store in memory.
-pub type Adding<'a> = Station<'a, Count, MemKeeper<Number>>;
+pub type Adding<'a> = SeatedActor<'a, Count, MemKeeper<Number>>;
 
 /// Where these come from.
 pub struct Fresh;
@@ -32,18 +32,18 @@ enum Asked {
     Turn,
 }
 
-fn at<'s, 'a>(stations: &'s mut [Adding<'a>], node: u8) -> Result<&'s mut Adding<'a>, BenchFault> {
+fn at<'s, 'a>(actors: &'s mut [Adding<'a>], node: u8) -> Result<&'s mut Adding<'a>, BenchFault> {
     let index = usize::from(NODES.saturating_sub(node));
-    stations.get_mut(index).ok_or(BenchFault::Nobody)
+    actors.get_mut(index).ok_or(BenchFault::Nobody)
 }
 
 // How much was said to transports.
-fn ask(station: &mut Adding<'_>, asked: Asked) -> Result<u64, BenchFault> {
+fn ask(actor: &mut Adding<'_>, asked: Asked) -> Result<u64, BenchFault> {
     let done = match asked {
-        Asked::Start => station.start(),
-        Asked::Tick => station.tick(),
-        Asked::Take(body) => station.take(1, body),
-        Asked::Turn => station.turn(),
+        Asked::Start => actor.start(),
+        Asked::Tick => actor.tick(),
+        Asked::Take(body) => actor.take(1, body),
+        Asked::Turn => actor.turn(),
     };
     match count_of(done) {
         Ok(said) => Ok(said),
@@ -51,33 +51,33 @@ fn ask(station: &mut Adding<'_>, asked: Asked) -> Result<u64, BenchFault> {
     }
 }
 
-fn ask_at(stations: &mut [Adding<'_>], node: u8, asked: Asked) -> Result<u64, BenchFault> {
-    ask(at(stations, node)?, asked)
+fn ask_at(actors: &mut [Adding<'_>], node: u8, asked: Asked) -> Result<u64, BenchFault> {
+    ask(at(actors, node)?, asked)
 }
 
 // How much was said in a turn, whether a packet was treated in it, and whether one was treated or posted.
-fn turn_at(stations: &mut [Adding<'_>], node: u8) -> Result<(u64, bool, bool), BenchFault> {
-    let station = at(stations, node)?;
-    let said = ask(station, Asked::Turn)?;
-    Ok((said, station.has_treated(), station.has_moved()))
+fn turn_at(actors: &mut [Adding<'_>], node: u8) -> Result<(u64, bool, bool), BenchFault> {
+    let actor = at(actors, node)?;
+    let said = ask(actor, Asked::Turn)?;
+    Ok((said, actor.has_treated(), actor.has_moved()))
 }
 
-fn has_pending_at(stations: &mut [Adding<'_>], node: u8) -> Result<bool, BenchFault> {
-    Ok(at(stations, node)?.has_pending())
+fn has_pending_at(actors: &mut [Adding<'_>], node: u8) -> Result<bool, BenchFault> {
+    Ok(at(actors, node)?.has_pending())
 }
 
 // Whether all logs have one length.
-fn have_one_length(stations: &mut [Adding<'_>]) -> bool {
-    are_of_one_length(stations)
+fn have_one_length(actors: &mut [Adding<'_>]) -> bool {
+    are_of_one_length(actors)
 }
 
-fn are_of_one_length(stations: &[Adding<'_>]) -> bool {
-    let Some(first) = stations.first() else {
+fn are_of_one_length(actors: &[Adding<'_>]) -> bool {
+    let Some(first) = actors.first() else {
         return false;
     };
     let length = first.applied();
-    for station in stations {
-        if station.applied() != length {
+    for actor in actors {
+        if actor.applied() != length {
             return false;
         }
     }
@@ -87,7 +87,7 @@ fn are_of_one_length(stations: &[Adding<'_>]) -> bool {
 // The actors, the last one first, and how much their machines said to transports: one sum for each act, at its own node.
 #[derive(Drop)]
 struct Standing<'s, 'a> {
-    stations: &'s mut [Adding<'a>],
+    actors: &'s mut [Adding<'a>],
     said: u64,
     counts: Counts,
 }
@@ -95,7 +95,7 @@ struct Standing<'s, 'a> {
 impl Standing<'_, '_> {
     // One event of the node.
     fn event(&mut self, node: u8, asked: Asked) -> Result<(), BenchFault> {
-        let said = ask_at(self.stations, node, asked)?;
+        let said = ask_at(self.actors, node, asked)?;
         self.counts.event();
         self.said = self.said.saturating_add(said);
         Ok(())
@@ -103,7 +103,7 @@ impl Standing<'_, '_> {
 
     // One turn of the node; whether a packet was posted or treated in it. One that was treated is counted.
     fn turn(&mut self, node: u8) -> Result<bool, BenchFault> {
-        let (said, treated, moved) = turn_at(self.stations, node)?;
+        let (said, treated, moved) = turn_at(self.actors, node)?;
         if treated {
             self.counts.packet();
             self.said = self.said.saturating_add(said);
@@ -147,12 +147,12 @@ impl Cluster for Standing<'_, '_> {
     }
 
     fn has_pending(&mut self, node: u8) -> Result<bool, BenchFault> {
-        has_pending_at(self.stations, node)
+        has_pending_at(self.actors, node)
     }
 
     // Whether one sum was heard for each act, and all logs have one length.
     fn has_all(&mut self, acts: u64) -> bool {
-        self.said == acts && have_one_length(self.stations)
+        self.said == acts && have_one_length(self.actors)
     }
 
     fn counts(&mut self) -> &mut Counts {
@@ -170,9 +170,9 @@ struct Measuring<'r> {
 impl Plays<Count, MemKeeper<Number>> for Measuring<'_> {
     type End = Result<(), BenchFault>;
 
-    fn play(&mut self, stations: &mut Vec<Adding<'_>>) -> Result<(), BenchFault> {
+    fn play(&mut self, actors: &mut Vec<Adding<'_>>) -> Result<(), BenchFault> {
         let mut standing = Standing {
-            stations: stations.as_mut_slice(),
+            actors: actors.as_mut_slice(),
             said: 0,
             counts: Counts::nothing(),
         };
@@ -184,7 +184,7 @@ impl Plays<Count, MemKeeper<Number>> for Measuring<'_> {
 /// prints how many were applied, events and packets, and on standard error what they took. Each body is a number, each store is in memory.
 pub fn run(rt: &HostRuntime, load: Load) -> Result<(), BenchFault> {
     let mut measuring = Measuring { rt, load };
-    with_stations::<Count, MemKeeper<Number>, _, _>(rt.alloc(), &Fresh, &mut measuring).ok_or(
+    with_actors::<Count, MemKeeper<Number>, _, _>(rt.alloc(), &Fresh, &mut measuring).ok_or(
         BenchFault::Actor,
     )?
 }

@@ -5,7 +5,7 @@ use std::alloc::Global;
 use std::time::Instant;
 use test_stands::NODES;
 
-// How often a node ticks at most until nothing of its own is pending: at most 1,024 entries are, and a tick forwards 64.
+// How often a node ticks at most until none of its own entries is pending: at most 1,024 entries are, and a tick forwards 64.
 const MOST_TICKS: u64 = 64;
 
 /// How many events there were, and how many packets reached their addressees.
@@ -48,10 +48,10 @@ pub trait Cluster {
     /// What an act holds.
     type Body: Drop;
 
-    /// The node begins a ballot.
+    /// Lets the node begin a ballot.
     fn start(&mut self, node: u8) -> Result<(), BenchFault>;
 
-    /// Time has passed at the node.
+    /// Lets time pass at the node.
     fn tick(&mut self, node: u8) -> Result<(), BenchFault>;
 
     /// The node takes an act with this body.
@@ -60,17 +60,17 @@ pub trait Cluster {
     /// Packets pass until none is left.
     fn pass_all(&mut self) -> Result<(), BenchFault>;
 
-    /// Whether entries of the node wait for a slot.
+    /// Returns whether entries of the node wait for a slot.
     fn has_pending(&mut self, node: u8) -> Result<bool, BenchFault>;
 
-    /// Whether so many acts, and no other, took effect at each of them.
+    /// Returns whether this many acts, and no other, took effect at each of them.
     fn has_all(&mut self, acts: u64) -> bool;
 
     /// What there was since the cluster began.
     fn counts(&mut self) -> &mut Counts;
 }
 
-// The node ticks until nothing of its own is pending.
+// Lets the node tick until none of its own entries is pending.
 fn settle<C: Cluster>(cluster: &mut C, node: u8) -> Result<(), BenchFault> {
     for _ in 0..MOST_TICKS {
         if !cluster.has_pending(node)? {
@@ -93,7 +93,7 @@ fn begin<C: Cluster>(cluster: &mut C) -> Result<(), BenchFault> {
     Ok(())
 }
 
-// So many bodies.
+// Returns `count` bodies.
 fn made<B: Drop, S: Source<B>>(
     alloc: Global,
     source: &S,
@@ -115,7 +115,7 @@ fn take_all<C: Cluster>(cluster: &mut C, node: u8, bodies: Vec<C::Body>) -> Resu
     settle(cluster, node)
 }
 
-// The same with so many bodies, which are made before; the nanoseconds that it took.
+// Does so with `count` bodies, which are made before. Returns the nanoseconds that it took.
 fn window<C: Cluster, S: Source<C::Body>>(
     rt: &HostRuntime,
     cluster: &mut C,
@@ -146,7 +146,7 @@ fn windows<C: Cluster, S: Source<C::Body>>(
     Ok(nanos)
 }
 
-// Tells on standard error how many events there were in a second, and what an event and an act took.
+// Prints on standard error how many events there were in a second, and what an event and an act took.
 fn tell(rt: &HostRuntime, counts: Counts, acts: u64, nanos: u128) {
     let events = u128::from(counts.events);
     let _ = eprintln!(rt;
@@ -157,7 +157,7 @@ fn tell(rt: &HostRuntime, counts: Counts, acts: u64, nanos: u128) {
     );
 }
 
-/// The cluster, whose members are so called, begins and takes these acts, with bodies of this source; tells how many were applied, events and
+/// Lets the cluster, whose members are so called, begin and take these acts, with bodies of this source; prints how many were applied, events and
 /// packets, and on standard error what they took.
 pub fn measure<C: Cluster, S: Source<C::Body>>(
     rt: &HostRuntime,

@@ -7,7 +7,7 @@ use std::alloc::Global;
 use std::time::Instant;
 use wamp_messages::{Message, read, write};
 
-// How often the calls take turns; of each its fastest turn is told.
+// How often the calls take turns; of each its fastest turn is printed.
 const TURNS: u64 = 8;
 
 // What is measured: the act, its octets, and the text of its message.
@@ -57,7 +57,7 @@ fn message_of(act: &Act) -> Option<&Message> {
     }
 }
 
-// The calls, each into memory of its own; each tells how many octets it put, wrote or went over.
+// The calls, each into new memory; each returns how many octets it put, wrote or went over.
 
 fn put(alloc: Global, act: &Act) -> Result<usize, BenchFault> {
     let mut out = Vec::new(alloc);
@@ -99,7 +99,7 @@ fn make(alloc: Global, sample: &Sample<'_>, call: Call) -> Result<usize, BenchFa
     }
 }
 
-// Makes the call so often, and keeps its time where no turn before was as fast.
+// Makes the call this often, and keeps its time if no turn before was as fast.
 fn turn(
     rt: &HostRuntime,
     sample: &Sample<'_>,
@@ -130,7 +130,7 @@ fn measure(
     Ok(())
 }
 
-// Tells on standard error the time of a call, and how much of another's it is, in hundredths.
+// Prints on standard error the time of a call, and how much of another's it is, in hundredths.
 fn tell(rt: &HostRuntime, what: &str, timed: Timed, beside: Timed) {
     let hundredths = timed.nanos.saturating_mul(100) / beside.nanos.max(1);
     let _ = eprintln!(rt;

@@ -1,4 +1,4 @@
-// The applied log: what learning and applying an entry takes, behind a gap of one slot and of many.
+// The applied log: what learning and applying an entry takes, after a gap of one slot and of many.
 use crate::cluster::Load;
 use crate::fault::BenchFault;
 use replica_machine::{AppliedLog, Entry, Slot};
@@ -21,7 +21,7 @@ fn entry_of(slot: u64) -> Entry<Number> {
     }
 }
 
-// Learns the slots behind `from` up to `to`, the last one first, and applies what can be. Tells how many were applied.
+// Learns the slots after `from` up to `to`, the last one first, and applies what can be. Returns how many were applied.
 fn step(log: &mut AppliedLog<Count>, from: u64, to: u64) -> Result<u64, BenchFault> {
     for before in (from..to).rev() {
         let slot = before + 1;
@@ -56,7 +56,7 @@ fn run_over(rt: &HostRuntime, log: &mut AppliedLog<Count>, load: Load) -> Result
     Ok(())
 }
 
-/// Learns so many entries in windows of so many slots, each from its last slot to its first, and applies them; prints how many were
+/// Learns entries in windows of slots, each from its last slot to its first, and applies them; prints how many were
 /// applied and the machine's sum, and on standard error the nanoseconds an entry.
 pub fn run(rt: &HostRuntime, load: Load) -> Result<(), BenchFault> {
     let mut log = AppliedLog::new(rt.alloc(), Count::new(rt.alloc()));

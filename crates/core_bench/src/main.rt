@@ -36,7 +36,7 @@ usage: core_bench log N W
   all N W  does each, one after the other
   Counts are printed, and on standard error the nanoseconds of an entry, a call, an event or an act";
 
-// The words of the command line, without the program's own name; none where they cannot be read.
+// Returns the words of the command line, without the program's own name.
 fn words_of(rt: &HostRuntime) -> Result<Vec<String>, Error> {
     let mut words = Vec::new(rt.alloc());
     for word in env::args(rt)?.skip(1) {
@@ -56,7 +56,7 @@ fn misuse(rt: &HostRuntime) -> ExitCode {
     ExitCode::from(2)
 }
 
-// The status of a run, whose fault is told on standard error.
+// Returns the status of a run, and prints its fault on standard error.
 fn ended(rt: &HostRuntime, done: Result<(), BenchFault>) -> ExitCode {
     match done {
         Ok(()) => ExitCode::SUCCESS,
@@ -78,7 +78,7 @@ enum Measure {
     Threads,
 }
 
-// A measure's name, the body that is named behind its numbers, how many words there are with these, and what is measured.
+// A measure's name, the body that is named after its numbers, how many words there are with these, and what is measured.
 type Row = (&'static str, &'static str, usize, &'static [Measure]);
 
 const MEASURES: &[Row] = &[
@@ -100,7 +100,7 @@ const EACH: &[Measure] = &[
     Measure::Threads,
 ];
 
-// The word at this place, empty where there is none.
+// Returns the word at this place, empty if there is none.
 fn word(words: &[String], place: usize) -> &str {
     match words.get(place) {
         Some(word) => word.as_str(),

@@ -7,7 +7,7 @@ use realm_acts::Act;
 use test_machines::Number;
 use test_stands::{Nodes, Passes, with_nodes};
 
-// The nodes, which belong to the stand.
+// The nodes, which belong to `test_stands`.
 #[derive(Drop)]
 struct Standing<'n, B> {
     nodes: &'n mut Nodes<B>,
@@ -86,7 +86,7 @@ pub fn run_numbers(rt: &HostRuntime, load: Load) -> Result<(), BenchFault> {
     with_nodes::<Number, _>(rt.alloc(), &mut measuring).ok_or(BenchFault::Memory)?
 }
 
-/// The same, where each body is a realm's act, a PUBLISH whose text has 200 octets.
+/// Does so with a realm's act as each body, a PUBLISH whose text has 200 octets.
 pub fn run_acts(rt: &HostRuntime, load: Load) -> Result<(), BenchFault> {
     let text = text_of(rt.alloc())?;
     let mut measuring = Measuring {

@@ -1,4 +1,4 @@
-// Three actors, each on a thread of its own, over a mail table and stores in memory: acts are taken at the second one.
+// Three actors, each on its own thread, over a mail table and stores in memory: acts are taken at the second one.
 use crate::actors::{Adding, Fresh};
 use crate::cluster::Load;
 use crate::fault::BenchFault;
@@ -11,10 +11,10 @@ use std::thread::Threads;
 use std::time::Instant;
 use store_keeper::MemKeeper;
 use test_machines::{Count, Number};
-use test_stands::{NODES, Plays, with_stations};
+use test_stands::{NODES, Plays, with_actors};
 
 // After how many turns in which nothing came a node ticks, in a row or not, and after how many its thread gives way each time, so that each
-// node comes to its turns where processors are wanting.
+// node comes to its turns if processors are short.
 const QUIET: u64 = 100_000;
 
 const STRETCH: u64 = 1024;
@@ -53,7 +53,7 @@ impl Gate for Until<'_> {
     }
 }
 
-// What a node is asked for: a start, acts, so many at a time, and ticks. It shuts the gate of all nodes once its acts are answered.
+// What a node is asked for: a start, acts, a limited number at a time, and ticks. It shuts the gate of all nodes once its acts are answered.
 #[derive(Drop)]
 struct Asks<'a> {
     open: &'a AtomicBool,
@@ -75,7 +75,7 @@ enum Due {
 }
 
 impl Asks<'_> {
-    // A start, once; then an act, if one more may be under way; then a tick, after each so many turns in which nothing came. What came between
+    // A start, once; then an act, if one more may be under way; then a tick, after each `QUIET` turns in which nothing came. What came between
     // them does not begin the count anew: a tick sends something to each other node, so the fastest one would keep the others from ever
     // ticking, and an act that was taken before its node knew who leads would wait for ever.
     fn due(&mut self) -> Due {
@@ -161,9 +161,9 @@ fn asks_of<'a>(open: &'a AtomicBool, node: u8, part: Part) -> Asks<'a> {
 }
 
 // The node runs until the gate is shut; it is shut then. Whether no fault ended it.
-fn run_one(station: &mut Adding<'_>, asks: &mut Asks<'_>) -> bool {
+fn run_one(actor: &mut Adding<'_>, asks: &mut Asks<'_>) -> bool {
     let gate = Until { open: asks.open };
-    let good = station.run(&gate, asks);
+    let good = actor.run(&gate, asks);
     asks.open.store(false, Ordering::Relaxed);
     good
 }
@@ -184,7 +184,7 @@ fn turns_of(one: &Asks<'_>, two: &Asks<'_>, three: &Asks<'_>) -> Turns {
     }
 }
 
-// Each node on a thread of its own, until each act is answered. None where a fault ended a node, or one act was answered twice.
+// Runs each node on its own thread, until each act is answered. `None` if a fault ended a node, or one act was answered twice.
 fn run_three(
     threads: &impl Threads,
     one: &mut Adding<'_>,
@@ -213,19 +213,19 @@ fn run_three(
     Some(turns_of(&first, &second, &third))
 }
 
-// The three stations, the first node's last.
-fn run_stations(
+// The three actors, the first node's last.
+fn run_actors(
     threads: &impl Threads,
-    stations: &mut [Adding<'_>],
+    actors: &mut [Adding<'_>],
     part: Part,
 ) -> Result<Turns, BenchFault> {
-    let (three, rest) = stations.split_first_mut().ok_or(BenchFault::Nobody)?;
+    let (three, rest) = actors.split_first_mut().ok_or(BenchFault::Nobody)?;
     let (two, rest) = rest.split_first_mut().ok_or(BenchFault::Nobody)?;
     let one = rest.first_mut().ok_or(BenchFault::Nobody)?;
     run_three(threads, one, two, three, part).ok_or(BenchFault::Stuck)
 }
 
-// Tells on standard error how many acts were answered in a second, what one took, and how many turns found no packet.
+// Prints on standard error how many acts were answered in a second, what one took, and how many turns found no packet.
 fn tell(rt: &HostRuntime, turns: Turns, acts: u64, nanos: u128) {
     let _ = eprintln!(rt;
         "{} acts a second, {} ns an act, {} turns, of which {} in 100 found no packet",
@@ -242,18 +242,18 @@ const FIRST: Part = Part {
     load: Load { acts: 1, width: 1 },
 };
 
-// The run is made and told.
+// Makes the run, and prints what came of it.
 fn run_over(
     rt: &HostRuntime,
     threads: &impl Threads,
-    stations: &mut [Adding<'_>],
+    actors: &mut [Adding<'_>],
     load: Load,
 ) -> Result<(), BenchFault> {
-    run_stations(threads, stations, FIRST)?;
+    run_actors(threads, actors, FIRST)?;
     let start = Instant::now(rt)?;
-    let turns = run_stations(
+    let turns = run_actors(
         threads,
-        stations,
+        actors,
         Part {
             starts: false,
             load,
@@ -277,17 +277,17 @@ struct Measuring<'r, T> {
 impl<T: Threads> Plays<Count, MemKeeper<Number>> for Measuring<'_, &T> {
     type End = Result<(), BenchFault>;
 
-    fn play(&mut self, stations: &mut Vec<Adding<'_>>) -> Result<(), BenchFault> {
-        run_over(self.rt, self.threads, stations.as_mut_slice(), self.load)
+    fn play(&mut self, actors: &mut Vec<Adding<'_>>) -> Result<(), BenchFault> {
+        run_over(self.rt, self.threads, actors.as_mut_slice(), self.load)
     }
 }
 
-/// Takes these acts, of which `width` are under way at most, at the second of three actors, each of which runs on a thread of its own;
+/// Takes these acts, of which `width` are under way at most, at the second of three actors, each of which runs on its own thread;
 /// prints how many were answered, and on standard error what they took by the clock, and how many turns found no packet. Each body is a
 /// number, each store is in memory.
 pub fn run(rt: &HostRuntime, threads: &impl Threads, load: Load) -> Result<(), BenchFault> {
     let mut measuring = Measuring { rt, threads, load };
-    with_stations::<Count, MemKeeper<Number>, _, _>(rt.alloc(), &Fresh, &mut measuring).ok_or(
+    with_actors::<Count, MemKeeper<Number>, _, _>(rt.alloc(), &Fresh, &mut measuring).ok_or(
         BenchFault::Actor,
     )?
 }

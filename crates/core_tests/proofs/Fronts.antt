@@ -1,4 +1,4 @@
--- Pieces of one list, passed behind a front of it.
+-- Pieces of one list, passed after a front of it.
 use Rattle.std.proofs.Common.{◌≡◌, sym, ap, ◌∙◌, ℕ, ◌+◌, ◌-◌, ◌≤◌, arith, List, [], ◌++◌, length, take, drop, inl, inr, subst}
 use Rattle.std.specs.Prelude.{Result, Ok, Err, OnOk, OnErr}
 use Rattle.std.proofs.lemmas.Bool.{cases_lt}
@@ -16,7 +16,7 @@ module _ {B : Type 0} (log all : List (Entry B)) (from n : ℕ) where
   split : (begins : Begins log all) → from ≤ length log → drop from all ≡ left ++ begins.0
   split begins l = ap (λ xs. drop from xs) (sym begins.1) ∙ drop-append-le from log begins.0 l
 
-  -- such a piece is in the front, or goes on behind it
+  -- such a piece is in the front, or goes on after it
   pub agree : Begins log all → from ≤ length log → AgreesWith (take from log ++ take n (drop from all)) log
   agree begins l =
       let s = split begins l in

@@ -14,38 +14,60 @@ fn vote_for<B: Body>(rt: &impl Abort, alloc: Global, ballot: Ballot, entry: &Ent
     }
 }
 
-// A vote in the ballot with this number, none for 0.
-fn votes_of<B: Body>(rt: &impl Abort, alloc: Global, entry: &Entry<B>, ballot: u64) -> Votes<B> {
-    if ballot == 0 {
+// A vote in this ballot, if there is one.
+fn votes_of<B: Body>(
+    rt: &impl Abort,
+    alloc: Global,
+    entry: &Entry<B>,
+    ballot: Option<Ballot>,
+) -> Votes<B> {
+    let Some(ballot) = ballot else {
         return Votes::new(alloc);
-    }
-    let vote = vote_for(rt, alloc, ballot_of(ballot), entry);
+    };
+    let vote = vote_for(rt, alloc, ballot, entry);
     let mut votes = Votes::new(alloc);
     votes.put(vote).expect(rt, "room for a vote");
     votes
 }
 
-// What is asked, in which ballot; how the acceptor answers, and by which ballot. A ballot is a number that ends in its node.
-type Row = (&'static str, u64, &'static str, u64);
+// What an acceptor is asked for.
+#[derive(Clone, Copy, Debug)]
+enum Asked {
+    Prepare,
+    Accept,
+    // What it is not concerned with.
+    Ask,
+}
 
-fn ballot_of(number: u64) -> Ballot {
-    Ballot {
-        round: number / 10,
-        node: (number % 10) as u8,
+// What it does then.
+#[derive(Clone, Copy, Debug)]
+enum Does {
+    // It promises, and reports the vote in this ballot, if it has one.
+    Promises(Option<Ballot>),
+    // It refuses, since it has promised this ballot.
+    Refuses(Ballot),
+    Votes,
+    Nothing,
+}
+
+impl Does {
+    fn votes(self) -> bool {
+        matches!(self, Does::Votes)
     }
 }
 
+// What is asked, in which ballot, and what the acceptor does.
+type Row = (Asked, Ballot, Does);
+
 fn kind_of<B: Body>(rt: &impl Abort, alloc: Global, entry: &Entry<B>, row: &Row) -> Kind<B> {
-    let ballot = ballot_of(row.1);
-    if row.0 == "prepare" {
-        return Kind::Prepare { ballot, first: 1 };
-    }
-    if row.0 == "accept" {
-        return Kind::Accept {
+    let (asked, ballot, _) = *row;
+    match asked {
+        Asked::Prepare => Kind::Prepare { ballot, first: 1 },
+        Asked::Accept => Kind::Accept {
             vote: vote_for(rt, alloc, ballot, entry),
-        };
+        },
+        Asked::Ask => Kind::Ask { first: 1 },
     }
-    Kind::Ask { first: 1 }
 }
 
 fn packet_of<B: Body>(rt: &impl Abort, alloc: Global, entry: &Entry<B>, row: &Row) -> Packet<B> {
@@ -62,7 +84,7 @@ fn promise<B: Body>(
     alloc: Global,
     entry: &Entry<B>,
     ballot: Ballot,
-    voted: u64,
+    voted: Option<Ballot>,
 ) -> Kind<B> {
     Kind::Promise {
         ballot,
@@ -72,19 +94,13 @@ fn promise<B: Body>(
 
 // The kind of packet that is wanted in answer.
 fn answer_of<B: Body>(rt: &impl Abort, alloc: Global, entry: &Entry<B>, row: &Row) -> Kind<B> {
-    let (_, asked, word, other) = *row;
-    let ballot = ballot_of(asked);
-    if word == "promises" {
-        return promise(rt, alloc, entry, ballot, other);
-    }
-    if word == "refuses" {
-        return Kind::Nack {
-            ballot,
-            promised: ballot_of(other),
-        };
-    }
-    Kind::Accepted {
-        vote: vote_for(rt, alloc, ballot, entry),
+    let (_, ballot, does) = *row;
+    match does {
+        Does::Promises(voted) => promise(rt, alloc, entry, ballot, voted),
+        Does::Refuses(promised) => Kind::Nack { ballot, promised },
+        Does::Votes | Does::Nothing => Kind::Accepted {
+            vote: vote_for(rt, alloc, ballot, entry),
+        },
     }
 }
 
@@ -101,7 +117,7 @@ fn is_same_kind<B: Body>(
     same
 }
 
-// Whether the answer is that of the row: a vote is told to the others, a promise and a refusal to the sender.
+// Whether the answer is that of the row: a vote goes to the others, a promise and a refusal to the sender.
 fn is_answer<B: Body>(
     rt: &impl Abort,
     alloc: Global,
@@ -110,9 +126,9 @@ fn is_answer<B: Body>(
     answer: &Answer<B>,
 ) -> bool {
     match answer {
-        Answer::Nothing => row.2 == "nothing",
-        Answer::ToSender { kind } => row.2 != "votes" && is_same_kind(rt, alloc, entry, row, kind),
-        Answer::ToOthers { kind } => row.2 == "votes" && is_same_kind(rt, alloc, entry, row, kind),
+        Answer::Nothing => matches!(row.2, Does::Nothing),
+        Answer::ToSender { kind } => !row.2.votes() && is_same_kind(rt, alloc, entry, row, kind),
+        Answer::ToOthers { kind } => row.2.votes() && is_same_kind(rt, alloc, entry, row, kind),
     }
 }
 
@@ -138,17 +154,17 @@ fn is_change<B: Body>(
     row: &Row,
     change: &Change<B>,
 ) -> bool {
-    let ballot = ballot_of(row.1);
-    if row.2 == "votes" {
-        return change.promised == Some(ballot)
-            && are_voted(rt, alloc, entry, ballot, &change.votes);
-    }
-    let promised = if row.2 == "promises" {
-        Some(ballot)
-    } else {
-        None
+    let (_, ballot, does) = *row;
+    let promised = match does {
+        Does::Promises(_) | Does::Votes => Some(ballot),
+        Does::Refuses(_) | Does::Nothing => None,
     };
-    change.promised == promised && change.votes.as_slice().is_empty()
+    let voted = if does.votes() {
+        are_voted(rt, alloc, entry, ballot, &change.votes)
+    } else {
+        change.votes.as_slice().is_empty()
+    };
+    change.promised == promised && voted
 }
 
 fn is_verdict<B: Body>(
@@ -162,7 +178,7 @@ fn is_verdict<B: Body>(
         && is_answer(rt, alloc, entry, row, &verdict.answer)
 }
 
-// The acceptor plans and adopts what the packet brings about. Whether it is what the row says.
+// Lets the acceptor plan and adopt what the packet brings about. Returns whether it is what the row says.
 fn takes<B: Body>(
     rt: &impl Abort,
     alloc: Global,
@@ -194,23 +210,25 @@ fn step<B: Body>(
     is_so
 }
 
+const LOW: Ballot = Ballot { round: 1, node: 2 };
+
 const FIRST: Ballot = Ballot { round: 2, node: 1 };
 
 const HIGH: Ballot = Ballot { round: 2, node: 2 };
 
 // An acceptor of empty rows is asked for two promises, for votes of a lower and of the promised ballot, and for a higher promise.
 const ROWS: &[Row] = &[
-    ("prepare", 21, "promises", 0),
-    ("prepare", 21, "refuses", 21),
-    ("accept", 12, "refuses", 21),
-    ("accept", 21, "votes", 0),
-    ("prepare", 22, "promises", 21),
-    ("ask", 0, "nothing", 0),
+    (Asked::Prepare, FIRST, Does::Promises(None)),
+    (Asked::Prepare, FIRST, Does::Refuses(FIRST)),
+    (Asked::Accept, LOW, Does::Refuses(FIRST)),
+    (Asked::Accept, FIRST, Does::Votes),
+    (Asked::Prepare, HIGH, Does::Promises(Some(FIRST))),
+    (Asked::Ask, LOW, Does::Nothing),
 ];
 
 fn is_asked<B: Body>(rt: &impl Abort, alloc: Global, acceptor: &mut Acceptor<B>, entry: &Entry<B>) {
     for row in ROWS {
-        check!(rt; step(rt, alloc, acceptor, entry, row), (row.0, row.1));
+        check!(rt; step(rt, alloc, acceptor, entry, row), *row);
     }
 }
 
@@ -245,7 +263,7 @@ fn copied<B: Body>(rt: &impl Abort, alloc: Global, acceptor: &Acceptor<B>, first
     count
 }
 
-// Its one vote is copied from its slot on, and not behind it.
+// Its one vote is copied from its slot on, and not from the next one.
 fn is_copied<B: Body>(rt: &impl Abort, alloc: Global, acceptor: &Acceptor<B>) {
     check_eq!(rt; copied(rt, alloc, acceptor, 1), 1);
     check_eq!(rt; copied(rt, alloc, acceptor, 2), 0);
@@ -297,7 +315,7 @@ fn item<B: Drop>(body: B) -> Entry<B> {
     }
 }
 
-// An entry whose body has memory of its own.
+// An entry whose body allocates.
 fn large(rt: &impl Abort, alloc: Global) -> Entry<Entries<Number>> {
     let mut body = Entries::new(alloc);
     body.push(item(Number::new(7)))
@@ -313,7 +331,7 @@ fn an_item_with_memory_is_voted_for(rt: HostRuntime) {
 }
 
 #[test]
-fn want_of_memory_is_50(rt: HostRuntime) {
+fn out_of_memory_is_50(rt: HostRuntime) {
     check_eq!(&rt; Memory.number(), 50);
     let told = format!(in rt.alloc(); "{}", Memory).expect(&rt, "room for a text");
     check_eq!(&rt; told.as_str(), "no memory for the acceptor");

@@ -5,12 +5,12 @@ use std::process::Abort;
 pub struct Check;
 
 impl Check {
-    // Ends the process unless the condition holds; `what` tells of it.
+    // Ends the process unless the condition holds; `what` is shown with it.
     pub fn holds<R: Abort, W: Copy + Debug>(rt: &R, condition: bool, what: W) {
         assert!(rt; condition, "does not hold: {what:?}");
     }
 
-    // Ends the process unless both are equal, and shows them; `what` tells of what was found.
+    // Ends the process unless both are equal, and shows them; `what` is shown with them.
     pub fn equal<R: Abort, T: Copy + Debug + PartialEq, W: Copy + Debug>(
         rt: &R,
         found: T,

@@ -22,7 +22,7 @@ fn item(seq: u64, value: u32) -> Entry<Number> {
     }
 }
 
-// The number of the fault that the octets answer, 0 where they are an entry.
+// Returns the number of the fault of the octets, 0 if they are an entry.
 fn fault_of(alloc: Global, octets: &[u8]) -> u8 {
     match take_entry::<Number, Octet>(alloc, octets) {
         Ok(_) => 0,
@@ -43,22 +43,36 @@ const ITEM: &[u8] = &[
     3, 2, 0, 0, 0, 0, 0, 0, 0, 1, 0, 0, 0, 0, 0, 0, 0, 5, 0, 0, 0, 1, 9,
 ];
 
-// What the octets of a row stand for.
-fn entry(row: usize) -> Entry<Number> {
-    match row {
-        0 => Entry::Noop,
-        1 => Entry::Boot { node: 2, boot: 1 },
-        2 => Entry::Lost { node: 7, boot: 258 },
-        _ => item(5, 9),
+// An entry of each kind.
+#[derive(Clone, Copy, Debug)]
+enum Sample {
+    Noop,
+    Boot,
+    Lost,
+    Item,
+}
+
+fn entry_of(sample: Sample) -> Entry<Number> {
+    match sample {
+        Sample::Noop => Entry::Noop,
+        Sample::Boot => Entry::Boot { node: 2, boot: 1 },
+        Sample::Lost => Entry::Lost { node: 7, boot: 258 },
+        Sample::Item => item(5, 9),
     }
 }
 
-const SPELLED: [&[u8]; 4] = [&[0], BOOT, LOST, ITEM];
+// Entries, and their octets.
+const SPELLED: &[(Sample, &[u8])] = &[
+    (Sample::Noop, &[0]),
+    (Sample::Boot, BOOT),
+    (Sample::Lost, LOST),
+    (Sample::Item, ITEM),
+];
 
 #[test]
 fn entries_have_their_octets(rt: HostRuntime) {
-    for (row, octets) in SPELLED.iter().enumerate() {
-        check!(&rt; is_spelled(&rt, rt.alloc(), &entry(row), octets), row);
+    for (sample, octets) in SPELLED {
+        check!(&rt; is_spelled(&rt, rt.alloc(), &entry_of(*sample), octets), *sample);
     }
 }
 
@@ -111,7 +125,7 @@ fn octets_are_read_as_entries(rt: HostRuntime) {
     }
 }
 
-// The number of the octets' Item and what it holds; nothing where they are another entry.
+// Returns the number of the octets' Item and what it holds; `None` if they are another entry.
 fn item_in(rt: &impl Abort, alloc: Global, octets: &[u8]) -> Option<(u64, u32)> {
     match take_entry::<Number, Octet>(alloc, octets).expect(rt, "an entry") {
         Entry::Item { seq, body, .. } => Some((seq, body.get())),
@@ -126,7 +140,7 @@ fn an_entry_is_read_again(rt: HostRuntime) {
     check_eq!(&rt; item_in(&rt, rt.alloc(), &octets), told);
 }
 
-// The number of the fault for which the entry is not put, 0 where it is.
+// Returns the number of the fault for which the entry is not put, 0 if it is put.
 fn refusal(entry: &Entry<Number>, out: &mut Vec<u8>) -> u8 {
     match put_entry::<Number, Octet>(entry, out) {
         Ok(()) => 0,
@@ -134,23 +148,38 @@ fn refusal(entry: &Entry<Number>, out: &mut Vec<u8>) -> u8 {
     }
 }
 
-// Entries that have no spelling: for its node, its boot, its number, its body.
-fn unspelled(row: u8) -> Entry<Number> {
-    match row {
-        0 => Entry::Boot { node: 8, boot: 1 },
-        1 => Entry::Lost {
+// Why an entry has no spelling.
+#[derive(Clone, Copy, Debug)]
+enum Unspelled {
+    Node,
+    Boot,
+    Number,
+    Body,
+}
+
+fn unspelled_entry(unspelled: Unspelled) -> Entry<Number> {
+    match unspelled {
+        Unspelled::Node => Entry::Boot { node: 8, boot: 1 },
+        Unspelled::Boot => Entry::Lost {
             node: 1,
             boot: 1 << 48,
         },
-        2 => item(0, 1),
-        _ => item(1, 256),
+        Unspelled::Number => item(0, 1),
+        Unspelled::Body => item(1, 256),
     }
 }
 
-// Of an entry that has no spelling nothing is put.
+const UNSPELLED: &[Unspelled] = &[
+    Unspelled::Node,
+    Unspelled::Boot,
+    Unspelled::Number,
+    Unspelled::Body,
+];
+
+// Nothing is put of an entry that has no spelling.
 fn puts_nothing(rt: &impl Abort, out: &mut Vec<u8>) {
-    for row in 0..4u8 {
-        check_eq!(rt; refusal(&unspelled(row), out), 43, row);
+    for unspelled in UNSPELLED {
+        check_eq!(rt; refusal(&unspelled_entry(*unspelled), out), 43, *unspelled);
     }
     check_eq!(rt; out.as_slice(), [5, 6].as_slice());
 }

@@ -7,7 +7,7 @@ use std::process::Abort;
 use test_checks::check_eq;
 use test_machines::{Count, Foretells, Number, Refuses};
 
-// A node that passes pieces of one log, behind a front of it.
+// A node that has passed a front of one log, and passes pieces of it.
 #[derive(Drop)]
 struct Walk<M: Machine> {
     follower: Follower<M>,
@@ -27,7 +27,7 @@ impl<M: Machine> Model for Walk<M> {
 }
 
 impl<M: Machine> Walk<M> {
-    // Passes the entries from one place to another in this boot. Whether it did.
+    // Passes the entries from one place to another in this boot. Returns whether it did.
     fn pass(&mut self, boot: u64, from: usize, end: usize) -> bool {
         if self.follower.log().len() < from || end < from || self.log.len() < end || end > 99 {
             return false;
@@ -168,7 +168,7 @@ fn what_is_applied_again_is_not_told_again(rt: HostRuntime) {
     check_eq!(&rt; counted, (11, 4, 1));
 }
 
-// A node whose machine speaks ahead goes as these rows say, and hands something to so many transports.
+// A node whose machine speaks ahead goes as these rows say, and hands something to this many transports.
 fn speaks_ahead(rt: &impl Abort, alloc: Global, node: u8, rows: &[Row], transports: usize) {
     let mut walk = walk_of(rt, alloc, node, Foretells::new(alloc));
     goes(rt, &mut walk, rows);

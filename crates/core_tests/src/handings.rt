@@ -1,4 +1,4 @@
-// Who was told something: transports of three nodes, whose machines add up.
+// To whom something was said: transports of three nodes, whose machines add up.
 use crate::check::Check;
 use crate::schedule::Turn;
 use crate::session::counts;
@@ -11,12 +11,12 @@ use test_machines::Count;
 
 // Acts of transports of three nodes; each is delivered to its end before the next.
 const ACTS: &[Turn] = &[
-    ("start", 1, 0, 0),
-    ("take", 3, 9, 1),
-    ("take", 1, 4, 2),
-    ("take", 2, 1, 3),
-    ("take", 1, 2, 4),
-    ("take", 1, 4, 5),
+    Turn::Start(1),
+    Turn::Take(3, 9, 1),
+    Turn::Take(1, 4, 2),
+    Turn::Take(2, 1, 3),
+    Turn::Take(1, 2, 4),
+    Turn::Take(1, 4, 5),
 ];
 
 // By node, boot and number, each with its sums so far.

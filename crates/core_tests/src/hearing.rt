@@ -18,7 +18,7 @@ fn has_learned(learner: &Learner<Number>, slot: Slot, wanted: &Entry<Number>) ->
     }
 }
 
-// Whether it would have.
+// Whether it would have learned it.
 fn would_have(hearing: &Hearing<Number>, slot: Slot, wanted: &Entry<Number>) -> bool {
     match hearing.learned(slot) {
         Some(entry) => entry.same(wanted),
@@ -35,7 +35,7 @@ fn vote_in(slot: Slot) -> Vote<Number> {
     }
 }
 
-// Node 2 votes in the first slot, and a member tells of the second.
+// Node 2 votes in the first slot, and a member reports the second.
 fn plan(rt: &impl Abort, hearing: &mut Hearing<'_, Number>, first: Slot, second: Slot) {
     let _agrees = hearing
         .vote(2, &vote_in(first))
@@ -58,13 +58,13 @@ fn planned(
     hearing.into_news()
 }
 
-// How what is told of the slot stands to what would be learned: first none is, then another is; and whether the first one stays.
+// What a report of the slot does: first nothing is learned there, then another entry is; and whether the first one stays.
 fn tells(rt: &impl Abort, hearing: &mut Hearing<'_, Number>, slot: Slot) -> (bool, bool, bool) {
     let before = hearing
         .tell(slot, &Entry::Noop)
         .expect(rt, "room for an entry");
-    let behind = hearing.tell(slot, &BOOT).expect(rt, "room for an entry");
-    (before, behind, would_have(hearing, slot, &Entry::Noop))
+    let after = hearing.tell(slot, &BOOT).expect(rt, "room for an entry");
+    (before, after, would_have(hearing, slot, &Entry::Noop))
 }
 
 fn disagree(
@@ -135,7 +135,7 @@ fn another_entry_would_disagree(rt: HostRuntime) {
     would_disagree(&rt, rt.alloc(), &learner);
 }
 
-// It is told of Noops in slots 1, 2 and 4.
+// Noops in slots 1, 2 and 4 are reported to it.
 fn tell_all(rt: &impl Abort, hearing: &mut Hearing<'_, Number>) {
     for number in [1, 2, 4] {
         if let Some(slot) = Slot::new(number) {
@@ -146,13 +146,13 @@ fn tell_all(rt: &impl Abort, hearing: &mut Hearing<'_, Number>) {
     }
 }
 
-// How long the run behind so many slots is.
+// Returns how long the run after this many slots is.
 fn run(rt: &impl Abort, hearing: &Hearing<Number>, applied: u64) -> usize {
-    let run = hearing.run_behind(applied).expect(rt, "room for a run");
+    let run = hearing.run_after(applied).expect(rt, "room for a run");
     run.as_slice().len()
 }
 
-// How many slots are told from this one on.
+// Returns how many slots are reported from this one on.
 fn window(rt: &impl Abort, hearing: &Hearing<Number>, first: u64) -> usize {
     let told = hearing
         .learned_from(first)
@@ -160,7 +160,7 @@ fn window(rt: &impl Abort, hearing: &Hearing<Number>, first: u64) -> usize {
     told.len()
 }
 
-// How long the run behind so many slots is, and how many slots are told from that one on.
+// Returns how long the run after this many slots is, and how many slots are reported from that one on.
 const RUNS: &[(u64, usize, usize)] = &[
     (0, 2, 3),
     (1, 1, 3),
@@ -172,8 +172,8 @@ const RUNS: &[(u64, usize, usize)] = &[
 ];
 
 fn are_told(rt: &impl Abort, hearing: &Hearing<Number>) {
-    for (slot, behind, from) in RUNS {
-        check_eq!(rt; run(rt, hearing, *slot), *behind, slot);
+    for (slot, length, from) in RUNS {
+        check_eq!(rt; run(rt, hearing, *slot), *length, slot);
         check_eq!(rt; window(rt, hearing, *slot), *from, slot);
     }
 }

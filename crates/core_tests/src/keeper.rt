@@ -6,8 +6,8 @@ use store_keeper::{Keeper, KeeperFault, MemKeeper};
 use test_checks::{check, check_eq};
 use test_machines::Number;
 
-// What a keeper answered: its fault's number or 0, the boot number, the round promised, and the rounds of the votes in slots 1 to 3,
-// each 0 where there is none.
+// What a keeper returned: its fault's number or 0, the boot number, the round promised, and the rounds of the votes in slots 1 to 3,
+// each 0 if there is none.
 type Answer = (u8, u64, u64, [u64; 3]);
 
 fn round_in(votes: &Votes<Number>, slot: u64) -> u64 {
@@ -92,7 +92,7 @@ fn commit(
     done
 }
 
-// Commits with these rounds in these slots, and what each answers.
+// Commits with these rounds in these slots, each with its fault's number or 0.
 fn commits(
     rt: &impl Abort,
     alloc: Global,
@@ -138,7 +138,7 @@ fn a_vote_replaces_that_of_its_slot(rt: HostRuntime) {
     drop(keeper);
 }
 
-// Two commits with the rounds 1 and 2 in slots 1 and 2, of which one fails: what these answer.
+// Two commits with the rounds 1 and 2 in slots 1 and 2, of which one fails: what these return.
 fn commits_and_fails(
     rt: &impl Abort,
     alloc: Global,
@@ -160,7 +160,7 @@ fn goes_on(rt: &impl Abort, alloc: Global, keeper: &mut MemKeeper<Number>, want:
     commits(rt, alloc, keeper, &[(3, &[3], 0)]);
 }
 
-// A keeper that fails at its kth commit: what it answers, and what is loaded once it is opened again.
+// A keeper that fails at its kth commit: what it returns, and what is loaded once it is opened again.
 fn fails(rt: &impl Abort, alloc: Global, k: u64, after: bool, wants: (u8, u8, Answer)) {
     let mut keeper = MemKeeper::failing(alloc, k, after);
     commits_and_fails(rt, alloc, &mut keeper, (wants.0, wants.1));

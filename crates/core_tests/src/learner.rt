@@ -23,14 +23,6 @@ fn ballot(round: u64) -> Ballot {
     Ballot { round, node }
 }
 
-// A fault's number, 0 where there is none.
-fn number(done: Result<(), LearnerFault>) -> u64 {
-    match done {
-        Ok(()) => 0,
-        Err(fault) => fault.number() as u64,
-    }
-}
-
 // Whether the learner learned this entry in the slot.
 fn has_learned(learner: &Learner<Number>, slot: Slot, wanted: &Entry<Number>) -> bool {
     match learner.learned(slot) {
@@ -39,7 +31,7 @@ fn has_learned(learner: &Learner<Number>, slot: Slot, wanted: &Entry<Number>) ->
     }
 }
 
-// Makes room for a vote, and for the entry of the slot; without memory there is none.
+// Makes room for a vote, and for the entry of the slot. Returns whether there was memory for both.
 fn has_room(learner: &mut Learner<Number>, slot: Slot) -> bool
     ensures votes { IsTrue result → 0 < learner.new.room.votes }
     ensures place { IsTrue result → has_room_at slot learner.new ≡ true }
@@ -47,15 +39,16 @@ fn has_room(learner: &mut Learner<Number>, slot: Slot) -> bool
     learner.make_room(2).is_ok() && learner.make_room_at(slot).is_ok()
 }
 
+// Puts the vote in the room that is made for it. Returns whether there was memory for that.
 fn vote_in_room(
     learner: &mut Learner<Number>,
     node: u8,
     round: u64,
     slot: Slot,
     entry: Entry<Number>,
-) -> u64 {
+) -> bool {
     if !has_room(learner, slot) {
-        return 56;
+        return false;
     }
     let ballot = ballot(round);
     learner.vote_in_room(
@@ -66,85 +59,74 @@ fn vote_in_room(
             entry,
         },
     );
-    0
+    true
 }
 
-fn tell_in_room(learner: &mut Learner<Number>, slot: Slot, entry: Entry<Number>) -> u64 {
+// Puts the entry in the room that is made for it. Returns whether there was memory for that.
+fn tell_in_room(learner: &mut Learner<Number>, slot: Slot, entry: Entry<Number>) -> bool {
     if !has_room(learner, slot) {
-        return 56;
+        return false;
     }
     learner.tell_in_room(slot, entry);
-    0
+    true
 }
 
-// What a call answers that takes the entry by reference, or whether it, or any, was learned in the slot.
-fn asked(
-    learner: &mut Learner<Number>,
-    word: &str,
-    node: u8,
-    round: u64,
-    slot: Slot,
-    entry: &Entry<Number>,
-) -> u64 {
-    if word == "vote" {
-        return number(learner.vote(node, ballot(round), slot, entry));
-    }
-    if word == "tell" {
-        return number(learner.tell(slot, entry));
-    }
-    if word == "any" {
-        return learner.learned(slot).is_some() as u64;
-    }
-    has_learned(learner, slot, entry) as u64
+// What is done or asked, and what comes of it. An entry is a node's Boot, by the node's number, or a Noop for 0.
+enum Step {
+    // A node votes in the first or the second ballot, in a slot, for an entry.
+    Vote(u8, u64, u64, u8, Result<(), LearnerFault>),
+    // A member reports an entry of a slot.
+    Tell(u64, u8, Result<(), LearnerFault>),
+    // Both, in the room that is made for it.
+    VoteInRoom(u8, u64, u64, u8),
+    TellInRoom(u64, u8),
+    // Whether any entry was learned in a slot.
+    HasAny(u64, bool),
+    // This entry was learned in a slot.
+    HasLearned(u64, u8),
 }
 
-// What one step answers.
-fn step(
-    learner: &mut Learner<Number>,
-    word: &str,
-    node: u8,
-    round: u64,
-    slot: Slot,
-    of: u8,
-) -> u64 {
-    if word == "vote in room" {
-        return vote_in_room(learner, node, round, slot, entry(of));
-    }
-    if word == "tell in room" {
-        return tell_in_room(learner, slot, entry(of));
-    }
-    asked(learner, word, node, round, slot, &entry(of))
+fn slot_of(rt: &impl Abort, number: u64) -> Slot {
+    Slot::new(number).expect(rt, "a slot")
 }
 
-// What is done, by which node and in which round, in which slot, with the Boot of which node; and what is answered.
-type Row = (&'static str, u8, u64, u64, u8, u64);
-
-fn is_answered(rt: &impl Abort, learner: &mut Learner<Number>, row: &Row) -> bool {
-    let (word, node, round, slot, of, answer) = *row;
-    let slot = Slot::new(slot).expect(rt, "a slot");
-    step(learner, word, node, round, slot, of) == answer
-}
-
-fn goes(rt: &impl Abort, learner: &mut Learner<Number>, rows: &[Row]) {
-    for row in rows {
-        check!(rt; is_answered(rt, learner, row), (row.0, row.1, row.2));
+// Takes the step. Returns whether it comes as it says.
+fn take(rt: &impl Abort, learner: &mut Learner<Number>, step: &Step) -> bool {
+    match step {
+        Step::Vote(node, round, slot, of, wanted) => {
+            learner.vote(*node, ballot(*round), slot_of(rt, *slot), &entry(*of)) == *wanted
+        },
+        Step::Tell(slot, of, wanted) => learner.tell(slot_of(rt, *slot), &entry(*of)) == *wanted,
+        Step::VoteInRoom(node, round, slot, of) => {
+            vote_in_room(learner, *node, *round, slot_of(rt, *slot), entry(*of))
+        },
+        Step::TellInRoom(slot, of) => tell_in_room(learner, slot_of(rt, *slot), entry(*of)),
+        Step::HasAny(slot, wanted) => learner.learned(slot_of(rt, *slot)).is_some() == *wanted,
+        Step::HasLearned(slot, of) => has_learned(learner, slot_of(rt, *slot), &entry(*of)),
     }
 }
 
-fn check(rt: &impl Abort, alloc: Global, rows: &[Row]) {
+// Takes all steps; a note on a failed check is the step's place among them, from 0 on.
+fn take_all(rt: &impl Abort, learner: &mut Learner<Number>, steps: &[Step]) {
+    for (place, step) in steps.iter().enumerate() {
+        check!(rt; take(rt, learner, step), place);
+    }
+}
+
+fn check(rt: &impl Abort, alloc: Global, steps: &[Step]) {
     let members = Members::new(3).expect(rt, "3 members");
     let mut learner = Learner::new(alloc, members);
-    goes(rt, &mut learner, rows);
+    take_all(rt, &mut learner, steps);
 }
 
-const A_MAJORITY_IN_ONE_BALLOT_LEARNS: &[Row] = &[
-    ("vote", 1, 1, 1, 1, 0),
-    ("vote", 1, 1, 1, 1, 0),
-    ("vote", 2, 2, 1, 1, 0),
-    ("vote", 4, 1, 1, 1, 0),
-    ("any", 0, 0, 1, 0, 0),
-    ("vote", 3, 1, 1, 1, 0),
-    ("learned", 0, 0, 1, 1, 1),
+const A_MAJORITY_IN_ONE_BALLOT_LEARNS: &[Step] = &[
+    Step::Vote(1, 1, 1, 1, Ok(())),
+    Step::Vote(1, 1, 1, 1, Ok(())),
+    Step::Vote(2, 2, 1, 1, Ok(())),
+    Step::Vote(4, 1, 1, 1, Ok(())),
+    Step::HasAny(1, false),
+    Step::Vote(3, 1, 1, 1, Ok(())),
+    Step::HasLearned(1, 1),
 ];
 
 #[test]
@@ -152,13 +134,13 @@ fn a_majority_in_one_ballot_learns(rt: HostRuntime) {
     check(&rt, rt.alloc(), A_MAJORITY_IN_ONE_BALLOT_LEARNS);
 }
 
-const ANOTHER_ENTRY_DISAGREES: &[Row] = &[
-    ("tell", 0, 0, 1, 1, 0),
-    ("tell", 0, 0, 1, 1, 0),
-    ("tell", 0, 0, 1, 0, 55),
-    ("vote", 1, 1, 1, 0, 0),
-    ("vote", 2, 1, 1, 0, 55),
-    ("learned", 0, 0, 1, 1, 1),
+const ANOTHER_ENTRY_DISAGREES: &[Step] = &[
+    Step::Tell(1, 1, Ok(())),
+    Step::Tell(1, 1, Ok(())),
+    Step::Tell(1, 0, Err(LearnerFault::Disagree)),
+    Step::Vote(1, 1, 1, 0, Ok(())),
+    Step::Vote(2, 1, 1, 0, Err(LearnerFault::Disagree)),
+    Step::HasLearned(1, 1),
 ];
 
 #[test]
@@ -167,14 +149,14 @@ fn another_entry_disagrees(rt: HostRuntime) {
     check(&rt, rt.alloc(), ANOTHER_ENTRY_DISAGREES);
 }
 
-const WHAT_IS_TOLD_AHEAD_IS_FOUND: &[Row] = &[
-    ("tell", 0, 0, 2, 2, 0),
-    ("tell", 0, 0, 4, 3, 0),
-    ("any", 0, 0, 1, 0, 0),
-    ("tell", 0, 0, 1, 0, 0),
-    ("learned", 0, 0, 1, 0, 1),
-    ("learned", 0, 0, 2, 2, 1),
-    ("learned", 0, 0, 4, 3, 1),
+const WHAT_IS_TOLD_AHEAD_IS_FOUND: &[Step] = &[
+    Step::Tell(2, 2, Ok(())),
+    Step::Tell(4, 3, Ok(())),
+    Step::HasAny(1, false),
+    Step::Tell(1, 0, Ok(())),
+    Step::HasLearned(1, 0),
+    Step::HasLearned(2, 2),
+    Step::HasLearned(4, 3),
 ];
 
 #[test]
@@ -182,15 +164,15 @@ fn what_is_told_ahead_is_found(rt: HostRuntime) {
     check(&rt, rt.alloc(), WHAT_IS_TOLD_AHEAD_IS_FOUND);
 }
 
-const WHAT_HAS_ROOM_IS_TAKEN_IN: &[Row] = &[
-    ("vote in room", 1, 1, 1, 1, 0),
-    ("any", 0, 0, 1, 0, 0),
-    ("tell in room", 0, 0, 3, 0, 0),
-    ("vote in room", 2, 1, 1, 1, 0),
-    ("learned", 0, 0, 1, 1, 1),
-    ("learned", 0, 0, 3, 0, 1),
-    ("tell in room", 0, 0, 1, 0, 0),
-    ("learned", 0, 0, 1, 1, 1),
+const WHAT_HAS_ROOM_IS_TAKEN_IN: &[Step] = &[
+    Step::VoteInRoom(1, 1, 1, 1),
+    Step::HasAny(1, false),
+    Step::TellInRoom(3, 0),
+    Step::VoteInRoom(2, 1, 1, 1),
+    Step::HasLearned(1, 1),
+    Step::HasLearned(3, 0),
+    Step::TellInRoom(1, 0),
+    Step::HasLearned(1, 1),
 ];
 
 #[test]

@@ -1,6 +1,6 @@
-//! Tests of the consensus core below its actors: packets, those ever sent, those that wait and those that a flush delivers, the acceptor and
+//! Tests of the consensus core below its actors: packets, those ever sent and those that wait in outboxes, the acceptor and
 //! the keeper of its rows in memory, the proposer and the learner, what is planned on both, one node, the machines that follow a log, entries
-//! as octets, and whole clusters under schedules. All over the crates' public surfaces. A crate with tests is proved twice, so they stand here.
+//! as octets, and whole clusters under schedules. All over the crates' public surfaces. A crate with tests is proved twice, so they are here.
 #![tactic(auto)]
 
 #[cfg(test)]
@@ -51,7 +51,5 @@ mod sent;
 mod session;
 #[cfg(test)]
 mod votes;
-#[cfg(test)]
-mod waiting;
 #[cfg(test)]
 mod worlds;

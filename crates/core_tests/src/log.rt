@@ -25,7 +25,7 @@ fn slot(rt: &impl Abort, place: usize) -> Slot {
 }
 
 // Learns a table's entries in the slots 1 and on, the last one first, but for the first `from`.
-fn learn_behind<M: Machine<Body = Number>>(
+fn learn_after<M: Machine<Body = Number>>(
     rt: &impl Abort,
     log: &mut AppliedLog<M>,
     table: &[u32],
@@ -40,10 +40,10 @@ fn learn_behind<M: Machine<Body = Number>>(
 // A Boot, then Items 1, 1 again, 3, 2 and 3.
 const OUT_OF_ORDER: [u32; 6] = [0, 1, 1, 3, 2, 3];
 
-// The slot that is applied, whether its entry took effect, and the sum that was said; nothing where none is learned.
+// The slot that is applied, whether its entry took effect, and the sum that was said; `None` if none is learned.
 type Told = Option<(u64, bool, Option<u64>)>;
 
-// What is told of the next step.
+// Returns what the next step shows.
 fn step(rt: &impl Abort, log: &mut AppliedLog<Count>) -> Told {
     let Some(step) = log.advance().expect(rt, "a step or none") else {
         return None;
@@ -62,7 +62,7 @@ fn goes_on(rt: &impl Abort, log: &mut AppliedLog<Count>, rows: &[Told]) {
     }
 }
 
-// What is told of the entries out of order, and then nothing.
+// What the entries out of order lead to, and then nothing.
 const SKIPPED: &[Told] = &[
     Some((1, true, None)),
     Some((2, true, Some(10))),
@@ -73,11 +73,11 @@ const SKIPPED: &[Told] = &[
     None,
 ];
 
-// Goes along a log by reference: who owns it drops it at each of its exits.
+// Goes along a log by reference: a function that owns it drops it at each of its exits.
 fn skips(rt: &impl Abort, log: &mut AppliedLog<Count>) {
-    learn_behind(rt, log, &OUT_OF_ORDER, 1);
+    learn_after(rt, log, &OUT_OF_ORDER, 1);
     goes_on(rt, log, &[None]);
-    learn_behind(rt, log, &[0], 0);
+    learn_after(rt, log, &[0], 0);
     goes_on(rt, log, SKIPPED);
     check_eq!(rt; (log.machine().sum(), log.applied().len()), (60, 6));
 }
@@ -88,7 +88,7 @@ fn items_out_of_order_are_skipped(rt: HostRuntime) {
     skips(&rt, &mut log);
 }
 
-// The number of the fault with which an entry is not learned in a slot, by its place from 0; 0 where it is.
+// Returns the number of the fault with which an entry is not learned in a slot, by its place from 0; 0 if it is learned.
 fn refusal<M: Machine<Body = Number>>(
     rt: &impl Abort,
     log: &mut AppliedLog<M>,
@@ -102,7 +102,7 @@ fn refusal<M: Machine<Body = Number>>(
 }
 
 fn keeps_entries(rt: &impl Abort, log: &mut AppliedLog<Count>) {
-    learn_behind(rt, log, &[0, 1], 0);
+    learn_after(rt, log, &[0, 1], 0);
     goes_on(rt, log, &[Some((1, true, None))]);
     // another entry, in a slot that is applied and in one that is not, and the same again
     for (place, seq, number) in [(0, 1, 46), (1, 2, 46), (0, 0, 0), (1, 1, 0)] {
@@ -125,7 +125,7 @@ fn faults_have_their_numbers(rt: HostRuntime) {
     check_eq!(&rt; LearnFault::Failed.number(), 48);
 }
 
-// Advances so many times, and tells how often the log answered with a step.
+// Advances `times` times, and returns how often the log returned a step.
 fn steps(log: &mut AppliedLog<Refuses>, times: u32) -> u32 {
     let mut told = 0u32;
     for _turn in 0..times {
@@ -136,7 +136,7 @@ fn steps(log: &mut AppliedLog<Refuses>, times: u32) -> u32 {
     told
 }
 
-// The number of the fault with which the log does not advance; 0 where it does.
+// Returns the number of the fault with which the log does not advance; 0 if it advances.
 fn stop(log: &mut AppliedLog<Refuses>) -> u8 {
     match log.advance() {
         Ok(_) => 0,
@@ -145,7 +145,7 @@ fn stop(log: &mut AppliedLog<Refuses>) -> u8 {
 }
 
 fn spoils(rt: &impl Abort, log: &mut AppliedLog<Refuses>) {
-    learn_behind(rt, log, &OUT_OF_ORDER, 0);
+    learn_after(rt, log, &OUT_OF_ORDER, 0);
     // of the six slots the first, second and fifth take effect; the sixth is refused
     check_eq!(rt; steps(log, 5), 5);
     for _again in 0..3u8 {
@@ -161,28 +161,30 @@ fn a_machine_that_refuses_spoils_the_log(rt: HostRuntime) {
     spoils(&rt, &mut log);
 }
 
-// An entry, of which node and boot, and whether it takes effect.
-type Row = (&'static str, u8, u64, bool);
+// An entry without a body: of a node in its boot.
+#[derive(Clone, Copy)]
+enum Taken {
+    Noop,
+    Boot(u8, u64),
+    Lost(u8, u64),
+}
 
-// Entries one behind the other.
-const TAKEN: &[Row] = &[
-    ("noop", 0, 0, false),
-    ("boot", 3, 2, true),
-    ("boot", 3, 2, false),
-    ("lost", 3, 1, false),
-    ("lost", 3, 2, true),
-    ("boot", 255, 9, true),
+// Entries, one after the other, and whether each takes effect.
+const TAKEN: &[(Taken, bool)] = &[
+    (Taken::Noop, false),
+    (Taken::Boot(3, 2), true),
+    (Taken::Boot(3, 2), false),
+    (Taken::Lost(3, 1), false),
+    (Taken::Lost(3, 2), true),
+    (Taken::Boot(255, 9), true),
 ];
 
-fn taken(row: &Row) -> Entry<Number> {
-    let (word, node, boot, _) = *row;
-    if word == "noop" {
-        return Entry::Noop;
+fn entry_of(taken: &Taken) -> Entry<Number> {
+    match *taken {
+        Taken::Noop => Entry::Noop,
+        Taken::Boot(node, boot) => Entry::Boot { node, boot },
+        Taken::Lost(node, boot) => Entry::Lost { node, boot },
     }
-    if word == "boot" {
-        return Entry::Boot { node, boot };
-    }
-    Entry::Lost { node, boot }
 }
 
 // The first item of node 255.
@@ -196,15 +198,15 @@ fn item() -> Entry<Number> {
     }
 }
 
-// Whether the entry of the row takes effect.
-fn takes(roll: &mut Roll, row: &Row) -> bool {
-    roll.take(&taken(row))
+// Whether the entry takes effect.
+fn takes(roll: &mut Roll, taken: &Taken) -> bool {
+    roll.take(&entry_of(taken))
 }
 
 fn goes_along(rt: &impl Abort, roll: &mut Roll) {
     check_eq!(rt; roll.live(3), None);
-    for row in TAKEN {
-        check_eq!(rt; takes(roll, row), row.3);
+    for (taken, effective) in TAKEN {
+        check_eq!(rt; takes(roll, taken), *effective);
     }
     check_eq!(rt; (roll.live(3), roll.live(255)), (None, Some(9)));
 }

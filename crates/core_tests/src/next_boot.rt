@@ -1,4 +1,4 @@
-// One session through three nodes, whose machines tell each sum also to the transport of that number in its node's next boot.
+// One session through three nodes, whose machines say each sum also to the transport of that number in its node's next boot.
 use crate::check::Check;
 use crate::packet_rows::{FIRST, FIVE, Held, SECOND, SIX};
 use crate::schedule::{SESSION, Turn};
@@ -20,7 +20,7 @@ fn foretelling(rt: &impl Abort, alloc: Global) -> World<Foretells> {
     )
 }
 
-// What the transport of node 2 was told in boot 1, and the one with its number in boot 2.
+// What was said to the transport of node 2 in boot 1, and to the one with its number in boot 2.
 fn told(rt: &impl Abort, world: &World<Foretells>, first: &[u64], second: &[u64]) {
     check!(rt; was_told(world, 2, 1, 1, first));
     check!(rt; was_told(world, 2, 2, 1, second));
@@ -32,11 +32,11 @@ fn session(rt: &impl Abort, alloc: Global, world: &mut World<Foretells>) {
 }
 
 // The log of each node then: node 2 forwards its next Boot to the leader of its promise.
-const LOG_AFTER: &[Held] = &[FIRST, SECOND, FIVE, SIX, ("boot", 2, 2, 0, 0, 0)];
+const LOG_AFTER: &[Held] = &[FIRST, SECOND, FIVE, SIX, Held::Boot(2, 2)];
 
 const BOTH: &[Told] = &[(2, 1, 1, &[5, 11]), (2, 2, 1, &[5, 11])];
 
-const BACK: &[Turn] = &[("crash", 2, 0, 0), ("restart", 2, 0, 0)];
+const BACK: &[Turn] = &[Turn::Crash(2), Turn::Restart(2)];
 
 fn comes_back(rt: &impl Abort, alloc: Global, world: &mut World<Foretells>) {
     session(rt, alloc, world);
@@ -46,7 +46,7 @@ fn comes_back(rt: &impl Abort, alloc: Global, world: &mut World<Foretells>) {
     check!(rt; world.is_up(2));
     check!(rt; has_log(world, 2, &[]));
     told(rt, world, &[5, 11], &[]);
-    check!(rt; turn(rt, world, alloc, &("tick", 2, 0, 0)));
+    check!(rt; turn(rt, world, alloc, &Turn::Tick(2)));
     check!(rt; flush(rt, world, alloc, 38));
     for node in 1..=3 {
         check!(rt; has_log(world, node, LOG_AFTER), node);

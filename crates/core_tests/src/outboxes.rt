@@ -5,10 +5,10 @@ use std::alloc::Global;
 use std::process::Abort;
 use test_checks::check_eq;
 
-// An Ask of node 2, told by its addressee and its slot.
+// An Ask of node 2, by its addressee and its slot.
 type Told = (u8, u64);
 
-// What waits behind the others, and what goes first then; (0, 0) where nothing does.
+// What is put at the end of the queues, and what goes first then; (0, 0) if nothing waits.
 const OLDEST_FIRST: &[(&[Told], Told)] = &[
     (
         &[(3, 1), (1, 2), (2, 3), (3, 4), (9, 5), (0, 6), (1, 7)],
@@ -72,7 +72,7 @@ fn goes_first(
     }
 }
 
-// Whom a packet is taken for, whether it goes or comes back, and which it is; 0 where none waits.
+// Whom a packet is taken for, whether it goes or comes back, and which it is; 0 if none waits.
 const FOR_ONE: &[(u8, bool, u64)] = &[
     (1, false, 2),
     (1, true, 2),

@@ -1,87 +1,102 @@
-// Packets and entries as rows of words and numbers, and those of one session through three nodes.
+// Packets and entries as rows, and those of one session through three nodes.
 use paxos_packets::{Ballot, Body, Entries, Entry, Kind, Packet, Slot, Vote, Votes};
 use std::alloc::Global;
 use std::panic::Expect;
 use std::process::Abort;
 use test_machines::Number;
 
-// An entry: its word, its node, its boot, and an Item's number, transport and body.
-pub type Held = (&'static str, u8, u64, u64, u32, u32);
+// An entry.
+#[derive(Clone, Copy, Debug)]
+pub enum Held {
+    // A node's Boot, in this boot.
+    Boot(u8, u64),
+    // An Item of a node in its boot: its number there, its transport, and its body.
+    Item(u8, u64, u64, u32, u32),
+}
+
+// The kind of a packet.
+#[derive(Clone, Copy, Debug)]
+pub enum Says {
+    Prepare,
+    Promise,
+    Accept,
+    Accepted,
+    Forward,
+}
 
 // A packet: its kind, its sender and its addressee, its ballot by round and node, its slot (or the first that is asked for), and its entries.
-pub type Mail = (&'static str, u8, u8, (u64, u8), u64, &'static [Held]);
+pub type Mail = (Says, u8, u8, (u64, u8), u64, &'static [Held]);
 
-pub const FIRST: Held = ("boot", 1, 1, 0, 0, 0);
+pub const FIRST: Held = Held::Boot(1, 1);
 
-pub const SECOND: Held = ("boot", 2, 1, 0, 0, 0);
+pub const SECOND: Held = Held::Boot(2, 1);
 
-pub const FIVE: Held = ("item", 2, 1, 1, 1, 5);
+pub const FIVE: Held = Held::Item(2, 1, 1, 1, 5);
 
-pub const SIX: Held = ("item", 2, 1, 2, 1, 6);
+pub const SIX: Held = Held::Item(2, 1, 2, 1, 6);
 
-// The log of each node behind the session.
+// The log of each node after the session.
 pub const LOG: &[Held] = &[FIRST, SECOND, FIVE, SIX];
 
 // The packets of the session, in the order in which they are sent.
 pub const PACKETS: &[Mail] = &[
     // node 1 begins a ballot
-    ("prepare", 1, 2, (1, 1), 1, &[]),
-    ("prepare", 1, 3, (1, 1), 1, &[]),
+    (Says::Prepare, 1, 2, (1, 1), 1, &[]),
+    (Says::Prepare, 1, 3, (1, 1), 1, &[]),
     // both promise it
-    ("promise", 2, 1, (1, 1), 0, &[]),
-    ("promise", 3, 1, (1, 1), 0, &[]),
+    (Says::Promise, 2, 1, (1, 1), 0, &[]),
+    (Says::Promise, 3, 1, (1, 1), 0, &[]),
     // the first promise makes a majority, and node 1 proposes its Boot
-    ("accept", 1, 2, (1, 1), 1, &[FIRST]),
-    ("accept", 1, 3, (1, 1), 1, &[FIRST]),
-    ("accepted", 1, 2, (1, 1), 1, &[FIRST]),
-    ("accepted", 1, 3, (1, 1), 1, &[FIRST]),
-    ("accepted", 2, 1, (1, 1), 1, &[FIRST]),
-    ("accepted", 2, 3, (1, 1), 1, &[FIRST]),
-    ("accepted", 3, 1, (1, 1), 1, &[FIRST]),
-    ("accepted", 3, 2, (1, 1), 1, &[FIRST]),
+    (Says::Accept, 1, 2, (1, 1), 1, &[FIRST]),
+    (Says::Accept, 1, 3, (1, 1), 1, &[FIRST]),
+    (Says::Accepted, 1, 2, (1, 1), 1, &[FIRST]),
+    (Says::Accepted, 1, 3, (1, 1), 1, &[FIRST]),
+    (Says::Accepted, 2, 1, (1, 1), 1, &[FIRST]),
+    (Says::Accepted, 2, 3, (1, 1), 1, &[FIRST]),
+    (Says::Accepted, 3, 1, (1, 1), 1, &[FIRST]),
+    (Says::Accepted, 3, 2, (1, 1), 1, &[FIRST]),
     // node 2 takes 5, then 6, and forwards all that is pending
-    ("forward", 2, 1, (0, 0), 0, &[SECOND, FIVE]),
-    ("forward", 2, 1, (0, 0), 0, &[SECOND, FIVE, SIX]),
+    (Says::Forward, 2, 1, (0, 0), 0, &[SECOND, FIVE]),
+    (Says::Forward, 2, 1, (0, 0), 0, &[SECOND, FIVE, SIX]),
     // of the first node 1 proposes both entries, of the second what is left
-    ("accept", 1, 2, (1, 1), 2, &[SECOND]),
-    ("accept", 1, 3, (1, 1), 2, &[SECOND]),
-    ("accepted", 1, 2, (1, 1), 2, &[SECOND]),
-    ("accepted", 1, 3, (1, 1), 2, &[SECOND]),
-    ("accept", 1, 2, (1, 1), 3, &[FIVE]),
-    ("accept", 1, 3, (1, 1), 3, &[FIVE]),
-    ("accepted", 1, 2, (1, 1), 3, &[FIVE]),
-    ("accepted", 1, 3, (1, 1), 3, &[FIVE]),
-    ("accept", 1, 2, (1, 1), 4, &[SIX]),
-    ("accept", 1, 3, (1, 1), 4, &[SIX]),
-    ("accepted", 1, 2, (1, 1), 4, &[SIX]),
-    ("accepted", 1, 3, (1, 1), 4, &[SIX]),
+    (Says::Accept, 1, 2, (1, 1), 2, &[SECOND]),
+    (Says::Accept, 1, 3, (1, 1), 2, &[SECOND]),
+    (Says::Accepted, 1, 2, (1, 1), 2, &[SECOND]),
+    (Says::Accepted, 1, 3, (1, 1), 2, &[SECOND]),
+    (Says::Accept, 1, 2, (1, 1), 3, &[FIVE]),
+    (Says::Accept, 1, 3, (1, 1), 3, &[FIVE]),
+    (Says::Accepted, 1, 2, (1, 1), 3, &[FIVE]),
+    (Says::Accepted, 1, 3, (1, 1), 3, &[FIVE]),
+    (Says::Accept, 1, 2, (1, 1), 4, &[SIX]),
+    (Says::Accept, 1, 3, (1, 1), 4, &[SIX]),
+    (Says::Accepted, 1, 2, (1, 1), 4, &[SIX]),
+    (Says::Accepted, 1, 3, (1, 1), 4, &[SIX]),
     // the others vote, slot by slot
-    ("accepted", 2, 1, (1, 1), 2, &[SECOND]),
-    ("accepted", 2, 3, (1, 1), 2, &[SECOND]),
-    ("accepted", 3, 1, (1, 1), 2, &[SECOND]),
-    ("accepted", 3, 2, (1, 1), 2, &[SECOND]),
-    ("accepted", 2, 1, (1, 1), 3, &[FIVE]),
-    ("accepted", 2, 3, (1, 1), 3, &[FIVE]),
-    ("accepted", 3, 1, (1, 1), 3, &[FIVE]),
-    ("accepted", 3, 2, (1, 1), 3, &[FIVE]),
-    ("accepted", 2, 1, (1, 1), 4, &[SIX]),
-    ("accepted", 2, 3, (1, 1), 4, &[SIX]),
-    ("accepted", 3, 1, (1, 1), 4, &[SIX]),
-    ("accepted", 3, 2, (1, 1), 4, &[SIX]),
+    (Says::Accepted, 2, 1, (1, 1), 2, &[SECOND]),
+    (Says::Accepted, 2, 3, (1, 1), 2, &[SECOND]),
+    (Says::Accepted, 3, 1, (1, 1), 2, &[SECOND]),
+    (Says::Accepted, 3, 2, (1, 1), 2, &[SECOND]),
+    (Says::Accepted, 2, 1, (1, 1), 3, &[FIVE]),
+    (Says::Accepted, 2, 3, (1, 1), 3, &[FIVE]),
+    (Says::Accepted, 3, 1, (1, 1), 3, &[FIVE]),
+    (Says::Accepted, 3, 2, (1, 1), 3, &[FIVE]),
+    (Says::Accepted, 2, 1, (1, 1), 4, &[SIX]),
+    (Says::Accepted, 2, 3, (1, 1), 4, &[SIX]),
+    (Says::Accepted, 3, 1, (1, 1), 4, &[SIX]),
+    (Says::Accepted, 3, 2, (1, 1), 4, &[SIX]),
 ];
 
-// The entry of a row.
+// Returns the entry of a row.
 pub fn entry_of(held: &Held) -> Entry<Number> {
-    let (word, node, boot, seq, transport, body) = *held;
-    if word == "boot" {
-        return Entry::Boot { node, boot };
-    }
-    Entry::Item {
-        node,
-        boot,
-        seq,
-        transport,
-        body: Number::new(body),
+    match *held {
+        Held::Boot(node, boot) => Entry::Boot { node, boot },
+        Held::Item(node, boot, seq, transport, body) => Entry::Item {
+            node,
+            boot,
+            seq,
+            transport,
+            body: Number::new(body),
+        },
     }
 }
 
@@ -108,34 +123,26 @@ fn vote_of(rt: &impl Abort, mail: &Mail) -> Vote<Number> {
     }
 }
 
-// What a packet with a vote says.
-fn kind_of_vote(rt: &impl Abort, mail: &Mail) -> Kind<Number> {
-    let vote = vote_of(rt, mail);
-    if mail.0 == "accept" {
-        return Kind::Accept { vote };
-    }
-    Kind::Accepted { vote }
-}
-
-// What a packet says.
+// Returns what a packet says.
 fn kind_of(rt: &impl Abort, alloc: Global, mail: &Mail) -> Kind<Number> {
-    let (word, _, _, (round, node), first, held) = *mail;
+    let (says, _, _, (round, node), first, held) = *mail;
     let ballot = Ballot { round, node };
-    if word == "prepare" {
-        return Kind::Prepare { ballot, first };
-    }
-    if word == "promise" {
-        return Kind::Promise {
+    match says {
+        Says::Prepare => Kind::Prepare { ballot, first },
+        Says::Promise => Kind::Promise {
             ballot,
             votes: Votes::new(alloc),
-        };
-    }
-    if word == "forward" {
-        return Kind::Forward {
+        },
+        Says::Accept => Kind::Accept {
+            vote: vote_of(rt, mail),
+        },
+        Says::Accepted => Kind::Accepted {
+            vote: vote_of(rt, mail),
+        },
+        Says::Forward => Kind::Forward {
             entries: entries_of(rt, alloc, held),
-        };
+        },
     }
-    kind_of_vote(rt, mail)
 }
 
 // The packet of a row.

@@ -13,7 +13,7 @@ use std::process::Abort;
 use test_checks::{check, check_eq};
 use test_machines::Number;
 
-// A body with memory of its own.
+// A body that allocates.
 #[derive(Drop)]
 struct Text {
     octets: Vec<u8>,
@@ -281,7 +281,7 @@ fn shared_bodies_are_copied(rt: HostRuntime) {
     bodies_are_copied(&rt, rt.alloc(), &body, &other);
 }
 
-// A second holder of these octets, whose first is let go.
+// Returns a second holder of these octets, whose first is dropped.
 fn second_holder(rt: &impl Abort, alloc: Global, octets: &[u8]) -> Shared<Text> {
     let first = shared_of(rt, alloc, octets);
     first.share().expect(rt, "room for a second holder")
@@ -372,7 +372,7 @@ fn changes_are_copied(rt: HostRuntime) {
 }
 
 #[test]
-fn want_of_memory_is_49(rt: HostRuntime) {
+fn out_of_memory_is_49(rt: HostRuntime) {
     check_eq!(&rt; Memory.number(), 49);
     let told = format!(in rt.alloc(); "{}", Memory).expect(&rt, "room for a text");
     check_eq!(&rt; told.as_str(), "no memory for a copy");

@@ -6,93 +6,134 @@ use std::process::Abort;
 use test_checks::check;
 use test_machines::Number;
 
-// A word and its numbers. Of an event: the node that it is of, or the sender of what is delivered; of a packet: the node that it is for.
-// Then a ballot, a slot (or the first that is asked for), and an entry.
-type Said = (&'static str, u8, u64, u64, u64);
+// A ballot: its round, and the node that owns it.
+type Owned = (u64, u8);
 
-// What happens to a node, or what it is asked; how many entries it applies, or its fault, or its answer; how long its log is then; what it
-// sends.
-type Row = (Said, u64, u64, &'static [Said]);
+// An entry.
+#[derive(Clone, Copy)]
+enum Held {
+    Noop,
+    // The Boot of a node.
+    Boot(u8),
+    // The first act of node 2, with body 7.
+    Act,
+    // The Lost of a node.
+    Lost(u8),
+}
 
-const NOTHING: &[Said] = &[];
+// What a packet says.
+#[derive(Clone, Copy)]
+enum Says {
+    // The ballot, and the first slot that it asks for.
+    Prepare(Owned, u64),
+    // The ballot, and the vote that it reports, in ballot (1, 2): its slot and entry.
+    Promise(Owned, Option<(u64, Held)>),
+    // The ballot, the slot and the entry.
+    Accept(Owned, u64, Held),
+    Accepted(Owned, u64, Held),
+    // The first slot that it asks for.
+    Ask(u64),
+    // The slot and the entry.
+    Learned(u64, Held),
+    // Two entries.
+    Forward(Held, Held),
+}
+
+// A packet that is sent: the node that it is for, and what it says.
+type Mail = (u8, Says);
+
+// What happens to a node.
+#[derive(Clone, Copy)]
+enum Happens {
+    // Of these nodes.
+    Tick(u8),
+    Start(u8),
+    Take(u8),
+    // A packet reaches it: its sender, and what it says.
+    Hears(u8, Says),
+}
+
+// What happens to a node, or what it is asked.
+enum Step {
+    // An event: how many entries the node applies, or its fault; and what it sends.
+    Event(Happens, Result<u64, NodeFault>, &'static [Mail]),
+    // The node takes this many acts.
+    TakesMany(u64),
+    IsUp(bool),
+    Promised(Option<Owned>),
+    // How many votes it has.
+    Votes(usize),
+    // Whether entries of it are pending.
+    Waits(bool),
+}
+
+// A step, and how long the node's log is then.
+type Row = (Step, u64);
+
+fn ballot_of(of: Owned) -> Ballot {
+    let (round, node) = of;
+    Ballot { round, node }
+}
+
+fn promised_of(of: Option<Owned>) -> Option<Ballot> {
+    match of {
+        Some(of) => Some(ballot_of(of)),
+        None => None,
+    }
+}
+
+const NOTHING: &[Mail] = &[];
 
 // What the first node sends as it begins its first ballot, and once that has a majority.
-const PREPARES: &[Said] = &[("prepare", 2, 11, 1, 0), ("prepare", 3, 11, 1, 0)];
+const PREPARES: &[Mail] = &[(2, Says::Prepare((1, 1), 1)), (3, Says::Prepare((1, 1), 1))];
 
-const PROPOSES: &[Said] = &[
-    ("accept", 2, 11, 1, 1),
-    ("accept", 3, 11, 1, 1),
-    ("accepted", 2, 11, 1, 1),
-    ("accepted", 3, 11, 1, 1),
+const PROPOSES: &[Mail] = &[
+    (2, Says::Accept((1, 1), 1, Held::Boot(1))),
+    (3, Says::Accept((1, 1), 1, Held::Boot(1))),
+    (2, Says::Accepted((1, 1), 1, Held::Boot(1))),
+    (3, Says::Accepted((1, 1), 1, Held::Boot(1))),
 ];
 
-// The ballot of a number that ends in its node.
-fn ballot_of(number: u64) -> Ballot {
-    Ballot {
-        round: number / 10,
-        node: (number % 10) as u8,
+fn entry_of(held: Held) -> Entry<Number> {
+    match held {
+        Held::Noop => Entry::Noop,
+        Held::Boot(node) => Entry::Boot { node, boot: 1 },
+        Held::Act => Entry::Item {
+            node: 2,
+            boot: 1,
+            seq: 1,
+            transport: 1,
+            body: Number::new(7),
+        },
+        Held::Lost(node) => Entry::Lost { node, boot: 1 },
     }
-}
-
-// What is promised: nothing for 0, else this ballot.
-fn promised_of(number: u64) -> Option<Ballot> {
-    if number == 0 {
-        return None;
-    }
-    Some(ballot_of(number))
-}
-
-// The first act of node 2, with body 7.
-fn item() -> Entry<Number> {
-    Entry::Item {
-        node: 2,
-        boot: 1,
-        seq: 1,
-        transport: 1,
-        body: Number::new(7),
-    }
-}
-
-// A Noop for 0, the Boot of a node below 10, above 90 the Lost of a node, and else the act.
-fn entry_of(number: u64) -> Entry<Number> {
-    let node = (number % 10) as u8;
-    if number == 0 {
-        return Entry::Noop;
-    }
-    if number < 10 {
-        return Entry::Boot { node, boot: 1 };
-    }
-    if number < 90 {
-        return item();
-    }
-    Entry::Lost { node, boot: 1 }
 }
 
 fn slot_of(rt: &impl Abort, number: u64) -> Slot {
     Slot::new(number).expect(rt, "a slot")
 }
 
-fn vote_of(rt: &impl Abort, ballot: u64, slot: u64, entry: u64) -> Vote<Number> {
+fn vote_of(rt: &impl Abort, ballot: Owned, slot: u64, held: Held) -> Vote<Number> {
     let slot = slot_of(rt, slot);
     Vote {
         slot,
         ballot: ballot_of(ballot),
-        entry: entry_of(entry),
+        entry: entry_of(held),
     }
 }
 
-// No votes where the slot is 0, else one for this entry in ballot (1, 2).
-fn votes_of(rt: &impl Abort, alloc: Global, slot: u64, entry: u64) -> Votes<Number> {
+// The vote that a promise reports, if it reports one.
+fn votes_of(rt: &impl Abort, alloc: Global, reported: Option<(u64, Held)>) -> Votes<Number> {
     let mut votes = Votes::new(alloc);
-    if slot != 0 {
-        let vote = vote_of(rt, 12, slot, entry);
+    if let Some((slot, held)) = reported {
+        let vote = vote_of(rt, (1, 2), slot, held);
         votes.put(vote).expect(rt, "room for a vote");
     }
     votes
 }
 
 // Two entries.
-fn entries_of(rt: &impl Abort, alloc: Global, one: u64, other: u64) -> Entries<Number> {
+fn entries_of(rt: &impl Abort, alloc: Global, one: Held, other: Held) -> Entries<Number> {
     let mut entries = Entries::new(alloc);
     entries.push(entry_of(one)).expect(rt, "room for an entry");
     entries
@@ -101,69 +142,50 @@ fn entries_of(rt: &impl Abort, alloc: Global, one: u64, other: u64) -> Entries<N
     entries
 }
 
-// What a packet says of a vote, where the word says so.
-fn kind_of_vote(rt: &impl Abort, said: &Said) -> Kind<Number> {
-    let (word, _, ballot, slot, entry) = *said;
-    let vote = vote_of(rt, ballot, slot, entry);
-    if word == "accept" {
-        return Kind::Accept { vote };
-    }
-    Kind::Accepted { vote }
-}
-
 // What a packet says.
-fn kind_of(rt: &impl Abort, alloc: Global, said: &Said) -> Kind<Number> {
-    let (word, _, ballot, slot, entry) = *said;
-    if word == "prepare" {
-        return Kind::Prepare {
+fn kind_of(rt: &impl Abort, alloc: Global, says: Says) -> Kind<Number> {
+    match says {
+        Says::Prepare(ballot, first) => Kind::Prepare {
             ballot: ballot_of(ballot),
-            first: slot,
-        };
-    }
-    if word == "promise" {
-        return Kind::Promise {
+            first,
+        },
+        Says::Promise(ballot, reported) => Kind::Promise {
             ballot: ballot_of(ballot),
-            votes: votes_of(rt, alloc, slot, entry),
-        };
-    }
-    if word == "ask" {
-        return Kind::Ask { first: slot };
-    }
-    if word == "learned" {
-        return Kind::Learned {
+            votes: votes_of(rt, alloc, reported),
+        },
+        Says::Accept(ballot, slot, held) => Kind::Accept {
+            vote: vote_of(rt, ballot, slot, held),
+        },
+        Says::Accepted(ballot, slot, held) => Kind::Accepted {
+            vote: vote_of(rt, ballot, slot, held),
+        },
+        Says::Ask(first) => Kind::Ask { first },
+        Says::Learned(slot, held) => Kind::Learned {
             slot: slot_of(rt, slot),
-            entry: entry_of(entry),
-        };
+            entry: entry_of(held),
+        },
+        Says::Forward(one, other) => Kind::Forward {
+            entries: entries_of(rt, alloc, one, other),
+        },
     }
-    if word == "forward" {
-        return Kind::Forward {
-            entries: entries_of(rt, alloc, slot, entry),
-        };
-    }
-    kind_of_vote(rt, said)
 }
 
-// What happens to the node with this number: a packet reaches it, where no other event has the word.
-fn event_of(rt: &impl Abort, alloc: Global, me: u8, said: &Said) -> Event<Number> {
-    let (word, node, _, _, _) = *said;
-    if word == "tick" {
-        return Event::Tick { node };
-    }
-    if word == "start" {
-        return Event::Start { node };
-    }
-    if word == "take" {
-        return Event::Take {
+// What happens to the node with this number.
+fn event_of(rt: &impl Abort, alloc: Global, me: u8, happens: Happens) -> Event<Number> {
+    match happens {
+        Happens::Tick(node) => Event::Tick { node },
+        Happens::Start(node) => Event::Start { node },
+        Happens::Take(node) => Event::Take {
             node,
             transport: 1,
             body: Number::new(7),
-        };
-    }
-    Event::Deliver {
-        packet: Packet {
-            sender: node,
-            addressee: me,
-            kind: kind_of(rt, alloc, said),
+        },
+        Happens::Hears(sender, says) => Event::Deliver {
+            packet: Packet {
+                sender,
+                addressee: me,
+                kind: kind_of(rt, alloc, says),
+            },
         },
     }
 }
@@ -179,9 +201,10 @@ fn turn(
     Ok((applied.as_slice().len() as u64, log, packets))
 }
 
-fn is_sent(rt: &impl Abort, alloc: Global, me: u8, packet: &Packet<Number>, wanted: &Said) -> bool {
-    let kind = kind_of(rt, alloc, wanted);
-    packet.sender == me && packet.addressee == wanted.1 && packet.kind.same(&kind)
+fn is_sent(rt: &impl Abort, alloc: Global, me: u8, packet: &Packet<Number>, wanted: &Mail) -> bool {
+    let (addressee, says) = *wanted;
+    let kind = kind_of(rt, alloc, says);
+    packet.sender == me && packet.addressee == addressee && packet.kind.same(&kind)
 }
 
 fn are_sent(
@@ -189,7 +212,7 @@ fn are_sent(
     alloc: Global,
     me: u8,
     packets: &[Packet<Number>],
-    wanted: &[Said],
+    wanted: &[Mail],
 ) -> bool {
     if packets.len() != wanted.len() {
         return false;
@@ -202,68 +225,59 @@ fn are_sent(
     true
 }
 
-// The event happens: what it applies or its fault, the length of the log that it tells, and whether this is sent.
-fn happens(
+// The event happens. Returns whether it has this outcome, the log is this long then, and this is sent.
+fn comes_so(
     rt: &impl Abort,
     alloc: Global,
     me: u8,
     node: &mut Node<Number>,
     event: &Event<Number>,
-    wanted: &[Said],
-) -> (u64, u64, bool) {
+    outcome: Result<u64, NodeFault>,
+    length: u64,
+    wanted: &[Mail],
+) -> bool {
     match turn(node, event) {
-        Ok((applied, log, packets)) => (
-            applied,
-            log,
-            are_sent(rt, alloc, me, packets.as_slice(), wanted),
-        ),
-        Err(fault) => (fault.number() as u64, node.applied(), wanted.is_empty()),
+        Ok((applied, log, packets)) => {
+            outcome == Ok(applied)
+                && log == length
+                && are_sent(rt, alloc, me, packets.as_slice(), wanted)
+        },
+        Err(fault) => outcome == Err(fault) && wanted.is_empty(),
     }
 }
 
-// What the node answers, where it is asked.
-fn asked(node: &Node<Number>, said: &Said) -> Option<u64> {
-    let (word, _, ballot, _, _) = *said;
-    if word == "is up" {
-        return Some(node.is_up() as u64);
-    }
-    if word == "promised" {
-        return Some((node.promised() == promised_of(ballot)) as u64);
-    }
-    if word == "votes" {
-        return Some(node.votes().len() as u64);
-    }
-    if word == "waits" {
-        return Some(node.has_pending() as u64);
-    }
-    None
-}
-
-// The node takes so many acts.
+// The node takes this many acts.
 fn fill(rt: &impl Abort, alloc: Global, me: u8, node: &mut Node<Number>, acts: u64) {
-    let take = event_of(rt, alloc, me, &("take", me, 0, 0, 0));
+    let take = event_of(rt, alloc, me, Happens::Take(me));
     for _ in 0..acts {
         turn(node, &take).expect(rt, "room for an act");
     }
 }
 
-// Whether a row is as it says.
-fn step(rt: &impl Abort, alloc: Global, me: u8, node: &mut Node<Number>, row: &Row) -> bool {
-    let (said, answer, log, wanted) = row;
-    if let Some(given) = asked(node, said) {
-        return given == *answer && node.applied() == *log;
-    }
-    if said.0 == "takes" {
-        fill(rt, alloc, me, node, *answer);
-        return node.applied() == *log;
-    }
-    let event = event_of(rt, alloc, me, said);
-    let (given, length, is_so) = happens(rt, alloc, me, node, &event, wanted);
-    is_so && given == *answer && length == *log && node.applied() == *log
+fn is_filled(rt: &impl Abort, alloc: Global, me: u8, node: &mut Node<Number>, acts: u64) -> bool {
+    fill(rt, alloc, me, node, acts);
+    true
+}
+
+// Takes the step of a row. Returns whether it comes as the row says.
+fn take(rt: &impl Abort, alloc: Global, me: u8, node: &mut Node<Number>, row: &Row) -> bool {
+    let (step, length) = row;
+    let is_so = match step {
+        Step::Event(event, outcome, sent) => {
+            let event = event_of(rt, alloc, me, *event);
+            comes_so(rt, alloc, me, node, &event, *outcome, *length, sent)
+        },
+        Step::TakesMany(acts) => is_filled(rt, alloc, me, node, *acts),
+        Step::IsUp(wanted) => node.is_up() == *wanted,
+        Step::Promised(wanted) => node.promised() == promised_of(*wanted),
+        Step::Votes(wanted) => node.votes().len() == *wanted,
+        Step::Waits(wanted) => node.has_pending() == *wanted,
+    };
+    is_so && node.applied() == *length
 }
 
 // The node with this number of three, under this promise.
-fn node_of(rt: &impl Abort, alloc: Global, me: u8, promised: u64) -> Node<Number> {
+fn node_of(rt: &impl Abort, alloc: Global, me: u8, promised: Option<Owned>) -> Node<Number> {
     let members = Members::new(3).expect(rt, "3 members");
     let rows = Rows {
         boot: 1,
@@ -274,181 +288,301 @@ fn node_of(rt: &impl Abort, alloc: Global, me: u8, promised: u64) -> Node<Number
 }
 
 fn are_so(rt: &impl Abort, alloc: Global, me: u8, node: &mut Node<Number>, rows: &[Row]) {
-    for row in rows {
-        check!(rt; step(rt, alloc, me, node, row), row.0.0);
+    for (place, row) in rows.iter().enumerate() {
+        check!(rt; take(rt, alloc, me, node, row), place);
     }
 }
 
 // A node with this number, under this promise, goes as these rows say.
-fn check(rt: &impl Abort, alloc: Global, me: u8, promised: u64, rows: &[Row]) {
+fn check(rt: &impl Abort, alloc: Global, me: u8, promised: Option<Owned>, rows: &[Row]) {
     let mut node = node_of(rt, alloc, me, promised);
     are_so(rt, alloc, me, &mut node, rows);
 }
 
 // What the first node asks for while nothing is applied.
-const ASKS: &[Said] = &[("ask", 2, 0, 1, 0), ("ask", 3, 0, 1, 0)];
+const ASKS: &[Mail] = &[(2, Says::Ask(1)), (3, Says::Ask(1))];
 
 const FIRST: &[Row] = &[
-    (("tick", 1, 0, 0, 0), 0, 0, ASKS),
-    (("tick", 2, 0, 0, 0), 0, 0, NOTHING),
-    (("start", 1, 0, 0, 0), 0, 0, PREPARES),
-    (("promised", 0, 11, 0, 0), 1, 0, NOTHING),
-    (("promise", 2, 11, 0, 0), 0, 0, PROPOSES),
-    (("votes", 0, 0, 0, 0), 1, 0, NOTHING),
-    (("waits", 0, 0, 0, 0), 1, 0, NOTHING),
-    (("accepted", 2, 11, 1, 1), 1, 1, NOTHING),
-    (("waits", 0, 0, 0, 0), 0, 1, NOTHING),
-    (("learned", 2, 0, 1, 0), 55, 1, NOTHING),
+    (Step::Event(Happens::Tick(1), Ok(0), ASKS), 0),
+    (Step::Event(Happens::Tick(2), Ok(0), NOTHING), 0),
+    (Step::Event(Happens::Start(1), Ok(0), PREPARES), 0),
+    (Step::Promised(Some((1, 1))), 0),
+    (
+        Step::Event(
+            Happens::Hears(2, Says::Promise((1, 1), None)),
+            Ok(0),
+            PROPOSES,
+        ),
+        0,
+    ),
+    (Step::Votes(1), 0),
+    (Step::Waits(true), 0),
+    (
+        Step::Event(
+            Happens::Hears(2, Says::Accepted((1, 1), 1, Held::Boot(1))),
+            Ok(1),
+            NOTHING,
+        ),
+        1,
+    ),
+    (Step::Waits(false), 1),
+    (
+        Step::Event(
+            Happens::Hears(2, Says::Learned(1, Held::Noop)),
+            Err(NodeFault::Disagree),
+            NOTHING,
+        ),
+        1,
+    ),
 ];
 
 #[test]
 fn a_first_node_leads_and_learns(rt: HostRuntime) {
-    check(&rt, rt.alloc(), 1, 0, FIRST);
+    check(&rt, rt.alloc(), 1, None, FIRST);
 }
 
 // What a leader sends for the Boot and the act of node 2.
-const FORWARDED: &[Said] = &[
-    ("accept", 2, 11, 2, 2),
-    ("accept", 3, 11, 2, 2),
-    ("accepted", 2, 11, 2, 2),
-    ("accepted", 3, 11, 2, 2),
-    ("accept", 2, 11, 3, 10),
-    ("accept", 3, 11, 3, 10),
-    ("accepted", 2, 11, 3, 10),
-    ("accepted", 3, 11, 3, 10),
+const FORWARDED: &[Mail] = &[
+    (2, Says::Accept((1, 1), 2, Held::Boot(2))),
+    (3, Says::Accept((1, 1), 2, Held::Boot(2))),
+    (2, Says::Accepted((1, 1), 2, Held::Boot(2))),
+    (3, Says::Accepted((1, 1), 2, Held::Boot(2))),
+    (2, Says::Accept((1, 1), 3, Held::Act)),
+    (3, Says::Accept((1, 1), 3, Held::Act)),
+    (2, Says::Accepted((1, 1), 3, Held::Act)),
+    (3, Says::Accepted((1, 1), 3, Held::Act)),
 ];
 
-// What it tells of its log.
-const TELLS: &[Said] = &[("learned", 3, 0, 1, 1)];
+// What it reports of its log.
+const TELLS: &[Mail] = &[(3, Says::Learned(1, Held::Boot(1)))];
 
 // What it sends again as time passes.
-const REPEATS: &[Said] = &[
-    ("accept", 2, 11, 2, 2),
-    ("accept", 3, 11, 2, 2),
-    ("accept", 2, 11, 3, 10),
-    ("accept", 3, 11, 3, 10),
-    ("ask", 2, 0, 2, 0),
-    ("ask", 3, 0, 2, 0),
+const REPEATS: &[Mail] = &[
+    (2, Says::Accept((1, 1), 2, Held::Boot(2))),
+    (3, Says::Accept((1, 1), 2, Held::Boot(2))),
+    (2, Says::Accept((1, 1), 3, Held::Act)),
+    (3, Says::Accept((1, 1), 3, Held::Act)),
+    (2, Says::Ask(2)),
+    (3, Says::Ask(2)),
 ];
 
 const LEADS: &[Row] = &[
-    (("start", 1, 0, 0, 0), 0, 0, PREPARES),
-    (("promise", 2, 11, 0, 0), 0, 0, PROPOSES),
-    (("accepted", 2, 11, 1, 1), 1, 1, NOTHING),
-    (("forward", 2, 0, 2, 10), 0, 1, FORWARDED),
-    (("forward", 2, 0, 2, 10), 0, 1, NOTHING),
-    (("ask", 3, 0, 1, 0), 0, 1, TELLS),
-    (("tick", 1, 0, 0, 0), 0, 1, REPEATS),
+    (Step::Event(Happens::Start(1), Ok(0), PREPARES), 0),
+    (
+        Step::Event(
+            Happens::Hears(2, Says::Promise((1, 1), None)),
+            Ok(0),
+            PROPOSES,
+        ),
+        0,
+    ),
+    (
+        Step::Event(
+            Happens::Hears(2, Says::Accepted((1, 1), 1, Held::Boot(1))),
+            Ok(1),
+            NOTHING,
+        ),
+        1,
+    ),
+    (
+        Step::Event(
+            Happens::Hears(2, Says::Forward(Held::Boot(2), Held::Act)),
+            Ok(0),
+            FORWARDED,
+        ),
+        1,
+    ),
+    (
+        Step::Event(
+            Happens::Hears(2, Says::Forward(Held::Boot(2), Held::Act)),
+            Ok(0),
+            NOTHING,
+        ),
+        1,
+    ),
+    (
+        Step::Event(Happens::Hears(3, Says::Ask(1)), Ok(0), TELLS),
+        1,
+    ),
+    (Step::Event(Happens::Tick(1), Ok(0), REPEATS), 1),
 ];
 
 #[test]
 fn a_leader_proposes_what_is_forwarded(rt: HostRuntime) {
-    check(&rt, rt.alloc(), 1, 0, LEADS);
+    check(&rt, rt.alloc(), 1, None, LEADS);
 }
 
-// What the first node sends as it begins its next ballot, and where a promise reports a vote in slot 3.
-const PREPARES_NEXT: &[Said] = &[("prepare", 2, 21, 1, 0), ("prepare", 3, 21, 1, 0)];
+// What the first node sends as it begins its next ballot, and if a promise reports a vote in slot 3.
+const PREPARES_NEXT: &[Mail] = &[(2, Says::Prepare((2, 1), 1)), (3, Says::Prepare((2, 1), 1))];
 
-const PROPOSES_NEXT: &[Said] = &[
-    ("accept", 2, 21, 1, 0),
-    ("accept", 3, 21, 1, 0),
-    ("accepted", 2, 21, 1, 0),
-    ("accepted", 3, 21, 1, 0),
-    ("accept", 2, 21, 2, 0),
-    ("accept", 3, 21, 2, 0),
-    ("accepted", 2, 21, 2, 0),
-    ("accepted", 3, 21, 2, 0),
-    ("accept", 2, 21, 3, 2),
-    ("accept", 3, 21, 3, 2),
-    ("accepted", 2, 21, 3, 2),
-    ("accepted", 3, 21, 3, 2),
-    ("accept", 2, 21, 4, 1),
-    ("accept", 3, 21, 4, 1),
-    ("accepted", 2, 21, 4, 1),
-    ("accepted", 3, 21, 4, 1),
+const PROPOSES_NEXT: &[Mail] = &[
+    (2, Says::Accept((2, 1), 1, Held::Noop)),
+    (3, Says::Accept((2, 1), 1, Held::Noop)),
+    (2, Says::Accepted((2, 1), 1, Held::Noop)),
+    (3, Says::Accepted((2, 1), 1, Held::Noop)),
+    (2, Says::Accept((2, 1), 2, Held::Noop)),
+    (3, Says::Accept((2, 1), 2, Held::Noop)),
+    (2, Says::Accepted((2, 1), 2, Held::Noop)),
+    (3, Says::Accepted((2, 1), 2, Held::Noop)),
+    (2, Says::Accept((2, 1), 3, Held::Boot(2))),
+    (3, Says::Accept((2, 1), 3, Held::Boot(2))),
+    (2, Says::Accepted((2, 1), 3, Held::Boot(2))),
+    (3, Says::Accepted((2, 1), 3, Held::Boot(2))),
+    (2, Says::Accept((2, 1), 4, Held::Boot(1))),
+    (3, Says::Accept((2, 1), 4, Held::Boot(1))),
+    (2, Says::Accepted((2, 1), 4, Held::Boot(1))),
+    (3, Says::Accepted((2, 1), 4, Held::Boot(1))),
 ];
 
 const REPORTED: &[Row] = &[
-    (("start", 1, 0, 0, 0), 0, 0, PREPARES_NEXT),
-    (("promise", 2, 21, 3, 2), 0, 0, PROPOSES_NEXT),
-    (("votes", 0, 0, 0, 0), 4, 0, NOTHING),
+    (Step::Event(Happens::Start(1), Ok(0), PREPARES_NEXT), 0),
+    (
+        Step::Event(
+            Happens::Hears(2, Says::Promise((2, 1), Some((3, Held::Boot(2))))),
+            Ok(0),
+            PROPOSES_NEXT,
+        ),
+        0,
+    ),
+    (Step::Votes(4), 0),
 ];
 
 #[test]
 fn reports_are_proposed_again(rt: HostRuntime) {
-    check(&rt, rt.alloc(), 1, 12, REPORTED);
+    check(&rt, rt.alloc(), 1, Some((1, 2)), REPORTED);
 }
 
 // What it sends in the last round.
-const PREPARES_LAST: &[Said] = &[
-    ("prepare", 2, 2_814_749_767_106_551, 1, 0),
-    ("prepare", 3, 2_814_749_767_106_551, 1, 0),
+const PREPARES_LAST: &[Mail] = &[
+    (2, Says::Prepare((281_474_976_710_655, 1), 1)),
+    (3, Says::Prepare((281_474_976_710_655, 1), 1)),
 ];
 
 const LAST: &[Row] = &[
-    (("start", 1, 0, 0, 0), 0, 0, PREPARES_LAST),
-    (("promised", 0, 2_814_749_767_106_551, 0, 0), 1, 0, NOTHING),
+    (Step::Event(Happens::Start(1), Ok(0), PREPARES_LAST), 0),
+    (Step::Promised(Some((281_474_976_710_655, 1))), 0),
 ];
 
 const SPENT: &[Row] = &[
-    (("start", 1, 0, 0, 0), 51, 0, NOTHING),
-    (("promised", 0, 2_814_749_767_106_552, 0, 0), 1, 0, NOTHING),
+    (
+        Step::Event(Happens::Start(1), Err(NodeFault::Rounds), NOTHING),
+        0,
+    ),
+    (Step::Promised(Some((281_474_976_710_655, 2))), 0),
 ];
 
 #[test]
 fn rounds_end(rt: HostRuntime) {
-    check(&rt, rt.alloc(), 1, 2_814_749_767_106_542, LAST);
-    check(&rt, rt.alloc(), 1, 2_814_749_767_106_552, SPENT);
+    check(&rt, rt.alloc(), 1, Some((281_474_976_710_654, 2)), LAST);
+    check(&rt, rt.alloc(), 1, Some((281_474_976_710_655, 2)), SPENT);
 }
 
 // Its Boot is pending already.
 const FILLED: &[Row] = &[
-    (("takes", 0, 0, 0, 0), 1023, 0, NOTHING),
-    (("take", 1, 0, 0, 0), 74, 0, NOTHING),
+    (Step::TakesMany(1023), 0),
+    (
+        Step::Event(Happens::Take(1), Err(NodeFault::Full), NOTHING),
+        0,
+    ),
 ];
 
 #[test]
 fn no_more_than_1024_are_pending(rt: HostRuntime) {
-    check(&rt, rt.alloc(), 1, 0, FILLED);
+    check(&rt, rt.alloc(), 1, None, FILLED);
 }
 
 // What the second node sends as it votes, and as it takes an act.
-const VOTES: &[Said] = &[("accepted", 1, 11, 1, 1), ("accepted", 3, 11, 1, 1)];
+const VOTES: &[Mail] = &[
+    (1, Says::Accepted((1, 1), 1, Held::Boot(1))),
+    (3, Says::Accepted((1, 1), 1, Held::Boot(1))),
+];
 
-const FORWARDS: &[Said] = &[("forward", 1, 0, 2, 10)];
+const FORWARDS: &[Mail] = &[(1, Says::Forward(Held::Boot(2), Held::Act))];
 
 const SECOND: &[Row] = &[
-    (("accept", 1, 11, 1, 1), 0, 0, VOTES),
-    (("accepted", 1, 11, 1, 1), 1, 1, NOTHING),
-    (("take", 2, 0, 0, 0), 0, 1, FORWARDS),
+    (
+        Step::Event(
+            Happens::Hears(1, Says::Accept((1, 1), 1, Held::Boot(1))),
+            Ok(0),
+            VOTES,
+        ),
+        0,
+    ),
+    (
+        Step::Event(
+            Happens::Hears(1, Says::Accepted((1, 1), 1, Held::Boot(1))),
+            Ok(1),
+            NOTHING,
+        ),
+        1,
+    ),
+    (Step::Event(Happens::Take(2), Ok(0), FORWARDS), 1),
 ];
 
 #[test]
 fn another_node_forwards(rt: HostRuntime) {
-    check(&rt, rt.alloc(), 2, 0, SECOND);
+    check(&rt, rt.alloc(), 2, None, SECOND);
 }
 
 // What the third node sends as it votes for its own Lost.
-const VOTES_LOST: &[Said] = &[("accepted", 1, 11, 2, 93), ("accepted", 2, 11, 2, 93)];
+const VOTES_LOST: &[Mail] = &[
+    (1, Says::Accepted((1, 1), 2, Held::Lost(3))),
+    (2, Says::Accepted((1, 1), 2, Held::Lost(3))),
+];
 
 const TOLD: &[Row] = &[
-    (("learned", 1, 0, 2, 93), 0, 0, NOTHING),
-    (("is up", 0, 0, 0, 0), 1, 0, NOTHING),
-    (("learned", 1, 0, 1, 3), 2, 0, NOTHING),
-    (("is up", 0, 0, 0, 0), 0, 0, NOTHING),
-    (("tick", 3, 0, 0, 0), 0, 0, NOTHING),
+    (
+        Step::Event(
+            Happens::Hears(1, Says::Learned(2, Held::Lost(3))),
+            Ok(0),
+            NOTHING,
+        ),
+        0,
+    ),
+    (Step::IsUp(true), 0),
+    (
+        Step::Event(
+            Happens::Hears(1, Says::Learned(1, Held::Boot(3))),
+            Ok(2),
+            NOTHING,
+        ),
+        0,
+    ),
+    (Step::IsUp(false), 0),
+    (Step::Event(Happens::Tick(3), Ok(0), NOTHING), 0),
 ];
 
 const HEARD: &[Row] = &[
-    (("learned", 1, 0, 1, 3), 1, 1, NOTHING),
-    (("accepted", 1, 11, 2, 93), 0, 1, NOTHING),
-    (("accept", 1, 11, 2, 93), 1, 0, VOTES_LOST),
-    (("is up", 0, 0, 0, 0), 0, 0, NOTHING),
-    (("votes", 0, 0, 0, 0), 1, 0, NOTHING),
+    (
+        Step::Event(
+            Happens::Hears(1, Says::Learned(1, Held::Boot(3))),
+            Ok(1),
+            NOTHING,
+        ),
+        1,
+    ),
+    (
+        Step::Event(
+            Happens::Hears(1, Says::Accepted((1, 1), 2, Held::Lost(3))),
+            Ok(0),
+            NOTHING,
+        ),
+        1,
+    ),
+    (
+        Step::Event(
+            Happens::Hears(1, Says::Accept((1, 1), 2, Held::Lost(3))),
+            Ok(1),
+            VOTES_LOST,
+        ),
+        0,
+    ),
+    (Step::IsUp(false), 0),
+    (Step::Votes(1), 0),
 ];
 
 #[test]
 fn its_own_lost_leaves_it_down(rt: HostRuntime) {
-    check(&rt, rt.alloc(), 3, 0, TOLD);
-    check(&rt, rt.alloc(), 3, 0, HEARD);
+    check(&rt, rt.alloc(), 3, None, TOLD);
+    check(&rt, rt.alloc(), 3, None, HEARD);
 }

@@ -101,175 +101,182 @@ fn promise(
     }
 }
 
-// A fault as its number.
-fn fault_of(fault: ProposerFault) -> u64 {
-    fault.number() as u64
+// An entry that is submitted: an act is known by its body.
+#[derive(Clone, Copy)]
+enum Proposal {
+    Noop,
+    Boot(u8),
+    Act(u32),
 }
 
-// A ballot as one number, 0 where there is none.
-fn shown(ballot: Option<Ballot>) -> u64 {
-    match ballot {
-        Some(ballot) => ballot
-            .round
-            .wrapping_mul(10)
-            .wrapping_add(ballot.node as u64),
-        None => 0,
+fn entry_of(proposal: Proposal) -> Entry<Number> {
+    match proposal {
+        Proposal::Noop => Entry::Noop,
+        Proposal::Boot(node) => boot(node),
+        Proposal::Act(body) => item(body),
     }
 }
 
-// The ballot of such a number.
-fn told(number: u64) -> Ballot {
-    Ballot {
-        round: number / 10,
-        node: (number % 10) as u8,
-    }
+// A ballot: its round, and the node that owns it.
+type Owned = (u64, u8);
+
+fn ballot_of(of: Owned) -> Ballot {
+    ballot(of.0, of.1)
 }
 
-// No entry for 0, the Boot of a node up to 9, and above that an act with this body.
-fn entry_of(number: u64) -> Entry<Number> {
-    if number == 0 {
-        return Entry::Noop;
-    }
-    if number <= 9 {
-        return boot(number as u8);
-    }
-    item((number % 1_000) as u32)
+fn owned(ballot: Ballot) -> Owned {
+    (ballot.round, ballot.node)
 }
 
-fn started(rt: &impl Abort, alloc: Global, proposer: &mut Proposer<Number>, first: u64) -> u64 {
-    match start(rt, alloc, proposer, first) {
-        Ok(ballot) => shown(Some(ballot)),
-        Err(fault) => fault_of(fault),
-    }
+// What is done or asked, and what comes of it.
+enum Step {
+    // A ballot is begun from this slot on.
+    Start(u64, Result<Owned, ProposerFault>),
+    // A node promises a ballot, and reports nothing: the number of entries to propose, if the proposer leads by this promise.
+    Promise(u8, Owned, Option<usize>),
+    // An entry is submitted: its slot.
+    Submit(Proposal, Result<u64, ProposerFault>),
+    // A round was seen.
+    Saw(u64),
+    // The ballot was refused for a promise of the other.
+    Nack(Owned, Owned),
+    // A ballot was seen that ends its own, if it is greater.
+    StepDown(Owned),
+    // The slot of the next entry.
+    Next(Result<u64, ProposerFault>),
+    // Whether the entry is proposed for a slot after this number of slots.
+    Stands(u64, Proposal, bool),
+    // Whether the proposer leads.
+    Leads(bool),
+    // The slot from which on it asks for promises, while it does.
+    AsksFrom(Option<u64>),
+    // Whether the node's promise is counted.
+    Counted(u8, bool),
+    // How many entries are proposed for slots after this one.
+    ProposedAfter(u64, usize),
+    // The ballot that it owns.
+    Owns(Option<Owned>),
 }
 
-// 0 where it does not lead by this promise, else how many entries it is to propose, and 1.
-fn promised(
+fn starts(
     rt: &impl Abort,
     alloc: Global,
     proposer: &mut Proposer<Number>,
-    node: u64,
-    ballot: u64,
-) -> u64 {
-    match promise(rt, alloc, proposer, (node % 8) as u8, told(ballot), NONE) {
-        Some(called) => (called.len() as u64).wrapping_add(1),
-        None => 0,
+    first: u64,
+    wanted: Result<Owned, ProposerFault>,
+) -> bool {
+    start(rt, alloc, proposer, first).map(|ballot| owned(ballot)) == wanted
+}
+
+fn owns(proposer: &Proposer<Number>) -> Option<Owned> {
+    match proposer.ballot() {
+        Some(ballot) => Some(owned(ballot)),
+        None => None,
     }
 }
 
-fn submitted(proposer: &mut Proposer<Number>, number: u64) -> u64 {
-    match proposer.submit(entry_of(number)) {
-        Ok(slot) => slot.get(),
-        Err(fault) => fault_of(fault),
-    }
-}
-
-fn next(proposer: &Proposer<Number>) -> u64 {
-    match proposer.next() {
-        Ok(slot) => slot.get(),
-        Err(fault) => fault_of(fault),
-    }
-}
-
-// What one step answers.
-fn step(
+// Whether it leads by this promise, and is to propose this number of entries.
+fn promises(
     rt: &impl Abort,
     alloc: Global,
     proposer: &mut Proposer<Number>,
-    word: &str,
-    one: u64,
-    other: u64,
-) -> u64 {
-    if word == "start" {
-        return started(rt, alloc, proposer, one);
-    }
-    if word == "promise" {
-        return promised(rt, alloc, proposer, one, other);
-    }
-    if word == "submit" {
-        return submitted(proposer, one);
-    }
-    told_step(proposer, word, one, other)
-}
-
-// What a step answers that needs no memory.
-fn told_step(proposer: &mut Proposer<Number>, word: &str, one: u64, other: u64) -> u64 {
-    if word == "saw" {
-        proposer.saw(one);
-        return 0;
-    }
-    if word == "nack" {
-        proposer.on_nack(told(one), told(other));
-        return 0;
-    }
-    if word == "step down" {
-        proposer.step_down(told(one));
-        return 0;
-    }
-    if word == "next" {
-        return next(proposer);
-    }
-    if word == "stands" {
-        return proposer.stands(one, &entry_of(other)) as u64;
-    }
-    if word == "leads" {
-        return proposer.is_leading() as u64;
-    }
-    if word == "asks from" {
-        return proposer.preparing().unwrap_or(0);
-    }
-    if word == "counted" {
-        return proposer.is_counted((one % 8) as u8) as u64;
-    }
-    if word == "behind" {
-        return proposer.proposed_behind(one).len() as u64;
-    }
-    shown(proposer.ballot())
-}
-
-// What is done, with which numbers, and what is answered.
-type Row = (&'static str, u64, u64, u64);
-
-fn is_answered(rt: &impl Abort, alloc: Global, proposer: &mut Proposer<Number>, row: &Row) -> bool {
-    let (word, one, other, answer) = *row;
-    step(rt, alloc, proposer, word, one, other) == answer
-}
-
-fn goes(rt: &impl Abort, alloc: Global, proposer: &mut Proposer<Number>, rows: &[Row]) {
-    for row in rows {
-        check!(rt; is_answered(rt, alloc, proposer, row), (row.0, row.1, row.2));
+    node: u8,
+    ballot: Ballot,
+    wanted: Option<usize>,
+) -> bool {
+    match promise(rt, alloc, proposer, node, ballot, NONE) {
+        Some(called) => wanted == Some(called.len()),
+        None => wanted.is_none(),
     }
 }
 
-fn check(rt: &impl Abort, alloc: Global, rows: &[Row]) {
+fn submits(
+    proposer: &mut Proposer<Number>,
+    proposal: Proposal,
+    wanted: Result<u64, ProposerFault>,
+) -> bool {
+    let given = proposer.submit(entry_of(proposal));
+    given.map(|slot| slot.get()) == wanted
+}
+
+fn saw(proposer: &mut Proposer<Number>, round: u64) -> bool {
+    proposer.saw(round);
+    true
+}
+
+fn nack(proposer: &mut Proposer<Number>, ballot: Ballot, promised: Ballot) -> bool {
+    proposer.on_nack(ballot, promised);
+    true
+}
+
+fn step_down(proposer: &mut Proposer<Number>, ballot: Ballot) -> bool {
+    proposer.step_down(ballot);
+    true
+}
+
+fn is_next(proposer: &Proposer<Number>, wanted: Result<u64, ProposerFault>) -> bool {
+    proposer.next().map(|slot| slot.get()) == wanted
+}
+
+// Takes the step. Returns whether it comes as it says.
+fn take(rt: &impl Abort, alloc: Global, proposer: &mut Proposer<Number>, step: &Step) -> bool {
+    match step {
+        Step::Start(first, wanted) => starts(rt, alloc, proposer, *first, *wanted),
+        Step::Promise(node, ballot, wanted) => {
+            promises(rt, alloc, proposer, *node, ballot_of(*ballot), *wanted)
+        },
+        Step::Submit(proposal, wanted) => submits(proposer, *proposal, *wanted),
+        Step::Saw(round) => saw(proposer, *round),
+        Step::Nack(ballot, promised) => nack(proposer, ballot_of(*ballot), ballot_of(*promised)),
+        Step::StepDown(ballot) => step_down(proposer, ballot_of(*ballot)),
+        Step::Next(wanted) => is_next(proposer, *wanted),
+        Step::Stands(after, proposal, wanted) => {
+            proposer.stands(*after, &entry_of(*proposal)) == *wanted
+        },
+        Step::Leads(wanted) => proposer.is_leading() == *wanted,
+        Step::AsksFrom(wanted) => proposer.preparing() == *wanted,
+        Step::Counted(node, wanted) => proposer.is_counted(*node) == *wanted,
+        Step::ProposedAfter(slot, wanted) => proposer.proposed_after(*slot).len() == *wanted,
+        Step::Owns(wanted) => owns(proposer) == *wanted,
+    }
+}
+
+// Takes all steps; a note on a failed check is the step's place among them, from 0 on.
+fn take_all(rt: &impl Abort, alloc: Global, proposer: &mut Proposer<Number>, steps: &[Step]) {
+    for (place, step) in steps.iter().enumerate() {
+        check!(rt; take(rt, alloc, proposer, step), place);
+    }
+}
+
+fn check(rt: &impl Abort, alloc: Global, steps: &[Step]) {
     let mut proposer = proposer(rt, alloc);
-    goes(rt, alloc, &mut proposer, rows);
+    take_all(rt, alloc, &mut proposer, steps);
 }
 
-const A_FIRST_BALLOT_LEADS_BY_A_MAJORITY: &[Row] = &[
-    ("submit", 0, 0, 53),
-    ("ballot", 0, 0, 0),
-    ("start", 1, 0, 11),
-    ("leads", 0, 0, 0),
-    ("asks from", 0, 0, 1),
-    ("counted", 1, 0, 1),
-    ("counted", 2, 0, 0),
-    ("submit", 0, 0, 53),
+const A_FIRST_BALLOT_LEADS_BY_A_MAJORITY: &[Step] = &[
+    Step::Submit(Proposal::Noop, Err(ProposerFault::NotLeading)),
+    Step::Owns(None),
+    Step::Start(1, Ok((1, 1))),
+    Step::Leads(false),
+    Step::AsksFrom(Some(1)),
+    Step::Counted(1, true),
+    Step::Counted(2, false),
+    Step::Submit(Proposal::Noop, Err(ProposerFault::NotLeading)),
     // its own was counted, and another ballot's is not
-    ("promise", 1, 11, 0),
-    ("promise", 3, 13, 0),
-    ("leads", 0, 0, 0),
-    ("promise", 2, 11, 1),
-    ("leads", 0, 0, 1),
-    ("asks from", 0, 0, 0),
-    ("behind", 0, 0, 0),
-    ("submit", 1, 0, 1),
-    ("submit", 0, 0, 2),
-    ("next", 0, 0, 3),
-    ("behind", 0, 0, 2),
-    ("behind", 1, 0, 1),
-    ("behind", 2, 0, 0),
-    ("behind", u64::MAX, 0, 0),
+    Step::Promise(1, (1, 1), None),
+    Step::Promise(3, (1, 3), None),
+    Step::Leads(false),
+    Step::Promise(2, (1, 1), Some(0)),
+    Step::Leads(true),
+    Step::AsksFrom(None),
+    Step::ProposedAfter(0, 0),
+    Step::Submit(Proposal::Boot(1), Ok(1)),
+    Step::Submit(Proposal::Noop, Ok(2)),
+    Step::Next(Ok(3)),
+    Step::ProposedAfter(0, 2),
+    Step::ProposedAfter(1, 1),
+    Step::ProposedAfter(2, 0),
+    Step::ProposedAfter(u64::MAX, 0),
 ];
 
 #[test]
@@ -277,15 +284,15 @@ fn a_first_ballot_leads_by_a_majority(rt: HostRuntime) {
     check(&rt, rt.alloc(), A_FIRST_BALLOT_LEADS_BY_A_MAJORITY);
 }
 
-const ROUNDS_AND_SLOTS_END: &[Row] = &[
-    ("saw", 281_474_976_710_654, 0, 0),
-    ("start", 1_099_511_627_775, 0, 2_814_749_767_106_551),
-    ("start", 1, 0, 51),
-    ("ballot", 0, 0, 2_814_749_767_106_551),
-    ("promise", 2, 2_814_749_767_106_551, 1),
-    ("submit", 1, 0, 1_099_511_627_775),
-    ("submit", 1, 0, 52),
-    ("next", 0, 0, 52),
+const ROUNDS_AND_SLOTS_END: &[Step] = &[
+    Step::Saw(281_474_976_710_654),
+    Step::Start(1_099_511_627_775, Ok((281_474_976_710_655, 1))),
+    Step::Start(1, Err(ProposerFault::Rounds)),
+    Step::Owns(Some((281_474_976_710_655, 1))),
+    Step::Promise(2, (281_474_976_710_655, 1), Some(0)),
+    Step::Submit(Proposal::Boot(1), Ok(1_099_511_627_775)),
+    Step::Submit(Proposal::Boot(1), Err(ProposerFault::SlotsFull)),
+    Step::Next(Err(ProposerFault::SlotsFull)),
 ];
 
 #[test]
@@ -294,19 +301,19 @@ fn rounds_and_slots_end(rt: HostRuntime) {
     check(&rt, rt.alloc(), ROUNDS_AND_SLOTS_END);
 }
 
-const A_GREATER_BALLOT_ENDS_ITS_OWN: &[Row] = &[
-    ("start", 1, 0, 11),
-    ("step down", 11, 0, 0),
-    ("nack", 11, 11, 0),
-    ("nack", 12, 22, 0),
-    ("ballot", 0, 0, 11),
-    ("nack", 11, 12, 0),
-    ("ballot", 0, 0, 0),
-    ("start", 1, 0, 21),
-    ("promise", 3, 21, 1),
-    ("step down", 22, 0, 0),
-    ("leads", 0, 0, 0),
-    ("submit", 1, 0, 53),
+const A_GREATER_BALLOT_ENDS_ITS_OWN: &[Step] = &[
+    Step::Start(1, Ok((1, 1))),
+    Step::StepDown((1, 1)),
+    Step::Nack((1, 1), (1, 1)),
+    Step::Nack((1, 2), (2, 2)),
+    Step::Owns(Some((1, 1))),
+    Step::Nack((1, 1), (1, 2)),
+    Step::Owns(None),
+    Step::Start(1, Ok((2, 1))),
+    Step::Promise(3, (2, 1), Some(0)),
+    Step::StepDown((2, 2)),
+    Step::Leads(false),
+    Step::Submit(Proposal::Boot(1), Err(ProposerFault::NotLeading)),
 ];
 
 #[test]
@@ -314,20 +321,20 @@ fn a_greater_ballot_ends_its_own(rt: HostRuntime) {
     check(&rt, rt.alloc(), A_GREATER_BALLOT_ENDS_ITS_OWN);
 }
 
-const A_PROPOSAL_STANDS_UNTIL_IT_IS_APPLIED: &[Row] = &[
-    ("stands", 0, 1, 0),
-    ("start", 1, 0, 11),
-    ("promise", 2, 11, 1),
-    ("submit", 17, 0, 1),
-    ("submit", 1, 0, 2),
-    ("stands", 0, 17, 1),
-    ("stands", 1, 17, 0),
-    ("stands", 0, 18, 0),
-    ("stands", 1, 1, 1),
-    ("stands", 1, 2, 0),
-    ("stands", 0, 0, 0),
-    ("submit", 17, 0, 3),
-    ("stands", 2, 17, 1),
+const A_PROPOSAL_STANDS_UNTIL_IT_IS_APPLIED: &[Step] = &[
+    Step::Stands(0, Proposal::Boot(1), false),
+    Step::Start(1, Ok((1, 1))),
+    Step::Promise(2, (1, 1), Some(0)),
+    Step::Submit(Proposal::Act(17), Ok(1)),
+    Step::Submit(Proposal::Boot(1), Ok(2)),
+    Step::Stands(0, Proposal::Act(17), true),
+    Step::Stands(1, Proposal::Act(17), false),
+    Step::Stands(0, Proposal::Act(18), false),
+    Step::Stands(1, Proposal::Boot(1), true),
+    Step::Stands(1, Proposal::Boot(2), false),
+    Step::Stands(0, Proposal::Noop, false),
+    Step::Submit(Proposal::Act(17), Ok(3)),
+    Step::Stands(2, Proposal::Act(17), true),
 ];
 
 #[test]
@@ -403,13 +410,18 @@ fn sees(rt: &impl Abort, alloc: Global, proposer: &mut Proposer<Number>, round: 
 }
 
 // Does so, and starts.
-fn moved(rt: &impl Abort, alloc: Global, proposer: &mut Proposer<Number>, round: u64) -> u64 {
+fn moved(
+    rt: &impl Abort,
+    alloc: Global,
+    proposer: &mut Proposer<Number>,
+    round: u64,
+) -> Result<Ballot, ProposerFault> {
     sees(rt, alloc, proposer, round);
-    started(rt, alloc, proposer, 1)
+    start(rt, alloc, proposer, 1)
 }
 
 #[test]
 fn moves_are_done_in_the_room_made_for_them(rt: HostRuntime) {
     let mut proposer = proposer(&rt, rt.alloc());
-    check!(&rt; moved(&rt, rt.alloc(), &mut proposer, 6) == 71);
+    check!(&rt; moved(&rt, rt.alloc(), &mut proposer, 6) == Ok(ballot(7, 1)));
 }

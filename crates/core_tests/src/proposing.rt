@@ -98,7 +98,7 @@ fn begin(rt: &impl Abort, alloc: Global, proposer: &mut Proposer<Number>) -> (us
     before
 }
 
-// It leads: how many moves that takes, how many entries the promises call for, and whether the entry stands in what is planned.
+// It leads: how many moves that takes, how many entries the promises call for, and whether the entry is in what is planned.
 fn lead(rt: &impl Abort, alloc: Global, proposer: &mut Proposer<Number>) -> (usize, usize, bool) {
     let (moves, called, stands) = led(rt, alloc, proposer);
     let planned = (moves.len(), called, stands);

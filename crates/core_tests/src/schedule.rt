@@ -1,4 +1,4 @@
-// Events as rows of words and numbers, and those of one session through three nodes.
+// Events as rows, and those of one session through three nodes.
 use crate::packet_rows::{Mail, PACKETS, packet_of};
 use paxos_node::Event;
 use std::alloc::Global;
@@ -6,52 +6,66 @@ use std::panic::Expect;
 use std::process::Abort;
 use test_machines::Number;
 
-// An event: its word, its node or the number of the packet of the session that is delivered, and an act's transport and body, or the other node.
-pub type Turn = (&'static str, u8, u32, u32);
+// An event at a node.
+#[derive(Clone, Copy, Debug)]
+pub enum Turn {
+    // The node begins a ballot.
+    Start(u8),
+    // Time has passed at the node.
+    Tick(u8),
+    Crash(u8),
+    Restart(u8),
+    // The node suspects that the other one is lost.
+    Suspect(u8, u8),
+    // The node takes an act of this transport, with this body.
+    Take(u8, u32, u32),
+    // The packet of the session with this number, from 1 on, reaches its addressee.
+    Deliver(u8),
+}
 
 // One session through three nodes, with its flushes written out.
 pub const SESSION: &[Turn] = &[
-    ("start", 1, 0, 0),
-    ("deliver", 1, 0, 0),
-    ("deliver", 2, 0, 0),
-    ("deliver", 3, 0, 0),
-    ("deliver", 4, 0, 0),
-    ("deliver", 5, 0, 0),
-    ("deliver", 6, 0, 0),
-    ("deliver", 7, 0, 0),
-    ("deliver", 8, 0, 0),
-    ("deliver", 9, 0, 0),
-    ("deliver", 10, 0, 0),
-    ("deliver", 11, 0, 0),
-    ("deliver", 12, 0, 0),
-    ("take", 2, 1, 5),
-    ("take", 2, 1, 6),
-    ("deliver", 13, 0, 0),
-    ("deliver", 14, 0, 0),
-    ("deliver", 15, 0, 0),
-    ("deliver", 16, 0, 0),
-    ("deliver", 17, 0, 0),
-    ("deliver", 18, 0, 0),
-    ("deliver", 19, 0, 0),
-    ("deliver", 20, 0, 0),
-    ("deliver", 21, 0, 0),
-    ("deliver", 22, 0, 0),
-    ("deliver", 23, 0, 0),
-    ("deliver", 24, 0, 0),
-    ("deliver", 25, 0, 0),
-    ("deliver", 26, 0, 0),
-    ("deliver", 27, 0, 0),
-    ("deliver", 28, 0, 0),
-    ("deliver", 29, 0, 0),
-    ("deliver", 30, 0, 0),
-    ("deliver", 31, 0, 0),
-    ("deliver", 32, 0, 0),
-    ("deliver", 33, 0, 0),
-    ("deliver", 34, 0, 0),
-    ("deliver", 35, 0, 0),
-    ("deliver", 36, 0, 0),
-    ("deliver", 37, 0, 0),
-    ("deliver", 38, 0, 0),
+    Turn::Start(1),
+    Turn::Deliver(1),
+    Turn::Deliver(2),
+    Turn::Deliver(3),
+    Turn::Deliver(4),
+    Turn::Deliver(5),
+    Turn::Deliver(6),
+    Turn::Deliver(7),
+    Turn::Deliver(8),
+    Turn::Deliver(9),
+    Turn::Deliver(10),
+    Turn::Deliver(11),
+    Turn::Deliver(12),
+    Turn::Take(2, 1, 5),
+    Turn::Take(2, 1, 6),
+    Turn::Deliver(13),
+    Turn::Deliver(14),
+    Turn::Deliver(15),
+    Turn::Deliver(16),
+    Turn::Deliver(17),
+    Turn::Deliver(18),
+    Turn::Deliver(19),
+    Turn::Deliver(20),
+    Turn::Deliver(21),
+    Turn::Deliver(22),
+    Turn::Deliver(23),
+    Turn::Deliver(24),
+    Turn::Deliver(25),
+    Turn::Deliver(26),
+    Turn::Deliver(27),
+    Turn::Deliver(28),
+    Turn::Deliver(29),
+    Turn::Deliver(30),
+    Turn::Deliver(31),
+    Turn::Deliver(32),
+    Turn::Deliver(33),
+    Turn::Deliver(34),
+    Turn::Deliver(35),
+    Turn::Deliver(36),
+    Turn::Deliver(37),
+    Turn::Deliver(38),
 ];
 
 // The packet of the session with this number, from 1 on.
@@ -60,39 +74,26 @@ fn mail(rt: &impl Abort, number: u8) -> &'static Mail {
     PACKETS.get(place).expect(rt, "a packet of the session")
 }
 
-// The event of a row: a delivery, where no other has the word.
+// Returns the event of a row.
 pub fn event_of(rt: &impl Abort, alloc: Global, turn: &Turn) -> Event<Number> {
-    let (word, node, number, more) = *turn;
-    if word == "start" {
-        return Event::Start { node };
-    }
-    if word == "tick" {
-        return Event::Tick { node };
-    }
-    if word == "crash" {
-        return Event::Crash { node };
-    }
-    if word == "restart" {
-        return Event::Restart { node };
-    }
-    if word == "suspect" {
-        return Event::Suspect {
+    match *turn {
+        Turn::Start(node) => Event::Start { node },
+        Turn::Tick(node) => Event::Tick { node },
+        Turn::Crash(node) => Event::Crash { node },
+        Turn::Restart(node) => Event::Restart { node },
+        Turn::Suspect(node, other) => Event::Suspect { node, other },
+        Turn::Take(node, transport, body) => Event::Take {
             node,
-            other: u8::try_from(number).expect(rt, "a node"),
-        };
+            transport,
+            body: Number::new(body),
+        },
+        Turn::Deliver(number) => Event::Deliver {
+            packet: packet_of(rt, alloc, mail(rt, number)),
+        },
     }
-    if word == "take" {
-        return Event::Take {
-            node,
-            transport: number,
-            body: Number::new(more),
-        };
-    }
-    let packet = packet_of(rt, alloc, mail(rt, node));
-    Event::Deliver { packet }
 }
 
-// The events of rows.
+// Returns the events of rows.
 pub fn events_of(rt: &impl Abort, alloc: Global, turns: &[Turn]) -> Vec<Event<Number>> {
     let mut events = Vec::new(alloc);
     for turn in turns {

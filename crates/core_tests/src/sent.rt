@@ -61,7 +61,7 @@ fn are_sent_before<B: Body>(
     }
 }
 
-// Sends packets of each kind, one behind the other.
+// Sends packets of each kind, one after the other.
 fn are_found<B: Body>(
     rt: &impl Abort,
     alloc: Global,

@@ -1,6 +1,6 @@
 // One session through three nodes, whose machines add up: at once, one by one, with altered packets between, and each packet twice.
 use crate::check::Check;
-use crate::packet_rows::{FIRST, FIVE, LOG, Mail, PACKETS, SECOND, SIX, packet_of};
+use crate::packet_rows::{FIRST, FIVE, Held, LOG, Mail, PACKETS, SECOND, SIX, Says, packet_of};
 use crate::schedule::{SESSION, Turn};
 use crate::worlds::{
     Told, deliver, hands_out, happens, has_log, has_sent, run_rows, shown, turn, was_told, world_of,
@@ -25,10 +25,10 @@ pub fn counts(rt: &impl Abort, alloc: Global) -> World<Count> {
     )
 }
 
-// What is told behind the session.
+// What is said after the session.
 const TOLD: &[Told] = &[(2, 1, 1, &[5, 11])];
 
-// Transports that are told nothing: by node, boot and number.
+// Transports to which nothing is said: by node, boot and number.
 const UNTOLD: &[(u8, u64, u32)] = &[
     (2, 1, 2),
     (2, 2, 1),
@@ -43,7 +43,7 @@ const UNTOLD: &[(u8, u64, u32)] = &[
 // No nodes of a world of three.
 const STRANGERS: &[u8] = &[0, 4, 255];
 
-// What each world shows behind the session: all nodes are up with its log, and no other is.
+// What each world shows after the session: all nodes are up with its log, and no other is.
 fn has_logs<M: Machine<Body = Number>>(rt: &impl Abort, world: &World<M>) {
     for node in 1..=3 {
         check!(rt; world.is_up(node), node);
@@ -55,7 +55,7 @@ fn has_logs<M: Machine<Body = Number>>(rt: &impl Abort, world: &World<M>) {
     }
 }
 
-// The transport of node 2 was told 5 and then 11, and no other was told anything.
+// 5 and then 11 were said to the transport of node 2, and nothing to any other.
 fn has_told<M: Machine<Say = (Transport, u64)>>(rt: &impl Abort, world: &World<M>) {
     check!(rt; was_told(world, 2, 1, 1, &[5, 11]));
     for (node, boot, number) in UNTOLD {
@@ -64,8 +64,8 @@ fn has_told<M: Machine<Say = (Transport, u64)>>(rt: &impl Abort, world: &World<M
     check!(rt; hands_out(world, TOLD));
 }
 
-// The world is the one behind the session.
-pub fn is_behind(rt: &impl Abort, alloc: Global, world: &World<Count>) {
+// The world is the one after the session.
+pub fn is_after_session(rt: &impl Abort, alloc: Global, world: &World<Count>) {
     check!(rt; has_sent(rt, world, alloc, PACKETS));
     check!(rt; world.packet(0).is_none());
     check!(rt; world.packet(39).is_none());
@@ -82,19 +82,19 @@ fn a_session_at_once(rt: HostRuntime) {
 
 fn at_once(rt: &impl Abort, alloc: Global, world: &mut World<Count>) {
     check_eq!(rt; run_rows(rt, world, alloc, SESSION), None);
-    is_behind(rt, alloc, world)
+    is_after_session(rt, alloc, world)
 }
 
 // The events of rows happen, one by one.
 pub fn goes(rt: &impl Abort, alloc: Global, world: &mut World<Count>, turns: &[Turn]) {
-    for row in turns {
-        check!(rt; turn(rt, world, alloc, row), (row.0, row.1));
+    for (place, row) in turns.iter().enumerate() {
+        check!(rt; turn(rt, world, alloc, row), place);
     }
 }
 
 fn one_by_one(rt: &impl Abort, alloc: Global, world: &mut World<Count>) {
     goes(rt, alloc, world, SESSION);
-    is_behind(rt, alloc, world)
+    is_after_session(rt, alloc, world)
 }
 
 #[test]
@@ -106,81 +106,103 @@ fn a_session_one_by_one(rt: HostRuntime) {
 
 // Packets that are like one of the session, but for one number, with the number of that one.
 const ALTERED: &[(u8, Mail)] = &[
-    (1, ("prepare", 2, 2, (1, 1), 1, &[])),
-    (1, ("prepare", 1, 1, (1, 1), 1, &[])),
-    (1, ("prepare", 1, 4, (1, 1), 1, &[])),
-    (1, ("prepare", 1, 0, (1, 1), 1, &[])),
-    (1, ("prepare", 1, 2, (2, 1), 1, &[])),
-    (1, ("prepare", 1, 2, (1, 2), 1, &[])),
-    (1, ("prepare", 1, 2, (1, 1), 2, &[])),
-    (3, ("promise", 1, 1, (1, 1), 0, &[])),
-    (3, ("promise", 2, 2, (1, 1), 0, &[])),
-    (3, ("promise", 2, 1, (2, 1), 0, &[])),
-    (3, ("promise", 2, 1, (1, 2), 0, &[])),
-    (5, ("accept", 2, 2, (1, 1), 1, &[FIRST])),
-    (5, ("accept", 1, 1, (1, 1), 1, &[FIRST])),
-    (5, ("accept", 1, 2, (2, 1), 1, &[FIRST])),
-    (5, ("accept", 1, 2, (1, 2), 1, &[FIRST])),
-    (5, ("accept", 1, 2, (1, 1), 2, &[FIRST])),
-    (5, ("accept", 1, 2, (1, 1), 1, &[("boot", 2, 1, 0, 0, 0)])),
-    (5, ("accept", 1, 2, (1, 1), 1, &[("boot", 1, 2, 0, 0, 0)])),
-    (7, ("accepted", 2, 2, (1, 1), 1, &[FIRST])),
-    (7, ("accepted", 1, 1, (1, 1), 1, &[FIRST])),
-    (7, ("accepted", 1, 2, (2, 1), 1, &[FIRST])),
-    (7, ("accepted", 1, 2, (1, 2), 1, &[FIRST])),
-    (7, ("accepted", 1, 2, (1, 1), 2, &[FIRST])),
-    (7, ("accepted", 1, 2, (1, 1), 1, &[("boot", 2, 1, 0, 0, 0)])),
-    (13, ("forward", 3, 1, (0, 0), 0, &[SECOND, FIVE])),
-    (13, ("forward", 2, 3, (0, 0), 0, &[SECOND, FIVE])),
+    (1, (Says::Prepare, 2, 2, (1, 1), 1, &[])),
+    (1, (Says::Prepare, 1, 1, (1, 1), 1, &[])),
+    (1, (Says::Prepare, 1, 4, (1, 1), 1, &[])),
+    (1, (Says::Prepare, 1, 0, (1, 1), 1, &[])),
+    (1, (Says::Prepare, 1, 2, (2, 1), 1, &[])),
+    (1, (Says::Prepare, 1, 2, (1, 2), 1, &[])),
+    (1, (Says::Prepare, 1, 2, (1, 1), 2, &[])),
+    (3, (Says::Promise, 1, 1, (1, 1), 0, &[])),
+    (3, (Says::Promise, 2, 2, (1, 1), 0, &[])),
+    (3, (Says::Promise, 2, 1, (2, 1), 0, &[])),
+    (3, (Says::Promise, 2, 1, (1, 2), 0, &[])),
+    (5, (Says::Accept, 2, 2, (1, 1), 1, &[FIRST])),
+    (5, (Says::Accept, 1, 1, (1, 1), 1, &[FIRST])),
+    (5, (Says::Accept, 1, 2, (2, 1), 1, &[FIRST])),
+    (5, (Says::Accept, 1, 2, (1, 2), 1, &[FIRST])),
+    (5, (Says::Accept, 1, 2, (1, 1), 2, &[FIRST])),
+    (5, (Says::Accept, 1, 2, (1, 1), 1, &[Held::Boot(2, 1)])),
+    (5, (Says::Accept, 1, 2, (1, 1), 1, &[Held::Boot(1, 2)])),
+    (7, (Says::Accepted, 2, 2, (1, 1), 1, &[FIRST])),
+    (7, (Says::Accepted, 1, 1, (1, 1), 1, &[FIRST])),
+    (7, (Says::Accepted, 1, 2, (2, 1), 1, &[FIRST])),
+    (7, (Says::Accepted, 1, 2, (1, 2), 1, &[FIRST])),
+    (7, (Says::Accepted, 1, 2, (1, 1), 2, &[FIRST])),
+    (7, (Says::Accepted, 1, 2, (1, 1), 1, &[Held::Boot(2, 1)])),
+    (13, (Says::Forward, 3, 1, (0, 0), 0, &[SECOND, FIVE])),
+    (13, (Says::Forward, 2, 3, (0, 0), 0, &[SECOND, FIVE])),
     (
         13,
-        ("forward", 2, 1, (0, 0), 0, &[("boot", 3, 1, 0, 0, 0), FIVE]),
+        (Says::Forward, 2, 1, (0, 0), 0, &[Held::Boot(3, 1), FIVE]),
     ),
     (
         13,
         (
-            "forward",
+            Says::Forward,
             2,
             1,
             (0, 0),
             0,
-            &[SECOND, ("item", 2, 1, 1, 1, 6)],
+            &[SECOND, Held::Item(2, 1, 1, 1, 6)],
         ),
     ),
     (
         14,
         (
-            "forward",
+            Says::Forward,
             2,
             1,
             (0, 0),
             0,
-            &[SECOND, ("item", 2, 1, 1, 1, 6), SIX],
+            &[SECOND, Held::Item(2, 1, 1, 1, 6), SIX],
         ),
     ),
     (
         14,
         (
-            "forward",
+            Says::Forward,
             2,
             1,
             (0, 0),
             0,
-            &[SECOND, FIVE, ("item", 2, 1, 2, 1, 7)],
+            &[SECOND, FIVE, Held::Item(2, 1, 2, 1, 7)],
         ),
     ),
-    (20, ("accept", 1, 3, (1, 1), 3, &[("item", 1, 1, 1, 1, 5)])),
-    (20, ("accept", 1, 3, (1, 1), 3, &[("item", 2, 2, 1, 1, 5)])),
-    (20, ("accept", 1, 3, (1, 1), 3, &[("item", 2, 1, 2, 1, 5)])),
-    (20, ("accept", 1, 3, (1, 1), 3, &[("item", 2, 1, 1, 2, 5)])),
-    (20, ("accept", 1, 3, (1, 1), 3, &[("item", 2, 1, 1, 1, 6)])),
+    (
+        20,
+        (Says::Accept, 1, 3, (1, 1), 3, &[Held::Item(1, 1, 1, 1, 5)]),
+    ),
+    (
+        20,
+        (Says::Accept, 1, 3, (1, 1), 3, &[Held::Item(2, 2, 1, 1, 5)]),
+    ),
+    (
+        20,
+        (Says::Accept, 1, 3, (1, 1), 3, &[Held::Item(2, 1, 2, 1, 5)]),
+    ),
+    (
+        20,
+        (Says::Accept, 1, 3, (1, 1), 3, &[Held::Item(2, 1, 1, 2, 5)]),
+    ),
+    (
+        20,
+        (Says::Accept, 1, 3, (1, 1), 3, &[Held::Item(2, 1, 1, 1, 6)]),
+    ),
     (
         38,
-        ("accepted", 3, 2, (1, 1), 4, &[("item", 2, 1, 2, 1, 7)]),
+        (
+            Says::Accepted,
+            3,
+            2,
+            (1, 1),
+            4,
+            &[Held::Item(2, 1, 2, 1, 7)],
+        ),
     ),
 ];
 
-// Delivers the packet of a row. Whether there was memory for it.
+// Delivers the packet of a row. Returns whether there was memory for it.
 fn takes_mail(rt: &impl Abort, alloc: Global, world: &mut World<Count>, mail: &Mail) -> bool {
     let packet = packet_of(rt, alloc, mail);
     happens(world, Event::Deliver { packet })
@@ -199,12 +221,12 @@ fn alters(rt: &impl Abort, alloc: Global, world: &mut World<Count>, number: u8) 
 
 fn with_altered(rt: &impl Abort, alloc: Global, world: &mut World<Count>) {
     for row in SESSION {
-        if row.0 == "deliver" {
-            alters(rt, alloc, world, row.1);
+        if let Turn::Deliver(number) = row {
+            alters(rt, alloc, world, *number);
         }
-        check!(rt; turn(rt, world, alloc, row), (row.0, row.1));
+        check!(rt; turn(rt, world, alloc, row), *row);
     }
-    is_behind(rt, alloc, world)
+    is_after_session(rt, alloc, world)
 }
 
 #[test]
@@ -214,7 +236,7 @@ fn what_nobody_sent_changes_nothing(rt: HostRuntime) {
     drop(world);
 }
 
-// Delivers each packet behind the first so many twice, those that come meanwhile too. How many were sent then.
+// Delivers each packet after the first `from` twice, including those that come meanwhile. Returns how many were sent then.
 fn flush_twice(rt: &impl Abort, alloc: Global, world: &mut World<Count>, from: usize) -> usize {
     for number in from..99 {
         if number >= world.sent() {
@@ -226,9 +248,9 @@ fn flush_twice(rt: &impl Abort, alloc: Global, world: &mut World<Count>, from: u
     world.sent()
 }
 
-const BEGINS: &[Turn] = &[("start", 1, 0, 0)];
+const BEGINS: &[Turn] = &[Turn::Start(1)];
 
-const TAKES: &[Turn] = &[("take", 2, 1, 5), ("take", 2, 1, 6)];
+const TAKES: &[Turn] = &[Turn::Take(2, 1, 5), Turn::Take(2, 1, 6)];
 
 // A second Prepare is answered by a Nack, and a second Accept by the same votes again; nothing else is sent twice.
 fn twice(rt: &impl Abort, alloc: Global, world: &mut World<Count>) {
@@ -250,6 +272,6 @@ fn what_is_delivered_twice_takes_effect_once(rt: HostRuntime) {
 }
 
 #[test]
-fn want_of_memory_has_a_number(rt: HostRuntime) {
+fn out_of_memory_has_a_number(rt: HostRuntime) {
     check_eq!(&rt; Memory.number(), 60);
 }

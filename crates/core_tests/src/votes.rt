@@ -59,7 +59,7 @@ fn are_votes(votes: &[Vote<Number>], rows: &[(u64, u64, u32)]) -> bool {
             .all(|(vote, row)| is_vote(vote, row))
 }
 
-// Whether the vote for this slot is this one, or, where there is none, whether none is found.
+// Whether the vote for this slot is this one, or none is found if none is given.
 fn finds(votes: &Votes<Number>, slot: Slot, row: Option<(u64, u64, u32)>) -> bool {
     match (votes.find(slot), row) {
         (Some(vote), Some(row)) => is_vote(vote, &row),
@@ -68,7 +68,7 @@ fn finds(votes: &Votes<Number>, slot: Slot, row: Option<(u64, u64, u32)>) -> boo
     }
 }
 
-// Puts the others from this slot on behind the votes.
+// Adds those of the others from this slot on to the votes.
 fn put_from(
     rt: &impl Abort,
     alloc: Global,
@@ -76,8 +76,8 @@ fn put_from(
     others: &Votes<Number>,
     from: u64,
 ) {
-    let behind = others.copy_from(alloc, from).expect(rt, "room for a copy");
-    votes.put_all(behind).expect(rt, "room for the votes");
+    let later = others.copy_from(alloc, from).expect(rt, "room for a copy");
+    votes.put_all(later).expect(rt, "room for the votes");
 }
 
 fn are_copied_from(
@@ -87,14 +87,14 @@ fn are_copied_from(
     from: u64,
     rows: &[(u64, u64, u32)],
 ) -> bool {
-    let behind = votes.copy_from(alloc, from).expect(rt, "room for a copy");
-    let same = are_votes(behind.as_slice(), rows);
-    drop(behind);
+    let later = votes.copy_from(alloc, from).expect(rt, "room for a copy");
+    let same = are_votes(later.as_slice(), rows);
+    drop(later);
     same
 }
 
-// Whether the votes are those from this slot on, put behind one in slot 1.
-fn is_put_behind_one(rt: &impl Abort, alloc: Global, votes: &Votes<Number>, from: u64) -> bool {
+// Whether the votes are a vote in slot 1, and those from this slot on added to it.
+fn is_put_after_one(rt: &impl Abort, alloc: Global, votes: &Votes<Number>, from: u64) -> bool {
     let mut more = votes_of(rt, alloc, &[(1, 1, 1)]);
     put_from(rt, alloc, &mut more, votes, from);
     let same = more.same(votes);
@@ -125,7 +125,7 @@ fn votes_are_found_by_slot(rt: HostRuntime) {
 
 fn are_copied(rt: &impl Abort, alloc: Global, votes: &Votes<Number>) {
     check!(rt; are_copied_from(rt, alloc, votes, 2, &[(3, 2, 2), (5, 1, 1)]));
-    check!(rt; is_put_behind_one(rt, alloc, votes, 2));
+    check!(rt; is_put_after_one(rt, alloc, votes, 2));
 }
 
 #[test]
@@ -137,7 +137,7 @@ fn votes_are_copied_from_a_slot_on(rt: HostRuntime) {
     drop(all);
 }
 
-// Votes put in the room that was made for them.
+// Puts votes in the room that was made for them.
 fn kept_of(rt: &impl Abort, first: Votes<Number>, more: Votes<Number>) -> KeptVotes<Number> {
     let count = more.as_slice().len();
     let mut kept = KeptVotes::of(first);
@@ -148,9 +148,9 @@ fn kept_of(rt: &impl Abort, first: Votes<Number>, more: Votes<Number>) -> KeptVo
 
 // How many votes are copied from slot 2 on.
 fn copied(rt: &impl Abort, alloc: Global, kept: &KeptVotes<Number>) -> usize {
-    let behind = kept.copy_from(alloc, 2).expect(rt, "room for a copy");
-    let count = behind.as_slice().len();
-    drop(behind);
+    let later = kept.copy_from(alloc, 2).expect(rt, "room for a copy");
+    let count = later.as_slice().len();
+    drop(later);
     count
 }
 
@@ -161,7 +161,7 @@ fn are_kept(rt: &impl Abort, alloc: Global, kept: &KeptVotes<Number>) -> bool {
     found && kept.as_slice().len() == 2 && copied(rt, alloc, kept) == 1
 }
 
-// A vote in slot 2, and behind it one in slot 1 and another in 2.
+// A vote in slot 2, and then one in slot 1 and another in 2.
 fn kept(rt: &impl Abort, alloc: Global) -> KeptVotes<Number> {
     let first = votes_of(rt, alloc, &[(2, 1, 1)]);
     let more = votes_of(rt, alloc, &[(1, 1, 2), (2, 2, 3)]);

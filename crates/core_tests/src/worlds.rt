@@ -28,7 +28,7 @@ pub fn world_of<M: Machine>(rt: &impl Abort, alloc: Global, one: M, two: M, thre
     World::new(alloc, members, machines).expect(rt, "memory for a world")
 }
 
-// Lets the events happen: the index for which there was no memory, where there was not.
+// Lets the events happen. Returns the index of the one for which memory ran out, if it did.
 fn run<M: Machine<Body = Number>>(world: &mut World<M>, events: &[Event<Number>]) -> Option<usize> {
     match world.run(events) {
         Ok(()) => None,
@@ -36,7 +36,7 @@ fn run<M: Machine<Body = Number>>(world: &mut World<M>, events: &[Event<Number>]
     }
 }
 
-// Lets the events of rows happen, at once: the index for which there was no memory, where there was not.
+// Lets the events of rows happen, at once. Returns the index of the one for which memory ran out, if it did.
 pub fn run_rows<M: Machine<Body = Number>>(
     rt: &impl Abort,
     world: &mut World<M>,
@@ -49,7 +49,7 @@ pub fn run_rows<M: Machine<Body = Number>>(
     done
 }
 
-// Lets one event happen. Whether there was memory for it.
+// Lets one event happen. Returns whether there was memory for it.
 pub fn happens<M: Machine<Body = Number>>(world: &mut World<M>, event: Event<Number>) -> bool {
     let events = [event];
     let done = run(world, &events);
@@ -57,7 +57,7 @@ pub fn happens<M: Machine<Body = Number>>(world: &mut World<M>, event: Event<Num
     done.is_none()
 }
 
-// Lets the event of a row happen. Whether there was memory for it.
+// Lets the event of a row happen. Returns whether there was memory for it.
 pub fn turn<M: Machine<Body = Number>>(
     rt: &impl Abort,
     world: &mut World<M>,
@@ -78,7 +78,7 @@ fn sent<M: Machine<Body = Number>>(
     packet.copy(alloc).expect(rt, "memory for a packet")
 }
 
-// Delivers the packet that was sent under this number. Whether there was memory for it.
+// Delivers the packet that was sent under this number. Returns whether there was memory for it.
 pub fn deliver<M: Machine<Body = Number>>(
     rt: &impl Abort,
     world: &mut World<M>,
@@ -89,7 +89,7 @@ pub fn deliver<M: Machine<Body = Number>>(
     happens(world, Event::Deliver { packet })
 }
 
-// Delivers each packet behind the first so many, those that come meanwhile too. Whether there was memory for all.
+// Delivers each packet after the first `from`, including those that come meanwhile. Returns whether there was memory for all.
 pub fn flush<M: Machine<Body = Number>>(
     rt: &impl Abort,
     world: &mut World<M>,
@@ -131,7 +131,7 @@ pub fn has_sent<M: Machine<Body = Number>>(
     true
 }
 
-// Whether these are the sums that a transport was told, in order.
+// Whether these are the sums that were said to a transport, in order.
 fn are_sums(transport: Transport, said: &[(Transport, u64)], sums: &[u64]) -> bool {
     if said.len() != sums.len() {
         return false;
@@ -144,7 +144,7 @@ fn are_sums(transport: Transport, said: &[(Transport, u64)], sums: &[u64]) -> bo
     true
 }
 
-// Whether the transport of a node was told these sums, in order.
+// Whether these sums were said to the transport of a node, in order.
 pub fn was_told<M: Machine<Say = (Transport, u64)>>(
     world: &World<M>,
     node: u8,
@@ -156,7 +156,7 @@ pub fn was_told<M: Machine<Say = (Transport, u64)>>(
     are_sums(transport, world.said(transport), sums)
 }
 
-// A transport by its node, boot and number, and the sums that it was told.
+// A transport by its node, boot and number, and the sums that were said to it.
 pub type Told = (u8, u64, u32, &'static [u64]);
 
 // Whether a world hands out these sums to these transports, in this order, and nothing else.
@@ -176,7 +176,7 @@ pub fn hands_out<M: Machine<Say = (Transport, u64)>>(world: &World<M>, rows: &[T
     handings.next().is_none()
 }
 
-// How many packets were sent, how long the logs of the nodes are, which of them are up, and how many sums the transport of node 2 was told.
+// How many packets were sent, how long the logs of the nodes are, which of them are up, and how many sums were said to the transport of node 2.
 pub fn shown<M: Machine>(world: &World<M>) -> (usize, [usize; 3], [bool; 3], usize) {
     let transport = Transport {
         node: 2,

@@ -1,9 +1,9 @@
-// Clients of a feed, made by hand: both ends of a connection that arrives, what a client sends and what it is told, by letters.
+// Clients of a feed, made by hand: both ends of a connection that arrives, what a client sends and what is said to it, by letters.
 use crate::check::Check;
 use bytes::Bytes;
 use client_listener::{FromClient, ToClient};
 use rtrb::{Consumer, Producer, RingBuffer};
-use serve_connections::{Arrival, Line, REQUESTS_WAITING, SAYINGS_WAITING};
+use serve_connections::{Arrival, NodeConnection, REQUESTS_WAITING, SAYINGS_WAITING};
 use std::alloc::Global;
 use std::io::Read;
 use std::net::{Net, TcpListener, TcpStream};
@@ -44,13 +44,13 @@ pub fn connect<R: Abort + Net<Listener = TcpListener, Stream = TcpStream>>(
     arrivals: &mut Producer<Arrival>,
 ) -> Client {
     let (stream, theirs) = streams(rt);
-    let line = Line::over(alloc, theirs).expect(rt, "a line");
+    let connection = NodeConnection::over(alloc, theirs).expect(rt, "a connection");
     let (items, node_items) = RingBuffer::new(alloc, REQUESTS_WAITING).expect(rt, "a ring");
     let (node_replies, replies) = RingBuffer::new(alloc, SAYINGS_WAITING).expect(rt, "a ring");
     let arrival = Arrival {
         items: node_items,
         replies: node_replies,
-        line,
+        connection,
     };
     put(rt, arrivals, arrival);
     Client {
@@ -60,13 +60,14 @@ pub fn connect<R: Abort + Net<Listener = TcpListener, Stream = TcpStream>>(
     }
 }
 
-// An item, by its letter.
+// Returns the item of a letter: a Connect, a PING, a CALL or a Hung.
 fn item_of(rt: &impl Abort, alloc: Global, letter: char) -> FromClient {
     match letter {
         'C' => FromClient::Connect,
         'P' => FromClient::Ping(Bytes::copy_from_slice(alloc, b"hi").expect(rt, "a payload")),
         'S' => FromClient::Read(read(alloc, b"[48,1,{},\"a\"]").expect(rt, "a message")),
-        _ => FromClient::Hung,
+        'H' => FromClient::Hung,
+        _ => panic!(rt; "no item has the letter {letter}"),
     }
 }
 
@@ -77,7 +78,7 @@ pub fn send(rt: &impl Abort, alloc: Global, client: &mut Client, letters: &str) 
     }
 }
 
-// The letter of what a client is told.
+// The letter of what is said to a client.
 fn letter_of(saying: &ToClient) -> char {
     match saying {
         ToClient::Send(_) => 'm',
@@ -100,7 +101,7 @@ fn next_letter(replies: &mut Consumer<ToClient>) -> Option<char> {
     Some(letter)
 }
 
-// A client was told what these letters say, and nothing more.
+// What these letters say was said to a client, and nothing more.
 pub fn is_told(rt: &impl Abort, client: &mut Client, letters: &str) {
     for letter in letters.chars() {
         check_eq!(rt; next_letter(&mut client.replies), Some(letter));

@@ -88,7 +88,7 @@ fn drains(
 }
 
 #[test]
-fn what_is_left_comes_behind_what_was_taken(rt: HostRuntime) -> Result<(), Fail> {
+fn what_is_left_comes_after_what_was_taken(rt: HostRuntime) -> Result<(), Fail> {
     let (finished, mut consumer) = finished_ring(rt.alloc())?;
     drains(&rt, rt.alloc(), &mut consumer, finished);
     drop(consumer);

@@ -3,7 +3,7 @@
 // no other way out drops what a test has.
 use crate::check::Check;
 use crate::clients::{Client, connect, has_ended, is_told, send};
-use crate::rounds::{NODE, comes, gives, quiet};
+use crate::rounds::{NODE, comes, gives, next_letter, quiet};
 use actor_run::{Feed, Gate};
 use paxos_packets::{Members, Transport};
 use realm_acts::Act;
@@ -162,7 +162,7 @@ fn play<F: Feed<Act, Say>, G: Gate>(
     }
 }
 
-// What two clients do comes out; a PING is answered behind what was said before, and what is said in another boot goes nowhere.
+// What two clients do comes out; a PING is answered after what was said before, and what is said in another boot goes nowhere.
 fn acts<F: Feed<Act, Say>, G: Gate>(
     rt: &impl Abort,
     alloc: Global,
@@ -264,6 +264,8 @@ enum Happens {
     Acts,
     // A client takes nothing and is closed; then the node begins its next boot, and one more comes.
     Closes,
+    // A client for whom many sayings wait leaves.
+    Leaves,
     // Time passes.
     Ticks,
 }
@@ -304,6 +306,42 @@ fn one_more_comes<R: Abort + Net<Listener = TcpListener, Stream = TcpStream>>(
     drop::<Client>(three);
 }
 
+// A client whose ring of sayings is three quarters full is slow, until the node finds that the client has hung up.
+fn slow_leaves<F: Feed<Act, Say>, G: Gate>(
+    rt: &impl Abort,
+    alloc: Global,
+    gate: &G,
+    feed: &mut F,
+    lobby: &Lobby,
+    client: &mut Client,
+) {
+    send(rt, alloc, client, "CH");
+    lobby.stir();
+    check!(rt; gate.pass(NODE, 1));
+    check_eq!(rt; next_letter(feed), Some('C'));
+    for _ in 0..SAYINGS_WAITING / 4 * 3 {
+        check!(rt; !lobby.has_slow());
+        hand(rt, alloc, feed, BOOT, &[1]);
+    }
+    check!(rt; lobby.has_slow());
+    check_eq!(rt; next_letter(feed), Some('H'));
+    check!(rt; !lobby.has_slow());
+}
+
+// A client arrives and leaves.
+fn one_leaves<R: Abort + Net<Listener = TcpListener, Stream = TcpStream>>(
+    rt: &R,
+    alloc: Global,
+    gate: &impl Gate,
+    feed: &mut ClientFeed<'_>,
+    lobby: &Lobby,
+    arrivals: &mut Producer<Arrival>,
+) {
+    let mut client = connect(rt, alloc, arrivals);
+    slow_leaves(rt, alloc, gate, feed, lobby, &mut client);
+    drop::<Client>(client);
+}
+
 // This happens at a node.
 fn happen<R: Abort + Net<Listener = TcpListener, Stream = TcpStream>>(
     rt: &R,
@@ -321,6 +359,7 @@ fn happen<R: Abort + Net<Listener = TcpListener, Stream = TcpStream>>(
             two_come(rt, alloc, gate, feed, lobby, arrivals, true);
             one_more_comes(rt, alloc, gate, feed, lobby, arrivals);
         }
+        Happens::Leaves => one_leaves(rt, alloc, gate, feed, lobby, arrivals),
         Happens::Ticks => ticks(rt, alloc, gate, feed, node == 1),
     }
 }
@@ -399,6 +438,11 @@ fn gives_what_clients_do_and_answers_a_ping_in_its_place(rt: HostRuntime) {
 #[test]
 fn closes_a_client_that_takes_nothing_and_begins_anew(rt: HostRuntime) {
     at_node(&rt, rt.alloc(), NODE, Happens::Closes);
+}
+
+#[test]
+fn does_not_wait_for_a_slow_client_that_has_hung_up(rt: HostRuntime) {
+    at_node(&rt, rt.alloc(), NODE, Happens::Leaves);
 }
 
 #[test]

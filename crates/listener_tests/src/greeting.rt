@@ -70,7 +70,7 @@ fn greets_by_the_first_four_octets(rt: HostRuntime) {
     }
 }
 
-// Behind how many calls a stream fails, how the greeting ends then, and that fault's number.
+// After how many calls a stream fails, how the greeting ends then, and that fault's number.
 const FAILING: &[(u32, ListenFault, u8)] = &[
     (0, ListenFault::Read, 83),
     (3, ListenFault::Read, 83),
@@ -78,7 +78,7 @@ const FAILING: &[(u32, ListenFault, u8)] = &[
     (5, ListenFault::Write, 84),
 ];
 
-// How the greeting ends of a stream that fails behind so many calls.
+// How the greeting ends of a stream that fails after this many calls.
 fn greeted(alloc: Global, calls: u32) -> Result<u32, ListenFault> {
     let mut wire = Wire::new(alloc, b"\x7F\xF1\0\0", 64, Some(calls));
     let ended = greet(&mut wire, true);

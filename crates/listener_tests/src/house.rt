@@ -6,7 +6,7 @@ use crate::writing::{hand, message_of};
 use bytes::Bytes;
 use client_listener::ToClient;
 use rtrb::{Consumer, Producer, RingBuffer};
-use serve_connections::{Arrival, Door, Lobby, keep_door};
+use serve_connections::{Arrival, Door, Lobby, run_porter};
 use std::alloc::{AllocError, Global};
 use std::io::{Read, Write};
 use std::net::{Net, SocketAddr, TcpListener, TcpStream};
@@ -107,7 +107,7 @@ impl House {
         false
     }
 
-    // Ends the listener's thread. A last client has it look for its node, where it has not seen already that this is gone.
+    // Ends the listener's thread. A last client makes it look for its node, unless it has seen already that the node is gone.
     pub fn close<R: Net<Listener = TcpListener, Stream = TcpStream> + Threads + Abort>(
         self,
         rt: &R,
@@ -126,7 +126,7 @@ impl House {
     }
 }
 
-// A thread that keeps the door.
+// Starts a thread that runs the porter of a door.
 fn start<R: Wait + Clock + Threads + Eprint + Clone + Drop + Send + 'static>(
     rt: &R,
     runtime: R,
@@ -136,7 +136,7 @@ fn start<R: Wait + Clock + Threads + Eprint + Clone + Drop + Send + 'static>(
     arrivals: Producer<Arrival>,
 ) -> Result<JoinHandle<()>, AllocError> {
     let porter = thread::spawn(rt, move || {
-        keep_door(runtime, alloc, door, lobby, arrivals, 1)
+        run_porter(runtime, alloc, door, lobby, arrivals, 1)
     })?;
     Ok(porter)
 }
@@ -156,12 +156,12 @@ fn count_free(lobby: &Lobby) -> u32 {
     free
 }
 
-// The letter of the next item of a client; 'E' once there is none left and its reader has ended, 'L' where none came in time.
+// The letter of the next item of a client; 'E' once none is left and its reader has ended, 'L' if none came in time.
 fn next_letter<R: Clock>(rt: &R, arrival: &mut Arrival) -> char {
     for _ in 0..10_000 {
         let is_over = arrival.items.is_abandoned();
         if let Some(letter) = reading::next_letter(&mut arrival.items) {
-            arrival.line.tell_room();
+            arrival.connection.announce_room();
             return letter;
         }
         if is_over {
@@ -179,13 +179,13 @@ pub fn comes<R: Clock + Abort>(rt: &R, arrival: &mut Arrival, letters: &str) {
     }
 }
 
-// Hands a message to a client's porter, and does not tell it. Answers whether its ring had room.
+// Hands a message to a client's porter, without waking it. Returns whether its ring had room.
 pub fn hand_message(alloc: Global, replies: &mut Producer<ToClient>, text: &[u8]) -> bool {
     let message = message_of(alloc, text);
     hand(replies, message)
 }
 
-// The same, of a PONG with these octets, and of the end.
+// Hands over a PONG with these octets, or the end.
 pub fn hand_pong(
     rt: &impl Abort,
     alloc: Global,

@@ -19,7 +19,7 @@ const PONG: &[u8] = b"\x02\0\0\x02hi";
 
 const REGISTERED: &[u8] = b"\0\0\0\x09[65,7,12]";
 
-// A client sends these octets so many times.
+// A client sends these octets `times` times.
 fn sends(rt: &impl Abort, client: &mut TcpStream, octets: &[u8], times: u32) {
     for _ in 0..times {
         client.write_all(octets).expect(rt, "the octets are sent");
@@ -29,13 +29,13 @@ fn sends(rt: &impl Abort, client: &mut TcpStream, octets: &[u8], times: u32) {
 // A message and a PONG that are handed over reach the client, and then the end.
 fn is_answered(rt: &impl Abort, alloc: Global, client: &mut TcpStream, arrival: &mut Arrival) {
     check!(rt; hand_message(alloc, &mut arrival.replies, &REGISTERED[4..]));
-    arrival.line.tell_said();
+    arrival.connection.announce_sayings();
     check!(rt; reads(rt, client, alloc, REGISTERED));
     check!(rt; hand_pong(rt, alloc, &mut arrival.replies, b"hi"));
-    arrival.line.tell_said();
+    arrival.connection.announce_sayings();
     check!(rt; reads(rt, client, alloc, PONG));
     check!(rt; hand_close(&mut arrival.replies));
-    arrival.line.tell_said();
+    arrival.connection.announce_sayings();
     check!(rt; reads_the_end(client));
 }
 
@@ -92,7 +92,7 @@ fn hanging_up_ends_a_connection(rt: HostRuntime) {
     let mut house = House::open(&rt, rt.alloc());
     let (mut client, mut arrival) = house.client(&rt);
     comes(&rt, &mut arrival, "C");
-    arrival.line.hang_up();
+    arrival.connection.hang_up();
     check!(&rt; reads_the_end(&mut client));
     comes(&rt, &mut arrival, "HE");
     check!(&rt; house.is_empty_soon(&rt));
@@ -138,7 +138,7 @@ fn a_reader_waits_for_room_and_goes_on(rt: HostRuntime) {
     house.close(&rt);
 }
 
-// Waits until a client's ring is full, ten seconds at the most. Answers how many items are there.
+// Waits until a client's ring is full, ten seconds at the most. Returns how many items are there.
 fn fills<R: Clock>(rt: &R, arrival: &mut Arrival) -> usize {
     for _ in 0..1_000 {
         if arrival.items.slots() == REQUESTS_WAITING {

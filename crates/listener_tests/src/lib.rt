@@ -1,5 +1,5 @@
-//! Tests of what stands between a client's socket and a node's thread, of what that thread stands on in a served cluster, and of one client
-//! over a reader and a writer, over public calls, in memory and over loopback sockets. A crate with tests is proved twice, so they stand here.
+//! Tests of what is between a client's socket and a node's thread, of what that thread uses in a served cluster, and of one client
+//! over a reader and a writer, over public calls, in memory and over loopback sockets. A crate with tests is proved twice, so they are here.
 #![tactic(auto)]
 
 #[cfg(test)]

@@ -29,7 +29,7 @@ const CALLING: &[u8] = b"\x7F\xF1\0\0\
 \0\0\0\x0D[48,3,{},\"p\"]\
 \0\0\0\x09[49,3,{}]";
 
-// The router's octets of that run behind those of WELCOME.
+// The router's octets of that run after those of WELCOME.
 const CALLED: &[u8] = b"\
 \0\0\0\x08[65,1,1]\
 \0\0\0\x0F[68,1,1,{},[1]]\
@@ -95,7 +95,7 @@ fn answers_calls_by(rt: &impl Abort, alloc: Global, most: usize) {
 fn is_called(rt: &impl Abort, outcome: Result<(), RunFault>, written: &[u8], most: usize) {
     check_eq!(rt; outcome, Ok(()), most);
     check!(rt; written.ends_with(CALLED), most);
-    // The handshake's answer and WELCOME stand before.
+    // The handshake's answer and WELCOME come before.
     check_eq!(rt; written.len(), CALLED.len().wrapping_add(217), most);
 }
 
@@ -107,7 +107,7 @@ fn answers_a_client_that_calls_itself(rt: HostRuntime) {
 }
 
 #[test]
-fn reads_nothing_behind_the_handshake_before_it_is_answered(rt: HostRuntime) {
+fn reads_nothing_after_the_handshake_before_it_is_answered(rt: HostRuntime) {
     let mut reader = reader_of(b"\x7F\xF2\0\0rest", 8);
     let mut paper = new_paper(rt.alloc(), None);
     let outcome = run(rt.alloc(), &mut reader, &mut paper);
@@ -187,17 +187,17 @@ fn answers_what_came_before_the_end(rt: HostRuntime) {
     }
 }
 
-fn stops_behind_reads(rt: &impl Abort, alloc: Global, reads: u32) {
+fn stops_after_reads(rt: &impl Abort, alloc: Global, reads: u32) {
     let mut reader = reader_of(ASKED, 16);
     reader.reads_before_failure = Some(reads);
     let mut paper = new_paper(alloc, None);
     let outcome = run(alloc, &mut reader, &mut paper);
-    let ending = ending_behind(reader.reads_before_failure.is_none(), 83);
+    let ending = ending_after(reader.reads_before_failure.is_none(), 83);
     is_front(rt, outcome, paper.octets.as_slice(), ending, reads as usize);
 }
 
 // How a run ends in which a call has failed, or none.
-fn ending_behind(has_failed: bool, fault: u8) -> Result<(), RunFault> {
+fn ending_after(has_failed: bool, fault: u8) -> Result<(), RunFault> {
     if has_failed {
         Err(RunFault::Transport(fault))
     } else {
@@ -208,21 +208,21 @@ fn ending_behind(has_failed: bool, fault: u8) -> Result<(), RunFault> {
 #[test]
 fn stops_at_a_failed_read(rt: HostRuntime) {
     for reads in 0..16 {
-        stops_behind_reads(&rt, rt.alloc(), reads);
+        stops_after_reads(&rt, rt.alloc(), reads);
     }
 }
 
-fn stops_behind_writes(rt: &impl Abort, alloc: Global, calls: u32) {
+fn stops_after_writes(rt: &impl Abort, alloc: Global, calls: u32) {
     let mut paper = new_paper(alloc, Some(calls));
     let outcome = run(alloc, &mut reader_of(ASKED, 64), &mut paper);
-    let ending = ending_behind(paper.calls_before_failure.is_none(), 84);
+    let ending = ending_after(paper.calls_before_failure.is_none(), 84);
     is_front(rt, outcome, paper.octets.as_slice(), ending, calls as usize);
 }
 
 #[test]
 fn stops_at_a_failed_write(rt: HostRuntime) {
     for calls in 0..12 {
-        stops_behind_writes(&rt, rt.alloc(), calls);
+        stops_after_writes(&rt, rt.alloc(), calls);
     }
 }
 
@@ -234,7 +234,7 @@ const SMALL: (&[u8], &[u8]) = (
 \0\0\0\x08[33,1,1]",
 );
 
-// Appends a frame of this first octet, whose payload is `front`, so many times `x`, and `back`.
+// Appends a frame of this first octet, whose payload is `front`, `times` times `x`, and `back`.
 fn put_long(
     out: &mut Vec<u8>,
     kind: u8,
@@ -266,7 +266,7 @@ fn is_answered(
     is_due(rt, ending, written.as_slice(), outcome, due, asked.len());
 }
 
-// What the client sends that publishes so wide an event, and what it is answered, the event with it where that fits.
+// What the client sends that publishes so wide an event, and what it is answered, with the event if that fits.
 fn put_event(
     asked: &mut Vec<u8>,
     due: &mut Vec<u8>,
@@ -297,7 +297,7 @@ fn ends_at_an_event_that_is_too_wide(rt: HostRuntime) {
     publishes(&rt, rt.alloc(), 497, Err(RunFault::Transport(87)));
 }
 
-// What the client sends with so wide a ping, and what it is answered, the pong with it where that fits.
+// What the client sends with so wide a ping, and what it is answered, with the pong if that fits.
 fn put_pong(
     asked: &mut Vec<u8>,
     due: &mut Vec<u8>,

@@ -43,7 +43,7 @@ pub fn next_letter(consumer: &mut Consumer<FromClient>) -> Option<char>
     Some(letter)
 }
 
-// The next items of a ring have these letters, and none comes behind them.
+// The next items of a ring have these letters, and none comes after them.
 fn are_next(rt: &impl Abort, consumer: &mut Consumer<FromClient>, letters: &str) {
     for letter in letters.chars() {
         check_eq!(rt; next_letter(consumer), Some(letter), letters);
@@ -51,7 +51,7 @@ fn are_next(rt: &impl Abort, consumer: &mut Consumer<FromClient>, letters: &str)
     check_eq!(rt; next_letter(consumer), None, letters);
 }
 
-// The octets of a client, how many of them come at a time, and behind how many calls its stream fails; the slots of a ring that nobody
+// The octets of a client, how many of them come at a time, and after how many calls its stream fails; the slots of a ring that nobody
 // empties, and how often it is tried; how the reading ends then, and the letters of what it put into the ring.
 type Row = (
     &'static [u8],
@@ -157,7 +157,7 @@ fn next_holds(
     held
 }
 
-// The items of a ring that are told by what they hold.
+// The items of a ring, known by what they hold.
 fn hold(rt: &impl Abort, alloc: Global, consumer: &mut Consumer<FromClient>) {
     check_eq!(rt; next_letter(consumer), Some('C'));
     check!(rt; next_holds(rt, alloc, consumer, b"[32,1,{},\"a.b\"]"));
@@ -188,7 +188,7 @@ fn take_all(consumer: &mut Consumer<FromClient>) -> u32 {
     messages
 }
 
-// A stream that empties the ring whenever it is asked for no octets, as behind each vain try.
+// A stream that empties the ring whenever it is asked for no octets, as after each vain try.
 #[derive(Drop)]
 struct Emptying<'a> {
     asked: &'a [u8],

@@ -11,7 +11,7 @@ use test_checks::check_eq;
 
 pub const NODE: u8 = 2;
 
-// What the last turn told, where nothing happened in it.
+// What the last turn showed, if nothing happened in it.
 pub fn quiet() -> Seen {
     Seen {
         from: None,
@@ -44,7 +44,7 @@ fn letters_of(event: &Event<Act>) -> (Option<char>, char) {
         Event::Tick { .. } => (None, 't'),
         Event::Start { .. } => (None, 'b'),
         Event::Suspect { .. } => (None, 's'),
-        _ => (None, '?'),
+        Event::Deliver { .. } | Event::Crash { .. } | Event::Restart { .. } => (None, '?'),
     }
 }
 
@@ -56,6 +56,12 @@ fn next_event<F: Feed<Act, Say>>(feed: &mut F, seen: &Seen) -> Option<(Option<ch
     let letters = letters_of(&event);
     drop(event);
     Some(letters)
+}
+
+// The letter of the feed's next event, if the last turn brought nothing.
+pub fn next_letter<F: Feed<Act, Say>>(feed: &mut F) -> Option<char> {
+    let (_, letter) = next_event(feed, &quiet())?;
+    Some(letter)
 }
 
 // Appends the letters of a round's events.
@@ -95,7 +101,7 @@ pub fn gives<F: Feed<Act, Say>, G: Gate>(
     drop(letters);
 }
 
-// Appends the letters of the first round with events; which round that was.
+// Appends the letters of the first round with events. Returns which round that was.
 fn first_event<F: Feed<Act, Say>, G: Gate>(
     rt: &impl Abort,
     gate: &G,
@@ -111,7 +117,7 @@ fn first_event<F: Feed<Act, Say>, G: Gate>(
     panic!(rt; "no event came")
 }
 
-// The first event has this letter; in which round it came.
+// The first event has this letter. Returns in which round it came.
 pub fn comes<F: Feed<Act, Say>, G: Gate>(
     rt: &impl Abort,
     alloc: Global,

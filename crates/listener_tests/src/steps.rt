@@ -84,7 +84,7 @@ fn hang(
     check_eq!(rt; letters.next(), None);
 }
 
-// What is put of a row's octets is what the row says.
+// What is put for a row's octets is what the row says.
 fn goes_in(
     rt: &impl Abort,
     row: &Fed,
@@ -103,7 +103,7 @@ fn goes_in(
     hang(rt, inlet, (producer, consumer), &mut letters);
 }
 
-// The same, by an inlet and a ring of its own.
+// Does so by a new inlet and a new ring.
 fn goes_through(rt: &impl Abort, alloc: Global, row: &Fed) {
     let (mut producer, mut consumer) = RingBuffer::new(alloc, row.2).expect(rt, "a ring");
     let mut inlet = Inlet::new(alloc);
@@ -150,7 +150,7 @@ impl Write for Sips {
     }
 }
 
-// The lengths of PONGs, and whether `Close` comes behind them; how gathering ends, for a client that takes 512 octets, and which octets are
+// The lengths of PONGs, and whether `Close` comes after them; how gathering ends, for a client that takes 512 octets, and which octets are
 // written then.
 type Gathered = (
     &'static [usize],
@@ -196,7 +196,7 @@ fn goes_out(
     check!(rt; is_same(sips.octets.as_slice(), row.3), row.0);
 }
 
-// The same, by an outbox and a ring of its own.
+// Does so by a new outbox and a new ring.
 fn is_gathered(rt: &impl Abort, alloc: Global, row: &Gathered) {
     let (mut producer, mut consumer) = RingBuffer::new(alloc, 8).expect(rt, "a ring");
     hand_pongs(rt, alloc, &mut producer, row.0, row.1);
@@ -220,7 +220,7 @@ fn what_is_gathered_is_written_in_any_pieces(rt: HostRuntime) {
 }
 
 #[test]
-fn gathering_stops_behind_64_kib(rt: HostRuntime) {
+fn gathering_stops_after_64_kib(rt: HostRuntime) {
     let (mut producer, mut consumer) = RingBuffer::new(rt.alloc(), 8).expect(&rt, "a ring");
     hand_pongs(&rt, rt.alloc(), &mut producer, &[20_000; 5], false);
     let mut outbox = Outbox::new(rt.alloc(), 1 << 24);

@@ -19,7 +19,7 @@ impl Clock for AtOnce {
     }
 }
 
-// A stream that gives at most so many octets at a time and keeps what it is given. It fails once, behind so many calls.
+// A stream that gives a limited number of octets at a time and keeps what it is given. It fails once, after a number of calls.
 #[derive(Drop)]
 pub struct Wire<'a> {
     pub asked: &'a [u8],

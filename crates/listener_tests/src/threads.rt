@@ -63,7 +63,7 @@ fn hand_message(alloc: Global, producer: &mut Producer<ToClient>) -> bool {
     }
 }
 
-// Hands the messages over, and then the end. Answers how many messages there were.
+// Hands the messages over, and then the end. Returns how many messages there were.
 fn hand_all(alloc: Global, producer: Producer<ToClient>) -> u32 {
     let mut producer = producer;
     let mut handed: u32 = 0;

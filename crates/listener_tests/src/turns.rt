@@ -20,7 +20,7 @@ const TALK: [(&[u8], usize); 5] = [
     (b"\0\0\0\x1F[6,{},\"wamp.close.close_realm\"]", 39),
 ];
 
-// A client that sends its next part, or ends, only behind the answers to the parts before; a read before that fails.
+// A client that sends its next part, or ends, only after the answers to the parts before; a read before that fails.
 #[derive(Drop)]
 struct Client<'a> {
     others: &'a [(&'a [u8], usize)],

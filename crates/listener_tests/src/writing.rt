@@ -48,7 +48,7 @@ fn pong_of(rt: &impl Abort, alloc: Global, length: usize) -> ToClient {
     ToClient::Pong(payload)
 }
 
-// Hands an item to a ring. Answers whether there is one, and the ring had room for it.
+// Hands an item to a ring. Returns whether there is one, and the ring had room for it.
 pub fn hand<T: Drop>(producer: &mut Producer<T>, item: Option<T>) -> bool {
     match item {
         Some(item) => producer.push(item).is_ok(),
@@ -61,7 +61,7 @@ fn put<T: Drop>(rt: &impl Abort, producer: &mut Producer<T>, item: T) {
     check!(rt; hand(producer, Some(item)), "the ring has room");
 }
 
-// Puts the messages of the texts into a ring, and `Close` behind them.
+// Puts the messages of the texts into a ring, and `Close` after them.
 fn hand_texts(rt: &impl Abort, alloc: Global, producer: &mut Producer<ToClient>) {
     for text in TEXTS {
         let item = message_of(alloc, text.as_bytes());
@@ -82,7 +82,7 @@ fn writes_the_frames_of_the_stored_run(rt: HostRuntime) {
     drop(wire);
 }
 
-// Puts PONGs of these lengths into a ring, and `Close` behind them.
+// Puts PONGs of these lengths into a ring, and `Close` after them.
 pub fn hand_pongs(
     rt: &impl Abort,
     alloc: Global,
@@ -113,7 +113,7 @@ fn written(
     outcome
 }
 
-// The lengths of PONGs, whether `Close` comes behind them, and behind how many calls the stream fails; how the writing ends then, and which
+// The lengths of PONGs, whether `Close` comes after them, and after how many calls the stream fails; how the writing ends then, and which
 // octets are written.
 type Row = (
     &'static [usize],
@@ -180,7 +180,7 @@ struct Filling {
 }
 
 impl Filling {
-    // Hands the next item to the ring. Answers whether it had room for it.
+    // Hands the next item to the ring. Returns whether it had room for it.
     fn hand_next(&mut self) -> bool {
         if self.left == 0 {
             return hand(&mut self.producer, Some(ToClient::Close));
@@ -227,7 +227,7 @@ fn ten_thousand_messages_are_written_out_of_a_ring_of_64(rt: HostRuntime) {
     drop(stream);
 }
 
-// What an outbox answers to a frame, to one that is too wide, and to two tries to write what it holds; how much it holds behind each try.
+// What an outbox returns for a frame, for one that is too wide, and for two tries to write what it holds; how much it holds after each try.
 fn tries(outbox: &mut Outbox, wire: &mut Wire<'_>) -> ([Result<(), ListenFault>; 4], [usize; 2]) {
     let kept = outbox.put(FrameKind::Pong, b"ab".as_slice());
     let refused = outbox.put(FrameKind::Message, &[b'x'; 513]);

@@ -1,6 +1,6 @@
 use crate::order::are_read;
 
-// Command lines of a cluster that serves. Each option comes first and last once, and the five stand in many orders.
+// Command lines of a cluster that serves. Each option comes first and last once, and the five come in many orders.
 const CLUSTERS: &[(&str, &str)] = &[
     (
         "serve --nodes 3 --port 9000 --key 7",

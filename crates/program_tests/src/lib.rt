@@ -1,5 +1,5 @@
 //! Tests of the program's calls over the public surface of `cluster_program`: the command line, scripts, a served cluster; and of the
-//! acceptor's store over SQLite, and of an actor over it, by their public calls. A crate with tests is proved twice, so they stand here.
+//! acceptor's store over SQLite, and of an actor over it, by their public calls. A crate with tests is proved twice, so they are here.
 #![tactic(auto)]
 
 #[cfg(test)]
@@ -13,11 +13,15 @@ mod player;
 #[cfg(test)]
 mod script;
 #[cfg(test)]
+mod script_flushes;
+#[cfg(test)]
+mod script_lines;
+#[cfg(test)]
+mod seated_actor;
+#[cfg(test)]
 mod serve;
 #[cfg(test)]
 mod sql;
-#[cfg(test)]
-mod station;
 #[cfg(test)]
 mod store_actors;
 #[cfg(test)]

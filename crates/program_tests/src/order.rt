@@ -141,7 +141,7 @@ fn reads_command_lines(rt: HostRuntime) {
     are_read(&rt, rt.alloc(), LINES);
 }
 
-// Command lines, and what tells what may have been meant.
+// Command lines, and the words that say what may have been meant.
 const HINTS: &[(&str, &str)] = &[
     ("steam", "tip: a similar subcommand exists: 'stream'"),
     (
@@ -203,6 +203,8 @@ const TEXTS: &[(&str, &str)] = &[
         "wampd serve --nodes 3 --port 9000 --key 7 --dir data",
     ),
     ("--help", "\n  serve "),
+    ("--help", "\n  4  a node of the cluster failed\n"),
+    ("--help", "\ndocs/OPERATING.md explains each status"),
 ];
 
 fn is_helped(rt: &impl Abort, alloc: Global, line: &str, text: &str) {

@@ -1,7 +1,7 @@
-// Scripts that are played, told by the text of the world behind them: who owns a world proves the drop of each type in it.
+// Scripts that are played, and the text of the world after them: a crate that owns a world proves the drop of each type in it.
 use crate::script::{Row, is_played};
 
-// Scripts in a cluster of three nodes, and the nodes with their logs behind them, worked out by hand.
+// Scripts in a cluster of three nodes, and the nodes with their logs after them, worked out by hand.
 const SCRIPTS: &[Row] = &[
     Row {
         nodes: 3,

@@ -10,7 +10,7 @@ const FEATURES: &str =
     "{\"roles\":{\"broker\":{\"features\":{\"pattern_based_subscription\":true,\"publisher_exclusion\":true}},\
 \"dealer\":{\"features\":{\"call_canceling\":true,\"pattern_based_registration\":true,\"shared_registration\":true}}}}";
 
-// A script in a cluster of so many nodes, and the text that it writes: each node's, and what transports were told.
+// A script in a cluster of `nodes` nodes, and the text that it writes: each node's, and what was said to transports.
 pub(crate) struct Row {
     pub(crate) nodes: u8,
     pub(crate) script: &'static str,
@@ -119,7 +119,7 @@ fn put_row(row: &Row, text: &mut String) -> Result<(), AllocError> {
     Ok(())
 }
 
-// Puts the nodes' logs, each node's first line behind its number.
+// Puts the nodes' logs, each node's first line after its number.
 fn put_logs(logs: &[&str], text: &mut String) -> Result<(), AllocError> {
     let mut node = 0_u8;
     for log in logs {
@@ -132,7 +132,7 @@ fn put_logs(logs: &[&str], text: &mut String) -> Result<(), AllocError> {
     Ok(())
 }
 
-// Puts a line of what transports were told.
+// Puts a line of what was said to transports.
 fn put_told(line: &str, text: &mut String) -> Result<(), AllocError> {
     let written = match line.strip_suffix("W]") {
         Some(front) => writeln!(text, "{front}{FEATURES}]"),
@@ -151,7 +151,7 @@ fn run(
     script_run(alloc, reader, paper, members, "realm1")
 }
 
-// What a script writes that is read by so many octets at a time, and how it ends.
+// What a script writes that is read by `most` octets at a time, and how it ends.
 fn play(
     rt: &impl Abort,
     alloc: Global,
@@ -212,7 +212,7 @@ const BAD: &[(&[u8], u64)] = &[
     (b"tick 1\r\n", 1),
 ];
 
-fn is_bad(rt: &impl Abort, alloc: Global, script: &[u8], number: u64) {
+pub(crate) fn is_bad(rt: &impl Abort, alloc: Global, script: &[u8], number: u64) {
     let (written, outcome) = play(rt, alloc, 3, script, 5);
     check_eq!(rt; outcome, Err(RunFault::Line(number)), script);
     check!(rt; written.is_empty(), script);
@@ -229,7 +229,7 @@ fn writes_nothing_where_a_line_is_bad(rt: HostRuntime) {
 const SCRIPT: &[u8] =
     b"start 1\nflush\ntake 2 1 connect\ntake 2 1 say [1,\"realm1\",{}]\nflush\ncrash 3\n";
 
-fn stops_behind_reads(rt: &impl Abort, alloc: Global, members: Members, reads: u32) {
+fn stops_after_reads(rt: &impl Abort, alloc: Global, members: Members, reads: u32) {
     let mut reader = reader_of(SCRIPT, 16);
     reader.reads_before_failure = Some(reads);
     let mut paper = new_paper(alloc, None);
@@ -246,11 +246,11 @@ fn stops_behind_reads(rt: &impl Abort, alloc: Global, members: Members, reads: u
 fn stops_at_a_failed_read_of_a_script(rt: HostRuntime) {
     let members = Members::new(3).expect(&rt, "a number of nodes");
     for reads in 0..10 {
-        stops_behind_reads(&rt, rt.alloc(), members, reads);
+        stops_after_reads(&rt, rt.alloc(), members, reads);
     }
 }
 
-fn ends_behind_writes(
+fn ends_after_writes(
     rt: &impl Abort,
     alloc: Global,
     members: Members,
@@ -267,12 +267,12 @@ fn ends_behind_writes(
 fn stops_at_a_failed_write_of_a_script(rt: HostRuntime) {
     let members = Members::new(3).expect(&rt, "a number of nodes");
     let failed = Err(RunFault::Transport(84));
-    ends_behind_writes(&rt, rt.alloc(), members, 0, failed);
-    ends_behind_writes(&rt, rt.alloc(), members, 1, failed);
-    ends_behind_writes(&rt, rt.alloc(), members, 2, Ok(()));
+    ends_after_writes(&rt, rt.alloc(), members, 0, failed);
+    ends_after_writes(&rt, rt.alloc(), members, 1, failed);
+    ends_after_writes(&rt, rt.alloc(), members, 2, Ok(()));
 }
 
-// Puts a script of so many turns of a client that opens a session and leaves.
+// Puts a script of `turns` turns of a client that opens a session and leaves.
 fn put_turns(script: &mut Vec<u8>, turns: u16) -> Result<(), AllocError> {
     script.extend_from_slice(b"start 1\nflush\ntake 2 1 connect\n")?;
     for _ in 0..turns {

@@ -3,21 +3,23 @@ use crate::check::Check;
 use cluster_program::{Gate, Members, serve_run};
 use std::alloc::{AllocError, Global};
 use std::io::{Read, Write};
-use std::net::{Ipv4Addr, Net, TcpStream};
+use std::net::{Ipv4Addr, Net, TcpListener, TcpStream};
+use std::process::Abort;
 use std::sync::Arc;
 use std::sync::atomic::{AtomicBool, Ordering};
 use std::time::{Clock, Duration};
 use std::{io, thread};
-use test_checks::{check, check_eq};
+use test_checks::check;
 
-// How often something is looked for, a millisecond apart.
+// How often a flag is looked at, a millisecond apart.
 const POLLS: u32 = 10_000;
 
-const PORT: u16 = 24_871;
+// How often ports are drawn of which one is in use.
+const TRIES: u32 = 32;
 
 const HELLO: &str = r#"[1,"realm1",{"roles":{"subscriber":{},"publisher":{}}}]"#;
 
-// Looks until the flag is set; whether it was.
+// Looks until the flag is set. Returns whether it was.
 fn is_set_in_time<R: Clock>(rt: &R, flag: &AtomicBool) -> bool {
     for _ in 0..POLLS {
         if flag.load(Ordering::SeqCst) {
@@ -69,7 +71,7 @@ impl<R: Clock> Read for Input<R> {
     }
 }
 
-// A stream to this port, as soon as it is listened on.
+// Connects to this port as soon as it is listened on.
 fn connected<R: Net<Stream = TcpStream> + Clock>(rt: &R, port: u16) -> io::Result<TcpStream> {
     for _ in 0..POLLS {
         if let Ok(stream) = TcpStream::connect(rt, (Ipv4Addr::LOCALHOST, port)) {
@@ -78,6 +80,36 @@ fn connected<R: Net<Stream = TcpStream> + Clock>(rt: &R, port: u16) -> io::Resul
         thread::sleep(rt, Duration::from_millis(1));
     }
     Err(io::ErrorKind::TimedOut.into())
+}
+
+// Whether nothing listens at this port.
+fn is_free<R: Net<Listener = TcpListener, Stream = TcpStream>>(rt: &R, port: u16) -> bool {
+    TcpListener::bind(rt, (Ipv4Addr::LOCALHOST, port)).is_ok()
+}
+
+// Returns a port that the system has chosen, if the next two are free as well.
+fn draw_port<R: Net<Listener = TcpListener, Stream = TcpStream>>(
+    rt: &R,
+) -> io::Result<Option<u16>> {
+    let listener = TcpListener::bind(rt, (Ipv4Addr::LOCALHOST, 0))?;
+    let address = listener.local_addr();
+    let port = address?.port();
+    let (Some(second), Some(third)) = (port.checked_add(1), port.checked_add(2)) else {
+        return Ok(None);
+    };
+    let are_free = is_free(rt, second) && is_free(rt, third);
+    drop(listener);
+    if are_free { Ok(Some(port)) } else { Ok(None) }
+}
+
+// Returns the first of three successive ports that are free.
+fn free_port<R: Net<Listener = TcpListener, Stream = TcpStream> + Abort>(rt: &R) -> u16 {
+    for _ in 0..TRIES {
+        if let Some(port) = draw_port(rt).expect(rt, "a port") {
+            return port;
+        }
+    }
+    rt.panic("no three successive ports are free")
 }
 
 // A client, which has done the handshake.
@@ -117,14 +149,14 @@ impl Client {
         self.stream.write_all(text.as_bytes())
     }
 
-    // Sends a message, and takes its answer.
+    // Sends a message, and reads its answer.
     fn ask(&mut self, alloc: Global, text: &str) -> io::Result<()> {
         self.say(text)?;
         drop(self.hear(alloc)?);
         Ok(())
     }
 
-    // The next message; empty where it has 256 octets or more.
+    // Reads the next message, which fails if it has 256 octets or more.
     fn hear(&mut self, alloc: Global) -> io::Result<String> {
         let mut head = [0u8; 4];
         self.stream.read_exact(&mut head)?;
@@ -141,22 +173,27 @@ impl Client {
     }
 }
 
-// A client of node 1 subscribes, and once it is answered one of node 2 publishes: what the first one is told.
-fn event_of<R: Net<Stream = TcpStream> + Clock>(rt: &R, alloc: Global) -> io::Result<String> {
-    let mut first = Client::open(rt, PORT)?;
-    let heard = event_at(rt, alloc, &mut first);
+// A client of node 1, which listens at this port, subscribes, and once it is answered one of node 2 publishes. Returns what the first one reads.
+fn event_at<R: Net<Stream = TcpStream> + Clock>(
+    rt: &R,
+    alloc: Global,
+    port: u16,
+) -> io::Result<String> {
+    let mut first = Client::open(rt, port)?;
+    let heard = event_of(rt, alloc, port, &mut first);
     drop(first);
     heard
 }
 
-fn event_at<R: Net<Stream = TcpStream> + Clock>(
+fn event_of<R: Net<Stream = TcpStream> + Clock>(
     rt: &R,
     alloc: Global,
+    port: u16,
     first: &mut Client,
 ) -> io::Result<String> {
     first.ask(alloc, HELLO)?;
     first.ask(alloc, r#"[32,1,{},"a.b"]"#)?;
-    let mut second = Client::open(rt, PORT + 1)?;
+    let mut second = Client::open(rt, port.saturating_add(1))?;
     let heard = event_between(alloc, first, &mut second);
     drop(second);
     heard
@@ -168,10 +205,25 @@ fn event_between(alloc: Global, first: &mut Client, second: &mut Client) -> io::
     first.hear(alloc)
 }
 
+fn is_event(rt: &impl Abort, heard: io::Result<String>) -> bool {
+    let heard = heard.expect(rt, "an event");
+    heard.as_str().starts_with("[36,1,") && heard.as_str().ends_with(r#",{},["hi"]]"#)
+}
+
+// Whether these octets say that the nodes listen at this port and the next two.
+fn are_ports(rt: &impl Abort, alloc: Global, octets: &[u8], port: u16) -> bool {
+    let (second, third) = (port.saturating_add(1), port.saturating_add(2));
+    let wanted = format!(in alloc;
+        "node 1 listens on 127.0.0.1:{port}\nnode 2 listens on 127.0.0.1:{second}\nnode 3 listens on 127.0.0.1:{third}\n"
+    ).expect(rt, "room for a text");
+    wanted.as_str().as_bytes() == octets
+}
+
 #[test]
 fn an_event_crosses_nodes_that_step_on_threads_of_their_own(rt: HostRuntime) {
     let alloc = rt.alloc();
     let members = Members::new(3).expect(&rt, "three nodes");
+    let port = free_port(&rt);
     let over = Arc::new(alloc, AtomicBool::new(false)).expect(&rt, "room for a flag");
     let input = Input {
         rt: rt.clone().expect(&rt, "the same handle"),
@@ -181,23 +233,29 @@ fn an_event_crosses_nodes_that_step_on_threads_of_their_own(rt: HostRuntime) {
         rt: &rt,
         second: AtomicBool::new(false),
     };
-    let mut told = Vec::new(alloc);
+    let mut printed = Vec::new(alloc);
     let (served, heard) = thread::join(
         &rt,
         || serve_run(
-            &rt, &rt, input, &mut told, members, PORT, 7, None, "realm1", &gate,
+            &rt,
+            &rt,
+            input,
+            &mut printed,
+            members,
+            port,
+            7,
+            None,
+            "realm1",
+            &gate,
         ),
         || {
-            let heard = event_of(&rt, alloc);
+            let heard = event_at(&rt, alloc, port);
             over.store(true, Ordering::SeqCst);
             heard
         },
     );
     check!(&rt; served.is_ok());
     check!(&rt; gate.second.load(Ordering::SeqCst));
-    let heard = heard.expect(&rt, "an event");
-    check!(&rt; heard.as_str().starts_with("[36,1,"));
-    check!(&rt; heard.as_str().ends_with(r#",{},["hi"]]"#));
-    let told = str::from_utf8(told.as_slice()).expect(&rt, "text");
-    check_eq!(&rt; told, "node 1 listens on 127.0.0.1:24871\nnode 2 listens on 127.0.0.1:24872\nnode 3 listens on 127.0.0.1:24873\n");
+    check!(&rt; is_event(&rt, heard));
+    check!(&rt; are_ports(&rt, alloc, printed.as_slice(), port));
 }

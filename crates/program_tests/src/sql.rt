@@ -12,8 +12,8 @@ use test_machines::{Number, Octet};
 
 pub type Sql<S> = SqlKeeper<Number, Octet, S>;
 
-// What a keeper answered: its fault's number or 0, the boot number, the round promised, and the rounds of the votes in slots 1 to 3,
-// each 0 where there is none.
+// What a keeper returned: its fault's number or 0, the boot number, the round promised, and the rounds of the votes in slots 1 to 3,
+// each 0 if there is none.
 type Answer = (u8, u64, u64, [u64; 3]);
 
 // What is asked of a store: a commit has its round, its bodies and its slots.
@@ -24,7 +24,7 @@ enum Ask<'a> {
     Failures,
 }
 
-// A call, and what it answers; a commit answers its fault alone, and failures stand in the place of the boot number.
+// A call, and what it returns; a commit returns its fault alone, and failures are in the place of the boot number.
 type Row<'a> = (Ask<'a>, Answer);
 
 fn round_in(votes: &Votes<Number>, slot: u64) -> u64 {
@@ -167,7 +167,7 @@ fn answers<S: Alter>(rt: &impl Abort, alloc: Global, keeper: &mut Sql<S>, rows: 
     }
 }
 
-// The connection behind a store that was opened, asked for each row and closed.
+// Opens a store, asks it for each row, closes it, and returns its connection.
 fn life<S: Alter>(
     rt: &impl Abort,
     alloc: Global,
@@ -191,7 +191,7 @@ fn two_lives<S: Alter + Drop>(
     drop(life(rt, alloc, conn, second));
 }
 
-// The same in memory.
+// Does so in memory.
 fn two_in_memory(rt: &impl Abort, alloc: Global, first: &[Row<'_>], second: &[Row<'_>]) {
     two_lives(rt, alloc, in_memory(rt, alloc), first, second);
 }
@@ -252,8 +252,8 @@ const STORED: &[Row<'static>] = &[
     (Ask::Commit(1, 7, &[1]), (0, 0, 0, [0, 0, 0])),
 ];
 
-// The store opened again, once the text was run in it.
-fn opened_behind<S: Alter>(
+// Runs the text in a store, and returns it opened again.
+fn opened_after<S: Alter>(
     rt: &impl Abort,
     alloc: Global,
     conn: Connection<S>,
@@ -266,17 +266,17 @@ fn opened_behind<S: Alter>(
 
 /// A store that can be closed and opened again.
 pub trait Reopens {
-    /// The store opened again, once the text was run in its database.
-    fn behind<R: Abort>(self, rt: &R, alloc: Global, sql: &str) -> Self;
+    /// Runs the text in the database, and returns the store opened again.
+    fn reopen_after<R: Abort>(self, rt: &R, alloc: Global, sql: &str) -> Self;
 }
 
 impl<S: Alter> Reopens for Sql<S> {
-    fn behind<R: Abort>(self, rt: &R, alloc: Global, sql: &str) -> Sql<S> {
-        opened_behind(rt, alloc, self.close(), sql)
+    fn reopen_after<R: Abort>(self, rt: &R, alloc: Global, sql: &str) -> Sql<S> {
+        opened_after(rt, alloc, self.close(), sql)
     }
 }
 
-// What a load answers of that store, damaged by this text, and what a boot.
+// What a load of that store returns, damaged by this text, and what a boot returns.
 fn damaged<S: Alter + Drop>(
     rt: &impl Abort,
     alloc: Global,
@@ -284,7 +284,7 @@ fn damaged<S: Alter + Drop>(
     sql: &str,
 ) -> (u8, u8) {
     let conn = life(rt, alloc, conn, STORED);
-    let mut again = opened_behind(rt, alloc, conn, sql);
+    let mut again = opened_after(rt, alloc, conn, sql);
     let loaded = load(&mut again);
     let booted = boot(&mut again);
     drop(again);
@@ -295,7 +295,7 @@ fn damaged_in_memory(rt: &impl Abort, alloc: Global, sql: &str) -> (u8, u8) {
     damaged(rt, alloc, in_memory(rt, alloc), sql)
 }
 
-// Texts that damage the store, and what a load and a boot answer then.
+// Texts that damage the store, and what a load and a boot return then.
 const DAMAGES: &[(&str, (u8, u8))] = &[
     ("UPDATE meta SET boot = 1", (0, 0)),
     ("UPDATE meta SET version = 9", (63, 63)),
@@ -329,8 +329,8 @@ fn damage(rt: HostRuntime) {
     }
 }
 
-// The storage behind a life.
-fn storage_behind<S: Alter + Drop>(
+// The storage after a life.
+fn storage_after<S: Alter + Drop>(
     rt: &impl Abort,
     alloc: Global,
     conn: Connection<S>,
@@ -351,7 +351,7 @@ fn on_disks<D: Crash + Drop>(
     }
 }
 
-// The disks behind a life that a crash ends: what was not synced is lost.
+// The disks after a life that a crash ends: what was not synced is lost.
 fn life_on_disks<D: Crash + Drop>(
     rt: &impl Abort,
     alloc: Global,
@@ -359,7 +359,7 @@ fn life_on_disks<D: Crash + Drop>(
     rows: &[Row<'_>],
 ) -> Files<D> {
     let conn = on_disks(rt, alloc, files);
-    let mut files = storage_behind(rt, alloc, conn, rows).close();
+    let mut files = storage_after(rt, alloc, conn, rows).close();
     files.log.crash();
     files.db.crash();
     files

@@ -4,8 +4,8 @@ ghost use Rattle.mail_table.specs.Seats.{Owns};
 ghost use Rattle.paxos_node.specs.declared.view.Opened.TheVariants.{Never};
 
 use crate::check::Check;
+use crate::seated_actor::{Left, SeatedActor, again, number_of, opened};
 use crate::sql::{Reopens, new_store};
-use crate::station::{Left, Station, again, number_of, opened};
 use mail_table::{Mail, NodeSeat, Office, found};
 use node_actor::{Keeper, Machine, Members};
 use std::alloc::Global;
@@ -28,56 +28,56 @@ fn second(mail: &Mail<Number>, seats: &mut Vec<NodeSeat<Number>>) -> Option<Node
 fn crashed<'a, K: Keeper<Number> + Reopens>(
     rt: &impl Abort,
     alloc: Global,
-    station: Station<'a, Count, K>,
+    actor: SeatedActor<'a, Count, K>,
     sql: &str,
 ) -> (Left<'a, Count>, K) {
-    let (left, keeper) = station.crash();
-    (left, keeper.behind(rt, alloc, sql))
+    let (left, keeper) = actor.crash();
+    (left, keeper.reopen_after(rt, alloc, sql))
 }
 
 // The actor that goes on from this one.
 fn restarted<'a, K: Keeper<Number> + Reopens>(
     rt: &impl Abort,
     alloc: Global,
-    station: Station<'a, Count, K>,
-) -> Station<'a, Count, K> {
-    let (left, keeper) = crashed(rt, alloc, station, "UPDATE meta SET boot = boot");
+    actor: SeatedActor<'a, Count, K>,
+) -> SeatedActor<'a, Count, K> {
+    let (left, keeper) = crashed(rt, alloc, actor, "UPDATE meta SET boot = boot");
     again(rt, left.restart(alloc, Count::new(alloc), keeper))
 }
 
 const LAST: &str = "UPDATE meta SET boot = 281474976710655";
 
-// The round that the actor promised, and the fault of a restart where its store has the last boot number.
+// The round that the actor promised, and the fault of a restart if its store has the last boot number.
 fn ended<K: Keeper<Number> + Reopens + Drop>(
     rt: &impl Abort,
     alloc: Global,
-    station: Station<'_, Count, K>,
+    actor: SeatedActor<'_, Count, K>,
 ) -> (u64, u8) {
-    let (left, keeper) = crashed(rt, alloc, station, LAST);
+    let (left, keeper) = crashed(rt, alloc, actor, LAST);
     let round = left.promised();
     let fault = number_of(rt, left.restart(alloc, Count::new(alloc), keeper));
     (round, fault)
 }
 
 // It begins five ballots, and promises each to itself.
-fn begin_five<M: Machine, K: Keeper<M::Body>>(station: &mut Station<'_, M, K>) {
+fn begin_five<M: Machine, K: Keeper<M::Body>>(actor: &mut SeatedActor<'_, M, K>) {
     for _ in 0..5 {
-        station.start();
+        actor.start();
     }
 }
 
 fn lives<K: Keeper<Number> + Reopens + Drop>(
     rt: &impl Abort,
     alloc: Global,
-    station: Station<'_, Count, K>,
+    actor: SeatedActor<'_, Count, K>,
 ) -> (u64, u8) {
-    let mut station = station;
-    begin_five(&mut station);
-    let again = restarted(rt, alloc, station);
+    let mut actor = actor;
+    begin_five(&mut actor);
+    let again = restarted(rt, alloc, actor);
     ended(rt, alloc, again)
 }
 
-// The same of an actor of node 2 at this table.
+// Does so with an actor of node 2 at this table.
 fn at_table<K: Keeper<Number> + Reopens + Drop>(
     rt: &impl Abort,
     alloc: Global,
@@ -92,11 +92,11 @@ fn at_table<K: Keeper<Number> + Reopens + Drop>(
     let Some(seat) = second(mail, seats) else {
         panic!(rt; "no seat of node 2");
     };
-    let station = opened(rt, alloc, mail, seat, members, Count::new(alloc), keeper);
-    lives(rt, alloc, station)
+    let actor = opened(rt, alloc, mail, seat, members, Count::new(alloc), keeper);
+    lives(rt, alloc, actor)
 }
 
-// The same over a new table.
+// Does so at a new table.
 fn outlives<K: Keeper<Number> + Reopens + Drop>(
     rt: &impl Abort,
     alloc: Global,

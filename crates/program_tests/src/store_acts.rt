@@ -8,12 +8,12 @@ use sqlite::{Alter, Connection};
 use std::alloc::Global;
 use std::process::Abort;
 use store_keeper::{Keeper, KeeperFault};
-use test_checks::check_eq;
+use test_checks::{check, check_eq};
 use wamp_messages::{UnfitKind, read};
 
 type Sql<S> = SqlKeeper<Act, ActCoder, S>;
 
-// What a keeper answered: its fault's number or 0, the boot number, the round promised, and whether the votes are those that were asked
+// What a keeper returned: its fault's number or 0, the boot number, the round promised, and whether the votes are those that were asked
 // for, with equal acts.
 type Answer = (u8, u64, u64, bool);
 
@@ -31,7 +31,7 @@ enum Ask {
     Commit(Part),
 }
 
-// A call, and what it answers; a commit answers its fault alone.
+// A call, and what it returns; a commit returns its fault alone.
 type Row = (Ask, Answer);
 
 // What is asked of a new store with votes for these acts and others, and what of it opened again.
@@ -69,11 +69,12 @@ fn quiet(request: Id) -> Read {
     }
 }
 
-// `quiet`, or what is read of the text of a message.
+// `quiet`, or what is read of the text of a message: another word ends the test.
 fn read_in(rt: &impl Abort, alloc: Global, word: &str) -> Read {
     if word == "quiet" {
         return quiet(Id::new(1).expect(rt, "an id"));
     }
+    check!(rt; word.starts_with("["), word);
     read(alloc, word.as_bytes()).expect(rt, "room for a message")
 }
 
@@ -189,7 +190,7 @@ fn answers<S: Alter>(rt: &impl Abort, keeper: &mut Sql<S>, changes: &Changes, ro
     }
 }
 
-// The connection behind a store that was opened, asked for each row and closed.
+// Opens a store, asks it for each row, closes it, and returns its connection.
 fn life<S: Alter>(
     rt: &impl Abort,
     alloc: Global,

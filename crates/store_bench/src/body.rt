@@ -23,7 +23,7 @@ impl Model for Octets {
 }
 
 impl Octets {
-    /// The body of these octets, copied; `Memory` where there is no memory for them.
+    /// Returns the body of these octets, copied; `Memory` if memory runs out.
     pub fn of(alloc: Global, octets: &[u8]) -> Result<Octets, Memory>
         ensures { IfOk result (λ body. body ≡ octets.now) }
     {

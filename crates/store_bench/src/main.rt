@@ -13,10 +13,10 @@ use std::process::ExitCode;
 const USAGE: &str = "\
 usage: store_bench memory N
        store_bench file PATH N
-  commits N votes of 200 octets, each alone, then N promises with a vote each, behind what the store has; the counts are
+  commits N votes of 200 octets, each alone, then N promises with a vote each, after what the store has; the counts are
   printed, and on standard error the nanoseconds that opening, loading and a commit took";
 
-// The words of the command line, without the program's own name; none where they cannot be read.
+// Returns the words of the command line, without the program's own name.
 fn words_of(rt: &HostRuntime) -> Result<Vec<String>, Error> {
     let mut words = Vec::new(rt.alloc());
     for word in env::args(rt)?.skip(1) {
@@ -31,7 +31,7 @@ fn misuse(rt: &HostRuntime) -> ExitCode {
     ExitCode::from(2)
 }
 
-// The status of a run, whose fault is told on standard error.
+// Returns the status of a run, and prints its fault on standard error.
 fn ended(rt: &HostRuntime, done: Result<(), BenchFault>) -> ExitCode {
     match done {
         Ok(()) => ExitCode::SUCCESS,

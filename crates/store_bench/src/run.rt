@@ -1,4 +1,4 @@
-// The runs: commits behind what a store has, and what they take.
+// The runs: commits after what a store has, and what they take.
 use crate::body::{LENGTH, Octets, Plain};
 use crate::fault::BenchFault;
 use acceptor_store::SqlKeeper;
@@ -52,7 +52,7 @@ fn vote(alloc: Global, slot: u64, round: u64) -> Result<Vote<Octets>, BenchFault
     })
 }
 
-// A vote of this round in this slot, and with it the promise of that round where `promises`.
+// A vote of this round in this slot, and with it the promise of that round if `promises`.
 fn change(
     alloc: Global,
     slot: u64,
@@ -111,7 +111,7 @@ fn promise<S: Alter>(alloc: Global, store: &mut Store<S>, round: u64) -> Result<
     commit(store, &change)
 }
 
-// A vote of this round in this slot, and with it the promise of that round where `promises`.
+// A vote of this round in this slot, and with it the promise of that round if `promises`.
 fn commit_next<S: Alter>(
     alloc: Global,
     store: &mut Store<S>,
@@ -123,7 +123,7 @@ fn commit_next<S: Alter>(
     commit(store, &next)
 }
 
-// Commits a vote in each of the next slots, `times` times, each with a promise of its own where `promises`.
+// Commits a vote in each of the next slots, `times` times, each with another promise if `promises`.
 fn commits<S: Alter>(
     alloc: Global,
     store: &mut Store<S>,
@@ -143,19 +143,19 @@ fn commits<S: Alter>(
     Ok(())
 }
 
-// Tells on standard error what one of so many steps took.
+// Prints on standard error what one of `times` steps took.
 fn tell(rt: &HostRuntime, what: &str, taken: Duration, times: u64) {
     let each = taken.as_nanos() / u128::from(times.max(1));
     let _ = eprintln!(rt; "{what}: {each} ns");
 }
 
-// Tells on standard error what one of so many steps took since the start.
+// Prints on standard error what one of `times` steps took since the start.
 fn tell_since(rt: &HostRuntime, what: &str, start: Instant, times: u64) -> Result<(), BenchFault> {
     tell(rt, what, start.elapsed(rt)?, times);
     Ok(())
 }
 
-// Begins a boot, and makes a first promise where there is none.
+// Begins a boot, and makes a first promise if the store has none.
 fn begin<S: Alter>(rt: &HostRuntime, store: &mut Store<S>) -> Result<Found, BenchFault> {
     let start = Instant::now(rt)?;
     let mut begun = boot(store)?;
@@ -167,7 +167,7 @@ fn begin<S: Alter>(rt: &HostRuntime, store: &mut Store<S>) -> Result<Found, Benc
     Ok(begun)
 }
 
-// Commits `times` votes, then `times` promises with a vote, and tells what a commit took.
+// Commits `times` votes, then `times` promises with a vote, and prints what a commit took.
 fn measure<S: Alter>(
     rt: &HostRuntime,
     store: &mut Store<S>,
@@ -177,16 +177,16 @@ fn measure<S: Alter>(
     let start = Instant::now(rt)?;
     commits(rt.alloc(), store, from, times, false)?;
     tell_since(rt, "a commit of a vote", start, times)?;
-    let behind = Found {
+    let with_votes = Found {
         votes: from.votes.saturating_add(times),
         ..from
     };
     let start = Instant::now(rt)?;
-    commits(rt.alloc(), store, behind, times, true)?;
+    commits(rt.alloc(), store, with_votes, times, true)?;
     tell_since(rt, "a commit of a promise and a vote", start, times)
 }
 
-// Begins a boot, measures commits behind what the store has, and prints what it holds then.
+// Begins a boot, measures commits after what the store has, and prints what it holds then.
 fn run_over<S: Alter>(
     rt: &HostRuntime,
     store: &mut Store<S>,
@@ -226,7 +226,7 @@ pub fn in_memory(rt: &HostRuntime, times: u64) -> Result<(), BenchFault> {
     done
 }
 
-// The run over a file that took so long to open, which is closed behind it.
+// Runs over a file that took this long to open, and closes it.
 fn run_on(
     rt: &HostRuntime,
     conn: Connection<FileStore<File>>,
@@ -243,7 +243,7 @@ fn run_on(
     Ok(())
 }
 
-/// Commits to a store on the file at this path, behind what it has.
+/// Commits to a store on the file at this path, after what it has.
 pub fn on_file(rt: &HostRuntime, path: &str, times: u64) -> Result<(), BenchFault> {
     let start = Instant::now(rt)?;
     let conn = Connection::open(rt, path)?;

@@ -2,13 +2,13 @@ use std::alloc::Global;
 use std::io;
 use std::io::{Read, Write};
 
-/// A reader that gives at most so many octets at a time, and fails once.
+/// A reader that gives a limited number of octets at a time, and fails once.
 #[derive(Drop)]
 pub struct Pieces<'a> {
-    /// What it has still to give.
+    /// The octets that are left.
     pub octets: &'a [u8],
     most: usize,
-    /// How many reads come before the one that fails; none once it has failed, or where none is to fail.
+    /// How many reads come before the one that fails; `None` once it has failed, or if none is to fail.
     pub reads_before_failure: Option<u32>,
 }
 
@@ -34,7 +34,7 @@ pub struct Paper {
     pub octets: Vec<u8>,
     /// How many octets the longest write had.
     pub longest: usize,
-    /// How many calls come before the one that fails; none once it has failed, or where none is to fail.
+    /// How many calls come before the one that fails; `None` once it has failed, or if none is to fail.
     pub calls_before_failure: Option<u32>,
 }
 
@@ -72,7 +72,7 @@ impl Write for Paper {
     }
 }
 
-/// A reader of these octets, by so many at a time.
+/// Returns a reader of these octets, which gives at most `most` of them at a time and does not fail.
 pub fn reader_of(octets: &[u8], most: usize) -> Pieces<'_> {
     Pieces {
         octets,
@@ -81,7 +81,7 @@ pub fn reader_of(octets: &[u8], most: usize) -> Pieces<'_> {
     }
 }
 
-/// A writer with nothing in it, which fails behind so many calls.
+/// Returns an empty writer, which fails after this many calls, if a number is given.
 pub fn new_paper(alloc: Global, calls_before_failure: Option<u32>) -> Paper {
     Paper {
         octets: Vec::new(alloc),

@@ -1,5 +1,5 @@
-//! The checks of tests. What `assert!` and `assert_eq!` write out is proved anew wherever one stands; what `check!` and `check_eq!` write
-//! out is a call of a function of `Check`, which stands in each crate of tests, since no library may end the process. Besides, a reader and a
+//! The checks of tests. What `assert!` and `assert_eq!` write out is proved anew at each place; what `check!` and `check_eq!` write
+//! out is a call of a function of `Check`, which each crate of tests has, since no library may end the process. Besides, a reader and a
 //! writer that tests see into.
 #![tactic(auto)]
 
@@ -7,7 +7,7 @@ mod ends;
 
 pub use ends::{Paper, Pieces, new_paper, reader_of};
 
-/// As `assert!`, but over a reference to what may end the process, and with a note that is one value.
+/// Like `assert!`, but over a reference to what may end the process, and with a note that is one value.
 #[macro_export]
 macro_rules! check {
     ($rt:expr; $condition:expr $(,)?) => {
@@ -18,7 +18,7 @@ macro_rules! check {
     };
 }
 
-/// As `assert_eq!`, but over values that are copied, a reference to what may end the process, and with a note that is one value.
+/// Like `assert_eq!`, but over values that are copied, a reference to what may end the process, and with a note that is one value.
 #[macro_export]
 macro_rules! check_eq {
     ($rt:expr; $found:expr, $wanted:expr $(,)?) => {

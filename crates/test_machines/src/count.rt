@@ -22,7 +22,7 @@ impl Model for Count {
 }
 
 impl Count {
-    /// A machine that has added nothing up.
+    /// Returns a machine that has added nothing up.
     pub fn new(alloc: Global) -> Count
         ensures { result ≡ (0, false) }
     {
@@ -33,7 +33,7 @@ impl Count {
         }
     }
 
-    /// The sum so far.
+    /// Returns the sum so far.
     pub fn sum(&self) -> u64
         ensures { result ≡ self.now.0 }
     {

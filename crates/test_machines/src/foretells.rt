@@ -22,7 +22,7 @@ impl Model for Foretells {
     ghost view = { λ f. (f.sum, f.failed) };
 }
 
-// The transport with this number in its node's next boot, if a boot is left.
+// Returns the transport with this number in its node's next boot, if a boot is left.
 fn next_one(transport: Transport) -> Option<Transport>
     ensures { IfSome result (λ next. next ≡ next_one transport) }
 {
@@ -35,7 +35,7 @@ fn next_one(transport: Transport) -> Option<Transport>
 }
 
 impl Foretells {
-    /// A machine that has added nothing up.
+    /// Returns a machine that has added nothing up.
     pub fn new(alloc: Global) -> Foretells
         ensures { result ≡ (0, false) }
     {

@@ -20,14 +20,14 @@ impl Model for Number {
 }
 
 impl Number {
-    /// The body of this value.
+    /// Returns the body of this value.
     pub fn new(value: u32) -> Number
         ensures { result ≡ value }
     {
         Number { value }
     }
 
-    /// Its value.
+    /// Returns its value.
     pub fn get(self) -> u32
         ensures { result ≡ self }
     {

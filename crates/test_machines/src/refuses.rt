@@ -6,7 +6,7 @@ use replica_machine::{Failed, Input, Machine};
 use std::alloc::Global;
 use std::marker::Model;
 
-/// A machine that counts its inputs and says nothing. It takes so many of them, and refuses the next and each after it.
+/// A machine that counts its inputs and says nothing. It takes a number of them, and refuses each after these.
 #[derive(Drop)]
 pub struct Refuses {
     alloc: Global,
@@ -22,7 +22,7 @@ impl Model for Refuses {
 }
 
 impl Refuses {
-    /// A machine that takes `takes` inputs.
+    /// Returns a machine that takes `takes` inputs.
     pub fn new(alloc: Global, takes: u64) -> Refuses
         ensures { result ≡ (0, false) }
     {
@@ -34,7 +34,7 @@ impl Refuses {
         }
     }
 
-    /// How many inputs it has taken.
+    /// Returns how many inputs it has taken.
     pub fn taken(&self) -> u64
         ensures { result ≡ self.now.0 }
     {

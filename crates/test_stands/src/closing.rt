@@ -1,14 +1,14 @@
-// What a crate above has no more use for is handed over here, which costs it nothing.
-use crate::station::{Left, Station};
+// A crate above hands over what it has no more use for, which costs it nothing.
+use crate::seated_actor::{Left, SeatedActor};
 use node_actor::{Keeper, Machine};
 use replica_machine::AppliedLog;
 
-/// Lets go of an actor.
-pub fn close<M: Machine, K: Keeper<M::Body> + Drop>(station: Station<'_, M, K>) {
-    drop(station);
+/// Drops an actor.
+pub fn close<M: Machine, K: Keeper<M::Body> + Drop>(actor: SeatedActor<'_, M, K>) {
+    drop(actor);
 }
 
-// The last two, the last one first.
+// Removes the last two, and returns the last one first.
 fn popped<T: Drop>(list: &mut Vec<T>) -> Option<(T, T)> {
     let last = list.pop()?;
     let Some(before) = list.pop() else {
@@ -18,7 +18,7 @@ fn popped<T: Drop>(list: &mut Vec<T>) -> Option<(T, T)> {
     Some((last, before))
 }
 
-// They stand there again. Whether there are two, and memory for them.
+// Pushes both back, the last one last. Returns `false` if there is no second one, or if memory runs out; what is not pushed is dropped.
 fn pushed<T: Drop>(list: &mut Vec<T>, last: T, before: Option<T>) -> bool {
     let Some(before) = before else {
         drop(last);
@@ -32,23 +32,23 @@ fn pushed<T: Drop>(list: &mut Vec<T>, last: T, before: Option<T>) -> bool {
     }
 }
 
-/// The actors of nodes 1 and 2, the last of a table's; none where there are no two.
+/// Removes the actors of nodes 1 and 2, which are a table's last, and returns them; `None` if there are not two.
 pub fn pop_two<'a, M: Machine, K: Keeper<M::Body> + Drop>(
-    stations: &mut Vec<Station<'a, M, K>>,
-) -> Option<(Station<'a, M, K>, Station<'a, M, K>)> {
-    popped(stations)
+    actors: &mut Vec<SeatedActor<'a, M, K>>,
+) -> Option<(SeatedActor<'a, M, K>, SeatedActor<'a, M, K>)> {
+    popped(actors)
 }
 
-/// They stand there again. Whether there are two, and memory for them.
+/// Pushes both back, `one` last. Returns `false` if there is no second one, or if memory runs out; what is not pushed is dropped.
 pub fn push_two<'a, M: Machine, K: Keeper<M::Body> + Drop>(
-    stations: &mut Vec<Station<'a, M, K>>,
-    one: Station<'a, M, K>,
-    two: Option<Station<'a, M, K>>,
+    actors: &mut Vec<SeatedActor<'a, M, K>>,
+    one: SeatedActor<'a, M, K>,
+    two: Option<SeatedActor<'a, M, K>>,
 ) -> bool {
-    pushed(stations, one, two)
+    pushed(actors, one, two)
 }
 
-// It is the last one. Whether there was memory for it.
+// Appends an item. Returns whether there was memory for it.
 pub(crate) fn push<T: Drop>(list: &mut Vec<T>, last: T) -> bool {
     match list.push(last) {
         Ok(()) => true,
@@ -59,12 +59,12 @@ pub(crate) fn push<T: Drop>(list: &mut Vec<T>, last: T) -> bool {
     }
 }
 
-/// Lets go of what is left of an actor.
+/// Drops what is left of an actor.
 pub fn close_left<M: Machine>(left: Left<'_, M>) {
     drop(left);
 }
 
-/// Lets go of a log.
+/// Drops a log.
 pub fn close_log<M: Machine>(log: AppliedLog<M>) {
     drop(log);
 }

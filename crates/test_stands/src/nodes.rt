@@ -35,7 +35,7 @@ pub enum Missed {
     Nobody,
     /// The node did not plan it, or did not adopt what was planned.
     Node(NodeFault),
-    /// There was no memory for the packets.
+    /// Memory for the packets ran out.
     Memory,
 }
 
@@ -59,7 +59,7 @@ fn node_of<B: Drop>(alloc: Global, number: u8, members: Members) -> Result<Node<
     Node::of(alloc, number, members, rows)
 }
 
-// Nodes 1 to so many. Whether there was memory for them.
+// Adds nodes 1 to `count`. Returns whether there was memory for them.
 fn put_members<B: Drop>(alloc: Global, members: &mut Vec<Member<B>>, count: Members) -> bool {
     for number in 1..=count.count() {
         let Ok(node) = node_of(alloc, number, count) else {
@@ -72,7 +72,7 @@ fn put_members<B: Drop>(alloc: Global, members: &mut Vec<Member<B>>, count: Memb
     true
 }
 
-/// Lends three nodes, each in its first boot, to what is done with them. Gives what comes of it; none where there is no memory for them.
+/// Lends three nodes, each in its first boot, to what is done with them. Returns what comes of it; `None` if memory runs out.
 pub fn with_nodes<B: Body, P: Passes<B>>(alloc: Global, passes: &mut P) -> Option<P::End> {
     let count = Members::new(NODES)?;
     let mut nodes = Nodes {
@@ -90,7 +90,7 @@ pub fn with_nodes<B: Body, P: Passes<B>>(alloc: Global, passes: &mut P) -> Optio
 
 // One event, and the packets that it sends.
 
-// The event is planned and adopted.
+// Plans and adopts the event.
 fn turn<B: Body>(
     node: &mut Node<B>,
     event: &Event<B>,
@@ -116,7 +116,7 @@ fn is_act<B>(entry: &Entry<B>) -> bool {
     }
 }
 
-// The event happens at the member; what it applies is counted.
+// Lets the event happen at the member, and counts what it applies.
 fn step<B: Body>(member: &mut Member<B>, event: &Event<B>) -> Result<Packets<B>, NodeFault> {
     let (packets, applied) = turn(&mut member.node, event)?;
     member.acts = member.acts.saturating_add(acts_in(applied.as_slice()));
@@ -124,7 +124,7 @@ fn step<B: Body>(member: &mut Member<B>, event: &Event<B>) -> Result<Packets<B>,
     Ok(packets)
 }
 
-// These packets are under way. Whether there was memory for them.
+// Adds the packets to those under way. Returns whether there was memory for them.
 fn send<B: Drop>(sent: &mut VecDeque<Packet<B>>, packets: Packets<B>) -> bool {
     for packet in packets.into_vec() {
         if let Err(left) = sent.push_back(packet) {
@@ -139,7 +139,7 @@ fn place_of(number: u8) -> usize {
     usize::from(number.saturating_sub(1))
 }
 
-// The event happens at the node of this number; what it sends is under way.
+// Lets the event happen at the node with this number, and adds what it sends to the packets under way.
 fn happen<B: Body>(nodes: &mut Nodes<B>, number: u8, event: &Event<B>) -> Result<(), Missed> {
     let Some(member) = nodes.members.get_mut(place_of(number)) else {
         return Err(Missed::Nobody);
@@ -156,24 +156,24 @@ fn happen<B: Body>(nodes: &mut Nodes<B>, number: u8, event: &Event<B>) -> Result
 }
 
 impl<B: Body> Nodes<B> {
-    // The event happens at the node of this number, and is let go.
+    // Lets the event happen at the node with this number, and drops it.
     fn event(&mut self, number: u8, event: Event<B>) -> Result<(), Missed> {
         let done = happen(self, number, &event);
         drop(event);
         done
     }
 
-    /// The node begins a ballot.
+    /// Lets the node begin a ballot.
     pub fn start(&mut self, node: u8) -> Result<(), Missed> {
         self.event(node, Event::Start { node })
     }
 
-    /// Time has passed at the node.
+    /// Lets time pass at the node.
     pub fn tick(&mut self, node: u8) -> Result<(), Missed> {
         self.event(node, Event::Tick { node })
     }
 
-    /// The node takes an act of its transport 1 with this body.
+    /// Lets the node take an act of its transport 1 with this body.
     pub fn take(&mut self, node: u8, body: B) -> Result<(), Missed> {
         self.event(
             node,
@@ -185,7 +185,7 @@ impl<B: Body> Nodes<B> {
         )
     }
 
-    /// The oldest packet that is under way reaches its addressee. Whether there was one.
+    /// Delivers the oldest packet that is under way. Returns whether there was one.
     pub fn deliver(&mut self) -> Result<bool, Missed> {
         let Some(packet) = self.sent.pop_front() else {
             return Ok(false);
@@ -194,7 +194,7 @@ impl<B: Body> Nodes<B> {
         Ok(true)
     }
 
-    /// Whether entries of the node wait for a slot.
+    /// Returns whether entries of the node wait for a slot.
     pub fn has_pending(&self, node: u8) -> bool {
         match self.members.get(place_of(node)) {
             Some(member) => member.node.has_pending(),
@@ -202,7 +202,7 @@ impl<B: Body> Nodes<B> {
         }
     }
 
-    /// Whether each node has applied so many acts.
+    /// Returns whether each node has applied this many acts.
     pub fn have_applied(&self, acts: u64) -> bool {
         for member in self.members.as_slice() {
             if member.acts != acts {

@@ -3,21 +3,21 @@ ghost use Rattle.std.specs.Prelude.{◌≡◌, All, false};
 ghost use Rattle.test_stands.specs.Fresh.{IsFresh};
 
 use crate::closing::push;
-use crate::station::{Station, opened};
+use crate::seated_actor::{SeatedActor, opened};
 use mail_table::{Mail, NodeSeat, Office, found};
 use node_actor::{Keeper, Machine, Members};
 use std::alloc::Global;
 
-/// How many nodes a table has here.
+/// The number of nodes that a table has here.
 pub const NODES: u8 = 3;
 
 /// Where the machine and the store of each node come from.
 pub trait Source<M: Machine, K: Keeper<M::Body>> {
-    /// A machine in its first content.
+    /// Returns a machine in its first content.
     fn machine(&self, alloc: Global) -> M
         ensures { M.has_failed result ≡ false };
 
-    /// The store of the node with this number.
+    /// Returns the store of the node with this number.
     fn keeper(&self, alloc: Global, node: u8) -> K;
 }
 
@@ -27,17 +27,17 @@ pub trait Plays<M: Machine, K: Keeper<M::Body>> {
     type End;
 
     /// Goes over the actors, that of the last node first.
-    fn play(&mut self, stations: &mut Vec<Station<'_, M, K>>) -> Self::End;
+    fn play(&mut self, actors: &mut Vec<SeatedActor<'_, M, K>>) -> Self::End;
 }
 
-// The actors of these seats, that of the last node first. Whether each was opened.
+// Opens actors at these seats, that of the last node first, and appends them to `actors`. Returns whether each was opened.
 fn open_all<'a, M: Machine, K: Keeper<M::Body> + Drop, S: Source<M, K>>(
     alloc: Global,
     mail: &'a Mail<M::Body>,
     seats: &mut Vec<NodeSeat<M::Body>>,
     members: Members,
     source: &S,
-    stations: &mut Vec<Station<'a, M, K>>,
+    actors: &mut Vec<SeatedActor<'a, M, K>>,
 ) -> bool
     requires fresh { All (IsFresh mail.now) seats.old.items }
     requires members { members ≡ mail.now.members }
@@ -47,17 +47,17 @@ fn open_all<'a, M: Machine, K: Keeper<M::Body> + Drop, S: Source<M, K>>(
             return false;
         };
         let (machine, keeper) = (source.machine(alloc), source.keeper(alloc, seat.node()));
-        let Some(station) = opened(alloc, mail, seat, members, machine, keeper) else {
+        let Some(actor) = opened(alloc, mail, seat, members, machine, keeper) else {
             return false;
         };
-        if !push(stations, station) {
+        if !push(actors, actor) {
             return false;
         }
     }
     true
 }
 
-// What comes of it at this table.
+// Returns what comes of it at this table; `None` if an actor could not be opened.
 fn played<M: Machine, K: Keeper<M::Body> + Drop, S: Source<M, K>, P: Plays<M, K>>(
     alloc: Global,
     mail: &Mail<M::Body>,
@@ -69,19 +69,19 @@ fn played<M: Machine, K: Keeper<M::Body> + Drop, S: Source<M, K>, P: Plays<M, K>
     requires fresh { All (IsFresh mail.now) seats.old.items }
     requires members { members ≡ mail.now.members }
 {
-    let mut stations = Vec::new(alloc);
-    let end = if open_all(alloc, mail, seats, members, source, &mut stations) {
-        Some(plays.play(&mut stations))
+    let mut actors = Vec::new(alloc);
+    let end = if open_all(alloc, mail, seats, members, source, &mut actors) {
+        Some(plays.play(&mut actors))
     } else {
         None
     };
-    drop(stations);
+    drop(actors);
     end
 }
 
 /// Founds a table of three nodes, opens an actor at each seat, with a machine and a store of this source, and lends them to what is done
-/// with them. Gives what comes of it; none where an actor could not be opened.
-pub fn with_stations<M: Machine, K: Keeper<M::Body> + Drop, S: Source<M, K>, P: Plays<M, K>>(
+/// with them. Returns what comes of it; `None` if an actor could not be opened.
+pub fn with_actors<M: Machine, K: Keeper<M::Body> + Drop, S: Source<M, K>, P: Plays<M, K>>(
     alloc: Global,
     source: &S,
     plays: &mut P,

@@ -9,7 +9,7 @@ use std::alloc::Global;
 use std::process::Abort;
 
 /// An actor, and the table that owns its seat.
-pub struct Station<'a, M: Machine, K: Keeper<M::Body>> {
+pub struct SeatedActor<'a, M: Machine, K: Keeper<M::Body>> {
     mail: &'a Mail<M::Body>,
     actor: Actor<M, K>,
     ghost owned: { Owns mail.now actor.seat },
@@ -24,7 +24,7 @@ pub struct Left<'a, M: Machine> {
 
 /// What comes of a restart: the actor; or the number of the fault, what is left, and the store.
 pub enum Begun<'a, M: Machine, K: Keeper<M::Body>> {
-    Again(Station<'a, M, K>),
+    Again(SeatedActor<'a, M, K>),
     Not(u8, Left<'a, M>, K),
 }
 
@@ -37,7 +37,7 @@ pub fn opened<'a, M: Machine, K: Keeper<M::Body>>(
     members: Members,
     machine: M,
     keeper: K,
-) -> Station<'a, M, K>
+) -> SeatedActor<'a, M, K>
     requires owned { Owns mail.now seat }
     requires members { members ≡ mail.now.members }
     requires fresh { seat.part.seen.opened ≡ Never }
@@ -48,20 +48,20 @@ pub fn opened<'a, M: Machine, K: Keeper<M::Body>>(
         panic!(rt; "no member");
     }
     match Actor::open(alloc, mail, seat, me, members, machine, keeper) {
-        Ok(actor) => Station { mail, actor },
+        Ok(actor) => SeatedActor { mail, actor },
         Err(_left) => panic!(rt; "no actor"),
     }
 }
 
-impl<'a, M: Machine, K: Keeper<M::Body>> Station<'a, M, K> {
-    /// The node begins a ballot.
+impl<'a, M: Machine, K: Keeper<M::Body>> SeatedActor<'a, M, K> {
+    /// Lets the node begin a ballot.
     pub fn start(&mut self) {
         drop(self.actor.start(self.mail));
     }
 
-    /// What is left once the node has gone down.
+    /// Takes the node down, and returns what is left of it, and its store.
     pub fn crash(self) -> (Left<'a, M>, K) {
-        let Station { mail, actor } = self;
+        let SeatedActor { mail, actor } = self;
         let (post, keeper) = actor.crash();
         (Left { mail, post }, keeper)
     }
@@ -79,7 +79,7 @@ impl<'a, M: Machine> Left<'a, M> {
         ballot.round
     }
 
-    /// The actor goes on from here.
+    /// Restarts the actor from here, with this machine and this store.
     pub fn restart<K: Keeper<M::Body>>(
         self,
         alloc: Global,
@@ -90,7 +90,7 @@ impl<'a, M: Machine> Left<'a, M> {
     {
         let Left { mail, post } = self;
         match Actor::restart(alloc, mail, post, machine, keeper) {
-            Ok(actor) => Begun::Again(Station { mail, actor }),
+            Ok(actor) => Begun::Again(SeatedActor { mail, actor }),
             Err((fault, post, keeper)) => {
                 let number = fault.number();
                 drop(fault);
@@ -110,20 +110,20 @@ impl<'a, M: Machine> Left<'a, M> {
 pub fn again<'a, M: Machine, K: Keeper<M::Body>>(
     rt: &impl Abort,
     begun: Begun<'a, M, K>,
-) -> Station<'a, M, K> {
+) -> SeatedActor<'a, M, K> {
     match begun {
-        Begun::Again(station) => station,
+        Begun::Again(actor) => actor,
         Begun::Not(number, _left, _keeper) => panic!(rt; "no actor: {number}"),
     }
 }
 
-/// The number of the fault; what is left is let go.
+/// Drops what is left, and returns the number of the fault.
 pub fn number_of<M: Machine, K: Keeper<M::Body> + Drop>(
     rt: &impl Abort,
     begun: Begun<'_, M, K>,
 ) -> u8 {
     match begun {
-        Begun::Again(_station) => panic!(rt; "an actor"),
+        Begun::Again(_actor) => panic!(rt; "an actor"),
         Begun::Not(number, left, keeper) => {
             drop(left.seat());
             drop(keeper);

@@ -16,12 +16,12 @@ const MOST_NODES: u8 = 7;
 // The number of the fault of a node that is lost in its present boot.
 const LOST: u8 = 73;
 
-/// What a call of an actor answers.
+/// What a call of an actor returns.
 pub type Answer<Y> = Result<Vec<Y>, ActorFault<Y>>;
 
 /// An actor, and the table that owns its seat.
 #[derive(Drop)]
-pub struct Station<'a, M: Machine, K: Keeper<M::Body>> {
+pub struct SeatedActor<'a, M: Machine, K: Keeper<M::Body>> {
     mail: &'a Mail<M::Body>,
     actor: Actor<M, K>,
     ghost owned: { Owns mail.now actor.seat },
@@ -35,7 +35,7 @@ pub struct Left<'a, M: Machine> {
     ghost owned: { Owns mail.now post.seat },
 }
 
-// The actor of a node that was never opened, or none; what is left then is let go.
+// Opens an actor for a node that was never opened; `None` if it does not open, and what is left then is dropped.
 pub(crate) fn opened<'a, M: Machine, K: Keeper<M::Body> + Drop>(
     alloc: Global,
     mail: &'a Mail<M::Body>,
@@ -43,7 +43,7 @@ pub(crate) fn opened<'a, M: Machine, K: Keeper<M::Body> + Drop>(
     members: Members,
     machine: M,
     keeper: K,
-) -> Option<Station<'a, M, K>>
+) -> Option<SeatedActor<'a, M, K>>
     requires owned { Owns mail.now seat }
     requires members { members ≡ mail.now.members }
     requires member { IsMember mail.now.members seat.part.me }
@@ -52,7 +52,7 @@ pub(crate) fn opened<'a, M: Machine, K: Keeper<M::Body> + Drop>(
 {
     let me = seat.node();
     match Actor::open(alloc, mail, seat, me, members, machine, keeper) {
-        Ok(actor) => Some(Station { mail, actor }),
+        Ok(actor) => Some(SeatedActor { mail, actor }),
         Err(left) => {
             drop(left);
             None
@@ -60,7 +60,7 @@ pub(crate) fn opened<'a, M: Machine, K: Keeper<M::Body> + Drop>(
     }
 }
 
-/// What a call answered, and the number of its fault, 0 where there is none. With a fault only that of a lost node has sayings.
+/// Returns the sayings of a call and the number of its fault, 0 if it has none. Of the faults only that of a lost node has sayings.
 pub fn told_of<Y: Drop>(done: Answer<Y>) -> (Option<Vec<Y>>, u8) {
     match done {
         Ok(says) => (Some(says), 0),
@@ -73,7 +73,7 @@ pub fn told_of<Y: Drop>(done: Answer<Y>) -> (Option<Vec<Y>>, u8) {
     }
 }
 
-/// How many sayings a call answered, or the number of its fault.
+/// Returns how many sayings a call returned, or the number of its fault.
 pub fn count_of<Y: Drop>(done: Answer<Y>) -> Result<u64, u8> {
     let count = match &done {
         Ok(says) => Ok(says.len() as u64),
@@ -83,28 +83,28 @@ pub fn count_of<Y: Drop>(done: Answer<Y>) -> Result<u64, u8> {
     count
 }
 
-impl<'a, M: Machine, K: Keeper<M::Body>> Station<'a, M, K> {
-    /// The node takes an act.
+impl<'a, M: Machine, K: Keeper<M::Body>> SeatedActor<'a, M, K> {
+    /// Lets the node take an act.
     pub fn take(&mut self, number: u32, body: M::Body) -> Answer<M::Say> {
         self.actor.take(self.mail, number, body)
     }
 
-    /// A turn.
+    /// Takes a turn.
     pub fn turn(&mut self) -> Answer<M::Say> {
         self.actor.turn(self.mail)
     }
 
-    /// Time has passed.
+    /// Lets time pass.
     pub fn tick(&mut self) -> Answer<M::Say> {
         self.actor.tick(self.mail)
     }
 
-    /// The node begins a ballot.
+    /// Lets the node begin a ballot.
     pub fn start(&mut self) -> Answer<M::Say> {
         self.actor.start(self.mail)
     }
 
-    /// The actor turns for as long as the gate lets pass. Whether no fault ended it.
+    /// Lets the actor turn for as long as the gate lets it pass. Returns whether no fault ended it.
     pub fn run<G: Gate, F: Feed<M::Body, M::Say>>(&mut self, gate: &G, feed: &mut F) -> bool {
         let done = run_node(self.mail, &mut self.actor, gate, feed);
         let good = done.is_ok();
@@ -112,27 +112,27 @@ impl<'a, M: Machine, K: Keeper<M::Body>> Station<'a, M, K> {
         good
     }
 
-    /// The node's log.
+    /// Returns the node's log.
     pub fn log(&self) -> &[Entry<M::Body>] {
         self.actor.log()
     }
 
-    /// How many entries the node has applied.
+    /// Returns how many entries the node has applied.
     pub fn applied(&self) -> u64 {
         self.actor.applied()
     }
 
-    /// Whether entries of the node wait for a slot.
+    /// Returns whether entries of the node wait for a slot.
     pub fn has_pending(&self) -> bool {
         self.actor.has_pending()
     }
 
-    /// Whether its last turn treated a packet.
+    /// Returns whether its last turn treated a packet.
     pub fn has_treated(&self) -> bool {
         self.actor.from().is_some()
     }
 
-    /// Whether its last turn posted a packet, or treated one.
+    /// Returns whether its last turn posted a packet, or treated one.
     pub fn has_moved(&self) -> bool {
         let posted = self.actor.posted();
         let mut moved = self.has_treated();
@@ -142,18 +142,18 @@ impl<'a, M: Machine, K: Keeper<M::Body>> Station<'a, M, K> {
         moved
     }
 
-    /// What is left once the node has gone down.
+    /// Takes the node down, and returns what is left of it, and its store.
     pub fn crash(self) -> (Left<'a, M>, K) {
-        let Station { mail, actor } = self;
+        let SeatedActor { mail, actor } = self;
         let (post, keeper) = actor.crash();
         (Left { mail, post }, keeper)
     }
 }
 
-impl<'a, M: Machine, K: Keeper<M::Body> + Drop> Station<'a, M, K> {
-    /// The log that the machine has followed; the seat is let go.
+impl<'a, M: Machine, K: Keeper<M::Body> + Drop> SeatedActor<'a, M, K> {
+    /// Drops the seat, and returns the log that the machine has followed.
     pub fn leave(self) -> AppliedLog<M> {
-        let Station { actor, .. } = self;
+        let SeatedActor { actor, .. } = self;
         let (seat, log) = actor.leave();
         drop(seat);
         log
@@ -162,17 +162,17 @@ impl<'a, M: Machine, K: Keeper<M::Body> + Drop> Station<'a, M, K> {
 
 /// What comes of a restart: the actor; or the number of the fault, what is left, and the store.
 pub enum Begun<'a, M: Machine, K: Keeper<M::Body>> {
-    Again(Station<'a, M, K>),
+    Again(SeatedActor<'a, M, K>),
     Not(u8, Left<'a, M>, K),
 }
 
 impl<'a, M: Machine> Left<'a, M> {
-    /// The node.
+    /// Returns the node's number.
     pub fn me(&self) -> u8 {
         self.post.me()
     }
 
-    /// The actor goes on from here.
+    /// Restarts the actor from here, with this machine and this store.
     pub fn restart<K: Keeper<M::Body>>(
         self,
         alloc: Global,
@@ -183,7 +183,7 @@ impl<'a, M: Machine> Left<'a, M> {
     {
         let Left { mail, post } = self;
         match Actor::restart(alloc, mail, post, machine, keeper) {
-            Ok(actor) => Begun::Again(Station { mail, actor }),
+            Ok(actor) => Begun::Again(SeatedActor { mail, actor }),
             Err((fault, post, keeper)) => {
                 let number = fault.number();
                 drop(fault);
@@ -193,12 +193,12 @@ impl<'a, M: Machine> Left<'a, M> {
     }
 }
 
-/// The actor that goes on; what is left where none does is let go.
+/// Returns the actor that goes on; `None` if none does, and what is left is dropped.
 pub fn again<'a, M: Machine, K: Keeper<M::Body> + Drop>(
     begun: Begun<'a, M, K>,
-) -> Option<Station<'a, M, K>> {
+) -> Option<SeatedActor<'a, M, K>> {
     match begun {
-        Begun::Again(station) => Some(station),
+        Begun::Again(actor) => Some(actor),
         Begun::Not(_, left, keeper) => {
             drop(left);
             drop(keeper);
