@@ -11,6 +11,7 @@ use std::marker::Model;
 /// One member's rows, and what they allow it to promise and to vote for.
 #[derive(Debug)]
 pub struct Acceptor<B> {
+    alloc: Global,
     boot: u64,
     promised: Option<Ballot>,
     votes: KeptVotes<B>,
@@ -20,6 +21,7 @@ pub struct Acceptor<B> {
 impl<B: Drop> Drop for Acceptor<B> {
     fn drop(self) {
         let Acceptor {
+            alloc: _,
             boot: _,
             promised: _,
             votes: _votes,
@@ -41,12 +43,13 @@ impl<B> Model for Acceptor<B> {
 }
 
 impl<B> Acceptor<B> {
-    /// Returns the acceptor with these rows. Does not allocate.
-    pub fn of(rows: Rows<B>) -> Acceptor<B>
+    /// Returns the acceptor with these rows. Does not allocate; the other calls will, from `alloc`.
+    pub fn of(alloc: Global, rows: Rows<B>) -> Acceptor<B>
         ensures rows { result.rows ≡ rows }
         ensures failed { result.failed ≡ false }
     {
         Acceptor {
+            alloc,
             boot: rows.boot,
             promised: rows.promised,
             votes: KeptVotes::of(rows.votes),
@@ -59,6 +62,7 @@ impl<B> Acceptor<B> {
         ensures { result ≡ self.rows }
     {
         let Acceptor {
+            alloc: _,
             boot,
             promised,
             votes,
@@ -100,11 +104,11 @@ impl<B> Acceptor<B> {
     }
 
     // Returns the refusal of a Prepare or an Accept that the promise forbids.
-    fn refuse(&self, alloc: Global, ballot: Ballot) -> Verdict<B>
+    fn refuse(&self, ballot: Ballot) -> Verdict<B>
         ensures { result ≡ refused self.now.rows ballot }
     {
         Verdict {
-            change: no_change(alloc),
+            change: no_change(self.alloc),
             answer: Answer::ToSender {
                 kind: Kind::Nack {
                     ballot,
@@ -121,7 +125,7 @@ impl<B: Body> Acceptor<B> {
     /// A Prepare above the promise, or without one, gives its promise and the votes from its slot on; only these are copied. An Accept that
     /// is not below the promise gives its vote. Any other Prepare or Accept gives a Nack, and any other packet gives nothing. Nothing
     /// changes until `adopt`. Returns `Memory` if memory for the copies runs out, and always once the acceptor is failed.
-    pub fn plan(&self, alloc: Global, packet: &Packet<B>) -> Result<Verdict<B>, Memory>
+    pub fn plan(&self, packet: &Packet<B>) -> Result<Verdict<B>, Memory>
         ensures verdict { IfOk result (λ verdict. verdict ≡ judged self.now.rows packet.now.kind) }
         ensures failed { self.now.failed ≡ true → IsErr result }
     {
@@ -129,25 +133,25 @@ impl<B: Body> Acceptor<B> {
             return Err(Memory);
         }
         match &packet.kind {
-            Kind::Prepare { ballot, first } => self.plan_prepare(alloc, *ballot, *first),
-            Kind::Accept { vote } => self.plan_accept(alloc, vote),
+            Kind::Prepare { ballot, first } => self.plan_prepare(*ballot, *first),
+            Kind::Accept { vote } => self.plan_accept(vote),
             Kind::Promise { .. }
             | Kind::Accepted { .. }
             | Kind::Nack { .. }
             | Kind::Forward { .. }
             | Kind::Learned { .. }
             | Kind::Ask { .. } => Ok(Verdict {
-                change: no_change(alloc),
+                change: no_change(self.alloc),
                 answer: Answer::Nothing,
             }),
         }
     }
 
     /// Copies the member's votes from the slot with this number on, and no other.
-    pub fn votes_from(&self, alloc: Global, first: u64) -> Result<Votes<B>, Memory>
+    pub fn votes_from(&self, first: u64) -> Result<Votes<B>, Memory>
         ensures { IfOk result (λ votes. votes ≡ votes_from first self.now.rows.votes) }
     {
-        Ok(self.votes.copy_from(alloc, first)?)
+        Ok(self.votes.copy_from(self.alloc, first)?)
     }
 
     /// Takes over what was committed: the promise, and each vote in its slot. On `Memory` the rows stay as they were and the acceptor is
@@ -159,9 +163,6 @@ impl<B: Body> Acceptor<B> {
         ensures err_failed { OnErr result (self.new.failed ≡ true) }
         ensures failed { self.old.failed ≡ true → IsErr result }
     {
-        if self.failed {
-            return Err(Memory);
-        }
         if self.make_room(change.votes.as_slice().len()).is_err() {
             self.failed = true;
             return Err(Memory);
@@ -170,19 +171,25 @@ impl<B: Body> Acceptor<B> {
         Ok(())
     }
 
-    /// Reserves memory for this many more votes. The rows stay as they were, with `Memory` too.
+    /// Reserves memory for this many more votes. The rows stay as they were, with `Memory` too. A failed acceptor returns `Memory`.
     pub fn make_room(&mut self, votes: usize) -> Result<(), Memory>
         ensures ok { OnOk result (votes ≤ self.new.room) }
+        ensures stands { OnOk result (self.new.failed ≡ false) }
         ensures rows { self.new.rows ≡ self.old.rows }
         ensures failed { self.new.failed ≡ self.old.failed }
     {
+        if self.is_failed() {
+            return Err(Memory);
+        }
         self.votes.make_room(votes)?;
         Ok(())
     }
 
-    /// Adopts the change as `adopt` does, given room for its votes. Does not allocate, and copies nothing.
+    /// Adopts the change as `adopt` does, given room for its votes, and that the acceptor has not failed. Does not allocate, and copies
+    /// nothing.
     pub fn adopt_in_room(&mut self, change: Change<B>)
-        requires { length change.votes ≤ self.old.room }
+        requires room { length change.votes ≤ self.old.room }
+        requires stands { self.old.failed ≡ false }
         ensures rows { self.new.rows ≡ adopted self.old.rows change }
         ensures failed { self.new.failed ≡ self.old.failed }
     {
@@ -193,17 +200,17 @@ impl<B: Body> Acceptor<B> {
     }
 
     // Plans the answer to a Prepare.
-    fn plan_prepare(&self, alloc: Global, ballot: Ballot, first: u64) -> Result<Verdict<B>, Memory>
+    fn plan_prepare(&self, ballot: Ballot, first: u64) -> Result<Verdict<B>, Memory>
         ensures { IfOk result (λ verdict. verdict ≡ prepared self.now.rows ballot first) }
     {
         if !may_promise(self.promised, ballot) {
-            return Ok(self.refuse(alloc, ballot));
+            return Ok(self.refuse(ballot));
         }
-        let votes = self.votes.copy_from(alloc, first)?;
+        let votes = self.votes.copy_from(self.alloc, first)?;
         Ok(Verdict {
             change: Change {
                 promised: Some(ballot),
-                votes: Votes::new(alloc),
+                votes: Votes::new(self.alloc),
             },
             answer: Answer::ToSender {
                 kind: Kind::Promise { ballot, votes },
@@ -212,14 +219,14 @@ impl<B: Body> Acceptor<B> {
     }
 
     // Plans the answer to an Accept.
-    fn plan_accept(&self, alloc: Global, vote: &Vote<B>) -> Result<Verdict<B>, Memory>
+    fn plan_accept(&self, vote: &Vote<B>) -> Result<Verdict<B>, Memory>
         ensures { IfOk result (λ verdict. verdict ≡ voted self.now.rows vote.now) }
     {
         if !may_accept(self.promised, vote.ballot) {
-            return Ok(self.refuse(alloc, vote.ballot));
+            return Ok(self.refuse(vote.ballot));
         }
-        let mut votes = Votes::new(alloc);
-        votes.put(vote.copy(alloc)?)?;
+        let mut votes = Votes::new(self.alloc);
+        votes.put(vote.copy(self.alloc)?)?;
         Ok(Verdict {
             change: Change {
                 promised: Some(vote.ballot),
@@ -227,7 +234,7 @@ impl<B: Body> Acceptor<B> {
             },
             answer: Answer::ToOthers {
                 kind: Kind::Accepted {
-                    vote: vote.copy(alloc)?,
+                    vote: vote.copy(self.alloc)?,
                 },
             },
         })

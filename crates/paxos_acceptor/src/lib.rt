@@ -8,4 +8,5 @@ mod verdict;
 
 pub use acceptor::Acceptor;
 pub use fault::Memory;
+pub use paxos_packets::{Ballot, Body, Change, Kind, Packet, Rows, Vote, Votes};
 pub use verdict::{Answer, Verdict};

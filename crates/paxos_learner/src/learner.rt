@@ -129,6 +129,34 @@ impl<B: Body> Learner<B> {
     }
 }
 
+impl<B: Body> Learner<B> {
+    /// Returns whether another entry was learned in the slot, so that `tell` returns `Disagree`. Does not allocate.
+    pub fn disagrees(&self, slot: Slot, entry: &Entry<B>) -> bool
+        ensures { result ≡ disagrees B.same slot entry.now self.now.state.learner }
+    {
+        match self.learned(slot) {
+            Some(known) => !known.same(entry),
+            None => false,
+        }
+    }
+
+    /// Returns whether this vote of the member makes a majority, and another entry was learned in its slot, so that `vote` returns
+    /// `Disagree`. Does not allocate.
+    pub fn vote_disagrees(&self, node: u8, vote: &Vote<B>) -> bool
+        ensures { result ≡ vote_disagrees B.same self.now.state.members node vote.now self.now.state.learner }
+    {
+        let place = SlotBallot {
+            slot: vote.slot,
+            ballot: vote.ballot,
+        };
+        let nodes = self.nodes(&place).with(node);
+        if !self.has_majority(nodes) {
+            return false;
+        }
+        self.disagrees(vote.slot, &vote.entry)
+    }
+}
+
 impl<B: Drop> Learner<B> {
     /// Reserves memory for votes in `votes` pairs of slot and ballot in which none was heard. On `Memory` the room is the one of before.
     pub fn make_room(&mut self, votes: usize) -> Result<(), LearnerFault>

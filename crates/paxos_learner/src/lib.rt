@@ -15,4 +15,5 @@ pub use fault::LearnerFault;
 pub use hearing::{Hearing, News};
 pub use learned::{LearnedEntries, LearnedEntry};
 pub use learner::Learner;
+pub use paxos_packets::{Ballot, Body, Entries, Entry, Members, NodeSet, Slot, Vote};
 pub use tallies::{SlotBallot, Tallies};

@@ -9,3 +9,4 @@ pub mod Answering
 pub mod Making
 pub mod Done
 pub mod Counting
+pub mod Disagreeing

@@ -1,5 +1,5 @@
 -- What callers see of a node in code: its number, the members, the node, and for how much more it has memory.
-use Rattle.std.specs.Prelude.{◌≤◌, ℕ, Bool, Option, Some, None, length}
+use Rattle.std.specs.Prelude.{◌≡◌, ◌≤◌, ℕ, Bool, false, Option, Some, None, length}
 use Rattle.paxos_packets.specs.declared.entry.Entry.{Entry}
 use Rattle.paxos_proposer.specs.Moves.{promises_in, proposals_in}
 use Rattle.paxos_proposer.specs.State as proposing
@@ -31,9 +31,10 @@ abbrev pub additions : {B : Type 0} → Option (Entry B) → ℕ
 additions None = 0
 additions (Some e) = 1
 
--- there is memory for all that the outcome adds
+-- it has not failed, and there is memory for all that the outcome adds
 pub record HasRoom {B : Type 0} (o : Outcome B) (h : Held B) : Type 0 where
   pub votes : length o.change.votes ≤ h.room.votes
   pub proposer : proposing.HasRoom (promises_in o.moves.proposer) (proposals_in o.moves.proposer) h.room.proposer
   pub learner : HasRoomFor o.moves.news (learner_in h)
   pub pending : additions o.moves.added ≤ h.room.pending
+  pub stands : h.failed ≡ false

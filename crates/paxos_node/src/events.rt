@@ -1,6 +1,7 @@
 //! What an event makes of a node.
 
-ghost use Rattle.std.specs.Prelude.{◌≡◌, true, false, not, ◌&&◌, is_some, length, Some, None, Ok, IfOk};
+ghost use Rattle.std.specs.Prelude.{◌≡◌, true, false, not, ◌&&◌, is_some, length, Some, None, Ok, Err, IfOk, if◌then◌else◌};
+ghost use Rattle.paxos_node.specs.declared.fault.NodeFault.TheVariants.{Disagree as Other, Memory as NoMemory};
 ghost use Rattle.paxos_node.specs.Adopting.{Fits, Settled, Planned};
 ghost use Rattle.paxos_node.specs.Applying.{settle};
 ghost use Rattle.paxos_planning.specs.Drafting.{with_pending_entry, seeing, listed};
@@ -9,7 +10,7 @@ ghost use Rattle.paxos_node.specs.Events.{owner, possible, on_event, on_take, on
 ghost use Rattle.paxos_planning.specs.Ticking.{on_tick};
 ghost use Rattle.paxos_planning.specs.Starting.{on_start, starts};
 ghost use Rattle.paxos_node.specs.Events.{is_round_refused, is_full_refused, made_by, taken_by, suspected_by};
-ghost use Rattle.paxos_node.specs.Plans.{is_planned, plans, unchanged, Answers, Answered};
+ghost use Rattle.paxos_node.specs.Plans.{is_planned, plans, unchanged, hears_other, proposes, is_memory, Answers, Answered};
 ghost use Rattle.paxos_planning.specs.Proposals.{push};
 ghost use Rattle.paxos_planning.specs.Replies.{on_packet, round_in};
 ghost use Rattle.paxos_planning.specs.Plan.{begun};
@@ -29,7 +30,8 @@ const MOST_PENDING: usize = 1024;
 impl<B: Body> Node<B> {
     /// Returns what the event makes of the node, which itself stays as it is: `Rounds` or `Full` if it changes nothing because no round or
     /// no room is left, `Disagree` if another entry was learned in a slot. An event that is not possible at this node, a crash and a
-    /// restart change nothing. Looks at no entry of the log, and copies what it sends, commits, proposes and applies.
+    /// restart change nothing. Looks at no entry of the log, and copies what it sends, commits, proposes and applies. Returns `Memory` in
+    /// the place of none of these, except in the place of `Disagree` if the node itself proposes in the event (`proposes`).
     pub fn plan(&self, event: &Event<B>) -> Result<Outcome<B>, NodeFault>
         ensures planned { plans self.now.me event.now self.now.state ≡ true →
             Answers (is_round_refused event.now self.now.state) (is_full_refused B.same event.now self.now.state)
@@ -39,11 +41,39 @@ impl<B: Body> Node<B> {
         ensures fits { IfOk result (λ outcome. Fits self.now.me self.now.members outcome self.now.state) }
         ensures made { plans self.now.me event.now self.now.state ≡ true →
             IfOk result (λ outcome. listed outcome.moves.added ≡ made_by B.same event.now self.now.state) }
+        ensures memory { plans self.now.me event.now self.now.state ≡ true → proposes self.now.members event.now self.now.state ≡ false →
+            result ≡ Err NoMemory → (outcome_of B.same self.now.members event.now self.now.state).disagrees ≡ false }
     {
         if !self.plans(event) {
             return Ok(self.nothing());
         }
-        self.plan_own(event)
+        let planned = self.plan_own(event);
+        let other = self.finds_other(&planned, event);
+        unless_other(planned, other)
+    }
+
+    // Returns whether memory for the plan ran out, and the event is a packet that brings another entry than the one that was learned.
+    fn finds_other(&self, planned: &Result<Outcome<B>, NodeFault>, event: &Event<B>) -> bool
+        requires { self.now.state.up ≡ true }
+        ensures { result ≡ is_memory planned.now && hears_other B.same self.now.members self.now.me event.now self.now.state }
+    {
+        ran_out(planned) && self.hears_other(event)
+    }
+
+    // Returns whether the event is a packet that brings another entry than the one that was learned in its slot.
+    fn hears_other(&self, event: &Event<B>) -> bool
+        requires { self.now.state.up ≡ true }
+        ensures { result ≡ hears_other B.same self.now.members self.now.me event.now self.now.state }
+    {
+        match event {
+            Event::Deliver { packet } => self.parts().brings_other(packet.sender, &packet.kind),
+            Event::Take { .. }
+            | Event::Tick { .. }
+            | Event::Start { .. }
+            | Event::Suspect { .. }
+            | Event::Crash { .. }
+            | Event::Restart { .. } => false,
+        }
     }
 
     // Plans an event of this node that is possible.
@@ -246,6 +276,27 @@ impl<B: Body> Node<B> {
         let done = draft.on_packet(packet.sender, &packet.kind);
         self.finish(draft, done)
     }
+}
+
+// Returns whether memory for the plan ran out.
+fn ran_out<T>(planned: &Result<T, NodeFault>) -> bool
+    ensures { result ≡ is_memory planned.now }
+{
+    match planned {
+        Err(NodeFault::Memory) => true,
+        Ok(_) | Err(NodeFault::Rounds | NodeFault::Full | NodeFault::Disagree) => false,
+    }
+}
+
+// Returns what was planned, or `Disagree` if another entry was learned.
+fn unless_other<T: Drop>(planned: Result<T, NodeFault>, other: bool) -> Result<T, NodeFault>
+    ensures { result ≡ (if other then Err Other else planned) }
+{
+    if other {
+        drop(planned);
+        return Err(NodeFault::Disagree);
+    }
+    planned
 }
 
 // Returns the outcome by which the entry becomes pending.

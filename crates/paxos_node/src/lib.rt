@@ -19,4 +19,5 @@ pub use fault::NodeFault;
 pub use node::Node;
 pub use outcome::Outcome;
 pub use packets::Packets;
+pub use paxos_packets::{Ballot, Body, Change, Entries, Entry, Members, Packet, Rows, Vote};
 pub use view::{NodeView, Opened};

@@ -69,7 +69,7 @@ impl<B: Drop> Drop for Node<B> {
 }
 
 impl<B> Model for Node<B> {
-    ghost use Rattle.std.specs.Prelude.{◌≡◌, ◌-◌, ◌<◌, ◌^◌, length, vec_len, vec_capacity};
+    ghost use Rattle.std.specs.Prelude.{◌≡◌, ◌-◌, ◌<◌, ◌^◌, false, length, vec_len, vec_capacity};
     ghost use Rattle.paxos_learner.specs.Learned.{Begins};
     ghost use Rattle.replica_machine.specs.Roll.{IsRollOf};
     ghost use Rattle.paxos_planning.specs.Parts.{first_learned};
@@ -104,7 +104,8 @@ impl<B> Model for Node<B> {
         × IsRollOf (first_learned n.applied n.learner.state.learner.learned) n.roll
         × Begins (first_learned n.applied n.learner.state.learner.learned) n.learner.state.learner.learned
         × (n.applied < 2 ^ 40)
-        × IsFront n.front (length (first_learned n.applied n.learner.state.learner.learned)) n.proposer.state.proposer.role n.pending.items };
+        × IsFront n.front (length (first_learned n.applied n.learner.state.learner.learned)) n.proposer.state.proposer.role n.pending.items
+        × (n.acceptor.failed ≡ false) };
 }
 
 impl<B> Node<B> {
@@ -156,7 +157,7 @@ impl<B> Node<B> {
     }
 
     // Returns its parts, given that it is up.
-    fn parts(&self) -> Parts<'_, B>
+    pub(crate) fn parts(&self) -> Parts<'_, B>
         requires { self.now.state.up ≡ true }
         ensures me { result.me ≡ self.now.me }
         ensures members { result.members ≡ self.now.members }
@@ -292,7 +293,7 @@ impl<B: Drop> Node<B> {
             alloc,
             me,
             members,
-            acceptor: Acceptor::of(rows),
+            acceptor: Acceptor::of(alloc, rows),
             is_up: true,
             proposer,
             learner: Learner::new(alloc, members),
@@ -307,7 +308,7 @@ impl<B: Drop> Node<B> {
 }
 
 impl<B: Body> Node<B> {
-    /// Reserves all memory that adopting this outcome needs. The node stays as it was, with `Memory` too.
+    /// Reserves all memory that adopting this outcome needs. The node stays as it was, with `Memory` too. A failed node returns `Memory`.
     pub fn make_room(&mut self, outcome: &Outcome<B>) -> Result<(), NodeFault>
         ensures ok { OnOk result (HasRoom outcome.now self.new) }
         ensures state { self.new.state ≡ self.old.state }
@@ -316,6 +317,9 @@ impl<B: Body> Node<B> {
         ensures failed { self.new.failed ≡ self.old.failed }
         ensures memory { IsOkUnless result Memory }
     {
+        if self.failed {
+            return Err(NodeFault::Memory);
+        }
         let Ok(()) = make_room_in(
             &mut self.acceptor,
             &mut self.proposer,
@@ -328,8 +332,8 @@ impl<B: Body> Node<B> {
         Ok(())
     }
 
-    /// Becomes what was planned, once that is committed, given room for it; returns the packets to send, and the entries that it applied.
-    /// Does not allocate, and copies nothing.
+    /// Becomes what was planned, once that is committed, given room for it, and that the node has not failed (`HasRoom` says both); returns
+    /// the packets to send, and the entries that it applied. Does not allocate, and copies nothing.
     pub fn adopt_in_room(&mut self, outcome: Outcome<B>) -> (Packets<B>, Entries<B>)
         requires room { HasRoom outcome self.old }
         requires fits { Fits self.old.me self.old.members outcome self.old.state }
@@ -383,9 +387,6 @@ impl<B: Body> Node<B> {
         ensures failed { self.old.failed ≡ true → result ≡ Err Memory }
         ensures memory { IsOkUnless result Memory }
     {
-        if self.failed {
-            return Err(NodeFault::Memory);
-        }
         let Ok(()) = self.make_room(&outcome) else {
             self.failed = true;
             return Err(NodeFault::Memory);
@@ -425,6 +426,7 @@ fn make_room_in<B: Body>(
     ensures learner { OnOk result (HasRoomFor outcome.now.moves.news learner.new) }
     ensures pending { OnOk result (vec_len pending.new + 1 ≤ vec_capacity pending.new) }
     ensures rows { acceptor.new.rows ≡ acceptor.old.rows }
+    ensures stands { acceptor.new.failed ≡ acceptor.old.failed }
     ensures moved { proposer.new.state ≡ proposer.old.state }
     ensures heard { learner.new.state ≡ learner.old.state }
     ensures items { pending.new.items ≡ pending.old.items }

@@ -164,10 +164,7 @@ impl<'a, B> Draft<'a, B> {
     pub(crate) fn may_accept(&self, ballot: Ballot) -> bool
         ensures { result ≡ may_accept self.now.plan.node.rows.promised ballot }
     {
-        match self.promised() {
-            Some(promised) => !ballot.is_below(&promised),
-            None => true,
-        }
+        may_accept(self.promised(), ballot)
     }
 }
 
@@ -303,7 +300,17 @@ impl<'a, B: Body> Draft<'a, B> {
         requires { self.now.plan.change.votes ≡ [] }
         ensures votes { IfOk result (λ votes. votes ≡ votes_from first self.now.plan.node.rows.votes) }
     {
-        self.node.votes_from(self.alloc, first)
+        self.node.votes_from(first)
+    }
+}
+
+// Returns whether a vote in the ballot may be cast after this promise.
+pub(crate) fn may_accept(promised: Option<Ballot>, ballot: Ballot) -> bool
+    ensures { result ≡ may_accept promised ballot }
+{
+    match promised {
+        Some(promised) => !ballot.is_below(&promised),
+        None => true,
     }
 }
 

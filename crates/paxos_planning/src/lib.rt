@@ -13,3 +13,7 @@ mod ticking;
 pub use draft::Draft;
 pub use effects::Effects;
 pub use parts::Parts;
+pub use paxos_acceptor::Acceptor;
+pub use paxos_learner::{Learner, News};
+pub use paxos_packets::{Body, Change, Entries, Entry, Kind, Members, Memory, Packet};
+pub use paxos_proposer::{Move, Proposer};

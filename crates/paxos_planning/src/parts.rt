@@ -2,10 +2,12 @@ ghost use Rattle.std.specs.Prelude.{◌≡◌, ◌<◌, ◌^◌, [], length, IfO
 ghost use Rattle.paxos_learner.specs.Learned.{Begins};
 ghost use Rattle.paxos_packets.specs.Vote.{votes_from};
 ghost use Rattle.paxos_planning.specs.Parts.{proposer_of, learner_of, first_learned, whole};
+ghost use Rattle.paxos_planning.specs.Replies.{brings_other};
 
+use crate::draft::may_accept;
 use paxos_acceptor::Acceptor;
 use paxos_learner::{Hearing, Learner};
-use paxos_packets::{Ballot, Body, Entry, Members, Memory, Votes};
+use paxos_packets::{Ballot, Body, Entry, Kind, Members, Memory, Votes};
 use paxos_proposer::{Proposer, Proposing};
 use std::alloc::Global;
 use std::marker::Model;
@@ -168,11 +170,29 @@ impl<'a, B> Parts<'a, B> {
 }
 
 impl<'a, B: Body> Parts<'a, B> {
+    /// Returns whether the packet itself brings another entry than the one that was learned in its slot: a vote for it that is cast or that
+    /// makes a majority, or a report of it. Does not allocate.
+    pub fn brings_other(&self, sender: u8, kind: &Kind<B>) -> bool
+        ensures { result ≡ brings_other B.same self.now.members self.now.me sender kind.now self.now.state }
+    {
+        match kind {
+            Kind::Accept { vote } => may_accept(self.promised(), vote.ballot)
+                && self.learner().vote_disagrees(self.me(), vote),
+            Kind::Accepted { vote } => self.learner().vote_disagrees(sender, vote),
+            Kind::Learned { slot, entry } => self.learner().disagrees(*slot, entry),
+            Kind::Prepare { .. }
+            | Kind::Promise { .. }
+            | Kind::Nack { .. }
+            | Kind::Forward { .. }
+            | Kind::Ask { .. } => false,
+        }
+    }
+
     // Copies its votes from the slot with this number on.
-    pub(crate) fn votes_from(&self, alloc: Global, first: u64) -> Result<Votes<B>, Memory>
+    pub(crate) fn votes_from(&self, first: u64) -> Result<Votes<B>, Memory>
         ensures { IfOk result (λ votes. votes ≡ votes_from first self.now.state.rows.votes) }
     {
-        let Ok(votes) = self.acceptor.votes_from(alloc, first) else {
+        let Ok(votes) = self.acceptor.votes_from(first) else {
             return Err(Memory);
         };
         Ok(votes)

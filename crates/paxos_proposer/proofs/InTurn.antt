@@ -9,7 +9,7 @@ use Rattle.paxos_packets.specs.declared.vote.Vote.{Vote}
 use Rattle.paxos_proposer.specs.declared.phase.Phase.{Phase}
 use Rattle.paxos_proposer.specs.declared.phase.Phase.TheVariants as Kept
 use Rattle.paxos_proposer.specs.declared.promises.CountedPromise.{CountedPromise}
-use Rattle.paxos_proposer.specs.Proposals.{behind, AreUpTo, AreInSlots}
+use Rattle.paxos_proposer.specs.Proposals.{behind, AreUpTo, AreInSlots, ProposesInTurn}
 use Rattle.paxos_proposer.specs.Proposing.{proposals_of}
 use Rattle.paxos_proposer.specs.State.{role_of, IsInTurn}
 
@@ -76,3 +76,8 @@ pub in_role : {B : Type 0} (p : Phase) (cs : List (CountedPromise B)) (vs : List
 in_role Kept.Idle cs vs t = tt
 in_role (Kept.Preparing b first) cs vs t = tt
 in_role (Kept.Leading b next) cs vs t = in_slots next vs t
+
+pub turn_in_role : {B : Type 0} (p : Phase) (cs : List (CountedPromise B)) (vs : List (Vote B)) → IsInTurn p vs → ProposesInTurn (role_of p cs vs)
+turn_in_role Kept.Idle cs vs t = tt
+turn_in_role (Kept.Preparing b first) cs vs t = tt
+turn_in_role (Kept.Leading b next) cs vs t = t

@@ -38,6 +38,12 @@ abbrev pub AreInSlots : {B : Type 0} → List (Vote B) → Type 0
 AreInSlots [] = Unit {0}
 AreInSlots (v ∷ vs) = (1 ≤ v.slot) × AreInSlots vs
 
+-- what a leader proposed is in slots that follow one another, up to its next one
+abbrev pub ProposesInTurn : {B : Type 0} → Role B → Type 0
+ProposesInTurn Idle = Unit {0}
+ProposesInTurn (Preparing b first promises) = Unit {0}
+ProposesInTurn (Leading b next proposed) = AreUpTo next proposed
+
 -- how they are found: the table has the greatest slot of each identity, or one above it
 
 abbrev pub IsUpTo : ℕ → Option ℕ → Type 0

@@ -17,6 +17,7 @@ mod reports;
 pub use fault::ProposerFault;
 pub use identity::Identity;
 pub use moves::Move;
+pub use paxos_packets::{Ballot, Body, Entries, Entry, Members, Memory, Slot, Vote, Votes};
 pub use promises::CountedPromise;
 pub use proposals::Proposals;
 pub use proposer::Proposer;

@@ -1,7 +1,7 @@
 ghost use Rattle.std.specs.Prelude.{◌≡◌, ◌↔◌, ◌≤◌, ◌+◌, true, false, Some, None, Ok, Err, IsOk, IfOk, OnOk, OnErr, IsOkUnless};
 ghost use Rattle.paxos_proposer.specs.declared.fault.ProposerFault.TheVariants.{Rounds, SlotsFull, NotLeading, Memory};
 ghost use Rattle.paxos_proposer.specs.Promises.{counts, called_by};
-ghost use Rattle.paxos_proposer.specs.Proposals.{stands, behind, AreInSlots};
+ghost use Rattle.paxos_proposer.specs.Proposals.{stands, behind, AreInSlots, ProposesInTurn};
 ghost use Rattle.paxos_proposer.specs.Proposer.{own_ballot, is_spent, is_leading, slots_spent, next_slot, ballot_of, is_below, is_refused};
 ghost use Rattle.paxos_proposer.specs.Reports.{is_counted};
 ghost use Rattle.paxos_proposer.specs.Role.{Idle};
@@ -159,10 +159,12 @@ impl<B> Proposer<B> {
         }
     }
 
-    /// Returns what it proposed in its ballot under way, in the slots after the first `applied`. Takes a constant number of steps.
+    /// Returns what it proposed in its ballot under way, in the slots after the first `applied`. What a leader proposed is in slots that
+    /// follow one another, up to its next one. Takes a constant number of steps.
     pub fn proposed_after(&self, applied: u64) -> &[Vote<B>]
         ensures behind { result.now ≡ behind applied (proposals_of (role_in self.now)) }
         ensures slots { AreInSlots (proposals_of (role_in self.now)) }
+        ensures turn { ProposesInTurn (role_in self.now) }
     {
         match self.phase {
             Phase::Leading { .. } => self.proposed.behind(applied),

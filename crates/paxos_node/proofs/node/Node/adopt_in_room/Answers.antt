@@ -101,6 +101,7 @@ invariant_of-self-2 g c =
       subst (λ (n : ℕ). n < 2 ^ 40) (λ i. counted i + length (sym same i)) within,
       subst (λ (l : List (Entry g.row.B.Denot)). IsFront c.moves.inside.front (length l) c.move_in_room.new.self.state.proposer.role c.apply_all.new.pending.items)
           (sym now) front,
+      c.adopt_in_room.ensures.failed ∙ c.self.invariant.8,
     )
 
 pub returns-clause-state : goal.returns-clause-state

@@ -1,4 +1,4 @@
-use Rattle.std.proofs.Common.{◌≡◌, ◌+◌, ◌≤◌, vec_len, vec_capacity, ap, ◌∙◌, subst, arith}
+use Rattle.std.proofs.Common.{◌≡◌, ◌+◌, ◌≤◌, vec_len, vec_capacity, ap, ◌∙◌, subst, arith, rules}
 use Rattle.paxos_learner.specs.Hearing.{HasRoomFor}
 use Rattle.paxos_learner.specs.Learner as learning
 use Rattle.paxos_node.specs.Held.{additions}
@@ -19,4 +19,5 @@ returns-clause-ok g c =
           subst (λ (l : learning.Held g.row.B.Denot). HasRoomFor c.args.outcome.now.moves.news l)
           (held_is c.make_room_in.new.learner c.self.inside.members members) c.in-Ok.ensures.learner;
       pending = omega arith;
+      stands = search rules;
     }
