@@ -7,6 +7,7 @@ mod layouts_with_args;
 mod parts;
 mod refusal;
 
+pub use json::Writer;
 pub use layouts::{
     Answered, Labelled, NamedDetails, NumberedDetails, Reason, Stopped, TwoIds, UriRequest,
     dictionary_text, id_dictionary, id_dictionary_text, id_mode, one_id, text_dictionary, two_ids,
@@ -19,3 +20,7 @@ pub use parts::{
     put_text_option,
 };
 pub use refusal::{Refusal, refused};
+pub use serde_json::Value;
+pub use wamp_ids::{Id, Mode, Text};
+pub use wamp_message_types::{MessageFault, RequestKind};
+pub use wamp_values::Args;

@@ -26,3 +26,5 @@ pub use register::{Register, Registered, Unregister, Unregistered};
 pub use request_kind::RequestKind;
 pub use session::{Abort, Goodbye, Hello, Welcome};
 pub use subscribe::{Subscribe, Subscribed, Unsubscribe, Unsubscribed};
+pub use wamp_ids::{Id, Invoke, Match, Mode, Text};
+pub use wamp_values::Args;

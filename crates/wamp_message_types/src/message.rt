@@ -64,6 +64,38 @@ impl Drop for Message {
 }
 
 impl Message {
+    /// Lets later copies share the message's arguments, for which it allocates at most twice. The message stays as it is, also if memory
+    /// runs out, for which it returns `Memory`.
+    pub fn share(&mut self) -> Result<(), Memory>
+        ensures { self.new ≡ self.old }
+    {
+        let done = match self {
+            Message::Abort(abort) => abort.args.share(),
+            Message::Error(error) => error.args.share(),
+            Message::Publish(publish) => publish.args.share(),
+            Message::Event(event) => event.args.share(),
+            Message::Call(call) => call.args.share(),
+            Message::CallResult(reply) => reply.args.share(),
+            Message::Invocation(invocation) => invocation.args.share(),
+            Message::Yield(yielded) => yielded.args.share(),
+            Message::Hello(_)
+            | Message::Welcome(_)
+            | Message::Goodbye(_)
+            | Message::Published(_)
+            | Message::Subscribe(_)
+            | Message::Subscribed(_)
+            | Message::Unsubscribe(_)
+            | Message::Unsubscribed(_)
+            | Message::Register(_)
+            | Message::Registered(_)
+            | Message::Unregister(_)
+            | Message::Unregistered(_)
+            | Message::Cancel(_)
+            | Message::Interrupt(_) => Ok(()),
+        };
+        Ok(done?)
+    }
+
     /// Returns an equal message. If memory runs out, returns `Memory` and changes nothing.
     pub fn copy(&self) -> Result<Message, Memory>
         ensures { IfOk result (λ made. made ≡ self.now) }

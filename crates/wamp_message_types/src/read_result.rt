@@ -46,6 +46,21 @@ impl Drop for Read {
 }
 
 impl Read {
+    /// Lets later copies share the message's arguments, as `Message::share` does.
+    pub fn share(&mut self) -> Result<(), Memory>
+        ensures { self.new ≡ self.old }
+    {
+        match self {
+            Read::Good(message) => message.share(),
+            Read::Unfit {
+                kind: _,
+                request: _,
+                quiet: _,
+            }
+            | Read::Bad(_) => Ok(()),
+        }
+    }
+
     /// Returns an equal value. If memory runs out, returns `Memory` and changes nothing.
     pub fn copy(&self) -> Result<Read, Memory>
         ensures { IfOk result (λ made. made ≡ self.now) }

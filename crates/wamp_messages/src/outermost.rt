@@ -28,7 +28,7 @@ pub(crate) enum Elements {
     All(Vec<Value>),
 }
 
-// Reads the elements of this text, if it is a JSON array whose numbers are all integers of 64 bits, and memory suffices.
+// Reads the elements of this text, if it is a JSON array whose numbers are all integers of 64 bits.
 pub(crate) fn elements_of(
     alloc: Global,
     text: &str,
@@ -37,15 +37,15 @@ pub(crate) fn elements_of(
     ensures { IfOk result (λ found. read_from found ≡ json_read_as (read_text text.now)) }
 {
     let mut reader = Reader::new(text, scratch)?;
-    let token = reader.next().ok_or(Untaken)?;
+    let token = reader.next().ok_or(Untaken::Unread)?;
     let Token::BeginArray = token else {
-        return Err(Untaken);
+        return Err(Untaken::Unread);
     };
     let first = element(alloc, &mut reader)?;
     let found = elements_behind(alloc, &mut reader, first)?;
     if reader.next().is_some() {
         drop(found);
-        return Err(Untaken);
+        return Err(Untaken::Unread);
     }
     Ok(found)
 }
@@ -117,7 +117,7 @@ fn element(alloc: Global, reader: &mut Reader<'_>) -> Result<Value, Untaken>
     ensures shorter { OnOk result (length reader.new < length reader.old) }
 {
     if reader.take_end_array() {
-        return Err(Untaken);
+        return Err(Untaken::Unread);
     }
     let found = value_in(alloc, reader, DEPTH - 1)?;
     Ok(found)
@@ -130,9 +130,9 @@ fn options(alloc: Global, reader: &mut Reader<'_>) -> Result<Flags, Untaken>
         × IsNext (object ms) reader.old reader.new × Tells flags ms) }
     ensures shorter { OnOk result (length reader.new < length reader.old) }
 {
-    let token = reader.next().ok_or(Untaken)?;
+    let token = reader.next().ok_or(Untaken::Unread)?;
     let Token::BeginObject = token else {
-        return Err(Untaken);
+        return Err(Untaken::Unread);
     };
     let flags = flags_in(alloc, reader, DEPTH - 2)?;
     Ok(flags)

@@ -36,25 +36,30 @@ impl Drop for Parser {
     }
 }
 
-// The text is not taken here: it is no JSON, has a number that is no integer of 64 bits, or memory ran out.
+// Why a text is not taken here.
 #[derive(Clone, Copy, Drop)]
-pub(crate) struct Untaken;
+pub(crate) enum Untaken {
+    // Memory ran out.
+    Memory,
+    // It is no JSON array, or has a number that is no integer of 64 bits.
+    Unread,
+}
 
 impl From<AllocError> for Untaken {
     fn from(_error: AllocError) -> Untaken {
-        Untaken
+        Untaken::Memory
     }
 }
 
 impl<T: Drop> From<AllocFailed<T>> for Untaken {
     fn from(_error: AllocFailed<T>) -> Untaken {
-        Untaken
+        Untaken::Memory
     }
 }
 
 impl From<Invalid> for Untaken {
     fn from(_error: Invalid) -> Untaken {
-        Untaken
+        Untaken::Unread
     }
 }
 
@@ -67,13 +72,13 @@ impl Parser {
         }
     }
 
-    // Reads the elements of these octets, if they are a JSON array whose numbers are all integers of 64 bits, and memory suffices.
+    // Reads the elements of these octets, if they are a JSON array whose numbers are all integers of 64 bits.
     #[tactic(auto, using(crate::proofs::Json::octets_read))]
     pub(crate) fn elements(&mut self, octets: &[u8]) -> Result<Elements, Untaken>
         ensures { IfOk result (λ found. read_from found ≡ read_of octets.now) }
     {
         let Ok(text) = from_utf8(octets) else {
-            return Err(Untaken);
+            return Err(Untaken::Unread);
         };
         let found = elements_of(self.alloc, text, &mut self.scratch)?;
         Ok(found)
@@ -92,25 +97,25 @@ pub(crate) fn value_in(
         (λ found. converted of_json (value depth reader.old) ≡ Some (view found, reader.new)) }
     ensures shorter { OnOk result (length reader.new < length reader.old) }
 {
-    let token = reader.next().ok_or(Untaken)?;
+    let token = reader.next().ok_or(Untaken::Unread)?;
     match token {
         Token::String(text) => Ok(Value::String(String::from_str(alloc, text)?)),
         Token::Number(text) => match integer_in(text) {
             Some(number) => Ok(Value::Number(number)),
-            None => Err(Untaken),
+            None => Err(Untaken::Unread),
         },
         Token::Bool(truth) => Ok(Value::Bool(truth)),
         Token::Null => Ok(Value::Null),
-        Token::EndObject | Token::EndArray | Token::Key(_) | Token::Bad => Err(Untaken),
+        Token::EndObject | Token::EndArray | Token::Key(_) | Token::Bad => Err(Untaken::Unread),
         Token::BeginArray => {
             if depth == 0 {
-                return Err(Untaken);
+                return Err(Untaken::Unread);
             }
             Ok(Value::Array(items_in(alloc, reader, depth - 1)?))
         }
         Token::BeginObject => {
             if depth == 0 {
-                return Err(Untaken);
+                return Err(Untaken::Unread);
             }
             Ok(Value::Object(members_in(alloc, reader, depth - 1)?))
         }

@@ -9,7 +9,7 @@ use crate::call::{
 };
 use crate::error::read_error;
 use crate::outermost::read_from;
-use crate::parser::Parser;
+use crate::parser::{Parser, Untaken};
 use crate::publish::{read_event, read_publish, read_published};
 use crate::register::{read_register, read_registered, read_unregister, read_unregistered};
 use crate::session::{read_abort, read_goodbye, read_hello, read_welcome};
@@ -22,13 +22,14 @@ use wamp_message_types::{Memory, MessageFault, Read, codes};
 /// Reads these octets: a message, a request that is unfit, or why they are no message.
 ///
 /// Parses the octets once, as JSON, and moves texts and arguments out of what was parsed (WAMP specification, "Message Definitions"; the
-/// order of faults is this profile's). If memory runs out, returns `Memory` and changes nothing.
+/// order of faults is this profile's). Later copies of the message share its arguments. If memory runs out, returns `Memory` and changes
+/// nothing.
 #[tactic(auto, using(crate::proofs::Json::json_read, crate::proofs::Json::no_json))]
 pub fn read(alloc: Global, octets: &[u8]) -> Result<Read, Memory>
     ensures { IfOk result (λ done. done ≡ read_of octets.now) }
 {
     match Value::from_slice(alloc, octets) {
-        Ok(value) => Ok(read_value(value)),
+        Ok(value) => shared(read_value(value)),
         Err(error) => if error.is_memory() {
             Err(Memory)
         } else {
@@ -39,15 +40,24 @@ pub fn read(alloc: Global, octets: &[u8]) -> Result<Read, Memory>
 
 /// Reads these octets as `read` does, in a buffer that is reused from message to message, which is faster.
 ///
-/// Nearly all messages are read in that buffer. If the octets are no JSON, have a number that is no integer of 64 bits, or memory runs out,
-/// `read` reads them once more.
+/// Nearly all messages are read in that buffer. If the octets are no JSON array, or have a number that is no integer of 64 bits, `read`
+/// reads them once more. If memory runs out, returns `Memory`.
 pub fn read_by(parser: &mut Parser, octets: &[u8]) -> Result<Read, Memory>
     ensures { IfOk result (λ done. done ≡ read_of octets.now) }
 {
     match parser.elements(octets) {
-        Ok(found) => Ok(read_from(found)),
-        Err(_) => read(parser.alloc, octets),
+        Ok(found) => shared(read_from(found)),
+        Err(Untaken::Memory) => Err(Memory),
+        Err(Untaken::Unread) => read(parser.alloc, octets),
     }
+}
+
+// Lets later copies share what was read.
+#[inline(always)]
+fn shared(mut read: Read) -> Result<Read, Memory>
+    ensures { IfOk result (λ done. done ≡ read) }
+{
+    read.share().and(Ok(read))
 }
 
 fn read_value(value: Value) -> Read

@@ -14,3 +14,4 @@ pub use matching::matches;
 pub use memory::Memory;
 pub use ranking::better;
 pub use table::PatternTable;
+pub use wamp_ids::{Pattern, Uri};

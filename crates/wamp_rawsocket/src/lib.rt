@@ -8,6 +8,7 @@ mod handshake_answer;
 pub mod laws;
 mod splitter;
 
+pub use bytes::Bytes;
 pub use fault::FrameFault;
 pub use frame::{Frame, FrameKind, FrameRef, append_frame, put_frame};
 pub use handshake::answer;

@@ -39,8 +39,7 @@ impl Model for Arguments {
 }
 
 impl Arguments {
-    /// Returns the payload as arguments if it is an array, else `None`. Later copies share it, for which this allocates once; without
-    /// memory for that, the payload is held unshared.
+    /// Returns the payload as arguments if it is an array, else `None`. Does not allocate.
     pub fn of(payload: Payload) -> Option<Arguments>
         ensures { result ≡ (if is_some (as_array payload) then Some payload else None) }
     {
@@ -51,6 +50,14 @@ impl Arguments {
         } else {
             None
         }
+    }
+
+    /// Lets later copies share the array, for which it allocates once, unless they do already. The value stays as it is, also if memory runs
+    /// out.
+    pub fn share(&mut self) -> Result<(), Memory>
+        ensures { self.new ≡ self.old }
+    {
+        self.list.share()
     }
 
     /// Returns the array; does not allocate.
@@ -115,7 +122,7 @@ impl Model for ArgumentsKw {
 }
 
 impl ArgumentsKw {
-    /// Returns the payload as arguments by name if it is an object, else `None`; shared as [`Arguments::of`] shares an array.
+    /// Returns the payload as arguments by name if it is an object, else `None`. Does not allocate.
     pub fn of(payload: Payload) -> Option<ArgumentsKw>
         ensures { result ≡ (if is_some (as_object payload) then Some payload else None) }
     {
@@ -126,6 +133,13 @@ impl ArgumentsKw {
         } else {
             None
         }
+    }
+
+    /// Lets later copies share the object, as [`Arguments::share`] does for an array; an object without members needs no memory.
+    pub fn share(&mut self) -> Result<(), Memory>
+        ensures { self.new ≡ self.old }
+    {
+        self.dict.share()
     }
 
     /// Returns the object; does not allocate.
@@ -180,6 +194,20 @@ impl Drop for Args {
 }
 
 impl Args {
+    /// Lets later copies share the arguments, as [`Arguments::share`] does.
+    pub fn share(&mut self) -> Result<(), Memory>
+        ensures { self.new ≡ self.old }
+    {
+        match self {
+            Args::Nothing => Ok(()),
+            Args::List(list) => list.share(),
+            Args::Both(list, dict) => {
+                list.share()?;
+                dict.share()
+            }
+        }
+    }
+
     /// Returns equal arguments, as [`Arguments::copy`] does.
     pub fn copy(&self) -> Result<Args, Memory>
         ensures { IfOk result (λ made. made ≡ self.now) }

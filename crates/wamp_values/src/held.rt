@@ -13,7 +13,7 @@ use std::sync::Arc;
 enum Held {
     // Shared by all copies.
     Together(Arc<Payload>),
-    // Unshared: the payload keeps no allocator, or there was no memory to share it.
+    // Held by this one alone.
     Alone(Payload),
 }
 
@@ -36,15 +36,34 @@ impl Model for HeldPayload {
 }
 
 impl HeldPayload {
-    // Makes the payload shared, which allocates once; if it keeps no allocator, or memory runs out, it stays unshared.
+    // Holds the payload unshared; does not allocate.
     pub fn of(payload: Payload) -> HeldPayload
         ensures { result ≡ payload }
     {
-        match allocator_of(payload.value()) {
-            Some(alloc) => together(alloc, payload),
-            None => HeldPayload {
-                held: Held::Alone(payload),
-            },
+        HeldPayload {
+            held: Held::Alone(payload),
+        }
+    }
+
+    // Makes the payload shared by later copies, unless it is, or keeps no allocator to ask.
+    pub fn share(&mut self) -> Result<(), Memory>
+        ensures { self.new ≡ self.old }
+    {
+        let Held::Alone(payload) = &mut self.held else {
+            return Ok(());
+        };
+        let Some(alloc) = allocator_of(payload.value()) else {
+            return Ok(());
+        };
+        match Arc::new(alloc, payload.take()) {
+            Ok(payload) => {
+                self.held = Held::Together(payload);
+                Ok(())
+            }
+            Err(failed) => {
+                self.held = Held::Alone(failed.value);
+                Err(Memory)
+            }
         }
     }
 
@@ -67,20 +86,6 @@ impl HeldPayload {
                 Held::Alone(payload) => Held::Alone(payload.copy()?),
             },
         })
-    }
-}
-
-// Returns the payload shared, or unshared if memory runs out.
-fn together(alloc: Global, payload: Payload) -> HeldPayload
-    ensures { result ≡ payload }
-{
-    match Arc::new(alloc, payload) {
-        Ok(payload) => HeldPayload {
-            held: Held::Together(payload),
-        },
-        Err(failed) => HeldPayload {
-            held: Held::Alone(failed.value),
-        },
     }
 }
 

@@ -66,6 +66,15 @@ impl Payload {
         &self.value
     }
 
+    // Takes the payload out, and leaves null.
+    pub(crate) fn take(&mut self) -> Payload
+        ensures { result ≡ self.old }
+    {
+        Payload {
+            value: self.value.take(),
+        }
+    }
+
     /// Returns an equal payload. If memory runs out, returns `Memory` and changes nothing.
     pub fn copy(&self) -> Result<Payload, Memory>
         ensures { IfOk result (λ made. made ≡ self.now) }
