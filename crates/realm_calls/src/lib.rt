@@ -6,3 +6,5 @@ pub mod laws;
 mod open_calls;
 
 pub use calls::{Calls, Cancelled, Open};
+pub use realm_sessions::RealmFault;
+pub use wamp_ids::{Id, Mode};

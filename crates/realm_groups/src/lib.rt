@@ -9,3 +9,5 @@ mod matching;
 
 pub use group::{Group, Turning};
 pub use groups::Groups;
+pub use realm_sessions::RealmFault;
+pub use wamp_ids::{Id, Pattern, Uri};

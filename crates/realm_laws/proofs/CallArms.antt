@@ -43,11 +43,11 @@ use Rattle.realm_machine.specs.Calling.{on_call}
 use Rattle.realm_machine.specs.Calling.{canceled_as, cancel_found, on_cancel, replied, reply_to, on_yield}
 use Rattle.realm_machine.specs.Calling.{on_failure, unfit_call}
 use Rattle.realm_laws.specs.Trace.{is_final_message, is_final}
-use Rattle.realm_laws.proofs.Has.{Has, any_has, find_has}
+use Rattle.realm_laws.proofs.Has.{Has, any_has, find_has, has_last}
 use Rattle.realm_laws.proofs.Counts.{bit, count, bit_le, bit_one, bit_false, count_append, count_le, count_none}
 use Rattle.realm_laws.proofs.Counts.{count_less}
 use Rattle.realm_laws.proofs.Standing.{at, one_transport, one_id, at_taken}
-use Rattle.realm_laws.proofs.Standing.{invoked_at, invoked_taken, has_last}
+use Rattle.realm_laws.proofs.Standing.{invoked_at, invoked_taken}
 use Rattle.realm_laws.proofs.Moves.{holds, opens, finals, Base, Moves, IsSilent, silent_to, silent_both, said_moves}
 use Rattle.realm_laws.proofs.Moves.{quiet_moves, kept_base}
 use Rattle.realm_laws.proofs.Moves.{violation_moves, told_pays}

@@ -1,10 +1,10 @@
 -- What is in a list.
 use Rattle.std.proofs.Common.{◌≡◌, ◌⊎◌, inl, inr, ⊎_elim, Bool, true, false, ◌||◌, refl, sym, ◌∙◌, ap, subst, List, []}
 use Rattle.std.proofs.Common.{◌∷◌}
-use Rattle.std.proofs.Common.{Some, None, find, filter}
+use Rattle.std.proofs.Common.{◌++◌, map, Some, None, find, filter}
 use Rattle.std.specs.List.{All, AllPairs, list_any}
 use Rattle.std.proofs.lemmas.Bool.{cond_both, false≢true}
-use Rattle.std.proofs.lemmas.List.Elements.{All-head, All-tail}
+use Rattle.std.proofs.lemmas.List.Elements.{All-nil, All-cons, All-head, All-tail}
 use Rattle.realm_sessions.proofs.Pairs.{AllPairs-head, AllPairs-tail}
 
 pub data Has {A : Type 0} : List A → A → Type 0 where
@@ -28,6 +28,24 @@ has_filter test (y ∷ xs) {x} h =
     (λ e g. ⊎_elim (λ s. has_first xs s) (λ r. further (has_filter test xs r)) (has_cons g))
     (λ e g. further (has_filter test xs g))
     h
+
+pub filter_test : {A : Type 0} (test : A → Bool) (xs : List A) {x : A} → Has (filter test xs) x → test x ≡ true
+filter_test test [] h = absurd (has_nil h)
+filter_test test (y ∷ xs) {x} h =
+    cond_both (test y) (y ∷ filter test xs) (filter test xs) (λ zs. Has zs x → test x ≡ true)
+    (λ e g. ⊎_elim (λ s. ap test (sym s) ∙ e) (λ r. filter_test test xs r) (has_cons g))
+    (λ e g. filter_test test xs g)
+    h
+
+pub has_map : {A B : Type 0} (f : A → B) (xs : List A) {y : B} → Has (map f xs) y → (x : A) × Has xs x × (f x ≡ y)
+has_map f [] h = absurd (has_nil h)
+has_map f (x ∷ xs) h =
+    ⊎_elim (λ e. (x, in_front, e)) (λ r. let z = has_map f xs r in (z.0, further z.1, z.2)) (has_cons h)
+
+pub has_last : {A : Type 0} (xs : List A) (y : A) {x : A} → Has (xs ++ y ∷ []) x → Has xs x ⊎ (y ≡ x)
+has_last [] y h = ⊎_elim (λ e. inr e) (λ r. absurd (has_nil r)) (has_cons h)
+has_last (z ∷ xs) y h =
+    ⊎_elim (λ e. inl (has_first xs e)) (λ r. ⊎_elim (λ a. inl (further a)) (λ b. inr b) (has_last xs y r)) (has_cons h)
 
 pub any_has : {A : Type 0} (p : A → Bool) {xs : List A} {x : A} → Has xs x → p x ≡ true → list_any p xs ≡ true
 any_has p (in_front {x = x} {xs = xs}) t = ap (λ b. b || list_any p xs) t
@@ -66,6 +84,10 @@ find_has p (y ∷ xs) {x} h =
 pub All-has : {A : Type 0} (P : A → Type 0) {xs : List A} {x : A} → All P xs → Has xs x → P x
 All-has P all (in_front {x = x} {xs = xs}) = All-head P x xs all
 All-has P all (further {x = x} {y = y} {xs = xs} h) = All-has P (All-tail P y xs all) h
+
+pub all_of : {A : Type 0} (P : A → Type 0) (xs : List A) → ((x : A) → Has xs x → P x) → All P xs
+all_of P [] h = All-nil P
+all_of P (x ∷ xs) h = All-cons P x xs (h x in_front) (all_of P xs (λ y g. h y (further g)))
 
 -- if no two are as R denies, two that are as R denies are one
 pub two_are_one : {A : Type 0} (R : A → A → Type 0) {xs : List A} {x y : A} → AllPairs R xs → Has xs x → Has xs y

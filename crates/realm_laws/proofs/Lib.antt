@@ -1,3 +1,4 @@
+pub mod Holders
 pub mod SoundParts
 pub mod SoundCalling
 pub mod SoundSteps
@@ -8,4 +9,6 @@ pub mod Moves
 pub mod Arms
 pub mod CallArms
 pub mod Steps
+pub mod Order
+pub mod Reached
 pub mod LogLaws

@@ -1,6 +1,6 @@
 -- An open call is paid for by its final reply: no step makes the open calls under a request of a transport more, and each final reply that
 -- it says leaves one call fewer open.
-use Rattle.std.proofs.Common.{◌≡◌, inl, inr, ⊎_elim, ℕ, ◌+◌, ◌≤◌, ◌==◌, Bool, true, false, not, ◌&&◌, refl, sym, ◌∙◌}
+use Rattle.std.proofs.Common.{◌≡◌, inl, inr, ℕ, ◌+◌, ◌≤◌, ◌==◌, Bool, true, false, not, ◌&&◌, refl, sym, ◌∙◌}
 use Rattle.std.proofs.Common.{ap, subst, List, []}
 use Rattle.std.proofs.Common.{◌∷◌, ◌++◌, filter, Option, Some, None, arith}
 use Rattle.std.specs.List.{flat_map}
@@ -27,7 +27,7 @@ use Rattle.realm_machine.specs.Content.{Content, Step, quiet, and_then, with_lin
 use Rattle.realm_machine.specs.Leaving.{leave_session, leave}
 use Rattle.realm_machine.specs.Leaving.{remove, stop, violation, aborted, goodbye, one_gone, all_gone}
 use Rattle.realm_laws.specs.Trace.{is_final_message, is_final}
-use Rattle.realm_laws.proofs.Has.{Has, has_filter, has_cons, has_nil}
+use Rattle.realm_laws.proofs.Has.{Has, has_filter, filter_test}
 use Rattle.realm_laws.proofs.Counts.{bit, count, bit_le, count_append, count_le, count_filter, count_split, count_flat}
 use Rattle.realm_laws.proofs.Counts.{count_flat_none}
 use Rattle.realm_laws.proofs.Standing.{at, IsEmptyAt, one_id, place_at, session_at, empty_at, cleared_at, cleared_empty}
@@ -153,15 +153,7 @@ silent_end links call =
 
 -- ---- a session leaves
 
-filter_test : {A : Type 0} (test : A → Bool) (xs : List A) {x : A} → Has (filter test xs) x → test x ≡ true
-filter_test test [] h = absurd (has_nil h)
-filter_test test (y ∷ xs) {x} h =
-    cond_both (test y) (y ∷ filter test xs) (filter test xs) (λ zs. Has zs x → test x ≡ true)
-    (λ e g. ⊎_elim (λ s. ap test (sym s) ∙ e) (λ r. filter_test test xs r) (has_cons g))
-    (λ e g. filter_test test xs g)
-    h
-
-not_is : (b : Bool) → not b ≡ true → b ≡ false
+pub not_is : (b : Bool) → not b ≡ true → b ≡ false
 not_is true h = absurd (false≢true h)
 not_is false h = refl
 

@@ -1,5 +1,5 @@
 -- What every realm keeps is kept by each step of calls.
-use Rattle.std.proofs.Common.{◌≡◌, ℕ, List, Result, Ok, Err}
+use Rattle.std.proofs.Common.{◌≡◌, ℕ, true, List, Result, Ok, Err}
 use Rattle.std.proofs.Common.{Option, None, Some, refl, ◌∙◌}
 use Rattle.std.proofs.lemmas.Bool.{cond_both}
 use Rattle.wamp_ids.specs.declared.uri.UriFault.{UriFault}
@@ -16,7 +16,7 @@ use Rattle.realm_registrations.proofs.SoundRegistrations as sound_registrations
 use Rattle.wamp_ids.specs.Uri.{uri_of as read_uri}
 use Rattle.wamp_ids.specs.declared.policy.Mode.{Mode}
 use Rattle.wamp_message_types.specs.declared.call.Call.{Call as CallMessage}
-use Rattle.realm_sessions.specs.Links.{announces, invocation_of, session_with}
+use Rattle.realm_sessions.specs.Links.{is_taken, announces, invocation_of, session_with, set_invocation}
 use Rattle.realm_sessions.specs.Sessions.{invoked_with, next_invocation}
 use Rattle.realm_registrations.specs.declared.registration.Chosen.{Chosen}
 use Rattle.realm_calls.specs.declared.calls.Open.{Open}
@@ -27,6 +27,8 @@ use Rattle.realm_machine.specs.Calling.{refuse_call, invoke, call_chosen, call_u
 use Rattle.realm_machine.specs.Calling.{cancel_found, replied, reply_to}
 use Rattle.std.specs.Prelude.{find}
 use Rattle.realm_sessions.proofs.Invoking.{invoked_links}
+use Rattle.realm_laws.proofs.Standing.{invoked_taken}
+use Rattle.realm_laws.proofs.Holders.{callees_stay, callees_turned, members_stay}
 use Rattle.realm_laws.proofs.SoundParts.{Keeps, violation_sound}
 
 -- ---- calls
@@ -43,6 +45,8 @@ with_calls_sound config c calls same ok =
       links = ok.links;
       registrations = ok.registrations;
       subscriptions = ok.subscriptions;
+      callees = ok.callees;
+      members = ok.members;
     }
 
 invoked_sound : (config : Config) (c : Content) (r : Requester) (asked : CallMessage) (chosen : Chosen) (o : Option ℕ)
@@ -50,6 +54,9 @@ invoked_sound : (config : Config) (c : Content) (r : Requester) (asked : CallMes
     → Keeps config (invoke c r asked chosen (invoked_with c.sessions chosen.callee o))
 invoked_sound config c r asked chosen None ok = ok
 invoked_sound config c r asked chosen (Some id) ok =
+    let after = set_invocation c.sessions.list chosen.callee id in
+    let stays : (session : ℕ) → is_taken c.sessions.list session ≡ true → is_taken after session ≡ true =
+    λ session taken. invoked_taken c.sessions.list chosen.callee id session taken in
     record {
       limit = ok.limit;
       subscriptions_limit = ok.subscriptions_limit;
@@ -58,6 +65,9 @@ invoked_sound config c r asked chosen (Some id) ok =
       links = invoked_links c.sessions.list chosen.callee id ok.links;
       registrations = sound_registrations.turn_sound c.registrations chosen.registration ok.registrations;
       subscriptions = ok.subscriptions;
+      callees = callees_turned after c.registrations chosen.registration
+          (callees_stay c.sessions.list after c.registrations.list stays ok.callees);
+      members = members_stay c.sessions.list after c.subscriptions.list stays ok.members;
     }
 
 chosen_sound : (config : Config) (c : Content) (r : Requester) (asked : CallMessage) (o : Option Chosen)

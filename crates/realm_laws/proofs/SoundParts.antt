@@ -1,7 +1,7 @@
 -- What every realm keeps is kept by each step of sessions, subscriptions and registrations.
-use Rattle.std.proofs.Common.{◌≡◌, ℕ, Bool, true, false, not, if◌then◌else◌, nat_lt, List, Result, Ok, Err}
+use Rattle.std.proofs.Common.{◌≡◌, inl, inr, ℕ, ◌==◌, Bool, true, false, not, if◌then◌else◌, nat_lt, List, Result, Ok, Err}
 use Rattle.std.proofs.Common.{Option, None, Some, bytes_eq, refl, ◌∙◌, ◌+◌}
-use Rattle.std.proofs.lemmas.Bool.{cond_both}
+use Rattle.std.proofs.lemmas.Bool.{cond_both, both_ways, eq-eqb}
 use Rattle.paxos_packets.specs.declared.transport.Transport.{Transport}
 use Rattle.wamp_ids.specs.declared.uri.UriFault.{UriFault}
 use Rattle.wamp_ids.specs.Pattern.{PatternValue}
@@ -14,7 +14,7 @@ use Rattle.wamp_message_types.specs.declared.message.Message.TheVariants as told
 use Rattle.realm_sessions.specs.declared.fault.RealmFault.{RealmFault}
 use Rattle.realm_sessions.specs.declared.fault.RealmFault.TheVariants as fault
 use Rattle.realm_sessions.specs.Laws.{AreSoundLinks}
-use Rattle.realm_sessions.specs.Links.{by_transport, session_count, new_session_id}
+use Rattle.realm_sessions.specs.Links.{is_taken, by_transport, set_session, without_transport, session_count, new_session_id}
 use Rattle.realm_sessions.specs.Sessions.{Sessions, Opened, opened, open_session}
 use Rattle.realm_machine.specs.Sayings.{limit, no_such_realm, no_such_subscription, invalid_uri}
 use Rattle.realm_machine.specs.Sayings.Events.{is_open_topic}
@@ -33,7 +33,7 @@ use Rattle.realm_machine.specs.Subscribing.{subscribed, subscribe_to}
 use Rattle.realm_machine.specs.Unsubscribing.{unsubscribe}
 use Rattle.realm_machine.specs.Publishing.{publish}
 use Rattle.realm_subscriptions.specs.Laws.{AreSoundSubscriptions}
-use Rattle.realm_laws.specs.Laws.{IsSound}
+use Rattle.realm_laws.specs.Laws.{IsSound, AreCalleesOpen, AreMembersOpen}
 use Rattle.wamp_ids.specs.declared.policy.Invoke.{Invoke}
 use Rattle.wamp_ids.specs.Uri.{is_reserved}
 use Rattle.wamp_message_types.specs.declared.register.Unregister.{Unregister as UnregisterMessage}
@@ -51,17 +51,20 @@ use Rattle.realm_machine.specs.Calling.{invoke}
 use Rattle.realm_sessions.proofs.SoundLinks as links
 use Rattle.realm_sessions.proofs.FreeIds.{open_sound}
 use Rattle.realm_subscriptions.proofs.Sound as sound_subscriptions
+use Rattle.realm_laws.proofs.Standing.{IsEmptyAt, one_id, session_at, empty_at, cleared_empty, set_taken, removed_taken}
+use Rattle.realm_laws.proofs.Holders.{callees_stay, callees_registered, callees_unregistered, callees_left}
+use Rattle.realm_laws.proofs.Holders.{members_stay, members_subscribed, members_unsubscribed, members_left}
 
 abbrev pub Keeps : Config → Step → Type 0
 Keeps config step = IsSound config step.content
 
 -- ---- leaving
 
-left_sound : (config : Config) (c : Content) (t : Transport) (session : Option (Option ℕ)) → IsSound config c
-    → Keeps config (leave_session c t session)
-left_sound config c t None ok = ok
-left_sound config c t (Some None) ok = ok
-left_sound config c t (Some (Some session)) ok = record {
+left_sound : (config : Config) (c : Content) (t : Transport) (session : Option (Option ℕ)) → by_transport c.sessions.list t ≡ session
+    → IsSound config c → Keeps config (leave_session c t session)
+left_sound config c t None e ok = ok
+left_sound config c t (Some None) e ok = ok
+left_sound config c t (Some (Some session)) e ok = record {
   limit = ok.limit;
   subscriptions_limit = ok.subscriptions_limit;
   registrations_limit = ok.registrations_limit;
@@ -69,22 +72,44 @@ left_sound config c t (Some (Some session)) ok = record {
   links = links.closed_sound c.sessions.list t ok.links;
   registrations = sound_registrations.leave_sound c.registrations session ok.registrations;
   subscriptions = sound_subscriptions.leave_sound c.subscriptions session ok.subscriptions;
+  callees = callees_left c.sessions.list (set_session c.sessions.list t None) c.registrations session stays ok.callees;
+  members = members_left c.sessions.list (set_session c.sessions.list t None) c.subscriptions session stays ok.members;
 }
+  where
+    stays : (other : ℕ) → is_taken c.sessions.list other ≡ true → (other == session) ≡ false
+        → is_taken (set_session c.sessions.list t None) other ≡ true
+    stays other taken off =
+        set_taken c.sessions.list t None other
+        (λ stands. both_ways (other == session) off
+        (eq-eqb other session (one_id c.sessions.list t other session ok.links stands (session_at c.sessions.list t session e))))
+        taken
 
 leave_sound : (config : Config) (c : Content) (t : Transport) → IsSound config c → Keeps config (leave c t)
-leave_sound config c t = left_sound config c t (by_transport c.sessions.list t)
+leave_sound config c t = left_sound config c t (by_transport c.sessions.list t) refl
+
+-- no session is at the transport then
+left_empty : (config : Config) (c : Content) (t : Transport) (session : Option (Option ℕ)) → by_transport c.sessions.list t ≡ session
+    → IsSound config c → IsEmptyAt (leave_session c t session).content.sessions.list t
+left_empty config c t None e ok = empty_at c.sessions.list t ok.links (inl e)
+left_empty config c t (Some None) e ok = empty_at c.sessions.list t ok.links (inr e)
+left_empty config c t (Some (Some session)) e ok = cleared_empty c.sessions.list t
 
 pub remove_sound : (config : Config) (c : Content) (t : Transport) → IsSound config c → Keeps config (remove c t)
 remove_sound config c t ok =
+    let d = (leave c t).content in
     let gone = leave_sound config c t ok in
+    let stays : (session : ℕ) → is_taken d.sessions.list session ≡ true → is_taken (without_transport d.sessions.list t) session ≡ true =
+    λ session taken. removed_taken d.sessions.list t session (left_empty config c t (by_transport c.sessions.list t) refl ok session) taken in
     record {
       limit = gone.limit;
       subscriptions_limit = gone.subscriptions_limit;
       registrations_limit = gone.registrations_limit;
       calls_limit = gone.calls_limit;
-      links = links.removed_sound (leave c t).content.sessions.list t gone.links;
+      links = links.removed_sound d.sessions.list t gone.links;
       registrations = gone.registrations;
       subscriptions = gone.subscriptions;
+      callees = callees_stay d.sessions.list (without_transport d.sessions.list t) d.registrations.list stays gone.callees;
+      members = members_stay d.sessions.list (without_transport d.sessions.list t) d.subscriptions.list stays gone.members;
     }
 
 stop_sound : (config : Config) (c : Content) (t : Transport) (reason : List ℕ) → IsSound config c
@@ -103,9 +128,10 @@ goodbye_sound config c t ok = leave_sound config c t ok
 -- ---- opening
 
 welcome_sound : (config : Config) (c : Content) (t : Transport) (sessions : Sessions) (answer : Result ℕ RealmFault)
-    → sessions.limit ≡ config.limits.sessions → AreSoundLinks sessions.list → IsSound config c
+    → sessions.limit ≡ config.limits.sessions → AreSoundLinks sessions.list
+    → ((session : ℕ) → is_taken c.sessions.list session ≡ true → is_taken sessions.list session ≡ true) → IsSound config c
     → Keeps config (welcome c t sessions answer)
-welcome_sound config c t sessions (Ok id) same fine ok =
+welcome_sound config c t sessions (Ok id) same fine stays ok =
     record {
       limit = same;
       subscriptions_limit = ok.subscriptions_limit;
@@ -114,8 +140,10 @@ welcome_sound config c t sessions (Ok id) same fine ok =
       links = fine;
       registrations = ok.registrations;
       subscriptions = ok.subscriptions;
+      callees = callees_stay c.sessions.list sessions.list c.registrations.list stays ok.callees;
+      members = members_stay c.sessions.list sessions.list c.subscriptions.list stays ok.members;
     }
-welcome_sound config c t sessions (Err refused) same fine ok = stop_sound config c t limit ok
+welcome_sound config c t sessions (Err refused) same fine stays ok = stop_sound config c t limit ok
 
 -- opening changes no limit
 limit_kept : (sessions : Sessions) (t : Transport) (draw : ℕ) (canceling : Bool)
@@ -130,14 +158,30 @@ limit_kept sessions t draw canceling =
     kept None = refl
     kept (Some id) = refl
 
-pub hello_sound : (config : Config) (c : Content) (t : Transport) (draw : ℕ) (hello : HelloMessage) → IsSound config c
-    → Keeps config (open_at config c t draw hello)
-hello_sound config c t draw hello ok =
+-- opening takes no session away, at a transport without one
+open_stays : (sessions : Sessions) (t : Transport) (draw : ℕ) (canceling : Bool) → IsEmptyAt sessions.list t
+    → (session : ℕ) → is_taken sessions.list session ≡ true
+    → is_taken (open_session sessions t draw canceling).sessions.list session ≡ true
+open_stays sessions t draw canceling empty session taken =
+    cond_both (nat_lt (session_count sessions.list) sessions.limit)
+    (opened sessions t canceling (new_session_id sessions.list draw))
+    (record { sessions = sessions; answer = Err fault.Limit }) (λ (o : Opened). is_taken o.sessions.list session ≡ true)
+    (λ _. stays (new_session_id sessions.list draw)) (λ _. taken)
+  where
+    stays : (id : Option ℕ) → is_taken (opened sessions t canceling id).sessions.list session ≡ true
+    stays None = taken
+    stays (Some id) =
+        set_taken sessions.list t (Some (record { id = id; canceling = canceling; last_invocation = None })) session (empty session) taken
+
+pub hello_sound : (config : Config) (c : Content) (t : Transport) (draw : ℕ) (hello : HelloMessage)
+    → by_transport c.sessions.list t ≡ Some None → IsSound config c → Keeps config (open_at config c t draw hello)
+hello_sound config c t draw hello here ok =
     let o = open_session c.sessions t draw hello.canceling in
     cond_both (not (bytes_eq hello.realm config.name)) (stop c t no_such_realm) (welcomed c t o) (Keeps config)
     (λ _. stop_sound config c t no_such_realm ok)
     (λ _. welcome_sound config c t o.sessions o.answer (limit_kept c.sessions t draw hello.canceling ∙ ok.limit)
-    (open_sound c.sessions t draw hello.canceling ok.links) ok)
+    (open_sound c.sessions t draw hello.canceling ok.links)
+    (open_stays c.sessions t draw hello.canceling (empty_at c.sessions.list t ok.links (inr here))) ok)
 
 -- ---- subscribing and publishing
 
@@ -164,9 +208,9 @@ subscriptions_limit_kept subscriptions session pattern = by_found (subscription_
 
 subscribed_sound : (config : Config) (c : Content) (r : Requester) (request : ℕ) (changed : Subscriptions)
     (answer : Result ℕ RealmFault)
-    → changed.limit ≡ config.limits.subscriptions → AreSoundSubscriptions changed → IsSound config c
-    → Keeps config (subscribed c r request changed answer)
-subscribed_sound config c r request changed (Ok id) same fine ok =
+    → changed.limit ≡ config.limits.subscriptions → AreSoundSubscriptions changed → AreMembersOpen c.sessions.list changed.list
+    → IsSound config c → Keeps config (subscribed c r request changed answer)
+subscribed_sound config c r request changed (Ok id) same fine there ok =
     record {
       limit = ok.limit;
       subscriptions_limit = same;
@@ -175,18 +219,21 @@ subscribed_sound config c r request changed (Ok id) same fine ok =
       links = ok.links;
       registrations = ok.registrations;
       subscriptions = fine;
+      callees = ok.callees;
+      members = there;
     }
-subscribed_sound config c r request changed (Err refused) same fine ok = ok
+subscribed_sound config c r request changed (Err refused) same fine there ok = ok
 
 pub subscribe_to_sound : (config : Config) (c : Content) (r : Requester) (request : ℕ)
-    (asked : Result PatternValue UriFault) → IsSound config c
+    (asked : Result PatternValue UriFault) → is_taken c.sessions.list r.session ≡ true → IsSound config c
     → Keeps config (subscribe_to c r request asked)
-subscribe_to_sound config c r request (Ok pattern) ok =
+subscribe_to_sound config c r request (Ok pattern) here ok =
     let due = subscribing.subscribe c.subscriptions r.session pattern in
     subscribed_sound config c r request due.subscriptions due.answer
     (subscriptions_limit_kept c.subscriptions r.session pattern ∙ ok.subscriptions_limit)
-    (sound_subscriptions.subscribe_sound c.subscriptions r.session pattern ok.subscriptions) ok
-subscribe_to_sound config c r request (Err fault) ok = ok
+    (sound_subscriptions.subscribe_sound c.subscriptions r.session pattern ok.subscriptions)
+    (members_subscribed c.sessions.list c.subscriptions r.session pattern here ok.members) ok
+subscribe_to_sound config c r request (Err fault) here ok = ok
 
 pub unsubscribe_sound : (config : Config) (c : Content) (r : Requester) (asked : UnsubscribeMessage) → IsSound config c
     → Keeps config (unsubscribe c r asked)
@@ -203,6 +250,8 @@ unsubscribe_sound config c r asked ok =
       links = ok.links;
       registrations = ok.registrations;
       subscriptions = sound_subscriptions.unsubscribe_sound c.subscriptions r.session asked.subscription ok.subscriptions;
+      callees = ok.callees;
+      members = members_unsubscribed c.sessions.list c.subscriptions r.session asked.subscription ok.members;
     })
     (λ _. ok)
 
@@ -223,8 +272,9 @@ publish_sound config c r asked ok =
 -- ---- registering
 
 with_registrations_sound : (config : Config) (c : Content) (changed : Registrations) → changed.limit ≡ config.limits.registrations
-    → AreSoundRegistrations changed → IsSound config c → IsSound config (with_registrations c changed)
-with_registrations_sound config c changed same fine ok =
+    → AreSoundRegistrations changed → AreCalleesOpen c.sessions.list changed.list → IsSound config c
+    → IsSound config (with_registrations c changed)
+with_registrations_sound config c changed same fine there ok =
     record {
       limit = ok.limit;
       subscriptions_limit = ok.subscriptions_limit;
@@ -233,6 +283,8 @@ with_registrations_sound config c changed same fine ok =
       links = ok.links;
       registrations = fine;
       subscriptions = ok.subscriptions;
+      callees = there;
+      members = ok.members;
     }
 
 refused_for_sound : (config : Config) (c : Content) (t : Transport) (k : RequestKind) (request : ℕ)
@@ -271,21 +323,23 @@ register_limit registrations session pattern invoke =
 
 registered_sound : (config : Config) (c : Content) (r : Requester) (request : ℕ) (changed : Registrations)
     (answer : Result ℕ RealmFault)
-    → changed.limit ≡ config.limits.registrations → AreSoundRegistrations changed → IsSound config c
-    → Keeps config (registered c r request changed answer)
-registered_sound config c r request changed (Ok id) same fine ok = with_registrations_sound config c changed same fine ok
-registered_sound config c r request changed (Err fault) same fine ok =
+    → changed.limit ≡ config.limits.registrations → AreSoundRegistrations changed → AreCalleesOpen c.sessions.list changed.list
+    → IsSound config c → Keeps config (registered c r request changed answer)
+registered_sound config c r request changed (Ok id) same fine there ok =
+    with_registrations_sound config c changed same fine there ok
+registered_sound config c r request changed (Err fault) same fine there ok =
     refused_for_sound config c r.transport kind.Register request (uri_of fault) ok
 
 pub register_for_sound : (config : Config) (c : Content) (r : Requester) (request : ℕ) (invoke : Invoke)
     (asked : Result PatternValue UriFault)
-    → IsSound config c → Keeps config (register_for c r request invoke asked)
-register_for_sound config c r request invoke (Ok pattern) ok =
+    → is_taken c.sessions.list r.session ≡ true → IsSound config c → Keeps config (register_for c r request invoke asked)
+register_for_sound config c r request invoke (Ok pattern) here ok =
     let due = registering.register c.registrations r.session pattern invoke in
     registered_sound config c r request due.registrations due.answer
     (register_limit c.registrations r.session pattern invoke ∙ ok.registrations_limit)
-    (sound_registrations.register_sound c.registrations r.session pattern invoke ok.registrations) ok
-register_for_sound config c r request invoke (Err fault) ok = ok
+    (sound_registrations.register_sound c.registrations r.session pattern invoke ok.registrations)
+    (callees_registered c.sessions.list c.registrations r.session pattern invoke here ok.callees) ok
+register_for_sound config c r request invoke (Err fault) here ok = ok
 
 unregister_limit : (registrations : Registrations) (session id : ℕ)
     → (registering.unregister registrations session id).registrations.limit ≡ registrations.limit
@@ -297,10 +351,11 @@ unregister_limit registrations session id =
 
 unregistered_sound : (config : Config) (c : Content) (r : Requester) (request : ℕ) (changed : Registrations)
     (answer : Result (Unit {0}) RealmFault)
-    → changed.limit ≡ config.limits.registrations → AreSoundRegistrations changed → IsSound config c
-    → Keeps config (unregistered c r request changed answer)
-unregistered_sound config c r request changed (Ok done) same fine ok = with_registrations_sound config c changed same fine ok
-unregistered_sound config c r request changed (Err fault) same fine ok =
+    → changed.limit ≡ config.limits.registrations → AreSoundRegistrations changed → AreCalleesOpen c.sessions.list changed.list
+    → IsSound config c → Keeps config (unregistered c r request changed answer)
+unregistered_sound config c r request changed (Ok done) same fine there ok =
+    with_registrations_sound config c changed same fine there ok
+unregistered_sound config c r request changed (Err fault) same fine there ok =
     refused_for_sound config c r.transport kind.Unregister request (uri_of fault) ok
 
 pub unregister_sound : (config : Config) (c : Content) (r : Requester) (asked : UnregisterMessage) → IsSound config c
@@ -309,4 +364,5 @@ unregister_sound config c r asked ok =
     let due = registering.unregister c.registrations r.session asked.registration in
     unregistered_sound config c r asked.request due.registrations due.answer
     (unregister_limit c.registrations r.session asked.registration ∙ ok.registrations_limit)
-    (sound_registrations.unregister_sound c.registrations r.session asked.registration ok.registrations) ok
+    (sound_registrations.unregister_sound c.registrations r.session asked.registration ok.registrations)
+    (callees_unregistered c.sessions.list c.registrations r.session asked.registration ok.callees) ok

@@ -17,7 +17,7 @@ use Rattle.wamp_message_types.specs.declared.read_result.Read.{Read}
 use Rattle.wamp_message_types.specs.declared.read_result.Read.TheVariants.{Good, Unfit, Bad}
 use Rattle.realm_acts.specs.declared.act.Act.{Act}
 use Rattle.realm_acts.specs.declared.act.Act.TheVariants.{Connect, Said, Hung}
-use Rattle.realm_sessions.specs.Links.{by_transport, of_origin, session_count}
+use Rattle.realm_sessions.specs.Links.{is_taken, by_transport, of_origin, session_count, connect}
 use Rattle.replica_machine.specs.declared.input.Input.{Input}
 use Rattle.replica_machine.specs.declared.input.Input.TheVariants.{Boot, Lost, Item}
 use Rattle.realm_sessions.specs.Sessions.{open_session}
@@ -39,6 +39,9 @@ use Rattle.realm_calls.specs.Calls as calls
 use Rattle.realm_sessions.proofs.SoundLinks as links
 use Rattle.realm_sessions.proofs.FreeIds as free
 use Rattle.realm_subscriptions.proofs.Sound as sound_subscriptions
+use Rattle.std.proofs.lemmas.List.Elements.{All-nil}
+use Rattle.realm_laws.proofs.Standing.{at_taken, session_at, connected_taken}
+use Rattle.realm_laws.proofs.Holders.{callees_stay, members_stay}
 use Rattle.realm_laws.proofs.SoundParts.{Keeps, remove_sound, violation_sound, aborted_sound, goodbye_sound}
 use Rattle.realm_laws.proofs.SoundParts.{hello_sound, subscribe_to_sound, unsubscribe_sound, publish_sound}
 use Rattle.realm_laws.proofs.SoundParts.{register_for_sound, unregister_sound}
@@ -71,52 +74,53 @@ error_sound : (config : Config) (c : Content) (r : Requester) (k : RequestKind) 
 error_sound config c r kind.Invocation it ok = reply_sound config c r.session it.request (failure it.error it.args) ok
 error_sound config c r k it ok = violation_sound config c r.transport ok
 
-request_sound : (config : Config) (c : Content) (r : Requester) (message : Message) → IsSound config c
-    → Keeps config (on_request config c r message)
-request_sound config c r (Abort reason) ok = aborted_sound config c r.transport ok
-request_sound config c r (Goodbye reason) ok = goodbye_sound config c r.transport ok
-request_sound config c r (Error it) ok = error_sound config c r it.kind it ok
-request_sound config c r (Publish asked) ok = publish_sound config c r asked ok
-request_sound config c r (Subscribe asked) ok =
-    subscribe_to_sound config c r asked.request (pattern_of asked.topic asked.matching) ok
-request_sound config c r (Unsubscribe asked) ok = unsubscribe_sound config c r asked ok
-request_sound config c r (Register asked) ok =
-    register_for_sound config c r asked.request asked.invoke (pattern_of asked.procedure asked.matching) ok
-request_sound config c r (Unregister asked) ok = unregister_sound config c r asked ok
-request_sound config c r (Call asked) ok = call_sound config c r asked ok
-request_sound config c r (Cancel asked) ok =
+request_sound : (config : Config) (c : Content) (r : Requester) (message : Message) → is_taken c.sessions.list r.session ≡ true
+    → IsSound config c → Keeps config (on_request config c r message)
+request_sound config c r (Abort reason) here ok = aborted_sound config c r.transport ok
+request_sound config c r (Goodbye reason) here ok = goodbye_sound config c r.transport ok
+request_sound config c r (Error it) here ok = error_sound config c r it.kind it ok
+request_sound config c r (Publish asked) here ok = publish_sound config c r asked ok
+request_sound config c r (Subscribe asked) here ok =
+    subscribe_to_sound config c r asked.request (pattern_of asked.topic asked.matching) here ok
+request_sound config c r (Unsubscribe asked) here ok = unsubscribe_sound config c r asked ok
+request_sound config c r (Register asked) here ok =
+    register_for_sound config c r asked.request asked.invoke (pattern_of asked.procedure asked.matching) here ok
+request_sound config c r (Unregister asked) here ok = unregister_sound config c r asked ok
+request_sound config c r (Call asked) here ok = call_sound config c r asked ok
+request_sound config c r (Cancel asked) here ok =
     cancel_sound config c r asked.mode (calls.call_of c.calls.list r.session asked.request) ok
-request_sound config c r (Yield asked) ok =
+request_sound config c r (Yield asked) here ok =
     reply_sound config c r.session asked.request (λ request. CallResult (record { request = request; args = asked.args })) ok
-request_sound config c r message ok = violation_sound config c r.transport ok
+request_sound config c r message here ok = violation_sound config c r.transport ok
 
-opening_sound : (config : Config) (c : Content) (t : Transport) (draw : ℕ) (message : Message) → IsSound config c
-    → Keeps config (on_opening config c t draw message)
-opening_sound config c t draw (Hello hello) ok = hello_sound config c t draw hello ok
-opening_sound config c t draw (Abort reason) ok = aborted_sound config c t ok
-opening_sound config c t draw message ok = violation_sound config c t ok
+opening_sound : (config : Config) (c : Content) (t : Transport) (draw : ℕ) (message : Message)
+    → by_transport c.sessions.list t ≡ Some None → IsSound config c → Keeps config (on_opening config c t draw message)
+opening_sound config c t draw (Hello hello) here ok = hello_sound config c t draw hello here ok
+opening_sound config c t draw (Abort reason) here ok = aborted_sound config c t ok
+opening_sound config c t draw message here ok = violation_sound config c t ok
 
 message_sound : (config : Config) (c : Content) (t : Transport) (session : Option ℕ) (draw : ℕ) (message : Message)
-    → IsSound config c
+    → by_transport c.sessions.list t ≡ Some session → IsSound config c
     → Keeps config (on_message config c t session draw message)
-message_sound config c t None draw message ok = opening_sound config c t draw message ok
-message_sound config c t (Some session) draw message ok =
-    request_sound config c (record { transport = t; session = session; draw = draw }) message ok
+message_sound config c t None draw message e ok = opening_sound config c t draw message e ok
+message_sound config c t (Some session) draw message e ok =
+    request_sound config c (record { transport = t; session = session; draw = draw }) message
+    (at_taken c.sessions.list t session (session_at c.sessions.list t session e)) ok
 
 read_sound : (config : Config) (c : Content) (t : Transport) (session : Option ℕ) (draw : ℕ) (read : Read)
-    → IsSound config c
+    → by_transport c.sessions.list t ≡ Some session → IsSound config c
     → Keeps config (on_read config c t session draw read)
-read_sound config c t session draw (Good message) ok = message_sound config c t session draw message ok
-read_sound config c t None draw (Unfit k request is_quiet) ok = violation_sound config c t ok
-read_sound config c t (Some session) draw (Unfit k request is_quiet) ok =
+read_sound config c t session draw (Good message) e ok = message_sound config c t session draw message e ok
+read_sound config c t None draw (Unfit k request is_quiet) e ok = violation_sound config c t ok
+read_sound config c t (Some session) draw (Unfit k request is_quiet) e ok =
     unfit_sound config c (record { transport = t; session = session; draw = draw }) k request is_quiet ok
-read_sound config c t session draw (Bad fault) ok = violation_sound config c t ok
+read_sound config c t session draw (Bad fault) e ok = violation_sound config c t ok
 
 transport_sound : (config : Config) (c : Content) (t : Transport) (draw : ℕ) (read : Read)
-    (session : Option (Option ℕ)) → IsSound config c
+    (session : Option (Option ℕ)) → by_transport c.sessions.list t ≡ session → IsSound config c
     → Keeps config (on_transport config c t draw read session)
-transport_sound config c t draw read None ok = ok
-transport_sound config c t draw read (Some session) ok = read_sound config c t session draw read ok
+transport_sound config c t draw read None e ok = ok
+transport_sound config c t draw read (Some session) e ok = read_sound config c t session draw read e ok
 
 -- ---- the laws
 
@@ -129,6 +133,8 @@ empty_sound config = record {
   links = links.nothing_sound;
   registrations = sound_registrations.nothing_sound config.limits.registrations;
   subscriptions = sound_subscriptions.nothing_sound config.limits.subscriptions;
+  callees = All-nil _;
+  members = All-nil _;
 }
 
 act_sound : (config : Config) (c : Content) (t : Transport) (act : Act) → IsSound config c
@@ -142,8 +148,10 @@ act_sound config c t Connect ok =
       links = links.connected_sound c.sessions.list t ok.links;
       registrations = ok.registrations;
       subscriptions = ok.subscriptions;
+      callees = callees_stay c.sessions.list (connect c.sessions.list t) c.registrations.list (connected_taken c.sessions.list t) ok.callees;
+      members = members_stay c.sessions.list (connect c.sessions.list t) c.subscriptions.list (connected_taken c.sessions.list t) ok.members;
     }
-act_sound config c t (Said draw read) ok = transport_sound config c t draw read (by_transport c.sessions.list t) ok
+act_sound config c t (Said draw read) ok = transport_sound config c t draw read (by_transport c.sessions.list t) refl ok
 act_sound config c t Hung ok = remove_sound config c t ok
 
 one_gone_sound : (config : Config) (c : Content) (t : Transport) → IsSound config c → Keeps config (one_gone c t)

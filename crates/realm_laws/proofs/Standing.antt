@@ -13,7 +13,7 @@ use Rattle.realm_sessions.specs.Links.{transport_of, connect, put_session}
 use Rattle.realm_sessions.specs.Links.{set_session, without_transport, put_invocation, set_invocation, invoked}
 use Rattle.realm_sessions.specs.Laws.{AreOtherSessions, AreSoundLinks}
 use Rattle.realm_sessions.proofs.SoundLinks.{same_is, is_same, put_id}
-use Rattle.realm_laws.proofs.Has.{Has, in_front, further, has_cons, has_nil, has_first, has_filter, any_has, has_any}
+use Rattle.realm_laws.proofs.Has.{Has, in_front, further, has_filter, has_map, has_last, any_has, has_any}
 use Rattle.realm_laws.proofs.Has.{find_has, two_are_one, All-has}
 use Rattle.realm_sessions.proofs.Pairs.{All-not_found}
 
@@ -166,11 +166,6 @@ map_has : {A B : Type 0} (f : A → B) {xs : List A} {x : A} → Has xs x → Ha
 map_has f in_front = in_front
 map_has f (further h) = further (map_has f h)
 
-has_map : {A B : Type 0} (f : A → B) (xs : List A) {y : B} → Has (map f xs) y → (x : A) × Has xs x × (f x ≡ y)
-has_map f [] h = absurd (has_nil h)
-has_map f (x ∷ xs) h =
-    ⊎_elim (λ e. (x, in_front, e)) (λ r. let z = has_map f xs r in (z.0, further z.1, z.2)) (has_cons h)
-
 put_of : (t : Transport) (o : Option Session) (u : Transport) (link : Link)
     → is_of u (put_session t o link) ≡ is_of u link
 put_of t o u link =
@@ -249,11 +244,6 @@ removed_taken links t s off h =
 has_left : {A : Type 0} {xs : List A} {x : A} (ys : List A) → Has xs x → Has (xs ++ ys) x
 has_left ys in_front = in_front
 has_left ys (further h) = further (has_left ys h)
-
-pub has_last : {A : Type 0} (xs : List A) (y : A) {x : A} → Has (xs ++ y ∷ []) x → Has xs x ⊎ (y ≡ x)
-has_last [] y h = ⊎_elim (λ e. inr e) (λ r. absurd (has_nil r)) (has_cons h)
-has_last (z ∷ xs) y h =
-    ⊎_elim (λ e. inl (has_first xs e)) (λ r. ⊎_elim (λ a. inl (further a)) (λ b. inr b) (has_last xs y r)) (has_cons h)
 
 pub connected_at : (links : List Link) (t u : Transport) (s : ℕ) → at (connect links t) u s ≡ true → at links u s ≡ true
 connected_at links t u s =

@@ -3,7 +3,6 @@ use Rattle.std.proofs.Common.{◌≡◌, ℕ, zero, suc, ◌+◌, ◌≤◌, ◌
 use Rattle.std.proofs.Common.{if◌then◌else◌}
 use Rattle.std.proofs.Common.{List, [], ◌∷◌, ◌++◌, length, filter, replicate, Option, Some, None, arith}
 use Rattle.std.proofs.lemmas.Bool.{cond_both, and_parts, and_from, eqb-true, eq-eqb, both_ways, false≢true}
-use Rattle.std.proofs.lemmas.List.Elements.{All-nil, All-cons}
 use Rattle.paxos_packets.specs.declared.transport.Transport.{Transport}
 use Rattle.paxos_packets.specs.Transport.{same_transport}
 use Rattle.replica_machine.specs.declared.input.Input.{Input}
@@ -40,8 +39,7 @@ use Rattle.realm_laws.specs.Trace.{Letter, Asked, Answered, is_call_of, is_call_
 use Rattle.realm_laws.specs.Trace.{trace}
 use Rattle.realm_laws.specs.Trace.{begins_with_answer, has_two_answers}
 use Rattle.realm_laws.specs.Laws.{RepliesAnswerCalls, after, EveryOpenCallIsSound}
-use Rattle.std.specs.List.{All}
-use Rattle.realm_laws.proofs.Has.{Has, in_front, further, has_nil}
+use Rattle.realm_laws.proofs.Has.{has_nil, all_of}
 use Rattle.realm_laws.proofs.Counts.{bit, count_length}
 use Rattle.realm_laws.proofs.Standing.{at, session_at}
 use Rattle.realm_laws.proofs.Moves.{opens, finals, Base, Moves, said_moves, quiet_moves, remove_moves, violation_moves}
@@ -307,10 +305,6 @@ replies_answer config inputs t r =
     }
 
 -- ---- open calls
-
-all_of : {A : Type 0} (P : A → Type 0) (xs : List A) → ((x : A) → Has xs x → P x) → All P xs
-all_of P [] h = All-nil P
-all_of P (x ∷ xs) h = All-cons P x xs (h x in_front) (all_of P xs (λ y g. h y (further g)))
 
 base_after : (config : Config) (inputs : List (Input Act)) (c : Content) → Base c → Once c
     → Base (after config c inputs)

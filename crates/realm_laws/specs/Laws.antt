@@ -4,10 +4,13 @@ use Rattle.paxos_packets.specs.declared.transport.Transport.{Transport}
 use Rattle.replica_machine.specs.declared.input.Input.{Input}
 use Rattle.wamp_ids.specs.Id.{is_id}
 use Rattle.realm_acts.specs.declared.act.Act.{Act}
+use Rattle.realm_sessions.specs.declared.links.Link.{Link}
 use Rattle.realm_sessions.specs.Links.{is_taken, session_count}
 use Rattle.realm_sessions.specs.Sessions.{opened}
 use Rattle.realm_sessions.specs.Laws.{AreSoundLinks}
+use Rattle.realm_registrations.specs.declared.registration.Registration.{Registration}
 use Rattle.realm_registrations.specs.Laws.{AreSoundRegistrations}
+use Rattle.realm_subscriptions.specs.declared.subscription.Subscription.{Subscription}
 use Rattle.realm_subscriptions.specs.Laws.{AreSoundSubscriptions}
 use Rattle.realm_calls.specs.declared.calls.Open.{Open}
 use Rattle.realm_calls.specs.Laws.{AreSoundCalls}
@@ -19,6 +22,16 @@ use Rattle.realm_laws.specs.Trace.{Letter, trace, begins_with_answer, has_two_an
 
 -- ---- what every realm keeps
 
+-- each callee is an open session
+abbrev pub AreCalleesOpen : List Link → List Registration → Type 0
+AreCalleesOpen links registrations =
+    All (λ (registration : Registration). All (λ (callee : ℕ). is_taken links callee ≡ true) registration.callees) registrations
+
+-- each member is an open session
+abbrev pub AreMembersOpen : List Link → List Subscription → Type 0
+AreMembersOpen links subscriptions =
+    All (λ (subscription : Subscription). All (λ (member : ℕ). is_taken links member ≡ true) subscription.members) subscriptions
+
 pub record IsSound (config : Config) (c : Content) : Type 0 where
   -- sessions, subscriptions, registrations and calls are held to the limits of the configuration
   pub limit : c.sessions.limit ≡ config.limits.sessions
@@ -28,6 +41,9 @@ pub record IsSound (config : Config) (c : Content) : Type 0 where
   pub links : AreSoundLinks c.sessions.list
   pub registrations : AreSoundRegistrations c.registrations
   pub subscriptions : AreSoundSubscriptions c.subscriptions
+  -- callees and members are open sessions
+  pub callees : AreCalleesOpen c.sessions.list c.registrations.list
+  pub members : AreMembersOpen c.sessions.list c.subscriptions.list
 
 -- the content after these inputs
 abbrev pub after : Config → Content → List (Input Act) → Content

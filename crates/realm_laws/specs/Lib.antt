@@ -1,3 +1,5 @@
 pub mod Trace
 pub mod Laws
 pub mod Logs
+pub mod Leaving
+pub mod Reaching

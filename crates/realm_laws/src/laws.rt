@@ -1,13 +1,15 @@
 //! Laws of the realm's step, each the contract of a function with an empty body.
 ghost use Rattle.realm_laws.specs.Laws.{RepliesAnswerCalls, EveryOpenCallIsSound};
 ghost use Rattle.realm_laws.specs.Laws.{EmptyIsSound, EachInputKeepsSound, EveryRealmIsSound, OpensWhereRoom};
+ghost use Rattle.realm_laws.specs.Leaving.{LeavesInOrder};
+ghost use Rattle.realm_laws.specs.Reaching.{InvokesTheCallee, SendsEachEvent};
 ghost use Rattle.realm_laws.specs.Logs.{RegistrationsAreSoundInLogs, RealmIsSoundInLogs, OpenCallsAreSoundInLogs};
 ghost use Rattle.realm_laws.specs.Logs.{RepliesAnswerCallsInLogs};
 
 /// What every realm keeps, whatever acts come to it and whichever nodes begin or are lost: each transport is connected once; no two
 /// sessions have one id; the ids of subscriptions rise, and none is above the last one that was handed out; each text and match has one
 /// subscription; each subscription has members, each of them once. The same holds of registrations and their callees, of which there is one
-/// under `single`. The parts are held to the limits of the configuration. Does not allocate.
+/// under `single`. Callees and members are open sessions. The parts are held to the limits of the configuration. Does not allocate.
 pub fn realms_are_sound()
     ensures empty { EmptyIsSound }
     ensures each_input { EachInputKeepsSound }
@@ -30,6 +32,19 @@ pub fn replies_answer_calls()
 /// allocate.
 pub fn open_calls_are_sound()
     ensures { EveryOpenCallIsSound }
+{}
+
+/// In such a realm a CALL that finds a callee, of a caller that may have one more open call, is sent to that callee as an INVOCATION, unless
+/// all 2^53 ids are ids of the callee's open invocations; and an EVENT is sent to each receiver of a publication. Does not allocate.
+pub fn sessions_are_reached()
+    ensures call { InvokesTheCallee }
+    ensures events { SendsEachEvent }
+{}
+
+/// A session that leaves has its calls ended, and others told of them, in the order of docs/PROTOCOL.md, as if all were looked up before it
+/// is taken off its transport; for this each transport is connected once, and no two sessions have one id. Does not allocate.
+pub fn sessions_leave_in_order()
+    ensures { LeavesInOrder }
 {}
 
 /// Whatever log a realm follows, at each prefix of it there is at most one registration for each text and match, each has a callee, and one

@@ -8,4 +8,3 @@ pub mod Told
 pub mod Tables
 pub mod Telling
 pub mod Changing
-pub mod Walking

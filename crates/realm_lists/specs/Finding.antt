@@ -1,5 +1,5 @@
 -- Members found by keys: a look-up gives the place of the member that passes the test of a key.
-use Rattle.std.specs.Prelude.{◌≡◌, ℕ, Bool, true, false, List, [], ◌∷◌, Option, None, Some, if◌then◌else◌}
+use Rattle.std.specs.Prelude.{◌≡◌, ℕ, Bool, true, false, List, Option, None, Some, if◌then◌else◌}
 use Rattle.std.specs.List.{All}
 use Rattle.std.specs.Ordering.{nat_cmp}
 use Rattle.std.specs.List.Sorted.{IsStrictlySortedBy}
@@ -36,11 +36,6 @@ is_passing test (Some member) = test member
 abbrev pub Tells : {K T : Type 0} → (K → T → Bool) → (K → Option ℕ) → List (ℕ × T) → Type 0
 Tells {K} test place_of rows =
     (key : K) (place : ℕ) → place_of key ≡ Some place → is_passing (test key) (member_at place rows) ≡ true
-
--- the place of the first member that passes
-abbrev pub place_where : {T : Type 0} → (T → Bool) → List (ℕ × T) → Option ℕ
-place_where test [] = None
-place_where test (row ∷ rows) = if test row.1 then Some row.0 else place_where test rows
 
 -- the look-up gives all members by their keys, and nothing else
 pub record IsIndex {K T : Type 0} (test : K → T → Bool) (place_of : K → Option ℕ) (rows : List (ℕ × T)) : Type 0 where

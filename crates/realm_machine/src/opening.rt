@@ -9,6 +9,7 @@ use crate::content::Content;
 use crate::memory::Memory;
 use crate::sayings::{LIMIT, NO_SUCH_REALM, Say};
 use paxos_packets::Transport;
+use realm_sessions::RealmFault;
 use wamp_ids::Id;
 use wamp_message_types::{Hello, Message, Welcome};
 
@@ -29,6 +30,7 @@ impl Content {
         }
         match self.sessions.open(transport, draw, hello.canceling) {
             Ok(session) => self.reply(transport, Message::Welcome(Welcome { session })),
+            Err(RealmFault::Memory) => Err(Memory),
             Err(_) => self.stop(transport, LIMIT),
         }
     }

@@ -9,5 +9,7 @@ mod registrations;
 mod rotation;
 
 pub use callees::Callees;
+pub use realm_sessions::RealmFault;
 pub use registration::{Chosen, Registration};
 pub use registrations::Registrations;
+pub use wamp_ids::{Id, Invoke, Match, Pattern, Uri};

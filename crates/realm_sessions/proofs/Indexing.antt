@@ -14,11 +14,11 @@ use Rattle.realm_sessions.specs.declared.links.Session.{Session}
 use Rattle.realm_sessions.specs.declared.links.Link.{Link}
 use Rattle.realm_sessions.specs.Links.{is_of, is_session, has_id, is_open, has_session, is_connected, is_taken, session_count}
 use Rattle.realm_sessions.specs.Links.{invoked, by_transport, id_of}
-use Rattle.realm_sessions.specs.Connected.{place_of, Follows, AreIndexed, less_one}
+use Rattle.realm_sessions.specs.Connected.{place_of, place_with, AreIndexed, less_one}
 use Rattle.realm_sessions.proofs.SoundLinks.{same_is}
 
 -- a transport comes as the last one, without a session
-pub indexed_pushed : (rows : List (ℕ × Link)) (transports new_transports : List (Transport × ℕ)) (ids : Option (List (ℕ × ℕ))) (count : ℕ)
+pub indexed_pushed : (rows : List (ℕ × Link)) (transports new_transports : List (Transport × ℕ)) (ids : List (ℕ × ℕ)) (count : ℕ)
     (place : ℕ) (t : Transport) → IsAbove place rows → is_connected (members rows) t ≡ false
     → ((other : Transport) → place_of new_transports other ≡ (if same_transport t other then Some place else place_of transports other))
     → AreIndexed rows transports ids count
@@ -28,9 +28,7 @@ indexed_pushed rows transports new_transports ids count place t above new put ok
     record {
       transports_index = index_came same_transport same_is is_of (place_of transports) (place_of new_transports) rows place link t
           (λ other. refl) above new put ok.transports_index;
-      look_up = ok.look_up;
-      sessions_index = index_longer has_id ok.look_up rows place link (λ id. refl) ok.sessions_index;
-      ids_follow = ok.ids_follow;
+      ids_index = index_longer has_id (place_with ids) rows place link (λ id. refl) ok.ids_index;
       counted = ok.counted ∙ sym (ap session_count (members_pushed rows place link) ∙ count_pushed has_session (members rows) link
           ∙ plain (session_count (members rows)));
     }
@@ -39,7 +37,7 @@ indexed_pushed rows transports new_transports ids count place t above new put ok
     plain n = omega arith
 
 -- and is not put after all
-pub indexed_back : (rows : List (ℕ × Link)) (transports between new_transports : List (Transport × ℕ)) (ids : Option (List (ℕ × ℕ)))
+pub indexed_back : (rows : List (ℕ × Link)) (transports between new_transports : List (Transport × ℕ)) (ids : List (ℕ × ℕ))
     (count : ℕ) (place : ℕ) (t : Transport) → is_connected (members rows) t ≡ false
     → ((other : Transport) → place_of between other ≡ (if same_transport t other then Some place else place_of transports other))
     → ((other : Transport) → place_of new_transports other ≡ (if same_transport t other then None else place_of between other))
@@ -47,9 +45,7 @@ pub indexed_back : (rows : List (ℕ × Link)) (transports between new_transport
 indexed_back rows transports between new_transports ids count place t new put removed ok = record {
   transports_index = index_back same_transport same_is is_of (place_of transports) (place_of between) (place_of new_transports) rows place t
       new put removed ok.transports_index;
-  look_up = ok.look_up;
-  sessions_index = ok.sessions_index;
-  ids_follow = ok.ids_follow;
+  ids_index = ok.ids_index;
   counted = ok.counted;
 }
 
@@ -67,23 +63,21 @@ one_more : (b : Bool) (count before after : ℕ) → b ≡ false → count ≡ b
 one_more true count before after h is more = absurd (false≢true (sym h))
 one_more false count before after h is more = omega (arith, is, more)
 
-pub indexed_opened : (rows : List (ℕ × Link)) (transports : List (Transport × ℕ)) (ids new_ids : Option (List (ℕ × ℕ))) (count : ℕ) (place : ℕ)
+pub indexed_opened : (rows : List (ℕ × Link)) (transports : List (Transport × ℕ)) (ids new_ids : List (ℕ × ℕ)) (count : ℕ) (place : ℕ)
     (link : Link) (session : Session) → AreRising rows → member_at place rows ≡ Some link → link.session ≡ None
     → is_taken (members rows) session.id ≡ false
-    → ((look_up : ℕ → Option ℕ) → Follows ids look_up
-    → Follows new_ids (λ other. if session.id == other then Some place else look_up other))
+    → ((other : ℕ) → place_with new_ids other ≡ (if session.id == other then Some place else place_with ids other))
     → AreIndexed rows transports ids count
     → AreIndexed (with_member place (record { transport = link.transport; session = Some session }) rows) transports new_ids (count + 1)
-indexed_opened rows transports ids new_ids count place link session rising there none free follow ok =
+indexed_opened rows transports ids new_ids count place link session rising there none free put ok =
     let new : Link = record { transport = link.transport; session = Some session } in
     record {
       transports_index = index_kept is_of (place_of transports) rows place link new rising there (λ t. refl) ok.transports_index;
-      look_up = λ id. if session.id == id then Some place else ok.look_up id;
-      sessions_index = index_changed has_id ok.look_up (λ id. if session.id == id then Some place else ok.look_up id) rows place link new
+      ids_index = index_changed has_id (place_with ids) (place_with new_ids) rows place link new
           rising there (λ id is was. free_of (members rows) session id is free)
-          (λ id. ap (λ (b : Bool). cond (session.id == id) (Some place) (cond b None (ok.look_up id))) (sym (no_session link id none)))
-          ok.sessions_index;
-      ids_follow = follow ok.look_up ok.ids_follow;
+          (λ id. put id
+          ∙ ap (λ (b : Bool). cond (session.id == id) (Some place) (cond b None (place_with ids id))) (sym (no_session link id none)))
+          ok.ids_index;
       counted = one_more (has_session link) count (session_count (members rows)) (session_count (members (with_member place new rows)))
           (ap is_open none) ok.counted (count_with has_session place rows link new there);
     }
@@ -95,41 +89,35 @@ one_less : (session : Option Session) (count before after : ℕ) → count ≡ b
 one_less None count before after is less = omega (arith, is, less)
 one_less (Some session) count before after is less = omega (arith, is, less)
 
-pub indexed_closed : (rows : List (ℕ × Link)) (transports : List (Transport × ℕ)) (ids new_ids : Option (List (ℕ × ℕ))) (count : ℕ) (place : ℕ)
+pub indexed_closed : (rows : List (ℕ × Link)) (transports : List (Transport × ℕ)) (ids new_ids : List (ℕ × ℕ)) (count : ℕ) (place : ℕ)
     (link : Link) → AreRising rows → member_at place rows ≡ Some link
-    → ((look_up : ℕ → Option ℕ) → Follows ids look_up
-    → Follows new_ids (λ other. if is_session other link.session then None else look_up other))
+    → ((other : ℕ) → place_with new_ids other ≡ (if is_session other link.session then None else place_with ids other))
     → AreIndexed rows transports ids count
     → AreIndexed (with_member place (record { transport = link.transport; session = None }) rows) transports new_ids
     (less_one count link.session)
-indexed_closed rows transports ids new_ids count place link rising there follow ok =
+indexed_closed rows transports ids new_ids count place link rising there gone ok =
     let new : Link = record { transport = link.transport; session = None } in
     record {
       transports_index = index_kept is_of (place_of transports) rows place link new rising there (λ t. refl) ok.transports_index;
-      look_up = λ id. if is_session id link.session then None else ok.look_up id;
-      sessions_index = index_changed has_id ok.look_up (λ id. if is_session id link.session then None else ok.look_up id) rows place link new
-          rising there (λ id is was. absurd (false≢true is)) (λ id. refl) ok.sessions_index;
-      ids_follow = follow ok.look_up ok.ids_follow;
+      ids_index = index_changed has_id (place_with ids) (place_with new_ids) rows place link new
+          rising there (λ id is was. absurd (false≢true is)) gone ok.ids_index;
       counted = one_less link.session count (session_count (members rows)) (session_count (members (with_member place new rows))) ok.counted
           (count_with has_session place rows link new there);
     }
 
 -- ---- a transport goes
 
-pub indexed_without : (rows : List (ℕ × Link)) (transports new_transports : List (Transport × ℕ)) (ids new_ids : Option (List (ℕ × ℕ)))
+pub indexed_without : (rows : List (ℕ × Link)) (transports new_transports : List (Transport × ℕ)) (ids new_ids : List (ℕ × ℕ))
     (count : ℕ) (place : ℕ) (gone : Link) (t : Transport) → AreRising rows → member_at place rows ≡ Some gone → t ≡ gone.transport
     → ((other : Transport) → place_of new_transports other ≡ (if same_transport t other then None else place_of transports other))
-    → ((look_up : ℕ → Option ℕ) → Follows ids look_up
-    → Follows new_ids (λ other. if is_session other gone.session then None else look_up other))
+    → ((other : ℕ) → place_with new_ids other ≡ (if is_session other gone.session then None else place_with ids other))
     → AreIndexed rows transports ids count → AreIndexed (without place rows) new_transports new_ids (less_one count gone.session)
-indexed_without rows transports new_transports ids new_ids count place gone t rising there same removed follow ok = record {
+indexed_without rows transports new_transports ids new_ids count place gone t rising there same removed went ok = record {
   transports_index = index_gone same_transport is_of (place_of transports) (place_of new_transports) rows place gone t
       (λ other. ap (λ (u : Transport). same_transport u other) (sym same)) rising there removed ok.transports_index;
-  look_up = λ id. if is_session id gone.session then None else ok.look_up id;
-  sessions_index = index_gone (λ (key other : ℕ). has_id other gone) has_id ok.look_up
-      (λ id. if is_session id gone.session then None else ok.look_up id) rows place gone 0 (λ other. refl) rising there (λ other. refl)
-      ok.sessions_index;
-  ids_follow = follow ok.look_up ok.ids_follow;
+  ids_index = index_gone (λ (key other : ℕ). has_id other gone) has_id (place_with ids)
+      (place_with new_ids) rows place gone 0 (λ other. refl) rising there went
+      ok.ids_index;
   counted = one_less gone.session count (session_count (members rows)) (session_count (members (without place rows))) ok.counted
       (count_without has_session place rows gone there ∙ plain (session_count (members rows)));
 }
@@ -153,7 +141,7 @@ as_many false false count before after h is same = omega (arith, is, same)
 as_many true false count before after h is same = absurd (false≢true h)
 as_many false true count before after h is same = absurd (false≢true (sym h))
 
-pub indexed_invoked : (rows : List (ℕ × Link)) (transports : List (Transport × ℕ)) (ids : Option (List (ℕ × ℕ))) (count : ℕ) (place : ℕ)
+pub indexed_invoked : (rows : List (ℕ × Link)) (transports : List (Transport × ℕ)) (ids : List (ℕ × ℕ)) (count : ℕ) (place : ℕ)
     (link : Link) (invocation : ℕ) → AreRising rows → member_at place rows ≡ Some link → AreIndexed rows transports ids count
     → AreIndexed (with_member place (record { transport = link.transport; session = invoked invocation link.session }) rows) transports ids
     count
@@ -161,10 +149,8 @@ indexed_invoked rows transports ids count place link invocation rising there ok 
     let new : Link = record { transport = link.transport; session = invoked invocation link.session } in
     record {
       transports_index = index_kept is_of (place_of transports) rows place link new rising there (λ t. refl) ok.transports_index;
-      look_up = ok.look_up;
-      sessions_index = index_kept has_id ok.look_up rows place link new rising there (λ id. invoked_id invocation id link.session)
-          ok.sessions_index;
-      ids_follow = ok.ids_follow;
+      ids_index = index_kept has_id (place_with ids) rows place link new rising there (λ id. invoked_id invocation id link.session)
+          ok.ids_index;
       counted = as_many (has_session link) (has_session new) count (session_count (members rows))
           (session_count (members (with_member place new rows))) (invoked_open invocation link.session) ok.counted
           (count_with has_session place rows link new there);

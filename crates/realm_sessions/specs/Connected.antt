@@ -1,5 +1,5 @@
 -- How connected transports are kept, so that one is found without a walk over all.
-use Rattle.std.specs.Prelude.{◌≡◌, ℕ, ◌-◌, List, Option, IfSome, if◌then◌else◌}
+use Rattle.std.specs.Prelude.{◌≡◌, ℕ, ◌-◌, List, Option, if◌then◌else◌}
 use Rattle.std.specs.declared.cmp.Ordering.{Ordering}
 use Rattle.std.specs.Ordering.{nat_cmp, ordering_then}
 use Rattle.paxos_packets.specs.declared.transport.Transport.{Transport}
@@ -17,16 +17,13 @@ transport_cmp a b = ordering_then (nat_cmp a.node b.node) (ordering_then (nat_cm
 abbrev pub place_of : List (Transport × ℕ) → Transport → Option ℕ
 place_of entries t = place_at transport_cmp entries t
 
--- if it is kept, it gives for each id what the look-up gives
-abbrev pub Follows : Option (List (ℕ × ℕ)) → (ℕ → Option ℕ) → Type 0
-Follows ids look_up = IfSome ids (λ entries. (id : ℕ) → place_at nat_cmp entries id ≡ look_up id)
+-- the place of the session of this id
+abbrev pub place_with : List (ℕ × ℕ) → ℕ → Option ℕ
+place_with entries id = place_at nat_cmp entries id
 
-pub record AreIndexed (rows : List (ℕ × Link)) (transports : List (Transport × ℕ)) (ids : Option (List (ℕ × ℕ))) (count : ℕ) : Type 0 where
+pub record AreIndexed (rows : List (ℕ × Link)) (transports : List (Transport × ℕ)) (ids : List (ℕ × ℕ)) (count : ℕ) : Type 0 where
   pub transports_index : IsIndex is_of (place_of transports) rows
-  -- where each session is
-  pub look_up : ℕ → Option ℕ
-  pub sessions_index : IsIndex has_id look_up rows
-  pub ids_follow : Follows ids look_up
+  pub ids_index : IsIndex has_id (place_with ids) rows
   pub counted : count ≡ session_count (members rows)
 
 -- the count without this session

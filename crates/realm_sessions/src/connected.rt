@@ -48,7 +48,7 @@ impl Model for Connected {
 
     ghost view = { λ a. members a.rows };
 
-    ghost invariant = { λ a. AreIndexed a.rows a.transports a.ids.places a.count };
+    ghost invariant = { λ a. AreIndexed a.rows a.transports a.ids a.count };
 }
 
 impl Connected {
@@ -93,7 +93,7 @@ impl Connected {
     pub fn link_with(&self, id: Id) -> Option<&Link>
         ensures { option_map (λ link. link.now) result ≡ find (has_id id) self.now }
     {
-        let Some(place) = self.ids.find(&self.rows, id) else {
+        let Some(place) = self.ids.find(id) else {
             return None;
         };
         self.rows.get(place)
@@ -144,23 +144,26 @@ impl Connected {
     }
 
     // Gives the session to the transport, which has none.
-    pub fn open(&mut self, transport: Transport, session: Session)
+    pub fn open(&mut self, transport: Transport, session: Session) -> Result<(), RealmFault>
         requires there { by_transport self.old transport ≡ Some None }
         requires new { is_taken self.old session.id ≡ false }
         requires few { session_count self.old + 1 < 2 ^ 64 }
-        ensures { self.new ≡ set_session self.old transport (Some session) }
+        ensures ok { OnOk result (self.new ≡ set_session self.old transport (Some session)) }
+        ensures err { OnErr result (self.new ≡ self.old) }
+        ensures fault { IsOkUnless result fault.Memory }
     {
         let id = session.id;
         let Some(place) = self.transports.get(transport) else {
-            return;
+            return Ok(());
         };
         let Some(link) = self.rows.get(place) else {
-            return;
+            return Ok(());
         };
         let link = link.with_session(Some(session));
+        self.ids.put(id, place)?;
         self.rows.set(place, link);
-        self.ids.put(id, place);
         self.count += 1;
+        Ok(())
     }
 
     // Ends the transport's session, if it has one.
@@ -199,7 +202,7 @@ impl Connected {
     pub fn invoke(&mut self, id: Id, invocation: Id)
         ensures { self.new ≡ set_invocation self.old id invocation }
     {
-        let Some(place) = self.ids.find(&self.rows, id) else {
+        let Some(place) = self.ids.find(id) else {
             return;
         };
         let Some(link) = self.rows.get(place) else {

@@ -12,3 +12,4 @@ pub use fault::RealmFault;
 pub use links::{Link, Session};
 pub use paxos_packets::Transport;
 pub use sessions::Sessions;
+pub use wamp_ids::Id;

@@ -1,17 +1,19 @@
 //! Finds sessions by their ids.
-ghost use Rattle.std.specs.Prelude.{◌≡◌, ℕ, ◌==◌, Option, None, Some, if◌then◌else◌};
-ghost use Rattle.realm_lists.specs.Finding.{IsIndex, place_where};
-ghost use Rattle.realm_sessions.specs.Links.{is_session, has_id};
-ghost use Rattle.realm_sessions.specs.Connected.{Follows};
+ghost use Rattle.std.specs.Prelude.{◌≡◌, ◌==◌, ℕ, [], None, Some, OnOk, OnErr, IsOkUnless, if◌then◌else◌};
+ghost use Rattle.realm_sessions.specs.declared.fault.RealmFault.TheVariants as fault;
+ghost use Rattle.realm_sessions.specs.Links.{is_session};
+ghost use Rattle.realm_sessions.specs.Connected.{place_with};
 
-use crate::links::{Link, Session};
-use realm_lists::{OrderedList, PlaceTable};
+use crate::fault::RealmFault;
+use crate::links::Session;
+use realm_lists::PlaceTable;
 use std::alloc::Global;
+use std::marker::Model;
 use wamp_ids::Id;
 
-// The places of sessions. Once memory has run out for one of them, no place is kept any more: each session is then found by a walk.
+// The places of sessions.
 pub struct SessionIndex {
-    places: Option<PlaceTable<u64>>,
+    places: PlaceTable<u64>,
 }
 
 impl Drop for SessionIndex {
@@ -20,63 +22,49 @@ impl Drop for SessionIndex {
     }
 }
 
+impl Model for SessionIndex {
+    ghost use Rattle.std.specs.Prelude.{ℕ, List};
+
+    ghost Value = { List (ℕ × ℕ) };
+
+    ghost view = { λ a. a.places };
+}
+
 impl SessionIndex {
     // Creates it with no session.
     pub fn new(alloc: Global) -> SessionIndex
-        ensures { Follows result.places (λ _. None) }
+        ensures { result ≡ [] }
     {
         SessionIndex {
-            places: Some(PlaceTable::new(alloc)),
+            places: PlaceTable::new(alloc),
         }
     }
 
     // Returns the place of the session of this id.
-    pub fn find(&self, rows: &OrderedList<Link>, id: Id) -> Option<u64>
-        ensures { (look_up : ℕ → Option ℕ) → IsIndex has_id look_up rows.now → Follows self.now.places look_up → result ≡ look_up id }
+    pub fn find(&self, id: Id) -> Option<u64>
+        ensures { result ≡ place_with self.now id }
     {
-        let Some(places) = &self.places else {
-            return walk(rows, id);
-        };
-        places.get(id.get())
+        self.places.get(id.get())
     }
 
     // Sets the place of the session of this id.
-    pub fn put(&mut self, id: Id, place: u64)
-        ensures { (look_up : ℕ → Option ℕ) → Follows self.old.places look_up
-            → Follows self.new.places (λ other. if id == other then Some place else look_up other) }
+    pub fn put(&mut self, id: Id, place: u64) -> Result<(), RealmFault>
+        ensures ok { OnOk result ((other : ℕ) → place_with self.new other
+            ≡ (if id == other then Some place else place_with self.old other)) }
+        ensures err { OnErr result (self.new ≡ self.old) }
+        ensures fault { IsOkUnless result fault.Memory }
     {
-        let Some(places) = &mut self.places else {
-            return;
-        };
-        let Ok(()) = places.put(id.get(), place) else {
-            self.places = None;
-            return;
-        };
+        Ok(self.places.put(id.get(), place)?)
     }
 
     // Removes the place of this session, if there is a session.
     pub fn remove(&mut self, session: &Option<Session>)
-        ensures { (look_up : ℕ → Option ℕ) → Follows self.old.places look_up
-            → Follows self.new.places (λ other. if is_session other session.now then None else look_up other) }
+        ensures { (other : ℕ) → place_with self.new other
+            ≡ (if is_session other session.now then None else place_with self.old other) }
     {
         let Some(session) = session else {
             return;
         };
-        let Some(places) = &mut self.places else {
-            return;
-        };
-        places.remove(session.id.get());
+        self.places.remove(session.id.get());
     }
-}
-
-// Returns the place of the first link whose session has this id.
-fn walk(rows: &OrderedList<Link>, id: Id) -> Option<u64>
-    ensures { result ≡ place_where (has_id id) rows.now }
-{
-    for (place, link) in rows.iter() {
-        if link.has_id(id) {
-            return Some(*place);
-        }
-    }
-    None
 }

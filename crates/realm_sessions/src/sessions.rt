@@ -1,5 +1,6 @@
 ghost use Rattle.std.specs.Prelude.{◌≡◌, ◌+◌, ◌<◌, ◌^◌, nat_lt, not, [], Some, None, false, IfSome, OnOk, OnErr, IfOk, IsOkUnless};
 ghost use Rattle.realm_sessions.specs.declared.fault.RealmFault.TheVariants as fault;
+ghost use Rattle.realm_sessions.specs.Fault.{Answers};
 ghost use Rattle.realm_sessions.specs.Links.{by_transport, transport_of, announces, of_origin};
 ghost use Rattle.realm_sessions.specs.Links.{connect, set_session, without_transport, has_number, is_connected, is_taken};
 ghost use Rattle.realm_sessions.specs.Links.{session_count, new_session_id, session_with, due_invocation};
@@ -16,8 +17,7 @@ use wamp_ids::Id;
 /// The connected transports of a realm in the order in which they came, and their sessions, of which at most `limit` are open at a time.
 ///
 /// Cost: each call takes a number of steps that is logarithmic in the number of transports, and `open` as many again for each id that it
-/// finds taken. `of_origin` and `to_vec` take a step for each transport. If memory runs out for a session's id in `open`, each call that
-/// looks up a session by its id goes over the transports from then on.
+/// finds taken. `of_origin` and `to_vec` take a step for each transport.
 pub struct Sessions {
     limit: u32,
     held: Connected,
@@ -65,8 +65,7 @@ impl Sessions {
     }
 
     /// Opens a session at a connected transport that has none, and returns its id: the draw, or the next one upwards that no session has.
-    /// The only fault is `Limit`, exactly if `limit` sessions are open (`laws`); nothing has changed then. If memory runs out for its id,
-    /// that is no fault, but slows look-ups down (see the type).
+    /// The faults are `Limit`, exactly if `limit` sessions are open (`laws`), and then `Memory`; nothing has changed then.
     pub fn open(
         &mut self,
         transport: Transport,
@@ -74,8 +73,9 @@ impl Sessions {
         canceling: bool,
     ) -> Result<Id, RealmFault>
         requires { by_transport self.old.list transport ≡ Some None }
-        ensures answer { result ≡ (open_session self.old transport draw canceling).answer }
-        ensures sessions { self.new ≡ (open_session self.old transport draw canceling).sessions }
+        ensures answer { Answers result (open_session self.old transport draw canceling).answer }
+        ensures ok { OnOk result (self.new ≡ (open_session self.old transport draw canceling).sessions) }
+        ensures err { OnErr result (self.new ≡ self.old) }
     {
         if self.has_all() {
             return Err(RealmFault::Limit);
@@ -88,7 +88,7 @@ impl Sessions {
             canceling,
             last_invocation: None,
         };
-        self.held.open(transport, session);
+        self.held.open(transport, session)?;
         Ok(id)
     }
 

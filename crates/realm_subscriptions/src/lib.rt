@@ -10,7 +10,9 @@ mod subscribing;
 mod subscription;
 mod subscriptions;
 
+pub use realm_sessions::RealmFault;
 pub use receiving::Receiver;
 pub use subscribers::Subscribers;
 pub use subscription::Subscription;
 pub use subscriptions::Subscriptions;
+pub use wamp_ids::{Id, Match, Pattern, Uri};

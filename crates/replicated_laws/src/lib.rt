@@ -2,3 +2,6 @@
 #![tactic(auto)]
 
 pub mod laws;
+
+pub use cluster_world::World;
+pub use realm_machine::Realm;

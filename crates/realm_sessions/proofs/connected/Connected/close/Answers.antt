@@ -19,7 +19,7 @@ returns-in_default-get c =
 pub invariant_of-self : goal.invariant_of-self
 invariant_of-self c =
     rw (c.set.ensures, c.with_session-link.ensures, c.less_one-self-inside.ensures)
-    (indexed_closed c.self.inside.rows c.self.inside.transports c.self.inside.ids.places c.remove.new.self.places c.self.inside.count
+    (indexed_closed c.self.inside.rows c.self.inside.transports c.self.inside.ids c.remove.new.self c.self.inside.count
     c.in-Some.place c.in-Some-get.link.now c.get-2.ensures.rising (sym c.get-2.ensures.member ∙ ap option_copied c.in-Some-get.is)
     c.remove.ensures c.self.invariant)
 

@@ -30,7 +30,7 @@ invariant_of-self-2 c =
     let passes = told_passes is_of (place_of c.self.inside.transports) c.self.inside.rows c.args.transport c.in-Some.place
     c.in-Some-remove.gone c.self.invariant.transports_index (sym c.get.ensures ∙ c.in-Some.is) there in
     rw (c.remove.ensures.rows, c.less_one-self-inside.ensures)
-    (indexed_without c.self.inside.rows c.self.inside.transports c.remove-2.new.self c.self.inside.ids.places c.remove-3.new.self.places
+    (indexed_without c.self.inside.rows c.self.inside.transports c.remove-2.new.self c.self.inside.ids c.remove-3.new.self
     c.self.inside.count c.in-Some.place c.in-Some-remove.gone c.args.transport c.remove.ensures.rising there
     (sym (same_is c.in-Some-remove.gone.transport c.args.transport passes)) c.remove-2.ensures c.remove-3.ensures c.self.invariant)
 
