@@ -18,7 +18,7 @@ use Rattle.store_keeper.specs.Keeper.{no_rows}
 use Rattle.store_rows.specs.declared.rows.Numbers.{Numbers}
 use Rattle.acceptor_store.specs.Tables.{store_schema, empty_schema}
 use Rattle.acceptor_store.specs.Statements.{IsFounded}
-use Rattle.acceptor_store.specs.Store.{Stores, AreVotes, Leaves, Holds, Finds, written, NotLowered, Follows}
+use Rattle.acceptor_store.specs.Store.{Stores, AreVotes, Leaves, Holds, Finds, LeavesRows, LeavesOr, written, NotLowered, Follows}
 use Rattle.store_rows.specs.Numbers.{numbers_in_rows}
 use Rattle.acceptor_store.specs.Once.{stored_once}
 use Rattle.acceptor_store.specs.Calls.{keeper_of}
@@ -79,6 +79,9 @@ module _ {S : Type 0} (g : Ghosts S) {B : Type 0} (reading : List ℕ → Readin
   abbrev FoundBy : Held S → Rows B → Type 0
   FoundBy conn rows = Finds g reading (keeper_of conn None) rows
 
+  abbrev RowsBy : Held S → Type 0
+  RowsBy conn = LeavesRows g reading (keeper_of conn None)
+
   -- what commits nothing
 
   pub found_no_more : (old new : Held S) → Survives (state g old) (state g new) (λ _. ⊥) → (x : Rows B) → FoundBy new x → FoundBy old x
@@ -90,9 +93,32 @@ module _ {S : Type 0} (g : Ghosts S) {B : Type 0} (reading : List ℕ → Readin
       let was = h (earlier g old new survives.clean clean) in
       (leaves_on reading (state g old) (state g new) rows survives clean was.0, was.1)
 
+  pub rows_on : (old new : Held S) → Survives (state g old) (state g new) (λ _. ⊥) → RowsBy old → RowsBy new
+  rows_on old new survives left clean trees may =
+      left (earlier g old new survives.clean clean) trees (⊎_elim (λ was. was) (λ none. absurd none) (survives.crash clean trees may))
+
+  pub leaves_none : (old new : Held S) (next : Rows B) → Survives (state g old) (state g new) (λ _. ⊥) → LeavesOr g reading old new next
+  leaves_none old new next survives = record {
+    clean = survives.clean;
+    crash = λ clean trees may. ⊎_elim (λ was. inl was) (λ none. absurd none) (survives.crash clean trees may);
+  }
+
+  -- what commits after a call that commits nothing
+  pub leaves_then : (old mid new : Held S) (next : Rows B) → Survives (state g old) (state g mid) (λ _. ⊥) → doubt (state g mid).is_clean ≤ doubt (state g new).is_clean
+      → (HasCleanDisk (state g new) → (trees : Trees) → (state g new).may_leave trees → (state g mid).may_leave trees ⊎ Stores reading trees next)
+      → LeavesOr g reading old new next
+  leaves_then old mid new next survives clean made = record {
+    clean = let first = survives.clean in omega arith;
+    crash = λ now trees may.
+        ⊎_elim (λ was. ⊎_elim (λ w. inl w) (λ none. absurd none) (survives.crash (earlier g mid new clean now) trees was)) (λ stores. inr stores) (made now trees may);
+  }
+
   -- what is found after a commit: what was found before it, or what it was to make
-  pub found_or : (old new : Held S) (next : Rows B) → HasCleanDisk (state g old)
-      → ((trees : Trees) → (state g new).may_leave trees → (state g old).may_leave trees ⊎ Stores reading trees next)
-      → (x : Rows B) → FoundBy new x → FoundBy old x ⊎ (x ≡ next)
-  found_or old new next early made x h =
-      ⊎_elim (λ was. inl (early, (h.1.0, was, h.1.2))) (λ stores. inr (stored_once reading h.1.0 next x stores h.1.2)) (made h.1.0 h.1.1)
+  pub found_or : (old new : Held S) (next : Rows B) → LeavesOr g reading old new next → (x : Rows B) → FoundBy new x → FoundBy old x ⊎ (x ≡ next)
+  found_or old new next it x h =
+      ⊎_elim (λ was. inl (earlier g old new it.clean h.0, (h.1.0, was, h.1.2))) (λ stores. inr (stored_once reading h.1.0 next x stores h.1.2)) (it.crash h.0 h.1.0 h.1.1)
+
+  -- and rows are found
+  pub rows_or : (old new : Held S) (known : Option Numbers) (rows next : Rows B) → LeavesOr g reading old new next → HeldBy old known rows → RowsBy new
+  rows_or old new known rows next it holds clean trees may =
+      ⊎_elim (λ was. (rows, (holds (earlier g old new it.clean clean)).0 trees was)) (λ stores. (next, stores)) (it.crash clean trees may)

@@ -26,6 +26,17 @@ use Rattle.acceptor_store.specs.Once.{stands_once}
 use Rattle.acceptor_store.proofs.Meaning.{stands}
 
 module _ {B : Type 0} (reading : List ℕ → Reading B) where
+  -- what does nothing commits nothing
+  pub survives_same : (s : State) → Survives s s (λ _. ⊥)
+  survives_same s = record {
+    clean = omega arith;
+    shield = λ it. it;
+    counts = omega arith;
+    limit = refl;
+    closes = λ clean is_open. inl is_open;
+    crash = λ clean trees may. inl may;
+  }
+
   -- what commits nothing leaves what was left before
   pub leaves_on : (old new : State) (rows : Rows B) → Survives old new (λ _. ⊥) → HasCleanDisk new → Leaves reading old rows → Leaves reading new rows
   leaves_on old new rows survives clean left trees may = ⊎_elim (λ was. left trees was) (λ none. absurd none) (survives.crash clean trees may)

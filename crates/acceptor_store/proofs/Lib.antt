@@ -12,3 +12,4 @@ mod Writing
 mod Keeping
 mod Changing
 mod Calling
+pub mod Files

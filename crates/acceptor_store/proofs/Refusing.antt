@@ -16,7 +16,7 @@ use Rattle.acceptor_store.specs.Tables.{meta_columns, vote_columns}
 use Rattle.acceptor_store.specs.Store.{Reads}
 use Rattle.store_rows.specs.Changes.{numbers_after}
 use Rattle.store_rows.specs.Faults.{LiesBelow}
-use Rattle.acceptor_store.specs.Answers.{stored_in, Tells, Refuses, are_spelled, has_place}
+use Rattle.acceptor_store.specs.Answers.{stored_in, Tells, Refuses, IsUnfit, are_spelled, has_place}
 use Rattle.acceptor_store.proofs.Meaning.{loads}
 
 pub refuses_for : {P Q : Type 0} (e : KeeperFault) → (P → Q) → Refuses P e → Refuses Q e
@@ -47,18 +47,28 @@ refuses_told P fault e h (inr failed) = subst (Refuses P) (sym failed) tt
 pub same_fault : {A : Type 0} {e f : KeeperFault} → ◌≡◌ {A = Result A KeeperFault} (Err e) (Err f) → e ≡ f
 same_fault h = cc
 
+-- a fault that is counted is the same, or no fault of what is stored
+pub told_unfit : {A : Type 0} (fault e : KeeperFault) → (e ≡ fault) ⊎ (e ≡ Failed) → IsUnfit {A = A} (Err e) → IsUnfit {A = A} (Err fault)
+told_unfit {A} fault e (inl same) h = subst (λ f. IsUnfit {A = A} (Err f)) same h
+told_unfit {A} fault e (inr failed) (inl h) = let both : Failed ≡ Damaged = sym failed ∙ same_fault h in absurd cc
+told_unfit {A} fault e (inr failed) (inr h) = let both : Failed ≡ Version = sym failed ∙ same_fault h in absurd cc
+
 pub told_damaged : {A : Type 0} (fault e : KeeperFault) → (e ≡ fault) ⊎ (e ≡ Failed) → ◌≡◌ {A = Result A KeeperFault} (Err e) (Err Damaged) → fault ≡ Damaged
 told_damaged fault e (inl same) h = sym same ∙ same_fault h
 told_damaged fault e (inr failed) h = let both : Failed ≡ Damaged = sym failed ∙ same_fault h in absurd cc
 
+-- what is refused for no fault of what is stored
+pub refused_fit : {A P : Type 0} (e : KeeperFault) → Refuses ⊥ e → IsUnfit {A = A} (Err e) → P
+refused_fit e h (inl d) = absurd (subst (Refuses ⊥) (same_fault d) h)
+refused_fit e h (inr v) = absurd (subst (Refuses ⊥) (same_fault v) h)
+
 -- a refusal of the connection is no damage
-pub conn_whole : {A P : Type 0} (e : KeeperFault) → (e ≡ Memory) ⊎ (e ≡ Store) → ◌≡◌ {A = Result A KeeperFault} (Err e) (Err Damaged) → P
-conn_whole e (inl m) h = let both : Memory ≡ Damaged = sym m ∙ same_fault h in absurd cc
-conn_whole e (inr s) h = let both : Store ≡ Damaged = sym s ∙ same_fault h in absurd cc
+pub conn_whole : {A P : Type 0} (e : KeeperFault) → (e ≡ Memory) ⊎ (e ≡ Store) → IsUnfit {A = A} (Err e) → P
+conn_whole e h unfit = refused_fit e (refuses_conn ⊥ e h) unfit
 
 pub conn_whole_err : {A P : Type 0} (r : Result A KeeperFault) → IfErr r (λ e. (e ≡ Memory) ⊎ (e ≡ Store)) → r ≡ Err Damaged → P
 conn_whole_err (Ok x) h damaged = absurd cc
-conn_whole_err (Err e) h damaged = conn_whole e h damaged
+conn_whole_err (Err e) h damaged = conn_whole e h (inl damaged)
 
 pub below_conn : (e : KeeperFault) → (e ≡ Memory) ⊎ (e ≡ Store) → LiesBelow e
 below_conn e (inl m) = (λ is. let both : Memory ≡ Failed = sym m ∙ is in absurd cc, λ is. let both : Memory ≡ Boots = sym m ∙ is in absurd cc)
@@ -72,6 +82,12 @@ below_unspelled e (inr d) =
 pub below_damage : (e : KeeperFault) → (e ≡ Damaged) ⊎ ((e ≡ Memory) ⊎ (e ≡ Store)) → LiesBelow e
 below_damage e (inl d) = below_unspelled {P = Unit {0}} e (inr (d, tt))
 below_damage e (inr conn) = below_conn e conn
+
+-- damage is of this version
+pub damage_is_old : {P : Type 0} (e : KeeperFault) → (e ≡ Damaged) ⊎ ((e ≡ Memory) ⊎ (e ≡ Store)) → e ≡ Version → P
+damage_is_old e (inl d) h = let both : Damaged ≡ Version = sym d ∙ h in absurd cc
+damage_is_old e (inr (inl m)) h = let both : Memory ≡ Version = sym m ∙ h in absurd cc
+damage_is_old e (inr (inr s)) h = let both : Store ≡ Version = sym s ∙ h in absurd cc
 
 pub below_conn_err : {A : Type 0} (r : Result A KeeperFault) → IfErr r (λ e. (e ≡ Memory) ⊎ (e ≡ Store)) → IfErr r LiesBelow
 below_conn_err (Ok x) h = tt
@@ -110,8 +126,8 @@ module _ {B : Type 0} (reading : List ℕ → Reading B) where
   held_told db rows Memory has t = tt
   held_told db rows Failed has t = tt
 
-  pub held_whole : (db : Database) (rows : Rows B) (e : KeeperFault) → Reads reading db rows → Tells reading db e → e ≡ Damaged → ⊥
-  held_whole db rows e has t is = subst (Refuses ⊥) is (held_told db rows e has t)
+  pub held_fit : {A : Type 0} (db : Database) (rows : Rows B) (e : KeeperFault) → Reads reading db rows → Tells reading db e → IsUnfit {A = A} (Err e) → ⊥
+  held_fit db rows e has t unfit = refused_fit e (held_told db rows e has t) unfit
 
 module _ {B : Type 0} (spelling : B → Option (List ℕ)) (before : Numbers) (change : Change B) where
   pub placed : (next : Numbers) → numbers_after before change ≡ Some next → are_spelled spelling change.votes ≡ true → has_place spelling before change ≡ true

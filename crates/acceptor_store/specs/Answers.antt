@@ -1,5 +1,5 @@
 -- Which faults a load and a commit return, beside those of memory and of the connection.
-use Rattle.std.specs.Prelude.{◌≡◌, Bool, ◌&&◌, ⊤, ℕ, List, map, Option, is_some, Result, Ok, Err}
+use Rattle.std.specs.Prelude.{◌≡◌, ◌⊎◌, IsErrOf, Bool, ◌&&◌, ⊤, ℕ, List, map, Option, is_some, Result, Ok, Err}
 use Rattle.std.specs.List.{list_all}
 use Rattle.sqlite_trees.specs.Tree.{Trees}
 use Rattle.sqlite.specs.Effect.{Database}
@@ -41,6 +41,10 @@ are_spelled spelling votes = list_all (λ v. is_some (entry_spelling spelling v.
 -- a spelling
 abbrev pub has_place : {B : Type 0} → (B → Option (List ℕ)) → Numbers → Change B → Bool
 has_place spelling numbers change = is_some (numbers_after numbers change) && are_spelled spelling change.votes
+
+-- what is stored was read, and is not rows of this version
+abbrev pub IsUnfit : {A : Type 0} → Result A KeeperFault → Type 0
+IsUnfit result = IsErrOf result Damaged ⊎ IsErrOf result Version
 
 -- damage is reported for this cause alone, and another version never
 abbrev pub Refuses : Type 0 → KeeperFault → Type 0

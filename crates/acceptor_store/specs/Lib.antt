@@ -4,3 +4,4 @@ pub mod Store
 pub mod Once
 pub mod Calls
 pub mod Answers
+pub mod Files

@@ -1,12 +1,13 @@
 -- What the trees of a store stand for (docs/CONSENSUS.md, "The store"; Lamport 2001, section 2.5), and what a keeper over them holds and
 -- finds.
-use Rattle.std.specs.Prelude.{◌≡◌, ◌<◌, ℕ, Bool, true, false, IsTrue, ◌==◌, List, [], ◌∷◌, map, Option, Some, None, unwrap_or, Ok, ⊤}
+use Rattle.std.specs.Prelude.{◌≡◌, ◌⊎◌, ◌<◌, ◌≤◌, ℕ, Bool, true, false, IsTrue, ◌==◌, List, [], ◌∷◌, map, Option, Some, None, unwrap_or, Ok, ⊤}
 use Rattle.std.specs.Prelude.{refl}
 use Rattle.std.specs.Coded.{Coded, code_by, coded×, coded_ℕ, coded_bool, coded_option}
 use Rattle.std.specs.List.{AllByRecursion, IsDistinct}
 use Rattle.sqlite_value.specs.Order.{Row}
 use Rattle.sqlite_rules.specs.Lists.{Has}
 use Rattle.sqlite_trees.specs.Tree.{Trees, rowid}
+use Rattle.sqlite_trees.specs.View.{doubt}
 use Rattle.sqlite_trees.specs.declared.store.Store.{Ghosts}
 use Rattle.sqlite_catalog.specs.Listing.{IsSound}
 use Rattle.sqlite.specs.Effect.{Database}
@@ -119,3 +120,12 @@ module _ {S : Type 0} (g : Ghosts S) {B : Type 0} (reading : List ℕ → Readin
   -- stopped at this moment, a store that is opened again may find these rows
   abbrev pub Finds : Kept S → Rows B → Type 0
   Finds k rows = HasCleanDisk (state g k.conn) × ((trees : Trees) × (state g k.conn).may_leave trees × Stores reading trees rows)
+
+  -- stopped at this moment, a store that is opened again finds rows, if the disk has returned what was written
+  abbrev pub LeavesRows : Kept S → Type 0
+  LeavesRows k = HasCleanDisk (state g k.conn) → (trees : Trees) → (state g k.conn).may_leave trees → (rows : Rows B) × Stores reading trees rows
+
+  -- a crash leaves what it left before, or a store that has these rows
+  pub record LeavesOr (old new : Held S) (next : Rows B) : Type 0 where
+    pub clean : doubt (state g old).is_clean ≤ doubt (state g new).is_clean
+    pub crash : HasCleanDisk (state g new) → (trees : Trees) → (state g new).may_leave trees → (state g old).may_leave trees ⊎ Stores reading trees next

@@ -9,15 +9,15 @@ ghost use Rattle.sqlite.specs.State.{HasCleanDisk, Survives};
 ghost use Rattle.paxos_packets.specs.Rows.{last_boot, raised};
 ghost use Rattle.paxos_packets.specs.declared.rows.Rows.{Rows};
 ghost use Rattle.paxos_acceptor.specs.Acceptor.{adopted};
-ghost use Rattle.store_keeper.specs.Keeper.{no_rows, FindsOr, FindsNoMore};
+ghost use Rattle.store_keeper.specs.Keeper.{no_rows};
 ghost use Rattle.acceptor_store.specs.Tables.{empty_schema};
 ghost use Rattle.acceptor_store.specs.Statements.{IsFounded};
-ghost use Rattle.acceptor_store.specs.Store.{Stores, Leaves, Holds, Finds, written, Follows, NotLowered};
+ghost use Rattle.acceptor_store.specs.Store.{Stores, Leaves, Holds, LeavesOr, written, Follows, NotLowered};
 ghost use Rattle.store_rows.specs.Numbers.{numbers_in_rows, are_numbers, is_ballot};
 ghost use Rattle.store_rows.specs.Changes.{is_placed};
 ghost use Rattle.acceptor_store.specs.Calls.{keeper_of, AreKnown};
 ghost use Rattle.store_rows.specs.Faults.{LiesBelow};
-ghost use Rattle.acceptor_store.specs.Answers.{Gives, Tells, Refuses, are_spelled, has_place};
+ghost use Rattle.acceptor_store.specs.Answers.{Gives, Tells, Refuses, IsUnfit, are_spelled, has_place};
 
 use crate::store::{commit_rows, found_store, read_store, settle};
 use crate::tables::is_empty;
@@ -88,13 +88,12 @@ fn read<B: Body, C: Coder<B>, S: Alter>(
     ensures right { HasCleanDisk (state S.Store conn.new) → (rows : Rows B) → Holds S.Store C.reading (keeper_of conn.old known.old) rows
         → IfOk result (λ read. read ≡ rows) }
     ensures kept { (rows : Rows B) → Holds S.Store C.reading (keeper_of conn.old known.old) rows → Holds S.Store C.reading (keeper_of conn.new known.new) rows }
-    ensures found { FindsNoMore (Finds S.Store C.reading) (keeper_of conn.old known.old) (keeper_of conn.new known.new) }
-    ensures clean { doubt (state S.Store conn.old).is_clean ≤ doubt (state S.Store conn.new).is_clean }
+    ensures survives { Survives (state S.Store conn.old) (state S.Store conn.new) (λ _. ⊥) }
     ensures told { IfOk result (λ rows. known.new ≡ Some (numbers_in_rows rows)) }
     ensures gives { HasCleanDisk (state S.Store conn.new) → IfOk result (Gives C.reading (state S.Store conn.old).now) }
     ensures tells { HasCleanDisk (state S.Store conn.new) → IfErr result (Tells C.reading (state S.Store conn.old).now) }
     ensures sound { HasCleanDisk (state S.Store conn.new) → (rows : Rows B) → Holds S.Store C.reading (keeper_of conn.old known.old) rows
-        → IsErrOf result KeeperFault.Damaged → ⊥ }
+        → IsUnfit result → ⊥ }
     ensures fault { IfErr result LiesBelow }
 {
     settle(conn); // for the proof
@@ -114,8 +113,7 @@ fn numbers<B: Body, C: Coder<B>, S: Alter>(
     ensures alone { conn.new.in_transaction ≡ false }
     ensures known { AreKnown known.new }
     ensures kept { (rows : Rows B) → Holds S.Store C.reading (keeper_of conn.old known.old) rows → Holds S.Store C.reading (keeper_of conn.new known.new) rows }
-    ensures found { FindsNoMore (Finds S.Store C.reading) (keeper_of conn.old known.old) (keeper_of conn.new known.new) }
-    ensures clean { doubt (state S.Store conn.old).is_clean ≤ doubt (state S.Store conn.new).is_clean }
+    ensures survives { Survives (state S.Store conn.old) (state S.Store conn.new) (λ _. ⊥) }
     ensures told { IfOk result (λ numbers. known.new ≡ Some numbers) }
     ensures refused { HasCleanDisk (state S.Store conn.new) → IsTrue (state S.Store conn.old).is_open
         → (rows : Rows B) → Holds S.Store C.reading (keeper_of conn.old known.old) rows → IfErr result (Refuses ⊥) }
@@ -207,15 +205,14 @@ fn write<B: Body, C: Coder<B>, S: Alter>(
     ensures known { AreKnown known.new }
     ensures ok { OnOk result ((rows : Rows B) → Holds S.Store C.reading (keeper_of conn.old known.old) rows
         → Holds S.Store C.reading (keeper_of conn.new known.new) (adopted rows change.now)) }
-    ensures found { (rows : Rows B) → Holds S.Store C.reading (keeper_of conn.old known.old) rows
-        → FindsOr (Finds S.Store C.reading) (keeper_of conn.old known.old) (keeper_of conn.new known.new) (adopted rows change.now) }
+    ensures crash { (rows : Rows B) → Holds S.Store C.reading (keeper_of conn.old known.old) rows
+        → LeavesOr S.Store C.reading conn.old conn.new (adopted rows change.now) }
     ensures placed { HasCleanDisk (state S.Store conn.new) → (rows : Rows B) → Holds S.Store C.reading (keeper_of conn.old known.old) rows
         → OnOk result (has_place C.spelling (numbers_in_rows rows) change.now ≡ true) }
     ensures refused { HasCleanDisk (state S.Store conn.new) → IsTrue (state S.Store conn.old).is_open
         → (rows : Rows B) → Holds S.Store C.reading (keeper_of conn.old known.old) rows
         → IfErr result (Refuses (has_place C.spelling (numbers_in_rows rows) change.now ≡ false)) }
-    ensures kept { IsErrOf result KeeperFault.Damaged
-        → FindsNoMore (Finds S.Store C.reading) (keeper_of conn.old known.old) (keeper_of conn.new known.new) }
+    ensures kept { IsErrOf result KeeperFault.Damaged → Survives (state S.Store conn.old) (state S.Store conn.new) (λ _. ⊥) }
     ensures fault { IfErr result LiesBelow }
 {
     let before = numbers::<B, C, S>(alloc, conn, known)?;
@@ -242,13 +239,13 @@ fn raise<B: Body, C: Coder<B>, S: Alter>(
     ensures right { HasCleanDisk (state S.Store conn.new) → (rows : Rows B) → Holds S.Store C.reading (keeper_of conn.old known.old) rows
         → IfOk result (λ booted. booted ≡ raised rows) }
     ensures sound { HasCleanDisk (state S.Store conn.new) → (rows : Rows B) → Holds S.Store C.reading (keeper_of conn.old known.old) rows
-        → IsErrOf result KeeperFault.Damaged → ⊥ }
+        → IsUnfit result → ⊥ }
     ensures clean { doubt (state S.Store conn.old).is_clean ≤ doubt (state S.Store conn.new).is_clean }
     ensures within { IfOk result (λ rows. rows.boot ≤ last_boot) }
     ensures last { HasCleanDisk (state S.Store conn.new) → (rows : Rows B) → Holds S.Store C.reading (keeper_of conn.old known.old) rows
         → IsErrOf result KeeperFault.Boots → last_boot ≤ rows.boot }
-    ensures found { (rows : Rows B) → Holds S.Store C.reading (keeper_of conn.old known.old) rows
-        → FindsOr (Finds S.Store C.reading) (keeper_of conn.old known.old) (keeper_of conn.new known.new) (raised rows) }
+    ensures crash { (rows : Rows B) → Holds S.Store C.reading (keeper_of conn.old known.old) rows
+        → LeavesOr S.Store C.reading conn.old conn.new (raised rows) }
     ensures fault { IfErr result (λ e. e ≢ KeeperFault.Failed) }
 {
     let mut rows = read::<B, C, S>(alloc, conn, known)?;
@@ -291,11 +288,11 @@ pub(crate) fn load_from<B: Body, C: Coder<B>, S: Alter>(
     ensures right { HasCleanDisk (state S.Store conn.new) → (rows : Rows B) → Holds S.Store C.reading (keeper_of conn.old known.old) rows
         → IfOk result (λ read. read ≡ rows) }
     ensures kept { (rows : Rows B) → Holds S.Store C.reading (keeper_of conn.old known.old) rows → Holds S.Store C.reading (keeper_of conn.new known.new) rows }
-    ensures found { FindsNoMore (Finds S.Store C.reading) (keeper_of conn.old known.old) (keeper_of conn.new known.new) }
+    ensures survives { Survives (state S.Store conn.old) (state S.Store conn.new) (λ _. ⊥) }
     ensures gives { HasCleanDisk (state S.Store conn.new) → IfOk result (Gives C.reading (state S.Store conn.old).now) }
     ensures tells { HasCleanDisk (state S.Store conn.new) → IfErr result (Tells C.reading (state S.Store conn.old).now) }
     ensures sound { HasCleanDisk (state S.Store conn.new) → (rows : Rows B) → Holds S.Store C.reading (keeper_of conn.old known.old) rows
-        → IsErrOf result KeeperFault.Damaged → ⊥ }
+        → IsUnfit result → ⊥ }
     ensures spent { IsErrOf result KeeperFault.Failed → failures.old ≡ 2 ^ 64 - 1 }
     ensures store { IsErrOf result KeeperFault.Store → failures.old < failures.new }
     ensures counts { failures.old ≤ failures.new }
@@ -321,15 +318,14 @@ pub(crate) fn commit_to<B: Body, C: Coder<B>, S: Alter>(
     ensures known { AreKnown known.new }
     ensures ok { OnOk result ((rows : Rows B) → Holds S.Store C.reading (keeper_of conn.old known.old) rows
         → Holds S.Store C.reading (keeper_of conn.new known.new) (adopted rows change.now)) }
-    ensures found { (rows : Rows B) → Holds S.Store C.reading (keeper_of conn.old known.old) rows
-        → FindsOr (Finds S.Store C.reading) (keeper_of conn.old known.old) (keeper_of conn.new known.new) (adopted rows change.now) }
+    ensures crash { (rows : Rows B) → Holds S.Store C.reading (keeper_of conn.old known.old) rows
+        → LeavesOr S.Store C.reading conn.old conn.new (adopted rows change.now) }
     ensures placed { HasCleanDisk (state S.Store conn.new) → (rows : Rows B) → Holds S.Store C.reading (keeper_of conn.old known.old) rows
         → OnOk result (has_place C.spelling (numbers_in_rows rows) change.now ≡ true) }
     ensures refused { HasCleanDisk (state S.Store conn.new) → IsTrue (state S.Store conn.old).is_open
         → (rows : Rows B) → Holds S.Store C.reading (keeper_of conn.old known.old) rows
         → IfErr result (Refuses (has_place C.spelling (numbers_in_rows rows) change.now ≡ false)) }
-    ensures kept { IsErrOf result KeeperFault.Damaged
-        → FindsNoMore (Finds S.Store C.reading) (keeper_of conn.old known.old) (keeper_of conn.new known.new) }
+    ensures kept { IsErrOf result KeeperFault.Damaged → Survives (state S.Store conn.old) (state S.Store conn.new) (λ _. ⊥) }
     ensures spent { IsErrOf result KeeperFault.Failed → failures.old ≡ 2 ^ 64 - 1 }
     ensures store { IsErrOf result KeeperFault.Store → failures.old < failures.new }
     ensures counts { failures.old ≤ failures.new }
@@ -356,13 +352,13 @@ pub(crate) fn boot_from<B: Body, C: Coder<B>, S: Alter>(
     ensures right { HasCleanDisk (state S.Store conn.new) → (rows : Rows B) → Holds S.Store C.reading (keeper_of conn.old known.old) rows
         → IfOk result (λ booted. booted ≡ raised rows) }
     ensures sound { HasCleanDisk (state S.Store conn.new) → (rows : Rows B) → Holds S.Store C.reading (keeper_of conn.old known.old) rows
-        → IsErrOf result KeeperFault.Damaged → ⊥ }
+        → IsUnfit result → ⊥ }
     ensures clean { doubt (state S.Store conn.old).is_clean ≤ doubt (state S.Store conn.new).is_clean }
     ensures within { IfOk result (λ rows. rows.boot ≤ last_boot) }
     ensures last { HasCleanDisk (state S.Store conn.new) → (rows : Rows B) → Holds S.Store C.reading (keeper_of conn.old known.old) rows
         → IsErrOf result KeeperFault.Boots → last_boot ≤ rows.boot }
-    ensures found { (rows : Rows B) → Holds S.Store C.reading (keeper_of conn.old known.old) rows
-        → FindsOr (Finds S.Store C.reading) (keeper_of conn.old known.old) (keeper_of conn.new known.new) (raised rows) }
+    ensures crash { (rows : Rows B) → Holds S.Store C.reading (keeper_of conn.old known.old) rows
+        → LeavesOr S.Store C.reading conn.old conn.new (raised rows) }
     ensures spent { IsErrOf result KeeperFault.Failed → failures.old ≡ 2 ^ 64 - 1 }
     ensures store { IsErrOf result KeeperFault.Store → failures.old < failures.new }
     ensures counts { failures.old ≤ failures.new }

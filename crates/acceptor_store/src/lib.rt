@@ -3,9 +3,15 @@
 #![tactic(auto)]
 
 mod calls;
+pub mod laws;
 mod sql;
 mod statements;
 mod store;
 mod tables;
 
+pub use command_codec::Coder;
+pub use paxos_packets::{Body, Change, Rows};
 pub use sql::SqlKeeper;
+pub use sqlite::{Alter, Connection, FileStore};
+pub use sqlite_disk::Disk;
+pub use store_keeper::{Keeper, KeeperFault};

@@ -1,4 +1,5 @@
 ghost use Rattle.std.specs.Prelude.{◌≡◌, ◌⊎◌, ◌<◌, ◌≤◌, ◌-◌, ◌^◌, IsTrue, IfOk, IfErr, OnOk, IsErrOf, is_err, Err, None, true, false};
+ghost use Rattle.sqlite_trees.specs.View.{doubt};
 ghost use Rattle.sqlite.specs.Effect.{Database};
 ghost use Rattle.sqlite.specs.Held.{state};
 ghost use Rattle.sqlite.specs.State.{HasCleanDisk, Survives};
@@ -8,7 +9,7 @@ ghost use Rattle.paxos_acceptor.specs.Acceptor.{adopted};
 ghost use Rattle.acceptor_store.specs.Tables.{empty_schema};
 ghost use Rattle.acceptor_store.specs.Statements.{IsFounded};
 ghost use Rattle.acceptor_store.specs.Once.{stored_once};
-ghost use Rattle.acceptor_store.specs.Store.{Stores, Holds, Finds};
+ghost use Rattle.acceptor_store.specs.Store.{Stores, Holds, Finds, LeavesRows};
 ghost use Rattle.store_rows.specs.Numbers.{numbers_in_rows};
 ghost use Rattle.acceptor_store.specs.Answers.{Gives, Tells, Refuses, has_place};
 
@@ -68,22 +69,27 @@ impl<B: Body, C: Coder<B>, S: Alter> SqlKeeper<B, C, S> {
     /// Opens a keeper over the database of this connection, and makes the two tables if the database is empty. It judges nothing else;
     /// `load` does. SQLite's own open has read each page, so opening takes time linear in the file as a whole; this call itself takes none.
     ///
-    /// After a fault, `Store` or `Memory`, the connection is handed back, and the database is still empty, or has the two tables.
+    /// After a fault, `Store` or `Memory`, the connection is handed back, and the database is still empty, or has the two tables. A connection
+    /// inside a transaction is handed back as it is, with `Store`.
     pub fn open(
         alloc: Global,
         conn: Connection<S>,
     ) -> Result<SqlKeeper<B, C, S>, (KeeperFault, Connection<S>)>
-        requires { conn.in_transaction ≡ false }
         ensures fresh { IfOk result (λ k. (k.is_failed ≡ false) × (k.failures ≡ 0) × (k.known ≡ None)) }
         ensures founded { IfOk result (λ k. conn.schema ≡ empty_schema → Holds S.Store C.reading k no_rows) }
         ensures again { IfOk result (λ k. (rows : Rows B) → IsTrue (state S.Store conn).is_open
             → Stores C.reading (state S.Store conn).committed.trees rows → Holds S.Store C.reading k rows) }
         ensures fault { IfErr result (λ e. (e.0 ≡ KeeperFault.Memory) ⊎ (e.0 ≡ KeeperFault.Store)) }
-        ensures alone { IfErr result (λ e. e.1.in_transaction ≡ false) }
+        ensures clean { IfOk result (λ k. doubt (state S.Store conn).is_clean ≤ doubt (state S.Store k.conn).is_clean) }
+        ensures alone { conn.in_transaction ≡ false → IfErr result (λ e. e.1.in_transaction ≡ false) }
+        ensures refused { conn.in_transaction ≡ true → result ≡ Err (KeeperFault.Store, conn) }
         ensures left { IfErr result (λ e. Survives (state S.Store conn) (state S.Store e.1)
             (λ trees. (db : Database) × (conn.schema ≡ empty_schema → IsFounded db) × (trees ≡ db.trees))) }
     {
         let mut conn = conn;
+        if !conn.is_autocommit() {
+            return Err((KeeperFault::Store, conn));
+        }
         match found_where_empty::<B, C, S>(&mut conn) {
             Ok(()) => Ok(SqlKeeper {
                 alloc,
@@ -98,12 +104,15 @@ impl<B: Body, C: Coder<B>, S: Alter> SqlKeeper<B, C, S> {
         }
     }
 
-    /// Returns the connection, with which the store may be opened again: what it held is committed there.
+    /// Returns the connection, with which the store may be opened again: what it held is committed there. After a fault of `commit` or `boot`
+    /// that left the connection open, rows are committed there that the store may find.
     pub fn close(self) -> Connection<S>
         ensures same { result ≡ self.conn }
         ensures alone { result.in_transaction ≡ false }
         ensures stored { HasCleanDisk (state S.Store result) → IsTrue (state S.Store result).is_open → (rows : Rows B) → Holds S.Store C.reading self rows
             → Stores C.reading (state S.Store result).committed.trees rows }
+        ensures left { HasCleanDisk (state S.Store result) → IsTrue (state S.Store result).is_open → LeavesRows S.Store C.reading self
+            → (rows : Rows B) × Finds S.Store C.reading self rows × Stores C.reading (state S.Store result).committed.trees rows }
     {
         let SqlKeeper {
             alloc: _,
@@ -124,6 +133,8 @@ impl<B: Body, C: Coder<B>, S: Alter> Keeper<B> for SqlKeeper<B, C, S> {
 
     ghost finds = { Finds S.Store C.reading };
 
+    ghost leaves_rows = { LeavesRows S.Store C.reading };
+
     ghost is_faithful = { λ k. HasCleanDisk (state S.Store k.conn) };
 
     ghost is_failed = { λ k. k.is_failed };
@@ -140,8 +151,10 @@ impl<B: Body, C: Coder<B>, S: Alter> Keeper<B> for SqlKeeper<B, C, S> {
         ensures held { IfOk result (Holds S.Store C.reading self.new) }
         ensures right { HasCleanDisk (state S.Store self.new.conn) → (r : Rows B) → Holds S.Store C.reading self.old r → IfOk result (λ x. x ≡ r) }
         ensures sound { HasCleanDisk (state S.Store self.new.conn) → (r : Rows B) → Holds S.Store C.reading self.old r → IsErrOf result KeeperFault.Damaged → ⊥ }
+        ensures current { HasCleanDisk (state S.Store self.new.conn) → (r : Rows B) → Holds S.Store C.reading self.old r → IsErrOf result KeeperFault.Version → ⊥ }
         ensures same { (r : Rows B) → Holds S.Store C.reading self.old r → Holds S.Store C.reading self.new r }
         ensures found { FindsNoMore (Finds S.Store C.reading) self.old self.new }
+        ensures left { LeavesRows S.Store C.reading self.old → LeavesRows S.Store C.reading self.new }
         ensures stays { self.new.is_failed ≡ self.old.is_failed }
         ensures again { self.old.is_failed ≡ true → result ≡ Err KeeperFault.Failed }
         ensures spent { IsErrOf result KeeperFault.Failed → (self.old.is_failed ≡ true) ⊎ (self.old.failures ≡ 2 ^ 64 - 1) }
@@ -174,9 +187,11 @@ impl<B: Body, C: Coder<B>, S: Alter> Keeper<B> for SqlKeeper<B, C, S> {
         ensures kept { IsErrOf result KeeperFault.Damaged → FindsNoMore (Finds S.Store C.reading) self.old self.new }
         ensures ok { OnOk result ((r : Rows B) → Holds S.Store C.reading self.old r → Holds S.Store C.reading self.new (adopted r change.now)) }
         ensures found { (r : Rows B) → Holds S.Store C.reading self.old r → FindsOr (Finds S.Store C.reading) self.old self.new (adopted r change.now) }
+        ensures left { (r : Rows B) → Holds S.Store C.reading self.old r → LeavesRows S.Store C.reading self.new }
         ensures fails { self.new.is_failed ≡ is_err result }
         ensures again { self.old.is_failed ≡ true → result ≡ Err KeeperFault.Failed }
         ensures unchanged { self.old.is_failed ≡ true → FindsNoMore (Finds S.Store C.reading) self.old self.new }
+        ensures untouched { self.old.is_failed ≡ true → LeavesRows S.Store C.reading self.old → LeavesRows S.Store C.reading self.new }
         ensures spent { IsErrOf result KeeperFault.Failed → (self.old.is_failed ≡ true) ⊎ (self.old.failures ≡ 2 ^ 64 - 1) }
         ensures store { IsErrOf result KeeperFault.Store → self.old.failures < self.new.failures }
         ensures counts { self.old.failures ≤ self.new.failures }
@@ -215,6 +230,8 @@ impl<B: Body, C: Coder<B>, S: Alter> Keeper<B> for SqlKeeper<B, C, S> {
     fn failures(&self) -> u64 {
         self.failures
     }
+
+    ghost kept = { λ k r holds clean trees may. (r, (holds clean).0 trees may) };
 
     ghost only = { λ k rows found holds finds. stored_once C.reading finds.1.0 rows found ((holds finds.0).0 finds.1.0 finds.1.1) finds.1.2 };
 }

@@ -13,7 +13,7 @@ ghost use Rattle.command_codec.specs.Entry.{entry_reading, entry_spelling};
 ghost use Rattle.acceptor_store.specs.Tables.{store_schema, empty_schema};
 ghost use Rattle.acceptor_store.specs.Statements.{IsFounded};
 ghost use Rattle.store_rows.specs.Faults.{LiesBelow};
-ghost use Rattle.acceptor_store.specs.Answers.{Gives, Tells, Refuses, are_spelled};
+ghost use Rattle.acceptor_store.specs.Answers.{Gives, Tells, Refuses, IsUnfit, are_spelled};
 ghost use Rattle.acceptor_store.specs.Store.{Reads, written, Leaves, Follows, GoesOn, Wrote, Stores};
 ghost use Rattle.store_rows.specs.Numbers.{numbers_in_rows, is_ballot, are_numbers};
 ghost use Rattle.store_rows.specs.Changes.{is_placed};
@@ -239,7 +239,7 @@ pub(crate) fn read_store<B: Body, C: Coder<B>, S: Alter>(
         → IfOk result (λ read. read ≡ rows) }
     ensures gives { HasCleanDisk (state S.Store conn.new) → IfOk result (Gives C.reading (state S.Store conn.old).now) }
     ensures tells { HasCleanDisk (state S.Store conn.new) → IfErr result (Tells C.reading (state S.Store conn.old).now) }
-    ensures open { HasCleanDisk (state S.Store conn.new) → IsErrOf result KeeperFault.Damaged → IsTrue (state S.Store conn.old).is_open }
+    ensures open { HasCleanDisk (state S.Store conn.new) → IsUnfit result → IsTrue (state S.Store conn.old).is_open }
     ensures survives { Survives (state S.Store conn.old) (state S.Store conn.new) (λ _. ⊥) }
     ensures below { IfErr result LiesBelow }
     ensures numbers { IfOk result (λ rows. are_numbers (numbers_in_rows rows) ≡ true) }
@@ -264,7 +264,7 @@ fn read_in_tables<B: Body, C: Coder<B>, S: Alter>(
         → IfOk result (λ read. read ≡ rows) }
     ensures gives { HasCleanDisk (state S.Store conn.new) → IfOk result (Gives C.reading (state S.Store conn.old).now) }
     ensures tells { HasCleanDisk (state S.Store conn.new) → IfErr result (Tells C.reading (state S.Store conn.old).now) }
-    ensures open { HasCleanDisk (state S.Store conn.new) → IsErrOf result KeeperFault.Damaged → IsTrue (state S.Store conn.old).is_open }
+    ensures open { HasCleanDisk (state S.Store conn.new) → IsUnfit result → IsTrue (state S.Store conn.old).is_open }
     ensures survives { Survives (state S.Store conn.old) (state S.Store conn.new) (λ _. ⊥) }
     ensures below { IfErr result LiesBelow }
     ensures numbers { IfOk result (λ rows. are_numbers (numbers_in_rows rows) ≡ true) }

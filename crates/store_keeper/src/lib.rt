@@ -9,3 +9,4 @@ mod memory;
 pub use fault::KeeperFault;
 pub use keeper::Keeper;
 pub use memory::MemKeeper;
+pub use paxos_packets::{Body, Change, Memory, Rows};

@@ -102,6 +102,8 @@ impl<B: Body> Keeper<B> for MemKeeper<B> {
 
     ghost finds = { λ k rows. rows ≡ k.rows };
 
+    ghost leaves_rows = { λ _. Unit {0} };
+
     ghost is_faithful = { λ _. Unit {0} };
 
     ghost is_failed = { λ k. k.is_failed };
@@ -162,6 +164,8 @@ impl<B: Body> Keeper<B> for MemKeeper<B> {
     fn failures(&self) -> u64 {
         self.failures
     }
+
+    ghost kept = { λ k r held. tt };
 
     ghost only = { λ k r x held found. found ∙ sym held };
 }

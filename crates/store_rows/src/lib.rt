@@ -8,4 +8,8 @@ mod rows;
 
 pub use boots::raise_boot;
 pub use changes::numbers_after;
+pub use command_codec::Coder;
+pub use paxos_packets::{Ballot, Change, Rows};
 pub use rows::{Numbers, read_rows};
+pub use sqlite::Row;
+pub use store_keeper::KeeperFault;

@@ -7,4 +7,4 @@ returns-in-Err-clause-refused g c clean is_open rows holds =
     refuses_told _ c.in-Err.fault c.count_refusal.result (c.in-Err.ensures.refused clean is_open rows holds) c.count_refusal.ensures.fault
 
 pub returns-in-Err-clause-kept : goal.returns-in-Err-clause-kept
-returns-in-Err-clause-kept g c damaged x h = c.write.ensures.kept (c.in-Err.is ∙ ap Err (told_damaged c.in-Err.fault c.count_refusal.result c.count_refusal.ensures.fault damaged)) x h
+returns-in-Err-clause-kept g c damaged = c.write.ensures.kept (c.in-Err.is ∙ ap Err (told_damaged c.in-Err.fault c.count_refusal.result c.count_refusal.ensures.fault damaged))

@@ -1,10 +1,10 @@
-use Rattle.std.proofs.Common.{◌≡◌, true, [], inl, inr, ⊎_elim, ap, sym, subst, ◌∙◌}
+use Rattle.std.proofs.Common.{◌≡◌, ◌⊎◌, true, ap, sym, subst, ◌∙◌}
 use Rattle.sqlite.specs.Held.{state}
 use Rattle.paxos_packets.specs.Rows.{raised}
 use Rattle.store_rows.specs.Numbers.{are_numbers, numbers_in_rows}
-use Rattle.acceptor_store.specs.Store.{Leaves, written}
+use Rattle.acceptor_store.specs.Store.{Leaves, Stores}
 use Rattle.acceptor_store.specs.Calls.{AreKnown}
-use Rattle.acceptor_store.proofs.Calling.{earlier, raises, found_or}
+use Rattle.acceptor_store.proofs.Calling.{earlier, raises, leaves_none, leaves_then}
 use Rattle.acceptor_store.proofs.calls.raise.Goals as goal
 
 pub returns-clause-held : goal.returns-clause-held
@@ -23,30 +23,6 @@ returns-clause-right g c clean others holds =
     c.in_ok-raise_boot.ensures.raised
     ∙ ap raised (c.in_ok-rows.ensures.right (earlier g.S.Store c.read.new.conn c.put_numbers.new.conn c.put_numbers.ensures.clean clean) others holds)
 
-pub returns-clause-found : goal.returns-clause-found
-returns-clause-found g c others holds x h =
-    let mid = c.read.new.conn in
-    let new = c.put_numbers.new.conn in
-    let rows = c.in_ok-rows.rows in
-    let k = raises rows c.numbers_in-numbers.result (c.numbers_in-numbers.ensures ∙ ap numbers_in_rows c.in_ok-raise_boot.ensures.raised) in
-    let early = earlier g.S.Store mid new c.put_numbers.ensures.clean h.0 in
-    let same = c.in_ok-rows.ensures.right early others holds in
-    let made = c.put_numbers.ensures.found h.0 rows (c.in_ok-rows.ensures.held early).0 k.0 in
-    ⊎_elim (λ f. inl (c.read.ensures.found x f)) (λ e. inr (e ∙ k.1 ∙ ap raised same))
-    (found_or g.S.Store g.C.Coder.reading mid new (written c.numbers_in-numbers.result [] rows) early made x h)
-
-pub returns-in_err-put_numbers-clause-found : goal.returns-in_err-put_numbers-clause-found
-returns-in_err-put_numbers-clause-found g c others holds x h =
-    let mid = c.read.new.conn in
-    let new = c.put_numbers.new.conn in
-    let rows = c.in_ok-rows.rows in
-    let k = raises rows c.numbers_in-numbers.result (c.numbers_in-numbers.ensures ∙ ap numbers_in_rows c.in_ok-raise_boot.ensures.raised) in
-    let early = earlier g.S.Store mid new c.put_numbers.ensures.clean h.0 in
-    let same = c.in_ok-rows.ensures.right early others holds in
-    let made = c.put_numbers.ensures.found h.0 rows (c.in_ok-rows.ensures.held early).0 k.0 in
-    ⊎_elim (λ f. inl (c.read.ensures.found x f)) (λ e. inr (e ∙ k.1 ∙ ap raised same))
-    (found_or g.S.Store g.C.Coder.reading mid new (written c.numbers_in-numbers.result [] rows) early made x h)
-
 pub put_numbers-requires-clause-numbers : goal.put_numbers-requires-clause-numbers
 put_numbers-requires-clause-numbers g c =
     let known : are_numbers (numbers_in_rows c.in_ok-rows.rows) ≡ true = subst AreKnown c.in_ok-rows.ensures.told c.read.ensures.known in
@@ -57,8 +33,32 @@ returns-clause-known g c =
     let known : are_numbers (numbers_in_rows c.in_ok-rows.rows) ≡ true = subst AreKnown c.in_ok-rows.ensures.told c.read.ensures.known in
     subst (λ n. are_numbers n ≡ true) (sym c.numbers_in-numbers.ensures) (c.in_ok-raise_boot.ensures.numbers known)
 
-pub returns-in_err-rows-clause-found : goal.returns-in_err-rows-clause-found
-returns-in_err-rows-clause-found g c others holds x h = inl (c.read.ensures.found x h)
+pub returns-clause-crash : goal.returns-clause-crash
+returns-clause-crash g c others holds =
+    let mid = c.read.new.conn in
+    let new = c.put_numbers.new.conn in
+    let rows = c.in_ok-rows.rows in
+    let k = raises rows c.numbers_in-numbers.result (c.numbers_in-numbers.ensures ∙ ap numbers_in_rows c.in_ok-raise_boot.ensures.raised) in
+    leaves_then g.S.Store g.C.Coder.reading c.args.conn.now mid new (raised others) c.read.ensures.survives c.put_numbers.ensures.clean (λ clean trees may.
+    let early = earlier g.S.Store mid new c.put_numbers.ensures.clean clean in
+    subst (λ next. (state g.S.Store mid).may_leave trees ⊎ Stores g.C.Coder.reading trees next) (k.1 ∙ ap raised (c.in_ok-rows.ensures.right early others holds))
+    (c.put_numbers.ensures.found clean rows (c.in_ok-rows.ensures.held early).0 k.0 trees may))
 
-pub returns-in_err-raise_boot-clause-found : goal.returns-in_err-raise_boot-clause-found
-returns-in_err-raise_boot-clause-found g c others holds x h = inl (c.read.ensures.found x h)
+pub returns-in_err-put_numbers-clause-crash : goal.returns-in_err-put_numbers-clause-crash
+returns-in_err-put_numbers-clause-crash g c others holds =
+    let mid = c.read.new.conn in
+    let new = c.put_numbers.new.conn in
+    let rows = c.in_ok-rows.rows in
+    let k = raises rows c.numbers_in-numbers.result (c.numbers_in-numbers.ensures ∙ ap numbers_in_rows c.in_ok-raise_boot.ensures.raised) in
+    leaves_then g.S.Store g.C.Coder.reading c.args.conn.now mid new (raised others) c.read.ensures.survives c.put_numbers.ensures.clean (λ clean trees may.
+    let early = earlier g.S.Store mid new c.put_numbers.ensures.clean clean in
+    subst (λ next. (state g.S.Store mid).may_leave trees ⊎ Stores g.C.Coder.reading trees next) (k.1 ∙ ap raised (c.in_ok-rows.ensures.right early others holds))
+    (c.put_numbers.ensures.found clean rows (c.in_ok-rows.ensures.held early).0 k.0 trees may))
+
+pub returns-in_err-rows-clause-crash : goal.returns-in_err-rows-clause-crash
+returns-in_err-rows-clause-crash g c others holds =
+    leaves_none g.S.Store g.C.Coder.reading c.args.conn.now c.read.new.conn (raised others) c.read.ensures.survives
+
+pub returns-in_err-raise_boot-clause-crash : goal.returns-in_err-raise_boot-clause-crash
+returns-in_err-raise_boot-clause-crash g c others holds =
+    leaves_none g.S.Store g.C.Coder.reading c.args.conn.now c.read.new.conn (raised others) c.read.ensures.survives

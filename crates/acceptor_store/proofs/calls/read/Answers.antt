@@ -2,9 +2,10 @@ use Rattle.std.proofs.Common.{◌≡◌, ◌∙◌, ap, sym, subst, true, Some, 
 use Rattle.std.specs.Prelude.{Err}
 use Rattle.sqlite.specs.Held.{state}
 use Rattle.store_rows.specs.Numbers.{numbers_in_rows, are_numbers}
+use Rattle.acceptor_store.specs.Answers.{IsUnfit}
 use Rattle.acceptor_store.proofs.Keeping.{leaves_on, left_reads}
-use Rattle.acceptor_store.proofs.Calling.{earlier, found_no_more, held_on}
-use Rattle.acceptor_store.proofs.Refusing.{held_whole, same_fault}
+use Rattle.acceptor_store.proofs.Calling.{earlier, held_on}
+use Rattle.acceptor_store.proofs.Refusing.{held_fit}
 use Rattle.acceptor_store.proofs.calls.read.Goals as goal
 
 pub returns-clause-right : goal.returns-clause-right
@@ -18,17 +19,9 @@ returns-clause-kept g c rows holds clean =
       c.numbers_in.ensures ∙ ap numbers_in_rows (c.in_ok-rows.ensures.right clean rows left),
     )
 
-pub returns-clause-found : goal.returns-clause-found
-returns-clause-found g c x found =
-    found_no_more g.S.Store g.C.Coder.reading c.args.conn.now c.read_store.new.conn c.read_store.ensures.survives x found
-
 pub returns-in_err-rows-clause-kept : goal.returns-in_err-rows-clause-kept
 returns-in_err-rows-clause-kept g c rows holds =
     held_on g.S.Store g.C.Coder.reading c.args.conn.now c.read_store.new.conn c.args.known.now rows c.read_store.ensures.survives holds
-
-pub returns-in_err-rows-clause-found : goal.returns-in_err-rows-clause-found
-returns-in_err-rows-clause-found g c x found =
-    found_no_more g.S.Store g.C.Coder.reading c.args.conn.now c.read_store.new.conn c.read_store.ensures.survives x found
 
 pub returns-clause-known : goal.returns-clause-known
 returns-clause-known g c = subst (λ n. are_numbers n ≡ true) (sym c.numbers_in.ensures) c.in_ok-rows.ensures.numbers
@@ -37,12 +30,12 @@ pub returns-clause-told : goal.returns-clause-told
 returns-clause-told g c = ap Some c.numbers_in.ensures
 
 pub returns-in_err-rows-clause-sound : goal.returns-in_err-rows-clause-sound
-returns-in_err-rows-clause-sound g c clean rows holds damaged =
+returns-in_err-rows-clause-sound g c clean rows holds unfit =
     let old = state g.S.Store c.args.conn.now in
     let left = (holds (earlier g.S.Store c.args.conn.now c.read_store.new.conn c.read_store.ensures.survives.clean clean)).0 in
     let given : c.from_residual.result ≡ Err c.in_err-rows.field-0.0 = search rules in
     let read : c.read_store.result ≡ Err c.in_err-rows.field-0.0 = search rules in
-    let is = same_fault (sym given ∙ damaged) in
-    let is_open = c.read_store.ensures.open clean (read ∙ ap Err is) in
+    let told = subst IsUnfit given unfit in
+    let is_open = c.read_store.ensures.open clean (subst IsUnfit (sym read) told) in
     let has = left_reads g.C.Coder.reading old rows c.settle.ensures.live (c.settle.ensures.settled c.requires.alone is_open) is_open (c.settle.ensures.stays is_open) left in
-    held_whole g.C.Coder.reading old.now rows c.in_err-rows.field-0.0 has (c.in_err-rows.ensures.tells clean) is
+    held_fit g.C.Coder.reading old.now rows c.in_err-rows.field-0.0 has (c.in_err-rows.ensures.tells clean) told

@@ -1,14 +1,16 @@
-use Rattle.std.proofs.Common.{false, ◌≡◌, inl, inr, ⊎_elim, ap, sym, subst, ◌∙◌, true, List, rules}
+use Rattle.std.proofs.Common.{false, ◌≡◌, ◌⊎◌, ap, sym, subst, ◌∙◌, true, List, rules}
 use Rattle.std.specs.Prelude.{Err, IfErr}
 use Rattle.std.specs.List.{AllByRecursion}
 use Rattle.sqlite.specs.Held.{state}
+use Rattle.sqlite.proofs.StateLemmas.{survives_then}
 use Rattle.paxos_packets.specs.declared.vote.Vote.{Vote}
-use Rattle.acceptor_store.specs.Store.{Leaves, Agrees, written}
+use Rattle.paxos_acceptor.specs.Acceptor.{adopted}
+use Rattle.acceptor_store.specs.Store.{Stores, Leaves, Agrees, written}
 use Rattle.store_rows.specs.Numbers.{numbers_in_rows}
 use Rattle.store_rows.specs.Changes.{is_placed}
 use Rattle.acceptor_store.specs.Calls.{AreKnown}
 use Rattle.acceptor_store.proofs.Changing.{places}
-use Rattle.acceptor_store.proofs.Calling.{earlier, adopts, not_lower, found_or, found_no_more}
+use Rattle.acceptor_store.proofs.Calling.{earlier, adopts, not_lower, leaves_none, leaves_then}
 use Rattle.store_keeper.specs.declared.fault.KeeperFault.TheVariants.{Damaged}
 use Rattle.acceptor_store.specs.Answers.{Refuses, are_spelled, has_place}
 use Rattle.acceptor_store.proofs.Refusing.{placed, unplaced, unspelled, refuses_for, same_fault}
@@ -27,44 +29,6 @@ returns-clause-ok g c rows holds clean =
     let adopt = ap (λ (vs : List (Vote g.row.B.Denot)). written next vs rows) c.as_slice.ensures.votes ∙ adopts before next change rows p same in
     let left = c.in_ok-commit_over.ensures.ok clean rows held.0 same (not_lower before next change rows p same) placed in
     (subst (Leaves g.C.Coder.reading (state g.S.Store c.commit_over.new.conn)) adopt left, ap numbers_in_rows adopt)
-
-pub returns-clause-found : goal.returns-clause-found
-returns-clause-found g c rows holds x h =
-    let mid = c.numbers.new.conn in
-    let before = c.in_ok-before.before in
-    let next = c.in-Some.next in
-    let change = c.args.change.now in
-    let early = earlier g.S.Store mid c.commit_over.new.conn c.commit_over.ensures.clean h.0 in
-    let held = c.numbers.ensures.kept rows holds early in
-    let same : before ≡ numbers_in_rows rows = subst (λ k. Agrees k rows) c.in_ok-before.ensures.told held.1 in
-    let p = places before change next (sym c.in-Some.ensures) in
-    let placed = subst (AllByRecursion (λ v. is_placed next.promised v ≡ true)) (sym c.as_slice.ensures.votes) p.placed in
-    let adopt = ap (λ (vs : List (Vote g.row.B.Denot)). written next vs rows) c.as_slice.ensures.votes ∙ adopts before next change rows p same in
-    let made = c.commit_over.ensures.found h.0 rows held.0 same (not_lower before next change rows p same) placed in
-    ⊎_elim (λ f. inl (c.numbers.ensures.found x f)) (λ e. inr (e ∙ adopt))
-    (found_or g.S.Store g.C.Coder.reading mid c.commit_over.new.conn (written next c.as_slice.result.now rows) early made x h)
-
-pub returns-in_err-commit_over-clause-found : goal.returns-in_err-commit_over-clause-found
-returns-in_err-commit_over-clause-found g c rows holds x h =
-    let mid = c.numbers.new.conn in
-    let before = c.in_ok-before.before in
-    let next = c.in-Some.next in
-    let change = c.args.change.now in
-    let early = earlier g.S.Store mid c.commit_over.new.conn c.commit_over.ensures.clean h.0 in
-    let held = c.numbers.ensures.kept rows holds early in
-    let same : before ≡ numbers_in_rows rows = subst (λ k. Agrees k rows) c.in_ok-before.ensures.told held.1 in
-    let p = places before change next (sym c.in-Some.ensures) in
-    let placed = subst (AllByRecursion (λ v. is_placed next.promised v ≡ true)) (sym c.as_slice.ensures.votes) p.placed in
-    let adopt = ap (λ (vs : List (Vote g.row.B.Denot)). written next vs rows) c.as_slice.ensures.votes ∙ adopts before next change rows p same in
-    let made = c.commit_over.ensures.found h.0 rows held.0 same (not_lower before next change rows p same) placed in
-    ⊎_elim (λ f. inl (c.numbers.ensures.found x f)) (λ e. inr (e ∙ adopt))
-    (found_or g.S.Store g.C.Coder.reading mid c.commit_over.new.conn (written next c.as_slice.result.now rows) early made x h)
-
-pub returns-in_err-before-clause-found : goal.returns-in_err-before-clause-found
-returns-in_err-before-clause-found g c rows holds x h = inl (c.numbers.ensures.found x h)
-
-pub returns-in_default-clause-found : goal.returns-in_default-clause-found
-returns-in_default-clause-found g c rows holds x h = inl (c.numbers.ensures.found x h)
 
 pub commit_over-requires-clause-numbers : goal.commit_over-requires-clause-numbers
 commit_over-requires-clause-numbers g c =
@@ -117,14 +81,49 @@ returns-in_err-commit_over-clause-refused g c clean is_open rows holds =
     (unspelled spelling before change c.in-Some.next (sym c.in-Some.ensures) (subst (λ vs. are_spelled spelling vs ≡ false) c.as_slice.ensures.votes no)))
     c.in_err-commit_over.ensures.refused)
 
-pub returns-in_err-before-clause-kept : goal.returns-in_err-before-clause-kept
-returns-in_err-before-clause-kept g c damaged x h = c.numbers.ensures.found x h
+pub returns-clause-crash : goal.returns-clause-crash
+returns-clause-crash g c rows holds =
+    let mid = c.numbers.new.conn in
+    let new = c.commit_over.new.conn in
+    let before = c.in_ok-before.before in
+    let next = c.in-Some.next in
+    let change = c.args.change.now in
+    leaves_then g.S.Store g.C.Coder.reading c.args.conn.now mid new (adopted rows change) c.numbers.ensures.survives c.commit_over.ensures.clean (λ clean trees may.
+    let held = c.numbers.ensures.kept rows holds (earlier g.S.Store mid new c.commit_over.ensures.clean clean) in
+    let same : before ≡ numbers_in_rows rows = subst (λ k. Agrees k rows) c.in_ok-before.ensures.told held.1 in
+    let p = places before change next (sym c.in-Some.ensures) in
+    let placed = subst (AllByRecursion (λ v. is_placed next.promised v ≡ true)) (sym c.as_slice.ensures.votes) p.placed in
+    let adopt = ap (λ (vs : List (Vote g.row.B.Denot)). written next vs rows) c.as_slice.ensures.votes ∙ adopts before next change rows p same in
+    subst (λ made. (state g.S.Store mid).may_leave trees ⊎ Stores g.C.Coder.reading trees made) adopt
+    (c.commit_over.ensures.found clean rows held.0 same (not_lower before next change rows p same) placed trees may))
 
-pub returns-in_default-clause-kept : goal.returns-in_default-clause-kept
-returns-in_default-clause-kept g c damaged x h = c.numbers.ensures.found x h
+pub returns-in_err-commit_over-clause-crash : goal.returns-in_err-commit_over-clause-crash
+returns-in_err-commit_over-clause-crash g c rows holds =
+    let mid = c.numbers.new.conn in
+    let new = c.commit_over.new.conn in
+    let before = c.in_ok-before.before in
+    let next = c.in-Some.next in
+    let change = c.args.change.now in
+    leaves_then g.S.Store g.C.Coder.reading c.args.conn.now mid new (adopted rows change) c.numbers.ensures.survives c.commit_over.ensures.clean (λ clean trees may.
+    let held = c.numbers.ensures.kept rows holds (earlier g.S.Store mid new c.commit_over.ensures.clean clean) in
+    let same : before ≡ numbers_in_rows rows = subst (λ k. Agrees k rows) c.in_ok-before.ensures.told held.1 in
+    let p = places before change next (sym c.in-Some.ensures) in
+    let placed = subst (AllByRecursion (λ v. is_placed next.promised v ≡ true)) (sym c.as_slice.ensures.votes) p.placed in
+    let adopt = ap (λ (vs : List (Vote g.row.B.Denot)). written next vs rows) c.as_slice.ensures.votes ∙ adopts before next change rows p same in
+    subst (λ made. (state g.S.Store mid).may_leave trees ⊎ Stores g.C.Coder.reading trees made) adopt
+    (c.commit_over.ensures.found clean rows held.0 same (not_lower before next change rows p same) placed trees may))
+
+pub returns-in_err-before-clause-crash : goal.returns-in_err-before-clause-crash
+returns-in_err-before-clause-crash g c rows holds =
+    leaves_none g.S.Store g.C.Coder.reading c.args.conn.now c.numbers.new.conn (adopted rows c.args.change.now) c.numbers.ensures.survives
+
+pub returns-in_default-clause-crash : goal.returns-in_default-clause-crash
+returns-in_default-clause-crash g c rows holds =
+    leaves_none g.S.Store g.C.Coder.reading c.args.conn.now c.numbers.new.conn (adopted rows c.args.change.now) c.numbers.ensures.survives
 
 pub returns-in_err-commit_over-clause-kept : goal.returns-in_err-commit_over-clause-kept
-returns-in_err-commit_over-clause-kept g c damaged x h =
+returns-in_err-commit_over-clause-kept g c damaged =
     let given : c.from_residual-in_err-commit_over.result ≡ Err c.in_err-commit_over.field-0.0 = search rules in
     let same : c.in_err-commit_over.field-0.0 ≡ Damaged = same_fault (sym given ∙ damaged) in
-    c.numbers.ensures.found x (found_no_more g.S.Store g.C.Coder.reading c.numbers.new.conn c.commit_over.new.conn (c.commit_over.ensures.kept (c.in_err-commit_over.was ∙ ap Err same)) x h)
+    survives_then (state g.S.Store c.args.conn.now) (state g.S.Store c.numbers.new.conn) (state g.S.Store c.commit_over.new.conn) (λ _. ⊥) (λ _. ⊥) (λ _. ⊥)
+    (λ _ trees none. none) (λ _ trees none. none) c.numbers.ensures.survives (c.commit_over.ensures.kept (c.in_err-commit_over.was ∙ ap Err same))

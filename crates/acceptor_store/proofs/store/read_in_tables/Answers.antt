@@ -5,7 +5,7 @@ use Rattle.sqlite.specs.Effect.{Database}
 use Rattle.sqlite.specs.Held.{state}
 use Rattle.acceptor_store.specs.Tables.{meta_columns, vote_columns}
 use Rattle.acceptor_store.proofs.Keeping.{reads_left, read_stores, read_right, leaves_on}
-use Rattle.acceptor_store.specs.Answers.{Tells}
+use Rattle.acceptor_store.specs.Answers.{Tells, IsUnfit}
 use Rattle.acceptor_store.proofs.Telling.{read_same, tells_rows, tells_conn}
 use Rattle.acceptor_store.proofs.Refusing.{conn_whole}
 use Rattle.acceptor_store.proofs.store.read_in_tables.Goals as goal
@@ -65,9 +65,9 @@ returns-in_err-metas-clause-tells g c clean =
     (tells_conn g.C.Coder.reading db c.in_err-metas.field-0.0 c.in_err-metas.ensures.fault)
 
 pub returns-clause-open : goal.returns-clause-open
-returns-clause-open g c clean damaged = (c.in_ok-metas.ensures.same clean).0.was_open
+returns-clause-open g c clean unfit = (c.in_ok-metas.ensures.same clean).0.was_open
 
 pub returns-in_err-metas-clause-open : goal.returns-in_err-metas-clause-open
-returns-in_err-metas-clause-open g c clean damaged =
+returns-in_err-metas-clause-open g c clean unfit =
     let given : c.from_residual.result ≡ Err c.in_err-metas.field-0.0 = search rules in
-    conn_whole c.in_err-metas.field-0.0 c.in_err-metas.ensures.fault (sym given ∙ damaged)
+    conn_whole c.in_err-metas.field-0.0 c.in_err-metas.ensures.fault (subst IsUnfit given unfit)

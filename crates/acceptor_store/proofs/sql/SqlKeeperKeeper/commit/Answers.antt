@@ -2,6 +2,7 @@ use Rattle.std.proofs.Common.{inl, inr, ⊎_elim, sym, subst, IsTrue, rules}
 use Rattle.std.proofs.lemmas.Result.{on_ok_weaker}
 use Rattle.sqlite.specs.Held.{state}
 use Rattle.acceptor_store.specs.Store.{Holds, Finds}
+use Rattle.acceptor_store.proofs.Calling.{found_no_more, found_or, rows_or}
 use Rattle.acceptor_store.proofs.sql.SqlKeeperKeeper.commit.Goals as goal
 
 pub returns-clause-ok : goal.returns-clause-ok
@@ -11,7 +12,12 @@ returns-clause-ok g c =
 pub returns-clause-found : goal.returns-clause-found
 returns-clause-found g c rows holds x found =
     ⊎_elim (λ was. inl (subst (λ k. Finds g.S.Store g.C.Coder.reading k x) c.self.view_is was)) (λ next. inr next)
-    (c.commit_to-done.ensures.found rows (subst (λ k. Holds g.S.Store g.C.Coder.reading k rows) (sym c.self.view_is) holds) x found)
+    (found_or g.S.Store g.C.Coder.reading _ c.commit_to-done.new.conn _ (c.commit_to-done.ensures.crash rows (subst (λ k. Holds g.S.Store g.C.Coder.reading k rows) (sym c.self.view_is) holds)) x found)
+
+pub returns-clause-left : goal.returns-clause-left
+returns-clause-left g c rows holds =
+    let held = subst (λ k. Holds g.S.Store g.C.Coder.reading k rows) (sym c.self.view_is) holds in
+    rows_or g.S.Store g.C.Coder.reading _ c.commit_to-done.new.conn _ rows _ (c.commit_to-done.ensures.crash rows held) held
 
 pub returns-clause-placed : goal.returns-clause-placed
 returns-clause-placed g c clean rows holds =
@@ -23,7 +29,7 @@ returns-clause-refused g c clean is_open rows holds =
     (subst (λ k. Holds g.S.Store g.C.Coder.reading k rows) (sym c.self.view_is) holds)
 
 pub returns-clause-kept : goal.returns-clause-kept
-returns-clause-kept g c damaged x found = subst (λ k. Finds g.S.Store g.C.Coder.reading k x) c.self.view_is (c.commit_to-done.ensures.kept damaged x found)
+returns-clause-kept g c damaged x found = subst (λ k. Finds g.S.Store g.C.Coder.reading k x) c.self.view_is (found_no_more g.S.Store g.C.Coder.reading c.self.inside.conn c.commit_to-done.new.conn (c.commit_to-done.ensures.kept damaged) x found)
 
 pub returns-clause-fails : goal.returns-clause-fails
 returns-clause-fails g c = search rules
