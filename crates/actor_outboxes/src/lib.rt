@@ -5,3 +5,4 @@
 mod outboxes;
 
 pub use outboxes::Outboxes;
+pub use paxos_packets::{Members, Memory, Packet};

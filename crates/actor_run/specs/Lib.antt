@@ -1,3 +1,4 @@
 pub mod Events
 pub mod Answers
 pub mod Runs
+pub mod Seen

@@ -7,6 +7,7 @@ ghost use Rattle.node_actor.specs.Calls.{is_own};
 ghost use Rattle.actor_run.specs.Answers.{says_of, IsQuiet, Gets, Answered};
 ghost use Rattle.actor_run.specs.Events.{asked_by};
 ghost use Rattle.actor_run.specs.Runs.{Outset, Underway, Waits, Makes, Keeps};
+ghost use Rattle.actor_run.specs.Seen.{count_for, counts, Shows};
 
 use crate::feed::{Feed, Seen};
 use mail_table::Mail;
@@ -15,18 +16,32 @@ use node_actor::{Actor, ActorFault, Event, Keeper, Machine};
 // How many events may be made before a turn.
 const EVENTS_A_TURN: u8 = 64;
 
+// Returns how many packets wait for this member, 65,535 if there are more.
+fn count_for<M: Machine, K: Keeper<M::Body>>(actor: &Actor<M, K>, peer: u8) -> u16
+    ensures { result ≡ count_for peer actor.now.waiting }
+{
+    actor.waiting_for(peer).min(65_535) as u16
+}
+
 // Returns how many packets wait for each member, member 1 first.
-fn waiting_of<M: Machine, K: Keeper<M::Body>>(actor: &Actor<M, K>) -> [u16; 7] {
-    let mut waiting = [0; 7];
-    for below in 0..7u8 {
-        let count = actor.waiting_for(below + 1);
-        waiting[usize::from(below)] = u16::try_from(count).unwrap_or(u16::MAX);
-    }
-    waiting
+fn waiting_of<M: Machine, K: Keeper<M::Body>>(actor: &Actor<M, K>) -> [u16; 7]
+    ensures { result ≡ counts actor.now.waiting }
+{
+    [
+        count_for(actor, 1),
+        count_for(actor, 2),
+        count_for(actor, 3),
+        count_for(actor, 4),
+        count_for(actor, 5),
+        count_for(actor, 6),
+        count_for(actor, 7),
+    ]
 }
 
 // Returns what the feed is given.
-fn seen_by<M: Machine, K: Keeper<M::Body>>(actor: &Actor<M, K>) -> Seen {
+fn seen_by<M: Machine, K: Keeper<M::Body>>(actor: &Actor<M, K>) -> Seen
+    ensures { Shows actor.now result }
+{
     Seen {
         from: actor.from(),
         heard: actor.heard(),

@@ -8,4 +8,7 @@ mod run;
 
 pub use feed::{Feed, Seen};
 pub use gate::Gate;
+pub use node_actor::{
+    Actor, ActorFault, Ballot, Body, Event, Heard, Keeper, Machine, Mail, NodeSet,
+};
 pub use run::run_node;

@@ -1,11 +1,10 @@
--- The boots that nodes had, and the suspicions that they had.
+-- The boots that nodes had, and which Boots and Losts an event makes.
 use Rattle.std.proofs.Common.{◌≡◌, ⊎_elim, ℕ, zero, suc, ◌<◌, ◌≤◌, Bool, true, false, not, ◌&&◌, eqb, refl, sym, ap, ◌∙◌, subst, arith}
-use Rattle.std.proofs.Common.{List, [], ◌∷◌, ◌++◌, length, append_assoc, Option, Some, None}
+use Rattle.std.proofs.Common.{List, [], ◌∷◌, ◌++◌, length, Option, Some, None}
 use Rattle.std.specs.Prelude.{slice_index_or, nat_lt}
-use Rattle.std.proofs.lemmas.List.{append-nil}
 use Rattle.std.proofs.lemmas.Bool.{cond_both, cases_eq, cases_lt, and_parts}
 use Rattle.cluster_world.proofs.Lists.{has_nil, has_one, has_cases}
-use Rattle.cluster_world.proofs.EveryWorld.{within, node_same, node_other, play_on}
+use Rattle.cluster_world.proofs.EveryWorld.{within, node_same, node_other}
 use Rattle.cluster_world.proofs.Handing.{Ran, Began, event_cases}
 use Rattle.cluster_world.proofs.Taking.{founded_length, log_was_made}
 use Rattle.paxos_packets.specs.Members.{IsMember}
@@ -13,7 +12,6 @@ use Rattle.cluster_world.specs.Has.{Has}
 use Rattle.paxos_packets.specs.declared.entry.Entry.{Entry}
 use Rattle.paxos_packets.specs.declared.entry.Entry.TheVariants.{Noop, Boot, Lost}
 use Rattle.replica_machine.specs.Roll.{standing, live_in}
-use Rattle.replica_machine.proofs.Places.{live_boot_is}
 use Rattle.paxos_node.specs.declared.event.Event.{Event}
 use Rattle.paxos_node.specs.declared.event.Event.TheVariants.{Take, Tick, Start, Suspect, Deliver, Crash, Restart}
 use Rattle.paxos_planning.specs.Node.{NodeState, Plan}
@@ -22,7 +20,7 @@ use Rattle.paxos_node.specs.Events.{takes, new_item, has_room, is_pending, new_l
 use Rattle.paxos_node.specs.Events.{suspected_by, made_by}
 use Rattle.cluster_world.specs.World.{World, absent, node_at, put_node, founded, first_boots, first_world, was_sent, done, next, play}
 use Rattle.cluster_world.specs.World.{played, log_of}
-use Rattle.cluster_world.specs.Origins.{BootsWereHad, Suspected, LostsWereSuspected}
+use Rattle.cluster_world.specs.Origins.{BootsWereHad}
 use Rattle.paxos_packets.specs.Body.{IsEquality}
 
 -- which Boots and which Losts an event makes
@@ -60,10 +58,10 @@ taken_no_lost n t body x =
     differ m b e = cc
 
 -- what a suspicion makes
-record Suspects {B : Type 0} (other : ℕ) (x : NodeState B) (o : Option (Entry B)) : Type 0 where
-  is : (l : Entry B) → o ≡ Some l → (b : ℕ) × (l ≡ Lost other b) × (live_in (standing other x.applied) ≡ Some b)
+pub record Suspects {B : Type 0} (other : ℕ) (x : NodeState B) (o : Option (Entry B)) : Type 0 where
+  pub is : (l : Entry B) → o ≡ Some l → (b : ℕ) × (l ≡ Lost other b) × (live_in (standing other x.applied) ≡ Some b)
 
-new_lost_suspects : {B : Type 0} (same : B → B → Bool) (me other : ℕ) (x : NodeState B) → Suspects other x (new_lost same me other x)
+pub new_lost_suspects : {B : Type 0} (same : B → B → Bool) (me other : ℕ) (x : NodeState B) → Suspects other x (new_lost same me other x)
 new_lost_suspects {B} same me other x =
     cond_both (eqb other me) None (new_lost_of same other (live_in (standing other x.applied)) x.pending) (λ o. Suspects other x o)
     (λ t. nothing)
@@ -84,7 +82,7 @@ new_lost_suspects {B} same me other x =
         inside : (l : Entry B) → Some (Lost other b) ≡ Some l → Lost other b ≡ l
         inside l d = cc
 
-suspected_has : {B : Type 0} (other : ℕ) (x : NodeState B) (o : Option (Entry B)) → Suspects other x o → (e : Entry B)
+pub suspected_has : {B : Type 0} (other : ℕ) (x : NodeState B) (o : Option (Entry B)) → Suspects other x o → (e : Entry B)
     → Has (suspected_by o x) e → (b : ℕ) × (e ≡ Lost other b) × (live_in (standing other x.applied) ≡ Some b)
 suspected_has other x None s e h = absurd (has_nil h)
 suspected_has other x (Some l) s e h =
@@ -314,46 +312,6 @@ module _ {B : Type 0} (same : B → B → Bool) where
         differ : ◌≡◌ {A = Entry B} (Boot n b) Noop → ⊥
         differ e = cc
 
-    -- suspicions
-
-    abbrev Losts : List (Event B) → List (Entry B) → Type 0
-    Losts events made = (n b : ℕ) → Has made (Lost n b) → Suspected same members events n b
-
-    lost_next : (early : List (Event B)) (e : Event B) (later : List (Event B))
-        → Losts (early ++ e ∷ later) (played same members early).made
-        → Losts (early ++ e ∷ later) (next same members (played same members early) e).made
-    lost_next early e later h =
-        cond_both (was_sent same e w.sent && possible e (at' w e)) (done same w e (at' w e) (goes w e)) w
-        (λ z. Losts (early ++ e ∷ later) z.made)
-        (λ t n b i. ⊎_elim (λ a. h n b a) (λ a. mine n b (made_lost e (at' w e) n b a)) (has_cases w.made (made_by same e (at' w e)) i))
-        (λ t. h)
-      where
-        w : World B
-        w = played same members early
-
-        mine : (n b : ℕ) → MadeLost e (at' w e) n b → Suspected same members (early ++ e ∷ later) n b
-        mine n b m =
-            record {
-              early = early;
-              by = m.by;
-              later = later;
-              is = ap (λ z. early ++ z ∷ later) m.is;
-              live =
-                  live_boot_is n (log_of w m.by) ∙ subst (λ (z : Event B). live_in (standing n (log_of w (owner z))) ≡ Some b) m.is m.live;
-            }
-
-    lost_play : (todo early : List (Event B)) → Losts (early ++ todo) (played same members early).made
-        → Losts (early ++ todo) (played same members (early ++ todo)).made
-    lost_play [] early h =
-        subst (λ l. Losts l (played same members l).made) (sym (append-nil early))
-        (subst (λ l. Losts l (played same members early).made) (append-nil early) h)
-    lost_play (e ∷ todo) early h =
-        subst (λ l. Losts l (played same members l).made) (append_assoc early (e ∷ []) todo)
-        (lost_play todo (early ++ e ∷ [])
-        (subst (λ l. Losts l (played same members (early ++ e ∷ [])).made) (sym (append_assoc early (e ∷ []) todo))
-        (subst (λ (z : World B). Losts (early ++ e ∷ todo) z.made) (sym (play_on same members early (e ∷ []) (first_world members)))
-        (lost_next early e todo h))))
-
     pub first_no_lost : (k n b : ℕ) → Has (first_boots {B = B} k) (Lost n b) → ⊥
     first_no_lost zero n b h = has_nil h
     first_no_lost (suc k) n b h =
@@ -362,17 +320,5 @@ module _ {B : Type 0} (same : B → B → Bool) where
         differ : ◌≡◌ {A = Entry B} (Boot (suc k) 1) (Lost n b) → ⊥
         differ e = cc
 
-    pub lost_was_suspected : IsEquality same → (events : List (Event B)) (k n b : ℕ)
-        → Has (log_of (played same members events) k) (Lost n b) → Suspected same members events n b
-    lost_was_suspected equal events k n b h =
-        ⊎_elim (λ e. absurd (differ e)) (λ a. lost_play events [] (λ m c i. absurd (first_no_lost members m c i)) n b a)
-        (log_was_made same members equal events k (Lost n b) h)
-      where
-        differ : ◌≡◌ {A = Entry B} (Lost n b) Noop → ⊥
-        differ e = cc
-
 pub boots_were_had : {B : Type 0} (same : B → B → Bool) → IsEquality same → BootsWereHad B same
 boots_were_had same equal members events k n b h = boot_was_had same members equal events k n b h
-
-pub losts_were_suspected : {B : Type 0} (same : B → B → Bool) → IsEquality same → LostsWereSuspected B same
-losts_were_suspected same equal members events k n b h = lost_was_suspected same members equal events k n b h

@@ -7,7 +7,7 @@ use Rattle.std.proofs.lemmas.List.{append-nil, get_or-set_same, get_or-set_other
 use Rattle.std.proofs.lemmas.Bool.{cond_both, cases_eq, cases_lt, ltb-true, and_parts, or_cases}
 use Rattle.cluster_world.proofs.Lists.{has_first, has_left}
 use Rattle.paxos_packets.specs.Packet.{packet_equality, same_packet}
-use Rattle.cluster_world.proofs.Invariant.{Sent, Known, IsChosen, RoleFree, NodeOk, Inv, promises}
+use Rattle.cluster_world.proofs.Invariant.{Known, IsChosen, RoleFree, NodeOk, Inv, promises}
 use Rattle.cluster_world.proofs.Growth.{role_free_grows, chosen_grows}
 use Rattle.cluster_world.proofs.InvariantKept.{sent_left}
 use Rattle.cluster_world.proofs.AcceptorTests.{sent_nil}

@@ -16,10 +16,10 @@ use Rattle.cluster_world.specs.World.{World, node_at, played}
 use Rattle.cluster_world.specs.StandsAt.{Held, StandsIn, StandsAt}
 use Rattle.cluster_world.specs.Headline.{log_in, Agree, LogsAgree, AnswersAreSaid, MachinesFollow, TookEffectOnce, LossesWereCalledFor, NoneDisagrees}
 use Rattle.cluster_world.proofs.Agreeing.{learned_is_chosen, chosen_is_one, log_is_chosen, logs_are_prefixes, never_disagrees}
-use Rattle.cluster_world.proofs.Booting.{boots_were_had, losts_were_suspected}
+use Rattle.cluster_world.proofs.Booting.{boots_were_had}
 use Rattle.cluster_world.proofs.Handing.{handed_is_said}
 use Rattle.cluster_world.proofs.Taking.{items_were_taken}
-use Rattle.cluster_world.proofs.Waiting.{losts_were_pending}
+use Rattle.cluster_world.proofs.Waiting.{losts_were_suspected}
 
 -- a world in code that shows the nodes, the packets and what was made of a world
 
@@ -67,11 +67,7 @@ module _ {B M S Y : Type 0} (same : B → B → Bool) (equal : IsEquality same) 
     lost_there node n b l = subst (λ ns. Has (node_at ns node).applied (Lost n b)) h.nodes l
 
     pub losses : LossesWereCalledFor same w es
-    losses =
-        record {
-          suspected = λ node n b l. losts_were_suspected same equal w.members es node n b (lost_there node n b l);
-          pending = λ node n b l. losts_were_pending same equal w.members many es node n b (lost_there node n b l);
-        }
+    losses node n b l = losts_were_suspected same equal w.members es node n b (lost_there node n b l)
 
     pub none_disagrees : NoneDisagrees same w
     none_disagrees = over (λ z. NoneDisagrees same z) w v h (λ e s p. never_disagrees same equal w.members many es e s p)

@@ -24,6 +24,10 @@ pub mod Applied
 pub mod AtOnce
 pub mod EventsAtOnce
 pub mod Waiting
+pub mod Owing
+pub mod Pending
+pub mod PendingOwed
+pub mod Proposing
 pub mod Stepping
 pub mod Scripting
 pub mod Attending

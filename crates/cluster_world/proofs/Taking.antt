@@ -161,10 +161,10 @@ module _ {B : Type 0} (same : B → B → Bool) (members : ℕ) where
   -- acts
 
   -- what an event adds to the acts
-  record Adds (e : Event B) (x : NodeState B) : Type 0 where
-    quiet : (k b : ℕ) → ((k ≡ owner e) → (b ≡ x.rows.boot) → ⊥) → acts_of k b (made_by same e x) ≡ []
-    own : length (acts_of (owner e) x.rows.boot (made_by same e x)) + x.taken ≡ acts_after e x
-    item : (n b q t : ℕ) (y : B) → Has (made_by same e x) (Item n b q t y)
+  pub record Adds (e : Event B) (x : NodeState B) : Type 0 where
+    pub quiet : (k b : ℕ) → ((k ≡ owner e) → (b ≡ x.rows.boot) → ⊥) → acts_of k b (made_by same e x) ≡ []
+    pub own : length (acts_of (owner e) x.rows.boot (made_by same e x)) + x.taken ≡ acts_after e x
+    pub item : (n b q t : ℕ) (y : B) → Has (made_by same e x) (Item n b q t y)
         → (x.up ≡ true) × (n ≡ owner e) × (b ≡ x.rows.boot) × (q ≡ suc x.taken) × (acts_of n b (made_by same e x) ≡ record { transport = t; body = y } ∷ [])
 
   adds_none : (e : Event B) (x : NodeState B) → made_by same e x ≡ [] → acts_after e x ≡ x.taken → Adds e x
@@ -295,7 +295,7 @@ module _ {B : Type 0} (same : B → B → Bool) (members : ℕ) where
           by_live (cond-false (eqb other n) None (new_lost_of same other (live_in (standing other x.applied)) x.pending) t)
           (live_in (standing other x.applied)) refl
 
-  event_adds : (e : Event B) (x : NodeState B) → possible e x ≡ true → Adds e x
+  pub event_adds : (e : Event B) (x : NodeState B) → possible e x ≡ true → Adds e x
   event_adds (Take n t body) x p = take_adds n t body x (and_parts x.up (nat_lt 0 t) p).0
   event_adds (Tick n) x p = adds_none (Tick n) x refl refl
   event_adds (Start n) x p = adds_none (Start n) x refl refl
@@ -308,16 +308,16 @@ module _ {B : Type 0} (same : B → B → Bool) (members : ℕ) where
       differ k c q t y d = cc
 
   -- a node's acts are those that it counts, and later boots have none
-  record CountOk (made : List (Entry B)) (k : ℕ) (x : NodeState B) : Type 0 where
-    now : x.up ≡ true → length (acts_of k x.rows.boot made) ≡ x.taken
-    later : (b : ℕ) → x.rows.boot < b → acts_of k b made ≡ []
+  pub record CountOk (made : List (Entry B)) (k : ℕ) (x : NodeState B) : Type 0 where
+    pub now : x.up ≡ true → length (acts_of k x.rows.boot made) ≡ x.taken
+    pub later : (b : ℕ) → x.rows.boot < b → acts_of k b made ≡ []
 
-  abbrev TakenAs : List (Entry B) → ℕ → ℕ → ℕ → ℕ → B → Type 0
+  abbrev pub TakenAs : List (Entry B) → ℕ → ℕ → ℕ → ℕ → B → Type 0
   TakenAs made n b q t y = (j : ℕ) × (q ≡ suc j) × (slice_get (acts_of n b made) j ≡ Some (record { transport = t; body = y }))
 
-  record ActsOk (w : World B) : Type 0 where
-    counts : (k : ℕ) → CountOk w.made k (node_at w.nodes k)
-    taken : (n b q t : ℕ) (y : B) → Has w.made (Item n b q t y) → TakenAs w.made n b q t y
+  pub record ActsOk (w : World B) : Type 0 where
+    pub counts : (k : ℕ) → CountOk w.made k (node_at w.nodes k)
+    pub taken : (n b q t : ℕ) (y : B) → Has w.made (Item n b q t y) → TakenAs w.made n b q t y
 
   at_left : {A : Type 0} (xs ys : List A) (j : ℕ) (x : A) → slice_get xs j ≡ Some x → slice_get (xs ++ ys) j ≡ Some x
   at_left [] ys j x e = absurd (nothing e)
@@ -331,10 +331,10 @@ module _ {B : Type 0} (same : B → B → Bool) (members : ℕ) where
   at_end [] x = refl
   at_end (y ∷ xs) x = at_end xs x
 
-  acts_on : (k b : ℕ) (made more : List (Entry B)) → acts_of k b (made ++ more) ≡ acts_of k b made ++ acts_of k b more
+  pub acts_on : (k b : ℕ) (made more : List (Entry B)) → acts_of k b (made ++ more) ≡ acts_of k b made ++ acts_of k b more
   acts_on k b made more = filter_map-append (act_in k b) made more
 
-  same_acts : (k b : ℕ) (made more : List (Entry B)) → acts_of k b more ≡ [] → acts_of k b (made ++ more) ≡ acts_of k b made
+  pub same_acts : (k b : ℕ) (made more : List (Entry B)) → acts_of k b more ≡ [] → acts_of k b (made ++ more) ≡ acts_of k b made
   same_acts k b made more e = acts_on k b made more ∙ (ap (λ l. acts_of k b made ++ l) e ∙ append-nil (acts_of k b made))
 
   done_acts : (w : World B) (e : Event B) → possible e (at' w e) ≡ true → ActsOk w → ActsOk (done same w e (at' w e) (goes w e))
@@ -472,7 +472,7 @@ module _ {B : Type 0} (same : B → B → Bool) (members : ℕ) where
       each zero j = refl
       each (suc m) j = push (founded m) (started (suc m) first_rows) refl (λ i. each m i) j
 
-  acts_ok : (events : List (Event B)) → ActsOk (played same members events)
+  pub acts_ok : (events : List (Event B)) → ActsOk (played same members events)
   acts_ok events =
       play_acts events (first_world members)
       (record {

@@ -1,18 +1,19 @@
--- A Lost in a log was pending at another node than the lost one.
-use Rattle.std.proofs.Common.{◌≡◌, ⊎_elim, ℕ, ◌≤◌, Bool, true, eqb, refl, sym, ap, ◌∙◌, subst, arith, List, [], ◌∷◌, ◌++◌, append_assoc}
-use Rattle.std.proofs.Common.{Option, Some, None}
+-- A Lost in a log comes from a suspicion, and was pending after it at the node that suspected.
+use Rattle.std.proofs.Common.{◌≡◌, ⊎_elim, ℕ, suc, ◌<◌, ◌≤◌, Bool, true, false, eqb, refl, sym, ap, ◌∙◌, subst, arith, List, [], ◌∷◌, ◌++◌}
+use Rattle.std.proofs.Common.{append_assoc, Option, Some, None}
+use Rattle.std.specs.Prelude.{option_and_then, if◌then◌else◌}
 use Rattle.std.proofs.lemmas.List.{append-nil}
-use Rattle.std.proofs.lemmas.Bool.{cond_both, cond-true, eq-eqb}
-use Rattle.cluster_world.proofs.Lists.{has_nil, has_one, has_cases, has_right}
-use Rattle.cluster_world.proofs.EveryWorld.{WorldOk, world_ok, start_good, within, node_same, play_on}
-use Rattle.cluster_world.proofs.Taking.{May, by_next, log_was_made}
-use Rattle.cluster_world.proofs.Booting.{MadeLost, made_lost, first_no_lost}
+use Rattle.std.proofs.lemmas.Bool.{cond_both, cond-true, cases_lt, eq-eqb, eqb-true}
+use Rattle.cluster_world.proofs.Lists.{has_nil, has_one, has_first, has_cases, has_right}
+use Rattle.cluster_world.proofs.EveryWorld.{WorldOk, world_ok, start_good, Within, within, node_same, play_on}
+use Rattle.cluster_world.proofs.Taking.{May, by_next, nodes_length, log_was_made}
+use Rattle.cluster_world.proofs.Booting.{MadeLost, made_lost, boot_was_had, first_no_lost}
 use Rattle.cluster_world.proofs.AtOnce.{AtRest, settle_rest, calm_rest, Agrees}
 use Rattle.cluster_world.proofs.EventsAtOnce.{ends_pending, all_rest}
-use Rattle.cluster_world.specs.Has.{Has, here}
+use Rattle.cluster_world.specs.Has.{Has, here, there}
 use Rattle.cluster_world.specs.AtOnce.{push as push_at_once}
 use Rattle.paxos_packets.specs.declared.entry.Entry.{Entry}
-use Rattle.paxos_packets.specs.declared.entry.Entry.TheVariants.{Noop, Lost}
+use Rattle.paxos_packets.specs.declared.entry.Entry.TheVariants.{Noop, Boot, Lost, Item}
 use Rattle.paxos_node.specs.declared.event.Event.{Event}
 use Rattle.paxos_node.specs.declared.event.Event.TheVariants.{Suspect}
 use Rattle.paxos_planning.specs.Node.{NodeState, Plan}
@@ -20,12 +21,14 @@ use Rattle.paxos_planning.specs.Plan.{with_pending, begun}
 use Rattle.paxos_node.specs.Applying.{settle}
 use Rattle.paxos_planning.specs.Proposals.{push}
 use Rattle.paxos_node.specs.Events.{has_room, new_lost, new_lost_of, suspected, suspected_by, owner, outcome_of, made_by}
+use Rattle.replica_machine.specs.Effects.{boots_of, greatest, lost_since, live_boot}
 use Rattle.replica_machine.specs.Roll.{standing, live_in}
-use Rattle.cluster_world.specs.World.{World, node_at, put_node, first_world, done, next, played, log_of}
-use Rattle.cluster_world.specs.Origins.{WasPending, LostsWerePending}
+use Rattle.replica_machine.proofs.Places.{live_boot_is}
+use Rattle.cluster_world.specs.World.{World, node_at, first_world, done, next, played, log_of}
+use Rattle.cluster_world.specs.Origins.{Suspected, LostsWereSuspected}
 use Rattle.paxos_packets.specs.Body.{IsEquality}
 
-suspected_is : {B : Type 0} (x : NodeState B) (o : Option (Entry B)) (l : Entry B) → Has (suspected_by o x) l
+pub suspected_is : {B : Type 0} (x : NodeState B) (o : Option (Entry B)) (l : Entry B) → Has (suspected_by o x) l
     → (o ≡ Some l) × (has_room x ≡ true)
 suspected_is x None l h = absurd (has_nil h)
 suspected_is x (Some k) l h =
@@ -33,7 +36,7 @@ suspected_is x (Some k) l h =
     (λ t g. (ap Some (has_one g), t)) (λ t g. absurd (has_nil g)) h
 
 module _ {B : Type 0} (same : B → B → Bool) where
-  not_itself : (by n : ℕ) (x : NodeState B) (l : Entry B) → new_lost same by n x ≡ Some l → by ≡ n → ⊥
+  pub not_itself : (by n : ℕ) (x : NodeState B) (l : Entry B) → new_lost same by n x ≡ Some l → by ≡ n → ⊥
   not_itself by n x l h e = never (sym nothing ∙ h)
     where
       nothing : new_lost same by n x ≡ None
@@ -43,12 +46,12 @@ module _ {B : Type 0} (same : B → B → Bool) where
       never : ◌≡◌ {A = Option (Entry B)} None (Some l) → ⊥
       never e = cc
 
-  module _ (equal : IsEquality same) (members : ℕ) (many : 2 ≤ members) where
+  module _ (equal : IsEquality same) (members : ℕ) where
     -- after the suspicion it is pending
-    pends : (w : World B) (by n : ℕ) (l : Entry B) → WorldOk members w → AtRest (node_at w.nodes by)
+    pends : 2 ≤ members → (w : World B) (by n : ℕ) (l : Entry B) → WorldOk members w → AtRest (node_at w.nodes by)
         → new_lost same by n (node_at w.nodes by) ≡ Some l → has_room (node_at w.nodes by) ≡ true
         → Has (outcome_of same members (Suspect by n) (node_at w.nodes by)).node.pending l
-    pends w by n l ok rest is room = subst (λ (z : Plan B). Has z.node.pending l) (sym goes) there
+    pends many w by n l ok rest is room = subst (λ (z : Plan B). Has z.node.pending l) (sym goes) there
       where
         x : NodeState B
         x = node_at w.nodes by
@@ -70,74 +73,150 @@ module _ {B : Type 0} (same : B → B → Bool) where
         there : Has (push same members by u).node.pending l
         there = subst (λ es. Has es l) (sym a.calm.pending) (has_right x.pending here)
 
-    abbrev AllPending : List (Event B) → List (Entry B) → Type 0
-    AllPending events made = (n b : ℕ) → Has made (Lost n b) → WasPending same members events n b
+    -- a suspicion in the midst of fewer than two members finds no live boot of another
+    no_boots : (n : ℕ) (log : List (Entry B)) → ((c : ℕ) → Has log (Boot n c) → ⊥) → boots_of n log ≡ []
+    no_boots n [] h = refl
+    no_boots n (Noop ∷ es) h = no_boots n es (λ c i. h c (there i))
+    no_boots n (Boot k c ∷ es) h = go (no_boots n es (λ d i. h d (there i))) (eqb k n) refl
+      where
+        go : boots_of n es ≡ [] → (z : Bool) → eqb k n ≡ z → boots_of n (Boot k c ∷ es) ≡ []
+        go rest true e = absurd (h c (has_first es (ap (λ j. Boot j c) (eqb-true k n e))))
+        go rest false e = rw e rest
+    no_boots n (Lost k c ∷ es) h = no_boots n es (λ d i. h d (there i))
+    no_boots n (Item k c q t x ∷ es) h = no_boots n es (λ d i. h d (there i))
 
-    pending_later : (events more : List (Event B)) (n b : ℕ) → WasPending same members events n b → WasPending same members (events ++ more) n b
-    pending_later events more n b p =
+    one_is_alone : (early : List (Event B)) (by n b : ℕ) → members ≤ 1 → Within (played same members early).nodes by
+        → live_boot n (log_of (played same members early) by) ≡ Some b → (by ≡ n → ⊥) → ⊥
+    one_is_alone early by n b few w live other = never (sym nothing ∙ live)
+      where
+        log : List (Entry B)
+        log = log_of (played same members early) by
+
+        alone : (c : ℕ) → Has log (Boot n c) → ⊥
+        alone c h =
+            let m = (boot_was_had same members equal early by n c h).0 in
+            other (w.is ∙ one w.i n (subst (λ l. w.i < l) (nodes_length same members early) w.low) m.0 m.1)
+          where
+            one : (i k : ℕ) → i < members → 1 ≤ k → k ≤ members → suc i ≡ k
+            one i k a b c = omega arith
+
+        nothing : live_boot n log ≡ None
+        nothing = ap (λ bs. option_and_then (λ c. if lost_since n c log then None else Some c) (greatest bs)) (no_boots n log alone)
+
+        never : ◌≡◌ {A = Option ℕ} None (Some b) → ⊥
+        never e = cc
+
+    abbrev AllSuspected : List (Event B) → List (Entry B) → Type 0
+    AllSuspected events made = (n b : ℕ) → Has made (Lost n b) → Suspected same members events n b
+
+    suspected_later : (events more : List (Event B)) (n b : ℕ) → Suspected same members events n b → Suspected same members (events ++ more) n b
+    suspected_later events more n b p =
         record {
           early = p.early;
-          later = p.later ++ more;
-          is = ap (λ l. l ++ more) p.is ∙ append_assoc p.early p.later more;
           by = p.by;
+          later = p.later ++ more;
+          is = ap (λ l. l ++ more) p.is ∙ append_assoc p.early (Suspect p.by n ∷ p.later) more;
           other = p.other;
+          live = p.live;
+          room = p.room;
+          made = p.made;
           pending = p.pending;
         }
 
-    pending_next : (early : List (Event B)) (e : Event B) → AllPending early (played same members early).made
-        → AllPending (early ++ e ∷ []) (played same members (early ++ e ∷ [])).made
-    pending_next early e h =
-        subst (λ (z : World B). AllPending (early ++ e ∷ []) z.made) (sym (play_on same members early (e ∷ []) (first_world members)))
-        (by_next same members (λ z. z ≡ next same members w e → AllPending (early ++ e ∷ []) z.made) w e
-        (λ g n b i. pending_later early (e ∷ []) n b (h n b i))
-        (λ m g n b i. ⊎_elim (λ o. pending_later early (e ∷ []) n b (h n b o))
-        (λ o. new m g n b (made_lost same e x n b o) o) (has_cases w.made (made_by same e x) i))
-        refl)
+    -- what a possible suspicion makes
+    suspects : (early : List (Event B)) (by n b : ℕ) → May same members (played same members early) (Suspect by n)
+        → Has (made_by same (Suspect by n) (node_at (played same members early).nodes by)) (Lost n b)
+        → live_in (standing n (log_of (played same members early) by)) ≡ Some b
+        → done same (played same members early) (Suspect by n) (node_at (played same members early).nodes by)
+        (outcome_of same members (Suspect by n) (node_at (played same members early).nodes by))
+        ≡ played same members (early ++ Suspect by n ∷ [])
+        → Suspected same members (early ++ Suspect by n ∷ []) n b
+    suspects early by n b m i l g =
+        record {
+          early = early;
+          by = by;
+          later = [];
+          is = refl;
+          other = other;
+          live = live;
+          room = s.1;
+          made = ap (λ o. suspected_by o x) s.0 ∙ cond-true (has_room x) (Lost n b ∷ []) [] s.1;
+          pending =
+              subst (λ (z : World B). Has (node_at z.nodes by).pending (Lost n b)) g
+              (subst (λ (y : NodeState B). Has y.pending (Lost n b))
+              (sym (node_same w.nodes by (outcome_of same members (Suspect by n) x).node inside))
+              (⊎_elim
+              (λ (many : 1 < members). pends many w by n (Lost n b) (world_ok same equal members (two many) early) (all_rest same members early by)
+              s.0 s.1)
+              (λ (few : members ≤ 1). absurd (one_is_alone early by n b few inside live other))
+              (cases_lt 1 members)));
+        }
       where
         w : World B
         w = played same members early
 
         x : NodeState B
-        x = node_at w.nodes (owner e)
+        x = node_at w.nodes by
 
-        new : May same members w e → done same w e x (outcome_of same members e x) ≡ next same members w e → (n b : ℕ) → MadeLost e x n b
-            → Has (made_by same e x) (Lost n b) → WasPending same members (early ++ e ∷ []) n b
-        new m g n b made i =
-            let s = suspected_is (node_at w.nodes made.by) (new_lost same made.by n (node_at w.nodes made.by)) (Lost n b)
-            (subst (λ (z : Event B). Has (made_by same z (node_at w.nodes (owner z))) (Lost n b)) made.is i) in
-            record {
-              early = early ++ e ∷ [];
-              later = [];
-              is = sym (append-nil (early ++ e ∷ []));
-              by = made.by;
-              other = not_itself made.by n (node_at w.nodes made.by) (Lost n b) s.0;
-              pending =
-                  subst (λ (z : World B). Has (node_at z.nodes made.by).pending (Lost n b))
-                  (g ∙ sym (play_on same members early (e ∷ []) (first_world members)))
-                  (subst (λ k. Has (node_at (put_node w.nodes (owner e) (outcome_of same members e x).node) k).pending (Lost n b))
-                  (ap owner made.is)
-                  (subst (λ (y : NodeState B). Has y.pending (Lost n b))
-                  (sym (node_same w.nodes (owner e) (outcome_of same members e x).node (within w.nodes e (owner e) m.1)))
-                  (subst (λ (z : Event B). Has (outcome_of same members z (node_at w.nodes (owner z))).node.pending (Lost n b)) (sym made.is)
-                  (pends w made.by n (Lost n b) (world_ok same equal members many early) (all_rest same members early made.by) s.0 s.1))));
-            }
+        s : (new_lost same by n x ≡ Some (Lost n b)) × (has_room x ≡ true)
+        s = suspected_is x (new_lost same by n x) (Lost n b) i
 
-    pending_play : (todo early : List (Event B)) → AllPending early (played same members early).made
-        → AllPending (early ++ todo) (played same members (early ++ todo)).made
-    pending_play [] early h =
-        subst (λ l. AllPending l (played same members l).made) (sym (append-nil early)) h
-    pending_play (e ∷ todo) early h =
-        subst (λ l. AllPending l (played same members l).made) (append_assoc early (e ∷ []) todo)
-        (pending_play todo (early ++ e ∷ []) (pending_next early e h))
+        other : by ≡ n → ⊥
+        other = not_itself by n x (Lost n b) s.0
 
-    pub lost_was_pending : (events : List (Event B)) (k n b : ℕ) → Has (log_of (played same members events) k) (Lost n b)
-        → WasPending same members events n b
-    lost_was_pending events k n b h =
-        ⊎_elim (λ e. absurd (differ e)) (λ a. pending_play events [] (λ m c i. absurd (first_no_lost same members members m c i)) n b a)
+        live : live_boot n x.applied ≡ Some b
+        live = live_boot_is n x.applied ∙ l
+
+        inside : Within w.nodes by
+        inside = within w.nodes (Suspect by n) by m.1
+
+        two : 1 < members → 2 ≤ members
+        two l = omega arith
+
+    suspected_next : (early : List (Event B)) (e : Event B) → AllSuspected early (played same members early).made
+        → AllSuspected (early ++ e ∷ []) (played same members (early ++ e ∷ [])).made
+    suspected_next early e h =
+        subst (λ (z : World B). AllSuspected (early ++ e ∷ []) z.made) (sym on)
+        (by_next same members (λ z. z ≡ next same members w e → AllSuspected (early ++ e ∷ []) z.made) w e
+        (λ g n b i. suspected_later early (e ∷ []) n b (h n b i))
+        (λ m g n b i. ⊎_elim (λ o. suspected_later early (e ∷ []) n b (h n b o))
+        (λ o. new m (g ∙ sym on) n b (made_lost same e (node_at w.nodes (owner e)) n b o) o)
+        (has_cases w.made (made_by same e (node_at w.nodes (owner e))) i))
+        refl)
+      where
+        w : World B
+        w = played same members early
+
+        on : played same members (early ++ e ∷ []) ≡ next same members w e
+        on = play_on same members early (e ∷ []) (first_world members)
+
+        Goal : Event B → ℕ → ℕ → Type 0
+        Goal f n b =
+            May same members w f → done same w f (node_at w.nodes (owner f)) (outcome_of same members f (node_at w.nodes (owner f)))
+            ≡ played same members (early ++ f ∷ []) → Has (made_by same f (node_at w.nodes (owner f))) (Lost n b)
+            → live_in (standing n (node_at w.nodes (owner f)).applied) ≡ Some b → Suspected same members (early ++ f ∷ []) n b
+
+        new : May same members w e → done same w e (node_at w.nodes (owner e)) (outcome_of same members e (node_at w.nodes (owner e)))
+            ≡ played same members (early ++ e ∷ []) → (n b : ℕ) → MadeLost e (node_at w.nodes (owner e)) n b
+            → Has (made_by same e (node_at w.nodes (owner e))) (Lost n b) → Suspected same members (early ++ e ∷ []) n b
+        new m g n b made i = subst (λ f. Goal f n b) (sym made.is) (λ m g i l. suspects early made.by n b m i l g) m g i made.live
+
+    suspected_play : (todo early : List (Event B)) → AllSuspected early (played same members early).made
+        → AllSuspected (early ++ todo) (played same members (early ++ todo)).made
+    suspected_play [] early h =
+        subst (λ l. AllSuspected l (played same members l).made) (sym (append-nil early)) h
+    suspected_play (e ∷ todo) early h =
+        subst (λ l. AllSuspected l (played same members l).made) (append_assoc early (e ∷ []) todo)
+        (suspected_play todo (early ++ e ∷ []) (suspected_next early e h))
+
+    pub lost_was_suspected : (events : List (Event B)) (k n b : ℕ) → Has (log_of (played same members events) k) (Lost n b)
+        → Suspected same members events n b
+    lost_was_suspected events k n b h =
+        ⊎_elim (λ e. absurd (differ e)) (λ a. suspected_play events [] (λ m c i. absurd (first_no_lost same members members m c i)) n b a)
         (log_was_made same members equal events k (Lost n b) h)
       where
         differ : ◌≡◌ {A = Entry B} (Lost n b) Noop → ⊥
         differ e = cc
 
-pub losts_were_pending : {B : Type 0} (same : B → B → Bool) → IsEquality same → LostsWerePending B same
-losts_were_pending same equal members l events k n b h = lost_was_pending same equal members (omega arith) events k n b h
+pub losts_were_suspected : {B : Type 0} (same : B → B → Bool) → IsEquality same → LostsWereSuspected B same
+losts_were_suspected same equal members events k n b h = lost_was_suspected same equal members events k n b h

@@ -15,7 +15,7 @@ use Rattle.cluster_world.specs.Answers.{IsPresent}
 use Rattle.cluster_world.specs.Chosen.{Chosen}
 use Rattle.cluster_world.specs.Has.{Has}
 use Rattle.cluster_world.specs.Laws.{IsPrefixOf}
-use Rattle.cluster_world.specs.Origins.{acts_of, Suspected, WasPending}
+use Rattle.cluster_world.specs.Origins.{acts_of, Suspected}
 use Rattle.cluster_world.specs.StandsAt.{Held, handed_in}
 use Rattle.cluster_world.specs.World.{node_at, was_sent}
 
@@ -57,11 +57,11 @@ module _ {B M Y : Type 0} where
     pub boots :
         (node n b : ℕ) → Has (log_in w node) (Boot n b) → IsMember w.members n × (1 ≤ b) × (b ≤ (node_at w.nodes n).rows.boot)
 
-  -- and a Lost in a log, whose events these are, comes from a suspicion by some node in whose log that boot was live then, and was pending at some
-  -- node, another than the lost one
-  pub record LossesWereCalledFor (same : B → B → Bool) (w : Held B M Y) (events : List (Event B)) : Type 0 where
-    pub suspected : (node n b : ℕ) → Has (log_in w node) (Lost n b) → Suspected same w.members events n b
-    pub pending : (node n b : ℕ) → Has (log_in w node) (Lost n b) → WasPending same w.members events n b
+  -- and a Lost in a log, whose events these are, comes from a suspicion by another node, in whose log that boot was live then, and at which it
+  -- was pending after that
+  abbrev pub LossesWereCalledFor : (B → B → Bool) → Held B M Y → List (Event B) → Type 0
+  LossesWereCalledFor same w events =
+      (node n b : ℕ) → Has (log_in w node) (Lost n b) → Suspected same w.members events n b
 
   -- no disagreement: no event that is possible brings a node another entry of a slot that it has learned
   abbrev pub NoneDisagrees : (B → B → Bool) → Held B M Y → Type 0

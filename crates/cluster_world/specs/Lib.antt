@@ -4,6 +4,8 @@ pub mod Chosen
 pub mod Laws
 pub mod Answers
 pub mod Origins
+pub mod Owed
+pub mod Proposers
 pub mod Scripts
 pub mod Examples
 pub mod Steps

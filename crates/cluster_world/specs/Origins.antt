@@ -1,6 +1,6 @@
 -- Where the entries of a log come from: at most once, and as they were taken (docs/CONSENSUS.md, "What holds over every list of
 -- events").
-use Rattle.std.specs.Prelude.{◌≡◌, ℕ, suc, ◌≤◌, Bool, ◌&&◌, ◌==◌, Option, Some, None, List, ◌∷◌, ◌++◌, slice_get, if◌then◌else◌}
+use Rattle.std.specs.Prelude.{◌≡◌, ℕ, suc, ◌≤◌, Bool, true, ◌&&◌, ◌==◌, Option, Some, None, List, [], ◌∷◌, ◌++◌, slice_get, if◌then◌else◌}
 use Rattle.std.specs.List.{filter_map}
 use Rattle.paxos_packets.specs.Members.{IsMember}
 use Rattle.cluster_world.specs.Has.{Has}
@@ -9,6 +9,7 @@ use Rattle.paxos_packets.specs.declared.entry.Entry.TheVariants.{Noop, Boot, Los
 use Rattle.replica_machine.specs.Effects.{live_boot}
 use Rattle.paxos_node.specs.declared.event.Event.{Event}
 use Rattle.paxos_node.specs.declared.event.Event.TheVariants.{Suspect}
+use Rattle.paxos_node.specs.Events.{has_room, made_by}
 use Rattle.cluster_world.specs.World.{node_at, played, log_of}
 
 -- an act that a node took: of which transport, and what
@@ -40,29 +41,20 @@ BootsWereHad B same =
     Has (log_of (played same members events) node) (Boot n b) →
     IsMember members n × (1 ≤ b) × (b ≤ (node_at (played same members events).nodes n).rows.boot)
 
--- a Lost in a log comes from a suspicion by some node, in whose log that boot was live then
+-- a Lost in a log comes from a suspicion: at some earlier moment another node than the lost one suspected it; that boot was live in the log of
+-- the node that did, which had room; this made the Lost, and it was pending there after the event
 pub record Suspected {B : Type 0} (same : B → B → Bool) (members : ℕ) (events : List (Event B)) (n b : ℕ) : Type 0 where
   pub early : List (Event B)
   pub by : ℕ
   pub later : List (Event B)
   pub is : events ≡ early ++ Suspect by n ∷ later
+  pub other : by ≡ n → ⊥
   pub live : live_boot n (log_of (played same members early) by) ≡ Some b
+  pub room : has_room (node_at (played same members early).nodes by) ≡ true
+  pub made : made_by same (Suspect by n) (node_at (played same members early).nodes by) ≡ Lost n b ∷ []
+  pub pending : Has (node_at (played same members (early ++ Suspect by n ∷ [])).nodes by).pending (Lost n b)
 
 abbrev pub LostsWereSuspected : (B : Type 0) → (B → B → Bool) → Type 0
 LostsWereSuspected B same =
     (members : ℕ) (events : List (Event B)) (node n b : ℕ) → Has (log_of (played same members events) node) (Lost n b)
     → Suspected same members events n b
-
--- it was pending then at some node, another than the lost one
-pub record WasPending {B : Type 0} (same : B → B → Bool) (members : ℕ) (events : List (Event B)) (n b : ℕ) : Type 0 where
-  pub early : List (Event B)
-  pub later : List (Event B)
-  pub is : events ≡ early ++ later
-  pub by : ℕ
-  pub other : by ≡ n → ⊥
-  pub pending : Has (node_at (played same members early).nodes by).pending (Lost n b)
-
-abbrev pub LostsWerePending : (B : Type 0) → (B → B → Bool) → Type 0
-LostsWerePending B same =
-    (members : ℕ) → 3 ≤ members → (events : List (Event B)) (node n b : ℕ) → Has (log_of (played same members events) node) (Lost n b)
-    → WasPending same members events n b

@@ -1,7 +1,7 @@
 //! Laws over every list of events, each the contract of a function that does nothing.
 ghost use Rattle.cluster_world.specs.Answers.{HandedIsSaid, HandedStays};
 ghost use Rattle.cluster_world.specs.AtOnce.{AppliesAsAtOnce};
-ghost use Rattle.cluster_world.specs.Origins.{ItemsWereTaken, BootsWereHad, LostsWereSuspected, LostsWerePending};
+ghost use Rattle.cluster_world.specs.Origins.{ItemsWereTaken, BootsWereHad, LostsWereSuspected};
 ghost use Rattle.replica_machine.specs.Laws.{ItemsAreNumbered};
 ghost use Rattle.std.specs.Prelude.{◌≡◌, true, false, [], ◌∷◌};
 ghost use Rattle.paxos_packets.specs.declared.entry.Entry.TheVariants.{Boot};
@@ -9,6 +9,8 @@ ghost use Rattle.replica_machine.specs.Effects.{effects};
 ghost use Rattle.cluster_world.specs.Examples.{run, one_session, leader_crash, hung_before_boot, asked_in_vain};
 ghost use Rattle.cluster_world.specs.Examples.{asked_again, lost_node, duel, session_log, after_crash_log, hung_log};
 ghost use Rattle.cluster_world.specs.Examples.{lost_log, duel_log, crash_packets, logs, ups, sums_handed};
+ghost use Rattle.cluster_world.specs.Owed.{PendingIsOwed, TakenAreCounted, PendingLostsAreLive, PendingIsFew, DownIsRows};
+ghost use Rattle.cluster_world.specs.Proposers.{RoundsWereSent, ProposalsFollow};
 ghost use Rattle.cluster_world.specs.Scripts.{ScriptsArePlayed};
 ghost use Rattle.cluster_world.specs.Steps.{SentIsAmong, NodesAreMembers, OneEventMore, EventGoes, EventStays};
 ghost use Rattle.cluster_world.specs.Told.{HandedIsOne};
@@ -77,14 +79,35 @@ pub fn applies_as_at_once<B: Body>()
 {}
 
 /// At most once: the items of a boot that take effect in a log are numbered 1, 2, 3 and so on; each item in a log is the act, with
-/// transport and body, that its node took under that number in that boot; a boot in a log is one that its node had, and a loss
-/// comes from a suspicion, and was pending at another node than the lost one.
+/// transport and body, that its node took under that number in that boot; a boot in a log is one that its node had; and a loss comes from a
+/// suspicion by another node, in whose log that boot was live then, which had room for it, and at which it was pending after that.
 pub fn at_most_once<B: Body>()
     ensures numbered { ItemsAreNumbered B }
     ensures taken { ItemsWereTaken B B.same }
     ensures boots { BootsWereHad B B.same }
     ensures losses { LostsWereSuspected B B.same }
-    ensures pending { LostsWerePending B B.same }
+{}
+
+/// What is pending at a node that is up is what it owes and Losts: its own Boot until its boot is live by its log, and the Items of the acts
+/// that it took in this boot and that did not take effect yet, in their order. Each of those Losts names another node's live boot. No more
+/// than 1,024 entries are pending. A node that is down has its rows alone.
+pub fn pending<B: Body>()
+    ensures owed { PendingIsOwed B B.same }
+    ensures counted { TakenAreCounted B B.same }
+    ensures losts { PendingLostsAreLive B B.same }
+    ensures few { PendingIsFew B B.same }
+    ensures down { DownIsRows B B.same }
+{}
+
+/// Each round that a node holds was sent: the greatest that it saw, that of its promise, and that of the ballot that it prepares or leads
+/// are each the greatest round in some packet that was sent, or 0.
+pub fn rounds_were_sent<B: Body>()
+    ensures { RoundsWereSent B B.same }
+{}
+
+/// What a leader proposed is in slots that follow one another: those right below its next slot, one in each.
+pub fn proposals_follow<B: Body>()
+    ensures { ProposalsFollow B B.same }
 {}
 
 /// A script, line by line, leads to the world of its events, with each flush written out as its deliveries.

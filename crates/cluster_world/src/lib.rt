@@ -11,5 +11,7 @@ mod world;
 
 pub use fault::Memory;
 pub use handings::Handings;
-pub use paxos_packets::Body;
+pub use paxos_node::Event;
+pub use paxos_packets::{Body, Entry, Members, Packet, Transport};
+pub use replica_machine::Machine;
 pub use world::World;

@@ -1,4 +1,4 @@
-ghost use Rattle.std.specs.Prelude.{◌≡◌, ◌-◌, ◌<◌, ◌≤◌, ◌+◌, ◌++◌, ◌∷◌, [], List, Some, None, false, IfOk, OnOk, OnErr, All, length, map, slice_get, nat_le, option_copied, IfSome, if◌then◌else◌, vec_len, vec_capacity};
+ghost use Rattle.std.specs.Prelude.{◌≡◌, ◌-◌, ◌<◌, ◌≤◌, ◌+◌, ◌++◌, ◌∷◌, [], List, Some, None, IfOk, OnOk, OnErr, length, map, slice_get, nat_le, option_copied, IfSome, if◌then◌else◌, vec_len, vec_capacity};
 ghost use Rattle.paxos_node.specs.declared.event.Event as occurred;
 ghost use Rattle.replica_machine.specs.Log.{machine_from};
 ghost use Rattle.cluster_world.specs.Founding.{AreFounded, AreAlike, AllAttend, NoneGivenUp};
@@ -55,10 +55,9 @@ impl<M: Machine> Model for World<M> {
 
 impl<M: Machine> World<M> {
     /// Returns the first world of these members: all nodes are up in their first boot, and nothing was sent. Node 1 gets the first machine,
-    /// and so on; no machine has failed, and all have one content.
+    /// and so on; all have one content. A machine that has failed is given up at the first entry for it.
     pub fn new(alloc: Global, members: Members, machines: Vec<M>) -> Result<World<M>, Memory>
         requires count { vec_len machines ≡ members }
-        requires alive { All (λ m. M.has_failed m ≡ false) machines.items }
         requires alike { AreAlike M.content machines.items }
         ensures members { IfOk result (λ w. w.members ≡ members) }
         ensures alive { IfOk result (λ w. NoneGivenUp w.machines) }

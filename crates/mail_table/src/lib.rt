@@ -18,4 +18,6 @@ pub use founding::found;
 pub use mail::Mail;
 pub use office::Office;
 pub use part::{Doing, Parcel, Part, Try, View};
+pub use paxos_node::{NodeView, Outcome};
+pub use paxos_packets::{Body, Members, Packet, Rows};
 pub use seat::{MOST_EVENTS, NodeSeat};

@@ -68,6 +68,7 @@ module _ {B S Y M K : Type 0} (from : S → Machine B S Y) (content : M → S) (
   carried_on o old mid new s t is may sound serving r goes (Err Memory) h =
       let rows : (next_node o old).rows ≡ accepting.adopted old.node.state.rows o.change = next_rows old.node.me old.node.members o
       old.node.state in (
+        may,
         h.0,
         inr (record {
           seat = is;
@@ -137,9 +138,10 @@ module _ {B S Y M K : Type 0} (from : S → Machine B S Y) (content : M → S) (
 module _ {B S Y M K : Type 0} (from : S → Machine B S Y) (content : M → S) (holds : K → Rows B → Type 0) (finds : K → Rows B → Type 0)
     (failures : K → ℕ) (is_failed : K → Bool) where
   -- there was no memory for room
-  pub stopped : (o : Outcome B) (old mid : Parted B M K) (s : Seated B) → IsServing holds is_failed old → Roomed old mid
+  pub stopped : (o : Outcome B) (old mid : Parted B M K) (s : Seated B) → may_advance s ≡ true → IsServing holds is_failed old → Roomed old mid
       → CarriesOut from content holds finds failures o (acting old s) (acting (record mid { spoiled = true }) s) (Err Memory)
-  stopped o old mid s serving r = (
+  stopped o old mid s may serving r = (
+    may,
     refl,
     inl (record {
       node = r.state;
@@ -152,20 +154,12 @@ module _ {B S Y M K : Type 0} (from : S → Machine B S Y) (content : M → S) (
   )
 
   -- the word counts no more
-  pub worn_out : (o : Outcome B) (old mid : Parted B M K) (s : Seated B) → may_advance s ≡ false → IsServing holds is_failed old
-      → Roomed old mid
-      → CarriesOut from content holds finds failures o (acting old s) (acting (record mid { spoiled = true }) s) (Err Worn)
-  worn_out o old mid s worn serving r = (
+  pub worn_out : (o : Outcome B) (old : Parted B M K) (s : Seated B) → may_advance s ≡ false → IsServing holds is_failed old
+      → CarriesOut from content holds finds failures o (acting old s) (acting (record old { spoiled = true }) s) (Err Worn)
+  worn_out o old s worn serving = (
     worn,
     refl,
-    record {
-      node = r.state;
-      held = subst (λ k. holds k old.node.state.rows) (sym r.rest.keeper) serving.held;
-      waits = r.rest.waiting;
-      failed = r.rest.failed ∙ serving.committed;
-      log = r.rest.log;
-      seat = refl;
-    },
+    record { node = refl; held = serving.held; waits = refl; failed = serving.committed; log = refl; seat = refl },
   )
 
   -- the commit failed

@@ -255,7 +255,7 @@ module _ {B S Y M K : Type 0} (same : B → B → Bool) (from : S → Machine B 
           held = subst (λ x. holds new.keeper x.rows) (is_node ∙ ap (λ x. x.node) (sym (ap seen h.2.seat ∙ reach.seen))) h.2.held;
         },
       )
-      acts_of fresh short (Err Memory) h = (fresh, h.0, is_taken, stops h.1)
+      acts_of fresh short (Err Memory) h = (fresh, h.1, is_taken, inr (is_agreed h.0), stops h.2)
       acts_of fresh short (Err Failed) h = absurd h
       acts_of fresh short (Err Rounds) h = absurd h
       acts_of fresh short (Err Full) h = absurd h
@@ -297,6 +297,7 @@ module _ {B S Y M K : Type 0} (same : B → B → Bool) (from : S → Machine B 
         fresh,
         refl,
         (ap (is_round_refused e) (sym stays_node) ∙ h.0, ap (is_full_refused same e) (sym stays_node) ∙ h.1),
+        inl refl,
         stops_here serving (Some e) behind,
       )
 

@@ -67,7 +67,8 @@ module _ {B S Y M K : Type 0} (from : S → Machine B S Y) (content : M → S) (
       (may_advance old.seat ≡ true) × (o.is_down ≡ true) × (new.spoiled ≡ true) × TakesOver o old new says.items
   CarriesOut o old new (Err (Keeper fault)) = (may_advance old.seat ≡ true) × (new.spoiled ≡ true) × FailsAt o old new fault
   CarriesOut o old new (Err Worn) = (may_advance old.seat ≡ false) × (new.spoiled ≡ true) × StopsBefore old new
-  CarriesOut o old new (Err Memory) = (new.spoiled ≡ true) × (StopsBefore old new ⊎ StopsBehind o old new)
+  CarriesOut o old new (Err Memory) =
+      (may_advance old.seat ≡ true) × (new.spoiled ≡ true) × (StopsBefore old new ⊎ StopsBehind o old new)
   CarriesOut o old new (Err Failed) = ⊥
   CarriesOut o old new (Err Rounds) = ⊥
   CarriesOut o old new (Err Full) = ⊥

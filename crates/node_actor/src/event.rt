@@ -125,8 +125,8 @@ fn is_for<M: Machine, K: Keeper<M::Body>>(parts: &Parts<M, K>, packet: &Packet<M
 
 // Carries out the outcome of a planned event, in this order:
 //
-// 1. allocates what adopting it needs, or ends the actor with `Memory`;
-// 2. sees that the node's word can count one event more, or ends the actor with `Worn`;
+// 1. sees that the node's word can count one event more, or ends the actor with `Worn`;
+// 2. allocates what adopting it needs, or ends the actor with `Memory`;
 // 3. commits what it changes, or ends the actor with the store's fault, and keeps the outcome for a restart;
 // 4. takes the step at the table;
 // 5. adopts it in the node;
@@ -155,16 +155,16 @@ fn carry_out<M: Machine, K: Keeper<M::Body>>(
     ensures did { CarriesOut (machine_from M.next M.says M.to) M.content K.holds K.finds K.failures outcome
         (acting parts.old seat.old) (acting parts.new seat.new) result }
 {
-    let Ok(()) = parts.make_room(&outcome) else {
-        parts.spoil();
-        drop(outcome);
-        return Err(ActorFault::Memory);
-    };
     if !seat.may_advance() {
         parts.spoil();
         drop(outcome);
         return Err(ActorFault::Worn);
     }
+    let Ok(()) = parts.make_room(&outcome) else {
+        parts.spoil();
+        drop(outcome);
+        return Err(ActorFault::Memory);
+    };
     match parts.commit(&outcome) {
         Err(fault) => {
             parts.spoil_at(outcome);

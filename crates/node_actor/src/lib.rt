@@ -22,7 +22,7 @@ pub use actor_parts::ActorFault;
 pub use heard::Heard;
 pub use mail_table::{Mail, NodeSeat};
 pub use paxos_node::{Event, Outcome};
-pub use paxos_packets::{Ballot, Body, Entry, Members, Packet, Rows};
+pub use paxos_packets::{Ballot, Body, Entry, Members, NodeSet, Packet, Rows};
 pub use post::Post;
 pub use replica_machine::{AppliedLog, Machine};
 pub use store_keeper::{Keeper, KeeperFault};

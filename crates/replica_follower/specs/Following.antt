@@ -1,6 +1,6 @@
 -- One node's machine as it follows its node: the log that it followed, what the transports of its node were handed, and what is deferred
 -- for those that the machine spoke to before its node passed there (docs/CONSENSUS.md, "The world").
-use Rattle.std.specs.Prelude.{◌≡◌, ◌⊎◌, ℕ, zero, suc, ◌<◌, ◌≤◌, Bool, false, ◌&&◌, ◌==◌, List, [], ◌++◌, filter, length}
+use Rattle.std.specs.Prelude.{◌≡◌, ◌⊎◌, ℕ, zero, suc, ◌<◌, ◌≤◌, Bool, true, false, ◌&&◌, ◌==◌, List, [], ◌++◌, filter, length}
 use Rattle.std.specs.Prelude.{slice_index_or, if◌then◌else◌}
 use Rattle.std.specs.declared.vec.Vec.{Vec}
 use Rattle.std.specs.declared.alloc.Global.{Global}
@@ -67,10 +67,15 @@ abbrev pub LaterBootsAreKept : Type 0 → Type 0 → Type 0 → Type 0 → Type 
 LaterBootsAreKept B M S Y =
     (m : Machine B S Y) (boot from later : ℕ) (f : Followed B M Y) → boot < later → Keeps m boot from f → Keeps m later 0 f
 
+-- the machine was given an entry after the first `stands`, which its node has had: the log holds it, or failed at it
+abbrev pub HasHeard : {B M : Type 0} → ℕ → LogState B M → Type 0
+HasHeard stands applied = (applied.failed ≡ true) ⊎ (stands < length applied.applied)
+
 -- the log holds the entries that the machine followed, and nothing ahead of them; if the machine is not given up it holds no more, and
--- nothing is deferred of indices after them
+-- nothing is deferred of indices after them; and it is given up only after it was given an entry that its node has not had
 pub record IsHeld {B M Y : Type 0} (stands : ℕ) (applied : LogState B M) (given_up : Bool) (deferred : List (BootSlot × Vec Y Global)) : Type 0 where
   pub within : stands ≤ length applied.applied
   pub ahead : applied.ahead ≡ []
   pub whole : given_up ≡ false → length applied.applied ≡ stands
   pub behind : given_up ≡ false → (b i : ℕ) → stands ≤ i → deferred_at b i deferred ≡ []
+  pub heard : given_up ≡ true → HasHeard stands applied

@@ -5,7 +5,7 @@ ghost use Rattle.paxos_packets.specs.declared.transport.Transport.{Transport};
 ghost use Rattle.replica_machine.specs.Log.{Begins, Follows, machine_from};
 ghost use Rattle.replica_machine.specs.Replay.{sayings_by_slot};
 ghost use Rattle.replica_follower.specs.declared.telling.Untold.TheVariants.{Unheard, Heard};
-ghost use Rattle.replica_follower.specs.Following.{said_to, said_in_boot, deferred_at, deferred_from};
+ghost use Rattle.replica_follower.specs.Following.{HasHeard, said_to, said_in_boot, deferred_at, deferred_from};
 ghost use Rattle.replica_follower.specs.Handed.{said_in, room_in};
 
 use crate::deferred::Deferred;
@@ -51,6 +51,7 @@ pub fn tell<M: Machine>(
     ensures follows { (first : M.Content) → Follows (machine_from M.next M.says M.to) M.content first applied.old
         → OnOk result (Follows (machine_from M.next M.says M.to) M.content first applied.new) }
     ensures unheard { IsErrOf result Unheard → (applied.new ≡ applied.old) × (deferred.new ≡ deferred.old) }
+    ensures heard { IsErrOf result Heard → 0 < vec_len entries → HasHeard (length applied.old.applied) applied.new }
     ensures said { (t : Transport) → said_in t handed.new ≡ said_in t handed.old }
     ensures room { OnOk result ((t : Transport) → room_in t handed.new ≡ room_in t handed.old
         + length (said_to M.to t (deferred_from boot (length applied.old.applied) (vec_len entries) deferred.new))) }
@@ -65,7 +66,8 @@ pub fn tell<M: Machine>(
     let said = match applied.append(entries) {
         Ok(said) => said,
         Err(LearnFault::Memory) => return Err(Untold::Unheard),
-        Err(_) => return Err(Untold::Heard),
+        Err(LearnFault::Failed) => return Err(Untold::Heard),
+        Err(LearnFault::Disagree) => unreachable!(),
     };
     let end = from + said.len();
     let Ok(()) = keep_slots::<M>(deferred, node, boot, from, said) else {

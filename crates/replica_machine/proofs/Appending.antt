@@ -80,6 +80,10 @@ module _ {B M : Type 0} (now inside : LogState B M) (same : inside ≡ now) wher
   pub begins_same : (applied : List (Entry B)) → applied ≡ inside.applied → Begins now.applied applied
   begins_same applied h = begins_with applied applied h ([], append-nil applied)
 
+  pub begins_to : (applied front more : List (Entry B)) → applied ≡ inside.applied → Begins front (applied ++ more)
+      → Begins front (now.applied ++ more)
+  begins_to applied front more h = subst (λ l. Begins front (l ++ more)) (applied_is applied h)
+
   pub state_inside : {S Y : Type 0} (m : Machine B S Y) (content : M → S) (applied : List (Entry B)) → applied ≡ inside.applied
       → content now.machine ≡ state m now.applied → content inside.machine ≡ state m applied
   state_inside m content applied h follows =

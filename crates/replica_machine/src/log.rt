@@ -195,8 +195,8 @@ impl<M: Machine> AppliedLog<M> {
 
     /// Applies the entries in the next slots, given that nothing is learned there, and returns what the machine said at each.
     ///
-    /// On `Memory` the machine was given nothing, and the log is as it was. After `Failed` the log has failed, as after `advance`; some of
-    /// the entries may be applied then. Takes constant time for each entry besides the machine's own, whatever the log's length.
+    /// On `Memory` the machine was given nothing, and the log is as it was. After `Failed` the log has failed, as after `advance`; the first
+    /// of the entries may be applied then, in order. Takes constant time for each entry besides the machine's own, whatever the log's length.
     pub fn append(&mut self, entries: Vec<Entry<M::Body>>) -> Result<Vec<Vec<M::Say>>, LearnFault>
         requires { self.old.ahead ≡ [] }
         ensures applied { OnOk result (self.new.applied ≡ self.old.applied ++ entries.items) }
@@ -208,6 +208,7 @@ impl<M: Machine> AppliedLog<M> {
         ensures refused { IsErrOf result LearnFault.Failed → self.new.failed ≡ true }
         ensures no_other { IfErr result (λ fault. fault ≢ LearnFault.Disagree) }
         ensures err { OnErr result (Begins self.old.applied self.new.applied) }
+        ensures front { OnErr result (Begins self.new.applied (self.old.applied ++ entries.items)) }
         ensures follows { (first : M.Content) → Follows (machine_from M.next M.says M.to) M.content first self.old
             → OnOk result (Follows (machine_from M.next M.says M.to) M.content first self.new) }
         ensures says { (first : M.Content) → Follows (machine_from M.next M.says M.to) M.content first self.old
@@ -318,6 +319,7 @@ fn apply_all<M: Machine>(
     ensures count { OnOk result (vec_len said.new ≡ vec_len said.old + length entries.items) }
     ensures roll { OnOk result (IsRollOf applied.new.items roll.new) }
     ensures err { OnErr result (Begins applied.old.items applied.new.items) }
+    ensures front { OnErr result (Begins applied.new.items (applied.old.items ++ entries.items)) }
     ensures content { (first : M.Content) → M.content machine.old ≡ state (machine_from M.next M.says M.to first) applied.old.items
         → OnOk result (M.content machine.new ≡ state (machine_from M.next M.says M.to first) applied.new.items) }
     ensures said { (first : M.Content) → M.content machine.old ≡ state (machine_from M.next M.says M.to first) applied.old.items

@@ -3,4 +3,6 @@
 
 mod world_node;
 
+pub use paxos_node::{Event, Node, Outcome, Packets};
+pub use paxos_packets::{Body, Entries, Members, Memory, Rows};
 pub use world_node::{NodeStatus, WorldNode};

@@ -5,4 +5,5 @@
 mod numbers;
 mod sent;
 
+pub use paxos_packets::{Body, Memory, Packet};
 pub use sent::SentPackets;

@@ -1,11 +1,25 @@
-use Rattle.std.proofs.Common.{◌≡◌, true, sym, subst, ◌∙◌, rules}
+use Rattle.std.proofs.Common.{◌≡◌, true, false, sym, subst, ◌∙◌, rules}
 use Rattle.replica_machine.specs.Log.{LogState, machine_from}
 use Rattle.actor_parts.specs.Steps.{IsAtEnd}
-use Rattle.actor_parts.proofs.Carrying.{Roomed, Ready, stopped_sound, fallen_sound, ready}
+use Rattle.actor_parts.proofs.Carrying.{Roomed, Ready, stopped_sound, fallen_sound, spoiled_sound, ready}
 use Rattle.node_actor.specs.Steps.{may_advance}
-use Rattle.node_actor.proofs.Carrying.{stopped, fallen, carried_on, sound_on}
-use Rattle.node_actor.proofs.Seating.{seated_stopped, seated_fallen, seated_on}
+use Rattle.node_actor.proofs.Carrying.{stopped, worn_out, fallen, carried_on, sound_on}
+use Rattle.node_actor.proofs.Seating.{seated_stopped, seated_fallen, seated_on, seated_spoiled}
 use Rattle.node_actor.proofs.event.carry_out.Goals as goal
+
+pub returns-then-not-may_advance-clause-sound : goal.returns-then-not-may_advance-clause-sound
+returns-then-not-may_advance-clause-sound g c =
+    rw c.spoil.ensures (spoiled_sound _ _ _ c.args.parts.now c.requires.sound c.requires.serving)
+
+pub returns-then-not-may_advance-clause-seated : goal.returns-then-not-may_advance-clause-seated
+returns-then-not-may_advance-clause-seated g c =
+    rw c.spoil.ensures (seated_spoiled g.M.Body.Body.same c.args.parts.now c.args.seat.now c.requires.seated)
+
+pub returns-then-not-may_advance-clause-did : goal.returns-then-not-may_advance-clause-did
+returns-then-not-may_advance-clause-did g c =
+    let worn : may_advance c.args.seat.now ≡ false = search rules in
+    rw c.spoil.ensures (worn_out _ _ _ _ _ _ c.args.outcome c.args.parts.now c.args.seat.now worn
+    (c.requires.sound.serves c.requires.serving))
 
 pub returns-in_default-clause-sound : goal.returns-in_default-clause-sound
 returns-in_default-clause-sound g c =
@@ -15,7 +29,7 @@ returns-in_default-clause-sound g c =
       members = c.make_room.ensures.members;
       rest = c.make_room.ensures.rest;
     } in
-    rw c.spoil.ensures (stopped_sound _ _ _ c.args.parts.now c.make_room.new.self c.requires.sound c.requires.serving room)
+    rw c.spoil-in_default.ensures (stopped_sound _ _ _ c.args.parts.now c.make_room.new.self c.requires.sound c.requires.serving room)
 
 pub returns-in_default-clause-seated : goal.returns-in_default-clause-seated
 returns-in_default-clause-seated g c =
@@ -25,7 +39,7 @@ returns-in_default-clause-seated g c =
       members = c.make_room.ensures.members;
       rest = c.make_room.ensures.rest;
     } in
-    rw c.spoil.ensures (seated_stopped g.M.Body.Body.same c.args.parts.now c.make_room.new.self c.args.seat.now
+    rw c.spoil-in_default.ensures (seated_stopped g.M.Body.Body.same c.args.parts.now c.make_room.new.self c.args.seat.now
     (c.requires.sound.serves c.requires.serving).committed room c.requires.seated)
 
 pub returns-in_default-clause-did : goal.returns-in_default-clause-did
@@ -36,30 +50,9 @@ returns-in_default-clause-did g c =
       members = c.make_room.ensures.members;
       rest = c.make_room.ensures.rest;
     } in
-    rw c.spoil.ensures (stopped _ _ _ _ _ _ c.args.outcome c.args.parts.now c.make_room.new.self c.args.seat.now
+    let may : may_advance c.args.seat.now ≡ true = search rules in
+    rw c.spoil-in_default.ensures (stopped _ _ _ _ _ _ c.args.outcome c.args.parts.now c.make_room.new.self c.args.seat.now may
     (c.requires.sound.serves c.requires.serving) room)
-
-pub returns-then-not-may_advance-clause-sound : goal.returns-then-not-may_advance-clause-sound
-returns-then-not-may_advance-clause-sound g c =
-    let room : Roomed c.args.parts.now c.make_room.new.self = record {
-      state = c.make_room.ensures.state;
-      me = c.make_room.ensures.me;
-      members = c.make_room.ensures.members;
-      rest = c.make_room.ensures.rest;
-    } in
-    rw c.spoil-then-not-may_advance.ensures (stopped_sound _ _ _ c.args.parts.now c.make_room.new.self c.requires.sound c.requires.serving
-    room)
-
-pub returns-then-not-may_advance-clause-seated : goal.returns-then-not-may_advance-clause-seated
-returns-then-not-may_advance-clause-seated g c =
-    let room : Roomed c.args.parts.now c.make_room.new.self = record {
-      state = c.make_room.ensures.state;
-      me = c.make_room.ensures.me;
-      members = c.make_room.ensures.members;
-      rest = c.make_room.ensures.rest;
-    } in
-    rw c.spoil-then-not-may_advance.ensures (seated_stopped g.M.Body.Body.same c.args.parts.now c.make_room.new.self c.args.seat.now
-    (c.requires.sound.serves c.requires.serving).committed room c.requires.seated)
 
 pub take_over-requires-clause-end : goal.take_over-requires-clause-end
 take_over-requires-clause-end g c =

@@ -1,4 +1,4 @@
-use Rattle.std.proofs.Common.{rules, ◌≡◌, refl, sym, ap, ◌∙◌, subst, ℕ, ◌+◌, ◌-◌, ◌<◌, ◌≤◌, ◌++◌, arith, List, [], length, map, slice_index_or, Err, Fits, w64}
+use Rattle.std.proofs.Common.{rules, ◌≡◌, inl, inr, refl, sym, ap, ◌∙◌, subst, ℕ, ◌+◌, ◌-◌, ◌<◌, ◌≤◌, ◌++◌, arith, List, [], length, map, slice_index_or, Err, Fits, w64}
 use Rattle.std.specs.Prelude.{vec_len, IsErrOf}
 use Rattle.std.proofs.lemmas.List.{length-append}
 use Rattle.replica_follower.specs.declared.telling.Untold.TheVariants.{Unheard, Heard}
@@ -24,6 +24,9 @@ slots_fit from said old es a b l = omega arith
 fits : (from said old es : ℕ) → from ≡ old → said ≡ es → old + es < 1099511627776 → Fits w64 (from + said)
 fits from said old es a b l = omega arith
 
+goes_on : {A : Type 0} (old es new : List A) → new ≡ old ++ es → 0 < length es → length old < length new
+goes_on old es new is some = let all : length new ≡ length old + length es = ap (λ xs. length xs) is ∙ length-append old es in omega arith
+
 not_unheard : {T P : Type 0} → IsErrOf {T = T} (Err Heard) Unheard → P
 not_unheard e = absurd cc
 
@@ -33,13 +36,14 @@ returns-in-Err-Memory-clause-begins g c = c.in-Err-Memory.ensures.err
 pub returns-in-Err-Memory-clause-unheard : goal.returns-in-Err-Memory-clause-unheard
 returns-in-Err-Memory-clause-unheard g c = λ unheard. (c.in-Err-Memory.ensures.memory (search rules), refl)
 
-pub returns-in-Err : goal.returns-in-Err
-returns-in-Err g c = record {
+pub returns-in-Err-Failed : goal.returns-in-Err-Failed
+returns-in-Err-Failed g c = record {
   ahead = c.append.ensures.ahead;
   applied = tt;
-  begins = c.in-Err.ensures.err;
+  begins = c.in-Err-Failed.ensures.err;
   follows = λ first follows. tt;
   unheard = λ unheard. not_unheard unheard;
+  heard = λ _ some. inl (c.in-Err-Failed.ensures.refused (search rules));
   said = λ t. refl;
   room = tt;
   known = λ b i l. refl;
@@ -63,6 +67,11 @@ returns-in_default-clause-begins g c = (c.args.entries.items, sym c.in-Ok.ensure
 pub returns-in_default-clause-unheard : goal.returns-in_default-clause-unheard
 returns-in_default-clause-unheard g c = λ unheard. not_unheard unheard
 
+pub returns-in_default-clause-heard : goal.returns-in_default-clause-heard
+returns-in_default-clause-heard g c = λ _ some.
+    inr (goes_on c.args.applied.now.applied c.args.entries.items c.append.new.self.applied c.in-Ok.ensures.applied
+    (subst (λ n. 0 < n) c.args.entries.ok.0 some))
+
 pub returns-in_default-clause-known : goal.returns-in_default-clause-known
 returns-in_default-clause-known g c = λ b i l. c.keep_slots.ensures.before b i (subst (λ p. i < length p) (sym c.applied-from.ensures) l)
 
@@ -71,6 +80,11 @@ returns-in_default-expect_all-clause-begins g c = (c.args.entries.items, sym c.i
 
 pub returns-in_default-expect_all-clause-unheard : goal.returns-in_default-expect_all-clause-unheard
 returns-in_default-expect_all-clause-unheard g c = λ unheard. not_unheard unheard
+
+pub returns-in_default-expect_all-clause-heard : goal.returns-in_default-expect_all-clause-heard
+returns-in_default-expect_all-clause-heard g c = λ _ some.
+    inr (goes_on c.args.applied.now.applied c.args.entries.items c.append.new.self.applied c.in-Ok.ensures.applied
+    (subst (λ n. 0 < n) c.args.entries.ok.0 some))
 
 pub returns-in_default-expect_all-clause-known : goal.returns-in_default-expect_all-clause-known
 returns-in_default-expect_all-clause-known g c = λ b i l.

@@ -9,7 +9,7 @@ use Rattle.replica_machine.specs.Log.{LogState, machine_from}
 use Rattle.replica_machine.specs.Replay.{Machine, state, sayings_by_slot}
 use Rattle.replica_follower.specs.declared.deferred.BootSlot.{BootSlot}
 use Rattle.replica_follower.specs.Handed.{said_in, room_in}
-use Rattle.replica_follower.specs.Following.{Followed, Follows, IsHeld, said_to, said_in_boot, deferred_at, deferred_from}
+use Rattle.replica_follower.specs.Following.{Followed, Follows, HasHeard, IsHeld, said_to, said_in_boot, deferred_at, deferred_from}
 use Rattle.replica_follower.proofs.follower.Follower.tell.Goals as goal
 
 -- a log of n entries that goes on
@@ -133,6 +133,7 @@ invariant_of-self g c =
       ahead = c.tell.ensures.ahead;
       whole = λ alive. count;
       behind = λ alive b i l. c.in-Ok.ensures.behind b i (subst (λ n. n ≤ i) (sym count) l);
+      heard = λ spoilt. (let never : false ≡ true = sym c.if-self.false ∙ spoilt in cc);
     }
 
 pub invariant_of-self-in-Err-Unheard : goal.invariant_of-self-in-Err-Unheard
@@ -151,6 +152,9 @@ invariant_of-self-in-Err-Heard g c =
       ahead = c.tell.ensures.ahead;
       whole = λ alive. (let never : true ≡ false = alive in cc);
       behind = λ alive b i l. (let never : true ≡ false = alive in cc);
+      heard = λ spoilt. subst (λ n. HasHeard n c.tell.new.applied) (c.self.invariant.whole c.if-self.false)
+          (c.in-Err-Heard.ensures.heard (search rules) (subst (λ n. 0 < n) (sym (c.in_ok-copies.copies.ok.0 ∙ ap (λ l. length l) c.in_ok-copies.ensures))
+          (some (length c.args.entries.now) (sym c.is_empty.ensures ∙ c.if-is_empty.false))));
     }
 
 pub returns-in-Ok-clause-ok_log : goal.returns-in-Ok-clause-ok_log

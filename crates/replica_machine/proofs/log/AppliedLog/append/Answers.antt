@@ -4,7 +4,7 @@ use Rattle.replica_machine.specs.Log.{machine_from}
 use Rattle.replica_machine.specs.Roll.{IsRollOf}
 use Rattle.replica_machine.specs.Replay.{sayings_by_slot}
 use Rattle.replica_machine.proofs.Appending.{memory_failed, memory_disagree, failed_disagree, other_fault, no_fault}
-use Rattle.replica_machine.proofs.Appending.{if_not_err, log_stays, stays_empty, not_failed, applied_is, begins_with, begins_same, state_inside}
+use Rattle.replica_machine.proofs.Appending.{if_not_err, log_stays, stays_empty, not_failed, applied_is, begins_with, begins_same, begins_to, state_inside}
 use Rattle.replica_machine.proofs.log.AppliedLog.append.Goals as goal
 
 pub apply_all-requires : goal.apply_all-requires
@@ -31,6 +31,7 @@ returns-in_default g c = record {
   refused = λ e. absurd (other_fault Memory Failed memory_failed e);
   no_other = memory_disagree;
   err = begins_same c.args.self.now c.args.self.now refl c.args.self.now.applied refl;
+  front = (c.args.entries.items, refl);
   follows = λ _ _. tt;
   says = λ _ _. tt;
 }
@@ -46,6 +47,7 @@ returns-then-is_err g c = record {
   refused = λ e. absurd (other_fault Memory Failed memory_failed e);
   no_other = memory_disagree;
   err = begins_same c.args.self.now _ c.self.view_is _ c.reserve.ensures.items;
+  front = (c.args.entries.items, ap (λ l. l ++ c.args.entries.items) (applied_is c.args.self.now _ c.self.view_is _ c.reserve.ensures.items));
   follows = λ _ _. tt;
   says = λ _ _. tt;
 }
@@ -61,6 +63,7 @@ returns-in_default-apply_all g c = record {
   refused = λ _. refl;
   no_other = failed_disagree;
   err = begins_with c.args.self.now _ c.self.view_is _ _ c.reserve.ensures.items c.in_default-apply_all.ensures.err;
+  front = begins_to c.args.self.now _ c.self.view_is _ _ _ c.reserve.ensures.items c.in_default-apply_all.ensures.front;
   follows = λ _ _. tt;
   says = λ _ _. tt;
 }
@@ -85,6 +88,7 @@ returns g c =
       refused = λ e. absurd (no_fault c.apply_all.new.said Failed e);
       no_other = tt;
       err = tt;
+      front = tt;
       follows = λ first follows. done.content first (state_inside now _ c.self.view_is (from first) content _ stood follows);
       says = λ first follows. done.said first (state_inside now _ c.self.view_is (from first) content _ stood follows)
           ∙ ap (λ l. map (λ says. says.items) l ++ sayings_by_slot (from first) c.reserve.new.self.items c.args.entries.items)

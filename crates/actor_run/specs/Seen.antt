@@ -1,0 +1,22 @@
+-- What a feed is given of an actor.
+use Rattle.std.specs.Prelude.{◌≡◌, ℕ, nat_lt, min, List, [], ◌∷◌, length}
+use Rattle.paxos_proposer.specs.Proposer.{is_leading}
+use Rattle.actor_outboxes.specs.Outboxes.{Waiting, waiting}
+use Rattle.node_actor.specs.Actor.{Acting}
+use Rattle.actor_run.specs.declared.feed.Seen.{Seen}
+
+-- how many packets wait for a member, as far as 16 bits count them
+abbrev pub count_for : {B : Type 0} → ℕ → Waiting B → ℕ
+count_for k w = min (length (waiting k w)) 65535
+
+-- the same for each member that there may be, member 1 first
+abbrev pub counts : {B : Type 0} → Waiting B → List ℕ
+counts w = count_for 1 w ∷ count_for 2 w ∷ count_for 3 w ∷ count_for 4 w ∷ count_for 5 w ∷ count_for 6 w ∷ count_for 7 w ∷ []
+
+-- what is shown of an actor besides its last turn
+pub record Shows {B M K : Type 0} (a : Acting B M K) (s : Seen) : Type 0 where
+  pub applied : s.applied ≡ length a.node.state.applied
+  pub pending : s.pending ≡ nat_lt 0 (length a.node.state.pending)
+  pub waits : s.waiting ≡ counts a.waiting
+  pub leads : s.leads ≡ is_leading a.node.state.proposer.role
+  pub promised : s.promised ≡ a.node.state.rows.promised

@@ -1,0 +1,358 @@
+-- Rounds that a node holds were sent, and what a leader proposed is in slots that follow one another.
+use Rattle.std.proofs.Common.{◌≡◌, ◌⊎◌, inl, inr, ⊎_elim, ℕ, suc, ◌+◌, ◌<◌, ◌≤◌, Bool, true, not, ◌&&◌, refl, sym, ap, ◌∙◌, subst, arith}
+use Rattle.cluster_world.proofs.Invariant.{Sent}
+use Rattle.std.proofs.Common.{List, [], ◌∷◌, ◌++◌, length, length-append, Option, Some, None}
+use Rattle.std.specs.Prelude.{max, nat_lt}
+use Rattle.std.proofs.lemmas.Bool.{cond_both, cases_eq, cases_lt, cond-true}
+use Rattle.cluster_world.proofs.Lists.{has_left, has_right}
+use Rattle.cluster_world.proofs.AcceptorTests.{others_sent}
+use Rattle.cluster_world.proofs.EveryWorld.{within, node_same, node_other, among_has}
+use Rattle.cluster_world.proofs.Taking.{May, by_next}
+use Rattle.cluster_world.proofs.Applied.{in_every}
+use Rattle.cluster_world.proofs.Pending.{founded_each}
+use Rattle.cluster_world.specs.Has.{Has}
+use Rattle.paxos_packets.specs.Ballot.{same_ballot, below}
+use Rattle.paxos_packets.specs.Body.{IsEquality}
+use Rattle.paxos_packets.specs.Members.{is_majority}
+use Rattle.paxos_packets.specs.Packet.{packet, to_others}
+use Rattle.paxos_packets.specs.Rows.{raised}
+use Rattle.paxos_packets.specs.Vote.{votes_from}
+use Rattle.paxos_packets.specs.declared.ballot.Ballot.{Ballot}
+use Rattle.paxos_packets.specs.declared.entry.Entry.{Entry}
+use Rattle.paxos_packets.specs.declared.packet.Kind.{Kind}
+use Rattle.paxos_packets.specs.declared.packet.Kind.TheVariants.{Prepare, Promise, Accept, Accepted, Nack, Forward, Ask, Learned}
+use Rattle.paxos_packets.specs.declared.packet.Packet.{Packet}
+use Rattle.paxos_packets.specs.declared.rows.Rows.{Rows}
+use Rattle.paxos_packets.specs.declared.vote.Vote.{Vote}
+use Rattle.paxos_acceptor.specs.Acceptor.{may_promise, may_accept}
+use Rattle.paxos_proposer.specs.declared.promises.CountedPromise.{CountedPromise}
+use Rattle.paxos_proposer.specs.Role.{Role, Idle, Preparing, Leading}
+use Rattle.paxos_proposer.specs.Proposals.{AreUpTo}
+use Rattle.paxos_proposer.specs.Proposer.{round_of, slot_end, next_vote, new_ballot, step_down, nacked, is_leading}
+use Rattle.paxos_proposer.specs.Reports.{is_counted, reports, called_for}
+use Rattle.paxos_node.specs.declared.event.Event.{Event}
+use Rattle.paxos_node.specs.declared.event.Event.TheVariants.{Take, Tick, Start, Suspect, Deliver, Crash, Restart}
+use Rattle.paxos_planning.specs.Node.{NodeState, Plan}
+use Rattle.paxos_planning.specs.Plan.{with_role, with_pending, begun, send, promise, cast}
+use Rattle.paxos_planning.specs.Proposals.{offer, propose_as, propose, propose_all, lead, stands, propose_new, propose_each, forwarded, push}
+use Rattle.paxos_planning.specs.Replies.{round_in, saw, refuse, count_promise, on_promise_as, on_packet}
+use Rattle.paxos_planning.specs.Starting.{begin, starts, on_start}
+use Rattle.paxos_planning.specs.Ticking.{again, on_tick}
+use Rattle.paxos_learner.specs.Learner.{run_from}
+use Rattle.paxos_node.specs.Applying.{started, first_rows, note, ends, go_down, apply_all, settle}
+use Rattle.paxos_node.specs.Events.{takes, with_item, on_take, has_room, suspected, new_lost, owner, outcome_of}
+use Rattle.cluster_world.specs.World.{World, node_at, put_node, first_world, was_sent, done, next, played}
+use Rattle.cluster_world.specs.Proposers.{WasSentRound, IsRoundOfRole, RoundsWereSent, FollowOneAnother, ProposalsFollow}
+
+max_is : (a b : ℕ) → (max a b ≡ a) ⊎ (max a b ≡ b)
+max_is a b = ⊎_elim (λ (l : a < b). inr (omega arith)) (λ (l : b ≤ a). inl (omega arith)) (cases_lt a b)
+
+one_up : {B : Type 0} (slot : ℕ) (vs : List (Vote B)) (v : Vote B) → AreUpTo slot vs → 1 ≤ slot → v.slot ≡ slot → AreUpTo (suc slot) (vs ++ v ∷ [])
+one_up slot [] v h l e = (subst (λ k. 1 ≤ k) (sym e) l, plus_one v.slot e, tt)
+  where
+    plus_one : (k : ℕ) → k ≡ slot → k + 1 ≡ suc slot
+    plus_one k e = omega arith
+one_up slot (w ∷ vs) v h l e =
+    let longer = length-append vs (v ∷ []) in
+    let is = h.1 in (
+      h.0,
+      more w.slot (length vs) longer is,
+      one_up slot vs v h.2 l e,
+    )
+  where
+    more : (a b : ℕ) {c : ℕ} → c ≡ b + 1 → a + suc b ≡ slot → a + suc c ≡ suc slot
+    more a b s t = omega arith
+
+module _ {B : Type 0} (R : ℕ → Type 0) where
+  -- a proposer that holds such rounds alone, and whose proposals follow one another
+  abbrev pub RoleProper : Role B → Type 0
+  RoleProper Idle = Unit {0}
+  RoleProper (Preparing b floor cs) = R b.round × (1 ≤ floor)
+  RoleProper (Leading b slot table) = R b.round × (1 ≤ slot) × AreUpTo slot table
+
+  pub record Proper (x : NodeState B) : Type 0 where
+    pub seen : R x.proposer.seen
+    pub promised : R (round_of x.rows.promised)
+    pub role : RoleProper x.proposer.role
+
+  abbrev Ok : Plan B → Type 0
+  Ok t = Proper t.node
+
+  down_role : (b : Ballot) (r : Role B) → RoleProper r → RoleProper (step_down b r)
+  down_role b Idle h = tt
+  down_role b (Preparing c floor cs) h = cond_both (below c b) Idle (Preparing c floor cs) (λ r. RoleProper r) (λ t. tt) (λ t. h)
+  down_role b (Leading c slot table) h = cond_both (below c b) Idle (Leading c slot table) (λ r. RoleProper r) (λ t. tt) (λ t. h)
+
+  nacked_role : (b p : Ballot) (r : Role B) → RoleProper r → RoleProper (nacked b p r)
+  nacked_role b p Idle h = tt
+  nacked_role b p (Preparing c floor cs) h =
+      cond_both (same_ballot b c && below c p) Idle (Preparing c floor cs) (λ r. RoleProper r) (λ t. tt) (λ t. h)
+  nacked_role b p (Leading c slot table) h =
+      cond_both (same_ballot b c && below c p) Idle (Leading c slot table) (λ r. RoleProper r) (λ t. tt) (λ t. h)
+
+  module _ (same : B → B → Bool) (members n : ℕ) where
+    cast_ok : (v : Vote B) (t : Plan B) → Ok t → R v.ballot.round → Ok (cast same members n v t)
+    cast_ok v t ok r = record { seen = ok.seen; promised = r; role = down_role v.ballot t.node.proposer.role ok.role }
+
+    proposes_as : (r : Role B) (e : Entry B) (t : Plan B) → Ok t → RoleProper r → Ok (propose_as same members n r e t)
+    proposes_as Idle e t ok h = ok
+    proposes_as (Preparing b floor cs) e t ok h = ok
+    proposes_as (Leading b slot table) e t ok h =
+        cond_both (nat_lt slot slot_end) (cast same members n (next_vote b slot e) (offer members n b slot table e t)) t (λ u. Ok u)
+        (λ l. cast_ok (next_vote b slot e) (offer members n b slot table e t)
+        (record { seen = ok.seen; promised = ok.promised; role = (h.0, omega arith, one_up slot table (next_vote b slot e) h.2 h.1 refl) }) h.0)
+        (λ l. ok)
+
+    proposes : (e : Entry B) (t : Plan B) → Ok t → Ok (propose same members n e t)
+    proposes e t ok = proposes_as t.node.proposer.role e t ok ok.role
+
+    proposes_all : (es : List (Entry B)) (t : Plan B) → Ok t → Ok (propose_all same members n es t)
+    proposes_all [] t ok = ok
+    proposes_all (e ∷ es) t ok = proposes_all es (propose same members n e t) (proposes e t ok)
+
+    proposes_new : (e : Entry B) (t : Plan B) → Ok t → Ok (propose_new same members n e t)
+    proposes_new e t ok =
+        cond_both (stands same (length t.node.applied) t.node.proposer.role e) t (propose same members n e t) (λ u. Ok u) (λ d. ok)
+        (λ d. proposes e t ok)
+
+    proposes_each : (es : List (Entry B)) (t : Plan B) → Ok t → Ok (propose_each same members n es t)
+    proposes_each [] t ok = ok
+    proposes_each (e ∷ es) t ok = proposes_each es (propose_new same members n e t) (proposes_new e t ok)
+
+    pushes : (t : Plan B) → Ok t → Ok (push same members n t)
+    pushes t ok =
+        cond_both (is_leading t.node.proposer.role) (propose_each same members n t.node.pending t)
+        (send (forwarded n t.node.rows.promised t.node.pending) t) (λ u. Ok u)
+        (λ d. proposes_each t.node.pending t ok)
+        (λ d. record { seen = ok.seen; promised = ok.promised; role = ok.role })
+
+    promises_as : (from : ℕ) (b : Ballot) (votes : List (Vote B)) (r : Role B) (t : Plan B) → Ok t → RoleProper r
+        → Ok (on_promise_as same members n from b votes r t)
+    promises_as from b votes Idle t ok h = ok
+    promises_as from b votes (Leading c slot table) t ok h = ok
+    promises_as from b votes (Preparing c floor cs) t ok h =
+        cond_both (same_ballot b c && not (is_counted cs from)) (count_promise same members n c floor more t) t (λ u. Ok u)
+        (λ e. cond_both (is_majority members (is_counted more)) (push same members n (lead same members n c floor (reports more) t))
+        (record t { node = with_role (Preparing c floor more) t.node }) (λ u. Ok u)
+        (λ m. pushes (lead same members n c floor (reports more) t)
+        (proposes_all (called_for floor (reports more)) (record t { node = with_role (Leading c floor []) t.node })
+        (record { seen = ok.seen; promised = ok.promised; role = (h.0, h.1, tt) })))
+        (λ m. record { seen = ok.seen; promised = ok.promised; role = h }))
+        (λ e. ok)
+      where
+        more : List (CountedPromise B)
+        more = cs ++ record { node = from; votes = votes } ∷ []
+
+    hears_packet : (from : ℕ) (kind : Kind B) (t : Plan B) → Ok t → R (round_in kind) → Ok (on_packet same members n from kind t)
+    hears_packet from (Prepare b floor) t ok r =
+        cond_both (may_promise t.node.rows.promised b)
+        (send (packet n (Promise b (votes_from floor t.node.rows.votes)) from ∷ []) (promise b t)) (refuse n from b t) (λ u. Ok u)
+        (λ e. record { seen = ok.seen; promised = r; role = down_role b t.node.proposer.role ok.role })
+        (λ e. record { seen = ok.seen; promised = ok.promised; role = ok.role })
+    hears_packet from (Promise b votes) t ok r = promises_as from b votes t.node.proposer.role t ok ok.role
+    hears_packet from (Accept v) t ok r =
+        cond_both (may_accept t.node.rows.promised v.ballot) (cast same members n v t) (refuse n from v.ballot t) (λ u. Ok u)
+        (λ e. cast_ok v t ok r)
+        (λ e. record { seen = ok.seen; promised = ok.promised; role = ok.role })
+    hears_packet from (Accepted v) t ok r = record { seen = ok.seen; promised = ok.promised; role = ok.role }
+    hears_packet from (Nack b p) t ok r =
+        record { seen = ok.seen; promised = ok.promised; role = nacked_role b p t.node.proposer.role ok.role }
+    hears_packet from (Forward es) t ok r =
+        cond_both (is_leading t.node.proposer.role) (propose_each same members n es t) t (λ u. Ok u) (λ d. proposes_each es t ok) (λ d. ok)
+    hears_packet from (Ask slot) t ok r = record { seen = ok.seen; promised = ok.promised; role = ok.role }
+    hears_packet from (Learned slot e) t ok r = record { seen = ok.seen; promised = ok.promised; role = ok.role }
+
+    greatest : (a b : ℕ) → R a → R b → R (max a b)
+    greatest a b r s = ⊎_elim (λ e. subst R (sym e) r) (λ e. subst R (sym e) s) (max_is a b)
+
+    delivers : (from : ℕ) (kind : Kind B) (t : Plan B) → Ok t → R (round_in kind)
+        → Ok (on_packet same members n from kind (record t { node = saw kind t.node }))
+    delivers from kind t ok r =
+        hears_packet from kind (record t { node = saw kind t.node })
+        (record { seen = greatest t.node.proposer.seen (round_in kind) ok.seen r; promised = ok.promised; role = ok.role }) r
+
+    begins : (t : Plan B) → Ok t → (starts n t.node ≡ true → R (new_ballot n t.node.rows.promised t.node.proposer).round) → Ok (on_start members n t)
+    begins t ok r =
+        cond_both (starts n t.node) (begin members n b (suc (length t.node.applied)) t) t (λ u. Ok u)
+        (λ e. record { seen = greatest t.node.proposer.seen b.round ok.seen (r e); promised = r e; role = (r e, omega arith) })
+        (λ e. ok)
+      where
+        b : Ballot
+        b = new_ballot n t.node.rows.promised t.node.proposer
+
+    suspects : (lost : Option (Entry B)) (t : Plan B) → Ok t → Ok (suspected same members n lost t)
+    suspects None t ok = ok
+    suspects (Some lost) t ok =
+        cond_both (has_room t.node) (push same members n (record t { node = with_pending (t.node.pending ++ lost ∷ []) t.node })) t (λ u. Ok u)
+        (λ e. pushes (record t { node = with_pending (t.node.pending ++ lost ∷ []) t.node })
+        (record { seen = ok.seen; promised = ok.promised; role = ok.role }))
+        (λ e. ok)
+
+    takes_act : (transport : ℕ) (body : B) (t : Plan B) → Ok t → Ok (on_take same members n transport body t)
+    takes_act transport body t ok =
+        cond_both (takes t.node) (push same members n (record t { node = with_item n transport body t.node })) t (λ u. Ok u)
+        (λ e. pushes (record t { node = with_item n transport body t.node })
+        (record { seen = ok.seen; promised = ok.promised; role = ok.role }))
+        (λ e. ok)
+
+    ticks : (t : Plan B) → Ok t → Ok (on_tick same members n t)
+    ticks t ok =
+        let s = pushes (send (again members n t.node.proposer.role t.node.learner.learned) t)
+        (record { seen = ok.seen; promised = ok.promised; role = ok.role }) in
+        record { seen = s.seen; promised = s.promised; role = s.role }
+
+  applies : (n : ℕ) → R 0 → (es : List (Entry B)) (t : Plan B) → Ok t → Ok (apply_all n es t)
+  applies n r [] t ok = ok
+  applies n r (e ∷ es) t ok =
+      cond_both (ends n t.node e) (go_down (note e t)) (apply_all n es (note e t)) (λ u. Ok u)
+      (λ d. record { seen = r; promised = ok.promised; role = tt })
+      (λ d. applies n r es (note e t) (record { seen = ok.seen; promised = ok.promised; role = ok.role }))
+
+  settles : (n : ℕ) → R 0 → (t : Plan B) → Ok t → Ok (settle n t)
+  settles n r t ok = applies n r (run_from (suc (length t.node.applied)) t.node.learner.learned) t ok
+
+  starts_proper : (n : ℕ) (rows : Rows B) → R (round_of rows.promised) → Proper (started n rows)
+  starts_proper n rows r = record { seen = r; promised = r; role = tt }
+
+  -- what an event brings: the round of its packet, or of the ballot that it begins
+  abbrev pub Brings : Event B → NodeState B → Type 0
+  Brings (Take n t body) x = Unit {0}
+  Brings (Tick n) x = Unit {0}
+  Brings (Start n) x = starts n x ≡ true → R (new_ballot n x.rows.promised x.proposer).round
+  Brings (Suspect n other) x = Unit {0}
+  Brings (Deliver p) x = R (round_in p.kind)
+  Brings (Crash n) x = Unit {0}
+  Brings (Restart n) x = Unit {0}
+
+  pub outcome_proper : (same : B → B → Bool) (members : ℕ) → R 0 → (e : Event B) (x : NodeState B) → Proper x → Brings e x
+      → Proper (outcome_of same members e x).node
+  outcome_proper same members r (Take n t body) x ok h = settles n r _ (takes_act same members n t body (begun x) ok)
+  outcome_proper same members r (Tick n) x ok h = settles n r _ (ticks same members n (begun x) ok)
+  outcome_proper same members r (Start n) x ok h = settles n r _ (begins same members n (begun x) ok h)
+  outcome_proper same members r (Suspect n other) x ok h = settles n r _ (suspects same members n (new_lost same n other x) (begun x) ok)
+  outcome_proper same members r (Deliver p) x ok h = settles p.addressee r _ (delivers same members p.addressee p.sender p.kind (begun x) ok h)
+  outcome_proper same members r (Crash n) x ok h = record { seen = r; promised = ok.promised; role = tt }
+  outcome_proper same members r (Restart n) x ok h = starts_proper n (raised x.rows) ok.promised
+
+-- one may hold more rounds
+more_rounds : {B : Type 0} (R S : ℕ → Type 0) → ((r : ℕ) → R r → S r) → (x : NodeState B) → Proper R x → Proper S x
+more_rounds {B} R S h x ok = record { seen = h _ ok.seen; promised = h _ ok.promised; role = role x.proposer.role ok.role }
+  where
+    role : (r : Role B) → RoleProper R r → RoleProper S r
+    role Idle p = tt
+    role (Preparing b floor cs) p = (h _ p.0, p.1)
+    role (Leading b slot table) p = (h _ p.0, p.1, p.2)
+
+-- the packets of an event's plan are sent as they are when what was learned is applied
+packets_stay : {B : Type 0} (n : ℕ) (es : List (Entry B)) (t : Plan B) → (apply_all n es t).packets ≡ t.packets
+packets_stay n [] t = refl
+packets_stay n (e ∷ es) t =
+    cond_both (ends n t.node e) (go_down (note e t)) (apply_all n es (note e t)) (λ u. u.packets ≡ t.packets) (λ d. refl)
+    (λ d. packets_stay n es (note e t))
+
+module _ {B : Type 0} (same : B → B → Bool) (members : ℕ) where
+  -- by any notion of rounds, world by world
+  module _ (R : List (Packet B) → ℕ → Type 0) (grows : (sent more : List (Packet B)) (r : ℕ) → R sent r → R (sent ++ more) r)
+      (none : (sent : List (Packet B)) → R sent 0)
+      (brings : (w : World B) (e : Event B) → was_sent same e w.sent ≡ true
+      → Brings (R (w.sent ++ (outcome_of same members e (node_at w.nodes (owner e))).packets)) e (node_at w.nodes (owner e))) where
+    abbrev AllProper : World B → Type 0
+    AllProper w = (k : ℕ) → Proper (R w.sent) (node_at w.nodes k)
+
+    next_proper : (w : World B) (e : Event B) → AllProper w → AllProper (next same members w e)
+    next_proper w e ok = by_next same members (λ z. AllProper z) w e ok go
+      where
+        o : Plan B
+        o = outcome_of same members e (node_at w.nodes (owner e))
+
+        later : (k : ℕ) → Proper (R (w.sent ++ o.packets)) (node_at w.nodes k)
+        later k = more_rounds (R w.sent) (R (w.sent ++ o.packets)) (λ r h. grows w.sent o.packets r h) (node_at w.nodes k) (ok k)
+
+        go : May same members w e → AllProper (done same w e (node_at w.nodes (owner e)) o)
+        go m k =
+            ⊎_elim
+            (λ (i : k ≡ owner e). subst (λ j. Proper (R (w.sent ++ o.packets)) (node_at (put_node w.nodes (owner e) o.node) j)) (sym i)
+            (subst (λ x. Proper (R (w.sent ++ o.packets)) x) (sym (node_same w.nodes (owner e) o.node (within w.nodes e (owner e) m.1)))
+            (outcome_proper (R (w.sent ++ o.packets)) same members (none (w.sent ++ o.packets)) e (node_at w.nodes (owner e)) (later (owner e))
+            (brings w e m.0))))
+            (λ i. subst (λ x. Proper (R (w.sent ++ o.packets)) x) (sym (node_other w.nodes (owner e) o.node k i)) (later k))
+            (cases_eq k (owner e))
+
+    all_proper : (events : List (Event B)) → AllProper (played same members events)
+    all_proper events =
+        in_every same members (λ w. AllProper w) next_proper events (first_world members)
+        (λ k. founded_each (λ j x. Proper (R []) x) (λ j. starts_proper (R []) (suc j) first_rows (none []))
+        (λ j. record { seen = none []; promised = none []; role = tt }) members k)
+
+pub rounds_were_sent : {B : Type 0} (same : B → B → Bool) → IsEquality same → RoundsWereSent B same
+rounds_were_sent {B} same equal members many events n =
+    let p = all_proper same members WasSentRound grows (λ sent. inl refl) brings events n in
+    record { seen = p.seen; promised = p.promised; role = role (node_at w'.nodes n).proposer.role p.role }
+  where
+    w' : World B
+    w' = played same members events
+
+    R : ℕ → Type 0
+    R = WasSentRound w'.sent
+
+    role : (r : Role B) → RoleProper R r → IsRoundOfRole R r
+    role Idle p = tt
+    role (Preparing b floor cs) p = p.0
+    role (Leading b slot table) p = p.0
+
+    grows : (sent more : List (Packet B)) (r : ℕ) → WasSentRound sent r → WasSentRound (sent ++ more) r
+    grows sent more r (inl e) = inl e
+    grows sent more r (inr p) = inr (p.0, has_left more p.1, p.2)
+
+    brings : (w : World B) (e : Event B) → was_sent same e w.sent ≡ true
+        → Brings (WasSentRound (w.sent ++ (outcome_of same members e (node_at w.nodes (owner e))).packets)) e (node_at w.nodes (owner e))
+    brings w (Take k t body) s = tt
+    brings w (Tick k) s = tt
+    brings w (Start k) s = λ h.
+        inr (
+          record { sender = k; addressee = (asked h).to; kind = Prepare b floor },
+          has_right w.sent
+              (subst (λ l. Has l (record { sender = k; addressee = (asked h).to; kind = Prepare b floor })) (sym (packets h)) (asked h).is),
+          refl,
+        )
+      where
+        x : NodeState B
+        x = node_at w.nodes k
+
+        b : Ballot
+        b = new_ballot k x.rows.promised x.proposer
+
+        floor : ℕ
+        floor = suc (length x.applied)
+
+        asked : starts k x ≡ true → Sent {B = B} (to_others members k (Prepare b floor)) k (Prepare b floor)
+        asked h = others_sent members k (omega arith) (Prepare b floor)
+
+        packets : starts k x ≡ true → (outcome_of same members (Start k) x).packets ≡ to_others members k (Prepare b floor)
+        packets h =
+            packets_stay k (run_from (suc (length (on_start members k (begun x)).node.applied)) (on_start members k (begun x)).node.learner.learned)
+            (on_start members k (begun x))
+            ∙ ap (λ (t : Plan B). t.packets) (cond-true (starts k x) (begin members k b floor (begun x)) (begun x) h)
+    brings w (Suspect k other) s = tt
+    brings w (Deliver p) s = inr (p, has_left _ (among_has same equal p w.sent s), refl)
+    brings w (Crash k) s = tt
+    brings w (Restart k) s = tt
+
+pub proposals_follow : {B : Type 0} (same : B → B → Bool) → ProposalsFollow B same
+proposals_follow {B} same members events n =
+    role (node_at (played same members events).nodes n).proposer.role
+    (all_proper same members (λ sent r. Unit {0}) (λ sent more r h. tt) (λ sent. tt) brings events n).role
+  where
+    role : (r : Role B) → RoleProper (λ q. Unit {0}) r → FollowOneAnother r
+    role Idle p = tt
+    role (Preparing b floor cs) p = tt
+    role (Leading b slot table) p = p.2
+
+    brings : (w : World B) (e : Event B) → was_sent same e w.sent ≡ true → Brings (λ r. Unit {0}) e (node_at w.nodes (owner e))
+    brings w (Take k t body) s = tt
+    brings w (Tick k) s = tt
+    brings w (Start k) s = λ h. tt
+    brings w (Suspect k other) s = tt
+    brings w (Deliver p) s = tt
+    brings w (Crash k) s = tt
+    brings w (Restart k) s = tt
