@@ -1,5 +1,5 @@
 -- What is read in parts.
-use Rattle.std.proofs.Common.{◌≡◌, ℕ, List, [], ◌++◌, Option, None, Some, sym, ◌∙◌, ap, append_assoc, append-nil}
+use Rattle.std.proofs.Common.{◌≡◌, ℕ, List, [], ◌++◌, Option, None, Some, refl, sym, ◌∙◌, ap, append_assoc, append-nil}
 use Rattle.std.specs.Io.KnownBytes.{Consumes, IsAtEnd}
 use Rattle.client_listener.specs.Reading.{IsAll}
 
@@ -16,6 +16,11 @@ consumes_same a b x y e p = rw (← e) p
 -- nothing more was read
 pub consumes_none : (a b c : Option (List ℕ)) (x : List ℕ) → Consumes a b x → Consumes b c [] → Consumes a c x
 consumes_none a b c x p q = consumes_same a c (x ++ []) x (append-nil x) (consumes_both a b c x [] p q)
+
+-- nothing was read
+pub consumes_nothing : (left : Option (List ℕ)) → Consumes left left []
+consumes_nothing None = tt
+consumes_nothing (Some left) = refl
 
 -- what was read up to the end is all
 pub is_all : (a b : Option (List ℕ)) (x : List ℕ) → Consumes a b x → IsAtEnd b → IsAll a x

@@ -1,262 +1,294 @@
 -- How the reading of a client's octets goes on from step to step, and ends.
-use Rattle.std.proofs.Common.{◌≡◌, ℕ, ◌<◌, Bool, true, false, List, [], ◌∷◌, ◌++◌, Option, None, Some, option_map, Result, Ok, Err}
-use Rattle.std.proofs.Common.{refl, sym, ◌∙◌, ap, subst, append_assoc, append-nil}
+use Rattle.std.proofs.Common.{◌≡◌, ◌≤◌, ◌<◌, ◌+◌, ◌⊎◌, inl, inr, ℕ, Bool, true, false, List, [], ◌∷◌, ◌++◌, length, Option, Result, Ok, Err, IsErrOf}
+use Rattle.std.proofs.Common.{refl, sym, ◌∙◌, ap, subst, append_assoc, append-nil, le_trans, arith}
+use Rattle.std.proofs.lemmas.List.{length-append}
 use Rattle.std.specs.Option.{option_to_list}
 use Rattle.std.specs.Io.KnownBytes.{Consumes}
-use Rattle.wamp_rawsocket.specs.declared.fault.FrameFault.{FrameFault}
-use Rattle.wamp_rawsocket.specs.declared.fault.FrameFault.TheVariants.{Failed}
-use Rattle.wamp_rawsocket.specs.declared.frame.Frame.{Frame}
-use Rattle.wamp_rawsocket.specs.Splitter.{Frames, ended, broken, frame, frames_of, end_of}
-use Rattle.wamp_rawsocket.proofs.Streams.{whole_leaves_less, frames_at_whole, frames_at_fault, frames_at_end}
 use Rattle.client_listener.specs.declared.fault.ListenFault.{ListenFault}
 use Rattle.client_listener.specs.declared.fault.ListenFault.TheVariants as fault
 use Rattle.client_listener.specs.declared.items.FromClient.{FromClient}
-use Rattle.client_listener.specs.declared.items.FromClient.TheVariants.{Connect, Hung}
-use Rattle.client_listener.specs.Intake.{item_of, held_len, Takes, Fills}
-use Rattle.client_listener.specs.Reading.{items_of, put_of, IsFaulty, EndsBut, Puts}
-use Rattle.client_listener.specs.Reading.{left_of, Underway, Waits, Stops, is_cut_short}
-use Rattle.client_listener.proofs.Consuming.{consumes_both, consumes_none, is_all}
+use Rattle.client_listener.specs.declared.items.FromClient.TheVariants.{Hung}
+use Rattle.client_listener.specs.Pending.{Pending}
+use Rattle.client_listener.specs.Inlet.{Inflow, PutsOn}
+use Rattle.client_listener.specs.Reading.{put_of, items_of, left_of, EndsBut, Puts}
+use Rattle.client_listener.specs.ReadingSteps.{is_cut_short, Fills, Underway, Waits, Stops, TurnsOn, Hangs}
+use Rattle.client_listener.proofs.Consuming.{consumes_both, consumes_none, consumes_nothing, is_all}
 
--- ---- what is due once nothing more comes
+-- ---- what is counted
 
-due_now : (start now : Option (List ℕ)) (before after : List FromClient) (held : Option (List ℕ)) (rest : Frames)
-    (u : Underway start now before after held) → left_of held [] ≡ rest
-    → put_of u.octets ≡ u.put ++ items_of rest
-due_now start now before after held rest u e =
-    ap put_of (sym (append-nil u.octets)) ∙ u.is_due [] ∙ ap (λ (l : Frames). u.put ++ items_of l) e
+-- as many items were put as there were free slots
+as_many : (free : ℕ) (before after put : List FromClient) → after ≡ before ++ put → free + length before ≤ length after
+    → free ≤ length put
+as_many free before after put e full =
+    let sum : length after ≡ length before + length put = ap length e ∙ length-append before put in
+    omega arith
 
-stands_now : (start now : Option (List ℕ)) (before after : List FromClient) (held : Option (List ℕ)) (rest : Frames)
-    (u : Underway start now before after held) → left_of held [] ≡ rest
-    → end_of (frames_of u.octets) ≡ end_of rest
-stands_now start now before after held rest u e =
-    ap (λ (o : List ℕ). end_of (frames_of o)) (sym (append-nil u.octets)) ∙ u.stands [] ∙ ap end_of e
+-- the ring was full before, or is
+fuller : (most octets turns free before after after' : ℕ) → after ≤ after'
+    → (most ≤ octets + turns) ⊎ (free + before ≤ after) → (most ≤ octets + turns) ⊎ (free + before ≤ after')
+fuller most octets turns free before after after' more (inl left) = inl left
+fuller most octets turns free before after after' more (inr full) = inr (le_trans full more)
 
--- ---- how it goes on
+-- a turn was spent for some octets
+read_more : (most turns turns' free before after : ℕ) (octets more : List ℕ) → turns ≡ turns' + 1 → 0 < length more
+    → (most ≤ length octets + turns) ⊎ (free + before ≤ after) → (most ≤ length (octets ++ more) + turns') ⊎ (free + before ≤ after)
+read_more most turns turns' free before after octets more e some (inl left) =
+    let sum : length (octets ++ more) ≡ length octets + length more = length-append octets more in
+    inl (omega arith)
+read_more most turns turns' free before after octets more e some (inr full) = inr full
 
--- before anything was read, with the transport's opening put
-pub begins : (start now : Option (List ℕ)) (before after : List FromClient) → Consumes start now [] → after ≡ before ++ Connect ∷ []
-    → Underway start now before after (Some [])
-begins start now before after r e = record {
-  octets = [];
-  are_read = r;
-  put = Connect ∷ [];
-  are_put = e;
-  is_due = λ more. refl;
-  stands = λ more. refl;
-}
+-- none is left
+paid : (most turns octets free : ℕ) (before after put : List FromClient) → turns ≡ 0 → after ≡ before ++ put
+    → (most ≤ octets + turns) ⊎ (free + length before ≤ length after) → (most ≤ octets) ⊎ (free ≤ length put)
+paid most turns octets free before after put none e (inl left) = inl (omega arith)
+paid most turns octets free before after put none e (inr full) = inr (as_many free before after put e full)
 
--- at first there is no whole frame
-pub waits_first : (start now : Option (List ℕ)) (before after : List FromClient) (held : Option (List ℕ)) → held ≡ Some []
-    → Underway start now before after (Some []) → Waits start now before after held
-waits_first start now before after held e u = rw e (u, frames_at_end [] refl)
+full_now : (free before known after known' after' : ℕ) → free + before ≤ known + after → known + after ≤ known' + after' → known' ≡ 0
+    → free + before ≤ after'
+full_now free before known after known' after' room keeps none = omega arith
 
--- what was read is held after the rest
-left_fed : (held new : Option (List ℕ)) (read more : List ℕ) → new ≡ option_map (λ octets. octets ++ read) held
-    → left_of held (read ++ more) ≡ left_of new more
-left_fed None new read more e = rw e refl
-left_fed (Some held) new read more e = ap frames_of (sym (append_assoc held read more))
-    ∙ ap (λ (n : Option (List ℕ)). left_of n more) (sym e)
+-- ---- the steps
 
-fed : (start now later : Option (List ℕ)) (before after : List FromClient) (held new : Option (List ℕ)) (read : List ℕ)
-    → Underway start now before after held → Consumes now later read
-    → new ≡ option_map (λ octets. octets ++ read) held → Underway start later before after new
-fed start now later before after held new read u r e = record {
-  octets = u.octets ++ read;
-  are_read = consumes_both start now later u.octets read u.are_read r;
-  put = u.put;
-  are_put = u.are_put;
-  is_due = λ more. ap put_of (append_assoc u.octets read more) ∙ u.is_due (read ++ more)
-      ∙ ap (λ (l : Frames). u.put ++ items_of l) (left_fed held new read more e);
-  stands = λ more. ap (λ (o : List ℕ). end_of (frames_of o)) (append_assoc u.octets read more) ∙ u.stands (read ++ more)
-      ∙ ap end_of (left_fed held new read more e);
-}
+module _ (most free : ℕ) (start : Option (List ℕ)) (before : List FromClient) where
+  -- before anything was read or put
+  pub begins : (turns : ℕ) (pending : Pending) → turns ≡ most → Inflow [] before before pending
+      → Underway most free start before start before free turns pending
+  begins turns pending e inflow = record {
+    octets = [];
+    are_read = consumes_nothing start;
+    inflow = inflow;
+    room = omega arith;
+    pace = inl (omega arith);
+  }
 
-pub filled : (more : Bool) (start now later : Option (List ℕ)) (before after : List FromClient) (held new : Option (List ℕ)) → more ≡ true
-    → Fills (Ok more) now later held new
-    → Underway start now before after held → Underway start later before after new
-filled true start now later before after held new e f u = fed start now later before after held new f.0 u f.1 f.2
-filled false start now later before after held new e f u = absurd cc
+  -- memory ran out before that
+  pub none_begun : Puts most free (Err fault.Memory) start start before before
+  none_begun = record {
+    octets = [];
+    are_read = consumes_nothing start;
+    put = [];
+    are_put = sym (append-nil before);
+    rest = put_of [];
+    is_due = refl;
+    is_left = tt;
+  }
 
-pub never_taken : (a : Result (Option Frame) ListenFault) (given : Option Frame) (other : ListenFault) → a ≡ Ok given → a ≡ Err other → ⊥
-never_taken a given other p q = cc
+  module _ (now : Option (List ℕ)) (after : List FromClient) (known turns : ℕ) (pending : Pending)
+      (u : Underway most free start before now after known turns pending) where
+    module _ (after' : List FromClient) (known' : ℕ) (pending' : Pending) (more : length after ≤ length after')
+        (keeps : known + length after ≤ known' + length after') where
+      room' : free + length before ≤ known' + length after'
+      room' = le_trans u.room keeps
 
--- a frame was taken, and its item put
-pub item_put : (f : Frame) (start now later : Option (List ℕ)) (before after after' : List FromClient) (held new : Option (List ℕ))
-    → Takes (Ok (Some f)) held new → Underway start now before after held
-    → Consumes now later [] → after' ≡ after ++ option_to_list (item_of f.kind f.payload) → Underway start later before after' new
-item_put f start now later before after after' None new t u r e = absurd (never_taken (Ok (Some f)) (Some f) fault.Frame refl t)
-item_put f start now later before after after' (Some held) new t u r e =
-    let item : List FromClient = option_to_list (item_of f.kind f.payload) in
-    let left : (more : List ℕ) → left_of (Some held) more ≡ frame f.kind f.payload (left_of new more) =
-    λ more. frames_at_whole held f.payload t.0 more f.kind t.1
-    ∙ ap (λ (n : Option (List ℕ)). frame f.kind f.payload (left_of n more)) (sym t.2) in
-    record {
-      octets = u.octets;
-      are_read = consumes_none start now later u.octets u.are_read r;
-      put = u.put ++ item;
-      are_put = e ∙ ap (λ (a : List FromClient). a ++ item) u.are_put ∙ append_assoc before u.put item;
-      is_due = λ more. u.is_due more ∙ ap (λ (l : Frames). u.put ++ items_of l) (left more)
-          ∙ sym (append_assoc u.put item (items_of (left_of new more)));
-      stands = λ more. u.stands more ∙ ap end_of (left more);
+      -- the items of all whole frames were put
+      pub all_put : PutsOn (Ok true) u.octets before after' pending' → Waits most free start before now after' known' turns pending'
+      all_put p = (
+        record {
+          octets = u.octets;
+          are_read = u.are_read;
+          inflow = p.0;
+          room = room';
+          pace = fuller most (length u.octets) turns free (length before) (length after) (length after') more u.pace;
+        },
+        p.2,
+        p.3,
+      )
+
+      -- what follows is no frame, or memory ran out
+      pub put_ends : (other : ListenFault) → PutsOn (Err other) u.octets before after' pending'
+          → Stops most free start before (Err other) now after' known' turns
+      put_ends fault.Frame p = (
+        record {
+          octets = u.octets;
+          are_read = u.are_read;
+          put = p.0.0;
+          are_put = p.0.1;
+          rest = Hung ∷ [];
+          is_due = p.0.2;
+          is_left = (refl, p.1);
+        },
+        room',
+        λ e. absurd cc,
+      )
+      put_ends fault.Memory p = (
+        record {
+          octets = u.octets;
+          are_read = u.are_read;
+          put = p.put;
+          are_put = p.are_put;
+          rest = p.rest;
+          is_due = p.is_due;
+          is_left = tt;
+        },
+        room',
+        λ e. absurd cc,
+      )
+      put_ends other p = absurd p
+
+      -- the ring is full, and was looked at again
+      module _ (none : known' ≡ 0) (inflow : Inflow u.octets before after' pending') (later : Option (List ℕ)) (last : List FromClient)
+          (free' : ℕ) (r : Consumes now later []) (same : last ≡ after') (looked : known' ≤ free') where
+        is_full : free + length before ≤ length after'
+        is_full = full_now free (length before) known (length after) known' (length after') u.room keeps none
+
+        room_later : free + length before ≤ free' + length last
+        room_later = subst (λ (a : List FromClient). free + length before ≤ free' + length a) (sym same)
+            (le_trans is_full (omega arith))
+
+        -- a turn was left to wait
+        pub waited : (turns' : ℕ) → Underway most free start before later last free' turns' pending'
+        waited turns' = record {
+          octets = u.octets;
+          are_read = consumes_none start now later u.octets u.are_read r;
+          inflow = subst (λ (a : List FromClient). Inflow u.octets before a pending') (sym same) inflow;
+          room = room_later;
+          pace = inr (subst (λ (a : List FromClient). free + length before ≤ length a) (sym same) is_full);
+        }
+
+        -- none was
+        pub wait_ends : (turns' : ℕ) → turns' ≡ 0 → Stops most free start before (Err fault.Turns) later last free' turns'
+        wait_ends turns' nil = (
+          record {
+            octets = u.octets;
+            are_read = consumes_none start now later u.octets u.are_read r;
+            put = inflow.put;
+            are_put = same ∙ inflow.are_put;
+            rest = option_to_list pending'.next ++ items_of (left_of pending'.held []);
+            is_due = ap put_of (sym (append-nil u.octets)) ∙ inflow.is_due [];
+            is_left = inr (as_many free before after' inflow.put inflow.are_put is_full);
+          },
+          room_later,
+          λ e. nil,
+        )
+
+  -- all that is due for what was read was put
+  module _ (now : Option (List ℕ)) (after : List FromClient) (known turns : ℕ) (pending : Pending)
+      (w : Waits most free start before now after known turns pending) where
+    -- it ends so, with these octets read
+    ends_by : (result : Result (Unit {0}) ListenFault) (later : Option (List ℕ)) (turns' : ℕ) → Consumes start later w.0.octets
+        → EndsBut most free (Hung ∷ []) result start w.0.octets w.1.0 (Hung ∷ []) → (IsErrOf result fault.Turns → turns' ≡ 0)
+        → Stops most free start before result later after known turns'
+    ends_by result later turns' r left nil = (
+      record {
+        octets = w.0.octets;
+        are_read = r;
+        put = w.1.0;
+        are_put = w.1.1;
+        rest = Hung ∷ [];
+        is_due = w.1.2;
+        is_left = left;
+      },
+      w.0.room,
+      nil,
+    )
+
+    -- the turns are spent
+    pub spent : (turns' : ℕ) → turns ≡ 0 → turns' ≡ 0 → Stops most free start before (Err fault.Turns) now after known turns'
+    spent turns' none nil = ends_by (Err fault.Turns) now turns' w.0.are_read
+        (paid most turns (length w.0.octets) free before after w.1.0 none w.1.1 w.0.pace) (λ e. nil)
+
+    -- it was read once
+    pub filled : (result : Result Bool ListenFault) (later : Option (List ℕ)) (turns' : ℕ) (pending' : Pending) → turns ≡ turns' + 1
+        → Fills result now later pending pending' → TurnsOn most free start before result later after known turns' pending'
+    filled (Ok true) later turns' pending' e f = record {
+      octets = w.0.octets ++ f.0;
+      are_read = consumes_both start now later w.0.octets f.0 w.0.are_read f.2;
+      inflow = f.3 w.0.octets before after w.0.inflow;
+      room = w.0.room;
+      pace = read_more most turns turns' free (length before) (length after) w.0.octets f.0 e f.1 w.0.pace;
+    }
+    filled (Ok false) later turns' pending' e f =
+        let read : Consumes start later w.0.octets = consumes_none start now later w.0.octets w.0.are_read f.0 in
+        ends_by (Ok tt) later turns' read (refl, w.2, is_all start later w.0.octets read f.1) (λ e. absurd cc)
+    filled (Err fault.Read) later turns' pending' e f =
+        ends_by (Err fault.Read) later turns' (consumes_none start now later w.0.octets w.0.are_read f) (refl, w.2) (λ e. absurd cc)
+    filled (Err fault.Memory) later turns' pending' e f = (
+      record {
+        octets = w.0.octets ++ f.0;
+        are_read = consumes_both start now later w.0.octets f.0 w.0.are_read f.1;
+        put = w.0.inflow.put;
+        are_put = w.0.inflow.are_put;
+        rest = option_to_list pending.next ++ items_of (left_of pending.held f.0);
+        is_due = w.0.inflow.is_due f.0;
+        is_left = tt;
+      },
+      w.0.room,
+      λ e. absurd cc,
+    )
+    filled (Err other) later turns' pending' e f = absurd f
+
+  -- ---- the last item
+
+  module _ (outcome : Result (Unit {0}) ListenFault) (now : Option (List ℕ)) (after : List FromClient) (known turns : ℕ)
+      (s : Stops most free start before outcome now after known turns) where
+    -- the ring had no room for it until the turns were spent
+    pub hang_ends : (other : ListenFault) (later : Option (List ℕ)) (after' : List FromClient) (turns' : ℕ)
+        → Hangs (Err other) after after' known turns' → Consumes now later [] → Puts most free (Err other) start later before after'
+    hang_ends other later after' turns' h r = subst (λ (f : ListenFault). Puts most free (Err f) start later before after') (sym h.0) (record {
+      octets = s.0.octets;
+      are_read = consumes_none start now later s.0.octets s.0.are_read r;
+      put = s.0.put;
+      are_put = h.1 ∙ s.0.are_put;
+      rest = s.0.rest;
+      is_due = s.0.is_due;
+      is_left = inr (as_many free before after s.0.put s.0.are_put (none_left s.1 h.2));
+    })
+      where
+        none_left : free + length before ≤ known + length after → known ≡ 0 → free + length before ≤ length after
+        none_left room none = omega arith
+
+    -- it was put
+    last_put : s.0.rest ≡ Hung ∷ [] → (later : Option (List ℕ)) (after' : List FromClient)
+        → EndsBut most free [] outcome start s.0.octets (s.0.put ++ Hung ∷ []) []
+        → Consumes now later [] → after' ≡ after ++ Hung ∷ [] → Puts most free outcome start later before after'
+    last_put rest later after' ends r e = record {
+      octets = s.0.octets;
+      are_read = consumes_none start now later s.0.octets s.0.are_read r;
+      put = s.0.put ++ Hung ∷ [];
+      are_put = e ∙ ap (λ (a : List FromClient). a ++ Hung ∷ []) s.0.are_put ∙ append_assoc before s.0.put (Hung ∷ []);
+      rest = [];
+      is_due = s.0.is_due ∙ ap (λ (o : List FromClient). s.0.put ++ o) rest ∙ sym (append-nil (s.0.put ++ Hung ∷ []));
+      is_left = ends;
     }
 
--- what is held grows shorter with each frame
-pub frame_shrinks : (f : Frame) (held new : Option (List ℕ)) → Takes (Ok (Some f)) held new → held_len new < held_len held
-frame_shrinks f None new t = absurd (never_taken (Ok (Some f)) (Some f) fault.Frame refl t)
-frame_shrinks f (Some held) new t = rw t.2 (whole_leaves_less held f.payload t.0 f.kind t.1)
+  pub hung : (outcome : Result (Unit {0}) ListenFault) (now : Option (List ℕ)) (after : List FromClient) (known turns : ℕ)
+      → Stops most free start before outcome now after known turns → is_cut_short outcome ≡ false → (later : Option (List ℕ))
+      (after' : List FromClient) → Consumes now later [] → after' ≡ after ++ Hung ∷ [] → Puts most free outcome start later before after'
+  hung (Ok x) now after known turns s n later after' r e =
+      last_put (Ok x) now after known turns s s.0.is_left.0 later after' (refl, s.0.is_left.1, s.0.is_left.2) r e
+  hung (Err fault.Frame) now after known turns s n later after' r e =
+      last_put (Err fault.Frame) now after known turns s s.0.is_left.0 later after' (refl, s.0.is_left.1) r e
+  hung (Err fault.Read) now after known turns s n later after' r e =
+      last_put (Err fault.Read) now after known turns s s.0.is_left.0 later after' (refl, s.0.is_left.1) r e
+  hung (Err fault.Turns) now after known turns s n later after' r e = absurd cc
+  hung (Err fault.Memory) now after known turns s n later after' r e = absurd cc
+  hung (Err other) now after known turns s n later after' r e = absurd s.0.is_left
 
--- no whole frame is held
-pub no_frame : (start now : Option (List ℕ)) (before after : List FromClient) (held new : Option (List ℕ)) → Takes (Ok None) held new
-    → Underway start now before after held → Waits start now before after new
-no_frame start now before after None new t u = absurd (never_taken (Ok None) None fault.Frame refl t)
-no_frame start now before after (Some held) new t u = rw t.1 (u, ap frames_of (append-nil held) ∙ frames_at_end held t.0)
+  -- nothing more is put
+  pub cut_short : (outcome : Result (Unit {0}) ListenFault) (now : Option (List ℕ)) (after : List FromClient) (known turns : ℕ)
+      → Stops most free start before outcome now after known turns → is_cut_short outcome ≡ true → Puts most free outcome start now before after
+  cut_short (Err fault.Turns) now after known turns s n = record {
+    octets = s.0.octets;
+    are_read = s.0.are_read;
+    put = s.0.put;
+    are_put = s.0.are_put;
+    rest = s.0.rest;
+    is_due = s.0.is_due;
+    is_left = s.0.is_left;
+  }
+  cut_short (Err fault.Memory) now after known turns s n = record {
+    octets = s.0.octets;
+    are_read = s.0.are_read;
+    put = s.0.put;
+    are_put = s.0.are_put;
+    rest = s.0.rest;
+    is_due = s.0.is_due;
+    is_left = tt;
+  }
+  cut_short outcome now after known turns s n = absurd cc
 
--- ---- how it ends
-
--- an outcome that owes nothing
-abbrev pub OwesNothing : Result (Unit {0}) ListenFault → List FromClient → Type 0
-OwesNothing result last = (input : Option (List ℕ)) (octets : List ℕ) (rest : List FromClient) → EndsBut last result input octets rest
-
--- it is cut short, with these octets read after what was fed
-pub cut_off : (result : Result (Unit {0}) ListenFault) (start now later : Option (List ℕ)) (before after after' : List FromClient)
-    (held : Option (List ℕ)) (read : List ℕ) → OwesNothing result (Hung ∷ [])
-    → Underway start now before after held → Consumes now later read → after' ≡ after → Stops result start later before after'
-cut_off result start now later before after after' held read owes u r e = record {
-  octets = u.octets ++ read;
-  are_read = consumes_both start now later u.octets read u.are_read r;
-  put = u.put;
-  are_put = e ∙ u.are_put;
-  rest = items_of (left_of held read);
-  is_due = u.is_due read;
-  is_left = owes start (u.octets ++ read) (items_of (left_of held read));
-}
-
-faulty_stop : (start now : Option (List ℕ)) (before after : List FromClient) (held : Option (List ℕ)) (shown : FrameFault)
-    → Underway start now before after held → left_of held [] ≡ broken shown
-    → Stops (Err fault.Frame) start now before after
-faulty_stop start now before after held shown u e = record {
-  octets = u.octets;
-  are_read = u.are_read;
-  put = u.put;
-  are_put = u.are_put;
-  rest = Hung ∷ [];
-  is_due = due_now start now before after held (broken shown) u e;
-  is_left = (refl, subst IsFaulty (sym (stands_now start now before after held (broken shown) u e)) tt);
-}
-
--- nothing more of the frames, or memory ran out
-pub other_fault : (a b : ListenFault) (given : Result (Option Frame) ListenFault) → given ≡ Err a → given ≡ Err b → a ≡ b
-other_fault a b given p q = cc
-
-pub taken_stops : (other : ListenFault) (start now : Option (List ℕ)) (before after : List FromClient) (held new : Option (List ℕ))
-    → Takes (Err other) held new → Underway start now before after held
-    → Stops (Err other) start now before after
-taken_stops fault.Memory start now before after held new t u =
-    record {
-      octets = u.octets;
-      are_read = u.are_read;
-      put = u.put;
-      are_put = u.are_put;
-      rest = items_of (left_of held []);
-      is_due = due_now start now before after held (left_of held []) u refl;
-      is_left = tt;
-    }
-taken_stops fault.Frame start now before after None new t u = faulty_stop start now before after None Failed u refl
-taken_stops fault.Frame start now before after (Some held) new t u =
-    faulty_stop start now before after (Some held) t.1.0 u (frames_at_fault held [] t.1.0 t.1.1)
-taken_stops other start now before after None new t u = let e : other ≡ fault.Frame =
-    other_fault other fault.Frame (Err other) refl t in absurd cc
-taken_stops other start now before after (Some held) new t u = let e : other ≡ fault.Frame = t.0 in absurd cc
-
--- the reader ended
-pub at_end : (more : Bool) (start now later : Option (List ℕ)) (before after : List FromClient) (held new : Option (List ℕ)) → more ≡ false
-    → Fills (Ok more) now later held new
-    → Waits start now before after held → Stops (Ok tt) start later before after
-at_end true start now later before after held new e f w = absurd cc
-at_end false start now later before after held new e f w =
-    let u : Underway start now before after held = w.0 in
-    let read : Consumes start later u.octets = consumes_none start now later u.octets u.are_read f.0 in
-    record {
-      octets = u.octets;
-      are_read = read;
-      put = u.put;
-      are_put = u.are_put;
-      rest = Hung ∷ [];
-      is_due = due_now start now before after held ended u w.1;
-      is_left = (refl, stands_now start now before after held ended u w.1, is_all start later u.octets read f.1);
-    }
-
--- a read failed, or memory ran out after it
-pub fill_stops : (other : ListenFault) (start now later : Option (List ℕ)) (before after : List FromClient) (held new : Option (List ℕ))
-    → Fills (Err other) now later held new
-    → Waits start now before after held → Stops (Err other) start later before after
-fill_stops fault.Read start now later before after held new f w =
-    let u : Underway start now before after held = w.0 in
-    record {
-      octets = u.octets;
-      are_read = consumes_none start now later u.octets u.are_read f;
-      put = u.put;
-      are_put = u.are_put;
-      rest = Hung ∷ [];
-      is_due = due_now start now before after held ended u w.1;
-      is_left = (refl, stands_now start now before after held ended u w.1);
-    }
-fill_stops fault.Memory start now later before after held new f w =
-    cut_off (Err fault.Memory) start now later before after after held f.0 (λ input octets rest. tt) w.0 f.1 refl
-fill_stops other start now later before after held new f w = absurd f
-
--- ---- the last item
-
--- it was cut short before the last item
-pub cut_before : (outcome result : Result (Unit {0}) ListenFault) (start now later : Option (List ℕ))
-    (before after after' : List FromClient) → OwesNothing result []
-    → Stops outcome start now before after → Consumes now later [] → after' ≡ after → Puts result start later before after'
-cut_before outcome result start now later before after after' owes s r e = record {
-  octets = s.octets;
-  are_read = consumes_none start now later s.octets s.are_read r;
-  put = s.put;
-  are_put = e ∙ s.are_put;
-  rest = s.rest;
-  is_due = s.is_due;
-  is_left = owes start s.octets s.rest;
-}
-
-pub consumes_nothing : (left : Option (List ℕ)) → Consumes left left []
-consumes_nothing None = tt
-consumes_nothing (Some left) = refl
-
-pub cut_short : (outcome : Result (Unit {0}) ListenFault) (start now : Option (List ℕ)) (before after : List FromClient)
-    → is_cut_short outcome ≡ true → Stops outcome start now before after
-    → Puts outcome start now before after
-cut_short (Err fault.Turns) start now before after e s = cut_before (Err fault.Turns) (Err fault.Turns) start now now before after after
-    (λ input octets rest. tt) s (consumes_nothing now) refl
-cut_short (Err fault.Memory) start now before after e s = cut_before (Err fault.Memory) (Err fault.Memory) start now now before after after
-    (λ input octets rest. tt) s (consumes_nothing now) refl
-cut_short outcome start now before after e s = absurd cc
-
--- the last item was put
-last_put : (outcome : Result (Unit {0}) ListenFault) (start now later : Option (List ℕ)) (before after after' : List FromClient)
-    (s : Stops outcome start now before after) → s.rest ≡ Hung ∷ []
-    → EndsBut [] outcome start s.octets [] → Consumes now later [] → after' ≡ after ++ Hung ∷ [] → Puts outcome start later before after'
-last_put outcome start now later before after after' s rest ends r e = record {
-  octets = s.octets;
-  are_read = consumes_none start now later s.octets s.are_read r;
-  put = s.put ++ Hung ∷ [];
-  are_put = e ∙ ap (λ (a : List FromClient). a ++ Hung ∷ []) s.are_put ∙ append_assoc before s.put (Hung ∷ []);
-  rest = [];
-  is_due = s.is_due ∙ ap (λ (o : List FromClient). s.put ++ o) rest ∙ sym (append-nil (s.put ++ Hung ∷ []));
-  is_left = ends;
-}
-
-pub hung_put : (outcome : Result (Unit {0}) ListenFault) (start now later : Option (List ℕ)) (before after after' : List FromClient)
-    → is_cut_short outcome ≡ false → Stops outcome start now before after
-    → Consumes now later [] → after' ≡ after ++ Hung ∷ [] → Puts outcome start later before after'
-hung_put (Ok x) start now later before after after' n s r e =
-    last_put (Ok x) start now later before after after' s s.is_left.0 (refl, s.is_left.1, s.is_left.2) r e
-hung_put (Err fault.Frame) start now later before after after' n s r e =
-    last_put (Err fault.Frame) start now later before after after' s s.is_left.0 (refl, s.is_left.1) r e
-hung_put (Err fault.Read) start now later before after after' n s r e =
-    last_put (Err fault.Read) start now later before after after' s s.is_left.0 (refl, s.is_left.1) r e
-hung_put (Err fault.Turns) start now later before after after' n s r e = absurd cc
-hung_put (Err fault.Memory) start now later before after after' n s r e = absurd cc
-hung_put (Err other) start now later before after after' n s r e = absurd s.is_left
+  -- the turns are spent only if nothing more is put
+  pub not_spent : (outcome : Result (Unit {0}) ListenFault) → is_cut_short outcome ≡ false → IsErrOf outcome fault.Turns → ⊥
+  not_spent (Ok x) n e = cc
+  not_spent (Err fault.Turns) n e = cc
+  not_spent (Err other) n e = cc

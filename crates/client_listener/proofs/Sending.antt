@@ -1,6 +1,7 @@
 -- How the writing of what a node hands out goes on from step to step, and ends.
-use Rattle.std.proofs.Common.{◌≡◌, ℕ, Bool, true, false, ◌&&◌, List, [], ◌∷◌, ◌++◌, Option, None, Some, Result, Ok, Err}
-use Rattle.std.proofs.Common.{refl, sym, ◌∙◌, ap, subst, append_assoc, append-nil}
+use Rattle.std.proofs.Common.{◌≡◌, ◌≤◌, ◌<◌, ◌+◌, ◌^◌, ◌⊎◌, inl, inr, ℕ, min, Bool, true, false, ◌&&◌, List, [], ◌∷◌, ◌++◌, length, Option, None, Some, Result, Ok, Err}
+use Rattle.std.proofs.Common.{refl, sym, ◌∙◌, ap, ap₂, subst, append_assoc, append-nil, arith}
+use Rattle.std.proofs.lemmas.List.{length-append}
 use Rattle.std.specs.List.{list_all}
 use Rattle.std.specs.Io.KnownBytes.{Appends}
 use Rattle.std.proofs.lemmas.List.Folds.{list_all-append}
@@ -8,8 +9,11 @@ use Rattle.rtrb.specs.Fifo.{Allowed}
 use Rattle.client_listener.specs.declared.fault.ListenFault.{ListenFault}
 use Rattle.client_listener.specs.declared.fault.ListenFault.TheVariants as fault
 use Rattle.client_listener.specs.declared.items.ToClient.{ToClient}
-use Rattle.client_listener.specs.Outbox.{frame_of, goes, Hears}
-use Rattle.client_listener.specs.Writing.{written_of, EndsBy, Sends, Written, Takes, Underway, Steps, Pauses}
+use Rattle.client_listener.specs.declared.items.ToClient.TheVariants.{Close}
+use Rattle.client_listener.specs.Outbox.{frame_of, goes}
+use Rattle.client_listener.specs.Writing.{written_of, most_waiting, EndsBy, Sends, Written, Takes}
+use Rattle.client_listener.specs.Gathering.{StopsBy, Gathers}
+use Rattle.client_listener.specs.WritingSteps.{Underway}
 
 -- ---- what is written in parts
 
@@ -54,150 +58,167 @@ module _ (allows : List ToClient → ToClient → Type 0) where
         (λ (b : List ToClient). allows b item) (sym (append_assoc before (first ∷ []) took)) one),
   )
 
+  allowed_both : (before took more : List ToClient) → Allowed allows before took → Allowed allows (before ++ took) more
+      → Allowed allows before (took ++ more)
+  allowed_both before [] more all rest = subst (λ (b : List ToClient). Allowed allows b more) (append-nil before) rest
+  allowed_both before (first ∷ took) more all rest = (
+    all.0,
+    allowed_both (before ++ first ∷ []) took more all.1 (subst
+        (λ (b : List ToClient). Allowed allows b more) (sym (append_assoc before (first ∷ []) took)) rest),
+  )
+
+-- ---- the steps of the writing
+
+written_both : (items more : List ToClient) → written_of (items ++ more) ≡ written_of items ++ written_of more
+written_both [] more = refl
+written_both (first ∷ items) more =
+    ap (λ (o : List ℕ). frame_of first ++ o) (written_both items more)
+    ∙ sym (append_assoc (frame_of first) (written_of items) (written_of more))
+
+all_go_both : (limit : ℕ) (items more : List ToClient) → list_all (goes limit) items ≡ true → list_all (goes limit) more ≡ true
+    → list_all (goes limit) (items ++ more) ≡ true
+all_go_both limit items more all rest = list_all-append (goes limit) items more
+    ∙ ap₂ (λ (a b : Bool). a && b) all rest
+
+-- more was written of what waited
+pub cleared : (old waiting left : List ℕ) (was now later : Option (List ℕ)) (written more : List ℕ) → old ≡ written ++ waiting
+    → Appends was now written → waiting ≡ more ++ left → Appends now later more
+    → (all : List ℕ) × (old ≡ all ++ left) × Appends was later all
+cleared old waiting left was now later written more e a f b = (
+  written ++ more,
+  e ∙ ap (λ (o : List ℕ). written ++ o) f ∙ sym (append_assoc written more left),
+  appends_both was now later written more a b,
+)
+
+-- the ring is empty if nothing waits
+pub empty_now : {T : Type 0} (known : List T) (waiting : List ℕ) → (known ≡ []) ⊎ (most_waiting < length waiting) → length waiting ≡ 0
+    → known ≡ []
+empty_now known waiting (inl e) none = e
+empty_now known waiting (inr many) none = absurd (omega arith)
+
+known_on : (known before here after here' after' : ℕ) → known + before ≤ here + after → after + here ≤ after' + here'
+    → known + before ≤ here' + after'
+known_on known before here after here' after' k more = omega arith
+
+-- a step was made
+pub counted_on : (step turns turns' before after after' : ℕ) → step + turns + before ≤ 2 ^ 32 + after → turns' + after < turns + after'
+    → step + 1 + turns' + before ≤ 2 ^ 32 + after'
+counted_on step turns turns' before after after' k more = omega arith
+
+more_known : (known here many : ℕ) → known ≤ here → known + many ≤ here + many
+more_known known here many k = omega arith
+
+-- all that the consumer knew of was taken
+all_known : (known here : ℕ) (before after took : List ToClient) → known + length before ≤ here + length after → here ≡ 0
+    → after ≡ before ++ took → min known (2 ^ 63) ≤ length took
+all_known known here before after took k none e =
+    let sum : length after ≡ length before + length took = ap length e ∙ length-append before took in
+    omega arith
+
+module _ (allows : List ToClient → ToClient → Type 0) (limit known : ℕ) (before : List ToClient) (old : Option (List ℕ)) where
   -- before anything was taken
-  pub begins : (limit : ℕ) (before : List ToClient) (old : Option (List ℕ)) → Underway allows limit before before old old []
-  begins limit before old = record {
+  pub begins : (here : ℕ) → known ≤ here → Underway allows limit known before before here old old
+  begins here k = record {
     took = [];
     are_taken = sym (append-nil before);
     are_allowed = tt;
     all_go = refl;
-    written = [];
-    is_written = appends_nothing old;
-    are_framed = refl;
+    are_written = appends_nothing old;
+    are_known = more_known known here (length before) k;
   }
 
-  -- nothing was taken
-  pub nothing_taken : (limit : ℕ) (before after after' : List ToClient) (old now : Option (List ℕ)) (waiting : List ℕ) → after' ≡ after
-      → Underway allows limit before after old now waiting → Underway allows limit before after' old now waiting
-  nothing_taken limit before after after' old now waiting e u =
-      subst (λ (a : List ToClient). Underway allows limit before a old now waiting) (sym e) u
+  -- items were taken and their frames put
+  module _ (after after' : List ToClient) (here here' : ℕ) (now later : Option (List ℕ)) (waiting : List ℕ) (gathered : Result Bool ListenFault)
+      (u : Underway allows limit known before after here old now) (g : Gathers allows limit gathered after after' [] waiting)
+      (k : length after + here ≤ length after' + here') where
+    taken : after' ≡ before ++ (u.took ++ (g.items ++ g.rest))
+    taken = g.are_taken ∙ ap (λ (a : List ToClient). a ++ (g.items ++ g.rest)) u.are_taken
+        ∙ append_assoc before u.took (g.items ++ g.rest)
 
-  -- the client's limit in other words
-  pub with_limit : (limit here : ℕ) (before after : List ToClient) (old now : Option (List ℕ)) (waiting : List ℕ) → here ≡ limit
-      → Underway allows limit before after old now waiting → Underway allows here before after old now waiting
-  with_limit limit here before after old now waiting e u =
-      subst (λ (l : ℕ). Underway allows l before after old now waiting) (sym e) u
+    allowed : Allowed allows before (u.took ++ (g.items ++ g.rest))
+    allowed = allowed_both allows before u.took (g.items ++ g.rest) u.are_allowed
+        (subst (λ (a : List ToClient). Allowed allows a (g.items ++ g.rest)) u.are_taken g.are_allowed)
 
-  pub closes : (more : Bool) (limit here : ℕ) (before after : List ToClient) (old now : Option (List ℕ)) (waiting : List ℕ) → more ≡ false
-      → here ≡ limit → Steps allows here (Ok more) before after old now waiting → Takes allows limit (Ok tt) before after old now
-  closes true limit here before after old now waiting off e s = absurd cc
-  closes false limit here before after old now waiting off e s =
-      subst (λ (l : ℕ). Takes allows l (Ok tt) before after old now) e s
+    all_know : known + length before ≤ here' + length after'
+    all_know = known_on known (length before) here (length after) here' (length after') u.are_known k
 
-  -- all that waited was written
-  pub wrote : (limit : ℕ) (before after : List ToClient) (old now later : Option (List ℕ)) (waiting : List ℕ)
-      → Underway allows limit before after old now waiting → Appends now later waiting
-      → Underway allows limit before after old later []
-  wrote limit before after old now later waiting u a = record {
-    took = u.took;
-    are_taken = u.are_taken;
-    are_allowed = u.are_allowed;
-    all_go = u.all_go;
-    written = u.written ++ waiting;
-    is_written = appends_both old now later u.written waiting u.is_written a;
-    are_framed = u.are_framed ∙ sym (append-nil (u.written ++ waiting));
-  }
+    -- all that waited was written
+    written : Appends now later waiting → Appends old later (written_of (u.took ++ g.items))
+    written a = appends_same old later (written_of u.took ++ waiting) (written_of (u.took ++ g.items))
+        (ap (λ (o : List ℕ). written_of u.took ++ o) g.wait ∙ sym (written_both u.took g.items))
+        (appends_both old now later (written_of u.took) waiting u.are_written a)
 
-  -- an item was taken
-  module _ (limit : ℕ) (before after after' : List ToClient) (old now : Option (List ℕ)) (waiting : List ℕ) (item : ToClient)
-      (u : Underway allows limit before after old now waiting) (e : after' ≡ after ++ item ∷ []) (one : allows after item) where
-    taken : after' ≡ before ++ (u.took ++ item ∷ [])
-    taken = e ∙ ap (λ (a : List ToClient). a ++ item ∷ []) u.are_taken ∙ append_assoc before u.took (item ∷ [])
+    -- the transport stays open
+    pub goes_on : g.rest ≡ [] → Appends now later waiting → Underway allows limit known before after' here' old later
+    goes_on none a =
+        let all : u.took ++ (g.items ++ g.rest) ≡ u.took ++ g.items =
+        ap (λ (o : List ToClient). u.took ++ o) (ap (λ (o : List ToClient). g.items ++ o) none ∙ append-nil g.items) in
+        record {
+          took = u.took ++ g.items;
+          are_taken = taken ∙ ap (λ (o : List ToClient). before ++ o) all;
+          are_allowed = subst (λ (o : List ToClient). Allowed allows before o) all allowed;
+          all_go = all_go_both limit u.took g.items u.all_go g.all_go;
+          are_written = written a;
+          are_known = all_know;
+        }
 
-    allowed : Allowed allows before (u.took ++ item ∷ [])
-    allowed = allowed_more before u.took item u.are_allowed (subst (λ (a : List ToClient). allows a item) u.are_taken one)
-
-    -- its frame waits after the others
-    goes_on : (waiting' : List ℕ) → goes limit item ≡ true → waiting' ≡ waiting ++ frame_of item
-        → Underway allows limit before after' old now waiting'
-    goes_on waiting' go w = record {
-      took = u.took ++ item ∷ [];
-      are_taken = taken;
-      are_allowed = allowed;
-      all_go = all_go_more limit u.took item u.all_go go;
-      written = u.written;
-      is_written = u.is_written;
-      are_framed = written_more u.took item ∙ ap (λ (o : List ℕ). o ++ frame_of item) u.are_framed
-          ∙ append_assoc u.written waiting (frame_of item) ∙ ap (λ (o : List ℕ). u.written ++ o) (sym w);
+    -- it ended, with a rest that is not written
+    ends : (result : Result (Unit {0}) ListenFault) → Appends now later waiting
+        → EndsBy limit known result (u.took ++ (g.items ++ g.rest)) g.rest
+        → Sends limit known result (u.took ++ (g.items ++ g.rest)) old later
+    ends result a by = record {
+      items = u.took ++ g.items;
+      all_go = all_go_both limit u.took g.items u.all_go g.all_go;
+      are_written = written a;
+      rest = g.rest;
+      are_all = sym (append_assoc u.took g.items g.rest);
+      is_left = by;
     }
 
-    -- it is the last, and is not written
-    sends : (result : Result (Unit {0}) ListenFault) (later : Option (List ℕ)) → Appends now later waiting
-        → EndsBy limit result (item ∷ []) → Sends limit result (u.took ++ item ∷ []) old later
-    sends result later a ends = record {
-      items = u.took;
-      all_go = u.all_go;
-      are_written = appends_same old later (u.written ++ waiting) (written_of u.took) (sym u.are_framed)
-          (appends_both old now later u.written waiting u.is_written a);
-      rest = item ∷ [];
-      are_all = refl;
-      is_left = ends;
-    }
-
-    takes : (result : Result (Unit {0}) ListenFault) (later : Option (List ℕ)) → Written limit result (u.took ++ item ∷ []) old later
-        → Takes allows limit result before after' old later
-    takes result later w = record { took = u.took ++ item ∷ []; are_taken = taken; are_allowed = allowed; are_written = w }
+    takes : (result : Result (Unit {0}) ListenFault) → Written limit known result (u.took ++ (g.items ++ g.rest)) old later
+        → Takes allows limit known result before after' old later
+    takes result w = record { took = u.took ++ (g.items ++ g.rest); are_taken = taken; are_allowed = allowed; are_written = w }
 
     -- a write failed
-    pub write_failed : (later : Option (List ℕ)) → Takes allows limit (Err fault.Write) before after' old later
-    write_failed later = takes (Err fault.Write) later tt
+    pub write_fails : (left : List ℕ) (front : List ℕ) → waiting ≡ front ++ left → Appends now later front
+        → Takes allows limit known (Err fault.Write) before after' old later
+    write_fails left front e a = takes (Err fault.Write) (record {
+      items = u.took;
+      rest = g.items ++ g.rest;
+      are_all = refl;
+      are_in_room = g.are_in_room;
+      front = front;
+      left = left ++ written_of g.rest;
+      are_cut = written_both g.items g.rest ∙ ap (λ (o : List ℕ). o ++ written_of g.rest) (sym g.wait ∙ e)
+          ∙ append_assoc front left (written_of g.rest);
+      are_written = appends_both old now later (written_of u.took) front u.are_written a;
+    })
 
-    -- its frame was put after the others, and few octets wait
-    pub heard_on : (outcome : Result Bool ListenFault) (waiting' : List ℕ) → outcome ≡ Ok true → Hears limit item outcome waiting waiting'
-        → Underway allows limit before after' old now waiting'
-    heard_on outcome waiting' on h =
-        let put : Hears limit item (Ok true) waiting waiting' = subst
-        (λ (o : Result Bool ListenFault). Hears limit item o waiting waiting') on h in
-        goes_on waiting' put.0 put.1
+    -- the ring is empty, and the turns are spent
+    pub spends : g.rest ≡ [] → here' ≡ 0 → Appends now later waiting → Takes allows limit known (Err fault.Turns) before after' old later
+    spends none empty a = takes (Err fault.Turns) (ends (Err fault.Turns) a
+        (none, all_known known here' before after' (u.took ++ (g.items ++ g.rest)) all_know empty taken))
 
-    same_waiting : (later : Option (List ℕ)) (waiting' : List ℕ) → waiting' ≡ waiting → Appends now later waiting'
-        → Appends now later waiting
-    same_waiting later waiting' w a = appends_same now later waiting' waiting w a
+    -- a Close was taken
+    pub closes : g.rest ≡ Close ∷ [] → Appends now later waiting → Takes allows limit known (Ok tt) before after' old later
+    closes by a = takes (Ok tt) (ends (Ok tt) a by)
 
-    -- it was heard, and all that waited was written
-    pub heard : (outcome : Result Bool ListenFault) (later : Option (List ℕ)) (waiting' left : List ℕ)
-        → Hears limit item outcome waiting waiting' → Appends now later waiting' → left ≡ []
-        → Steps allows limit outcome before after' old later left
-    heard (Ok true) later waiting' left h a none =
-        subst (λ (o : List ℕ). Underway allows limit before after' old later o) (sym none)
-        (wrote limit before after' old now later waiting' (goes_on waiting' h.0 h.1) a)
-    heard (Ok false) later waiting' left h a none =
-        takes (Ok tt) later (sends (Ok tt) later (same_waiting later waiting' h.1 a) (ap (λ (i : ToClient). i ∷ []) h.0))
-    heard (Err fault.Wide) later waiting' left h a none =
-        takes (Err fault.Wide) later (sends (Err fault.Wide) later (same_waiting later waiting' h.1 a) (item, refl, h.0))
-    heard (Err fault.Memory) later waiting' left h a none =
-        takes (Err fault.Memory) later (sends (Err fault.Memory) later (same_waiting later waiting' h a) (item, refl))
-    heard (Err other) later waiting' left h a none = absurd h
+    -- an item is too wide, or memory ran out for it
+    pub refuses : (other : ListenFault) → StopsBy limit (Err other) g.rest → Appends now later waiting
+        → Takes allows limit known (Err other) before after' old later
+    refuses fault.Wide by a = takes (Err fault.Wide) (ends (Err fault.Wide) a by)
+    refuses fault.Memory by a = takes (Err fault.Memory) (ends (Err fault.Memory) a by)
+    refuses other by a = absurd by
 
-  -- no item was there
-  module _ (limit : ℕ) (before after : List ToClient) (old now later : Option (List ℕ)) (waiting : List ℕ)
-      (u : Underway allows limit before after old now waiting) where
-    -- the turns are spent
-    pub spent : Appends now later waiting → Takes allows limit (Err fault.Turns) before after old later
-    spent a = record {
-      took = u.took;
-      are_taken = u.are_taken;
-      are_allowed = u.are_allowed;
-      are_written = record {
-        items = u.took;
-        all_go = u.all_go;
-        are_written = appends_same old later (u.written ++ waiting) (written_of u.took) (sym u.are_framed)
-            (appends_both old now later u.written waiting u.is_written a);
-        rest = [];
-        are_all = sym (append-nil u.took);
-        is_left = refl;
-      };
-    }
+-- the client's limit in other words
+pub with_limit : (allows : List ToClient → ToClient → Type 0) (limit here : ℕ) (known : ℕ) (before after : List ToClient) (items : ℕ)
+    (old now : Option (List ℕ)) → here ≡ limit → Underway allows limit known before after items old now
+    → Underway allows here known before after items old now
+with_limit allows limit here known before after items old now e u =
+    subst (λ (l : ℕ). Underway allows l known before after items old now) (sym e) u
 
-    pub failed : Takes allows limit (Err fault.Write) before after old later
-    failed = record { took = u.took; are_taken = u.are_taken; are_allowed = u.are_allowed; are_written = tt }
-
-    pub paused : (left : List ℕ) → Pauses (Ok tt) waiting left now later → Underway allows limit before after old later left
-    paused left p = subst (λ (o : List ℕ). Underway allows limit before after old later o) (sym p.0)
-        (wrote limit before after old now later waiting u p.1)
-
-    pub pause_ends : (other : ListenFault) (left : List ℕ) → Pauses (Err other) waiting left now later
-        → Takes allows limit (Err other) before after old later
-    pause_ends fault.Turns left p = spent p
-    pause_ends other left p = let e : other ≡ fault.Write = p in subst
-        (λ (f : ListenFault). Takes allows limit (Err f) before after old later) (sym e) failed
+pub ends_with_limit : (allows : List ToClient → ToClient → Type 0) (limit here : ℕ) (known : ℕ) (result : Result (Unit {0}) ListenFault)
+    (before after : List ToClient) (old now : Option (List ℕ)) → here ≡ limit → Takes allows here known result before after old now
+    → Takes allows limit known result before after old now
+ends_with_limit allows limit here known result before after old now e t =
+    subst (λ (l : ℕ). Takes allows l known result before after old now) e t

@@ -2,10 +2,11 @@ pub mod Fault
 pub mod Gathering
 pub mod Handshake
 pub mod Inlet
-pub mod Intake
+pub mod Items
 pub mod Outbox
 pub mod Pending
 pub mod Reading
-pub mod Turns
+pub mod ReadingSteps
 pub mod Waiting
 pub mod Writing
+pub mod WritingSteps

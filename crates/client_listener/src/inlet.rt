@@ -1,30 +1,31 @@
-ghost use Rattle.std.specs.Prelude.{◌≡◌, ◌<◌, ◌++◌, [], ℕ, List, None, Ok, false, true, IfErr, OnOk};
+ghost use Rattle.std.specs.Prelude.{◌≡◌, ◌<◌, ◌++◌, [], ◌∷◌, ℕ, List, None, Some, Ok, Err, false, true, IfErr, IfSome, OnOk, MatchOption, IsOkUnless};
 ghost use Rattle.std.specs.Bool.{OnTrue};
 ghost use Rattle.std.specs.Option.{option_to_list};
-ghost use Rattle.rtrb.specs.Ring.{sent, SameProducer};
-ghost use Rattle.client_listener.specs.Intake.{held_len};
-ghost use Rattle.client_listener.specs.Inlet.{Inflow, IsPut, PutsOn, CutsOn};
-ghost use Rattle.client_listener.specs.Reading.{put_of};
+ghost use Rattle.rtrb.specs.Ring.{sent, known_free, SameProducer};
+ghost use Rattle.client_listener.specs.Items.{item_of, held_len, Takes, Makes};
+ghost use Rattle.client_listener.specs.Inlet.{Inflow, PutsOn, CutsOn, KeepsRoom};
+ghost use Rattle.client_listener.specs.declared.items.FromClient.TheVariants.{Hung};
 
 use crate::fault::ListenFault;
-use crate::intake::{feed, item_for, next_frame};
 use crate::items::FromClient;
 use rtrb::{Producer, PushError};
 use std::alloc::Global;
 use std::marker::Model;
 use std::mem;
-use wamp_messages::Parser;
-use wamp_rawsocket::Splitter;
+use wamp_messages::{Parser, read_by};
+use wamp_rawsocket::{Frame, FrameFault, FrameKind, Splitter};
 
 /// What a client has sent that is not in its node's ring yet, for a thread that serves many clients and waits for none of them:
-/// octets that are no whole frame, and an item that found the ring full. A clause sees both.
+/// octets that are no whole frame, and an item that found the ring full. A clause sees both, and the fault by which it failed.
 ///
 /// In whatever order octets are fed and items are put, what is put are the items of [`put_transport`](crate::put_transport), each once and in
-/// order.
+/// order. A fault of [`Inlet::feed`] or [`Inlet::put`] ends this: each later call of the two returns the same fault, and does nothing.
 pub struct Inlet {
     splitter: Splitter,
     // What is put next.
     next: Option<FromClient>,
+    // Why it failed, if it has.
+    fault: Option<ListenFault>,
 }
 
 impl Drop for Inlet {
@@ -32,6 +33,7 @@ impl Drop for Inlet {
         let Inlet {
             splitter: _splitter,
             next: _next,
+            fault: _,
         } = self;
     }
 }
@@ -45,7 +47,7 @@ impl Model for Inlet {
 
     ghost coded = { Prim.hlevel (codes, coded_data) };
 
-    ghost view = { λ inlet. record { held = inlet.splitter; next = inlet.next } };
+    ghost view = { λ inlet. record { held = inlet.splitter; next = inlet.next; fault = inlet.fault } };
 }
 
 impl Inlet {
@@ -56,27 +58,34 @@ impl Inlet {
         Inlet {
             splitter: Splitter::new(alloc),
             next: Some(FromClient::Connect),
+            fault: None,
         }
     }
 
-    /// Holds octets that were read after the others, at the cost of a copy. `Memory`, also after a `Frame` of [`Inlet::put`]: nothing more is
-    /// read then.
+    /// Holds octets that were read after the others, at the cost of a copy. `Memory` if memory for them ran out; an inlet that failed
+    /// before returns its fault.
     pub fn feed(&mut self, octets: &[u8]) -> Result<(), ListenFault>
         ensures fed { OnOk result ((read : List ℕ) (before after : List FromClient)
             → Inflow read before after self.old → Inflow (read ++ octets.now) before after self.new) }
-        ensures fault { IfErr result (λ fault. fault ≡ ListenFault.Memory) }
+        ensures fails { IfErr result (λ fault. self.new.fault ≡ Some fault) }
+        ensures refused { MatchOption self.old.fault (IsOkUnless result ListenFault.Memory)
+            (λ fault. (result ≡ Err fault) × (self.new ≡ self.old)) }
     {
-        match feed(&mut self.splitter, octets) {
-            Ok(_) => Ok(()),
-            Err(fault) => Err(fault),
+        if let Some(fault) = self.fault {
+            return Err(fault);
         }
+        if self.splitter.feed(octets).is_err() {
+            self.fault = Some(ListenFault::Memory);
+            return Err(ListenFault::Memory);
+        }
+        Ok(())
     }
 
-    /// Puts the items of all whole frames into a ring, as far as it has room. Returns whether all are put.
+    /// Puts the items of all whole frames into a ring, as far as it has room. Returns whether all are put; the ring is full if not.
     ///
-    /// `Frame` for what is no frame: the items of all frames before it are put. `Memory`: what was put is a prefix of what is due, and the
-    /// inlet is of no use then. It costs what its items cost, and allocates for one message at a time.
-    /// (WAMP specification, "RawSocket Transport".)
+    /// `Frame` for what is no frame: the items of all frames before it are put. `Memory` if memory ran out: what was put is a prefix of what
+    /// is due. An inlet that failed before returns its fault, and puts nothing. It costs what its items cost, and allocates for one message
+    /// at a time. (WAMP specification, "RawSocket Transport".)
     pub fn put(
         &mut self,
         parser: &mut Parser,
@@ -84,8 +93,16 @@ impl Inlet {
     ) -> Result<bool, ListenFault>
         ensures puts { (read : List ℕ) (before : List FromClient)
             → Inflow read before (sent producer.old) self.old → PutsOn result read before (sent producer.new) self.new }
+        ensures full { result ≡ Ok false → known_free producer.new ≡ 0 }
+        ensures fails { IfErr result (λ fault. self.new.fault ≡ Some fault) }
+        ensures refused { IfSome self.old.fault (λ fault.
+            (result ≡ Err fault) × (self.new ≡ self.old) × (sent producer.new ≡ sent producer.old)) }
+        ensures room { KeepsRoom producer.old producer.new }
         ensures ring { SameProducer producer.old producer.new }
     {
+        if let Some(fault) = self.fault {
+            return Err(fault);
+        }
         'items: loop {
             if !push(&mut self.next, producer) {
                 return Ok(false);
@@ -93,17 +110,20 @@ impl Inlet {
             match self.cut(parser) {
                 Ok(true) => {}
                 Ok(false) => return Ok(true),
-                Err(fault) => return Err(fault),
+                Err(fault) => {
+                    self.fault = Some(fault);
+                    return Err(fault);
+                }
             }
         }
     }
 
-    /// Puts `Hung`, for a client from which nothing more comes, once all is put; all that is due is put then. Returns whether the ring had
-    /// room.
+    /// Puts `Hung`, for a client from which nothing more comes. All that is due is put then, if [`Inlet::put`] returned `Ok(true)` or `Frame`
+    /// before. Returns whether the ring had room; it is full if not.
     pub fn hang(&self, producer: &mut Producer<FromClient>) -> bool
-        ensures all { (read : List ℕ) (before : List FromClient)
-            → IsPut read before (sent producer.old) self.now → OnTrue result (sent producer.new ≡ before ++ put_of read) }
-        ensures none { result ≡ false → sent producer.new ≡ sent producer.old }
+        ensures puts { OnTrue result (sent producer.new ≡ sent producer.old ++ Hung ∷ []) }
+        ensures full { result ≡ false → (sent producer.new ≡ sent producer.old) × (known_free producer.new ≡ 0) }
+        ensures room { KeepsRoom producer.old producer.new }
         ensures ring { SameProducer producer.old producer.new }
     {
         let mut last = Some(FromClient::Hung);
@@ -131,8 +151,10 @@ impl Inlet {
 // drops one of many variants.
 fn push<T: Drop>(waiting: &mut Option<T>, producer: &mut Producer<T>) -> bool
     ensures none { OnTrue result (waiting.new ≡ None) }
-    ensures full { result ≡ false → (waiting.new ≡ waiting.old) × (sent producer.new ≡ sent producer.old) }
+    ensures full { result ≡ false
+        → (waiting.new ≡ waiting.old) × (sent producer.new ≡ sent producer.old) × (known_free producer.new ≡ 0) }
     ensures put { OnTrue result (sent producer.new ≡ sent producer.old ++ option_to_list waiting.old) }
+    ensures room { KeepsRoom producer.old producer.new }
     ensures ring { SameProducer producer.old producer.new }
 {
     let Some(item) = waiting.take() else {
@@ -144,5 +166,30 @@ fn push<T: Drop>(waiting: &mut Option<T>, producer: &mut Producer<T>) -> bool
             *waiting = Some(back);
             false
         }
+    }
+}
+
+// Takes the next whole frame that a splitter holds. `None` if it holds no whole one.
+fn next_frame(splitter: &mut Splitter) -> Result<Option<Frame>, ListenFault>
+    ensures { Takes result splitter.old splitter.new }
+{
+    match splitter.next() {
+        Ok(next) => Ok(next),
+        Err(FrameFault::Memory) => Err(ListenFault::Memory),
+        Err(_) => Err(ListenFault::Frame),
+    }
+}
+
+// Makes the item that is put for a frame. `None` if none is.
+fn item_for(parser: &mut Parser, frame: Frame) -> Result<Option<FromClient>, ListenFault>
+    ensures { Makes result (item_of frame.kind frame.payload) }
+{
+    match frame.kind {
+        FrameKind::Message => Ok(Some(FromClient::Read(read_by(
+            parser,
+            frame.payload.as_slice(),
+        )?))),
+        FrameKind::Ping => Ok(Some(FromClient::Ping(frame.payload))),
+        FrameKind::Pong => Ok(None),
     }
 }

@@ -3,8 +3,8 @@
 //!
 //! A thread that serves many clients and may wait for none of them uses [`Inlet`] and [`Outbox`], with [`read_handshake`] and
 //! [`answer_handshake`]: so does the program. For a thread that has one client on a blocking stream there are [`greet`], [`read_transport`] or
-//! [`put_transport`], [`write_transport`] or [`take_transport`], and [`drain`]; the program does not call these. Both ways cut octets into
-//! frames, and make items and frames of these, by the same functions; what they put and write for the same octets and items is the same.
+//! [`put_transport`], [`write_transport`] or [`take_transport`], and [`drain`]; the program does not call these. They read and write by an
+//! `Inlet` and an `Outbox`, so frames are cut, and rings are filled, in one place.
 #![tactic(auto)]
 
 mod draining;

@@ -1,10 +1,10 @@
-ghost use Rattle.std.specs.Prelude.{◌≡◌, ◌++◌, [], length, ℕ, List, Ok, true, OnOk, OnErr};
-ghost use Rattle.std.specs.Bool.{OnTrue};
+ghost use Rattle.std.specs.Prelude.{◌≡◌, ◌<◌, ◌++◌, ◌⊎◌, [], length, ℕ, List, Ok, true, OnOk, OnErr};
 ghost use Rattle.wamp_messages.specs.Writing.{text_of};
 ghost use Rattle.std.specs.Io.KnownBytes.{Appends, Keeps};
-ghost use Rattle.rtrb.specs.Ring.{received, SameConsumer};
+ghost use Rattle.rtrb.specs.Ring.{received, known_items, SameConsumer};
 ghost use Rattle.client_listener.specs.Outbox.{Frames, Hears, Empties};
-ghost use Rattle.client_listener.specs.Gathering.{Gathers};
+ghost use Rattle.client_listener.specs.Gathering.{Gathers, KeepsKnown};
+ghost use Rattle.client_listener.specs.Writing.{most_waiting};
 
 use crate::fault::ListenFault;
 use crate::handshake::write_out;
@@ -19,9 +19,6 @@ use wamp_rawsocket::{FrameFault, FrameKind, append_frame};
 
 // The most octets of frames that may wait while further items are taken.
 const FULL: usize = 1 << 16;
-
-// The most items that are gathered at a time.
-const MOST_GATHERED: u32 = 1 << 16;
 
 /// The frames that wait to be written to one client. A clause sees the longest payload that the client takes, and the octets
 /// of the frames.
@@ -69,15 +66,8 @@ impl Outbox {
         self.frames.len()
     }
 
-    // Returns whether further items may be taken before the frames are written: the transport stays open, and few octets wait.
-    pub(crate) fn may_wait(&self, heard: &Result<bool, ListenFault>) -> bool
-        ensures { OnTrue result (heard.now ≡ Ok true) }
-    {
-        matches!(heard, Ok(true)) && self.frames.len() <= FULL
-    }
-
     // Puts the frame of an item after the others. Returns whether the transport stays open.
-    pub(crate) fn hear(&mut self, item: &ToClient) -> Result<bool, ListenFault>
+    fn hear(&mut self, item: &ToClient) -> Result<bool, ListenFault>
         ensures hears { Hears self.old.limit item.now result self.old.octets self.new.octets }
         ensures limit { self.new.limit ≡ self.old.limit }
     {
@@ -121,31 +111,37 @@ impl Outbox {
         )
     }
 
-    /// Takes items out of a ring, as far as some are at hand, and puts their frames after the others, up to one after which more than 64 KiB
-    /// wait. Returns whether the transport stays open; it does not once a `Close` is taken.
+    /// Takes items out of a ring and puts their frames after the others, until the ring is empty or more than 64 KiB wait. Returns whether the
+    /// transport stays open; it does not once a `Close` is taken.
     ///
     /// `Wide` at a message or PONG that is longer than the client takes, and `Memory`: what was taken before waits. It waits for nothing,
-    /// and takes at most 2^16 items. (WAMP specification, "RawSocket Transport", "Framing".)
+    /// and takes an item only while at most 64 KiB wait. (WAMP specification, "RawSocket Transport", "Framing".)
     pub fn gather<P: Protocol<ToClient>>(
         &mut self,
         consumer: &mut Consumer<ToClient, Global, P>,
     ) -> Result<bool, ListenFault>
         ensures gathers { Gathers P.allows self.old.limit result (received consumer.old) (received consumer.new)
             self.old.octets self.new.octets }
+        ensures empty { result ≡ Ok true → (known_items consumer.new ≡ []) ⊎ (most_waiting < length self.new.octets) }
+        ensures known { KeepsKnown consumer.old consumer.new }
         ensures limit { self.new.limit ≡ self.old.limit }
         ensures ring { SameConsumer consumer.old consumer.new }
     {
-        for _step in 0..MOST_GATHERED {
+        'items: loop {
+            if self.len() > FULL {
+                return Ok(true);
+            }
             let Ok(item) = consumer.pop() else {
                 return Ok(true);
             };
             let heard = self.hear(&item);
             drop(item);
-            if !self.may_wait(&heard) {
-                return heard;
+            match heard {
+                Ok(true) => {}
+                Ok(false) => return Ok(false),
+                Err(fault) => return Err(fault),
             }
         }
-        Ok(true)
     }
 
     /// Writes once what waits, if anything does, and drops what was written. An error leaves all as it was. What the writer left is moved

@@ -1,18 +1,19 @@
-ghost use Rattle.std.specs.Prelude.{◌≡◌, ◌<◌, ◌≤◌, List, [], ℕ, Option, Ok, Some, IsErrOf, IfSome, true};
+ghost use Rattle.std.specs.Prelude.{◌≡◌, ◌<◌, ◌≤◌, List, [], ℕ, Option, Ok, true, IsErrOf, IfSome, MatchBool};
 ghost use Rattle.std.specs.Io.KnownBytes.{Consumes};
 ghost use Rattle.std.specs.declared.alloc.Global.{Global};
-ghost use Rattle.rtrb.specs.Ring.{sent, all_sent, IsPair, IsFinishedOf, SameProducer};
+ghost use Rattle.rtrb.specs.Ring.{sent, known_free, all_sent, IsPair, IsFinishedOf, SameProducer, ProducerLooked};
 ghost use Rattle.rtrb.specs.declared.consumer.Consumer.{Consumer};
 ghost use Rattle.rtrb.specs.declared.AnyItems.{AnyItems};
-ghost use Rattle.client_listener.specs.Intake.{held_len};
-ghost use Rattle.client_listener.specs.Reading.{is_cut_short, Adds, Puts, Underway, Waits, Stops, Steps, PutsWhole, TurnsOn, Finishes};
+ghost use Rattle.client_listener.specs.Reading.{turns_of, Puts, Finishes};
+ghost use Rattle.client_listener.specs.ReadingSteps.{is_cut_short, Underway, PutsAll, TurnsOn, Stops, Hangs};
 
 use crate::fault::ListenFault;
+use crate::inlet::Inlet;
 use crate::intake::Intake;
 use crate::items::FromClient;
 use crate::patience::Patience;
 use crate::turns::{MOST_TURNS, spend};
-use rtrb::{Finished, Producer, PushError};
+use rtrb::{Finished, Producer};
 use std::alloc::Global;
 use std::io::Read;
 use std::time::Clock;
@@ -26,7 +27,8 @@ pub fn read_transport<R: Read>(
     producer: Producer<FromClient>,
     turns: u64,
 ) -> (Result<(), ListenFault>, Option<Finished<FromClient>>)
-    ensures puts { Finishes result.0 (R.remaining reader.old) (R.remaining reader.new) (sent producer) result.1 }
+    ensures puts { Finishes (turns_of turns) (known_free producer) result.0 (R.remaining reader.old) (R.remaining reader.new)
+        (sent producer) result.1 }
     ensures ring { IfSome result.1 (λ finished. (consumer : Consumer FromClient Global AnyItems)
         → IsPair producer consumer → IsFinishedOf finished consumer) }
 {
@@ -39,13 +41,13 @@ pub fn read_transport<R: Read>(
 /// Puts what a client sends after its handshake into a ring: `Connect`, an item for each frame (none for a PONG), and `Hung`.
 ///
 /// `Ok` at the reader's end alone; `Frame` for what is no frame, and `Read` for a read that failed: all is put then, `Hung`
-/// last. `Turns` once the turns are spent, or if the ring is full and its other end was dropped, and `Memory`: what was put is then a prefix of
-/// that.
+/// last. `Memory`, and `Turns` once the turns are spent: what was put is then a prefix of that. If the ring is full and its other end was
+/// dropped, all turns are spent at once.
 ///
 /// A turn is one read of up to 16 KiB, or one try that finds the ring full; `turns` counts them down, and of more than 2^32
-/// only 2^32 are left. After a vain try the reader is asked to read no octets, and from the fourth in a row on the thread
-/// gives way or sleeps, for 1 ms at the most. What is allocated does not grow with the length of the stream.
-/// (WAMP specification, "RawSocket Transport".)
+/// only 2^32 are left. So after `Turns` as many octets were read as there were turns, or the ring has been full. After a vain try the reader is
+/// asked to read no octets, and from the fourth on the thread gives way or sleeps, for 1 ms at the most. What is allocated does not grow with
+/// the length of the stream. (WAMP specification, "RawSocket Transport".)
 pub fn put_transport<R: Read>(
     clock: &impl Clock,
     alloc: Global,
@@ -53,17 +55,18 @@ pub fn put_transport<R: Read>(
     producer: &mut Producer<FromClient>,
     turns: &mut u64,
 ) -> Result<(), ListenFault>
-    ensures puts { Puts result (R.remaining reader.old) (R.remaining reader.new) (sent producer.old) (sent producer.new) }
+    ensures puts { Puts (turns_of turns.old) (known_free producer.old) result (R.remaining reader.old) (R.remaining reader.new)
+        (sent producer.old) (sent producer.new) }
     ensures spent { IsErrOf result ListenFault.Turns → turns.new ≡ 0 }
     ensures ring { SameProducer producer.old producer.new }
 {
     *turns = (*turns).min(MOST_TURNS);
-    put(clock, reader, producer, FromClient::Connect, turns)?;
-    let outcome = put_frames(clock, alloc, reader, producer, turns);
+    let mut intake = Intake::new(alloc)?;
+    let outcome = put_stream(clock, &mut intake, reader, producer, turns);
     if is_cut_short(&outcome) {
         return outcome;
     }
-    put(clock, reader, producer, FromClient::Hung, turns)?;
+    hang(clock, &intake.inlet, reader, producer, turns)?;
     outcome
 }
 
@@ -75,22 +78,20 @@ fn is_cut_short(outcome: &Result<(), ListenFault>) -> bool
 }
 
 // Puts an item for each frame, up to the end of the stream.
-fn put_frames<R: Read>(
+fn put_stream<R: Read>(
     clock: &impl Clock,
-    alloc: Global,
+    intake: &mut Intake,
     reader: &mut R,
     producer: &mut Producer<FromClient>,
     turns: &mut u64,
 ) -> Result<(), ListenFault>
-    ensures puts { (start : Option (List ℕ)) (before : List FromClient)
-        → Underway start (R.remaining reader.old) before (sent producer.old) (Some [])
-        → Stops result start (R.remaining reader.new) before (sent producer.new) }
-    ensures spent { IsErrOf result ListenFault.Turns → turns.new ≡ 0 }
+    ensures puts { (most free : ℕ) (start : Option (List ℕ)) (before : List FromClient)
+        → Underway most free start before (R.remaining reader.old) (sent producer.old) (known_free producer.old) turns.old intake.old
+        → Stops most free start before result (R.remaining reader.new) (sent producer.new) (known_free producer.new) turns.new }
     ensures ring { SameProducer producer.old producer.new }
 {
-    let mut intake = Intake::new(alloc)?;
     'turns: loop {
-        match turn(clock, &mut intake, reader, producer, turns) {
+        match turn(clock, intake, reader, producer, turns) {
             Ok(true) => {}
             Ok(false) => return Ok(()),
             Err(fault) => return Err(fault),
@@ -98,7 +99,7 @@ fn put_frames<R: Read>(
     }
 }
 
-// Reads once, and puts an item for each frame that is whole then. Returns whether more may come.
+// Puts what is there to be put, and reads once. Returns whether more may come.
 fn turn<R: Read>(
     clock: &impl Clock,
     intake: &mut Intake,
@@ -106,104 +107,89 @@ fn turn<R: Read>(
     producer: &mut Producer<FromClient>,
     turns: &mut u64,
 ) -> Result<bool, ListenFault>
-    ensures turns { (start : Option (List ℕ)) (before : List FromClient)
-        → Waits start (R.remaining reader.old) before (sent producer.old) intake.old
-        → TurnsOn start (R.remaining reader.new) before (sent producer.new) intake.new result }
-    ensures spent { IsErrOf result ListenFault.Turns → turns.new ≡ 0 }
+    ensures turns { (most free : ℕ) (start : Option (List ℕ)) (before : List FromClient)
+        → Underway most free start before (R.remaining reader.old) (sent producer.old) (known_free producer.old) turns.old intake.old
+        → TurnsOn most free start before result (R.remaining reader.new) (sent producer.new) (known_free producer.new) turns.new intake.new }
     ensures spends { result ≡ Ok true → turns.new < turns.old }
     ensures ring { SameProducer producer.old producer.new }
 {
-    spend(turns)?;
-    if !intake.fill(reader)? {
-        return Ok(false);
+    put_all(clock, intake, reader, producer, turns)?;
+    if !spend(turns) {
+        return Err(ListenFault::Turns);
     }
-    put_whole(clock, intake, reader, producer, turns)?;
-    Ok(true)
+    intake.fill(reader)
 }
 
-// Puts an item for each frame that is whole.
-fn put_whole<R: Read>(
+// Puts the items of all whole frames, as soon as the ring has room for them.
+fn put_all<R: Read>(
     clock: &impl Clock,
     intake: &mut Intake,
     reader: &mut R,
     producer: &mut Producer<FromClient>,
     turns: &mut u64,
 ) -> Result<(), ListenFault>
-    ensures puts { (start : Option (List ℕ)) (before : List FromClient)
-        → Underway start (R.remaining reader.old) before (sent producer.old) intake.old
-        → PutsWhole start (R.remaining reader.new) before (sent producer.new) intake.new result }
-    ensures spent { IsErrOf result ListenFault.Turns → turns.new ≡ 0 }
+    ensures puts { (most free : ℕ) (start : Option (List ℕ)) (before : List FromClient)
+        → Underway most free start before (R.remaining reader.old) (sent producer.old) (known_free producer.old) turns.old intake.old
+        → PutsAll most free start before result (R.remaining reader.new) (sent producer.new) (known_free producer.new) turns.new intake.new }
     ensures spends { turns.new ≤ turns.old }
     ensures ring { SameProducer producer.old producer.new }
 {
-    'frames: loop {
-        match put_next(clock, intake, reader, producer, turns) {
-            Ok(true) => {}
-            Ok(false) => return Ok(()),
-            Err(fault) => return Err(fault),
-        }
-    }
-}
-
-// Puts the item of the next frame. Returns whether there was a whole one.
-fn put_next<R: Read>(
-    clock: &impl Clock,
-    intake: &mut Intake,
-    reader: &mut R,
-    producer: &mut Producer<FromClient>,
-    turns: &mut u64,
-) -> Result<bool, ListenFault>
-    ensures steps { (start : Option (List ℕ)) (before : List FromClient)
-        → Underway start (R.remaining reader.old) before (sent producer.old) intake.old
-        → Steps start (R.remaining reader.new) before (sent producer.new) intake.new result }
-    ensures shrinks { result ≡ Ok true → held_len intake.new < held_len intake.old }
-    ensures spent { IsErrOf result ListenFault.Turns → turns.new ≡ 0 }
-    ensures spends { turns.new ≤ turns.old }
-    ensures ring { SameProducer producer.old producer.new }
-{
-    let Some(frame) = intake.next()? else {
-        return Ok(false);
-    };
-    let Some(item) = intake.item(frame)? else {
-        return Ok(true);
-    };
-    put(clock, reader, producer, item, turns)?;
-    Ok(true)
-}
-
-// Puts an item, as soon as the ring has room for it. It is generic in the item, so that each exit drops one of a type without variants.
-fn put<T: Drop, R: Read>(
-    clock: &impl Clock,
-    reader: &mut R,
-    producer: &mut Producer<T>,
-    item: T,
-    turns: &mut u64,
-) -> Result<(), ListenFault>
-    ensures adds { Adds result item (sent producer.old) (sent producer.new) turns.new }
-    ensures reads { Consumes (R.remaining reader.old) (R.remaining reader.new) [] }
-    ensures spends { turns.new ≤ turns.old }
-    ensures ring { SameProducer producer.old producer.new }
-{
-    let mut item = item;
     let mut patience = Patience::new();
     'tries: loop {
-        match producer.push(item) {
-            Ok(()) => return Ok(()),
-            Err(PushError::Full(back)) => item = back,
+        match intake.put(producer) {
+            Ok(true) => return Ok(()),
+            Ok(false) => {}
+            Err(fault) => return Err(fault),
         }
-        // Nobody makes room any more.
-        if producer.is_abandoned() {
-            *turns = 0;
+        if !wait(clock, reader, producer, &mut patience, turns) {
+            return Err(ListenFault::Turns);
         }
-        spend(turns)?;
-        ask(reader);
-        patience.wait(clock);
     }
 }
 
-// Reads no octets, so that a reader notices each vain try. What it returns shows at the next read.
-fn ask<R: Read>(reader: &mut R)
-    ensures { Consumes (R.remaining reader.old) (R.remaining reader.new) [] }
+// Puts `Hung`, as soon as the ring has room for it.
+fn hang<R: Read>(
+    clock: &impl Clock,
+    inlet: &Inlet,
+    reader: &mut R,
+    producer: &mut Producer<FromClient>,
+    turns: &mut u64,
+) -> Result<(), ListenFault>
+    ensures hangs { Hangs result (sent producer.old) (sent producer.new) (known_free producer.old) turns.new }
+    ensures reads { Consumes (R.remaining reader.old) (R.remaining reader.new) [] }
+    ensures ring { SameProducer producer.old producer.new }
 {
+    let mut patience = Patience::new();
+    'tries: loop {
+        if inlet.hang(producer) {
+            return Ok(());
+        }
+        if !wait(clock, reader, producer, &mut patience, turns) {
+            return Err(ListenFault::Turns);
+        }
+    }
+}
+
+// Waits after a try that found the ring full. Returns whether a turn was left for it; none is if nobody makes room any more. The reader is
+// asked for no octets, so that it notices each vain try; what it returns shows at the next read.
+fn wait<R: Read>(
+    clock: &impl Clock,
+    reader: &mut R,
+    producer: &mut Producer<FromClient>,
+    patience: &mut Patience,
+    turns: &mut u64,
+) -> bool
+    ensures spends { MatchBool result (turns.new < turns.old) (turns.new ≡ 0) }
+    ensures reads { Consumes (R.remaining reader.old) (R.remaining reader.new) [] }
+    ensures looked { ProducerLooked producer.old producer.new }
+{
+    if producer.is_abandoned() {
+        *turns = 0;
+    }
+    if !spend(turns) {
+        return false;
+    }
     let _answer = reader.read(&mut []);
+    patience.wait(clock);
+    true
 }

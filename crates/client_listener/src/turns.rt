@@ -1,18 +1,15 @@
-ghost use Rattle.std.specs.Prelude.{◌≡◌};
-ghost use Rattle.client_listener.specs.Turns.{Spends};
-
-use crate::fault::ListenFault;
+ghost use Rattle.std.specs.Prelude.{◌≡◌, ◌+◌, MatchBool};
 
 /// The most turns of a call.
 pub(crate) const MOST_TURNS: u64 = 1 << 32;
 
-// Spends one turn. `Turns` if none is left.
-pub(crate) fn spend(turns: &mut u64) -> Result<(), ListenFault>
-    ensures { Spends result turns.old turns.new }
+// Spends one turn. Returns whether one was left.
+pub(crate) fn spend(turns: &mut u64) -> bool
+    ensures { MatchBool result (turns.old ≡ turns.new + 1) ((turns.old ≡ 0) × (turns.new ≡ 0)) }
 {
     if *turns == 0 {
-        return Err(ListenFault::Turns);
+        return false;
     }
     *turns -= 1;
-    Ok(())
+    true
 }

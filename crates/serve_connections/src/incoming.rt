@@ -17,7 +17,7 @@ pub(crate) enum Inward {
 #[derive(Drop)]
 pub(crate) struct Incoming {
     inlet: Inlet,
-    items: Producer<FromClient>,
+    requests: Producer<FromClient>,
     // Whether something waits for room in the ring. At first that is `Connect`.
     is_full: bool,
     // Whether nothing more is read, and whether memory ran out, so that nothing more is put either.
@@ -28,10 +28,10 @@ pub(crate) struct Incoming {
 
 impl Incoming {
     // Returns the way in of a connection before its first octet. Does not allocate.
-    pub fn new(alloc: Global, items: Producer<FromClient>) -> Incoming {
+    pub fn new(alloc: Global, requests: Producer<FromClient>) -> Incoming {
         Incoming {
             inlet: Inlet::new(alloc),
-            items,
+            requests,
             is_full: true,
             is_ended: false,
             is_lost: false,
@@ -74,7 +74,7 @@ impl Incoming {
         if !self.is_ended {
             return Inward::Put;
         }
-        if self.inlet.hang(&mut self.items) {
+        if self.inlet.hang(&mut self.requests) {
             return Inward::Done;
         }
         self.is_full = true;
@@ -83,7 +83,7 @@ impl Incoming {
 
     // Waits for room, unless the node is gone, so that no room will come.
     fn wait(&mut self) -> Inward {
-        if self.items.is_abandoned() {
+        if self.requests.is_abandoned() {
             Inward::Done
         } else {
             Inward::Full
@@ -92,7 +92,7 @@ impl Incoming {
 
     // Puts what waits. Returns whether there was room for all of it.
     fn put(&mut self, buffers: &mut Buffers) -> bool {
-        match self.inlet.put(&mut buffers.parser, &mut self.items) {
+        match self.inlet.put(&mut buffers.parser, &mut self.requests) {
             Ok(done) => {
                 self.is_full = !done;
                 done

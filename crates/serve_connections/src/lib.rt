@@ -12,6 +12,8 @@ mod porter;
 mod porter_connection;
 mod shared;
 
+pub use client_listener::{FromClient, ToClient};
 pub use door::{Door, run_porter};
 pub use lobby::{Lobby, MOST_CONNECTIONS};
 pub use node_connection::{Arrival, NodeConnection, REQUESTS_WAITING, SAYINGS_WAITING};
+pub use rtrb::{Consumer, Producer};

@@ -6,20 +6,20 @@ use std::alloc::{AllocError, Global};
 use std::net::TcpStream;
 use std::sync::Arc;
 
-/// The number of a client's items that may wait for its node.
+/// How many of a client's requests, all that it sends, may wait for its node.
 pub const REQUESTS_WAITING: usize = 64;
 
-/// The number of sayings that may wait for a client.
+/// How many sayings may wait for a client.
 pub const SAYINGS_WAITING: usize = 1024;
 
-/// A connection that came, as its node gets it: the ring of what the client sends, the ring of what the client is sent, and the node's hold on
-/// the connection, which is dropped with the arrival.
+/// A connection that came, as its node gets it: the ring of its requests, the ring of its sayings, and the node's hold on the
+/// connection, which is dropped with the arrival.
 ///
-/// The first item is `Connect`, once the handshake is done. If the handshake fails, the ring of items is abandoned with nothing in it.
+/// The first request is `Connect`, once the handshake is done. If the handshake fails, the ring of requests is abandoned with nothing in it.
 #[derive(Drop)]
 pub struct Arrival {
-    pub items: Consumer<FromClient>,
-    pub replies: Producer<ToClient>,
+    pub requests: Consumer<FromClient>,
+    pub sayings: Producer<ToClient>,
     pub connection: NodeConnection,
 }
 
@@ -55,7 +55,7 @@ impl NodeConnection {
         self.shared.ring();
     }
 
-    /// Wakes the porter if it waits for room in the ring of items. For a node that has taken some.
+    /// Wakes the porter if it waits for room in the ring of requests. For a node that has taken some.
     pub fn announce_room(&self) {
         self.shared.announce_room();
     }

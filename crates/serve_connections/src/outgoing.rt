@@ -34,7 +34,7 @@ pub(crate) struct Outgoing {
     outbox: Outbox,
     later: VecDeque<Outbox>,
     waiting: usize,
-    replies: Consumer<ToClient>,
+    sayings: Consumer<ToClient>,
     // Whether a `Close` was taken, and whether nothing more is taken for a fault.
     is_closed: bool,
     fault: Option<ListenFault>,
@@ -42,14 +42,14 @@ pub(crate) struct Outgoing {
 
 impl Outgoing {
     // Returns the way out to a client that has not said yet what payloads it takes. Does not allocate.
-    pub fn new(alloc: Global, replies: Consumer<ToClient>) -> Outgoing {
+    pub fn new(alloc: Global, sayings: Consumer<ToClient>) -> Outgoing {
         Outgoing {
             alloc,
             limit: 0,
             outbox: Outbox::new(alloc, 0),
             later: VecDeque::new(alloc),
             waiting: 0,
-            replies,
+            sayings,
             is_closed: false,
             fault: None,
         }
@@ -87,7 +87,7 @@ impl Outgoing {
             .waiting
             .saturating_sub(before)
             .saturating_add(self.waiting);
-        let is_empty = self.replies.is_empty();
+        let is_empty = self.sayings.is_empty();
         if is_empty {
             shared.clear_slow(&buffers.lobby);
         }
@@ -157,8 +157,8 @@ impl Outgoing {
         }
         let before = self.last_len();
         let gathered = match self.later.back_mut() {
-            Some(last) => last.gather(&mut self.replies),
-            None => self.outbox.gather(&mut self.replies),
+            Some(last) => last.gather(&mut self.sayings),
+            None => self.outbox.gather(&mut self.sayings),
         };
         let more = self.last_len().saturating_sub(before);
         self.waiting = self.waiting.saturating_add(more);

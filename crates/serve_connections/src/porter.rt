@@ -212,19 +212,19 @@ impl Porter {
         let Some(permit) = ConnectionPermit::take(&self.buffers.lobby)? else {
             return Ok(PorterConnection::new(number, None, shared, None, None));
         };
-        let (into_items, items) = RingBuffer::new(alloc, REQUESTS_WAITING)?;
-        let (replies, from_replies) = RingBuffer::new(alloc, SAYINGS_WAITING)?;
+        let (into_requests, requests) = RingBuffer::new(alloc, REQUESTS_WAITING)?;
+        let (sayings, from_sayings) = RingBuffer::new(alloc, SAYINGS_WAITING)?;
         announce(
             &mut self.arrivals,
             Arrival {
-                items,
-                replies,
+                requests,
+                sayings,
                 connection: held,
             },
         );
         self.buffers.lobby.stir();
-        let incoming = Incoming::new(alloc, into_items);
-        let outgoing = Outgoing::new(alloc, from_replies);
+        let incoming = Incoming::new(alloc, into_requests);
+        let outgoing = Outgoing::new(alloc, from_sayings);
         Ok(PorterConnection::new(number, Some(permit), shared, Some(incoming), Some(outgoing)))
     }
 

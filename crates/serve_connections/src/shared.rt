@@ -6,7 +6,7 @@ use std::sync::Arc;
 use std::sync::atomic::{AtomicBool, Ordering};
 
 // What a connection's node and its porter share: the stream, the porter's bell, whether the node has released the connection, whether the
-// porter waits for room in the ring of items, and whether the client is counted as slow.
+// porter waits for room in the ring of requests, and whether the client is counted as slow.
 #[derive(Drop)]
 pub(crate) struct SharedConnection {
     stream: TcpStream,

@@ -20,7 +20,7 @@ const MOST_ARRIVALS: u8 = 64;
 
 /// The events of a node in one boot: what its clients do, ticks, ballots and suspicions; and the way of its sayings to their clients.
 ///
-/// A round in which no thread stirred the node costs some loads. A client's item costs constant time, and a removed connection as many moves
+/// A round in which no thread stirred the node costs some loads. A client's request costs constant time, and a removed connection as many moves
 /// as there are connections; each time the node was stirred, each connection's ring is asked once. Messages are moved, not copied. After an
 /// idle turn, if entries or many packets moved since the last tick, the feed looks for some microseconds whether the node is woken: a thread
 /// that waits for a packet has it sooner than the node could rest and be woken.
@@ -31,30 +31,50 @@ pub struct ClientFeed<'a> {
     lobby: &'a Lobby,
     lobbies: &'a [Arc<Lobby>],
     pace: &'a Pace,
-    boot: u64,
     arrivals: Consumer<Arrival>,
     lanes: Lanes,
+    boot: Boot,
+    round: Round,
+}
+
+// What begins anew with each boot.
+#[derive(Drop)]
+struct Boot {
+    number: u64,
     draws: Draws,
     ticks: Ticks,
     admission: Admission,
     peers: Peers,
-    last: LastTurn,
-    // Whether something happened since the last turn.
+    // What the node had promised after the turn that was counted last.
+    promised: Option<Ballot>,
+}
+
+impl Boot {
+    // Returns the boot with this number, in which nothing is counted yet. It is the first one of the run or a later one.
+    fn new(key: u64, node: u8, members: Members, number: u64, is_first: bool) -> Boot {
+        Boot {
+            number,
+            draws: Draws::new(key, node, number),
+            ticks: Ticks::new(node, members, is_first),
+            admission: Admission::new(),
+            peers: Peers::new(members),
+            promised: None,
+        }
+    }
+}
+
+// The round that was counted last, and what has happened since.
+#[derive(Drop)]
+struct Round {
+    number: u64,
+    // How many entries its turn had applied.
+    applied: u64,
+    // Whether something happened since.
     is_busy: bool,
     // Whether a tick while nothing moved was all that happened since.
     is_ticked: bool,
     // Whether something may be due that was not asked for yet.
     may_be_due: bool,
-}
-
-// What is known of the turn that was counted last.
-#[derive(Drop)]
-struct LastTurn {
-    round: u64,
-    // How many entries it had applied.
-    applied: u64,
-    // What the node had promised after it.
-    promised: Option<Ballot>,
 }
 
 impl Drop for ClientFeed<'_> {
@@ -66,17 +86,10 @@ impl Drop for ClientFeed<'_> {
             lobby: _lobby,
             lobbies: _lobbies,
             pace: _pace,
-            boot: _,
             arrivals: _arrivals,
             lanes: _lanes,
-            draws: _draws,
-            ticks: _ticks,
-            admission: _admission,
-            peers: _peers,
-            last: _last,
-            is_busy: _,
-            is_ticked: _,
-            may_be_due: _,
+            boot: _boot,
+            round: _round,
         } = self;
     }
 }
@@ -105,21 +118,16 @@ impl<'a> ClientFeed<'a> {
             lobby,
             lobbies,
             pace,
-            boot,
             arrivals,
             lanes: Lanes::new(alloc),
-            draws: Draws::new(key, node, boot),
-            ticks: Ticks::new(node, members, true),
-            admission: Admission::new(),
-            peers: Peers::new(members),
-            last: LastTurn {
-                round: 0,
+            boot: Boot::new(key, node, members, boot, true),
+            round: Round {
+                number: 0,
                 applied: 0,
-                promised: None,
+                is_busy: true,
+                is_ticked: false,
+                may_be_due: true,
             },
-            is_busy: true,
-            is_ticked: false,
-            may_be_due: true,
         }
     }
 
@@ -137,14 +145,9 @@ impl<'a> ClientFeed<'a> {
     // Begins a boot, which is the first one of the run or a later one.
     fn begin_boot(&mut self, boot: u64, is_first: bool) {
         self.lanes.end_all(self.lobby);
-        self.boot = boot;
-        self.draws = Draws::new(self.key, self.node, boot);
-        self.ticks = Ticks::new(self.node, self.members, is_first);
-        self.admission = Admission::new();
-        self.peers = Peers::new(self.members);
-        self.last.promised = None;
-        self.may_be_due = true;
-        self.is_busy = true;
+        self.boot = Boot::new(self.key, self.node, self.members, boot, is_first);
+        self.round.may_be_due = true;
+        self.round.is_busy = true;
         self.lanes.stir();
     }
 
@@ -167,8 +170,8 @@ impl<'a> ClientFeed<'a> {
     // Counts the last turn, and wakes the nodes that it concerns. Once a round.
     fn count(&mut self, seen: &Seen) {
         // What a tick alone has posted waits for the peers' own ticks.
-        let may_wait = self.is_ticked && !self.peers.has_waiting();
-        self.is_ticked = false;
+        let may_wait = self.round.is_ticked && !self.boot.peers.has_waiting();
+        self.round.is_ticked = false;
         self.watch(seen);
         let moved = wake_peers(self.node, self.members, self.lobbies, seen, may_wait);
         self.take_stirred();
@@ -181,30 +184,31 @@ impl<'a> ClientFeed<'a> {
 
     // Judges whether the last turn was idle: nothing came, all that could be posted is, and no event is at hand.
     fn judge(&mut self, seen: &Seen, moved: bool) {
-        if seen.pending || seen.applied != self.last.applied {
+        if seen.pending || seen.applied != self.round.applied {
             self.pace.moved();
         } else if moved {
             self.pace.stirred();
         }
-        self.last.applied = seen.applied;
+        self.round.applied = seen.applied;
         let is_still = !moved || seen.from.is_none() && seen.waiting == [0; 7];
-        let is_idle = is_still && !self.is_busy && !self.may_act();
+        let is_idle = is_still && !self.round.is_busy && !self.may_act();
         self.pace.judge(is_idle && !self.is_woken_soon());
-        self.is_busy = false;
+        self.round.is_busy = false;
     }
 
     // Counts time by what the last turn brought.
     fn count_time(&mut self, seen: &Seen) {
-        let turn = turn_of(seen, self.last.promised, self.pace.due());
-        self.last.promised = seen.promised;
-        if self.ticks.count(turn) {
+        let turn = turn_of(seen, self.boot.promised, self.pace.due());
+        self.boot.promised = seen.promised;
+        if self.boot.ticks.count(turn) {
             self.pace.counted();
-            self.may_be_due = true;
+            self.round.may_be_due = true;
         }
         if matches!(turn.sign, Sign::Refused { .. } | Sign::Told) {
-            self.may_be_due = true;
+            self.round.may_be_due = true;
         }
-        self.pace.set_quick(seen.pending || self.peers.holds_acts());
+        self.pace
+            .set_quick(seen.pending || self.boot.peers.holds_acts());
     }
 
     // Looks into the node's rings if a thread has put something there.
@@ -227,24 +231,25 @@ impl<'a> ClientFeed<'a> {
 
     // Notes how the other members get on, and says in the node's lobby for which of them its packets wait.
     fn watch(&mut self, seen: &Seen) {
-        if self.peers.watch(self.ticks.beats(), seen) {
+        let beat = self.boot.ticks.beats();
+        if self.boot.peers.watch(beat, seen) {
             say_waits(self.lobby, self.members, &seen.waiting);
         }
     }
 
     // Notes that something happens in this round: no rest comes before the turn that follows is counted.
     fn stay(&mut self) {
-        self.is_busy = true;
-        self.is_ticked = false;
+        self.round.is_busy = true;
+        self.round.is_ticked = false;
         self.pace.judge(false);
     }
 
     // Notes what the node has come to.
     fn see(&mut self, seen: &Seen) {
-        self.admission.see(seen.leads, seen.pending);
+        self.boot.admission.see(seen.leads, seen.pending);
         let round = self.pace.round();
-        if round != self.last.round {
-            self.last.round = round;
+        if round != self.round.number {
+            self.round.number = round;
             self.count(seen);
         }
     }
@@ -255,7 +260,7 @@ impl<'a> ClientFeed<'a> {
         let node = self.node;
         match due {
             Due::Tick => {
-                self.is_ticked = !self.pace.is_moving();
+                self.round.is_ticked = !self.pace.is_moving();
                 self.pace.ticked();
                 Event::Tick { node }
             }
@@ -266,16 +271,16 @@ impl<'a> ClientFeed<'a> {
 
     // Returns whether a client may do something next, and may have done it.
     fn may_act(&self) -> bool {
-        !self.peers.holds_acts() && self.admission.has_room() && self.lanes.is_on()
+        !self.boot.peers.holds_acts() && self.boot.admission.has_room() && self.lanes.is_on()
     }
 
     // Returns what a client does next.
     fn act(&mut self) -> Option<Event<Act>> {
-        let next = self.lanes.next(self.lobby, &mut self.draws);
+        let next = self.lanes.next(self.lobby, &mut self.boot.draws);
         self.lanes.wake_told();
         let (transport, body) = next?;
         self.stay();
-        self.admission.give();
+        self.boot.admission.give();
         Some(Event::Take {
             node: self.node,
             transport,
@@ -287,8 +292,8 @@ impl<'a> ClientFeed<'a> {
     fn tell(&mut self, say: Say) {
         let Say { transport, out } = say;
         let saying = saying_of(out);
-        if transport.node == self.node && transport.boot == self.boot {
-            self.lanes.reply(self.lobby, transport.number, saying);
+        if transport.node == self.node && transport.boot == self.boot.number {
+            self.lanes.say(self.lobby, transport.number, saying);
         } else {
             drop(saying);
         }
@@ -302,12 +307,12 @@ impl Feed<Act, Say> for ClientFeed<'_> {
         ensures { Unit {0} }
     {
         self.see(&seen);
-        if self.may_be_due
-            && let Some(due) = self.ticks.next(!self.peers.holds_ticks())
+        if self.round.may_be_due
+            && let Some(due) = self.boot.ticks.next(!self.boot.peers.holds_ticks())
         {
             return Some(self.due(due));
         }
-        self.may_be_due = false;
+        self.round.may_be_due = false;
         if !self.may_act() {
             return None;
         }

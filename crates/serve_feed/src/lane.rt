@@ -15,7 +15,7 @@ pub(crate) enum Stage {
 #[derive(Drop)]
 pub(crate) enum Found {
     Nothing,
-    Item(FromClient),
+    Request(FromClient),
     End,
 }
 
@@ -58,25 +58,25 @@ impl Lane {
         self.stage = Stage::Open;
     }
 
-    // Returns the next item, or that none will come: the node has ended the lane, or its porter has stopped and nothing is left.
+    // Returns the next request, or that none will come: the node has ended the lane, or its porter has stopped and nothing is left.
     pub fn find(&mut self) -> Found {
         if self.stage == Stage::Ended {
             return Found::End;
         }
-        find(&mut self.arrival.items)
+        find(&mut self.arrival.requests)
     }
 
     // Puts a saying after the others. If there is no room the connection ends, and the result is false.
-    pub fn reply(&mut self, lobby: &Lobby, saying: ToClient) -> bool {
+    pub fn say(&mut self, lobby: &Lobby, saying: ToClient) -> bool {
         if self.stage == Stage::Ended {
             drop(saying);
             return true;
         }
-        if !push(&mut self.arrival.replies, saying) {
+        if !push(&mut self.arrival.sayings, saying) {
             self.end(lobby);
             return false;
         }
-        if self.reader.put() && self.reader.judge(self.arrival.replies.slots()) {
+        if self.reader.put() && self.reader.judge(self.arrival.sayings.slots()) {
             self.arrival.connection.mark_slow(lobby);
         }
         true
@@ -128,16 +128,16 @@ fn push<T: Drop>(ring: &mut Producer<T>, item: T) -> bool {
     had_room
 }
 
-// Takes the next item of a ring. A ring that is found empty and then abandoned is asked once more, since the last item may have come between.
-fn find(items: &mut Consumer<FromClient>) -> Found {
-    if let Ok(item) = items.pop() {
-        return Found::Item(item);
+// Takes the next request of a ring. A ring that is found empty and then abandoned is asked once more, since the last one may have come between.
+fn find(requests: &mut Consumer<FromClient>) -> Found {
+    if let Ok(request) = requests.pop() {
+        return Found::Request(request);
     }
-    if !items.is_abandoned() {
+    if !requests.is_abandoned() {
         return Found::Nothing;
     }
-    match items.pop() {
-        Ok(item) => Found::Item(item),
+    match requests.pop() {
+        Ok(request) => Found::Request(request),
         Err(_) => Found::End,
     }
 }

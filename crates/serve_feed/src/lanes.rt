@@ -91,7 +91,7 @@ impl Lanes {
                 Step::On
             },
             Found::End => self.remove(lobby, place),
-            Found::Item(item) => self.treat(lobby, place, number, item, draws),
+            Found::Request(request) => self.treat(lobby, place, number, request, draws),
         }
     }
 
@@ -122,16 +122,16 @@ impl Lanes {
         }
     }
 
-    // Treats an item of the lane, whose transport has this number.
+    // Treats a request of the lane, whose transport has this number.
     fn treat(
         &mut self,
         lobby: &Lobby,
         place: usize,
         number: u32,
-        item: FromClient,
+        request: FromClient,
         draws: &mut Draws,
     ) -> Step {
-        match item {
+        match request {
             FromClient::Connect => {
                 self.connect(place);
                 Step::Act(number, Act::Connect)
@@ -178,7 +178,7 @@ impl Lanes {
         self.took(place);
     }
 
-    // Notes that an item of the lane was taken. The lane is left after some items.
+    // Notes that a request of the lane was taken. The lane is left after some requests.
     fn took(&mut self, place: usize) {
         if self.look.took()
             && let Some(lane) = self.lanes.get(place)
@@ -188,7 +188,7 @@ impl Lanes {
     }
 
     // Puts a saying after the others for the transport with this number, if it is there.
-    pub fn reply(&mut self, lobby: &Lobby, number: u32, saying: ToClient) {
+    pub fn say(&mut self, lobby: &Lobby, number: u32, saying: ToClient) {
         match lane_of(&mut self.lanes, number) {
             Some(lane) => put(lobby, lane, &mut self.told, &mut self.look, saying),
             None => drop(saying),
@@ -254,7 +254,7 @@ fn lane_of(lanes: &mut Vec<Lane>, number: u32) -> Option<&mut Lane> {
 // Puts a saying after the others for the lane, and notes that its porter is to be told. If there is no room the lane ends, which the next look
 // finds.
 fn put(lobby: &Lobby, lane: &mut Lane, told: &mut Vec<u32>, look: &mut Look, saying: ToClient) {
-    if !lane.reply(lobby, saying) {
+    if !lane.say(lobby, saying) {
         look.stir();
         return;
     }

@@ -25,6 +25,9 @@ mod pace;
 mod peers;
 mod signs;
 
+pub use actor_run::{Feed, Gate, Seen};
 pub use feed::ClientFeed;
 pub use home::Home;
 pub use pace::{Pace, Paced};
+pub use paxos_packets::Members;
+pub use serve_connections::{Arrival, Consumer, Lobby};

@@ -1,10 +1,10 @@
-// Which lane is looked at next. A look goes round all lanes once; a lane that may have more is left after some items, and looked at again after
+// Which lane is looked at next. A look goes round all lanes once; a lane that may have more is left after some requests, and looked at again after
 // the others.
 
-/// How many items in a row are taken out of one lane.
-const ITEMS_A_VISIT: u8 = 8;
+/// How many requests in a row are taken out of one lane.
+const REQUESTS_A_VISIT: u8 = 8;
 
-// A look: which lane it is at, how many lanes are left in this round, how many items were taken at this one, and whether one more round is due.
+// A look: which lane it is at, how many lanes are left in this round, how many requests were taken at this one, and whether one more round is due.
 #[derive(Clone, Copy, Drop)]
 pub(crate) struct Look {
     place: usize,
@@ -53,10 +53,10 @@ impl Look {
         }
     }
 
-    // Notes that an item was taken. Returns whether the lane is left for now.
+    // Notes that a request was taken. Returns whether the lane is left for now.
     pub fn took(&mut self) -> bool {
         self.taken = self.taken.saturating_add(1);
-        if self.taken < ITEMS_A_VISIT {
+        if self.taken < REQUESTS_A_VISIT {
             return false;
         }
         self.again = true;
@@ -64,7 +64,7 @@ impl Look {
         true
     }
 
-    // Leaves the lane. Returns whether an item was taken there.
+    // Leaves the lane. Returns whether a request was taken there.
     pub fn leave(&mut self) -> bool {
         let took = self.taken > 0;
         self.taken = 0;

@@ -20,6 +20,8 @@ pub use clock::{BEAT_MICROS, BEATS_A_TICK, Passed, beats_due, left_to_wait};
 pub use draining::Draining;
 pub use draws::Draws;
 pub use gaining::Gaining;
+pub use paxos_packets::Members;
 pub use reader::Reader;
 pub use ticks::{Due, Ticks};
 pub use turn::{Sign, Turn};
+pub use wamp_ids::Id;

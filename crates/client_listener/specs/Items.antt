@@ -1,7 +1,5 @@
--- What stands for a frame in a node's ring, and how octets are read and cut into frames. But for `item_of` this is for
--- private clauses.
-use Rattle.std.specs.Prelude.{◌≡◌, ℕ, Bool, true, false, List, [], ◌++◌, length, Option, None, Some, Result, Ok, Err, option_map}
-use Rattle.std.specs.Io.KnownBytes.{Consumes, IsAtEnd}
+-- What stands for a frame in a node's ring, and how frames are cut. But for `item_of` this is for private clauses.
+use Rattle.std.specs.Prelude.{◌≡◌, ℕ, List, length, Option, None, Some, Result, Ok, Err}
 use Rattle.wamp_messages.specs.Reading.{read_of}
 use Rattle.wamp_rawsocket.specs.declared.fault.FrameFault.{FrameFault}
 use Rattle.wamp_rawsocket.specs.declared.frame.Frame.{Frame}
@@ -28,19 +26,6 @@ Makes (Err other) item = other ≡ fault.Memory
 abbrev pub held_len : Option (List ℕ) → ℕ
 held_len None = 0
 held_len (Some held) = length held
-
--- these octets are held after the others, or memory ran out
-abbrev pub Feeds : Result Bool ListenFault → List ℕ → Option (List ℕ) → Option (List ℕ) → Type 0
-Feeds (Ok more) octets old new = (more ≡ true) × (new ≡ option_map (λ held. held ++ octets) old)
-Feeds (Err other) octets old new = other ≡ fault.Memory
-
--- what was read is held after the others; or the reader ended, or a read failed, or memory ran out
-abbrev pub Fills : Result Bool ListenFault → Option (List ℕ) → Option (List ℕ) → Option (List ℕ) → Option (List ℕ) → Type 0
-Fills (Ok true) left later old new = (octets : List ℕ) × Consumes left later octets × (new ≡ option_map (λ held. held ++ octets) old)
-Fills (Ok false) left later old new = Consumes left later [] × IsAtEnd later × (new ≡ old)
-Fills (Err fault.Read) left later old new = Consumes left later []
-Fills (Err fault.Memory) left later old new = (octets : List ℕ) × Consumes left later octets
-Fills (Err other) left later old new = ⊥
 
 -- the frame at the front was taken, none was there, or the front shows a fault
 abbrev pub Takes : Result (Option Frame) ListenFault → Option (List ℕ) → Option (List ℕ) → Type 0
