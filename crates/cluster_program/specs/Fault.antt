@@ -1,4 +1,5 @@
 -- How the faults of a script and of a served cluster are turned into the program's (docs/PROTOCOL.md, "A stream").
+use Rattle.std.specs.Prelude.{ℕ, ◌==◌, ◌||◌, Bool, false}
 use Rattle.client_listener.specs.declared.fault.ListenFault.TheVariants as listen
 use Rattle.script_program.specs.declared.fault.ScriptFault.{ScriptFault}
 use Rattle.script_program.specs.declared.fault.ScriptFault.TheVariants as script
@@ -6,7 +7,7 @@ use Rattle.serve_program.specs.declared.fault.ServeFault.{ServeFault}
 use Rattle.serve_program.specs.declared.fault.ServeFault.TheVariants as serve
 use Rattle.serve_program.specs.Fault.{number_of}
 use Rattle.stream_program.specs.declared.fault.RunFault.{RunFault}
-use Rattle.stream_program.specs.declared.fault.RunFault.TheVariants.{Line, Store, Memory}
+use Rattle.stream_program.specs.declared.fault.RunFault.TheVariants.{Line, Store, Memory, Transport}
 use Rattle.stream_program.specs.Fault.{run_fault_of}
 
 -- the fault of a run whose script was not run to its end
@@ -23,3 +24,10 @@ serve_fault_of (serve.Node node fault) = Store (number_of fault)
 serve_fault_of serve.Memory = Memory
 serve_fault_of serve.Port = run_fault_of listen.Read
 serve_fault_of serve.Write = run_fault_of listen.Write
+
+-- faults of a node that end no node: no round is left, the node is lost in its boot and begins its next one, and there is no room
+abbrev pub ends_nothing : RunFault → Bool
+ends_nothing (Line number) = false
+ends_nothing (Store number) = (number == 51) || ((number == 73) || (number == 74))
+ends_nothing Memory = false
+ends_nothing (Transport number) = false

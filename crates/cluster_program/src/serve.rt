@@ -1,3 +1,6 @@
+ghost use Rattle.std.specs.Prelude.{◌≡◌, false, IfErr};
+ghost use Rattle.cluster_program.specs.Fault.{ends_nothing};
+
 use crate::fault::of_serve;
 use program_order::Members;
 use serve_program::Gate;
@@ -14,8 +17,8 @@ use stream_program::RunFault;
 ///
 /// Returns when the reader ends. Fails with `Store` and the number of a node's fault (61 if its database does not open, 77 if the folder has
 /// the database of a node above the members), with `Memory`, or with `Transport`: 83 if a port cannot be listened on, 84 if a write failed.
-/// A node that is lost in its boot is not a fault: it begins its next boot, without its clients. Threads that wait for a connection, for a
-/// client or for the reader are left. (docs/ARCHITECTURE.md, "Threads".)
+/// A node that is lost in its boot is not a fault: it begins its next boot, without its clients. So the number is never 73, nor 51 or 74, which
+/// end no node. Threads that wait for a connection, for a client or for the reader are left. (docs/ARCHITECTURE.md, "Threads".)
 pub fn serve_run<R, I, W, G>(
     rt: &R,
     host: &HostRuntime,
@@ -42,11 +45,15 @@ where
     I: Read + Drop + Send + 'static,
     W: Write,
     G: Gate + Sync,
+    ensures { IfErr result (λ fault. ends_nothing fault ≡ false) }
 {
     match serve_program::serve_run(
         rt, host, reader, writer, members, port, key, dir, realm, gate,
     ) {
-        Ok(()) => Ok(()),
+        Ok(served) => {
+            drop(served);
+            Ok(())
+        }
         Err(fault) => Err(of_serve(fault)),
     }
 }

@@ -62,6 +62,7 @@ pub fn help_of<'a>(alloc: Global, words: &'a [String]) -> Result<Option<String>,
     };
     match error.kind() {
         ErrorKind::DisplayHelp | ErrorKind::DisplayVersion => Ok(Some(error.to_string(alloc)?)),
+        ErrorKind::OutOfMemory => Err(UsageFault::Memory),
         _ => Ok(None),
     }
 }

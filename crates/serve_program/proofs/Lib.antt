@@ -1,2 +1,4 @@
 pub mod Sendable
+mod Ending
 mod Founding
+mod Gathering

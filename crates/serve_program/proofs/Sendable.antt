@@ -44,9 +44,14 @@ use Rattle.realm_acts.specs.contracts.act.ActBody.TheImpl as body
 use Rattle.realm_acts.specs.contracts.act.Act as act
 use Rattle.client_listener.proofs.Sendable.{payload_send, payload_sync, read_send}
 use Rattle.mail_table.specs.contracts.mail.Mail as mail
+use denote.RattleType.{RattleType}
 use denote.Ref.{NamedLft}
 use Rattle.rtrb.proofs.end.End.TheSendSync as end
 use Rattle.serve_connections.proofs.Crossing.{arrival_send}
+use Rattle.serve_program.specs.declared.cluster.Cluster as cluster
+use Rattle.serve_program.specs.contracts.cluster.Left as left
+use Rattle.serve_program.specs.contracts.fault.NodeEnd as node_end
+use Rattle.serve_program.specs.contracts.nodes.End as ended
 use Rattle.serve_program.specs.contracts.station.Station as station
 use Rattle.mail_table.specs.contracts.seat.NodeSeat as node_seat
 use Rattle.mail_table.specs.contracts.office.Mark as mark
@@ -191,5 +196,14 @@ seat_send = let p = packet_send in let m = mark_send in search (sendable, heap.c
 pub mail_sync : IsSync (mail.the_field act.the_row body.ghosts).row
 mail_sync = let p = packet_send in let m = mark_sync in search (sendable, heap.crosses, shared.the_sync, lease.the_sync) depth 20
 
-pub station_send : (κ : NamedLft) → IsSend (station.the_field κ).row
-station_send κ = let s = seat_send in let m = mail_sync in let a = arrival_send in search (sendable, heap.crosses, end.the_send) depth 20
+node_end_send : IsSend node_end.the_field.row
+node_end_send = search sendable depth 20
+
+pub ended_send : IsSend ended.the_field.row
+ended_send = let e = node_end_send in search sendable depth 20
+
+pub station_send : (κ : NamedLft) (C : RattleType) (g : cluster.Ghosts C.Denot) → IsSend C → IsSend (station.the_field κ C g).row
+station_send κ C g c = let s = seat_send in let m = mail_sync in let a = arrival_send in search (sendable, heap.crosses, end.the_send) depth 20
+
+pub left_send : (C : RattleType) (g : cluster.Ghosts C.Denot) → IsSend C → IsSend (left.the_field C g).row
+left_send C g c = let s = seat_send in search sendable depth 20

@@ -1,5 +1,5 @@
 ghost use Rattle.std.specs.Prelude.{◌≡◌};
-ghost use Rattle.serve_program.specs.Fault.{number_of};
+ghost use Rattle.serve_program.specs.Fault.{number_of, EndsAll, FaultAt, IsEnding};
 
 use node_actor::{ActorFault, KeeperFault};
 use std::alloc::{AllocError, AllocFailed};
@@ -92,6 +92,14 @@ impl<Y: Drop> From<ActorFault<Y>> for NodeFault {
     }
 }
 
+/// How a node ended before its gate was shut: its number and the fault, which is not that it was lost.
+#[derive(Drop)]
+pub(crate) struct NodeEnd {
+    pub node: u8,
+    pub fault: NodeFault,
+    ghost ending: { IsEnding fault },
+}
+
 /// Why a cluster ended before its input did.
 #[derive(Clone, Copy, Debug, PartialEq, Eq, Drop, Error)]
 pub enum ServeFault {
@@ -109,13 +117,41 @@ pub enum ServeFault {
     Write,
 }
 
+// Returns the cluster's fault, for a node that ended by this one.
+fn fault_at(node: u8, fault: NodeFault) -> ServeFault
+    ensures { FaultAt node fault result }
+{
+    match fault {
+        NodeFault::Memory => ServeFault::Memory,
+        NodeFault::Store(KeeperFault::Memory) => ServeFault::Memory,
+        fault => ServeFault::Node { node, fault },
+    }
+}
+
+/// Returns the fault of a cluster in which a node ended so.
+pub(crate) fn fault_of(end: NodeEnd) -> ServeFault
+    ensures at { FaultAt end.node end.fault result }
+    ensures ends { EndsAll result }
+{
+    let NodeEnd { node, fault } = end;
+    fault_at(node, fault)
+}
+
 impl From<AllocError> for ServeFault {
+    ghost use Rattle.serve_program.specs.Fault.{EndsAll};
+
+    ghost from_gives = { λ error made. EndsAll made };
+
     fn from(_error: AllocError) -> ServeFault {
         ServeFault::Memory
     }
 }
 
 impl<T: Drop> From<AllocFailed<T>> for ServeFault {
+    ghost use Rattle.serve_program.specs.Fault.{EndsAll};
+
+    ghost from_gives = { λ error made. EndsAll made };
+
     fn from(_error: AllocFailed<T>) -> ServeFault {
         ServeFault::Memory
     }

@@ -1,14 +1,20 @@
 //! A cluster that clients connect to: each node on a thread, with its store and its port (docs/ARCHITECTURE.md, "Threads").
 #![tactic(auto)]
 
+mod cluster;
 mod fault;
 mod lives;
+mod nodes;
 mod serve;
+mod served;
 mod source;
 mod station;
 mod stores;
 
 pub use actor_run::Gate;
 pub use fault::{NodeFault, ServeFault};
+pub use mail_table::NodeSeat;
 pub use node_actor::{KeeperFault, Members};
+pub use realm_machine::Act;
 pub use serve::serve_run;
+pub use served::Served;

@@ -1,17 +1,22 @@
 // The lives of a node on its thread: it is opened over its store and turned until its gate is shut. If it is lost in its boot it begins its
 // next one over the same store.
-ghost use Rattle.std.specs.Prelude.{◌≡◌, false, IfOk, IfSome};
+ghost use Rattle.std.specs.Prelude.{◌≡◌, [], true, false, IfOk, IfErr};
+ghost use Rattle.actor_parts.specs.Fault as actor;
 ghost use Rattle.mail_table.specs.Seats.{Owns};
 ghost use Rattle.paxos_node.specs.declared.view.Opened.TheVariants.{Never};
+ghost use Rattle.node_actor.specs.Views.{StandsFor};
+ghost use Rattle.serve_program.specs.Fault.{number_of, is_fatal, IsEnding};
 
 use crate::fault::NodeFault;
 use crate::source::{Boots, Source};
-use actor_run::{Feed, Gate, run_node};
+use actor_run::{Gate, run_node};
 use node_actor::{Actor, ActorFault, Body, Keeper, Machine, Mail, Members, NodeSeat, Post};
 use std::alloc::Global;
 
 // Returns the fault, and drops the rest of the node.
-fn fault_of<B: Body, Y: Drop, K: Drop>(left: (ActorFault<Y>, Post<B>, K)) -> NodeFault {
+fn fault_of<B: Body, Y: Drop, K: Drop>(left: (ActorFault<Y>, Post<B>, K)) -> NodeFault
+    ensures { number_of result ≡ actor.number_of left.0 }
+{
     let (fault, post, keeper) = left;
     drop(post);
     drop(keeper);
@@ -31,7 +36,9 @@ fn open_with<M: Machine, K: Keeper<M::Body> + Drop>(
     requires fresh { seat.part.seen.opened ≡ Never }
     requires table { members ≡ mail.now.members }
     requires machine { M.has_failed machine ≡ false }
-    ensures { IfOk result (λ actor. Owns mail.now actor.seat) }
+    ensures owned { IfOk result (λ actor. Owns mail.now actor.seat) }
+    ensures stands { IfOk result (λ actor. StandsFor actor actor.seat) }
+    ensures ending { IfErr result IsEnding }
 {
     let me = seat.node();
     if me < 1 || members.count() < me {
@@ -55,16 +62,18 @@ fn open_actor<M: Machine, K: Keeper<M::Body> + Drop, S: Source<M>>(
     requires owned { Owns mail.now seat }
     requires fresh { seat.part.seen.opened ≡ Never }
     requires table { members ≡ mail.now.members }
-    ensures { IfOk result (λ actor. Owns mail.now actor.seat) }
+    ensures owned { IfOk result (λ actor. Owns mail.now actor.seat) }
+    ensures stands { IfOk result (λ actor. StandsFor actor actor.seat) }
+    ensures ending { IfErr result IsEnding }
 {
     match source.make_machine(alloc) {
         Ok(machine) => open_with(alloc, mail, members, seat, machine, keeper),
-        Err(fault) => Err(fault),
+        Err(_) => Err(NodeFault::Memory),
     }
 }
 
 // Crashes the actor, and restarts it with a machine in its first content.
-fn restart_actor<M: Machine, K: Keeper<M::Body> + Drop>(
+fn restart_with<M: Machine, K: Keeper<M::Body> + Drop>(
     alloc: Global,
     mail: &Mail<M::Body>,
     actor: Actor<M, K>,
@@ -72,7 +81,9 @@ fn restart_actor<M: Machine, K: Keeper<M::Body> + Drop>(
 ) -> Result<Actor<M, K>, NodeFault>
     requires owned { Owns mail.now actor.seat }
     requires machine { M.has_failed machine ≡ false }
-    ensures { IfOk result (λ actor. Owns mail.now actor.seat) }
+    ensures owned { IfOk result (λ actor. Owns mail.now actor.seat) }
+    ensures stands { IfOk result (λ actor. StandsFor actor actor.seat) }
+    ensures ending { IfErr result IsEnding }
 {
     let (post, keeper) = actor.crash();
     match Actor::restart(alloc, mail, post, machine, keeper) {
@@ -81,79 +92,67 @@ fn restart_actor<M: Machine, K: Keeper<M::Body> + Drop>(
     }
 }
 
-// Turns the actor until its gate is shut, or until a fault ends it, which is returned.
-fn run_until_shut<M: Machine, K: Keeper<M::Body>, G: Gate, F: Feed<M::Body, M::Say>>(
-    mail: &Mail<M::Body>,
-    actor: &mut Actor<M, K>,
-    gate: &G,
-    feed: &mut F,
-) -> Option<NodeFault>
-    requires owned { Owns mail.now actor.old.seat }
-    ensures { Owns mail.now actor.new.seat }
-{
-    match run_node(mail, actor, gate, feed) {
-        Ok(()) => None,
-        Err(fault) => Some(NodeFault::from(fault)),
-    }
-}
-
-// Runs one life of the node. Returns the actor of its next one, with this machine, if it was lost, and none if its gate is shut.
-fn run_life<M: Machine, K: Keeper<M::Body> + Drop, G: Gate, F: Feed<M::Body, M::Say>>(
-    alloc: Global,
-    mail: &Mail<M::Body>,
-    actor: Actor<M, K>,
-    machine: M,
-    gate: &G,
-    feed: &mut F,
-) -> Result<Option<Actor<M, K>>, NodeFault>
-    requires owned { Owns mail.now actor.seat }
-    requires machine { M.has_failed machine ≡ false }
-    ensures { IfOk result (λ next. IfSome next (λ actor. Owns mail.now actor.seat)) }
-{
-    let mut actor = actor;
-    match run_until_shut(mail, &mut actor, gate, feed) {
-        None => {
-            drop(actor);
-            drop(machine);
-            Ok(None)
-        }
-        Some(NodeFault::Lost) => match restart_actor(alloc, mail, actor, machine) {
-            Ok(actor) => Ok(Some(actor)),
-            Err(fault) => Err(fault),
-        },
-        Some(fault) => {
-            drop(actor);
-            drop(machine);
-            Err(fault)
-        }
-    }
-}
-
-// Runs one life, with a machine for the one after it.
-fn run_next_life<M, K, S, G, F>(
+// Crashes the actor, and restarts it.
+fn restart_actor<M: Machine, K: Keeper<M::Body> + Drop, S: Source<M>>(
     alloc: Global,
     mail: &Mail<M::Body>,
     actor: Actor<M, K>,
     source: &S,
-    gate: &G,
-    feed: &mut F,
-) -> Result<Option<Actor<M, K>>, NodeFault>
-where
-    M: Machine,
-    K: Keeper<M::Body> + Drop,
-    S: Source<M>,
-    G: Gate,
-    F: Feed<M::Body, M::Say>,
+) -> Result<Actor<M, K>, NodeFault>
     requires owned { Owns mail.now actor.seat }
-    ensures { IfOk result (λ next. IfSome next (λ actor. Owns mail.now actor.seat)) }
+    ensures owned { IfOk result (λ actor. Owns mail.now actor.seat) }
+    ensures stands { IfOk result (λ actor. StandsFor actor actor.seat) }
+    ensures ending { IfErr result IsEnding }
 {
     match source.make_machine(alloc) {
-        Ok(machine) => run_life(alloc, mail, actor, machine, gate, feed),
-        Err(fault) => {
+        Ok(machine) => restart_with(alloc, mail, actor, machine),
+        Err(_) => {
             drop(actor);
-            Err(fault)
+            Err(NodeFault::Memory)
         }
     }
+}
+
+// Returns the fault that ends a node, or nothing if the node was only lost.
+fn judge_end(fault: NodeFault) -> Result<(), NodeFault>
+    requires { is_fatal fault ≡ true }
+    ensures { IfErr result IsEnding }
+{
+    match fault {
+        NodeFault::Lost => Ok(()),
+        fault => Err(fault),
+    }
+}
+
+// Turns the actor until its gate is shut, and returns true, or until it is lost in its boot. Any other fault is returned.
+fn run_boot<M: Machine, K: Keeper<M::Body>, G: Gate, F: Boots<M::Body, M::Say>>(
+    mail: &Mail<M::Body>,
+    actor: &mut Actor<M, K>,
+    gate: &G,
+    feed: &mut F,
+) -> Result<bool, NodeFault>
+    requires owned { Owns mail.now actor.old.seat }
+    requires stands { StandsFor actor.old actor.old.seat }
+    requires told { F.saw feed.old [] [] }
+    ensures owned { Owns mail.now actor.new.seat }
+    ensures ending { IfErr result IsEnding }
+{
+    match run_node(mail, actor, gate, feed) {
+        Ok(()) => Ok(true),
+        Err(fault) => match judge_end(NodeFault::from(fault)) {
+            Ok(()) => Ok(false),
+            Err(fault) => Err(fault),
+        },
+    }
+}
+
+// Returns the seat of an actor whose gate is shut.
+fn leave<M: Machine, K: Keeper<M::Body> + Drop>(actor: Actor<M, K>) -> NodeSeat<M::Body>
+    ensures { result ≡ actor.seat }
+{
+    let (seat, log) = actor.leave();
+    drop(log);
+    seat
 }
 
 // Runs the node's lives, one after the other.
@@ -164,35 +163,45 @@ fn run_each_life<M, K, S, G, F>(
     source: &S,
     gate: &G,
     feed: &mut F,
-) -> Result<(), NodeFault>
+) -> Result<NodeSeat<M::Body>, NodeFault>
 where
     M: Machine,
     K: Keeper<M::Body> + Drop,
     S: Source<M>,
     G: Gate,
-    F: Feed<M::Body, M::Say> + Boots,
+    F: Boots<M::Body, M::Say>,
     requires owned { Owns mail.now actor.seat }
+    requires stands { StandsFor actor actor.seat }
+    requires told { F.saw feed.old [] [] }
+    ensures owned { IfOk result (λ seat. Owns mail.now seat) }
+    ensures ending { IfErr result IsEnding }
 {
     let mut actor = actor;
     for _ in 0..u64::MAX {
-        match run_next_life(alloc, mail, actor, source, gate, feed) {
-            Err(fault) => return Err(fault),
-            Ok(None) => return Ok(()),
-            Ok(Some(next)) => {
+        match run_boot(mail, &mut actor, gate, feed) {
+            Ok(true) => return Ok(leave(actor)),
+            Ok(false) => {}
+            Err(fault) => {
+                drop(actor);
+                return Err(fault);
+            }
+        }
+        match restart_actor(alloc, mail, actor, source) {
+            Ok(next) => {
                 feed.up_again(next.me(), next.boot());
                 actor = next;
             }
+            Err(fault) => return Err(fault),
         }
     }
-    drop(actor);
-    Ok(())
+    Ok(leave(actor))
 }
 
-/// Opens the node over its store, with a machine from the source, and turns it until its gate is shut. A node that is lost is crashed and
-/// restarted over the same store, which has not failed, with a new machine. The feed notes each boot.
+/// Opens the node over its store, with a machine from the source, and turns it until its gate is shut; returns its seat. A node that is lost
+/// is crashed and restarted over the same store, which has not failed, with a new machine. The feed notes each boot.
 ///
-/// Any other fault ends the node: `NoMember` for a seat of no member, the source's, the actor's or the store's. Seat, machine and store are
-/// dropped then.
+/// Any other fault ends the node and is returned: `NoMember` for a seat of no member, `Memory` if the source has none, the actor's or the
+/// store's. It is never `Lost`, nor `Rounds` or `Full`, which end no run. Seat, machine and store are dropped then.
 pub(crate) fn run_lives<M, K, S, G, F>(
     alloc: Global,
     mail: &Mail<M::Body>,
@@ -202,16 +211,18 @@ pub(crate) fn run_lives<M, K, S, G, F>(
     keeper: K,
     gate: &G,
     feed: &mut F,
-) -> Result<(), NodeFault>
+) -> Result<NodeSeat<M::Body>, NodeFault>
 where
     M: Machine,
     K: Keeper<M::Body> + Drop,
     S: Source<M>,
     G: Gate,
-    F: Feed<M::Body, M::Say> + Boots,
+    F: Boots<M::Body, M::Say>,
     requires owned { Owns mail.now seat }
     requires fresh { seat.part.seen.opened ≡ Never }
     requires table { members ≡ mail.now.members }
+    ensures owned { IfOk result (λ seat. Owns mail.now seat) }
+    ensures ending { IfErr result IsEnding }
 {
     match open_actor::<M, K, S>(alloc, mail, members, seat, source, keeper) {
         Ok(actor) => {

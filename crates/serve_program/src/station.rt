@@ -1,21 +1,25 @@
 // A node's thread.
-ghost use Rattle.std.specs.Prelude.{◌≡◌, false, IfOk};
+ghost use Rattle.std.specs.Prelude.{◌≡◌, false, IfOk, IfErr};
 ghost use Rattle.mail_table.specs.Seats.{Owns};
 ghost use Rattle.realm_machine.specs.Machine.{has_failed};
 ghost use Rattle.paxos_node.specs.declared.view.Opened.TheVariants.{Never};
+ghost use Rattle.serve_program.specs.Fault.{IsEnding};
 
-use crate::fault::NodeFault;
+use crate::cluster::{Cluster, Left};
+use crate::fault::{NodeEnd, NodeFault};
 use crate::lives::run_lives;
 use crate::source::{Boots, Source};
 use crate::stores::{MemoryStore, Stores, open_node_store};
 use actor_run::{Feed, Gate, Seen};
-use node_actor::{Event, Keeper, Mail, Members, NodeSeat};
+use node_actor::{Event, Keeper, KeeperFault, Mail, Members, NodeSeat};
 use realm_machine::{Act, Limits, Realm, Say};
 use rtrb::Consumer;
 use serve_connections::{Arrival, Lobby};
 use serve_feed::{ClientFeed, Home, Pace, Paced};
-use std::alloc::Global;
+use sqlite_disk::{Start, Unknown};
+use std::alloc::{AllocError, Global};
 use std::io::Eprint;
+use std::marker::PhantomData;
 use std::sync::atomic::{AtomicBool, Ordering};
 use std::sync::{Arc, Wait};
 use std::time::{Clock, Instant};
@@ -77,13 +81,17 @@ impl<R: Eprint> Feed<Act, Say> for Served<'_, R> {
     }
 }
 
-impl<R: Eprint> Boots for Served<'_, R> {
-    fn up(&mut self, node: u8, boot: u64) {
+impl<R: Eprint> Boots<Act, Say> for Served<'_, R> {
+    fn up(&mut self, node: u8, boot: u64)
+        ensures { Unit {0} }
+    {
         self.feed.begin(boot);
         let _ = eprintln!(self.rt; "node {node} is up in boot {boot}");
     }
 
-    fn up_again(&mut self, node: u8, boot: u64) {
+    fn up_again(&mut self, node: u8, boot: u64)
+        ensures { Unit {0} }
+    {
         self.feed.restart(boot);
         let _ = eprintln!(self.rt;
             "node {node} is restarted in boot {boot}: it was taken to be lost"
@@ -98,44 +106,44 @@ struct Realms<'a> {
 }
 
 impl Source<Realm> for Realms<'_> {
-    fn make_machine(&self, alloc: Global) -> Result<Realm, NodeFault>
+    fn make_machine(&self, alloc: Global) -> Result<Realm, AllocError>
         ensures { IfOk result (λ realm. has_failed realm ≡ false) }
     {
         match String::from_str(alloc, self.name) {
             Ok(name) => Ok(Realm::new(alloc, name, Limits::SERVED)),
-            Err(_) => Err(NodeFault::Memory),
+            Err(_) => Err(AllocError),
         }
     }
 }
 
 /// What runs a node on a thread.
-pub(crate) trait Runs<R, G> {
-    /// Returns the node's number.
-    fn node(&self) -> u8;
-
-    /// Runs the node until its gate is shut. An error is the fault that ended it before.
-    fn run<'b>(self, rt: &'b R, alloc: Global, site: &'b Site<'b, G>) -> Result<(), NodeFault>;
+pub(crate) trait Runs<R, G, L> {
+    /// Runs the node until its gate is shut, and returns what is left of it. An error says how it ended before.
+    fn run<'b>(self, rt: &'b R, alloc: Global, site: &'b Site<'b, G>) -> Result<L, NodeEnd>;
 }
 
 /// A node that was never opened: its seat at the table, and where its clients' connections arrive.
 #[derive(Drop)]
-pub(crate) struct Station<'a> {
+pub(crate) struct Station<'a, C: Cluster> {
     mail: &'a Mail<Act>,
     members: Members,
     seat: NodeSeat<Act>,
     arrivals: Consumer<Arrival>,
+    of: PhantomData<C>,
+    ghost cluster: { mail.now ≡ C.table },
     ghost owned: { Owns mail.now seat },
     ghost fresh: { seat.part.seen.opened ≡ Never },
     ghost table: { members ≡ mail.now.members },
 }
 
-impl<'a> Station<'a> {
+impl<'a, C: Cluster> Station<'a, C> {
     pub fn new(
         mail: &'a Mail<Act>,
         members: Members,
         seat: NodeSeat<Act>,
         arrivals: Consumer<Arrival>,
-    ) -> Station<'a>
+    ) -> Station<'a, C>
+        requires cluster { mail.now ≡ C.table }
         requires owned { Owns mail.now seat }
         requires fresh { seat.part.seen.opened ≡ Never }
         requires table { members ≡ mail.now.members }
@@ -145,25 +153,28 @@ impl<'a> Station<'a> {
             members,
             seat,
             arrivals,
+            of: PhantomData,
         }
     }
 
-    // Runs the node at this lobby, over the store that the site names.
-    fn run_at<'b, R: Wait + Clock + Eprint, G: Gate>(
+    // Runs the node at this lobby, over the store that the site names. `start` stands for what the node's files hold.
+    fn run_at<'b, S: Start, R: Wait + Clock + Eprint, G: Gate>(
         self,
         rt: &'b R,
         alloc: Global,
         site: &'b Site<'b, G>,
         lobby: &'b Lobby,
-    ) -> Result<(), NodeFault> {
+        start: S,
+    ) -> Result<Left<C>, NodeEnd> {
         match site.stores {
             Stores::Memory => self.run_over(rt, alloc, site, lobby, MemoryStore::new(alloc)),
             Stores::Folder { host, folder } => {
-                match open_node_store(host, folder, self.seat.node()) {
+                let node = self.seat.node();
+                match open_node_store(host, folder, node, start) {
                     Ok(keeper) => self.run_over(rt, alloc, site, lobby, keeper),
                     Err(fault) => {
                         drop(self);
-                        Err(NodeFault::from(fault))
+                        Err(end_by_store(node, fault))
                     }
                 }
             }
@@ -178,7 +189,7 @@ impl<'a> Station<'a> {
         site: &'b Site<'b, G>,
         lobby: &'b Lobby,
         keeper: K,
-    ) -> Result<(), NodeFault> {
+    ) -> Result<Left<C>, NodeEnd> {
         let pace = Pace::new();
         self.run_paced(rt, alloc, site, lobby, &pace, keeper)
     }
@@ -192,12 +203,13 @@ impl<'a> Station<'a> {
         lobby: &'c Lobby,
         pace: &'c Pace,
         keeper: K,
-    ) -> Result<(), NodeFault> {
+    ) -> Result<Left<C>, NodeEnd> {
         let Station {
             mail,
             members,
             seat,
             arrivals,
+            of: _,
         } = self;
         let node = seat.node();
         let home = home_of(node, members, site, lobby, pace);
@@ -212,29 +224,49 @@ impl<'a> Station<'a> {
             leads: false,
             feed: ClientFeed::new(alloc, again, 0, arrivals),
         };
-        run_fed(
+        match run_fed(
             alloc, mail, members, seat, site.realm, keeper, &gate, served,
-        )
+        ) {
+            Ok(seat) => Ok(left_of(mail, seat)),
+            Err(fault) => Err(NodeEnd { node, fault }),
+        }
     }
 }
 
-impl<R: Wait + Clock + Eprint, G: Gate> Runs<R, G> for Station<'_> {
-    fn node(&self) -> u8 {
-        self.seat.node()
-    }
-
+impl<R: Wait + Clock + Eprint, G: Gate, C: Cluster> Runs<R, G, Left<C>> for Station<'_, C> {
     // Opens the node over its store, and turns it until its gate is shut. A node that is lost begins its next boot.
-    fn run<'b>(self, rt: &'b R, alloc: Global, site: &'b Site<'b, G>) -> Result<(), NodeFault> {
-        match site
-            .lobbies
-            .get(usize::from(self.seat.node()).saturating_sub(1))
-        {
-            Some(lobby) => self.run_at(rt, alloc, site, lobby),
+    fn run<'b>(self, rt: &'b R, alloc: Global, site: &'b Site<'b, G>) -> Result<Left<C>, NodeEnd> {
+        let node = self.seat.node();
+        match site.lobbies.get(usize::from(node).saturating_sub(1)) {
+            Some(lobby) => self.run_at(rt, alloc, site, lobby, Unknown),
             None => {
                 drop(self);
-                Err(NodeFault::NoMember)
+                Err(NodeEnd {
+                    node,
+                    fault: NodeFault::NoMember,
+                })
             }
         }
+    }
+}
+
+// Returns what is left of a node of the cluster.
+fn left_of<C: Cluster>(mail: &Mail<Act>, seat: NodeSeat<Act>) -> Left<C>
+    requires cluster { mail.now ≡ C.table }
+    requires owned { Owns mail.now seat }
+{
+    let _ = mail; // for the proof
+    Left {
+        seat,
+        of: PhantomData,
+    }
+}
+
+// Returns how a node ends whose store does not open.
+fn end_by_store(node: u8, fault: KeeperFault) -> NodeEnd {
+    NodeEnd {
+        node,
+        fault: NodeFault::Store(fault),
     }
 }
 
@@ -267,10 +299,12 @@ fn run_fed<R: Eprint, T: Gate, K: Keeper<Act> + Drop>(
     keeper: K,
     gate: &T,
     served: Served<'_, R>,
-) -> Result<(), NodeFault>
+) -> Result<NodeSeat<Act>, NodeFault>
     requires owned { Owns mail.now seat }
     requires fresh { seat.part.seen.opened ≡ Never }
     requires table { members ≡ mail.now.members }
+    ensures owned { IfOk result (λ seat. Owns mail.now seat) }
+    ensures ending { IfErr result IsEnding }
 {
     let source = Realms { name: realm };
     let mut served = served;

@@ -1,12 +1,27 @@
 // Where the rows of a served cluster's nodes are kept: in memory, or in a database for each node in a folder.
+ghost use Rattle.std.specs.Prelude.{◌≡◌, ◌≤◌, IfOk, IsTrue};
+ghost use Rattle.sqlite_wal.specs.Recovery.{Image};
+ghost use Rattle.sqlite_wal.specs.Files.{image_at};
+ghost use Rattle.sqlite_trees.specs.View.{doubt};
+ghost use Rattle.sqlite.specs.Files.{file_state, IsOpened};
+ghost use Rattle.sqlite.specs.Held.{state};
+ghost use Rattle.sqlite.specs.Start.{FindsIn};
+ghost use Rattle.sqlite.specs.State.{HasCleanDisk};
+ghost use Rattle.paxos_packets.specs.declared.rows.Rows.{Rows};
+ghost use Rattle.realm_codec.specs.Act.{act_reading};
+ghost use Rattle.store_keeper.specs.Keeper.{no_rows};
+ghost use Rattle.acceptor_store.specs.Tables.{empty_schema};
+ghost use Rattle.acceptor_store.specs.Store.{Stores as AreStored, Holds};
+ghost use Rattle.acceptor_store.specs.Files.{HoldsImage, HoldsFrom};
+
 use acceptor_store::SqlKeeper;
 use command_codec::Coder;
 use node_actor::Members;
 use paxos_packets::Body;
 use realm_codec::ActCoder;
 use realm_machine::Act;
-use sqlite::{Alter, Connection, File, FileStore};
-use sqlite_disk::Disk;
+use sqlite::{Alter, Connection, FileFrom, FileStore};
+use sqlite_disk::{Disk, Start};
 use std::alloc::{AllocError, Global};
 use std::fs;
 use store_keeper::{KeeperFault, MemKeeper};
@@ -29,10 +44,8 @@ pub(crate) enum Stores<'a> {
 /// A store in memory.
 pub(crate) type MemoryStore = MemKeeper<Act>;
 
-/// A store over a file.
-pub(crate) type FolderStore = SqlKeeper<Act, ActCoder, FileStore<File>>;
-
-type Database = Connection<FileStore<File>>;
+/// A store over files, which held what `S` stands for as they were opened.
+pub(crate) type FolderStore<S> = SqlKeeper<Act, ActCoder, FileStore<FileFrom<S>>>;
 
 // Returns the path of a node's database in a folder.
 fn path_of(alloc: Global, folder: &str, node: u8) -> Result<String, AllocError> {
@@ -62,25 +75,42 @@ pub(crate) fn find_stray(
 }
 
 /// Opens the store of a node in a folder; makes its database if it is absent. `Store` if the database does not open.
-pub(crate) fn open_node_store(
+///
+/// What its files held is held: rows, if they were a store that had these, or those of a node that was never started, if there was no file.
+/// `start` stands for what they held; which path is opened no clause says.
+pub(crate) fn open_node_store<S: Start>(
     host: &HostRuntime,
     folder: &str,
     node: u8,
-) -> Result<FolderStore, KeeperFault> {
+    start: S,
+) -> Result<FolderStore<S>, KeeperFault>
+    ensures { IfOk result (HoldsFrom act_reading S.Start) }
+{
     let alloc = host.alloc();
     let Ok(path) = path_of(alloc, folder, node) else {
+        drop(start);
         return Err(KeeperFault::Memory);
     };
-    let opened = open_database(host, path.as_str());
+    let opened = open_database(host, path.as_str(), start);
     drop(path);
     open_over(alloc, opened?)
 }
 
 // Opens the database at this path; makes it if it is absent.
-fn open_database(host: &HostRuntime, path: &str) -> Result<Database, KeeperFault> {
-    match Connection::open(host, path) {
+fn open_database<S: Start>(
+    host: &HostRuntime,
+    path: &str,
+    start: S,
+) -> Result<Connection<FileStore<FileFrom<S>>>, KeeperFault>
+    ensures opened { IfOk result (λ conn. HasCleanDisk (file_state conn) → IsOpened conn) }
+    ensures found { IfOk result (λ conn. HasCleanDisk (file_state conn) → FindsIn (image_at S.Start) (file_state conn)) }
+{
+    match Connection::open_from(host, path, false, start) {
         Ok(conn) => Ok(conn),
-        Err(_) => Err(KeeperFault::Store),
+        Err(left) => {
+            drop(left);
+            Err(KeeperFault::Store)
+        }
     }
 }
 
@@ -88,7 +118,10 @@ fn open_database(host: &HostRuntime, path: &str) -> Result<Database, KeeperFault
 fn open_over<B: Body, C: Coder<B>, D: Disk + Drop>(
     alloc: Global,
     conn: Connection<FileStore<D>>,
-) -> Result<SqlKeeper<B, C, FileStore<D>>, KeeperFault> {
+) -> Result<SqlKeeper<B, C, FileStore<D>>, KeeperFault>
+    ensures { IfOk result (λ k. (image : Image) → (HasCleanDisk (file_state conn) → IsOpened conn)
+        → (HasCleanDisk (file_state conn) → FindsIn image (file_state conn)) → HoldsImage C.reading image k) }
+{
     match open_store(alloc, conn) {
         Ok(store) => Ok(store),
         Err((fault, conn)) => {
@@ -98,14 +131,16 @@ fn open_over<B: Body, C: Coder<B>, D: Disk + Drop>(
     }
 }
 
-// Opens the store over this connection, or hands the connection back with the fault. It is over any storage, has no clauses and drops no
+// Opens the store over this connection, or hands the connection back with the fault. It is over any storage, has few clauses and drops no
 // connection: at the types of a file the clauses of `open` are dear, and so is each part that is dropped.
 fn open_store<B: Body, C: Coder<B>, S: Alter>(
     alloc: Global,
     conn: Connection<S>,
-) -> Result<SqlKeeper<B, C, S>, (KeeperFault, Connection<S>)> {
-    if !conn.is_autocommit() {
-        return Err((KeeperFault::Store, conn));
-    }
+) -> Result<SqlKeeper<B, C, S>, (KeeperFault, Connection<S>)>
+    ensures founded { IfOk result (λ k. conn.schema ≡ empty_schema → Holds S.Store C.reading k no_rows) }
+    ensures again { IfOk result (λ k. (rows : Rows B) → IsTrue (state S.Store conn).is_open
+        → AreStored C.reading (state S.Store conn).committed.trees rows → Holds S.Store C.reading k rows) }
+    ensures clean { IfOk result (λ k. doubt (state S.Store conn).is_clean ≤ doubt (state S.Store k.conn).is_clean) }
+{
     SqlKeeper::open(alloc, conn)
 }

@@ -1,0 +1,247 @@
+// The nodes' threads: each runs a station until its gate is shut, and hands its seat back.
+ghost use Rattle.std.specs.Prelude.{◌≡◌, All, IfOk, IfErr, OnOk};
+ghost use denote.Param.Send.{IsSend, IsSync};
+ghost use Rattle.mail_table.specs.Seats.{Owns};
+ghost use Rattle.paxos_node.specs.declared.view.Opened.TheVariants.{Never};
+ghost use Rattle.serve_program.specs.Fault.{EndsAll};
+
+use crate::cluster::{Cluster, Left};
+use crate::fault::{NodeEnd, ServeFault, fault_of};
+use crate::station::{Runs, Site, Station};
+use actor_run::Gate;
+use crossbeam_channel::{Receiver, Sender};
+use mail_table::{Mail, NodeSeat};
+use node_actor::Members;
+use realm_machine::Act;
+use rtrb::Consumer;
+use serve_connections::Arrival;
+use std::alloc::Global;
+use std::io::Eprint;
+use std::sync::Wait;
+use std::sync::atomic::Ordering;
+use std::thread;
+use std::thread::Threads;
+use std::time::Clock;
+
+/// What ends a cluster, or a part of it.
+#[derive(Drop)]
+pub(crate) enum End {
+    /// The input has ended.
+    Input,
+    /// A node's gate was shut.
+    Shut,
+    /// A node has ended before.
+    Node(NodeEnd),
+}
+
+// Takes the last of these seats and the last of these arrivals, and returns the station of the node.
+fn station_of<'a, C: Cluster>(
+    mail: &'a Mail<Act>,
+    members: Members,
+    seats: &mut Vec<NodeSeat<Act>>,
+    arrivals: &mut Vec<Consumer<Arrival>>,
+) -> Result<Station<'a, C>, ServeFault>
+    requires cluster { mail.now ≡ C.table }
+    requires fresh { All (λ s. Owns mail.now s × (s.part.seen.opened ≡ Never)) seats.old.items }
+    requires members { members ≡ mail.now.members }
+    ensures fresh { OnOk result (All (λ s. Owns mail.now s × (s.part.seen.opened ≡ Never)) seats.new.items) }
+    ensures ends { IfErr result EndsAll }
+{
+    let Some(arrivals) = arrivals.pop() else {
+        return Err(ServeFault::Memory);
+    };
+    let Some(seat) = seats.pop() else {
+        return Err(ServeFault::Memory);
+    };
+    Ok(Station::new(mail, members, seat, arrivals))
+}
+
+// Returns the stations of all nodes, the last one first.
+fn stations_of<'a, C: Cluster>(
+    alloc: Global,
+    mail: &'a Mail<Act>,
+    members: Members,
+    seats: Vec<NodeSeat<Act>>,
+    arrivals: Vec<Consumer<Arrival>>,
+) -> Result<Vec<Station<'a, C>>, ServeFault>
+    requires cluster { mail.now ≡ C.table }
+    requires fresh { All (λ s. Owns mail.now s × (s.part.seen.opened ≡ Never)) seats.items }
+    requires members { members ≡ mail.now.members }
+    ensures ends { IfErr result EndsAll }
+{
+    let mut seats = seats;
+    let mut arrivals = arrivals;
+    let mut stations = Vec::new(alloc);
+    for _ in 0..members.count() {
+        let station = station_of(mail, members, &mut seats, &mut arrivals)?;
+        stations.push(station)?;
+    }
+    Ok(stations)
+}
+
+// Waits until the input has ended, a node has ended before its gate was shut, or all gates are shut. The error is the node's end; without one
+// an end is missing.
+fn await_end<R: Wait>(
+    rt: &R,
+    ends: &Receiver<End>,
+    members: Members,
+) -> Result<(), Option<NodeEnd>> {
+    let mut left = members.count();
+    for _ in rt.forever() {
+        match ends.recv(rt) {
+            Ok(End::Input) => return Ok(()),
+            Ok(End::Node(end)) => return Err(Some(end)),
+            Ok(End::Shut) => left = left.saturating_sub(1),
+            Err(_) => return Err(None),
+        }
+        if left == 0 {
+            return Ok(());
+        }
+    }
+    unreachable!()
+}
+
+// Runs a node to its end, on its thread. Returns what is left of it if its gate was shut.
+fn run_node_thread<'b, R, G, T, L>(
+    rt: &'b R,
+    alloc: Global,
+    station: T,
+    site: &'b Site<'b, G>,
+    ends: &Sender<End>,
+) -> Option<L>
+where
+    R: Wait + Eprint,
+    T: Runs<R, G, L>,
+{
+    match station.run(rt, alloc, site) {
+        Ok(left) => {
+            let _ = ends.send(rt, End::Shut);
+            Some(left)
+        }
+        Err(end) => {
+            let (node, fault) = (end.node, end.fault);
+            let number = fault.number();
+            let _ = eprintln!(rt; "node {node} has ended by fault {number}: {fault}");
+            let _ = ends.send(rt, End::Node(end));
+            None
+        }
+    }
+}
+
+// Runs all nodes' threads until an end comes, shuts their gates, and returns what is left of the nodes, apart from those that ended before. It
+// is generic in what runs on the threads and what is left, so that both cross by their bounds.
+#[tactic(auto, using(crate::proofs::Sendable::ended_send))]
+fn run_all<'b, R, G, T, L>(
+    rt: &'b R,
+    alloc: Global,
+    stations: Vec<T>,
+    site: &'b Site<'b, G>,
+    ends: (&Sender<End>, &Receiver<End>),
+    members: Members,
+) -> Result<Vec<L>, Option<NodeEnd>>
+where
+    R: Threads + Wait + Eprint + Sync,
+    G: Sync,
+    T: Runs<R, G, L> + Drop + Send,
+    L: Drop + Send,
+{
+    let (sender, receiver) = ends;
+    thread::scope(
+        thread::scope_env(),
+        rt,
+        |scope| -> Result<Vec<L>, Option<NodeEnd>>
+            requires { IsSync R.row × IsSync G.row × IsSend T.row × IsSend L.row }
+        {
+            let mut threads = Vec::new(alloc);
+            let mut spawned = true;
+            for station in stations {
+                match scope.spawn(move || run_node_thread(rt, alloc, station, site, sender)) {
+                    Ok(thread) => spawned = threads.push(thread).is_ok() && spawned,
+                    Err(_) => spawned = false,
+                }
+            }
+            let end = if spawned {
+                await_end(rt, receiver, members)
+            } else {
+                Err(None)
+            };
+            site.open.store(false, Ordering::SeqCst);
+            for lobby in site.lobbies {
+                lobby.wake();
+            }
+            let mut all = Vec::new(alloc);
+            for thread in threads {
+                if let Some(left) = thread.join(rt) {
+                    spawned = all.push(left).is_ok() && spawned;
+                }
+            }
+            match end {
+                Ok(()) if spawned => Ok(all),
+                Ok(()) => Err(None),
+                Err(end) => Err(end),
+            }
+        },
+    )
+}
+
+// Runs these stations.
+fn run_stations<'b, R, G, C>(
+    rt: &'b R,
+    alloc: Global,
+    stations: Vec<Station<'_, C>>,
+    site: &'b Site<'b, G>,
+    ends: (&Sender<End>, &Receiver<End>),
+    members: Members,
+) -> Result<Vec<Left<C>>, ServeFault>
+where
+    R: Threads + Wait + Clock + Eprint + Sync,
+    G: Gate + Sync,
+    C: Cluster + Send,
+    ensures ends { IfErr result EndsAll }
+{
+    match run_all(rt, alloc, stations, site, ends, members) {
+        Ok(all) => Ok(all),
+        Err(Some(end)) => Err(fault_of(end)),
+        Err(None) => Err(ServeFault::Memory),
+    }
+}
+
+// Returns the seats of what is left of nodes.
+fn seats_of<C: Cluster>(alloc: Global, all: Vec<Left<C>>) -> Result<Vec<NodeSeat<Act>>, ServeFault>
+    ensures owned { IfOk result (λ seats. All (λ s. Owns C.table s) seats.items) }
+    ensures ends { IfErr result EndsAll }
+{
+    let mut seats = Vec::new(alloc);
+    for left in all {
+        let Left { seat, of: _ } = left;
+        seats.push(seat)?;
+    }
+    Ok(seats)
+}
+
+/// Runs the nodes at these seats, each on a thread, until an end comes; `arrivals` has where their clients' connections arrive. Returns the
+/// seats of all nodes that ended because their gate was shut. An error is the end of a node that ended before all of them were to, or `Memory`.
+pub(crate) fn run_cluster<R, G, C>(
+    rt: &R,
+    alloc: Global,
+    mail: &Mail<Act>,
+    seats: Vec<NodeSeat<Act>>,
+    arrivals: Vec<Consumer<Arrival>>,
+    site: &Site<'_, G>,
+    ends: (&Sender<End>, &Receiver<End>),
+    members: Members,
+) -> Result<Vec<NodeSeat<Act>>, ServeFault>
+where
+    R: Threads + Wait + Clock + Eprint + Sync,
+    G: Gate + Sync,
+    C: Cluster + Send,
+    requires cluster { mail.now ≡ C.table }
+    requires fresh { All (λ s. Owns mail.now s × (s.part.seen.opened ≡ Never)) seats.items }
+    requires members { members ≡ mail.now.members }
+    ensures owned { IfOk result (λ seats. All (λ s. Owns mail.now s) seats.items) }
+    ensures ends { IfErr result EndsAll }
+{
+    let stations = stations_of::<C>(alloc, mail, members, seats, arrivals)?;
+    let all = run_stations(rt, alloc, stations, site, ends, members)?;
+    seats_of(alloc, all)
+}
