@@ -73,35 +73,37 @@ const CALLEES_TAKE_TURNS: &[Row] = &[
     (
         3,
         3,
-        "[64,2,{\"invoke\":\"first\"},\"p\"]",
-        "3 [8,64,2,{},\"wamp.error.procedure_already_exists\"];",
-    ),
-    (
-        3,
-        3,
-        "[64,3,{\"invoke\":\"random\"},\"p\"]",
-        "3 [8,64,3,{},\"wamp.error.invalid_argument\"];",
-    ),
-    (
-        3,
-        3,
         "[64,1,{\"invoke\":\"roundrobin\"},\"p\"]",
         "3 [65,1,1];",
     ),
     (1, 3, "[48,2,{},\"p\"]", "2 [68,1,1,{}];"),
     (1, 3, "[48,3,{},\"p\"]", "1 [68,2,1,{}];"),
+    (1, 3, "[48,4,{},\"p\"]", "3 [68,1,1,{}];"),
+    (
+        4,
+        3,
+        "[64,2,{\"invoke\":\"first\"},\"p\"]",
+        "4 [8,64,2,{},\"wamp.error.procedure_already_exists\"];",
+    ),
+    (
+        4,
+        3,
+        "[64,3,{\"invoke\":\"random\"},\"p\"]",
+        "4 [8,64,3,{},\"wamp.error.invalid_argument\"];",
+    ),
     (
         1,
         3,
-        "[48,4,{},\"p\"]",
-        "1 [8,48,4,{},\"cluster.error.limit\"];",
+        "[48,5,{},\"p\"]",
+        "1 [8,48,5,{},\"cluster.error.limit\"];",
     ),
-    (2, 3, "[48,4,{},\"p\"]", "3 [68,1,1,{}];"),
+    (3, 3, "[48,4,{},\"p\"]", "2 [68,2,1,{}];"),
+    (2, 3, "[48,4,{},\"p\"]", "1 [68,3,1,{}];"),
     (
         2,
         3,
         "[48,4,{},\"p\"]",
-        "1 [8,48,2,{},\"wamp.error.canceled\"];2 [3,{},\"wamp.error.protocol_violation\"];2 close;",
+        "1 [8,48,2,{},\"wamp.error.canceled\"];3 [8,48,4,{},\"wamp.error.canceled\"];2 [3,{},\"wamp.error.protocol_violation\"];2 close;",
     ),
 ];
 
@@ -110,8 +112,8 @@ fn callees_take_turns(rt: HostRuntime) {
     check(
         &rt,
         rt.alloc(),
-        3,
-        &[Some(HELLO), Some(HELLO), Some(HELLO)],
+        4,
+        &[Some(HELLO), Some(HELLO), Some(HELLO), Some(HELLO)],
         CALLEES_TAKE_TURNS,
     );
 }
@@ -121,6 +123,24 @@ const UNFIT_CALLS_AND_ANSWERS: &[Row] = &[
         2,
         3,
         "[48,1,{},\"p\",[1.5]]",
+        "2 [8,48,1,{},\"wamp.error.invalid_argument\"];",
+    ),
+    (
+        2,
+        3,
+        "[48,1,{},\"p\",[18446744073709551615,-9223372036854775808]]",
+        "2 [8,48,1,{},\"wamp.error.no_such_procedure\"];",
+    ),
+    (
+        2,
+        3,
+        "[48,1,{},\"p\",[18446744073709551616]]",
+        "2 [8,48,1,{},\"wamp.error.invalid_argument\"];",
+    ),
+    (
+        2,
+        3,
+        "[48,1,{},\"p\",[-9223372036854775809]]",
         "2 [8,48,1,{},\"wamp.error.invalid_argument\"];",
     ),
     (

@@ -135,6 +135,30 @@ fn faults_come_in_the_order_of_their_numbers(rt: HostRuntime) {
         check_eq!(&rt; fault(&rt, rt.alloc(), text.as_bytes()), *number, text);
     }
     check_eq!(&rt; fault(&rt, rt.alloc(), &[0x5b, 0x22, 0xff, 0x22, 0x5d]), 21);
+    check_eq!(&rt; fault(&rt, rt.alloc(), &[0xff]), 21);
+}
+
+// A PUBLISH whose arrays nest this deep; its own is the first.
+fn nested(rt: &impl Abort, alloc: Global, depth: usize) -> String {
+    let mut text = String::from_str(alloc, "[16,1,{},\"a\",").expect(rt, "room for a text");
+    for _level in 1..depth {
+        text.push_str("[").expect(rt, "room for a text");
+    }
+    for _level in 0..depth {
+        text.push_str("]").expect(rt, "room for a text");
+    }
+    text
+}
+
+#[test]
+fn a_message_nests_at_most_127_deep(rt: HostRuntime) {
+    let mut parser = Parser::new(rt.alloc());
+    let deep = nested(&rt, rt.alloc(), 127);
+    check!(&rt; is_written_again(&rt, rt.alloc(), deep.as_str()));
+    check!(&rt; is_read_in(&rt, &mut parser, rt.alloc(), deep.as_str()));
+    let too_deep = nested(&rt, rt.alloc(), 128);
+    check_eq!(&rt; fault(&rt, rt.alloc(), too_deep.as_bytes()), 21);
+    check_eq!(&rt; fault_in(&rt, &mut parser, too_deep.as_str()), 21);
 }
 
 #[test]

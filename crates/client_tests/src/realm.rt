@@ -63,7 +63,7 @@ pub fn in_one_text(rt: &impl Abort, alloc: Global, says: &[Say]) -> Vec<u8> {
     all
 }
 
-fn transport(number: u32) -> Transport {
+pub fn transport(number: u32) -> Transport {
     Transport {
         node: 1,
         boot: 1,
@@ -303,6 +303,12 @@ const EVENTS_NAME_THEIR_TOPICS: &[Row] = &[
         3,
         "[32,1,{\"match\":\"prefix\"},\"com.a.x\"]",
         "1 [33,1,1];",
+    ),
+    (
+        2,
+        3,
+        "[32,1,{\"match\":\"prefix\"},\"com.a.x\"]",
+        "2 [33,1,1];",
     ),
     (
         2,

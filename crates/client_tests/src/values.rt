@@ -303,6 +303,32 @@ fn dict_is_copied(rt: &impl Abort, alloc: Global, text: &str) -> bool {
     copied.expect(rt, "room for a copy")
 }
 
+fn list_is_shared(rt: &impl Abort, alloc: Global, text: &str) -> bool {
+    let mut list = list(rt, alloc, text);
+    let shared = list.share();
+    let copied = list.copy().map(|copy| list.same(&copy));
+    drop(list);
+    shared.expect(rt, "room to share it");
+    copied.expect(rt, "room for a copy")
+}
+
+fn dict_is_shared(rt: &impl Abort, alloc: Global, text: &str) -> bool {
+    let mut dict = dict(rt, alloc, text);
+    let shared = dict.share();
+    let copied = dict.copy().map(|copy| dict.same(&copy));
+    drop(dict);
+    shared.expect(rt, "room to share it");
+    copied.expect(rt, "room for a copy")
+}
+
+#[test]
+fn arguments_are_shared(rt: HostRuntime) {
+    check!(&rt; list_is_shared(&rt, rt.alloc(), "[\"hi\"]"));
+    check!(&rt; list_is_shared(&rt, rt.alloc(), "[]"));
+    check!(&rt; dict_is_shared(&rt, rt.alloc(), "{\"a\":1}"));
+    check!(&rt; dict_is_shared(&rt, rt.alloc(), "{}"));
+}
+
 #[test]
 fn arguments_are_copied(rt: HostRuntime) {
     check!(&rt; list_is_copied(&rt, rt.alloc(), "[\"hi\"]"));
@@ -350,6 +376,10 @@ fn are_both(rt: &impl Abort, alloc: Global, both: &Args) {
 
 #[test]
 fn a_list_and_an_object_end_a_message(rt: HostRuntime) {
-    let both = list_and_dict(&rt, rt.alloc());
+    let mut both = list_and_dict(&rt, rt.alloc());
     are_both(&rt, rt.alloc(), &both);
+    let shared = both.share();
+    are_both(&rt, rt.alloc(), &both);
+    drop(both);
+    shared.expect(&rt, "room to share them");
 }

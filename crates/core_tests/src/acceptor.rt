@@ -1,5 +1,5 @@
 use crate::check::Check;
-use paxos_acceptor::{Acceptor, Answer, Memory, Verdict, laws};
+use paxos_acceptor::{Acceptor, Answer, Memory, Verdict};
 use paxos_packets::{Ballot, Body, Change, Entries, Entry, Kind, Packet, Rows, Slot, Vote, Votes};
 use std::alloc::Global;
 use std::process::Abort;
@@ -187,9 +187,7 @@ fn takes<B: Body>(
     row: &Row,
     packet: &Packet<B>,
 ) -> bool {
-    let verdict = acceptor
-        .plan(alloc, packet)
-        .expect(rt, "room for a verdict");
+    let verdict = acceptor.plan(packet).expect(rt, "room for a verdict");
     let is_so = is_verdict(rt, alloc, entry, row, &verdict);
     let Verdict { change, answer } = verdict;
     drop(answer);
@@ -254,19 +252,17 @@ fn has_rows<B: Body>(acceptor: Acceptor<B>, vote: &Vote<B>) -> bool {
 }
 
 // How many votes it copies from the slot with this number on.
-fn copied<B: Body>(rt: &impl Abort, alloc: Global, acceptor: &Acceptor<B>, first: u64) -> usize {
-    let votes = acceptor
-        .votes_from(alloc, first)
-        .expect(rt, "room for a copy");
+fn copied<B: Body>(rt: &impl Abort, acceptor: &Acceptor<B>, first: u64) -> usize {
+    let votes = acceptor.votes_from(first).expect(rt, "room for a copy");
     let count = votes.as_slice().len();
     drop(votes);
     count
 }
 
 // Its one vote is copied from its slot on, and not from the next one.
-fn is_copied<B: Body>(rt: &impl Abort, alloc: Global, acceptor: &Acceptor<B>) {
-    check_eq!(rt; copied(rt, alloc, acceptor, 1), 1);
-    check_eq!(rt; copied(rt, alloc, acceptor, 2), 0);
+fn is_copied<B: Body>(rt: &impl Abort, acceptor: &Acceptor<B>) {
+    check_eq!(rt; copied(rt, acceptor, 1), 1);
+    check_eq!(rt; copied(rt, acceptor, 2), 0);
 }
 
 // The acceptor is asked and left with this vote.
@@ -279,16 +275,19 @@ fn plays<B: Body>(
 ) {
     is_asked(rt, alloc, acceptor, entry);
     acceptor.make_room(1).expect(rt, "room for a vote");
-    is_copied(rt, alloc, acceptor);
+    is_copied(rt, acceptor);
     check!(rt; is_left(acceptor, vote));
 }
 
 fn acceptor<B>(alloc: Global) -> Acceptor<B> {
-    Acceptor::of(Rows {
-        boot: 1,
-        promised: None,
-        votes: Votes::new(alloc),
-    })
+    Acceptor::of(
+        alloc,
+        Rows {
+            boot: 1,
+            promised: None,
+            votes: Votes::new(alloc),
+        },
+    )
 }
 
 fn is_voted_for<B: Body>(rt: &impl Abort, alloc: Global, entry: &Entry<B>) {
@@ -335,11 +334,4 @@ fn out_of_memory_is_50(rt: HostRuntime) {
     check_eq!(&rt; Memory.number(), 50);
     let told = format!(in rt.alloc(); "{}", Memory).expect(&rt, "room for a text");
     check_eq!(&rt; told.as_str(), "no memory for the acceptor");
-}
-
-#[test]
-fn laws_are_there() {
-    laws::promises_rise::<Number>();
-    laws::promises_are_kept::<Number>();
-    laws::changes_are_adopted::<Number>();
 }

@@ -5,7 +5,7 @@ use crate::check::Check;
 use crate::votes::{item, slot, vote, votes_of};
 use paxos_packets::{
     Ballot, Body, Change, Entries, Entry, Kind, Members, Memory, NodeSet, Packet, Rows, Shared,
-    Slot, Votes, laws,
+    Slot, Votes,
 };
 use std::alloc::Global;
 use std::marker::Model;
@@ -376,12 +376,4 @@ fn out_of_memory_is_49(rt: HostRuntime) {
     check_eq!(&rt; Memory.number(), 49);
     let told = format!(in rt.alloc(); "{}", Memory).expect(&rt, "room for a text");
     check_eq!(&rt; told.as_str(), "no memory for a copy");
-}
-
-#[test]
-fn laws_are_there() {
-    laws::ballots_are_ordered();
-    laws::majorities_meet();
-    laws::votes_are_put::<Number>();
-    laws::values_are_told_apart::<Number>();
 }
