@@ -48,8 +48,8 @@ pub fn connect<R: Abort + Net<Listener = TcpListener, Stream = TcpStream>>(
     let (items, node_items) = RingBuffer::new(alloc, REQUESTS_WAITING).expect(rt, "a ring");
     let (node_replies, replies) = RingBuffer::new(alloc, SAYINGS_WAITING).expect(rt, "a ring");
     let arrival = Arrival {
-        items: node_items,
-        replies: node_replies,
+        requests: node_items,
+        sayings: node_replies,
         connection,
     };
     put(rt, arrivals, arrival);

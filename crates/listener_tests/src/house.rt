@@ -159,8 +159,8 @@ fn count_free(lobby: &Lobby) -> u32 {
 // The letter of the next item of a client; 'E' once none is left and its reader has ended, 'L' if none came in time.
 fn next_letter<R: Clock>(rt: &R, arrival: &mut Arrival) -> char {
     for _ in 0..10_000 {
-        let is_over = arrival.items.is_abandoned();
-        if let Some(letter) = reading::next_letter(&mut arrival.items) {
+        let is_over = arrival.requests.is_abandoned();
+        if let Some(letter) = reading::next_letter(&mut arrival.requests) {
             arrival.connection.announce_room();
             return letter;
         }

@@ -28,13 +28,13 @@ fn sends(rt: &impl Abort, client: &mut TcpStream, octets: &[u8], times: u32) {
 
 // A message and a PONG that are handed over reach the client, and then the end.
 fn is_answered(rt: &impl Abort, alloc: Global, client: &mut TcpStream, arrival: &mut Arrival) {
-    check!(rt; hand_message(alloc, &mut arrival.replies, &REGISTERED[4..]));
+    check!(rt; hand_message(alloc, &mut arrival.sayings, &REGISTERED[4..]));
     arrival.connection.announce_sayings();
     check!(rt; reads(rt, client, alloc, REGISTERED));
-    check!(rt; hand_pong(rt, alloc, &mut arrival.replies, b"hi"));
+    check!(rt; hand_pong(rt, alloc, &mut arrival.sayings, b"hi"));
     arrival.connection.announce_sayings();
     check!(rt; reads(rt, client, alloc, PONG));
-    check!(rt; hand_close(&mut arrival.replies));
+    check!(rt; hand_close(&mut arrival.sayings));
     arrival.connection.announce_sayings();
     check!(rt; reads_the_end(client));
 }
@@ -106,7 +106,7 @@ fn what_waits_is_written_before_a_dropped_line_ends(rt: HostRuntime) {
     let mut house = House::open(&rt, rt.alloc());
     let (mut client, mut arrival) = house.client(&rt);
     for _ in 0..1_000 {
-        check!(&rt; hand_message(rt.alloc(), &mut arrival.replies, &REGISTERED[4..]));
+        check!(&rt; hand_message(rt.alloc(), &mut arrival.sayings, &REGISTERED[4..]));
     }
     drop(arrival);
     for at in 0..1_000 {
@@ -141,12 +141,12 @@ fn a_reader_waits_for_room_and_goes_on(rt: HostRuntime) {
 // Waits until a client's ring is full, ten seconds at the most. Returns how many items are there.
 fn fills<R: Clock>(rt: &R, arrival: &mut Arrival) -> usize {
     for _ in 0..1_000 {
-        if arrival.items.slots() == REQUESTS_WAITING {
+        if arrival.requests.slots() == REQUESTS_WAITING {
             break;
         }
         thread::sleep(rt, Duration::from_millis(10));
     }
-    arrival.items.slots()
+    arrival.requests.slots()
 }
 
 #[test]

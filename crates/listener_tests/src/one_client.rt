@@ -63,15 +63,31 @@ fn is_due(
     check_eq!(rt; written, due, at);
 }
 
-// Asserts how a run ended, and that it wrote a front of what the stored run writes.
+// After how many of the client's octets how many of the router's are due.
+const DUE: &[(usize, usize)] = &[(4, 4), (48, 217), (67, 229), (130, 263), (165, 302)];
+
+// How many of the router's octets are due to this many of the client's.
+fn due_to(asked: usize) -> usize {
+    let mut due = 0;
+    for (from, answered) in DUE {
+        if *from <= asked {
+            due = *answered;
+        }
+    }
+    due
+}
+
+// Asserts how a run ended, and that it wrote this many octets of the stored run.
 fn is_front(
     rt: &impl Abort,
     outcome: Result<(), RunFault>,
     written: &[u8],
     ending: Result<(), RunFault>,
+    length: usize,
     at: usize,
 ) {
     check_eq!(rt; outcome, ending, at);
+    check_eq!(rt; written.len(), length, at);
     check!(rt; ANSWERED.starts_with(written), at);
 }
 
@@ -177,7 +193,7 @@ fn ends_at(rt: &impl Abort, alloc: Global, end: usize, asked: &[u8]) {
     } else {
         Ok(())
     };
-    is_front(rt, outcome, written.as_slice(), due, end);
+    is_front(rt, outcome, written.as_slice(), due, due_to(end), end);
 }
 
 #[test]
@@ -187,13 +203,19 @@ fn answers_what_came_before_the_end(rt: HostRuntime) {
     }
 }
 
+// The reads of the stored run: four of an octet for the handshake, eleven of at most 16 octets for the rest, and one that finds the end.
+const READS: usize = 16;
+
 fn stops_after_reads(rt: &impl Abort, alloc: Global, reads: u32) {
     let mut reader = reader_of(ASKED, 16);
     reader.reads_before_failure = Some(reads);
     let mut paper = new_paper(alloc, None);
     let outcome = run(alloc, &mut reader, &mut paper);
-    let ending = ending_after(reader.reads_before_failure.is_none(), 83);
-    is_front(rt, outcome, paper.octets.as_slice(), ending, reads as usize);
+    let reads = reads as usize;
+    let asked = reads.saturating_sub(4).saturating_mul(16);
+    let due = due_to(asked.saturating_add(reads.min(4)));
+    let ending = ending_after(reads < READS, 83);
+    is_front(rt, outcome, paper.octets.as_slice(), ending, due, reads);
 }
 
 // How a run ends in which a call has failed, or none.
@@ -207,22 +229,37 @@ fn ending_after(has_failed: bool, fault: u8) -> Result<(), RunFault> {
 
 #[test]
 fn stops_at_a_failed_read(rt: HostRuntime) {
-    for reads in 0..16 {
+    for reads in 0..18 {
         stops_after_reads(&rt, rt.alloc(), reads);
     }
 }
 
-fn stops_after_writes(rt: &impl Abort, alloc: Global, calls: u32) {
+// The writes and flushes of the stored run: two for the handshake, one as the client connects, two for each of three reads, and one at the end.
+const CALLS: u32 = 10;
+
+// How many octets are written if the first 0, 1, 2 .. calls succeed. The first read has two frames.
+const WRITTEN: &[usize] = &[0, 4, 4, 4, 229, 229, 263, 263, 302, 302, 302, 302];
+
+fn stops_after_writes(rt: &impl Abort, alloc: Global, calls: u32, length: usize) {
     let mut paper = new_paper(alloc, Some(calls));
     let outcome = run(alloc, &mut reader_of(ASKED, 64), &mut paper);
-    let ending = ending_after(paper.calls_before_failure.is_none(), 84);
-    is_front(rt, outcome, paper.octets.as_slice(), ending, calls as usize);
+    let ending = ending_after(calls < CALLS, 84);
+    is_front(
+        rt,
+        outcome,
+        paper.octets.as_slice(),
+        ending,
+        length,
+        calls as usize,
+    );
 }
 
 #[test]
 fn stops_at_a_failed_write(rt: HostRuntime) {
-    for calls in 0..12 {
-        stops_after_writes(&rt, rt.alloc(), calls);
+    let mut calls = 0;
+    for length in WRITTEN {
+        stops_after_writes(&rt, rt.alloc(), calls, *length);
+        calls = calls.saturating_add(1);
     }
 }
 
