@@ -1,21 +1,21 @@
 // Clients of a feed, made by hand: both ends of a connection that arrives, what a client sends and what is said to it, by letters.
 use crate::check::Check;
-use bytes::Bytes;
-use client_listener::{FromClient, ToClient};
+use client_listener::{Inlet, Parser, ToClient};
 use rtrb::{Consumer, Producer, RingBuffer};
-use serve_connections::{Arrival, NodeConnection, REQUESTS_WAITING, SAYINGS_WAITING};
+use serve_connections::{Arrival, NodeConnection, RequestSender, SAYINGS_WAITING, open_requests};
 use std::alloc::Global;
 use std::io::Read;
 use std::net::{Net, TcpListener, TcpStream};
 use std::panic::Expect;
 use std::process::Abort;
-use test_checks::check_eq;
-use wamp_messages::read;
+use test_checks::{check, check_eq};
 
-// A client's ends of a connection: of both rings, and of the stream.
+// A client's ends of a connection: of both rings, and of the stream; and what its porter has of its octets.
 #[derive(Drop)]
 pub struct Client {
-    items: Producer<FromClient>,
+    inlet: Inlet,
+    parser: Parser,
+    requests: RequestSender,
     replies: Consumer<ToClient>,
     stream: TcpStream,
 }
@@ -45,36 +45,51 @@ pub fn connect<R: Abort + Net<Listener = TcpListener, Stream = TcpStream>>(
 ) -> Client {
     let (stream, theirs) = streams(rt);
     let connection = NodeConnection::over(alloc, theirs).expect(rt, "a connection");
-    let (items, node_items) = RingBuffer::new(alloc, REQUESTS_WAITING).expect(rt, "a ring");
+    let (requests, node_requests) = open_requests(alloc).expect(rt, "the ends of its requests");
     let (node_replies, replies) = RingBuffer::new(alloc, SAYINGS_WAITING).expect(rt, "a ring");
     let arrival = Arrival {
-        requests: node_items,
+        requests: node_requests,
         sayings: node_replies,
         connection,
     };
     put(rt, arrivals, arrival);
     Client {
-        items,
+        inlet: Inlet::new(alloc),
+        parser: Parser::new(alloc),
+        requests,
         replies,
         stream,
     }
 }
 
-// Returns the item of a letter: a Connect, a PING, a CALL or a Hung.
-fn item_of(rt: &impl Abort, alloc: Global, letter: char) -> FromClient {
+// Returns the octets of a letter: none for the Connect that comes first, a PING, or a CALL.
+fn octets_of(rt: &impl Abort, letter: char) -> &'static [u8] {
     match letter {
-        'C' => FromClient::Connect,
-        'P' => FromClient::Ping(Bytes::copy_from_slice(alloc, b"hi").expect(rt, "a payload")),
-        'S' => FromClient::Read(read(alloc, b"[48,1,{},\"a\"]").expect(rt, "a message")),
-        'H' => FromClient::Hung,
-        _ => panic!(rt; "no item has the letter {letter}"),
+        'C' => b"",
+        'P' => b"\x01\0\0\x02hi",
+        'S' => b"\0\0\0\x0D[48,1,{},\"a\"]",
+        _ => panic!(rt; "no octets have the letter {letter}"),
     }
 }
 
-// Puts items into the client's ring, by their letters.
-pub fn send(rt: &impl Abort, alloc: Global, client: &mut Client, letters: &str) {
+// Puts what a letter says into the client's ring, which has room for it; `H` is a Hung.
+fn send_one(rt: &impl Abort, client: &mut Client, letter: char) {
+    if letter == 'H' {
+        check!(rt; client.requests.hang(&client.inlet));
+        return;
+    }
+    client
+        .inlet
+        .feed(octets_of(rt, letter))
+        .expect(rt, "memory for octets");
+    let outcome = client.requests.put(&mut client.inlet, &mut client.parser);
+    check_eq!(rt; outcome, Ok(true), letter);
+}
+
+// Puts items into the client's ring, by their letters. The first is a Connect.
+pub fn send(rt: &impl Abort, client: &mut Client, letters: &str) {
     for letter in letters.chars() {
-        put(rt, &mut client.items, item_of(rt, alloc, letter));
+        send_one(rt, client, letter);
     }
 }
 

@@ -153,8 +153,8 @@ fn play<F: Feed<Act, Say>, G: Gate>(
     rows: &[Row],
 ) {
     for row in rows {
-        send(rt, alloc, one, row.one);
-        send(rt, alloc, two, row.two);
+        send(rt, one, row.one);
+        send(rt, two, row.two);
         if row.stirs {
             lobby.stir();
         }
@@ -190,7 +190,7 @@ fn holds_back<F: Feed<Act, Say>, G: Gate>(
     lobby: &Lobby,
     client: &mut Client,
 ) {
-    send(rt, alloc, client, "SSSSSSS");
+    send(rt, client, "SSSSSSS");
     lobby.stir();
     let mut seen = quiet();
     seen.pending = true;
@@ -235,7 +235,7 @@ fn begins_anew(
     lobby: &Lobby,
     three: &mut Client,
 ) {
-    send(rt, alloc, three, "C");
+    send(rt, three, "C");
     lobby.stir();
     gives(rt, alloc, gate, feed, &quiet(), "1C");
 }
@@ -315,7 +315,7 @@ fn slow_leaves<F: Feed<Act, Say>, G: Gate>(
     lobby: &Lobby,
     client: &mut Client,
 ) {
-    send(rt, alloc, client, "CH");
+    send(rt, client, "CH");
     lobby.stir();
     check!(rt; gate.pass(NODE, 1));
     check_eq!(rt; next_letter(feed), Some('C'));

@@ -1,12 +1,12 @@
 // A node's side of its clients, without a node: the test takes and puts in its place. Every wait ends after ten seconds, and what cannot be
 // had (memory, a socket, an answer in time) ends the test at once, so that no way out drops what a test has.
 use crate::check::Check;
-use crate::reading;
+use crate::reading::letter;
 use crate::writing::{hand, message_of};
 use bytes::Bytes;
 use client_listener::ToClient;
 use rtrb::{Consumer, Producer, RingBuffer};
-use serve_connections::{Arrival, Door, Lobby, run_porter};
+use serve_connections::{Arrival, Door, Found, Lobby, run_porter};
 use std::alloc::{AllocError, Global};
 use std::io::{Read, Write};
 use std::net::{Net, SocketAddr, TcpListener, TcpStream};
@@ -159,15 +159,16 @@ fn count_free(lobby: &Lobby) -> u32 {
 // The letter of the next item of a client; 'E' once none is left and its reader has ended, 'L' if none came in time.
 fn next_letter<R: Clock>(rt: &R, arrival: &mut Arrival) -> char {
     for _ in 0..10_000 {
-        let is_over = arrival.requests.is_abandoned();
-        if let Some(letter) = reading::next_letter(&mut arrival.requests) {
-            arrival.connection.announce_room();
-            return letter;
+        match arrival.requests.next() {
+            Found::Request(request) => {
+                let letter = letter(&request);
+                drop(request);
+                arrival.connection.announce_room();
+                return letter;
+            }
+            Found::End => return 'E',
+            Found::Nothing => thread::sleep(rt, Duration::from_millis(1)),
         }
-        if is_over {
-            return 'E';
-        }
-        thread::sleep(rt, Duration::from_millis(1));
     }
     'L'
 }

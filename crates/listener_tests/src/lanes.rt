@@ -141,12 +141,12 @@ fn a_reader_waits_for_room_and_goes_on(rt: HostRuntime) {
 // Waits until a client's ring is full, ten seconds at the most. Returns how many items are there.
 fn fills<R: Clock>(rt: &R, arrival: &mut Arrival) -> usize {
     for _ in 0..1_000 {
-        if arrival.requests.slots() == REQUESTS_WAITING {
+        if arrival.requests.count_waiting() == REQUESTS_WAITING {
             break;
         }
         thread::sleep(rt, Duration::from_millis(10));
     }
-    arrival.requests.slots()
+    arrival.requests.count_waiting()
 }
 
 #[test]

@@ -1,7 +1,7 @@
 use crate::buffers::Buffers;
+use crate::requests::RequestSender;
 use crate::shared::SharedConnection;
-use client_listener::{FromClient, Inlet, ListenFault};
-use rtrb::Producer;
+use client_listener::{Inlet, ListenFault};
 use std::alloc::Global;
 use std::io::{ErrorKind, Read};
 
@@ -17,7 +17,7 @@ pub(crate) enum Inward {
 #[derive(Drop)]
 pub(crate) struct Incoming {
     inlet: Inlet,
-    requests: Producer<FromClient>,
+    requests: RequestSender,
     // Whether something waits for room in the ring. At first that is `Connect`.
     is_full: bool,
     // Whether nothing more is read, and whether memory ran out, so that nothing more is put either.
@@ -28,7 +28,7 @@ pub(crate) struct Incoming {
 
 impl Incoming {
     // Returns the way in of a connection before its first octet. Does not allocate.
-    pub fn new(alloc: Global, requests: Producer<FromClient>) -> Incoming {
+    pub fn new(alloc: Global, requests: RequestSender) -> Incoming {
         Incoming {
             inlet: Inlet::new(alloc),
             requests,
@@ -74,7 +74,7 @@ impl Incoming {
         if !self.is_ended {
             return Inward::Put;
         }
-        if self.inlet.hang(&mut self.requests) {
+        if self.requests.hang(&self.inlet) {
             return Inward::Done;
         }
         self.is_full = true;
@@ -92,7 +92,7 @@ impl Incoming {
 
     // Puts what waits. Returns whether there was room for all of it.
     fn put(&mut self, buffers: &mut Buffers) -> bool {
-        match self.inlet.put(&mut buffers.parser, &mut self.requests) {
+        match self.requests.put(&mut self.inlet, &mut buffers.parser) {
             Ok(done) => {
                 self.is_full = !done;
                 done

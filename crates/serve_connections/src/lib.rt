@@ -10,10 +10,12 @@ mod node_connection;
 mod outgoing;
 mod porter;
 mod porter_connection;
+mod requests;
 mod shared;
 
-pub use client_listener::{FromClient, ToClient};
+pub use client_listener::{FromClient, Inlet, ListenFault, Parser, ToClient};
 pub use door::{Door, run_porter};
 pub use lobby::{Lobby, MOST_CONNECTIONS};
-pub use node_connection::{Arrival, NodeConnection, REQUESTS_WAITING, SAYINGS_WAITING};
+pub use node_connection::{Arrival, NodeConnection, SAYINGS_WAITING};
+pub use requests::{Found, REQUESTS_WAITING, RequestReceiver, RequestSender, open_requests};
 pub use rtrb::{Consumer, Producer};

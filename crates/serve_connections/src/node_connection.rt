@@ -1,24 +1,22 @@
 use crate::lobby::Lobby;
+use crate::requests::RequestReceiver;
 use crate::shared::SharedConnection;
-use client_listener::{FromClient, ToClient};
-use rtrb::{Consumer, Producer};
+use client_listener::ToClient;
+use rtrb::Producer;
 use std::alloc::{AllocError, Global};
 use std::net::TcpStream;
 use std::sync::Arc;
 
-/// How many of a client's requests, all that it sends, may wait for its node.
-pub const REQUESTS_WAITING: usize = 64;
-
 /// How many sayings may wait for a client.
 pub const SAYINGS_WAITING: usize = 1024;
 
-/// A connection that came, as its node gets it: the ring of its requests, the ring of its sayings, and the node's hold on the
+/// A connection that came, as its node gets it: the end of its requests, the ring of its sayings, and the node's hold on the
 /// connection, which is dropped with the arrival.
 ///
-/// The first request is `Connect`, once the handshake is done. If the handshake fails, the ring of requests is abandoned with nothing in it.
+/// The first request is `Connect`, once the handshake is done. If the handshake fails, the requests end with nothing in them.
 #[derive(Drop)]
 pub struct Arrival {
-    pub requests: Consumer<FromClient>,
+    pub requests: RequestReceiver,
     pub sayings: Producer<ToClient>,
     pub connection: NodeConnection,
 }

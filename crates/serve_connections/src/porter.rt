@@ -3,9 +3,10 @@ use crate::buffers::Buffers;
 use crate::door::Door;
 use crate::incoming::Incoming;
 use crate::lobby::ConnectionPermit;
-use crate::node_connection::{Arrival, NodeConnection, REQUESTS_WAITING, SAYINGS_WAITING};
+use crate::node_connection::{Arrival, NodeConnection, SAYINGS_WAITING};
 use crate::outgoing::Outgoing;
 use crate::porter_connection::{Next, PorterConnection};
+use crate::requests::open_requests;
 use crate::shared::SharedConnection;
 use client_listener::ListenFault;
 use mio::event::Event;
@@ -212,7 +213,7 @@ impl Porter {
         let Some(permit) = ConnectionPermit::take(&self.buffers.lobby)? else {
             return Ok(PorterConnection::new(number, None, shared, None, None));
         };
-        let (into_requests, requests) = RingBuffer::new(alloc, REQUESTS_WAITING)?;
+        let (sender, requests) = open_requests(alloc)?;
         let (sayings, from_sayings) = RingBuffer::new(alloc, SAYINGS_WAITING)?;
         announce(
             &mut self.arrivals,
@@ -223,7 +224,7 @@ impl Porter {
             },
         );
         self.buffers.lobby.stir();
-        let incoming = Incoming::new(alloc, into_requests);
+        let incoming = Incoming::new(alloc, sender);
         let outgoing = Outgoing::new(alloc, from_sayings);
         Ok(PorterConnection::new(number, Some(permit), shared, Some(incoming), Some(outgoing)))
     }

@@ -1,6 +1,6 @@
-use client_listener::{FromClient, ToClient};
-use rtrb::{Consumer, Producer};
-use serve_connections::{Arrival, Lobby};
+use client_listener::ToClient;
+use rtrb::Producer;
+use serve_connections::{Arrival, Found, Lobby};
 use serve_policy::Reader;
 
 // How far a connection is: its client has not been greeted yet, it is open, or the node has ended it.
@@ -9,14 +9,6 @@ pub(crate) enum Stage {
     New,
     Open,
     Ended,
-}
-
-// What is found in a lane.
-#[derive(Drop)]
-pub(crate) enum Found {
-    Nothing,
-    Request(FromClient),
-    End,
 }
 
 // A connection at its node.
@@ -58,12 +50,12 @@ impl Lane {
         self.stage = Stage::Open;
     }
 
-    // Returns the next request, or that none will come: the node has ended the lane, or its porter has stopped and nothing is left.
+    // Returns the next request, or that no other will come: the node has ended the lane, or all that its porter put has been taken.
     pub fn find(&mut self) -> Found {
         if self.stage == Stage::Ended {
             return Found::End;
         }
-        find(&mut self.arrival.requests)
+        self.arrival.requests.next()
     }
 
     // Puts a saying after the others. If there is no room the connection ends, and the result is false.
@@ -126,18 +118,4 @@ fn push<T: Drop>(ring: &mut Producer<T>, item: T) -> bool {
     let had_room = pushed.is_ok();
     drop(pushed);
     had_room
-}
-
-// Takes the next request of a ring. A ring that is found empty and then abandoned is asked once more, since the last one may have come between.
-fn find(requests: &mut Consumer<FromClient>) -> Found {
-    if let Ok(request) = requests.pop() {
-        return Found::Request(request);
-    }
-    if !requests.is_abandoned() {
-        return Found::Nothing;
-    }
-    match requests.pop() {
-        Ok(request) => Found::Request(request),
-        Err(_) => Found::End,
-    }
 }

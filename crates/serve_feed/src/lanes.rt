@@ -1,9 +1,9 @@
-use crate::lane::{Found, Lane};
+use crate::lane::Lane;
 use crate::look::Look;
 use client_listener::{FromClient, ToClient};
 use paxos_packets::Shared;
 use realm_acts::Act;
-use serve_connections::{Arrival, Lobby};
+use serve_connections::{Arrival, Found, Lobby};
 use serve_policy::Draws;
 use std::alloc::Global;
 use wamp_message_types::Read;
