@@ -1,1 +1,2 @@
 mod Following
+pub mod Telling

@@ -3,7 +3,7 @@ use crate::check::Check;
 use crate::hearing::{Heard, Told, told};
 use node_actor::{Entry, Keeper, Machine};
 use std::process::Abort;
-use test_checks::check;
+use test_checks::{check, check_eq};
 use test_stands::{Answer, SeatedActor, count_of, told_of};
 
 // How often each node turns at most.
@@ -115,12 +115,13 @@ pub fn has_log<M: Machine, K: Keeper<M::Body>>(
     check!(rt; are_told(actor.log(), wants));
 }
 
-/// Asserts what the logs of all nodes are.
+/// Asserts what the logs of all three nodes are.
 pub fn have_log<M: Machine, K: Keeper<M::Body>>(
     rt: &impl Abort,
     actors: &[SeatedActor<'_, M, K>],
     wants: &[Told],
 ) {
+    check_eq!(rt; actors.len(), 3);
     for actor in actors {
         has_log(rt, actor, wants);
     }

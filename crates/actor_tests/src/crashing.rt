@@ -1,31 +1,34 @@
 // An actor whose store fails, and which is restarted.
-use crate::carrying::have_log;
+use crate::carrying::{at, have_log};
 use crate::check::Check;
 use crate::counting::{ALL, Asked, Counting, Failing, Script, Sum, fault_at, goes};
 use crate::hearing::{Heard, Told};
 use crate::trial::{Trial, tried};
+use paxos_packets::Ballot;
 use std::alloc::Global;
 use std::process::Abort;
 use test_checks::{check, check_eq};
 use test_machines::Count;
 use test_stands::{again, pop_two, push_two};
 
-// A node, what it is asked for, and the number of its fault.
-type Row = (u8, Asked, u8);
+// A node, what it is asked for, the number of its fault, and whether its last turn has posted a packet by then.
+type Row = (u8, Asked, u8, bool);
 
-// The turn of the second actor on the Prepare of the first one fails, and the actor has ended.
+// The turn of the second actor on the Prepare of the first one fails and posts nothing, and the actor has ended.
 const ENDING: &[Row] = &[
-    (1, Asked::Start, 0),
-    (1, Asked::Turn, 0),
-    (2, Asked::Turn, 61),
-    (2, Asked::Turn, 71),
-    (2, Asked::Tick, 71),
+    (1, Asked::Start, 0, false),
+    (1, Asked::Turn, 0, true),
+    (2, Asked::Turn, 61, false),
+    (2, Asked::Turn, 71, false),
+    (2, Asked::Tick, 71, false),
 ];
 
 fn ends(rt: &impl Abort, actors: &mut [Counting<'_>]) {
-    for (node, asked, number) in ENDING {
+    for (node, asked, number, posts) in ENDING {
         let found = fault_at(rt, actors, *node, *asked);
         check_eq!(rt; found, *number);
+        let posted = at(rt, actors, *node).has_posted();
+        check_eq!(rt; posted, *posts);
     }
 }
 
@@ -45,17 +48,17 @@ fn restart_second(alloc: Global, actors: &mut Vec<Counting<'_>>) -> bool {
 
 const BOTH: &[Told] = &[('b', 1, 1, 0), ('b', 2, 2, 0)];
 
-// The first actor leads in its next ballot, and what the second one has pending is applied.
-const GOING_ON: Script = &[
-    (2, Asked::Tick),
-    ALL,
-    (1, Asked::Start),
-    ALL,
-    (2, Asked::Tick),
-    ALL,
-];
+// The second actor, which has begun again, reports its boot, and the first one begins its next ballot.
+const STARTING: Script = &[(2, Asked::Tick), (1, Asked::Start)];
+
+const NEXT: Ballot = Ballot { round: 2, node: 1 };
+
+// What the second actor has pending is applied.
+const GOING_ON: Script = &[ALL, (2, Asked::Tick), ALL];
 
 fn goes_on(rt: &impl Abort, actors: &mut [Counting<'_>], heard: &mut Heard<Sum>) {
+    goes(rt, actors, heard, STARTING);
+    check!(rt; at(rt, actors, 1).promised() == Some(NEXT));
     goes(rt, actors, heard, GOING_ON);
     have_log(rt, actors, BOTH);
     check!(rt; heard.faults.is_empty());

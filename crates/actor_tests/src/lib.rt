@@ -28,7 +28,11 @@ mod realms;
 #[cfg(test)]
 mod refusing;
 #[cfg(test)]
+mod rotating;
+#[cfg(test)]
 mod sessions;
+#[cfg(test)]
+mod telling;
 #[cfg(test)]
 mod threads;
 #[cfg(test)]

@@ -25,9 +25,9 @@ pub fn realm(rt: &impl Abort, alloc: Global) -> Realm
     Realm::new(alloc, name, LIMITS)
 }
 
-/// A client says this; the draw for it is 7.
+/// A client says this; the draw for it is 1.
 pub fn said(rt: &impl Abort, alloc: Global, text: &str) -> Act {
-    let draw = Id::new(7).expect(rt, "an id");
+    let draw = Id::new(1).expect(rt, "an id");
     let Ok(read) = read(alloc, text.as_bytes()) else {
         panic!(rt; "no memory for what is read")
     };

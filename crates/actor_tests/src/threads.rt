@@ -3,11 +3,12 @@ ghost use Rattle.mail_table.specs.Seats.{Owns};
 
 use crate::actors::{Life, live};
 use crate::check::Check;
+use crate::counting::Sum;
 use crate::hearing::Heard;
-use actor_run::{Feed, Gate, Seen, run_node};
+use crate::telling::{Adding, Asks, Telling, is_replay, run_telling};
+use actor_run::{Gate, Seen};
 use mail_table::Mail;
-use node_actor::{Actor, Event};
-use paxos_packets::Transport;
+use node_actor::Event;
 use std::alloc::Global;
 use std::process::Abort;
 use std::sync::atomic::{AtomicU64, Ordering};
@@ -16,11 +17,6 @@ use std::thread::{Threads, join_mut};
 use store_keeper::MemKeeper;
 use test_checks::{check, check_eq};
 use test_machines::{Count, Number};
-
-type Adding = Actor<Count, MemKeeper<Number>>;
-
-// What a node says: to whom, and the sum so far.
-type Sum = (Transport, u64);
 
 // How many acts each node takes, how many of them may wait for their answers, after how many turns in which nothing came it ticks, in a row or
 // not, and after how many it lets other threads go first. No number of turns ends a run: if the host takes a processor away, one thread makes
@@ -119,12 +115,8 @@ impl<'a> Acts<'a> {
     }
 }
 
-impl<'a> Feed<Number, Sum> for Acts<'a> {
-    ghost saw = { λ feed given got. Unit {0} };
-
-    fn next(&mut self, seen: Seen) -> Option<Event<Number>>
-        ensures { Unit {0} }
-    {
+impl<'a> Asks for Acts<'a> {
+    fn next(&mut self, seen: Seen) -> Option<Event<Number>> {
         if self.starts {
             self.starts = false;
             return Some(Event::Start { node: self.node });
@@ -135,16 +127,14 @@ impl<'a> Feed<Number, Sum> for Acts<'a> {
         self.tick(seen.from.is_some())
     }
 
-    fn hand(&mut self, says: Vec<Sum>)
-        ensures { Unit {0} }
-    {
+    fn hear(&mut self, says: &[Sum]) {
         for said in says {
-            self.count(said);
+            self.count(*said);
         }
     }
 }
 
-// What came of the run of a node: how many answers came in order, whether anything else came, and how long its log was.
+// What came of the run of a node: how many answers came in order, whether anything is strange, and how long its log was.
 #[derive(Clone, Copy)]
 struct Ran {
     answered: u32,
@@ -152,28 +142,30 @@ struct Ran {
     length: usize,
 }
 
-// The run of a node.
-fn run(mail: &Mail<Number>, actor: &mut Adding, node: u8, served: &AtomicU64) -> Ran
+// The run of a node. Its log is to have what its feed gave, and what its feed got is to be what that log says.
+fn run(alloc: Global, mail: &Mail<Number>, actor: &mut Adding, node: u8, served: &AtomicU64) -> Ran
     requires { Owns mail.now actor.old.seat }
     ensures { Owns mail.now actor.new.seat }
 {
-    let mut feed = Acts::of(node, served);
+    let mut feed = Telling::of(alloc, Acts::of(node, served));
     let gate = Until { served };
-    let done = run_node(mail, actor, &gate, &mut feed);
-    // who ends before the others are served, by a fault, ends them, too
+    let good = run_telling(mail, actor, &gate, &mut feed);
+    let same = is_replay(alloc, node, actor.log(), &feed);
+    // a run that a fault ends before the others are served ends them, too
     served.fetch_add(3, Ordering::SeqCst);
-    let strange = feed.strange || done.is_err();
-    drop(done);
-    Ran {
-        answered: feed.answered,
-        strange,
+    let ran = Ran {
+        answered: feed.asks.answered,
+        strange: feed.asks.strange || !good || !same,
         length: actor.log().len(),
-    }
+    };
+    drop(feed);
+    ran
 }
 
 // Three runs side by side.
 fn run_all<R: Threads>(
     rt: &R,
+    alloc: Global,
     mail: &Mail<Number>,
     one: &mut Adding,
     two: &mut Adding,
@@ -192,7 +184,7 @@ fn run_all<R: Threads>(
         &mut || -> Ran
             requires { Owns mail.now one.now.seat }
             ensures { Owns mail.entry.now one.exit.now.seat }
-        { run(mail, one, 1, &served) },
+        { run(alloc, mail, one, 1, &served) },
         &mut || -> (Ran, Ran)
             requires two { Owns mail.now two.now.seat }
             requires three { Owns mail.now three.now.seat }
@@ -203,11 +195,11 @@ fn run_all<R: Threads>(
                 &mut || -> Ran
                     requires { Owns mail.now two.now.seat }
                     ensures { Owns mail.entry.now two.exit.now.seat }
-                { run(mail, two, 2, &served) },
+                { run(alloc, mail, two, 2, &served) },
                 &mut || -> Ran
                     requires { Owns mail.now three.now.seat }
                     ensures { Owns mail.entry.now three.exit.now.seat }
-                { run(mail, three, 3, &served) },
+                { run(alloc, mail, three, 3, &served) },
             )
         },
     )
@@ -250,7 +242,7 @@ impl<R: Abort + Threads> Life<Count, MemKeeper<Number>> for Side<'_, R> {
         three: &mut Adding,
         _heard: &mut Heard<Sum>,
     ) -> bool {
-        let (first, (second, third)) = run_all(self.rt, mail, one, two, three);
+        let (first, (second, third)) = run_all(self.rt, self.alloc, mail, one, two, three);
         let (first, second) = (ended(self.rt, first), ended(self.rt, second));
         self.lengths = [first, second, ended(self.rt, third), 0, 0, 0, 0];
         false

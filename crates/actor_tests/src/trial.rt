@@ -2,6 +2,7 @@
 use crate::counting::{Counting, Failing, fails, serve_and_leave};
 use crate::crashing::outlives;
 use crate::refusing::{begins_again, first_does, refuses};
+use crate::rotating::rotates;
 use std::alloc::Global;
 use std::process::Abort;
 use store_keeper::MemKeeper;
@@ -16,6 +17,7 @@ pub enum Trial {
     Outlives,
     Fills,
     Rests,
+    Rotates,
     Restarts,
     Refuses,
 }
@@ -48,6 +50,7 @@ impl<R: Abort> Plays<Count, MemKeeper<Number>> for Trying<&R> {
             Trial::Outlives => outlives(rt, alloc, actors),
             Trial::Fills => first_does(rt, actors.as_mut_slice(), true),
             Trial::Rests => first_does(rt, actors.as_mut_slice(), false),
+            Trial::Rotates => rotates(rt, actors.as_mut_slice()),
             Trial::Restarts => try_first(rt, alloc, actors, true),
             Trial::Refuses => try_first(rt, alloc, actors, false),
         }

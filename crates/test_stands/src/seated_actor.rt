@@ -6,7 +6,7 @@ ghost use Rattle.paxos_packets.specs.Members.{IsMember};
 
 use actor_run::{Feed, Gate, run_node};
 use mail_table::{Mail, NodeSeat};
-use node_actor::{Actor, ActorFault, Entry, Keeper, Machine, Members, Post};
+use node_actor::{Actor, ActorFault, Ballot, Entry, Keeper, Machine, Members, Post};
 use replica_machine::AppliedLog;
 use std::alloc::Global;
 
@@ -127,19 +127,34 @@ impl<'a, M: Machine, K: Keeper<M::Body>> SeatedActor<'a, M, K> {
         self.actor.has_pending()
     }
 
+    /// Returns the greatest ballot that the node has promised, if any.
+    pub fn promised(&self) -> Option<Ballot> {
+        self.actor.promised()
+    }
+
+    /// Returns the peer whose packet its last turn treated, if it treated one.
+    pub fn from(&self) -> Option<u8> {
+        self.actor.from()
+    }
+
     /// Returns whether its last turn treated a packet.
     pub fn has_treated(&self) -> bool {
-        self.actor.from().is_some()
+        self.from().is_some()
+    }
+
+    /// Returns whether its last turn posted a packet.
+    pub fn has_posted(&self) -> bool {
+        let posted = self.actor.posted();
+        let mut any = false;
+        for node in 1..=MOST_NODES {
+            any = any || posted.contains(node);
+        }
+        any
     }
 
     /// Returns whether its last turn posted a packet, or treated one.
     pub fn has_moved(&self) -> bool {
-        let posted = self.actor.posted();
-        let mut moved = self.has_treated();
-        for node in 1..=MOST_NODES {
-            moved = moved || posted.contains(node);
-        }
-        moved
+        self.has_treated() || self.has_posted()
     }
 
     /// Takes the node down, and returns what is left of it, and its store.
