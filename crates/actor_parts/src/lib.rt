@@ -8,5 +8,10 @@ mod parts;
 mod storing;
 mod taking;
 
+pub use actor_outboxes::Outboxes;
 pub use fault::ActorFault;
 pub use parts::Parts;
+pub use paxos_node::{Event, Node, NodeFault, Outcome};
+pub use paxos_packets::{Ballot, Entry, Members, Packet, Rows};
+pub use replica_machine::{AppliedLog, Machine};
+pub use store_keeper::{Keeper, KeeperFault};
