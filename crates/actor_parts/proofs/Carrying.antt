@@ -2,7 +2,7 @@
 use Rattle.std.proofs.Common.{◌≡◌, inl, inr, ℕ, ◌<◌, Bool, not, true, false, cond, Option, Some, None, Result, Ok, Err, List, [], ◌++◌, sym, ap, subst, ◌∙◌, refl}
 use Rattle.std.specs.Prelude.{OnErr}
 use Rattle.std.proofs.lemmas.Bool.{false≢true}
-use Rattle.std.proofs.lemmas.List.{append_assoc, append-nil}
+use Rattle.std.proofs.lemmas.List.{append-nil}
 use Rattle.std.specs.declared.vec.Vec.{Vec}
 use Rattle.std.specs.declared.alloc.Global.{Global}
 use Rattle.paxos_packets.specs.declared.entry.Entry.{Entry}
@@ -62,9 +62,6 @@ prefix_whole xs ys e = ([], append-nil xs ∙ e)
 
 pub prefix_to : {A : Type 0} (xs ys zs : List A) → IsPrefixOf xs ys → ys ≡ zs → IsPrefixOf xs zs
 prefix_to xs ys zs p e = (p.0, p.1 ∙ e)
-
-pub prefix_behind : {A : Type 0} (log xs ys rest all : List A) → log ≡ xs ++ ys → ys ++ rest ≡ all → IsPrefixOf log (xs ++ all)
-prefix_behind log xs ys rest all e f = (rest, ap (λ l. l ++ rest) e ∙ append_assoc xs ys rest ∙ ap (λ l. xs ++ l) f)
 
 pub on_err_still : {A E : Type 0} (r : Result A E) (P : Type 0) → P → OnErr r P
 on_err_still (Ok x) P h = tt

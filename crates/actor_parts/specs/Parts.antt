@@ -1,8 +1,8 @@
 -- What an actor is made of, as callers see it (docs/CONSENSUS.md, "A node with its store").
-use Rattle.std.specs.Prelude.{◌≡◌, ℕ, ◌<◌, Bool, true, false, Option, Some, None, List, [], ◌++◌, length}
+use Rattle.std.specs.Prelude.{◌≡◌, ℕ, Bool, true, false, Option, Some, None, List, [], ◌++◌}
 use Rattle.paxos_packets.specs.Members.{IsMember}
 use Rattle.paxos_packets.specs.declared.rows.Rows.{Rows}
-use Rattle.replica_machine.specs.Log.{LogState, learned_in}
+use Rattle.replica_machine.specs.Log.{LogState}
 use Rattle.paxos_node.specs.declared.event.Event.{Event}
 use Rattle.paxos_node.specs.declared.outcome.Outcome.{Outcome}
 use Rattle.paxos_planning.specs.Node.{NodeState}
@@ -53,7 +53,7 @@ module _ {B M K : Type 0} where
     pub followed : a.log.applied ≡ a.node.state.applied
     pub alive : a.log.failed ≡ false
     pub committed : a.failed ≡ None
-    pub ahead : (slot : ℕ) → length a.log.applied < slot → learned_in slot a.log ≡ None
+    pub ahead : a.log.ahead ≡ []
 
   -- what holds of every actor
   pub record IsSound (same : B → B → Bool) (holds : K → Rows B → Type 0) (is_failed : K → Bool) (a : Parted B M K) : Type 0 where

@@ -1,5 +1,5 @@
 -- What an actor makes of an outcome that its node has planned.
-use Rattle.std.specs.Prelude.{◌≡◌, ◌⊎◌, ℕ, ◌<◌, true, false, Some, None, Result, Ok, Err, List, [], ◌∷◌, ◌++◌, length}
+use Rattle.std.specs.Prelude.{◌≡◌, ◌⊎◌, ℕ, ◌<◌, true, false, Result, Ok, Err, List, [], ◌++◌}
 use Rattle.std.specs.declared.vec.Vec.{Vec}
 use Rattle.std.specs.declared.alloc.Global.{Global}
 use Rattle.paxos_packets.specs.declared.entry.Entry.{Entry}
@@ -8,8 +8,8 @@ use Rattle.paxos_packets.specs.declared.rows.Rows.{Rows}
 use Rattle.paxos_acceptor.specs.Acceptor as accepting
 use Rattle.store_keeper.specs.declared.fault.KeeperFault.{KeeperFault}
 use Rattle.store_keeper.specs.declared.fault.KeeperFault.TheVariants as store
-use Rattle.replica_machine.specs.Log.{LogState, Follows, learned_in}
-use Rattle.replica_machine.specs.Replay.{Machine, sayings_behind}
+use Rattle.replica_machine.specs.Log.{LogState, Follows}
+use Rattle.replica_machine.specs.Replay.{Machine}
 use Rattle.actor_outboxes.specs.Outboxes.{WaitBehind}
 use Rattle.paxos_node.specs.declared.outcome.Outcome.{Outcome}
 use Rattle.paxos_planning.specs.Node.{NodeState}
@@ -28,17 +28,10 @@ module _ {B K : Type 0} (finds : K → Rows B → Type 0) (failures : K → ℕ)
 
 -- nothing is learned ahead of what is applied
 abbrev pub IsAtEnd : {B M : Type 0} → LogState B M → Type 0
-IsAtEnd log = (slot : ℕ) → length log.applied < slot → learned_in slot log ≡ None
+IsAtEnd log = log.ahead ≡ []
 
 -- what a machine says and becomes at entries after its log
 module _ {B S Y M : Type 0} (from : S → Machine B S Y) (content : M → S) where
-  -- the entry is applied at the end of the log, and these are the sayings at it
-  pub record SaysAt (entry : Entry B) (old new : LogState B M) (said : List Y) : Type 0 where
-    pub applied : new.applied ≡ old.applied ++ entry ∷ []
-    pub alive : new.failed ≡ false
-    pub says : (first : S) → Follows from content first old → said ≡ sayings_behind (from first) old.applied (entry ∷ [])
-    pub follows : (first : S) → Follows from content first old → Follows from content first new
-
   -- the entries are applied at the end of the log, and these are the sayings at them to the transports of a node in a boot
   pub record Applied (node boot : ℕ) (entries : List (Entry B)) (old new : LogState B M) (said : List Y) : Type 0 where
     pub applied : new.applied ≡ old.applied ++ entries

@@ -1,11 +1,12 @@
 // What a machine says at the entries that its node applies.
-ghost use Rattle.std.specs.Prelude.{◌≡◌, ◌++◌, ◌∷◌, [], false, Some, filter, IfOk, OnOk, OnErr, IfSome};
-ghost use Rattle.replica_machine.specs.Log.{machine_from, next_slot, is_slot};
+ghost use Rattle.std.specs.Prelude.{◌≡◌, ◌++◌, ◌∷◌, [], false, filter, map, IfOk, OnOk, OnErr};
+ghost use Rattle.std.specs.List.{flat_map};
+ghost use Rattle.replica_machine.specs.Log.{machine_from};
 ghost use Rattle.actor_parts.specs.Parts.{IsPrefixOf};
 ghost use Rattle.actor_parts.specs.Handing.{is_of};
-ghost use Rattle.actor_parts.specs.Steps.{IsAtEnd, SaysAt, Applied};
+ghost use Rattle.actor_parts.specs.Steps.{IsAtEnd, Applied};
 
-use paxos_packets::{Entry, Slot, Transport};
+use paxos_packets::{Entry, Transport};
 use replica_machine::{AppliedLog, Failed, Machine};
 use std::alloc::Global;
 
@@ -21,45 +22,30 @@ pub(crate) fn apply_all<M: Machine>(
     requires end { IsAtEnd log.old }
     ensures ok { IfOk result (λ says.
         Applied (machine_from M.next M.says M.to) M.content node boot entries.items log.old log.new says.items) }
-    ensures end { OnOk result (IsAtEnd log.new) }
+    ensures end { IsAtEnd log.new }
     ensures err { OnErr result (IsPrefixOf log.new.applied (log.old.applied ++ entries.items)) }
 {
+    let Ok(said) = log.append(entries) else {
+        return Err(Failed);
+    };
+    collect_own::<M>(alloc, said, node, boot)
+}
+
+// Returns those of what is said in each slot that are for the transports of this node in this boot.
+fn collect_own<M: Machine>(
+    alloc: Global,
+    said: Vec<Vec<M::Say>>,
+    node: u8,
+    boot: u64,
+) -> Result<Vec<M::Say>, Failed>
+    ensures { IfOk result (λ says. says.items
+        ≡ filter (λ y. is_of node boot (M.to y)) (flat_map (λ ys. ys) (map (λ more. more.items) said.items))) }
+{
     let mut says = Vec::new(alloc);
-    for entry in entries {
-        let more = apply_one(log, entry)?;
+    for more in said {
         retain_own::<M>(&mut says, more, node, boot)?;
     }
     Ok(says)
-}
-
-// Applies the entry at the end of the log. Returns what the machine says at it.
-fn apply_one<M: Machine>(
-    log: &mut AppliedLog<M>,
-    entry: Entry<M::Body>,
-) -> Result<Vec<M::Say>, Failed>
-    requires alive { log.old.failed ≡ false }
-    requires end { IsAtEnd log.old }
-    ensures ok { IfOk result (λ says. SaysAt (machine_from M.next M.says M.to) M.content entry log.old log.new says.items) }
-    ensures end { OnOk result (IsAtEnd log.new) }
-    ensures err { OnErr result (log.new.applied ≡ log.old.applied) }
-{
-    let Some(slot) = next_slot(log) else {
-        return Err(Failed);
-    };
-    let Ok(()) = log.learn(slot, entry) else {
-        return Err(Failed);
-    };
-    let Some(step) = log.advance()? else {
-        return Err(Failed);
-    };
-    Ok(step.says)
-}
-
-// Returns the slot that is applied next, `None` after the last one.
-fn next_slot<M: Machine>(log: &AppliedLog<M>) -> Option<Slot>
-    ensures { IfSome result (λ slot. slot ≡ next_slot log.now) }
-{
-    Slot::new((log.applied().len() as u64).saturating_add(1))
 }
 
 // Appends those of the sayings that are for the transports of this node in this boot.

@@ -238,7 +238,7 @@ impl<M: Machine, K: Keeper<M::Body>> Parts<M, K> {
         requires end { IsAtEnd self.old.log }
         ensures ok { IfOk result (λ says. Applied (machine_from M.next M.says M.to) M.content self.old.waiting.me boot entries
             self.old.log self.new.log says.items) }
-        ensures end { OnOk result (IsAtEnd self.new.log) }
+        ensures end { IsAtEnd self.new.log }
         ensures err { OnErr result (IsPrefixOf self.new.log.applied (self.old.log.applied ++ entries)) }
         ensures rest { OnlyLog self.old self.new }
     {

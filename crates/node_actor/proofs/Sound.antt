@@ -1,20 +1,13 @@
 -- An actor that begins is sound.
-use Rattle.std.proofs.Common.{◌≡◌, ◌∙◌, Bool, true, false, cond, Option, None, [], refl, sym, ap, subst}
-use Rattle.std.specs.Prelude.{nat_le}
+use Rattle.std.proofs.Common.{◌≡◌, ◌∙◌, Bool, [], refl, sym, ap, subst}
 use Rattle.paxos_packets.specs.Members.{IsMember}
 use Rattle.paxos_packets.specs.declared.rows.Rows.{Rows}
 use Rattle.actor_outboxes.specs.Outboxes.{Waiting}
-use Rattle.replica_machine.specs.Log.{is_slot}
 use Rattle.paxos_node.specs.Held.{Held}
 use Rattle.mail_table.specs.Seats.{Seated}
 use Rattle.actor_parts.specs.Parts.{first_parts, IsSound}
 use Rattle.node_actor.specs.Posts.{Posted}
 use Rattle.node_actor.specs.Beginning.{Begins}
-
-none_in : {A : Type 0} (a b : Bool) → cond {A = Option A} a (cond b None None) None ≡ None
-none_in true true = refl
-none_in true false = refl
-none_in false b = refl
 
 module _ {B M K : Type 0} (same : B → B → Bool) (holds : K → Rows B → Type 0) (is_faithful : K → Type 0) (is_failed : K → Bool) where
   pub sound_first : (p : Posted B) (old keeper : K) (h : Held B) (w : Waiting B) (s : Seated B) (machine : M) → IsMember p.members p.me
@@ -31,7 +24,7 @@ module _ {B M K : Type 0} (same : B → B → Bool) (holds : K → Rows B → Ty
           followed = ap (λ x. x.applied) (sym b.node.state);
           alive = refl;
           committed = refl;
-          ahead = λ slot low. none_in (is_slot slot) (nat_le slot 0);
+          ahead = refl;
         };
         failed = λ o e. absurd cc;
         front = λ up. ([], ap (λ x. x.applied) (sym b.node.state));

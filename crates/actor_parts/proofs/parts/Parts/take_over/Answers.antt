@@ -7,7 +7,7 @@ pub returns-clause-follows : goal.returns-clause-follows
 returns-clause-follows g c =
     taken _ _ c.args.outcome c.args.self.now c.adopt-applied.new.self c.apply.new.self c.answer.new.self c.boot-boot.result c.adopt-applied.result
     c.in-Ok.says.items c.adopt-applied.ensures.adopts c.in-Ok.ensures.ok c.adopt-applied.ensures.applied c.boot-boot.ensures c.apply.ensures.rest
-    c.in-Ok.ensures.end c.answer.result c.answer.ensures
+    c.apply.ensures.end c.answer.result c.answer.ensures
 
 pub returns-clause-who : goal.returns-clause-who
 returns-clause-who g c =
