@@ -3,6 +3,7 @@ pub mod Covering
 pub mod Parcels
 pub mod Going
 pub mod Posting
+pub mod Loading
 pub mod Fetching
 pub mod Moving
 pub mod Naming

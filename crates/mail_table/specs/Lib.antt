@@ -4,3 +4,4 @@ pub mod Boxes
 pub mod Offices
 pub mod Seats
 pub mod Gathered
+pub mod Laws

@@ -5,6 +5,7 @@
 mod fault;
 mod founding;
 mod gathering;
+pub mod laws;
 mod mail;
 mod name;
 mod office;

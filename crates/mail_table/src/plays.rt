@@ -1,5 +1,5 @@
 //! The rule of the table, and what each step on it means.
-ghost use Rattle.mail_table.specs.Boxes.{Kept, rising, behind_first, first_alone, Claims, SeeksEmpty, Delivers, Fetches, SeeksFull, Clears, Advances, Renews};
+ghost use Rattle.mail_table.specs.Boxes.{Kept, rising, behind_first, first_alone, Claims, Delivers, Fetches, Clears, Advances, Renews, SeeksEmpty, SeeksFull};
 
 use crate::part::View;
 use atomic_table::{Join, Play, Seat, Split, Table, TableRule};
@@ -22,18 +22,13 @@ pub(crate) type Boxes<B> = Table<Option<Packet<B>>, View<B>, u64, InOrder, Globa
 
 pub(crate) type Token<B> = Seat<Option<Packet<B>>, View<B>>;
 
+// The eight kinds of step that the protocol has, and no others: claim, deliver, fetch, clear, advance, renew, deal, collect.
+
 // A box is claimed by its sender, or the try is lost.
 pub(crate) struct Claim;
 
 impl<B> Play<Option<Packet<B>>, View<B>> for Claim {
     ghost then = { Claims };
-}
-
-// The box is found to be empty, or its sender's try is lost.
-pub(crate) struct SeekEmpty;
-
-impl<B> Play<Option<Packet<B>>, View<B>> for SeekEmpty {
-    ghost then = { SeeksEmpty };
 }
 
 // The packet goes into the claimed box.
@@ -48,13 +43,6 @@ pub(crate) struct Fetch;
 
 impl<B> Play<Option<Packet<B>>, View<B>> for Fetch {
     ghost then = { Fetches };
-}
-
-// The box is found to be full, or its addressee's try is lost.
-pub(crate) struct SeekFull;
-
-impl<B> Play<Option<Packet<B>>, View<B>> for SeekFull {
-    ghost then = { SeeksFull };
 }
 
 // The box is empty again.
@@ -133,4 +121,21 @@ impl<B> Join<View<B>> for Collect {
     ghost both = { λ v w. v ++ w };
 
     ghost spent = { [] };
+}
+
+// The two loads, before a claim and before a fetch. They are no steps of the protocol: each leaves every word and every slot as it was, and of
+// the views it changes at most that of its seat, whose try is lost then (`laws::loads`).
+
+// The box is found to be empty, or its sender's try is lost.
+pub(crate) struct SeekEmpty;
+
+impl<B> Play<Option<Packet<B>>, View<B>> for SeekEmpty {
+    ghost then = { SeeksEmpty };
+}
+
+// The box is found to be full, or its addressee's try is lost.
+pub(crate) struct SeekFull;
+
+impl<B> Play<Option<Packet<B>>, View<B>> for SeekFull {
+    ghost then = { SeeksFull };
 }
