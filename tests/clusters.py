@@ -1,6 +1,5 @@
-"""What tests/serve, tests/restart, tests/stall and tests/burst share: a client, a cluster of the built program, publishers and
-subscribers at full speed, threads that stand still, and processors that are busy. Every wait is bounded, and end_all ends what was
-started.
+"""What the tests of a served cluster share: a client, a cluster of the built program, publishers and subscribers at full speed, threads
+that stand still, and processors that are busy. Every wait is bounded, and end_all ends what was started.
 
 It is a module, and also the program of its own helper processes (class Helper): clusters.py WORK OPTIONS, where WORK is `publish` or
 `read`. WAMPD names a program to use in place of crates/wampd/out/wampd.
@@ -230,10 +229,20 @@ def welcomed(port, limit, begin=None):
 # ---- clusters
 
 
+# The ports that were given out last: a cluster that was just started may not listen yet.
+GIVEN_OUT = collections.deque(maxlen=64)
+GIVING_OUT = threading.Lock()
+
+
 def free_port():
-    """Returns the first of as many free ports as there are nodes, below those that the system hands out."""
+    """Returns the first of as many free ports as there are nodes, below those that the system hands out. Threads that call it at the same
+    time get different ones."""
     for _ in range(1000):
-        port = random.randrange(10000, 32000)
+        port = random.randrange(10000, 32000, NODES)
+        with GIVING_OUT:
+            if port in GIVEN_OUT:
+                continue
+            GIVEN_OUT.append(port)
         try:
             for below in range(NODES):
                 with socket.socket() as probe:
@@ -245,15 +254,16 @@ def free_port():
 
 
 class Cluster:
-    """A running `wampd serve`, or another program in its place."""
+    """A running `wampd serve`, or another program in its place; `environment` is added to this process's own."""
 
     running = []
 
-    def __init__(self, *options, port=None, words=None):
+    def __init__(self, *options, port=None, words=None, environment=None):
         self.port = port or free_port()
         self.errors = tempfile.NamedTemporaryFile("a")
         words = words or [PROGRAM, "serve", "--nodes", str(NODES), "--port", str(self.port), "--key", "1", *options]
-        self.child = subprocess.Popen(words, stdin=subprocess.PIPE, stdout=subprocess.PIPE, stderr=self.errors)
+        given = {**os.environ, **(environment or {})}
+        self.child = subprocess.Popen(words, stdin=subprocess.PIPE, stdout=subprocess.PIPE, stderr=self.errors, env=given)
         Cluster.running.append(self)
 
     def up(self):
@@ -345,6 +355,14 @@ class Cluster:
         except subprocess.TimeoutExpired:
             raise Fault("it does not end") from None
 
+    def ends_within(self, seconds):
+        """Returns whether it ends by itself within this time."""
+        try:
+            self.child.wait(seconds)
+            return True
+        except subprocess.TimeoutExpired:
+            return False
+
     def tell(self, line):
         """Writes a line to its standard input."""
         self.child.stdin.write(line + b"\n")
@@ -359,6 +377,12 @@ class Cluster:
     def kill(self):
         self.child.kill()
         self.child.wait()
+
+    def forget(self):
+        """Closes the files of a cluster that has ended."""
+        Cluster.running.remove(self)
+        for file in (self.child.stdin, self.child.stdout, self.errors):
+            file.close()
 
     @staticmethod
     def end_all():
@@ -507,11 +531,15 @@ class Publisher:
 
 class Load:
     """Publishers, one at each of these ports. Each keeps `flight` acknowledged publications under way, and makes `each` of them in all, if
-    that is given. The arguments of a publication are its publisher's number, its own number, from 0 on, and `octets` letters."""
+    that is given; after an acknowledgement it waits for `pause` seconds. The arguments of a publication are its publisher's number, its own
+    number, from 0 on, and `octets` letters."""
 
-    def __init__(self, ports, flight=16, each=None, topic="test.topic", octets=32):
+    def __init__(self, ports, flight=16, each=None, topic="test.topic", octets=32, pause=0):
         self.flight = flight
         self.each = each
+        self.pause = pause
+        # The publishers that pause: until when, and how many publications each makes then.
+        self.pausing = collections.deque()
         self.publishers = [Publisher(port, number, topic, octets) for number, port in enumerate(ports)]
         self.poll = select.epoll()
         self.at = {}
@@ -544,6 +572,8 @@ class Load:
         """Takes what comes within `seconds`, and sends as many new publications. Returns which of the other files that it polls have
         something to read."""
         others = []
+        if self.pausing:
+            seconds = min(seconds, max(0, self.pausing[0][0] - time.monotonic()))
         for number, _ in self.poll.poll(seconds):
             publisher = self.at.get(number)
             if publisher is None:
@@ -554,8 +584,14 @@ class Load:
                 self.took += took
                 self.done += len(took)
                 self.note(time.monotonic())
-                if self.is_open:
+                if self.pause:
+                    self.pausing.append((time.monotonic() + self.pause, publisher, len(took)))
+                elif self.is_open:
                     self.send(publisher, len(took))
+        while self.pausing and self.pausing[0][0] <= time.monotonic():
+            _, publisher, count = self.pausing.popleft()
+            if self.is_open:
+                self.send(publisher, count)
         return others
 
     def note(self, now):
@@ -667,10 +703,10 @@ def say(value):
     print(json.dumps(value), flush=True)
 
 
-def work_publish(ports, flight=16, topic="test.topic", octets=32, limit=PATIENCE):
+def work_publish(ports, flight=16, topic="test.topic", octets=32, pause=0, limit=PATIENCE):
     """Runs a Load that begins with the first line and ends with the next, and then says what it saw. Gives up a publication that is not
     acknowledged `limit` seconds later."""
-    load = Load(ports, flight, topic=topic, octets=octets)
+    load = Load(ports, flight, topic=topic, octets=octets, pause=pause)
     say("ready")
     if not sys.stdin.buffer.readline():
         return
