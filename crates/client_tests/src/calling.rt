@@ -251,6 +251,28 @@ const CALLERS_AND_CALLEES_LEAVE: &[Row] = &[
     (2, 3, "[48,3,{},\"p\"]", "1 [68,1,2,{}];"),
     (2, 3, "hang up", "1 [69,1,{\"mode\":\"killnowait\"}];"),
     (1, 3, "[70,1,{}]", ""),
+    (3, 1, "connect", ""),
+    (
+        3,
+        7,
+        "[1,\"realm2\",{}]",
+        "3 [3,{},\"wamp.error.no_such_realm\"];3 close;",
+    ),
+    (3, 1, "connect", ""),
+    (
+        3,
+        7,
+        HELLO,
+        "3 [2,7,{\"roles\":{\"broker\":{\"features\":{\"pattern_based_subscrip;",
+    ),
+    (3, 3, "[48,3,{},\"p\"]", "1 [68,2,2,{}];"),
+    (
+        1,
+        3,
+        "[3,{},\"x\"]",
+        "3 [8,48,3,{},\"wamp.error.canceled\"];1 close;",
+    ),
+    (1, 3, "[70,2,{}]", ""),
 ];
 
 #[test]
