@@ -17,6 +17,8 @@ mod house;
 #[cfg(test)]
 mod lanes;
 #[cfg(test)]
+mod narrow;
+#[cfg(test)]
 mod one_client;
 #[cfg(test)]
 mod reading;

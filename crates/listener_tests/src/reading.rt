@@ -230,3 +230,38 @@ fn ten_thousand_messages_go_through_a_ring_of_64(rt: HostRuntime) {
     drop(octets);
     check_eq!(&rt; messages, COUNT);
 }
+
+// A stream that has no end: it gives these octets at each read, of which it counts those that ask for some.
+#[derive(Drop)]
+struct Endless<'a> {
+    octets: &'a [u8],
+    reads: u32,
+}
+
+impl Read for Endless<'_> {
+    fn read(&mut self, buf: &mut [u8]) -> io::Result<usize> {
+        if !buf.is_empty() {
+            self.reads = self.reads.saturating_add(1);
+        }
+        let mut octets = self.octets;
+        octets.read(buf)
+    }
+}
+
+// Three turns are spent on such a stream: so many reads are made, and a ring of 16 has these items then.
+fn is_given_up(rt: &impl Abort, alloc: Global, octets: &[u8], reads: u32, letters: &str) {
+    let (producer, mut consumer) = RingBuffer::new(alloc, 16).expect(rt, "a ring");
+    let mut stream = Endless { octets, reads: 0 };
+    let outcome = read_all(rt, alloc, &mut stream, producer, 3);
+    check!(rt; outcome == Err(ListenFault::Turns), letters);
+    check_eq!(rt; stream.reads, reads, letters);
+    are_next(rt, &mut consumer, letters);
+    drop(consumer);
+}
+
+// Each four octets are a message without a text: three reads of 16 octets have twelve, and one of 64 fills the ring.
+#[test]
+fn gives_up_a_stream_that_has_no_end(rt: HostRuntime) {
+    is_given_up(&rt, rt.alloc(), &[0; 16], 3, "CBBBBBBBBBBBB");
+    is_given_up(&rt, rt.alloc(), &[0; 64], 1, "CBBBBBBBBBBBBBBB");
+}
