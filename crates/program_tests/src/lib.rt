@@ -1,5 +1,5 @@
 //! Tests of the program's calls over the public surface of `cluster_program`: the command line, scripts, a served cluster; and of the
-//! acceptor's store over SQLite, and of an actor over it, by their public calls. A crate with tests is proved twice, so they are here.
+//! acceptor's store over SQLite, by its public calls. A crate with tests is proved twice, so they are here.
 #![tactic(auto)]
 
 #[cfg(test)]
@@ -17,12 +17,8 @@ mod script_flushes;
 #[cfg(test)]
 mod script_lines;
 #[cfg(test)]
-mod seated_actor;
-#[cfg(test)]
 mod serve;
 #[cfg(test)]
 mod sql;
-#[cfg(test)]
-mod store_actors;
 #[cfg(test)]
 mod store_acts;

@@ -6,7 +6,7 @@ ghost use Rattle.paxos_packets.specs.Members.{IsMember};
 
 use actor_run::{Feed, Gate, run_node};
 use mail_table::{Mail, NodeSeat};
-use node_actor::{Actor, ActorFault, Ballot, Entry, Keeper, Machine, Members, Post};
+use node_actor::{Actor, ActorFault, Ballot, Entry, Keeper, Machine, Members, Post, Rows};
 use replica_machine::AppliedLog;
 use std::alloc::Global;
 
@@ -35,15 +35,15 @@ pub struct Left<'a, M: Machine> {
     ghost owned: { Owns mail.now post.seat },
 }
 
-// Opens an actor for a node that was never opened; `None` if it does not open, and what is left then is dropped.
-pub(crate) fn opened<'a, M: Machine, K: Keeper<M::Body> + Drop>(
+/// Opens the actor of a node that was never opened.
+pub fn open_actor<'a, M: Machine, K: Keeper<M::Body>>(
     alloc: Global,
     mail: &'a Mail<M::Body>,
     seat: NodeSeat<M::Body>,
     members: Members,
     machine: M,
     keeper: K,
-) -> Option<SeatedActor<'a, M, K>>
+) -> Begun<'a, M, K>
     requires owned { Owns mail.now seat }
     requires members { members ≡ mail.now.members }
     requires member { IsMember mail.now.members seat.part.me }
@@ -52,10 +52,11 @@ pub(crate) fn opened<'a, M: Machine, K: Keeper<M::Body> + Drop>(
 {
     let me = seat.node();
     match Actor::open(alloc, mail, seat, me, members, machine, keeper) {
-        Ok(actor) => Some(SeatedActor { mail, actor }),
-        Err(left) => {
-            drop(left);
-            None
+        Ok(actor) => Begun::Again(SeatedActor { mail, actor }),
+        Err((fault, post, keeper)) => {
+            let number = fault.number();
+            drop(fault);
+            Begun::Not(number, Left { mail, post }, keeper)
         },
     }
 }
@@ -175,7 +176,7 @@ impl<'a, M: Machine, K: Keeper<M::Body> + Drop> SeatedActor<'a, M, K> {
     }
 }
 
-/// What comes of a restart: the actor; or the number of the fault, what is left, and the store.
+/// What comes of an opening or a restart: the actor; or the number of the fault, what is left, and the store.
 pub enum Begun<'a, M: Machine, K: Keeper<M::Body>> {
     Again(SeatedActor<'a, M, K>),
     Not(u8, Left<'a, M>, K),
@@ -185,6 +186,11 @@ impl<'a, M: Machine> Left<'a, M> {
     /// Returns the node's number.
     pub fn me(&self) -> u8 {
         self.post.me()
+    }
+
+    /// Returns the rows that the node had last; `None` if it was never opened.
+    pub fn rows(&self) -> Option<&Rows<M::Body>> {
+        self.post.rows()
     }
 
     /// Restarts the actor from here, with this machine and this store.

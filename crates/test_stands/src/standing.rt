@@ -3,7 +3,7 @@ ghost use Rattle.std.specs.Prelude.{◌≡◌, All, false};
 ghost use Rattle.test_stands.specs.Fresh.{IsFresh};
 
 use crate::closing::push;
-use crate::seated_actor::{SeatedActor, opened};
+use crate::seated_actor::{SeatedActor, again, open_actor};
 use mail_table::{Mail, NodeSeat, Office, found};
 use node_actor::{Keeper, Machine, Members};
 use std::alloc::Global;
@@ -47,7 +47,7 @@ fn open_all<'a, M: Machine, K: Keeper<M::Body> + Drop, S: Source<M, K>>(
             return false;
         };
         let (machine, keeper) = (source.machine(alloc), source.keeper(alloc, seat.node()));
-        let Some(actor) = opened(alloc, mail, seat, members, machine, keeper) else {
+        let Some(actor) = again(open_actor(alloc, mail, seat, members, machine, keeper)) else {
             return false;
         };
         if !push(actors, actor) {

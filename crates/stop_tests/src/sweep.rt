@@ -1,0 +1,83 @@
+// A file of the store of node 2 stops after k calls, k from 0 until a run meets no stop.
+use crate::check::Check;
+use crate::disks::{Leaves, Plan, Which, live_on_disks};
+use crate::session::{Life, Stop};
+use std::alloc::Global;
+use std::process::Abort;
+use test_checks::check_eq;
+
+// The most calls that a file takes before the crash.
+const MOST_CALLS: u64 = 1_000;
+
+// How many runs met a stop, each at one call: before the store was open, as the node began its first boot, and in a commit. Of these last
+// two, after how many the rows that were found were new.
+type Stops = (u64, u64, u64, u64);
+
+fn counted(stops: Stops, life: Life, opened_late: bool) -> Stops {
+    let (opening, boot, commit, new) = stops;
+    (
+        opening.saturating_add(u64::from(opened_late)),
+        boot.saturating_add(u64::from(life.stop == Stop::Boot)),
+        commit.saturating_add(u64::from(life.stop == Stop::Commit)),
+        new.saturating_add(u64::from(life.is_new)),
+    )
+}
+
+// The stops of all runs until one met none.
+fn stops(rt: &impl Abort, alloc: Global, plan: Plan) -> Stops {
+    let mut stops = (0, 0, 0, 0);
+    for calls in 0..MOST_CALLS {
+        let (life, opened_late) = live_on_disks(rt, alloc, plan, calls);
+        if !opened_late && life.stop == Stop::Nowhere {
+            return stops;
+        }
+        stops = counted(stops, life, opened_late);
+    }
+    panic!(rt; "stops without end")
+}
+
+// The stops of this file, if the crash leaves of the log and of the database file nothing, all, nothing of the log alone, and nothing of
+// the database file alone. The log is copied into the database file once it has this many frames.
+fn sweep(rt: &impl Abort, alloc: Global, which: Which, frames: usize) -> [Stops; 4] {
+    let (nothing, all) = (Leaves::Nothing, Leaves::All);
+    [
+        stops(rt, alloc, Plan::new(which, frames, nothing, nothing)),
+        stops(rt, alloc, Plan::new(which, frames, all, all)),
+        stops(rt, alloc, Plan::new(which, frames, nothing, all)),
+        stops(rt, alloc, Plan::new(which, frames, all, nothing)),
+    ]
+}
+
+// As the program has it: the log is not copied in this session.
+const LONG: usize = 1_000;
+
+// The log is copied again and again.
+const SHORT: usize = 4;
+
+// If the log is lost, the rows are those of before. If it is kept, they are new after one stop of each of the six commits, at its sync.
+
+#[test]
+fn the_log_stops(rt: HostRuntime) {
+    let found = sweep(&rt, rt.alloc(), Which::Log, LONG);
+    let (lost, kept) = ((23, 5, 26, 0), (23, 5, 26, 6));
+    check_eq!(&rt; found, [lost, kept, lost, kept]);
+}
+
+#[test]
+fn the_database_file_stops(rt: HostRuntime) {
+    let found = sweep(&rt, rt.alloc(), Which::Database, LONG);
+    check_eq!(&rt; found, [(14, 0, 0, 0); 4]);
+}
+
+#[test]
+fn a_short_log_stops(rt: HostRuntime) {
+    let found = sweep(&rt, rt.alloc(), Which::Log, SHORT);
+    let (lost, kept) = ((23, 15, 34, 0), (23, 15, 34, 6));
+    check_eq!(&rt; found, [lost, kept, lost, kept]);
+}
+
+#[test]
+fn the_database_file_of_a_short_log_stops(rt: HostRuntime) {
+    let found = sweep(&rt, rt.alloc(), Which::Database, SHORT);
+    check_eq!(&rt; found, [(14, 5, 4, 0); 4]);
+}
