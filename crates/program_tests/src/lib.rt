@@ -7,6 +7,8 @@ mod check;
 #[cfg(test)]
 mod clusters;
 #[cfg(test)]
+mod damages;
+#[cfg(test)]
 mod order;
 #[cfg(test)]
 mod player;

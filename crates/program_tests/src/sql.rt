@@ -12,20 +12,31 @@ use test_machines::{Number, Octet};
 
 pub type Sql<S> = SqlKeeper<Number, Octet, S>;
 
-// What a keeper returned: its fault's number or 0, the boot number, the round promised, and the rounds of the votes in slots 1 to 3,
-// each 0 if there is none.
-type Answer = (u8, u64, u64, [u64; 3]);
+/// What a keeper returned: its fault's number or 0, the boot number, the round promised, and the rounds of the votes in slots 1 to 3,
+/// each 0 if there is none.
+pub type Answer = (u8, u64, u64, [u64; 3]);
 
-// What is asked of a store: a commit has its round, its bodies and its slots.
-enum Ask<'a> {
+/// A call of a store.
+#[derive(Clone, Copy)]
+pub enum Call {
+    Load,
+    Boot,
+    Commit,
+}
+
+/// What is asked of a store: a commit has its round, its bodies and its slots. `Whole` is a call that commits, or whose rows are compared
+/// with: the promise (1, 1), if the first is true, and the vote in slot 1 and that ballot for Boot (1, 1), if the second is.
+pub enum Ask<'a> {
     Load,
     Boot,
     Commit(u64, u32, &'a [u64]),
+    Whole(Call, bool, bool),
     Failures,
 }
 
-// A call, and what it returns; a commit returns its fault alone, and failures are in the place of the boot number.
-type Row<'a> = (Ask<'a>, Answer);
+/// A call, and what it returns; a commit returns its fault alone, and failures are in the place of the boot number. `Whole` has in the place
+/// of the round whether promise and votes are just those: 1 or 0.
+pub type Row<'a> = (Ask<'a>, Answer);
 
 fn round_in(votes: &Votes<Number>, slot: u64) -> u64 {
     let Some(slot) = Slot::new(slot) else {
@@ -103,19 +114,14 @@ pub fn opened<B: Body, C: Coder<B>, S: Alter>(
     alloc: Global,
     conn: Connection<S>,
 ) -> SqlKeeper<B, C, S> {
-    assert!(rt; conn.is_autocommit());
     match SqlKeeper::open(alloc, conn) {
         Ok(keeper) => keeper,
         Err(_refused) => panic!(rt; "no store"),
     }
 }
 
-// A new store in memory.
-pub fn new_store(rt: &impl Abort, alloc: Global) -> Sql<MemStore> {
-    opened(rt, alloc, in_memory(rt, alloc))
-}
-
-fn load<S: Alter>(keeper: &mut Sql<S>) -> Answer {
+/// Loads the rows.
+pub fn load<S: Alter>(keeper: &mut Sql<S>) -> Answer {
     answered(keeper.load())
 }
 
@@ -150,11 +156,81 @@ fn committed<S: Alter>(
     done
 }
 
+const FIRST: Ballot = Ballot { round: 1, node: 1 };
+
+fn put_boot(rt: &impl Abort, votes: &mut Votes<Number>) {
+    let vote = Vote {
+        slot: Slot::new(1).expect(rt, "a slot"),
+        ballot: FIRST,
+        entry: Entry::Boot { node: 1, boot: 1 },
+    };
+    votes.put(vote).expect(rt, "room for a vote");
+}
+
+// The promise (1, 1), and the vote for Boot (1, 1), or one of them, or neither.
+fn change(rt: &impl Abort, alloc: Global, promises: bool, votes: bool) -> Change<Number> {
+    let mut change = Change {
+        promised: if promises { Some(FIRST) } else { None },
+        votes: Votes::new(alloc),
+    };
+    if votes {
+        put_boot(rt, &mut change.votes);
+    }
+    change
+}
+
+// The fault or the boot number, and whether promise and votes are just these.
+fn compared(found: Result<Rows<Number>, KeeperFault>, change: &Change<Number>) -> Answer {
+    match found {
+        Ok(rows) => {
+            let same = rows.promised == change.promised && rows.votes.same(&change.votes);
+            let boot = rows.boot;
+            drop(rows);
+            (0, boot, u64::from(same), [0, 0, 0])
+        }
+        Err(fault) => (fault.number(), 0, 0, [0, 0, 0]),
+    }
+}
+
+fn load_whole<S: Alter>(keeper: &mut Sql<S>, change: &Change<Number>) -> Answer {
+    compared(keeper.load(), change)
+}
+
+fn boot_whole<S: Alter>(keeper: &mut Sql<S>, change: &Change<Number>) -> Answer {
+    compared(keeper.boot(), change)
+}
+
+fn whole<S: Alter>(keeper: &mut Sql<S>, call: Call, change: &Change<Number>) -> Answer {
+    match call {
+        Call::Load => load_whole(keeper, change),
+        Call::Boot => boot_whole(keeper, change),
+        Call::Commit => commit(keeper, change),
+    }
+}
+
+/// Calls the keeper with this promise and this vote.
+pub fn asked_whole<S: Alter>(
+    rt: &impl Abort,
+    alloc: Global,
+    keeper: &mut Sql<S>,
+    call: Call,
+    promises: bool,
+    votes: bool,
+) -> Answer {
+    let change = change(rt, alloc, promises, votes);
+    let answer = whole(keeper, call, &change);
+    drop(change);
+    answer
+}
+
 fn asked<S: Alter>(rt: &impl Abort, alloc: Global, keeper: &mut Sql<S>, ask: &Ask<'_>) -> Answer {
     match ask {
         Ask::Load => load(keeper),
         Ask::Boot => boot(keeper),
         Ask::Commit(round, body, slots) => committed(rt, alloc, keeper, *round, *body, slots),
+        Ask::Whole(call, promises, votes) => asked_whole(
+            rt, alloc, keeper, *call, *promises, *votes,
+        ),
         Ask::Failures => (0, keeper.failures(), 0, [0, 0, 0]),
     }
 }
@@ -167,8 +243,8 @@ fn answers<S: Alter>(rt: &impl Abort, alloc: Global, keeper: &mut Sql<S>, rows: 
     }
 }
 
-// Opens a store, asks it for each row, closes it, and returns its connection.
-fn life<S: Alter>(
+/// Opens a store, asks it for each row, closes it, and returns its connection.
+pub fn life<S: Alter>(
     rt: &impl Abort,
     alloc: Global,
     conn: Connection<S>,
@@ -196,17 +272,20 @@ fn two_in_memory(rt: &impl Abort, alloc: Global, first: &[Row<'_>], second: &[Ro
     two_lives(rt, alloc, in_memory(rt, alloc), first, second);
 }
 
-const NEW: &[Row<'static>] = &[
-    (Ask::Load, (0, 0, 0, [0, 0, 0])),
-    (Ask::Boot, (0, 1, 0, [0, 0, 0])),
-    (Ask::Commit(1, 7, &[]), (0, 0, 0, [0, 0, 0])),
-    (Ask::Commit(1, 7, &[1]), (0, 0, 0, [0, 0, 0])),
+/// Boot 1, a commit of the promise (1, 1), and one of the vote for Boot (1, 1).
+pub const NEW: &[Row<'static>] = &[
+    (Ask::Whole(Call::Load, false, false), (0, 0, 1, [0, 0, 0])),
+    (Ask::Whole(Call::Boot, false, false), (0, 1, 1, [0, 0, 0])),
+    (Ask::Whole(Call::Commit, true, false), (0, 0, 0, [0, 0, 0])),
+    (Ask::Whole(Call::Load, true, false), (0, 1, 1, [0, 0, 0])),
+    (Ask::Whole(Call::Commit, false, true), (0, 0, 0, [0, 0, 0])),
+    (Ask::Whole(Call::Load, true, true), (0, 1, 1, [0, 0, 0])),
     (Ask::Load, (0, 1, 1, [1, 0, 0])),
 ];
 
 const AGAIN: &[Row<'static>] = &[
-    (Ask::Load, (0, 1, 1, [1, 0, 0])),
-    (Ask::Boot, (0, 2, 1, [1, 0, 0])),
+    (Ask::Whole(Call::Load, true, true), (0, 1, 1, [0, 0, 0])),
+    (Ask::Whole(Call::Boot, true, true), (0, 2, 1, [0, 0, 0])),
     (Ask::Failures, (0, 0, 0, [0, 0, 0])),
 ];
 
@@ -246,14 +325,8 @@ fn changes_without_a_place(rt: HostRuntime) {
     two_in_memory(&rt, rt.alloc(), WITHOUT_A_PLACE, WITHOUT_A_PLACE_AGAIN);
 }
 
-// The store that is damaged: boot 1, the promise (1, 1) and a vote in slot 1.
-const STORED: &[Row<'static>] = &[
-    (Ask::Boot, (0, 1, 0, [0, 0, 0])),
-    (Ask::Commit(1, 7, &[1]), (0, 0, 0, [0, 0, 0])),
-];
-
-// Runs the text in a store, and returns it opened again.
-fn opened_after<S: Alter>(
+/// Runs the text in a store, and returns it opened again.
+pub fn opened_after<S: Alter>(
     rt: &impl Abort,
     alloc: Global,
     conn: Connection<S>,
@@ -262,71 +335,6 @@ fn opened_after<S: Alter>(
     let mut conn = conn;
     conn.execute_batch(sql).expect(rt, "a text that runs");
     opened(rt, alloc, conn)
-}
-
-/// A store that can be closed and opened again.
-pub trait Reopens {
-    /// Runs the text in the database, and returns the store opened again.
-    fn reopen_after<R: Abort>(self, rt: &R, alloc: Global, sql: &str) -> Self;
-}
-
-impl<S: Alter> Reopens for Sql<S> {
-    fn reopen_after<R: Abort>(self, rt: &R, alloc: Global, sql: &str) -> Sql<S> {
-        opened_after(rt, alloc, self.close(), sql)
-    }
-}
-
-// What a load of that store returns, damaged by this text, and what a boot returns.
-fn damaged<S: Alter + Drop>(
-    rt: &impl Abort,
-    alloc: Global,
-    conn: Connection<S>,
-    sql: &str,
-) -> (u8, u8) {
-    let conn = life(rt, alloc, conn, STORED);
-    let mut again = opened_after(rt, alloc, conn, sql);
-    let loaded = load(&mut again);
-    let booted = boot(&mut again);
-    drop(again);
-    (loaded.0, booted.0)
-}
-
-fn damaged_in_memory(rt: &impl Abort, alloc: Global, sql: &str) -> (u8, u8) {
-    damaged(rt, alloc, in_memory(rt, alloc), sql)
-}
-
-// Texts that damage the store, and what a load and a boot return then.
-const DAMAGES: &[(&str, (u8, u8))] = &[
-    ("UPDATE meta SET boot = 1", (0, 0)),
-    ("UPDATE meta SET version = 9", (63, 63)),
-    ("UPDATE vote SET entry = X'09'", (62, 62)),
-    ("UPDATE vote SET entry = X'0000'", (62, 62)),
-    ("DELETE FROM meta", (62, 62)),
-    ("INSERT INTO meta VALUES (2, 1, 1, 1, 1)", (62, 62)),
-    ("UPDATE meta SET k = 2", (62, 62)),
-    ("UPDATE meta SET round = 281474976710656", (62, 62)),
-    ("UPDATE meta SET round = 0", (62, 62)),
-    ("UPDATE meta SET node = 8", (62, 62)),
-    ("UPDATE vote SET slot = 0", (62, 62)),
-    ("UPDATE vote SET slot = 1099511627776", (62, 62)),
-    ("UPDATE vote SET node = 8", (62, 62)),
-    ("UPDATE vote SET round = 2", (62, 62)),
-    ("UPDATE meta SET boot = 281474976710655", (0, 66)),
-    ("UPDATE meta SET boot = 281474976710656", (62, 62)),
-    ("CREATE TABLE other (a INTEGER) STRICT", (62, 62)),
-    ("DROP TABLE vote", (62, 62)),
-    (
-        "DROP TABLE meta; CREATE TABLE meta (k INTEGER PRIMARY KEY) STRICT",
-        (62, 62),
-    ),
-];
-
-#[test]
-fn damage(rt: HostRuntime) {
-    for (sql, answers) in DAMAGES {
-        let found = damaged_in_memory(&rt, rt.alloc(), sql);
-        check_eq!(&rt; found, *answers, sql);
-    }
 }
 
 // The storage after a life.
