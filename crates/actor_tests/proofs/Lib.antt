@@ -1,2 +1,2 @@
 mod Following
-pub mod Telling
+pub mod Feeding

@@ -2,7 +2,7 @@ use Rattle.std.proofs.Common.{◌≡◌, eqb, true, [], ◌∙◌, sym, rules}
 use Rattle.std.specs.Prelude.{is_ok}
 use Rattle.replica_machine.specs.Examples.{added, sum_said}
 use Rattle.replica_machine.specs.Log.{machine_from}
-use Rattle.actor_tests.proofs.Telling.{told_all}
+use Rattle.actor_tests.proofs.Feeding.{told_all}
 use Rattle.actor_tests.proofs.telling.run_telling.Goals as goal
 
 pub returns-clause-told : goal.returns-clause-told
