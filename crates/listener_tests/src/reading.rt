@@ -248,7 +248,7 @@ impl Read for Endless<'_> {
     }
 }
 
-// Three turns are spent on such a stream: so many reads are made, and a ring of 16 has these items then.
+// Three turns are spent on such a stream: this many reads were made then, and a ring of 16 has these items.
 fn is_given_up(rt: &impl Abort, alloc: Global, octets: &[u8], reads: u32, letters: &str) {
     let (producer, mut consumer) = RingBuffer::new(alloc, 16).expect(rt, "a ring");
     let mut stream = Endless { octets, reads: 0 };
