@@ -15,6 +15,7 @@ pub mod Events
 pub mod Settling
 pub mod EveryWorld
 pub mod Agreeing
+pub mod Holding
 pub mod Standing
 pub mod Handing
 pub mod Sources
@@ -23,6 +24,7 @@ pub mod Booting
 pub mod Applied
 pub mod AtOnce
 pub mod EventsAtOnce
+pub mod Learning
 pub mod Waiting
 pub mod Owing
 pub mod Pending

@@ -9,7 +9,7 @@ use Rattle.paxos_packets.specs.declared.packet.Kind.TheVariants.{Accept}
 use Rattle.paxos_packets.specs.declared.entry.Entry.{Entry}
 
 -- whatever is proposed above a chosen entry is that entry
-later_same : {B : Type 0} (members : ℕ) (promised : ℕ → Option Ballot) (sent : List (Packet B)) → PacketsOk members promised sent
+pub later_same : {B : Type 0} (members : ℕ) (promised : ℕ → Option Ballot) (sent : List (Packet B)) → PacketsOk members promised sent
     → (slot : ℕ) (e : Entry B) (c : IsChosen members sent slot e) (b : Ballot) → Le c.ballot b → (d : Entry B)
     → Known sent (Accept (vote slot b d)) → d ≡ e
 later_same {B} members promised sent ok slot e c =

@@ -1,9 +1,10 @@
 -- The laws over every list of events (docs/CONSENSUS.md, "What holds over every list of events").
-use Rattle.std.specs.Prelude.{◌≡◌, ◌⊎◌, ℕ, suc, ◌≤◌, Bool, true, false, Some, List, [], ◌∷◌, ◌++◌, slice_get}
+use Rattle.std.specs.Prelude.{◌≡◌, ◌⊎◌, ℕ, suc, ◌≤◌, Bool, true, false, Some, List, [], ◌∷◌, ◌++◌, length, slice_get}
 use Rattle.cluster_world.specs.Has.{Has}
 use Rattle.paxos_packets.specs.declared.entry.Entry.{Entry}
 use Rattle.paxos_packets.specs.declared.packet.Kind.TheVariants.{Learned}
 use Rattle.paxos_learner.specs.declared.learned.LearnedEntry.{LearnedEntry}
+use Rattle.paxos_learner.specs.Learned.{is_learned}
 use Rattle.paxos_node.specs.declared.event.Event.{Event}
 use Rattle.paxos_node.specs.Events.{owner, possible, outcome_of}
 use Rattle.cluster_world.specs.World.{Applied, World, node_at, was_sent, played, log_of}
@@ -47,6 +48,12 @@ NeverDisagrees B same =
     (members : ℕ) → 3 ≤ members → (events : List (Event B)) (e : Event B) →
     was_sent same e (played same members events).sent ≡ true → possible e (node_at (played same members events).nodes (owner e)) ≡ true →
     (outcome_of same members e (node_at (played same members events).nodes (owner e))).disagrees ≡ false
+
+-- a node has applied what it has learned, up to the first slot that it lacks
+abbrev pub NothingWaits : (B : Type 0) → (B → B → Bool) → Type 0
+NothingWaits B same =
+    (members : ℕ) (events : List (Event B)) (node : ℕ) →
+    is_learned (suc (length (log_of (played same members events) node))) (node_at (played same members events).nodes node).learner.learned ≡ false
 
 -- log agreement
 

@@ -6,6 +6,7 @@ pub mod Answers
 pub mod Origins
 pub mod Owed
 pub mod Proposers
+pub mod Majorities
 pub mod Scripts
 pub mod Examples
 pub mod Steps

@@ -11,10 +11,11 @@ ghost use Rattle.cluster_world.specs.Examples.{asked_again, lost_node, duel, ses
 ghost use Rattle.cluster_world.specs.Examples.{lost_log, duel_log, crash_packets, logs, ups, sums_handed};
 ghost use Rattle.cluster_world.specs.Owed.{PendingIsOwed, TakenAreCounted, PendingLostsAreLive, PendingIsFew, DownIsRows};
 ghost use Rattle.cluster_world.specs.Proposers.{RoundsWereSent, ProposalsFollow};
+ghost use Rattle.cluster_world.specs.Majorities.{MajoritiesHold, NewBallotsAreFresh};
 ghost use Rattle.cluster_world.specs.Scripts.{ScriptsArePlayed};
 ghost use Rattle.cluster_world.specs.Steps.{SentIsAmong, NodesAreMembers, OneEventMore, EventGoes, EventStays};
 ghost use Rattle.cluster_world.specs.Told.{HandedIsOne};
-ghost use Rattle.cluster_world.specs.Laws.{LearnedIsChosen, ChosenIsOne, ToldIsChosen, LearnedIsOne, NeverDisagrees};
+ghost use Rattle.cluster_world.specs.Laws.{LearnedIsChosen, ChosenIsOne, ToldIsChosen, LearnedIsOne, NeverDisagrees, NothingWaits};
 ghost use Rattle.cluster_world.specs.Laws.{LogIsChosen, LogsArePrefixes, AppliedIsChosen, AppliedArePrefixes, LogAfterIsApplied, LogIsApplied};
 
 use paxos_packets::Body;
@@ -57,6 +58,11 @@ pub fn applied_is_chosen<B: Body>()
 /// No disagreement: no event brings a node another entry of a slot that it has learned.
 pub fn no_disagreement<B: Body>()
     ensures { NeverDisagrees B B.same }
+{}
+
+/// Nothing waits: a node has applied what it has learned, up to the first slot that it lacks.
+pub fn nothing_waits<B: Body>()
+    ensures { NothingWaits B B.same }
 {}
 
 /// Answers, for every machine: while a node is up, each transport of its present boot was handed what the machine says to it along the
@@ -108,6 +114,18 @@ pub fn rounds_were_sent<B: Body>()
 /// What a leader proposed is in slots that follow one another: those right below its next slot, one in each.
 pub fn proposals_follow<B: Body>()
     ensures { ProposalsFollow B B.same }
+{}
+
+/// What is chosen is not lost: in each majority some member has a vote for it in its slot, and each vote that a node has there in that
+/// ballot or a higher one is for it, too. So of the votes that a majority has in the slot the highest is for what is chosen.
+pub fn majorities_hold<B: Body>()
+    ensures { MajoritiesHold B B.same }
+{}
+
+/// A ballot is fresh until its own node promises it, or one above it: no packet asks for its promise, and no vote was asked for, cast or
+/// heard in it.
+pub fn new_ballots_are_fresh<B: Body>()
+    ensures { NewBallotsAreFresh B B.same }
 {}
 
 /// A script, line by line, leads to the world of its events, with each flush written out as its deliveries.
