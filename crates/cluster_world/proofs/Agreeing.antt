@@ -18,7 +18,7 @@ pub chosen_out : {B : Type 0} (members : ℕ) (sent : List (Packet B)) (slot : �
     → Chosen members sent slot e
 chosen_out members sent slot e c = (c.ballot, c.quorum, c.most, λ k m q. let s = c.voted k m q in (s.to, s.is))
 
-chosen_in : {B : Type 0} (members : ℕ) (sent : List (Packet B)) (slot : ℕ) (e : Entry B) → Chosen members sent slot e
+pub chosen_in : {B : Type 0} (members : ℕ) (sent : List (Packet B)) (slot : ℕ) (e : Entry B) → Chosen members sent slot e
     → IsChosen members sent slot e
 chosen_in members sent slot e c =
     record { ballot = c.0; quorum = c.1; most = c.2; voted = λ k m q. let s = c.3 k m q in record { to = s.0; is = s.1 } }

@@ -170,7 +170,7 @@ Climbs slot (f ∷ fs) = (slot ≤ f.slot) × Climbs (suc f.slot) fs
 put_climbs : {B : Type 0} (slot : ℕ) (f : LearnedEntry B) (gs : List (LearnedEntry B)) → slot ≤ f.slot → is_learned f.slot gs ≡ false
     → Climbs slot gs → Climbs slot (put_learned f gs)
 put_climbs slot f [] l h c = (l, tt)
-put_climbs {B} slot f (g ∷ gs) l h c = go (nat_lt g.slot f.slot) (eqb g.slot f.slot) refl refl h
+put_climbs {B} slot f (g ∷ gs) l h c = go (nat_lt g.slot f.slot) (eqb g.slot f.slot) refl refl h (λ l i. put_climbs (suc g.slot) f gs l i c.1)
   where
     apart : g.slot ≡ f.slot → eqb g.slot f.slot ≡ false → ⊥
     apart e q = off (sym (eq-eqb g.slot f.slot e) ∙ q)
@@ -182,13 +182,14 @@ put_climbs {B} slot f (g ∷ gs) l h c = go (nat_lt g.slot f.slot) (eqb g.slot f
     after a b = omega arith
 
     go : (a b : Bool) → nat_lt g.slot f.slot ≡ a → eqb g.slot f.slot ≡ b → (b || is_learned f.slot gs) ≡ false
+        → (suc g.slot ≤ f.slot → is_learned f.slot gs ≡ false → Climbs (suc g.slot) (put_learned f gs))
         → Climbs slot (if a then g ∷ put_learned f gs else f ∷ (g ∷ gs))
-    go a true p q i = absurd (off i)
+    go a true p q i more = absurd (off i)
       where
         off : true ≡ false → ⊥
         off e = cc
-    go true false p q i = (c.0, put_climbs (suc g.slot) f gs (ltb-true g.slot f.slot p) i c.1)
-    go false false p q i = (l, after (ltb-false g.slot f.slot p) (λ e. apart e q), c.1)
+    go true false p q i more = (c.0, more (ltb-true g.slot f.slot p) i)
+    go false false p q i more = (l, (after (ltb-false g.slot f.slot p) (λ e. apart e q), c.1))
 
 learn_climbs : {B : Type 0} (slot : ℕ) (e : Entry B) (l : LearnerState B) → Climbs 0 l.learned → Climbs 0 (learn slot e l).learned
 learn_climbs {B} slot e l c = go (is_learned slot l.learned) refl
