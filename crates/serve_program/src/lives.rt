@@ -1,10 +1,11 @@
 // The lives of a node on its thread: it is opened over its store and turned until its gate is shut. If it is lost in its boot it begins its
 // next one over the same store.
-ghost use Rattle.std.specs.Prelude.{◌≡◌, [], true, false, IfOk, IfErr};
+ghost use Rattle.std.specs.Prelude.{◌≡◌, [], true, false, IfOk, IfErr, OnOk};
 ghost use Rattle.actor_parts.specs.Fault as actor;
 ghost use Rattle.mail_table.specs.Seats.{Owns};
 ghost use Rattle.paxos_node.specs.declared.view.Opened.TheVariants.{Never};
 ghost use Rattle.node_actor.specs.Views.{StandsFor};
+ghost use Rattle.serve_program.specs.declared.fault.NodeFault.TheVariants.{Lost};
 ghost use Rattle.serve_program.specs.Fault.{number_of, is_fatal, IsEnding};
 
 use crate::fault::NodeFault;
@@ -116,7 +117,8 @@ fn restart_actor<M: Machine, K: Keeper<M::Body> + Drop, S: Source<M>>(
 // Returns the fault that ends a node, or nothing if the node was only lost.
 fn judge_end(fault: NodeFault) -> Result<(), NodeFault>
     requires { is_fatal fault ≡ true }
-    ensures { IfErr result IsEnding }
+    ensures lost { OnOk result (fault ≡ Lost) }
+    ensures ending { IfErr result IsEnding }
 {
     match fault {
         NodeFault::Lost => Ok(()),
