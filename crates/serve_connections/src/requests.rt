@@ -138,6 +138,9 @@ impl RequestReceiver {
         if let Ok(request) = self.ring.pop() {
             return Found::Request(request);
         }
+        if !self.ring.is_abandoned() {
+            return Found::Nothing;
+        }
         self.take_last();
         let Some(finished) = &mut self.last else {
             return Found::Nothing;
