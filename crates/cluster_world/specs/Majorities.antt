@@ -19,7 +19,7 @@ use Rattle.cluster_world.specs.World.{World, node_at, played}
 abbrev pub HasVote : {B : Type 0} → List (NodeState B) → ℕ → Vote B → Type 0
 HasVote nodes k v = Has (node_at nodes k).rows.votes v
 
--- a member of the set has a vote for the entry in the slot; and whoever has a vote there that is not below it has one for the entry, too
+-- a member of the set has a vote for the entry in the slot; and each one that has a vote there, not below it, has one for the entry, too
 pub record Holds {B : Type 0} (members : ℕ) (nodes : List (NodeState B)) (set : ℕ → Bool) (slot : ℕ) (entry : Entry B) : Type 0 where
   pub node : ℕ
   pub member : IsMember members node
