@@ -10,6 +10,10 @@ use wamp_values::Args;
 #[derive(Drop)]
 pub struct Call {
     pub request: Id,
+    /// Whether the callee is to be told the caller's session.
+    pub disclose_me: bool,
+    /// Whether the caller asks for progressive results.
+    pub receive_progress: bool,
     pub procedure: Text,
     pub args: Args,
 }
@@ -21,19 +25,26 @@ pub struct Cancel {
     pub mode: Mode,
 }
 
-/// The call's result: the message RESULT.
+/// The call's result, or a part of it: the message RESULT.
 #[derive(Drop)]
 pub struct CallResult {
     pub request: Id,
+    /// Whether more results of this call follow.
+    pub progress: bool,
     pub args: Args,
 }
 
-/// A callee is asked for a call's result; `procedure` is given if the registration is not an exact one.
+/// A callee is asked for a call's result.
 #[derive(Drop)]
 pub struct Invocation {
     pub request: Id,
     pub registration: Id,
+    /// The caller's session, if the caller discloses it.
+    pub caller: Option<Id>,
+    /// The procedure that is called, if the registration is not an exact one.
     pub procedure: Option<Text>,
+    /// Whether the caller asks for progressive results.
+    pub receive_progress: bool,
     pub args: Args,
 }
 
@@ -44,10 +55,12 @@ pub struct Interrupt {
     pub mode: Mode,
 }
 
-/// A callee answers an invocation.
+/// A callee answers an invocation, or a part of it.
 #[derive(Drop)]
 pub struct Yield {
     pub request: Id,
+    /// Whether more answers to this invocation follow.
+    pub progress: bool,
     pub args: Args,
 }
 
@@ -58,6 +71,8 @@ impl Call {
     {
         Ok(Call {
             request: self.request,
+            disclose_me: self.disclose_me,
+            receive_progress: self.receive_progress,
             procedure: self.procedure.copy()?,
             args: self.args.copy()?,
         })
@@ -68,6 +83,8 @@ impl Call {
         ensures { IsTrue result ↔ (self.now ≡ other.now) }
     {
         self.request == other.request
+            && self.disclose_me == other.disclose_me
+            && self.receive_progress == other.receive_progress
             && self.procedure.same(&other.procedure)
             && self.args.same(&other.args)
     }
@@ -80,6 +97,7 @@ impl CallResult {
     {
         Ok(CallResult {
             request: self.request,
+            progress: self.progress,
             args: self.args.copy()?,
         })
     }
@@ -88,7 +106,9 @@ impl CallResult {
     pub fn same(&self, other: &CallResult) -> bool
         ensures { IsTrue result ↔ (self.now ≡ other.now) }
     {
-        self.request == other.request && self.args.same(&other.args)
+        self.request == other.request
+            && self.progress == other.progress
+            && self.args.same(&other.args)
     }
 }
 
@@ -100,7 +120,9 @@ impl Invocation {
         Ok(Invocation {
             request: self.request,
             registration: self.registration,
+            caller: self.caller,
             procedure: copy_label(&self.procedure)?,
+            receive_progress: self.receive_progress,
             args: self.args.copy()?,
         })
     }
@@ -111,7 +133,9 @@ impl Invocation {
     {
         self.request == other.request
             && self.registration == other.registration
+            && is_same_id(&self.caller, &other.caller)
             && is_same_label(&self.procedure, &other.procedure)
+            && self.receive_progress == other.receive_progress
             && self.args.same(&other.args)
     }
 }
@@ -123,6 +147,7 @@ impl Yield {
     {
         Ok(Yield {
             request: self.request,
+            progress: self.progress,
             args: self.args.copy()?,
         })
     }
@@ -131,6 +156,18 @@ impl Yield {
     pub fn same(&self, other: &Yield) -> bool
         ensures { IsTrue result ↔ (self.now ≡ other.now) }
     {
-        self.request == other.request && self.args.same(&other.args)
+        self.request == other.request
+            && self.progress == other.progress
+            && self.args.same(&other.args)
+    }
+}
+
+fn is_same_id(id: &Option<Id>, other: &Option<Id>) -> bool
+    ensures { IsTrue result ↔ (id.now ≡ other.now) }
+{
+    match (id, other) {
+        (Some(id), Some(other)) => *id == *other,
+        (None, None) => true,
+        _ => false,
     }
 }
