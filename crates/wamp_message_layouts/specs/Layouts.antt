@@ -1,9 +1,8 @@
 -- Layouts as data: which kinds of elements a message has after its code, and what is taken of an array of that layout (WAMP specification,
 -- "Message Definitions"; the faults and their order are this profile's: docs/PROTOCOL.md, "Reading").
 use Rattle.std.specs.Prelude.{ℕ, zero, suc, Bool, true, false, not, ◌&&◌, List, [], ◌∷◌, Option, Some, None, Result, Ok, Err}
-use Rattle.std.specs.Prelude.{is_some, option_and_then, unwrap_or, if◌then◌else◌}
+use Rattle.std.specs.Prelude.{is_some, unwrap_or, if◌then◌else◌}
 use Rattle.serde_json.specs.Data.{Data, Items, no_items, item}
-use Rattle.serde_json.specs.Find.{get, as_str}
 use Rattle.serde_json.specs.View.{view}
 use Rattle.serde_json.specs.declared.value.Value.{Value}
 use Rattle.wamp_ids.specs.declared.policy.Mode.TheVariants.{KillNoWait}
@@ -22,19 +21,21 @@ use Rattle.wamp_message_layouts.specs.declared.layouts.Stopped.{Stopped}
 use Rattle.wamp_message_layouts.specs.declared.layouts.Answered.{Answered}
 use Rattle.wamp_message_layouts.specs.declared.layouts.Reason.{Reason}
 use Rattle.wamp_message_layouts.specs.declared.layouts.UriRequest.{UriRequest}
-use Rattle.wamp_message_layouts.specs.declared.layouts.Labelled.{Labelled}
+use Rattle.wamp_message_layouts.specs.declared.layouts.KeyedDetails.{KeyedDetails}
+use Rattle.wamp_message_layouts.specs.declared.keys.Key.{Key}
 use Rattle.wamp_message_layouts.specs.declared.refusal.Refusal.{Refusal}
 use Rattle.wamp_message_types.specs.RequestKind.{is_invocation}
 use Rattle.wamp_values.specs.Options.{mode_named}
 use Rattle.wamp_message_layouts.specs.Elements.{nth, is_whole, id_in, id_of, is_text, text_of, is_dictionary, kind_in, args_given}
+use Rattle.wamp_message_layouts.specs.Keys.{are_typed}
 
 -- what is in one place
 pub data Kind : Type 0 where
   id : Kind
   text : Kind
   dictionary : Kind
-  -- a dictionary that may have a text at this key, and nothing else there
-  labelled : (key : List ℕ) → Kind
+  -- a dictionary that has a value of its type, or none, at each of these keys
+  keyed : (keys : List Key) → Kind
   -- the code of a kind of request
   request : Kind
   -- a dictionary whose `mode` is the name of one
@@ -52,15 +53,11 @@ pub record Layout : Type 0 where
 
 -- ---- the tests of one place
 
-abbrev pub is_text_or_missing : Option Data → Bool
-is_text_or_missing None = true
-is_text_or_missing (Some d) = is_text d
-
 abbrev pub is_shaped : Kind → Data → Bool
 is_shaped id d = is_whole d
 is_shaped text d = is_text d
 is_shaped dictionary d = is_dictionary d
-is_shaped (labelled key) d = is_dictionary d && is_text_or_missing (get key d)
+is_shaped (keyed keys) d = is_dictionary d && are_typed keys d
 is_shaped request d = is_some (kind_in d)
 is_shaped mode d = is_dictionary d && is_some (mode_named d)
 
@@ -68,7 +65,7 @@ abbrev pub is_in_range : Kind → Data → Bool
 is_in_range id d = is_some (id_in d)
 is_in_range text d = true
 is_in_range dictionary d = true
-is_in_range (labelled key) d = true
+is_in_range (keyed keys) d = true
 is_in_range request d = true
 is_in_range mode d = true
 
@@ -210,12 +207,17 @@ id_mode = record { kinds = id ∷ mode ∷ []; tail = nothing_more }
 abbrev pub stopped_of : Items → Option Args → Stopped
 stopped_of ds given = record { request = id_of (nth 0 ds); mode = unwrap_or (mode_named (nth 1 ds)) KillNoWait }
 
--- Request, Options or Details, and Args
-abbrev pub id_dictionary_args : Bool → Layout
-id_dictionary_args may_be_inexact = record { kinds = id ∷ dictionary ∷ []; tail = arguments may_be_inexact }
+-- Request, Options or Details with these keys, and Args
+abbrev pub id_keys_args : List Key → Bool → Layout
+id_keys_args keys may_be_inexact = record { kinds = id ∷ keyed keys ∷ []; tail = arguments may_be_inexact }
 
-abbrev pub answer_of : Items → Option Args → Answered
-answer_of ds given = record { request = id_of (nth 0 ds); args = given }
+pub record Answer : Type 0 where
+  pub request : ℕ
+  pub details : Data
+  pub args : Option Args
+
+abbrev pub answer_of : Items → Option Args → Answer
+answer_of ds given = record { request = id_of (nth 0 ds); details = nth 1 ds; args = given }
 
 -- Details, Reason
 abbrev pub dictionary_text : Layout
@@ -245,20 +247,18 @@ pub record Asked : Type 0 where
 abbrev pub asked_of : Items → Option Args → Asked
 asked_of ds given = record { request = id_of (nth 0 ds); options = nth 1 ds; uri = text_of (nth 2 ds); args = given }
 
--- two ids, Details with a text at this key or without that key, and Args
-abbrev pub two_ids_label_args : List ℕ → Layout
-two_ids_label_args key = record { kinds = id ∷ id ∷ labelled key ∷ []; tail = arguments false }
+-- two ids, Details with these keys, and Args
+abbrev pub two_ids_keys_args : List Key → Layout
+two_ids_keys_args keys = record { kinds = id ∷ id ∷ keyed keys ∷ []; tail = arguments false }
 
-abbrev pub label_of : List ℕ → Data → Option (List ℕ)
-label_of key details = option_and_then as_str (get key details)
+pub record Keyed : Type 0 where
+  pub first : ℕ
+  pub second : ℕ
+  pub details : Data
+  pub args : Args
 
-abbrev pub labelled_of : List ℕ → Items → Option Args → Labelled
-labelled_of key ds given = record {
-  first = id_of (nth 0 ds);
-  second = id_of (nth 1 ds);
-  label = label_of key (nth 2 ds);
-  args = unwrap_or given Nothing;
-}
+abbrev pub keyed_of : Items → Option Args → Keyed
+keyed_of ds given = record { first = id_of (nth 0 ds); second = id_of (nth 1 ds); details = nth 2 ds; args = unwrap_or given Nothing }
 
 -- Type, Request, Details, Error, and Args, which may be unfit if the ERROR answers an invocation
 abbrev pub answers_invocation : Option RequestKind → Bool
@@ -292,3 +292,17 @@ seen_asked taken = record { request = taken.request; options = view taken.option
 abbrev pub seen_request : Result UriRequest MessageFault → Result Asked MessageFault
 seen_request (Ok taken) = Ok (seen_asked taken)
 seen_request (Err fault) = Err fault
+
+abbrev pub seen_answered : Answered → Answer
+seen_answered taken = record { request = taken.request; details = view taken.details; args = taken.args }
+
+abbrev pub seen_answer : Result Answered MessageFault → Result Answer MessageFault
+seen_answer (Ok taken) = Ok (seen_answered taken)
+seen_answer (Err fault) = Err fault
+
+abbrev pub seen_details : KeyedDetails → Keyed
+seen_details taken = record { first = taken.first; second = taken.second; details = view taken.details; args = taken.args }
+
+abbrev pub seen_keyed : Result KeyedDetails MessageFault → Result Keyed MessageFault
+seen_keyed (Ok taken) = Ok (seen_details taken)
+seen_keyed (Err fault) = Err fault

@@ -42,10 +42,11 @@ pub struct Stopped {
     pub mode: Mode,
 }
 
-/// A request, and the arguments that answer it; `None` if some number is not kept exactly.
+/// A request, options or details, and the arguments that answer it; `None` if some number is not kept exactly.
 #[derive(Drop)]
 pub struct Answered {
     pub request: Id,
+    pub details: Value,
     pub args: Option<Args>,
 }
 
@@ -67,12 +68,12 @@ pub struct UriRequest {
     pub args: Option<Args>,
 }
 
-/// Two ids, the text that the details name, and the arguments.
+/// Two ids, details, and the arguments.
 #[derive(Drop)]
-pub struct Labelled {
+pub struct KeyedDetails {
     pub first: Id,
     pub second: Id,
-    pub label: Option<Text>,
+    pub details: Value,
     pub args: Args,
 }
 

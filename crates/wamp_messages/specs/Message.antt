@@ -4,6 +4,7 @@ use Rattle.std.specs.Prelude.{ℕ, IsTrue, ⊤}
 use Rattle.std.specs.Str.{IsUtf8}
 use Rattle.wamp_ids.specs.Id.{is_id}
 use Rattle.wamp_values.specs.Args.{IsArgs}
+use Rattle.wamp_message_layouts.specs.Parts.{IsToldId}
 use Rattle.wamp_message_types.specs.declared.message.Message.{Message}
 use Rattle.wamp_message_types.specs.declared.message.Message.TheVariants.{Hello, Welcome, Abort, Goodbye, Error, Publish, Published}
 use Rattle.wamp_message_types.specs.declared.message.Message.TheVariants.{Subscribe, Subscribed, Event, Unsubscribe, Unsubscribed}
@@ -35,7 +36,8 @@ HasParts (Unregistered unregistered) = IsId unregistered.request
 HasParts (Call call) = IsId call.request × IsArgs call.args
 HasParts (Cancel cancel) = IsId cancel.request
 HasParts (CallResult reply) = IsId reply.request × IsArgs reply.args
-HasParts (Invocation invocation) = IsId invocation.request × (IsId invocation.registration × IsArgs invocation.args)
+HasParts (Invocation invocation) =
+    IsId invocation.request × (IsId invocation.registration × (IsToldId invocation.caller × IsArgs invocation.args))
 HasParts (Interrupt interrupt) = IsId interrupt.request
 HasParts (Yield yielded) = IsId yielded.request × IsArgs yielded.args
 

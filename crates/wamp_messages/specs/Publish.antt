@@ -1,15 +1,17 @@
 -- The messages of publications and events (WAMP specification, "Publish and Subscribe"; the keys and their defaults:
 -- docs/PROTOCOL.md, "Messages").
-use Rattle.std.specs.Prelude.{ℕ, Bool, true, false, not, List, Option, Some, None, codes, unwrap_or}
+use Rattle.std.specs.Prelude.{ℕ, Bool, true, false, not, List, [], ◌∷◌, Option, Some, None, codes, unwrap_or}
 use Rattle.serde_json.specs.Data.{Data, string, boolean, array, object, Items, no_items, item, no_members, member}
 use Rattle.wamp_values.specs.Args.{args_items}
 use Rattle.wamp_values.specs.declared.args.Args.{Args}
 use Rattle.wamp_message_types.specs.Codes as code
-use Rattle.wamp_message_layouts.specs.Parts.{whole, only, nothing, label_details}
+use Rattle.wamp_message_layouts.specs.Keys.{text_at}
+use Rattle.wamp_message_layouts.specs.Parts.{whole, only, nothing, dictionary_of, text_told}
 use Rattle.wamp_values.specs.Options.{flag_in}
 use Rattle.wamp_message_layouts.specs.declared.layouts.TwoIds.{TwoIds}
-use Rattle.wamp_message_layouts.specs.declared.layouts.Labelled.{Labelled}
-use Rattle.wamp_message_layouts.specs.Layouts.{taken, two_ids, two_ids_of, id_dictionary_text_args, Asked, asked_of, two_ids_label_args, labelled_of}
+use Rattle.wamp_message_layouts.specs.declared.keys.Key.{Key}
+use Rattle.wamp_message_layouts.specs.declared.keys.Key.TheVariants.{Topic}
+use Rattle.wamp_message_layouts.specs.Layouts.{taken, two_ids, two_ids_of, id_dictionary_text_args, Asked, asked_of, two_ids_keys_args, Keyed, keyed_of}
 use Rattle.wamp_message_types.specs.declared.publish.Publish.{Publish}
 use Rattle.wamp_message_types.specs.declared.publish.Published.{Published}
 use Rattle.wamp_message_types.specs.declared.publish.Event.{Event}
@@ -62,21 +64,27 @@ published_in ds = read_as published_read (taken two_ids two_ids_of ds)
 
 -- ---- EVENT: Subscription, Publication, Details, Args
 
+abbrev pub event_keys : List Key
+event_keys = Topic ∷ []
+
+abbrev pub event_told : Option (List ℕ) → List (Key × Option Data)
+event_told topic = (Topic, text_told topic) ∷ []
+
 abbrev pub event_value : Event → Data
 event_value event =
     array
     (item (whole code.event)
     (item (whole event.subscription)
-    (item (whole event.publication) (item (label_details (codes "topic") event.topic) (args_items event.args)))))
+    (item (whole event.publication) (item (dictionary_of (event_told event.topic)) (args_items event.args)))))
 
-abbrev pub event_read : Labelled → Read
-event_read labelled =
+abbrev pub event_read : Keyed → Read
+event_read keyed =
     Good (message.Event (record {
-      subscription = labelled.first;
-      publication = labelled.second;
-      topic = labelled.label;
-      args = labelled.args;
+      subscription = keyed.first;
+      publication = keyed.second;
+      topic = text_at Topic keyed.details;
+      args = keyed.args;
     }))
 
 abbrev pub event_in : Items → Read
-event_in ds = read_as event_read (taken (two_ids_label_args (codes "topic")) (labelled_of (codes "topic")) ds)
+event_in ds = read_as event_read (taken (two_ids_keys_args event_keys) keyed_of ds)

@@ -50,8 +50,10 @@ abbrev pub dealer : Data
 dealer =
     only (codes "features") (object
     (member (codes "call_canceling") (boolean true)
+    (member (codes "caller_identification") (boolean true)
     (member (codes "pattern_based_registration") (boolean true)
-    (member (codes "shared_registration") (boolean true) no_members))))
+    (member (codes "progressive_call_results") (boolean true)
+    (member (codes "shared_registration") (boolean true) no_members))))))
 
 abbrev pub welcome_details : Data
 welcome_details = only (codes "roles") (object (member (codes "broker") broker (member (codes "dealer") dealer no_members)))
