@@ -1,79 +1,100 @@
 // Readers of layouts that end with Arguments and ArgumentsKw.
-ghost use Rattle.std.specs.Prelude.{◌≡◌, true, false, Some, None, option_map};
+ghost use Rattle.std.specs.Prelude.{◌≡◌, ◌&&◌, true, false, Some};
 ghost use Rattle.serde_json.specs.Data.{no_items, item};
-ghost use Rattle.serde_json.specs.Find.{get};
 ghost use Rattle.serde_json.specs.View.{view};
-ghost use Rattle.wamp_message_layouts.specs.Elements.{elements};
+ghost use Rattle.wamp_message_layouts.specs.Elements.{elements, is_dictionary};
+ghost use Rattle.wamp_message_layouts.specs.Keys.{are_typed};
 ghost use Rattle.wamp_message_layouts.specs.Layouts as layout;
-ghost use Rattle.wamp_message_layouts.specs.Layouts.{taken, checked, checked_with, args_taken, seen_request};
-ghost use Rattle.wamp_message_layouts.specs.Layouts.{answer_of, reason_of, asked_of, labelled_of};
+ghost use Rattle.wamp_message_layouts.specs.Layouts.{taken, checked, checked_with, args_taken, seen_request, seen_answer, seen_keyed};
+ghost use Rattle.wamp_message_layouts.specs.Layouts.{answer_of, reason_of, asked_of, keyed_of};
 
 use crate::elements::{Given, arguments, id_in, is_whole, three, two};
-use crate::layouts::{Answered, Labelled, Reason, UriRequest, reason_with, request_with};
+use crate::keys::{Key, are_typed};
+use crate::layouts::{Answered, KeyedDetails, Reason, UriRequest, reason_with, request_with};
 use serde_json::Value;
 use std::vec::IntoIter;
-use wamp_ids::Text;
 use wamp_message_types::MessageFault;
 use wamp_values::Args;
 
-/// Reads an id, a dictionary, and arguments. A number among these that is not kept exactly is accepted if `may_be_inexact` is set;
-/// otherwise it counts as a wrong type.
-pub fn id_dictionary_args(
+/// Reads an id, a dictionary with these keys, and arguments. A number among these that is not kept exactly is accepted if `may_be_inexact`
+/// is set; otherwise it counts as a wrong type.
+pub fn id_keys_args(
     mut rest: IntoIter<Value>,
+    keys: &[Key],
     may_be_inexact: bool,
 ) -> Result<Answered, MessageFault>
-    ensures { result
-        ≡ taken (layout.id_dictionary_args may_be_inexact) answer_of (elements rest) }
+    ensures { seen_answer result
+        ≡ taken (layout.id_keys_args keys.now may_be_inexact) answer_of (elements rest) }
 {
     let Some((request, details)) = two(&mut rest) else {
         return Err(MessageFault::Length);
     };
-    let answered = answer_given(&request, &details, arguments(rest), may_be_inexact);
-    drop((request, details));
+    let answered = answer_given(&request, details, keys, arguments(rest), may_be_inexact);
+    drop(request);
     answered
 }
 
 fn answer_given(
     request: &Value,
-    details: &Value,
+    details: Value,
+    keys: &[Key],
     given: Given,
     may_be_inexact: bool,
 ) -> Result<Answered, MessageFault>
-    ensures { result ≡ checked_with (layout.id_dictionary_args may_be_inexact).kinds
-        (answer_of (item (view request.now) (item (view details.now) no_items)))
-        (item (view request.now) (item (view details.now) no_items))
+    ensures { seen_answer result ≡ checked_with (layout.id_keys_args keys.now may_be_inexact).kinds
+        (answer_of (item (view request.now) (item (view details) no_items)))
+        (item (view request.now) (item (view details) no_items))
         (args_taken may_be_inexact given) }
 {
     match given {
-        Given::TooMany => Err(MessageFault::Length),
-        Given::Misshapen => Err(MessageFault::Shape),
+        Given::TooMany => {
+            drop(details);
+            Err(MessageFault::Length)
+        }
+        Given::Misshapen => {
+            drop(details);
+            Err(MessageFault::Shape)
+        }
         Given::Inexact => if may_be_inexact {
-            answer_with(request, details, None)
+            answer_with(request, details, keys, None)
         } else {
+            drop(details);
             Err(MessageFault::Shape)
         },
-        Given::Fit(args) => answer_with(request, details, Some(args)),
+        Given::Fit(args) => answer_with(request, details, keys, Some(args)),
     }
 }
 
 fn answer_with(
     request: &Value,
-    details: &Value,
+    details: Value,
+    keys: &[Key],
     args: Option<Args>,
 ) -> Result<Answered, MessageFault>
-    ensures { result ≡ checked layout.id_dictionary.kinds
-        (answer_of (item (view request.now) (item (view details.now) no_items)) args)
-        (item (view request.now) (item (view details.now) no_items)) }
+    ensures { seen_answer result ≡ checked (layout.id_keys_args keys.now true).kinds
+        (answer_of (item (view request.now) (item (view details) no_items)) args)
+        (item (view request.now) (item (view details) no_items)) }
 {
-    if !is_whole(request) || !details.is_object() {
-        drop(args);
+    if !is_whole(request) || !is_keyed(&details, keys) {
+        drop((details, args));
         return Err(MessageFault::Shape);
     }
     let Some(request) = id_in(request) else {
-        drop(args);
+        drop((details, args));
         return Err(MessageFault::IdRange);
     };
-    Ok(Answered { request, args })
+    Ok(Answered {
+        request,
+        details,
+        args,
+    })
+}
+
+// Returns whether this is a dictionary with these keys.
+fn is_keyed(details: &Value, keys: &[Key]) -> bool
+    ensures { result ≡ (is_dictionary (view details.now) && are_typed keys.now (view details.now)) }
+{
+    details.is_object() && are_typed(keys, details)
 }
 
 /// Reads a dictionary, a text, and arguments.
@@ -150,30 +171,32 @@ fn request_given(
     }
 }
 
-/// Reads two ids, a dictionary with a text at this key or without that key, and arguments.
-#[tactic(auto, using(crate::proofs::Lengths::two_ids_label_args_length))]
-pub fn two_ids_label_args(mut rest: IntoIter<Value>, key: &str) -> Result<Labelled, MessageFault>
-    ensures { result
-        ≡ taken (layout.two_ids_label_args key.now) (labelled_of key.now) (elements rest) }
+/// Reads two ids, a dictionary with these keys, and arguments.
+#[tactic(auto, using(crate::proofs::Lengths::two_ids_keys_args_length))]
+pub fn two_ids_keys_args(
+    mut rest: IntoIter<Value>,
+    keys: &[Key],
+) -> Result<KeyedDetails, MessageFault>
+    ensures { seen_keyed result
+        ≡ taken (layout.two_ids_keys_args keys.now) keyed_of (elements rest) }
 {
     let Some((first, second, details)) = three(&mut rest) else {
         return Err(MessageFault::Length);
     };
-    let labelled = labelled_given(&first, &second, details, key, arguments(rest));
+    let keyed = keyed_given(&first, &second, details, keys, arguments(rest));
     drop((first, second));
-    labelled
+    keyed
 }
 
-fn labelled_given(
+fn keyed_given(
     first: &Value,
     second: &Value,
     details: Value,
-    key: &str,
+    keys: &[Key],
     given: Given,
-) -> Result<Labelled, MessageFault>
-    ensures { result ≡ checked_with (layout.two_ids_label_args key.now).kinds
-        (labelled_of key.now
-        (item (view first.now) (item (view second.now) (item (view details) no_items))))
+) -> Result<KeyedDetails, MessageFault>
+    ensures { seen_keyed result ≡ checked_with (layout.two_ids_keys_args keys.now).kinds
+        (keyed_of (item (view first.now) (item (view second.now) (item (view details) no_items))))
         (item (view first.now) (item (view second.now) (item (view details) no_items)))
         (args_taken false given) }
 {
@@ -190,55 +213,34 @@ fn labelled_given(
             drop(details);
             Err(MessageFault::Shape)
         }
-        Given::Fit(args) => labelled_with(first, second, details, key, args),
+        Given::Fit(args) => keyed_with(first, second, details, keys, args),
     }
 }
 
-fn labelled_with(
+fn keyed_with(
     first: &Value,
     second: &Value,
-    mut details: Value,
-    key: &str,
+    details: Value,
+    keys: &[Key],
     args: Args,
-) -> Result<Labelled, MessageFault>
-    ensures { result ≡ checked (layout.two_ids_label_args key.now).kinds
-        (labelled_of key.now
-        (item (view first.now) (item (view second.now) (item (view details) no_items)))
+) -> Result<KeyedDetails, MessageFault>
+    ensures { seen_keyed result ≡ checked (layout.two_ids_keys_args keys.now).kinds
+        (keyed_of (item (view first.now) (item (view second.now) (item (view details) no_items)))
         (Some args))
         (item (view first.now) (item (view second.now) (item (view details) no_items))) }
 {
-    if !is_whole(first) || !is_whole(second) || !details.is_object() {
+    if !is_whole(first) || !is_whole(second) || !is_keyed(&details, keys) {
         drop((details, args));
         return Err(MessageFault::Shape);
     }
-    let label = take_label(&mut details, key);
-    drop(details);
-    let label = match label {
-        Some(Value::String(label)) => Some(Text::from(label)),
-        Some(other) => {
-            drop((other, args));
-            return Err(MessageFault::Shape);
-        },
-        None => None,
-    };
     let (Some(first), Some(second)) = (id_in(first), id_in(second)) else {
-        drop((label, args));
+        drop((details, args));
         return Err(MessageFault::IdRange);
     };
-    Ok(Labelled {
+    Ok(KeyedDetails {
         first,
         second,
-        label,
+        details,
         args,
     })
-}
-
-// Takes the value at this key out of a dictionary.
-fn take_label(details: &mut Value, key: &str) -> Option<Value>
-    ensures { option_map (λ label. view label) result ≡ get key.now (view details.old) }
-{
-    match details.get_mut(key) {
-        Some(label) => Some(label.take()),
-        None => None,
-    }
 }

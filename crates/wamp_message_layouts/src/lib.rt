@@ -2,22 +2,24 @@
 #![tactic(auto)]
 
 mod elements;
+mod keys;
 mod layouts;
 mod layouts_with_args;
 mod parts;
 mod refusal;
 
 pub use json::Writer;
+pub use keys::{Key, are_typed, flag_at, id_at, take_text};
 pub use layouts::{
-    Answered, Labelled, NamedDetails, NumberedDetails, Reason, Stopped, TwoIds, UriRequest,
+    Answered, KeyedDetails, NamedDetails, NumberedDetails, Reason, Stopped, TwoIds, UriRequest,
     dictionary_text, id_dictionary, id_dictionary_text, id_mode, one_id, text_dictionary, two_ids,
 };
 pub use layouts_with_args::{
-    dictionary_text_args, id_dictionary_args, id_dictionary_text_args, two_ids_label_args,
+    dictionary_text_args, id_dictionary_text_args, id_keys_args, two_ids_keys_args,
 };
 pub use parts::{
-    begin, close_two, end, open, open_within, put_feature, put_flag_option, put_label, put_nothing,
-    put_text_option,
+    begin, close_two, end, open, open_within, put_feature, put_flag, put_flag_option, put_id,
+    put_nothing, put_text, put_text_option,
 };
 pub use refusal::{Refusal, refused};
 pub use serde_json::Value;

@@ -1,14 +1,16 @@
 // Writers of the parts of messages.
-ghost use Rattle.std.specs.Prelude.{◌≡◌, ◌∷◌, [], true, codes, OnOk, decimal};
-ghost use Rattle.json.specs.Token.{begin_array, begin_object, end_object, number, key, boolean};
-ghost use Rattle.serde_json.specs.Data.{string, boolean as boolean_value};
+ghost use Rattle.std.specs.Prelude.{◌≡◌, ◌∷◌, [], true, codes, OnOk, Some, decimal};
+ghost use Rattle.json.specs.Token.{begin_array, begin_object, end_object, number, string, key, boolean};
+ghost use Rattle.serde_json.specs.Data.{string as string_value, boolean as boolean_value};
 ghost use Rattle.wamp_values.specs.Args.{IsArgs, args_items};
 ghost use Rattle.wamp_values.specs.Tokens.{data_tokens, list_tokens, Appends};
-ghost use Rattle.wamp_message_layouts.specs.Parts.{nothing, only, label_details};
+ghost use Rattle.wamp_message_layouts.specs.Keys.{name_of};
+ghost use Rattle.wamp_message_layouts.specs.Parts.{nothing, only, told_tokens, flag_told, id_told, text_told, IsToldId};
 
+use crate::keys::Key;
 use json::Writer;
 use std::alloc::AllocError;
-use wamp_ids::Text;
+use wamp_ids::{Id, Text};
 use wamp_values::Args;
 
 /// Writes the array's bracket and the message's code.
@@ -63,7 +65,7 @@ pub fn put_nothing(out: &mut Writer) -> Result<(), AllocError>
 
 /// Writes a dictionary of one text.
 pub fn put_text_option(name: &str, text: &str, out: &mut Writer) -> Result<(), AllocError>
-    ensures { Appends result out.old out.new (data_tokens (only name.now (string text.now))) }
+    ensures { Appends result out.old out.new (data_tokens (only name.now (string_value text.now))) }
 {
     open(name, out)?;
     out.string(text)?;
@@ -87,12 +89,49 @@ pub fn put_feature(name: &str, out: &mut Writer) -> Result<(), AllocError>
     out.boolean(true)
 }
 
-/// Writes a dictionary with this text at that key, or an empty one if there is no text.
-pub fn put_label(name: &str, label: &Option<Text>, out: &mut Writer) -> Result<(), AllocError>
-    ensures { Appends result out.old out.new (data_tokens (label_details name.now label.now)) }
+/// Writes a key of a dictionary with the value true, or nothing if `flag` is false.
+pub fn put_flag(key: Key, flag: bool, out: &mut Writer) -> Result<(), AllocError>
+    ensures { Appends result out.old out.new (told_tokens (name_of key) (flag_told flag)) }
 {
-    match label {
-        Some(label) => put_text_option(name, label.as_str(), out),
-        None => put_nothing(out),
+    if flag {
+        put_feature(key.name(), out)
+    } else {
+        Ok(())
     }
+}
+
+/// Writes a key of a dictionary with this id, or nothing if there is none.
+pub fn put_id(key: Key, id: Option<Id>, out: &mut Writer) -> Result<(), AllocError>
+    ensures tokens { Appends result out.old out.new (told_tokens (name_of key) (id_told id)) }
+    ensures parts { OnOk result (IsToldId id) }
+{
+    let Some(id) = id else {
+        return Ok(());
+    };
+    put_number(key.name(), id, out)
+}
+
+fn put_number(name: &str, id: Id, out: &mut Writer) -> Result<(), AllocError>
+    ensures tokens { Appends result out.old out.new (key name.now ∷ number (decimal id) ∷ []) }
+    ensures parts { OnOk result (IsToldId (Some id)) }
+{
+    out.key(name)?;
+    out.u64(id.get())
+}
+
+/// Writes a key of a dictionary with this text, or nothing if there is none.
+pub fn put_text(key: Key, text: &Option<Text>, out: &mut Writer) -> Result<(), AllocError>
+    ensures { Appends result out.old out.new (told_tokens (name_of key) (text_told text.now)) }
+{
+    match text {
+        Some(text) => put_string(key.name(), text.as_str(), out),
+        None => Ok(()),
+    }
+}
+
+fn put_string(name: &str, text: &str, out: &mut Writer) -> Result<(), AllocError>
+    ensures { Appends result out.old out.new (key name.now ∷ string text.now ∷ []) }
+{
+    out.key(name)?;
+    out.string(text)
 }

@@ -1,5 +1,5 @@
 use Rattle.std.proofs.Common.{rules}
-use Rattle.wamp_message_layouts.proofs.parts.put_label.Goals as goal
+use Rattle.wamp_message_layouts.proofs.parts.put_text.Goals as goal
 
 pub returns-in-None : goal.returns-in-None
 returns-in-None c = search rules
