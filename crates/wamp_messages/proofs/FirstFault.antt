@@ -1,7 +1,7 @@
 -- For octets that are no message the first of their faults is reported.
-use Rattle.std.proofs.Common.{◌≡◌, ◌∙◌, ℕ, ◌==◌, Bool, true, false, List, Option, Some, None, codes, refl}
+use Rattle.std.proofs.Common.{◌≡◌, ◌∙◌, ℕ, ◌==◌, Bool, true, false, List, [], Option, Some, None, codes, refl}
 use Rattle.std.specs.Prelude.{Result, Ok, Err, find, if◌then◌else◌}
-use Rattle.serde_json.specs.Data.{unsigned, Data, number, array, Items, no_items, item}
+use Rattle.serde_json.specs.Data.{unsigned, Data, number, array, Items, item}
 use Rattle.wamp_values.specs.declared.args.Args.{Args}
 use Rattle.wamp_message_types.specs.Codes as code
 use Rattle.wamp_message_types.specs.declared.fault.MessageFault.{MessageFault}
@@ -10,9 +10,10 @@ use Rattle.wamp_message_layouts.specs.declared.refusal.Refusal.{Refusal}
 use Rattle.wamp_message_types.specs.declared.request_kind.RequestKind.{RequestKind}
 use Rattle.wamp_message_layouts.specs.Layouts.{Layout, taken, first_fault, text_dictionary, named_of, id_dictionary, numbered_of}
 use Rattle.wamp_message_layouts.specs.Layouts.{dictionary_text, dictionary_text_args, reason_of, refusal, refusal_of, Asked, asked_of}
-use Rattle.wamp_message_layouts.specs.Layouts.{id_dictionary_text, id_dictionary_text_args, two_ids, two_ids_of, two_ids_label_args, labelled_of}
-use Rattle.wamp_message_layouts.specs.Layouts.{one_id, one_id_of, id_dictionary_args, answer_of, id_mode, stopped_of, Numbered}
-use Rattle.wamp_message_layouts.specs.declared.layouts.Answered.{Answered}
+use Rattle.wamp_message_layouts.specs.Layouts.{id_dictionary_text, id_dictionary_text_args, two_ids, two_ids_of, two_ids_keys_args, keyed_of}
+use Rattle.wamp_message_layouts.specs.Layouts.{one_id, one_id_of, id_keys_args, Answer, answer_of, id_mode, stopped_of, Numbered}
+use Rattle.wamp_message_layouts.specs.Keys.{are_typed, flag_at}
+use Rattle.wamp_message_layouts.specs.declared.keys.Key.TheVariants.{DiscloseMe, ReceiveProgress, Progress}
 use Rattle.wamp_values.specs.Options.{flag_in, match_in, invoke_in, mode_in}
 use Rattle.wamp_message_layouts.proofs.FirstFault.{fault_in, taken_first}
 use Rattle.wamp_ids.specs.declared.policy.Match.{Match}
@@ -22,11 +23,11 @@ use Rattle.wamp_message_types.specs.declared.read_result.Read.{Read}
 use Rattle.wamp_messages.specs.ReadResult.{read_as}
 use Rattle.wamp_messages.specs.Session.{hello_read, welcome_read, abort_read, goodbye_read}
 use Rattle.wamp_messages.specs.Error.{error_with, error_read}
-use Rattle.wamp_messages.specs.Publish.{publish_with, publish_read, published_read, event_read}
+use Rattle.wamp_messages.specs.Publish.{publish_with, publish_read, published_read, event_keys, event_read}
 use Rattle.wamp_messages.specs.Subscribe.{subscribe_with, subscribe_read, subscribed_read, unsubscribe_read, unsubscribed_read}
 use Rattle.wamp_messages.specs.Register.{register_with, register_read, registered_read, unregister_read, unregistered_read}
-use Rattle.wamp_messages.specs.Call.{call_with, call_read, cancel_with, cancel_read, call_result_read, invocation_read, interrupt_read}
-use Rattle.wamp_messages.specs.Call.{yield_with, yield_read}
+use Rattle.wamp_messages.specs.Call.{call_keys, call_with, call_read, cancel_with, cancel_read, progress_keys, call_result_read}
+use Rattle.wamp_messages.specs.Call.{invocation_keys, invocation_read, interrupt_read, yield_with, yield_read}
 use Rattle.wamp_messages.specs.Layouts.{layout_of}
 use Rattle.wamp_messages.specs.Reading.{by_code, json_of, json_read_as}
 use Rattle.wamp_messages.specs.Faults.{faults, has_fault_in, fault_of}
@@ -70,17 +71,20 @@ register_good request None invoke procedure = refl
 register_good request (Some matching) None procedure = refl
 register_good request (Some matching) (Some invoke) procedure = refl
 
-call_good : (asked : Asked) (args : Option Args) → fault_of (call_with asked args) ≡ None
-call_good asked None = refl
-call_good asked (Some args) = refl
+call_good : (request : ℕ) (typed disclose_me receive_progress : Bool) (procedure : List ℕ) (args : Option Args)
+    → fault_of (call_with request typed disclose_me receive_progress procedure args) ≡ None
+call_good request true disclose_me receive_progress procedure None = refl
+call_good request true disclose_me receive_progress procedure (Some args) = refl
+call_good request false disclose_me receive_progress procedure args = refl
 
 cancel_good : (request : ℕ) (mode : Option Mode) → fault_of (cancel_with request mode) ≡ None
 cancel_good request None = refl
 cancel_good request (Some mode) = refl
 
-yield_good : (request : ℕ) (args : Option Args) → fault_of (yield_with request args) ≡ None
-yield_good request None = refl
-yield_good request (Some args) = refl
+yield_good : (request : ℕ) (typed progress : Bool) (args : Option Args) → fault_of (yield_with request typed progress args) ≡ None
+yield_good request true progress None = refl
+yield_good request true progress (Some args) = refl
+yield_good request false progress args = refl
 
 -- ---- by the code
 
@@ -105,20 +109,26 @@ by_code_told n ds =
     (either (n == code.subscribe) _ _ id_dictionary_text _ ds
     (told subscribe_read id_dictionary_text asked_of ds (λ (x : Asked). subscribe_good x.request (match_in x.options) x.uri))
     (either (n == code.subscribed) _ _ two_ids _ ds (told subscribed_read two_ids two_ids_of ds (λ x. refl))
-    (either (n == code.event) _ _ (two_ids_label_args (codes "topic")) _ ds
-    (told event_read (two_ids_label_args (codes "topic")) (labelled_of (codes "topic")) ds (λ x. refl))
+    (either (n == code.event) _ _ (two_ids_keys_args event_keys) _ ds
+    (told event_read (two_ids_keys_args event_keys) keyed_of ds (λ x. refl))
     (either (n == code.unsubscribe) _ _ two_ids _ ds (told unsubscribe_read two_ids two_ids_of ds (λ x. refl))
     (either (n == code.unsubscribed) _ _ one_id _ ds (told unsubscribed_read one_id one_id_of ds (λ x. refl))
     (either (n == code.register) _ _ id_dictionary_text _ ds (told register_read id_dictionary_text asked_of ds (λ (x : Asked). register_good x.request (match_in x.options) (invoke_in x.options) x.uri))
     (either (n == code.registered) _ _ two_ids _ ds (told registered_read two_ids two_ids_of ds (λ x. refl))
     (either (n == code.unregister) _ _ two_ids _ ds (told unregister_read two_ids two_ids_of ds (λ x. refl))
     (either (n == code.unregistered) _ _ one_id _ ds (told unregistered_read one_id one_id_of ds (λ x. refl))
-    (either (n == code.call) _ _ id_dictionary_text_args _ ds (told call_read id_dictionary_text_args asked_of ds (λ (x : Asked). call_good x x.args))
+    (either (n == code.call) _ _ id_dictionary_text_args _ ds
+    (told call_read id_dictionary_text_args asked_of ds
+    (λ (x : Asked). call_good x.request (are_typed call_keys x.options) (flag_at DiscloseMe x.options) (flag_at ReceiveProgress x.options) x.uri x.args))
     (either (n == code.cancel) _ _ id_dictionary _ ds (told cancel_read id_dictionary numbered_of ds (λ (x : Numbered). cancel_good x.id (mode_in x.details)))
-    (either (n == code.result) _ _ (id_dictionary_args false) _ ds (told call_result_read (id_dictionary_args false) answer_of ds (λ x. refl))
-    (either (n == code.invocation) _ _ (two_ids_label_args (codes "procedure")) _ ds (told invocation_read (two_ids_label_args (codes "procedure")) (labelled_of (codes "procedure")) ds (λ x. refl))
+    (either (n == code.result) _ _ (id_keys_args progress_keys false) _ ds
+    (told call_result_read (id_keys_args progress_keys false) answer_of ds (λ x. refl))
+    (either (n == code.invocation) _ _ (two_ids_keys_args invocation_keys) _ ds
+    (told invocation_read (two_ids_keys_args invocation_keys) keyed_of ds (λ x. refl))
     (either (n == code.interrupt) _ _ id_mode _ ds (told interrupt_read id_mode stopped_of ds (λ x. refl))
-    (either (n == code.yield) _ _ (id_dictionary_args true) _ ds (told yield_read (id_dictionary_args true) answer_of ds (λ (x : Answered). yield_good x.request x.args)) refl)))))))))))))))))))))
+    (either (n == code.yield) _ _ (id_keys_args [] true) _ ds
+    (told yield_read (id_keys_args [] true) answer_of ds
+    (λ (x : Answer). yield_good x.request (are_typed progress_keys x.details) (flag_at Progress x.details) x.args)) refl)))))))))))))))))))))
 
 -- ---- and of the whole
 

@@ -1,8 +1,9 @@
 -- A message is read back from what is written of it.
-use Rattle.std.proofs.Common.{◌≡◌, ◌∙◌, ℕ, Bool, true, false, List, Option, Some, None, sym, refl}
+use Rattle.std.proofs.Common.{◌≡◌, ◌∙◌, ℕ, Bool, true, false, List, Option, Some, sym, ap, refl}
 use Rattle.std.specs.Str.{IsUtf8}
 use Rattle.json.specs.Token.{Token}
 use Rattle.json.specs.Print.{print}
+use Rattle.serde_json.specs.Data.{Data, string, array, item}
 use Rattle.serde_json.specs.Read.{read}
 use Rattle.wamp_ids.specs.declared.policy.Match.{Match}
 use Rattle.wamp_ids.specs.declared.policy.Match.TheVariants.{Exact, Prefix, Wildcard}
@@ -10,6 +11,7 @@ use Rattle.wamp_ids.specs.declared.policy.Invoke.{Invoke}
 use Rattle.wamp_ids.specs.declared.policy.Invoke.TheVariants.{Single, First, Last, RoundRobin}
 use Rattle.wamp_ids.specs.declared.policy.Mode.{Mode}
 use Rattle.wamp_ids.specs.declared.policy.Mode.TheVariants.{Skip, Kill, KillNoWait}
+use Rattle.wamp_values.specs.Args.{IsArgs, args_items}
 use Rattle.wamp_values.specs.declared.args.Args.{Args}
 use Rattle.wamp_values.specs.Tokens.{data_tokens}
 use Rattle.wamp_values.proofs.Texts.{print_tokens}
@@ -24,8 +26,16 @@ use Rattle.wamp_message_types.specs.declared.message.Message.TheVariants.{Call, 
 use Rattle.wamp_message_types.specs.declared.read_result.Read.TheVariants.{Good}
 use Rattle.wamp_messages.specs.Writing.{value_of, text_of}
 use Rattle.wamp_messages.specs.Reading.{by_code, read_of, message_in}
-use Rattle.wamp_messages.specs.Message.{HasParts, IsMessage}
+use Rattle.wamp_messages.specs.Message.{IsId, HasParts, IsMessage}
+use Rattle.wamp_messages.specs.Publish.{event_keys, event_told}
+use Rattle.wamp_messages.specs.Call.{call_keys, call_told, progress_keys, progress_told, invocation_keys, invocation_told}
+use Rattle.wamp_message_types.specs.Codes as code
+use Rattle.wamp_message_layouts.specs.Elements.{is_dictionary}
+use Rattle.wamp_message_layouts.specs.Keys.{are_typed, flag_at, id_at, text_at}
+use Rattle.wamp_message_layouts.specs.Parts.{whole, dictionary_of, flag_told, id_told, text_told}
+use Rattle.wamp_message_layouts.specs.declared.keys.Key.TheVariants.{Caller, DiscloseMe, Procedure, Progress, ReceiveProgress, Topic}
 use Rattle.wamp_message_layouts.proofs.ArgsAgain.{args_again}
+use Rattle.wamp_message_layouts.proofs.Told.{told_once, flag_again, id_again, text_again, flag_is_typed, id_is_typed, text_is_typed}
 use Rattle.wamp_messages.proofs.Values.{value_is_plain, value_nests}
 use Rattle.wamp_messages.proofs.Json.{json_read}
 
@@ -66,11 +76,92 @@ subscribe_again request Exact topic h = rw h refl
 subscribe_again request Prefix topic h = rw h refl
 subscribe_again request Wildcard topic h = rw h refl
 
+-- with these details
+event_with : (subscription publication : ℕ) (details : Data) (args : Args) → IsId subscription → IsId publication → IsArgs args
+    → is_dictionary details ≡ true → are_typed event_keys details ≡ true
+    → message_in (array
+    (item (whole code.event) (item (whole subscription) (item (whole publication) (item details (args_items args))))))
+    ≡ Good (Event (record { subscription = subscription; publication = publication; topic = text_at Topic details; args = args }))
+unfolding by_code
+event_with subscription publication details args s p a dictionary typed = rw (args_again args a, s, p, dictionary, typed) refl
+
 event_again : (subscription publication : ℕ) (topic : Option (List ℕ)) (args : Args)
     → Again (Event (record { subscription = subscription; publication = publication; topic = topic; args = args }))
+event_again subscription publication topic args h =
+    let entries = event_told topic in
+    let once = told_once (text_told topic) in
+    event_with subscription publication (dictionary_of entries) args h.0 h.1.0 h.1.1 refl (rw (text_is_typed Topic entries topic refl once) refl)
+    ∙ ap (λ label. Good (Event (record { subscription = subscription; publication = publication; topic = label; args = args })))
+    (text_again Topic entries topic once)
+
+-- with these options
+call_by : (request : ℕ) (options : Data) (procedure : List ℕ) (args : Args) → IsId request → IsArgs args
+    → is_dictionary options ≡ true → are_typed call_keys options ≡ true
+    → message_in (array (item (whole code.call) (item (whole request) (item options (item (string procedure) (args_items args))))))
+    ≡ Good (Call (record {
+      request = request;
+      disclose_me = flag_at DiscloseMe options;
+      receive_progress = flag_at ReceiveProgress options;
+      procedure = procedure;
+      args = args;
+    }))
 unfolding by_code
-event_again subscription publication None args h = rw (args_again args h.1.1, h.0, h.1.0) refl
-event_again subscription publication (Some topic) args h = rw (args_again args h.1.1, h.0, h.1.0) refl
+call_by request options procedure args r a dictionary typed = rw (args_again args a, r, dictionary, typed) refl
+
+call_again : (request : ℕ) (disclose_me receive_progress : Bool) (procedure : List ℕ) (args : Args)
+    → Again (Call (record {
+      request = request;
+      disclose_me = disclose_me;
+      receive_progress = receive_progress;
+      procedure = procedure;
+      args = args;
+    }))
+call_again request disclose_me receive_progress procedure args h =
+    let entries = call_told disclose_me receive_progress in
+    let first = told_once (flag_told disclose_me) in
+    let second = told_once (flag_told receive_progress) in
+    let disclosed = flag_again DiscloseMe entries disclose_me first in
+    let progresses = flag_again ReceiveProgress entries receive_progress second in
+    call_by request (dictionary_of entries) procedure args h.0 h.1 refl
+    (rw (flag_is_typed DiscloseMe entries disclose_me refl first, flag_is_typed ReceiveProgress entries receive_progress refl second) refl)
+    ∙ (λ i. Good (Call (record {
+      request = request;
+      disclose_me = disclosed i;
+      receive_progress = progresses i;
+      procedure = procedure;
+      args = args;
+    })))
+
+call_result_with : (request : ℕ) (details : Data) (args : Args) → IsId request → IsArgs args
+    → is_dictionary details ≡ true → are_typed progress_keys details ≡ true
+    → message_in (array (item (whole code.result) (item (whole request) (item details (args_items args)))))
+    ≡ Good (CallResult (record { request = request; progress = flag_at Progress details; args = args }))
+unfolding by_code
+call_result_with request details args r a dictionary typed = rw (args_again args a, r, dictionary, typed) refl
+
+yield_by : (request : ℕ) (options : Data) (args : Args) → IsId request → IsArgs args
+    → is_dictionary options ≡ true → are_typed progress_keys options ≡ true
+    → message_in (array (item (whole code.yield) (item (whole request) (item options (args_items args)))))
+    ≡ Good (Yield (record { request = request; progress = flag_at Progress options; args = args }))
+unfolding by_code
+yield_by request options args r a dictionary typed = rw (args_again args a, r, dictionary, typed) refl
+
+progress_typed : (progress : Bool) → are_typed progress_keys (dictionary_of (progress_told progress)) ≡ true
+progress_typed progress = rw (flag_is_typed Progress (progress_told progress) progress refl (told_once (flag_told progress))) refl
+
+progress_again : (progress : Bool) → flag_at Progress (dictionary_of (progress_told progress)) ≡ progress
+progress_again progress = flag_again Progress (progress_told progress) progress (told_once (flag_told progress))
+
+call_result_again : (request : ℕ) (progress : Bool) (args : Args)
+    → Again (CallResult (record { request = request; progress = progress; args = args }))
+call_result_again request progress args h =
+    call_result_with request (dictionary_of (progress_told progress)) args h.0 h.1 refl (progress_typed progress)
+    ∙ ap (λ p. Good (CallResult (record { request = request; progress = p; args = args }))) (progress_again progress)
+
+yield_again : (request : ℕ) (progress : Bool) (args : Args) → Again (Yield (record { request = request; progress = progress; args = args }))
+yield_again request progress args h =
+    yield_by request (dictionary_of (progress_told progress)) args h.0 h.1 refl (progress_typed progress)
+    ∙ ap (λ p. Good (Yield (record { request = request; progress = p; args = args }))) (progress_again progress)
 
 register_again : (request : ℕ) (matching : Match) (invoke : Invoke) (procedure : List ℕ)
     → Again (Register (record { request = request; matching = matching; invoke = invoke; procedure = procedure }))
@@ -100,11 +191,51 @@ interrupt_again request Skip h = rw h refl
 interrupt_again request Kill h = rw h refl
 interrupt_again request KillNoWait h = rw h refl
 
-invocation_again : (request registration : ℕ) (procedure : Option (List ℕ)) (args : Args)
-    → Again (Invocation (record { request = request; registration = registration; procedure = procedure; args = args }))
+invocation_with : (request registration : ℕ) (details : Data) (args : Args) → IsId request → IsId registration → IsArgs args
+    → is_dictionary details ≡ true → are_typed invocation_keys details ≡ true
+    → message_in (array
+    (item (whole code.invocation) (item (whole request) (item (whole registration) (item details (args_items args))))))
+    ≡ Good (Invocation (record {
+      request = request;
+      registration = registration;
+      caller = id_at Caller details;
+      procedure = text_at Procedure details;
+      receive_progress = flag_at ReceiveProgress details;
+      args = args;
+    }))
 unfolding by_code
-invocation_again request registration None args h = rw (args_again args h.1.1, h.0, h.1.0) refl
-invocation_again request registration (Some procedure) args h = rw (args_again args h.1.1, h.0, h.1.0) refl
+invocation_with request registration details args q r a dictionary typed = rw (args_again args a, q, r, dictionary, typed) refl
+
+invocation_again : (request registration : ℕ) (caller : Option ℕ) (procedure : Option (List ℕ)) (receive_progress : Bool) (args : Args)
+    → Again (Invocation (record {
+      request = request;
+      registration = registration;
+      caller = caller;
+      procedure = procedure;
+      receive_progress = receive_progress;
+      args = args;
+    }))
+invocation_again request registration caller procedure receive_progress args h =
+    let entries = invocation_told caller procedure receive_progress in
+    let first = told_once (id_told caller) in
+    let second = told_once (text_told procedure) in
+    let third = told_once (flag_told receive_progress) in
+    let called = id_again Caller entries caller h.1.1.0 first in
+    let named = text_again Procedure entries procedure second in
+    let progresses = flag_again ReceiveProgress entries receive_progress third in
+    let caller_typed = id_is_typed Caller entries caller refl h.1.1.0 first in
+    let procedure_typed = text_is_typed Procedure entries procedure refl second in
+    let progress_typed = flag_is_typed ReceiveProgress entries receive_progress refl third in
+    invocation_with request registration (dictionary_of entries) args h.0 h.1.0 h.1.1.1 refl
+    (rw (caller_typed, procedure_typed, progress_typed) refl)
+    ∙ (λ i. Good (Invocation (record {
+      request = request;
+      registration = registration;
+      caller = called i;
+      procedure = named i;
+      receive_progress = progresses i;
+      args = args;
+    })))
 
 message_again : (m : Message) → Again m
 unfolding by_code
@@ -125,12 +256,13 @@ message_again (Register register) h = register_again register.request register.m
 message_again (Registered registered) h = rw (h.0, h.1) refl
 message_again (Unregister unregister) h = rw (h.0, h.1) refl
 message_again (Unregistered unregistered) h = rw h refl
-message_again (Call call) h = rw (args_again call.args h.1, h.0) refl
+message_again (Call call) h = call_again call.request call.disclose_me call.receive_progress call.procedure call.args h
 message_again (Cancel cancel) h = cancel_again cancel.request cancel.mode h
-message_again (CallResult reply) h = rw (args_again reply.args h.1, h.0) refl
-message_again (Invocation invocation) h = invocation_again invocation.request invocation.registration invocation.procedure invocation.args h
+message_again (CallResult reply) h = call_result_again reply.request reply.progress reply.args h
+message_again (Invocation invocation) h =
+    invocation_again invocation.request invocation.registration invocation.caller invocation.procedure invocation.receive_progress invocation.args h
 message_again (Interrupt interrupt) h = interrupt_again interrupt.request interrupt.mode h
-message_again (Yield yielded) h = rw (args_again yielded.args h.1, h.0) refl
+message_again (Yield yielded) h = yield_again yielded.request yielded.progress yielded.args h
 
 -- ---- and the octets are read as the value
 

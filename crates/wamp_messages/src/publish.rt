@@ -3,13 +3,14 @@ ghost use Rattle.std.specs.Prelude.{◌≡◌, true, false, codes, OnOk};
 ghost use Rattle.wamp_values.specs.Args.{IsArgs};
 ghost use Rattle.wamp_values.specs.Tokens.{data_tokens, Appends};
 ghost use Rattle.wamp_message_layouts.specs.Elements.{elements};
-ghost use Rattle.wamp_message_layouts.specs.Layouts.{seen_asked};
+ghost use Rattle.wamp_message_layouts.specs.Layouts.{seen_asked, seen_details};
+ghost use Rattle.wamp_message_layouts.specs.Parts.{dictionary_of};
 ghost use Rattle.wamp_message_types.specs.declared.read_result.Read.TheVariants.{Unfit};
 ghost use Rattle.wamp_message_types.specs.declared.read_result.UnfitKind.TheVariants as unfit;
 ghost use Rattle.wamp_messages.specs.Message.{IsId};
 ghost use Rattle.wamp_messages.specs.Flags.{flagged_in, flagged_read};
 ghost use Rattle.wamp_messages.specs.Publish.{publish_in, publish_with, publish_read, publish_value, publish_options, published_in, published_value};
-ghost use Rattle.wamp_messages.specs.Publish.{event_in, event_value};
+ghost use Rattle.wamp_messages.specs.Publish.{event_in, event_read, event_value, event_told};
 
 use crate::flags::{Flags, flag_of};
 use crate::shared::{begin_with_id, begin_with_ids, end_with_args, put_ids};
@@ -19,11 +20,14 @@ use std::alloc::AllocError;
 use std::vec::IntoIter;
 use wamp_ids::{Id, Text};
 use wamp_message_layouts::{
-    UriRequest, end, id_dictionary_text_args, open, put_flag_option, put_label, put_nothing,
-    two_ids, two_ids_label_args,
+    Key, KeyedDetails, UriRequest, end, id_dictionary_text_args, open, put_flag_option,
+    put_nothing, put_text, take_text, two_ids, two_ids_keys_args,
 };
 use wamp_message_types::{Event, Message, Publish, Published, Read, UnfitKind, codes};
 use wamp_values::{Args, flag_in};
+
+// The key of EVENT.
+const EVENT_KEYS: &[Key] = &[Key::Topic];
 
 // Reads the elements after the code of PUBLISH.
 pub(crate) fn read_publish(rest: IntoIter<Value>) -> Read
@@ -156,15 +160,30 @@ pub(crate) fn put_published(published: Published, out: &mut Writer) -> Result<()
 pub(crate) fn read_event(rest: IntoIter<Value>) -> Read
     ensures { result ≡ event_in (elements rest) }
 {
-    match two_ids_label_args(rest, "topic") {
-        Ok(labelled) => Read::Good(Message::Event(Event {
-            subscription: labelled.first,
-            publication: labelled.second,
-            topic: labelled.label,
-            args: labelled.args,
-        })),
+    match two_ids_keys_args(rest, EVENT_KEYS) {
+        Ok(keyed) => event_of(keyed),
         Err(fault) => Read::Bad(fault),
     }
+}
+
+fn event_of(keyed: KeyedDetails) -> Read
+    ensures { result ≡ event_read (seen_details keyed) }
+{
+    let KeyedDetails {
+        first,
+        second,
+        details,
+        args,
+    } = keyed;
+    let mut details = details;
+    let topic = take_text(&mut details, Key::Topic);
+    drop(details);
+    Read::Good(Message::Event(Event {
+        subscription: first,
+        publication: second,
+        topic,
+        args,
+    }))
 }
 
 pub(crate) fn put_event(event: &Event, out: &mut Writer) -> Result<(), AllocError>
@@ -173,8 +192,16 @@ pub(crate) fn put_event(event: &Event, out: &mut Writer) -> Result<(), AllocErro
         (IsId event.now.subscription × (IsId event.now.publication × IsArgs event.now.args)) }
 {
     begin_with_ids(codes::EVENT, event.subscription, event.publication, out)?;
-    put_label("topic", &event.topic, out)?;
+    put_topic(&event.topic, out)?;
     end(&event.args, out)
+}
+
+fn put_topic(topic: &Option<Text>, out: &mut Writer) -> Result<(), AllocError>
+    ensures { Appends result out.old out.new (data_tokens (dictionary_of (event_told topic.now))) }
+{
+    out.begin_object()?;
+    put_text(Key::Topic, topic, out)?;
+    out.end_object()
 }
 
 fn put_publish_options(

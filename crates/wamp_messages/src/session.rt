@@ -165,7 +165,9 @@ fn put_dealer(out: &mut Writer) -> Result<(), AllocError>
 {
     open_role("dealer", out)?;
     put_feature("call_canceling", out)?;
+    put_feature("caller_identification", out)?;
     put_feature("pattern_based_registration", out)?;
+    put_feature("progressive_call_results", out)?;
     put_feature("shared_registration", out)?;
     close_two(out)
 }

@@ -4,13 +4,13 @@ ghost use Rattle.json.specs.Token.{begin_array, number};
 ghost use Rattle.serde_json.specs.Data.{string, array, no_items, item};
 ghost use Rattle.wamp_values.specs.Args.{IsArgs, args_items};
 ghost use Rattle.wamp_values.specs.Tokens.{data_tokens, list_tokens, Appends};
-ghost use Rattle.wamp_message_layouts.specs.Parts.{whole, nothing};
+ghost use Rattle.wamp_message_layouts.specs.Parts.{whole};
 ghost use Rattle.wamp_messages.specs.Message.{IsId};
 
 use json::Writer;
 use std::alloc::AllocError;
 use wamp_ids::{Id, Text};
-use wamp_message_layouts::{begin, end, put_nothing};
+use wamp_message_layouts::{begin, end};
 use wamp_values::Args;
 
 // Writes the array's bracket, the message's code and an id.
@@ -56,17 +56,6 @@ pub(crate) fn put_ids(code: u64, first: Id, second: Id, out: &mut Writer) -> Res
 {
     begin_with_ids(code, first, second, out)?;
     out.end_array()
-}
-
-// Writes a message of an id, an empty dictionary, and arguments.
-pub(crate) fn put_answer(code: u64, id: Id, args: &Args, out: &mut Writer) -> Result<(), AllocError>
-    ensures tokens { Appends result out.old out.new
-        (data_tokens (array (item (whole code) (item (whole id) (item nothing (args_items args.now)))))) }
-    ensures parts { OnOk result (IsId id × IsArgs args.now) }
-{
-    begin_with_id(code, id, out)?;
-    put_nothing(out)?;
-    end(args, out)
 }
 
 // Writes a text, and the bracket that ends the message.
