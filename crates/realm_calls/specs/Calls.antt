@@ -38,6 +38,10 @@ has_invocation list callee invocation = list_any (is_invocation callee invocatio
 abbrev pub call_of : List Open → ℕ → ℕ → Option Open
 call_of list caller request = find (is_call caller request) list
 
+-- the open call of this invocation; it stays open
+abbrev pub peek : List Open → ℕ → ℕ → Option Open
+peek list callee invocation = find (is_invocation callee invocation) list
+
 -- ---- opening
 
 -- how many of the calls are the caller's
@@ -48,9 +52,10 @@ count_of list caller = length (filter (λ (call : Open). call.caller == caller) 
 abbrev pub is_full : Calls → ℕ → Bool
 is_full calls caller = not (nat_lt (count_of calls.list caller) calls.limit)
 
-abbrev pub open_call : ℕ → ℕ → ℕ → ℕ → Open
-open_call caller request callee invocation =
-    record { caller = caller; request = request; callee = callee; invocation = invocation }
+-- `progress`: whether the caller takes progressive results
+abbrev pub open_call : ℕ → ℕ → ℕ → ℕ → Bool → Open
+open_call caller request callee invocation progress =
+    record { caller = caller; request = request; callee = callee; invocation = invocation; progress = progress }
 
 abbrev pub with_call : Calls → Open → Calls
 with_call calls call = with_list calls (calls.list ++ call ∷ [])
@@ -76,7 +81,7 @@ answer_found calls (Some call) = record { calls = with_list calls (end calls.lis
 
 -- the callee answers this invocation
 abbrev pub answer : Calls → ℕ → ℕ → AfterAnswer
-answer calls callee invocation = answer_found calls (find (is_invocation callee invocation) calls.list)
+answer calls callee invocation = answer_found calls (peek calls.list callee invocation)
 
 -- what becomes of a call that is canceled; a callee that did not announce canceling is not interrupted
 abbrev pub cancel_one : Open → Mode → Bool → Cancelled

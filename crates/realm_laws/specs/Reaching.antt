@@ -31,10 +31,10 @@ pub record Invokes (c : Content) (requester : Requester) (call : Call) (chosen :
   pub is_id : is_id id ≡ true
   pub free : has_number (open_of c.calls.list chosen.callee) id ≡ false
   pub opens : (on_call c requester call).content.calls.list
-      ≡ c.calls.list ++ open_call requester.session call.request chosen.callee id ∷ []
+      ≡ c.calls.list ++ open_call requester.session call.request chosen.callee id call.receive_progress ∷ []
   pub transport : Transport
   pub there : transport_of c.sessions.list chosen.callee ≡ Some transport
-  pub says : (on_call c requester call).says ≡ say transport (invocation id chosen call) ∷ []
+  pub says : (on_call c requester call).says ≡ say transport (invocation id requester.session chosen call) ∷ []
 
 -- a CALL that finds a callee, of a caller that may have one more open call, is an INVOCATION
 abbrev pub InvokesTheCallee : Type 0

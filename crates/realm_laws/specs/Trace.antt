@@ -1,5 +1,6 @@
--- Calls and their final replies, entry by entry (WAMP specification, "Remote Procedure Calls").
-use Rattle.std.specs.Prelude.{ℕ, ◌==◌, Bool, true, false, ◌&&◌, ◌||◌, List, [], ◌∷◌, ◌++◌, length, filter, replicate}
+-- Calls and their final replies, entry by entry (WAMP specification, "Remote Procedure Calls",
+-- "Progressive Call Results").
+use Rattle.std.specs.Prelude.{ℕ, ◌==◌, Bool, true, false, not, ◌&&◌, ◌||◌, List, [], ◌∷◌, ◌++◌, length, filter, replicate}
 use Rattle.paxos_packets.specs.declared.transport.Transport.{Transport}
 use Rattle.paxos_packets.specs.Transport.{same_transport}
 use Rattle.replica_machine.specs.declared.input.Input.{Input}
@@ -59,9 +60,9 @@ abbrev pub is_call_kind : RequestKind → Bool
 is_call_kind kind.Call = true
 is_call_kind kind = false
 
--- a RESULT, or an ERROR on a CALL
+-- a RESULT that is not progressive, or an ERROR on a CALL
 abbrev pub is_final_message : ℕ → Message → Bool
-is_final_message request (CallResult reply) = reply.request == request
+is_final_message request (CallResult reply) = not reply.progress && reply.request == request
 is_final_message request (Error error) = is_call_kind error.kind && error.request == request
 is_final_message request message = false
 

@@ -1,6 +1,7 @@
 -- How a client calls a procedure, cancels a call, and answers an invocation (WAMP specification, "Remote Procedure Calls",
--- "Call Canceling"; the limits, the refusals and their order are this profile's: docs/PROTOCOL.md, "The realm").
-use Rattle.std.specs.Prelude.{ℕ, List, ◌++◌, find, Option, None, Some, Result, Ok, Err, if◌then◌else◌}
+-- "Call Canceling", "Progressive Call Results", "Caller Identification"; the limits, the refusals and their order are this profile's:
+-- docs/PROTOCOL.md, "The realm").
+use Rattle.std.specs.Prelude.{ℕ, true, false, List, ◌++◌, Option, None, Some, Result, Ok, Err, if◌then◌else◌}
 use Rattle.wamp_ids.specs.declared.policy.Mode.{Mode}
 use Rattle.wamp_ids.specs.declared.uri.UriFault.{UriFault}
 use Rattle.wamp_ids.specs.Uri.{uri_of, is_reserved}
@@ -8,7 +9,6 @@ use Rattle.wamp_values.specs.declared.args.Args.{Args}
 use Rattle.wamp_values.specs.declared.args.Args.TheVariants.{Nothing}
 use Rattle.wamp_message_types.specs.declared.request_kind.RequestKind.TheVariants as kind
 use Rattle.wamp_message_types.specs.declared.message.Message.{Message}
-use Rattle.wamp_message_types.specs.declared.message.Message.TheVariants.{CallResult}
 use Rattle.wamp_message_types.specs.declared.call.Call.{Call}
 use Rattle.wamp_message_types.specs.declared.call.Cancel.{Cancel}
 use Rattle.wamp_message_types.specs.declared.call.Yield.{Yield}
@@ -18,9 +18,9 @@ use Rattle.realm_registrations.specs.declared.registration.Chosen.{Chosen}
 use Rattle.realm_registrations.specs.Registrations.{choose, turn}
 use Rattle.realm_calls.specs.declared.calls.Open.{Open}
 use Rattle.realm_calls.specs.declared.calls.Cancelled.{Cancelled}
-use Rattle.realm_calls.specs.Calls.{is_invocation, has, call_of, is_full, open_call, with_call, open_of, end, cancel_one, without_cancelled}
+use Rattle.realm_calls.specs.Calls.{has, call_of, peek, is_full, open_call, with_call, open_of, end, cancel_one, without_cancelled}
 use Rattle.realm_machine.specs.Sayings.{to_session, invalid_uri, invalid_argument, no_such_procedure, limit}
-use Rattle.realm_machine.specs.Sayings.Invocations.{invocation, interrupted, told_canceled, failure}
+use Rattle.realm_machine.specs.Sayings.Invocations.{invocation, result_of, interrupted, told_canceled, failure}
 use Rattle.realm_machine.specs.declared.requester.Requester.{Requester}
 use Rattle.realm_machine.specs.Content.{Content, Step, quiet, refuse, with_calls}
 use Rattle.realm_machine.specs.Leaving.{violation}
@@ -39,9 +39,9 @@ invoke_under c requester call chosen (Some id) = record {
     sessions = c.sessions;
     registrations = turn c.registrations chosen.registration;
     subscriptions = c.subscriptions;
-    calls = with_call c.calls (open_call requester.session call.request chosen.callee id);
+    calls = with_call c.calls (open_call requester.session call.request chosen.callee id call.receive_progress);
   };
-  says = to_session c.sessions.list chosen.callee (invocation id chosen call);
+  says = to_session c.sessions.list chosen.callee (invocation id requester.session chosen call);
 }
 
 -- under the callee's next id, which is its last one now
@@ -97,11 +97,19 @@ replied c answer (Some call) = record {
 
 -- the callee answers this invocation
 abbrev pub reply_to : Content → ℕ → ℕ → (ℕ → Message) → Step
-reply_to c callee request answer = replied c answer (find (is_invocation callee request) c.calls.list)
+reply_to c callee request answer = replied c answer (peek c.calls.list callee request)
+
+-- the caller gets a progressive result, if it takes them; the call stays open
+abbrev pub progressed : Content → Args → Option Open → Step
+progressed c args None = quiet c
+progressed c args (Some call) =
+    if call.progress then record { content = c; says = to_session c.sessions.list call.caller (result_of true args call.request) }
+    else quiet c
 
 abbrev pub on_yield : Content → Requester → Yield → Step
 on_yield c requester yield =
-    reply_to c requester.session yield.request (λ request. CallResult (record { request = request; args = yield.args }))
+    if yield.progress then progressed c yield.args (peek c.calls.list requester.session yield.request)
+    else reply_to c requester.session yield.request (result_of false yield.args)
 
 -- the invocation failed
 abbrev pub on_failure : Content → Requester → ℕ → List ℕ → Args → Step
