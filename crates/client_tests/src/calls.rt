@@ -19,6 +19,8 @@ type Invocation = (u64, u64);
 enum Step {
     // The request opens a call with this invocation.
     Open(Request, Invocation, Result<(), RealmFault>),
+    // The request opens a call whose caller takes progressive results.
+    OpenProgressive(Request, Invocation),
     // The request or the invocation is open already, so that no call may be opened with both.
     IsOpen(Request, Invocation),
     // Whether the request is open.
@@ -27,6 +29,8 @@ enum Step {
     IsFull(u64, bool),
     // The callee of the request, if that is open.
     Callee(Request, Option<u64>),
+    // The open call of the invocation, and whether its caller takes progressive results.
+    Peek(Invocation, Option<(Request, bool)>),
     // Whether the invocation is open.
     IsInvoked(Invocation, bool),
     // The open invocations of a callee.
@@ -76,12 +80,13 @@ fn is_among(ids: &[Id], id: Id) -> bool
     ids.iter().any(|other| *other == id)
 }
 
-fn call_of(rt: &impl Abort, request: Request, invocation: Invocation) -> Open {
+fn call_of(rt: &impl Abort, request: Request, invocation: Invocation, progress: bool) -> Open {
     Open {
         caller: id(rt, request.0),
         request: id(rt, request.1),
         callee: id(rt, invocation.0),
         invocation: id(rt, invocation.1),
+        progress,
     }
 }
 
@@ -91,7 +96,13 @@ fn opened(rt: &impl Abort, calls: &mut Calls, call: &Open) -> Option<Result<(), 
     if is_among(&taken, call.invocation) || calls.has(call.caller, call.request) {
         return None;
     }
-    Some(calls.open(call.caller, call.request, call.callee, call.invocation))
+    Some(calls.open(
+        call.caller,
+        call.request,
+        call.callee,
+        call.invocation,
+        call.progress,
+    ))
 }
 
 fn opens(
@@ -99,9 +110,10 @@ fn opens(
     calls: &mut Calls,
     request: Request,
     invocation: Invocation,
+    progress: bool,
     wanted: Result<(), RealmFault>,
 ) -> bool {
-    let call = call_of(rt, request, invocation);
+    let call = call_of(rt, request, invocation, progress);
     match opened(rt, calls, &call) {
         Some(outcome) => outcome == wanted,
         None => false,
@@ -109,7 +121,7 @@ fn opens(
 }
 
 fn is_open(rt: &impl Abort, calls: &mut Calls, request: Request, invocation: Invocation) -> bool {
-    let call = call_of(rt, request, invocation);
+    let call = call_of(rt, request, invocation, false);
     opened(rt, calls, &call).is_none()
 }
 
@@ -121,6 +133,14 @@ fn has(rt: &impl Abort, calls: &Calls, request: Request) -> bool {
 fn callee_of(rt: &impl Abort, calls: &Calls, request: Request) -> Option<u64> {
     match calls.call_of(id(rt, request.0), id(rt, request.1)) {
         Some(call) => Some(call.callee.get()),
+        None => None,
+    }
+}
+
+// The open call of the invocation, and whether its caller takes progressive results.
+fn peeked(rt: &impl Abort, calls: &Calls, invocation: Invocation) -> Option<(Request, bool)> {
+    match calls.peek(id(rt, invocation.0), id(rt, invocation.1)) {
+        Some(call) => Some((request_of(call), call.progress)),
         None => None,
     }
 }
@@ -190,12 +210,16 @@ fn caller_leaves(rt: &impl Abort, calls: &mut Calls, caller: u64, wanted: &[Requ
 fn take(rt: &impl Abort, calls: &mut Calls, step: &Step) -> bool {
     match step {
         Step::Open(request, invocation, wanted) => {
-            opens(rt, calls, *request, *invocation, *wanted)
+            opens(rt, calls, *request, *invocation, false, *wanted)
+        },
+        Step::OpenProgressive(request, invocation) => {
+            opens(rt, calls, *request, *invocation, true, Ok(()))
         },
         Step::IsOpen(request, invocation) => is_open(rt, calls, *request, *invocation),
         Step::Has(request, wanted) => has(rt, calls, *request) == *wanted,
         Step::IsFull(caller, wanted) => calls.is_full(id(rt, *caller)) == *wanted,
         Step::Callee(request, wanted) => callee_of(rt, calls, *request) == *wanted,
+        Step::Peek(invocation, wanted) => peeked(rt, calls, *invocation) == *wanted,
         Step::IsInvoked(invocation, wanted) => is_invoked(rt, calls, *invocation) == *wanted,
         Step::Invocations(callee, wanted) => are_invocations(rt, calls, *callee, wanted),
         Step::Calls(wanted) => are_open(rt, calls, wanted),
@@ -277,6 +301,34 @@ const CANCELS_CALLS: &[Step] = &[
 fn cancels_calls(rt: HostRuntime) {
     let mut calls = Calls::new(rt.alloc(), 4);
     take_all(&rt, &mut calls, CANCELS_CALLS);
+}
+
+const PEEKS_AT_CALLS: &[Step] = &[
+    Step::Peek((9, 1), None),
+    Step::OpenProgressive((1, 5), (9, 1)),
+    Step::Open((2, 5), (9, 2), Ok(())),
+    Step::Peek((9, 1), Some(((1, 5), true))),
+    Step::Peek((9, 1), Some(((1, 5), true))),
+    Step::Peek((9, 2), Some(((2, 5), false))),
+    Step::Peek((1, 5), None),
+    Step::Cancel((1, 5), Mode::Kill, true, Ok((false, Some(Mode::Kill)))),
+    Step::Peek((9, 1), Some(((1, 5), true))),
+    Step::Calls(&[(1, 5), (2, 5)]),
+    Step::Answer((9, 1), Ok((1, 5))),
+    Step::Peek((9, 1), None),
+    Step::Cancel(
+        (2, 5),
+        Mode::KillNoWait,
+        true,
+        Ok((true, Some(Mode::KillNoWait))),
+    ),
+    Step::Peek((9, 2), None),
+];
+
+#[test]
+fn peeks_at_calls(rt: HostRuntime) {
+    let mut calls = Calls::new(rt.alloc(), 4);
+    take_all(&rt, &mut calls, PEEKS_AT_CALLS);
 }
 
 const ENDS_THE_CALLS_OF_A_SESSION: &[Step] = &[

@@ -2,7 +2,7 @@ ghost use Rattle.std.specs.Prelude.{◌≡◌, ◌↔◌, ◌+◌, ◌<◌, ◌^
 ghost use Rattle.std.specs.Prelude.{filter, option_map, map};
 ghost use Rattle.realm_sessions.specs.declared.fault.RealmFault.TheVariants as fault;
 ghost use Rattle.realm_sessions.specs.Links.{has_number};
-ghost use Rattle.realm_calls.specs.Calls.{with_list, is_invocation, has, call_of, count_of, is_full, open_call, with_call};
+ghost use Rattle.realm_calls.specs.Calls.{with_list, is_invocation, has, call_of, peek, count_of, is_full, open_call, with_call};
 ghost use Rattle.realm_calls.specs.Calls.{open_of, end, answer, cancel_one, cancel, is_by, calls_to, calls_by};
 ghost use Rattle.realm_calls.specs.Calls.{without_callee, without_caller};
 
@@ -21,6 +21,8 @@ pub struct Open {
     /// The session that is called, and the invocation that it knows the call as.
     pub callee: Id,
     pub invocation: Id,
+    /// Whether the caller takes progressive results (WAMP specification, "Progressive Call Results").
+    pub progress: bool,
 }
 
 /// What becomes of a call that its caller cancels (WAMP specification, "Call Canceling").
@@ -79,18 +81,20 @@ impl Calls {
         }
     }
 
-    /// Opens a call as the last one. Neither the caller's request nor the callee's invocation may be open. The faults are `Limit`, exactly
-    /// if the caller has `limit` open calls, and `Memory`; nothing has changed then.
+    /// Opens a call as the last one; `progress` says whether its caller takes progressive results. Neither the caller's request nor the
+    /// callee's invocation may be open. The faults are `Limit`, exactly if the caller has `limit` open calls, and `Memory`; nothing has
+    /// changed then.
     pub fn open(
         &mut self,
         caller: Id,
         request: Id,
         callee: Id,
         invocation: Id,
+        progress: bool,
     ) -> Result<(), RealmFault>
         requires new { has self.old.list caller request ≡ false }
         requires free { has_number (open_of self.old.list callee) invocation ≡ false }
-        ensures ok { OnOk result (self.new ≡ with_call self.old (open_call caller request callee invocation)) }
+        ensures ok { OnOk result (self.new ≡ with_call self.old (open_call caller request callee invocation progress)) }
         ensures err { OnErr result (self.new ≡ self.old) }
         ensures limit { IsErrOf result fault.Limit ↔ (is_full self.old caller ≡ true) }
         ensures fault { is_full self.old caller ≡ false → IsOkUnless result fault.Memory }
@@ -103,6 +107,7 @@ impl Calls {
             request,
             callee,
             invocation,
+            progress,
         })
     }
 
@@ -141,6 +146,13 @@ impl Calls {
         ensures { option_map (λ call. call.now) result ≡ call_of self.now.list caller request }
     {
         self.held.find_call(caller, request)
+    }
+
+    /// Returns the open call that the callee knows as this invocation, and leaves it open: `answer` ends this one. Does not allocate.
+    pub fn peek(&self, callee: Id, invocation: Id) -> Option<&Open>
+        ensures { option_map (λ call. call.now) result ≡ peek self.now.list callee invocation }
+    {
+        self.held.find_invocation(callee, invocation)
     }
 
     /// Returns whether the callee has this invocation open. Does not allocate.

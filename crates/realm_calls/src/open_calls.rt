@@ -1,11 +1,11 @@
 //! The open calls in order of opening, with the indexes that find them.
 ghost use Rattle.std.specs.Prelude.{◌≡◌, ◌+◌, ◌-◌, ◌<◌, ◌^◌, ◌==◌, ℕ, false, not, None, Some, if◌then◌else◌, [], ◌∷◌, ◌++◌};
-ghost use Rattle.std.specs.Prelude.{filter, find, option_map, IfOk, OnOk, OnErr, IsOkUnless};
+ghost use Rattle.std.specs.Prelude.{filter, option_map, IfOk, OnOk, OnErr, IsOkUnless};
 ghost use Rattle.realm_sessions.specs.declared.fault.RealmFault.TheVariants as fault;
 ghost use Rattle.realm_lists.specs.OrderedList.{IsAbove, members};
 ghost use Rattle.realm_lists.specs.PlaceIndex.{is_key, place_of, places_under};
 ghost use Rattle.realm_lists.specs.Tally.{count_in};
-ghost use Rattle.realm_calls.specs.Calls.{is_call, is_invocation, has, has_invocation, call_of, count_of, end, calls_to};
+ghost use Rattle.realm_calls.specs.Calls.{is_call, is_invocation, has, has_invocation, call_of, peek, count_of, end, calls_to};
 ghost use Rattle.realm_calls.specs.Calls.{without_callee, without_caller};
 ghost use Rattle.realm_calls.specs.Indexed.{AreApart, of_caller, of_callee, end_all};
 
@@ -85,7 +85,7 @@ impl OpenCalls {
 
     // Returns the call that the callee knows as this invocation.
     pub fn find_invocation(&self, callee: Id, invocation: Id) -> Option<&Open>
-        ensures { option_map (λ call. call.now) result ≡ find (is_invocation callee invocation) self.now }
+        ensures { option_map (λ call. call.now) result ≡ peek self.now callee invocation }
     {
         let Some(place) = place_in(&self.invocations, callee, invocation) else {
             return None;
