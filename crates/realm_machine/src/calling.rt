@@ -1,24 +1,25 @@
 //! How a client calls a procedure, cancels a call, and answers an invocation.
 ghost use Rattle.std.specs.Prelude.{◌≡◌, ◌++◌, false, IfOk};
-ghost use Rattle.realm_calls.specs.Calls.{has, open_of};
+ghost use Rattle.realm_calls.specs.Calls.{has, peek, open_of};
 ghost use Rattle.realm_sessions.specs.Sessions.{next_invocation};
-ghost use Rattle.realm_machine.specs.Sayings.Invocations.{interrupted, told_canceled};
+ghost use Rattle.realm_machine.specs.Sayings.{to_session};
+ghost use Rattle.realm_machine.specs.Sayings.Invocations.{result_of, interrupted, told_canceled};
 ghost use Rattle.realm_machine.specs.Content.{Does};
-ghost use Rattle.realm_machine.specs.Calling.{refuse_call, invoke, on_call, on_cancel, on_yield, on_failure, unfit_yield};
+ghost use Rattle.realm_machine.specs.Calling.{refuse_call, invoke, on_call, on_cancel, progressed, on_yield, on_failure, unfit_yield};
 
 use crate::content::Content;
 use crate::memory::Memory;
 use crate::requester::Requester;
 use crate::sayings::{
     INVALID_ARGUMENT, INVALID_URI, LIMIT, NO_SUCH_PROCEDURE, Say, add_interrupt, add_told_canceled,
-    failure, invocation,
+    failure, invocation, result_of,
 };
 use paxos_packets::Transport;
-use realm_calls::Cancelled;
+use realm_calls::{Cancelled, Open};
 use realm_registrations::Chosen;
 use realm_sessions::laws::invocation_ids_are_found;
 use wamp_ids::{Id, Uri};
-use wamp_message_types::{Call, CallResult, Cancel, Message, RequestKind, Yield};
+use wamp_message_types::{Call, Cancel, RequestKind, Yield};
 use wamp_values::Args;
 
 impl Content {
@@ -61,11 +62,16 @@ impl Content {
         let Some(id) = self.sessions.next_invocation(chosen.callee, &passed) else {
             return self.refuse_call(requester, call, LIMIT);
         };
-        self.calls
-            .open(requester.session, call.request, chosen.callee, id)?;
+        self.calls.open(
+            requester.session,
+            call.request,
+            chosen.callee,
+            id,
+            call.receive_progress,
+        )?;
         self.registrations.turn(chosen.registration);
         let place = self.sessions.by_id(chosen.callee);
-        let message = invocation(id, chosen, call)?;
+        let message = invocation(id, requester.session, chosen, call)?;
         self.say_to(&place, message)
     }
 
@@ -125,18 +131,41 @@ impl Content {
         Ok(says)
     }
 
-    // Ends the call that a callee answers, and sends its caller the RESULT; an unknown invocation is ignored.
+    // Ends the call that a callee answers, and sends its caller the RESULT; with `progress` the call stays open. An unknown invocation is
+    // ignored.
     pub fn on_yield(&mut self, requester: Requester, answer: &Yield) -> Result<Vec<Say>, Memory>
         ensures { Does result self.new (on_yield self.old requester answer.now) }
     {
+        if answer.progress {
+            return self.progressed(requester, answer);
+        }
         let Ok(call) = self.calls.answer(requester.session, answer.request) else {
             return Ok(Vec::new(self.alloc));
         };
+        self.say_result(&call, false, &answer.args)
+    }
+
+    // Sends the caller a progressive result, if it takes them.
+    fn progressed(&self, requester: Requester, answer: &Yield) -> Result<Vec<Say>, Memory>
+        ensures { Does result self.now (progressed self.now answer.now.args
+            (peek self.now.calls.list requester.session answer.now.request)) }
+    {
+        let Some(call) = self.calls.peek(requester.session, answer.request) else {
+            return Ok(Vec::new(self.alloc));
+        };
+        if !call.progress {
+            return Ok(Vec::new(self.alloc));
+        }
+        self.say_result(call, true, &answer.args)
+    }
+
+    // Sends the call's caller the RESULT.
+    fn say_result(&self, call: &Open, progress: bool, args: &Args) -> Result<Vec<Say>, Memory>
+        ensures { IfOk result (λ says. says.items
+            ≡ to_session self.now.sessions.list call.now.caller (result_of progress args.now call.now.request)) }
+    {
         let place = self.sessions.by_id(call.caller);
-        let message = Message::CallResult(CallResult {
-            request: call.request,
-            args: answer.args.copy()?,
-        });
+        let message = result_of(call.request, progress, args)?;
         self.say_to(&place, message)
     }
 

@@ -12,7 +12,7 @@ mod say;
 use crate::memory::Memory;
 pub use endings::{add_end, add_farewell, end_for_callees, end_for_callers};
 pub use events::{add_events_to, open_topic};
-pub use invocations::{add_interrupt, add_told_canceled, failure, invocation};
+pub use invocations::{add_interrupt, add_told_canceled, failure, invocation, result_of};
 use paxos_packets::Transport;
 pub use say::{Out, Say};
 use std::alloc::Global;

@@ -1,6 +1,7 @@
 //! What the realm says to callees and callers about invocations.
 ghost use Rattle.std.specs.Prelude.{◌≡◌, ◌++◌, IfOk, OnOk};
-ghost use Rattle.realm_machine.specs.Sayings.Invocations.{procedure_for, invocation, interrupt, interrupted, told_canceled, failure};
+ghost use Rattle.realm_machine.specs.Sayings.Invocations.{caller_for, procedure_for, invocation, result_of, interrupt, interrupted};
+ghost use Rattle.realm_machine.specs.Sayings.Invocations.{told_canceled, failure};
 
 use crate::memory::Memory;
 use crate::sayings::{CANCELED, Say, add_message, add_refusal};
@@ -10,7 +11,7 @@ use realm_registrations::Chosen;
 use realm_sessions::Sessions;
 use std::alloc::Global;
 use wamp_ids::{Id, Match, Mode, Text};
-use wamp_message_types::{Call, Error, Interrupt, Invocation, Message, RequestKind};
+use wamp_message_types::{Call, CallResult, Error, Interrupt, Invocation, Message, RequestKind};
 use wamp_values::Args;
 
 // Returns the INTERRUPT for a call.
@@ -40,9 +41,20 @@ pub fn failure(alloc: Global, request: Id, error: &str, args: &Args) -> Result<M
     }))
 }
 
+// Returns the RESULT for a caller: a progressive one, or the one that ends the call.
+pub fn result_of(request: Id, progress: bool, args: &Args) -> Result<Message, Memory>
+    ensures { IfOk result (λ message. message ≡ result_of progress args.now request) }
+{
+    Ok(Message::CallResult(CallResult {
+        request,
+        progress,
+        args: args.copy()?,
+    }))
+}
+
 // Returns the INVOCATION for the callee that was chosen.
-pub fn invocation(id: Id, chosen: &Chosen, call: &Call) -> Result<Message, Memory>
-    ensures { IfOk result (λ message. message ≡ invocation id chosen.now call.now) }
+pub fn invocation(id: Id, caller: Id, chosen: &Chosen, call: &Call) -> Result<Message, Memory>
+    ensures { IfOk result (λ message. message ≡ invocation id caller chosen.now call.now) }
 {
     let procedure = procedure_for(chosen.matching, &call.procedure)?;
     let Ok(args) = call.args.copy() else {
@@ -52,9 +64,18 @@ pub fn invocation(id: Id, chosen: &Chosen, call: &Call) -> Result<Message, Memor
     Ok(Message::Invocation(Invocation {
         request: id,
         registration: chosen.registration,
+        caller: caller_for(call.disclose_me, caller),
         procedure,
+        receive_progress: call.receive_progress,
         args,
     }))
+}
+
+// Returns the caller that the INVOCATION names: the one that called, if it asks for that.
+fn caller_for(disclose_me: bool, caller: Id) -> Option<Id>
+    ensures { result ≡ caller_for disclose_me caller }
+{
+    if disclose_me { Some(caller) } else { None }
 }
 
 // Returns the procedure that the INVOCATION names: the one that was called, unless the match is exact.
