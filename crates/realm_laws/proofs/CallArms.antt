@@ -13,7 +13,6 @@ use Rattle.wamp_ids.specs.declared.uri.UriFault.{UriFault}
 use Rattle.wamp_values.specs.declared.args.Args.{Args}
 use Rattle.wamp_message_types.specs.declared.request_kind.RequestKind.TheVariants as kind
 use Rattle.wamp_message_types.specs.declared.message.Message.{Message}
-use Rattle.wamp_message_types.specs.declared.message.Message.TheVariants as message
 use Rattle.wamp_message_types.specs.declared.call.Call.{Call}
 use Rattle.wamp_message_types.specs.declared.call.Cancel.{Cancel}
 use Rattle.wamp_message_types.specs.declared.call.Yield.{Yield}
@@ -29,18 +28,18 @@ use Rattle.realm_calls.proofs.SoundCalls.{opened_sound as call_opened}
 use Rattle.realm_registrations.specs.declared.registration.Chosen.{Chosen}
 use Rattle.realm_registrations.specs.Registrations.{Registrations, choose, turn}
 use Rattle.realm_calls.specs.declared.calls.Open.{Open}
-use Rattle.realm_calls.specs.Calls.{is_call, is_invocation, has, call_of, is_full, open_call, with_call, open_of, end}
+use Rattle.realm_calls.specs.Calls.{is_call, is_invocation, has, call_of, peek, is_full, open_call, with_call, open_of, end}
 use Rattle.realm_calls.specs.Calls.{cancel_one}
 use Rattle.realm_machine.specs.declared.sayings.say.Say.{Say}
 use Rattle.realm_machine.specs.Sayings.{say, to_session, refusal, invalid_uri, invalid_argument, no_such_procedure}
 use Rattle.realm_machine.specs.Sayings.{limit, canceled}
-use Rattle.realm_machine.specs.Sayings.Invocations.{interrupt, invocation, failure}
+use Rattle.realm_machine.specs.Sayings.Invocations.{interrupt, invocation, result_of, failure}
 use Rattle.realm_machine.specs.declared.requester.Requester.{Requester}
 use Rattle.realm_machine.specs.Content.{Content, Step, quiet, refuse, with_calls}
 use Rattle.realm_machine.specs.Leaving.{violation}
 use Rattle.realm_machine.specs.Calling.{refuse_call, invoke, call_chosen, call_uri}
 use Rattle.realm_machine.specs.Calling.{on_call}
-use Rattle.realm_machine.specs.Calling.{canceled_as, cancel_found, on_cancel, replied, reply_to, on_yield}
+use Rattle.realm_machine.specs.Calling.{canceled_as, cancel_found, on_cancel, replied, reply_to, progressed, on_yield}
 use Rattle.realm_machine.specs.Calling.{on_failure, unfit_call}
 use Rattle.realm_laws.specs.Trace.{is_final_message, is_final}
 use Rattle.realm_laws.proofs.Has.{Has, any_has, find_has, has_last}
@@ -93,10 +92,23 @@ pub reply_moves : (c : Content) (callee request : ℕ) (answer : ℕ → Message
 reply_moves c callee request answer is base =
     replied_moves c callee request answer (find (is_invocation callee request) c.calls.list) is refl base
 
+-- a progressive result is no final reply, and the call stays open
+progressed_moves : (c : Content) (args : Args) (o : Option Open) → Base c → Moves c (progressed c args o)
+progressed_moves c args None base = quiet_moves c base
+progressed_moves c args (Some call) base =
+    let told = result_of true args call.request in
+    let said = to_session c.sessions.list call.caller told in
+    cond_both call.progress (record { content = c; says = said }) (quiet c) (λ (s : Step). Moves c s)
+    (λ _. said_moves c said base (silent_to c.sessions.list call.caller told (λ q. refl)))
+    (λ _. quiet_moves c base)
+
 pub yield_moves : (c : Content) (requester : Requester) (it : Yield) → Base c → Moves c (on_yield c requester it)
 yield_moves c requester it base =
-    reply_moves c requester.session it.request
-    (λ request. message.CallResult (record { request = request; args = it.args })) (λ r q. refl) base
+    let found = peek c.calls.list requester.session it.request in
+    cond_both it.progress (progressed c it.args found) (reply_to c requester.session it.request (result_of false it.args))
+    (λ (s : Step). Moves c s)
+    (λ _. progressed_moves c it.args found base)
+    (λ _. reply_moves c requester.session it.request (result_of false it.args) (λ r q. refl) base)
 
 pub failure_moves : (c : Content) (requester : Requester) (request : ℕ) (error : List ℕ) (args : Args) → Base c
     → Moves c (on_failure c requester request error args)
@@ -231,33 +243,33 @@ invoked_holds links callee id u q list =
     and_from (call.request == q) (at links u call.caller) parts.0 (invoked_at links callee id u call.caller parts.1))
 
 -- a call is opened, and its callee is sent something
-abbrev opening : Content → ℕ → ℕ → ℕ → ℕ → Registrations → Message → Step
-opening c session request callee id registrations m = record {
-  content = record {
-    sessions = with_list c.sessions (set_invocation c.sessions.list callee id);
-    registrations = registrations;
-    subscriptions = c.subscriptions;
-    calls = with_call c.calls (open_call session request callee id);
-  };
-  says = to_session (set_invocation c.sessions.list callee id) callee m;
-}
-
-opening_base : (c : Content) (t : Transport) (session request callee id : ℕ) (registrations : Registrations) (m : Message)
-    → Base c
-    → at c.sessions.list t session ≡ true → has c.calls.list session request ≡ false
-    → is_taken c.sessions.list callee ≡ true
-    → has_number (open_of c.calls.list callee) id ≡ false
-    → Base (opening c session request callee id registrations m).content
-opening_base c t session request callee id registrations m base here off there_is free =
-    let links = c.sessions.list in
-    let new = open_call session request callee id in
+abbrev opening : Content → Open → Registrations → Message → Step
+opening c new registrations m =
+    let links' = set_invocation c.sessions.list new.callee new.invocation in
     record {
-      links = invoked_links links callee id base.links;
-      known = λ other h. invoked_taken links callee id other.caller
+      content = record {
+        sessions = with_list c.sessions links';
+        registrations = registrations;
+        subscriptions = c.subscriptions;
+        calls = with_call c.calls new;
+      };
+      says = to_session links' new.callee m;
+    }
+
+opening_base : (c : Content) (t : Transport) (new : Open) (registrations : Registrations) (m : Message) → Base c
+    → at c.sessions.list t new.caller ≡ true → has c.calls.list new.caller new.request ≡ false
+    → is_taken c.sessions.list new.callee ≡ true
+    → has_number (open_of c.calls.list new.callee) new.invocation ≡ false
+    → Base (opening c new registrations m).content
+opening_base c t new registrations m base here off there_is free =
+    let links = c.sessions.list in
+    record {
+      links = invoked_links links new.callee new.invocation base.links;
+      known = λ other h. invoked_taken links new.callee new.invocation other.caller
           (⊎_elim (λ old. base.known other old)
-          (λ e. subst (λ (k : Open). is_taken links k.caller ≡ true) e (at_taken links t session here))
+          (λ e. subst (λ (k : Open). is_taken links k.caller ≡ true) e (at_taken links t new.caller here))
           (has_last c.calls.list new h));
-      served = λ other h. invoked_taken links callee id other.callee
+      served = λ other h. invoked_taken links new.callee new.invocation other.callee
           (⊎_elim (λ old. base.served other old)
           (λ e. subst (λ (k : Open). is_taken links k.callee ≡ true) e there_is)
           (has_last c.calls.list new h));
@@ -265,47 +277,47 @@ opening_base c t session request callee id registrations m base here off there_i
     }
 
 -- how many calls are open then
-opening_opens : (c : Content) (session request callee id : ℕ) (registrations : Registrations) (m : Message) (u : Transport)
-    (q : ℕ)
-    → opens (opening c session request callee id registrations m).content u q
-    ≤ opens c u q + bit (request == q && at (set_invocation c.sessions.list callee id) u session)
-opening_opens c session request callee id registrations m u q =
-    let links' = set_invocation c.sessions.list callee id in
-    let new = open_call session request callee id in
+opening_opens : (c : Content) (new : Open) (registrations : Registrations) (m : Message) (u : Transport) (q : ℕ)
+    → opens (opening c new registrations m).content u q
+    ≤ opens c u q + bit (new.request == q && at (set_invocation c.sessions.list new.callee new.invocation) u new.caller)
+opening_opens c new registrations m u q =
+    let links' = set_invocation c.sessions.list new.callee new.invocation in
     let less : count (holds links' u q) c.calls.list ≤ opens c u q =
-    invoked_holds c.sessions.list callee id u q c.calls.list in
+    invoked_holds c.sessions.list new.callee new.invocation u q c.calls.list in
     let both : count (holds links' u q) (c.calls.list ++ new ∷ []) ≡ count (holds links' u q) c.calls.list
-    + (bit (request == q && at links' u session) + 0) = count_append (holds links' u q) c.calls.list (new ∷ []) in
+    + (bit (new.request == q && at links' u new.caller) + 0) = count_append (holds links' u q) c.calls.list (new ∷ []) in
     omega (arith, less, both)
 
-opening_owes : (c : Content) (t : Transport) (session request callee id : ℕ) (registrations : Registrations) (m : Message)
-    → Base c
-    → at c.sessions.list t session ≡ true → opens c t request ≡ 0 → has c.calls.list session request ≡ false
-    → is_taken c.sessions.list callee ≡ true → has_number (open_of c.calls.list callee) id ≡ false
-    → ((q : ℕ) → is_final_message q m ≡ false) → Owes c t request (opening c session request callee id registrations m)
-opening_owes c t session request callee id registrations m base here none off there_is free silent = record {
-  base = opening_base c t session request callee id registrations m base here off there_is free;
+opening_owes : (c : Content) (t : Transport) (new : Open) (registrations : Registrations) (m : Message) → Base c
+    → at c.sessions.list t new.caller ≡ true → opens c t new.request ≡ 0
+    → has c.calls.list new.caller new.request ≡ false
+    → is_taken c.sessions.list new.callee ≡ true
+    → has_number (open_of c.calls.list new.callee) new.invocation ≡ false
+    → ((q : ℕ) → is_final_message q m ≡ false) → Owes c t new.request (opening c new registrations m)
+opening_owes c t new registrations m base here none off there_is free silent = record {
+  base = opening_base c t new registrations m base here off there_is free;
   owed =
-      let last : bit (request == request && at (set_invocation c.sessions.list callee id) t session) ≤ 1 =
-      bit_one (request == request && at (set_invocation c.sessions.list callee id) t session) in
-      let more : opens (opening c session request callee id registrations m).content t request
-      ≤ opens c t request + bit (request == request && at (set_invocation c.sessions.list callee id) t session) =
-      opening_opens c session request callee id registrations m t request in
-      let said : finals t request (opening c session request callee id registrations m).says ≡ 0 =
-      silent_to (set_invocation c.sessions.list callee id) callee m silent t request in
+      let links' = set_invocation c.sessions.list new.callee new.invocation in
+      let last : bit (new.request == new.request && at links' t new.caller) ≤ 1 =
+      bit_one (new.request == new.request && at links' t new.caller) in
+      let more : opens (opening c new registrations m).content t new.request
+      ≤ opens c t new.request + bit (new.request == new.request && at links' t new.caller) =
+      opening_opens c new registrations m t new.request in
+      let said : finals t new.request (opening c new registrations m).says ≡ 0 =
+      silent_to links' new.callee m silent t new.request in
       omega (arith, last, more, said, none);
   paid = λ u q other.
-      let off : bit (request == q && at (set_invocation c.sessions.list callee id) u session) ≡ 0 =
-      bit_false (false_from_ne_true (request == q && at (set_invocation c.sessions.list callee id) u session)
-      (λ h. let parts = and_parts (request == q) (at (set_invocation c.sessions.list callee id) u session) h in
-      other (one_transport c.sessions.list t u session base.links here
-      (invoked_at c.sessions.list callee id u session parts.1))
-      (eqb-true request q parts.0))) in
-      let more : opens (opening c session request callee id registrations m).content u q
-      ≤ opens c u q + bit (request == q && at (set_invocation c.sessions.list callee id) u session) =
-      opening_opens c session request callee id registrations m u q in
-      let said : finals u q (opening c session request callee id registrations m).says ≡ 0 =
-      silent_to (set_invocation c.sessions.list callee id) callee m silent u q in
+      let links' = set_invocation c.sessions.list new.callee new.invocation in
+      let off : bit (new.request == q && at links' u new.caller) ≡ 0 =
+      bit_false (false_from_ne_true (new.request == q && at links' u new.caller)
+      (λ h. let parts = and_parts (new.request == q) (at links' u new.caller) h in
+      other (one_transport c.sessions.list t u new.caller base.links here
+      (invoked_at c.sessions.list new.callee new.invocation u new.caller parts.1))
+      (eqb-true new.request q parts.0))) in
+      let more : opens (opening c new registrations m).content u q
+      ≤ opens c u q + bit (new.request == q && at links' u new.caller) =
+      opening_opens c new registrations m u q in
+      let said : finals u q (opening c new registrations m).says ≡ 0 = silent_to links' new.callee m silent u q in
       omega (arith, off, more, said);
 }
 
@@ -319,9 +331,9 @@ invoked_owes c requester call chosen None base off e here none =
 invoked_owes c requester call chosen (Some id) base off e here none =
     let is = served_by c.sessions.list (open_of c.calls.list chosen.callee) chosen.callee id
     (find (has_id chosen.callee) c.sessions.list) refl e in
-    opening_owes c requester.transport requester.session call.request chosen.callee id
-    (turn c.registrations chosen.registration)
-    (invocation id chosen call) base here none off is.0 is.1 (λ q. refl)
+    let new = open_call requester.session call.request chosen.callee id call.receive_progress in
+    opening_owes c requester.transport new (turn c.registrations chosen.registration)
+    (invocation id requester.session chosen call) base here none off is.0 is.1 (λ q. refl)
 
 chosen_owes : (c : Content) (requester : Requester) (call : Call) (o : Option Chosen) → Base c
     → has c.calls.list requester.session call.request ≡ false

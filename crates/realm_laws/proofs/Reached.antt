@@ -154,7 +154,7 @@ invokes_callee config c r call uri chosen ok new is_uri ours found few unspent =
           transport = at.0;
           there = at.1;
           says = ap (λ (s : Step). s.says) step
-              ∙ ap (λ (o : Option Transport). say_to o (invocation id chosen call))
+              ∙ ap (λ (o : Option Transport). say_to o (invocation id r.session chosen call))
               ((invoked_places links chosen.callee id).1 chosen.callee ∙ at.1);
         }
 

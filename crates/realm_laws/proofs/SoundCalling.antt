@@ -1,13 +1,14 @@
 -- What every realm keeps is kept by each step of calls.
-use Rattle.std.proofs.Common.{◌≡◌, ℕ, true, List, Result, Ok, Err}
+use Rattle.std.proofs.Common.{◌≡◌, ℕ, true, false, List, Result, Ok, Err}
 use Rattle.std.proofs.Common.{Option, None, Some, refl, ◌∙◌}
 use Rattle.std.proofs.lemmas.Bool.{cond_both}
 use Rattle.wamp_ids.specs.declared.uri.UriFault.{UriFault}
 use Rattle.wamp_message_types.specs.declared.message.Message.{Message}
-use Rattle.realm_machine.specs.Sayings.{limit, no_such_procedure}
+use Rattle.realm_machine.specs.Sayings.{to_session, limit, no_such_procedure}
+use Rattle.realm_machine.specs.Sayings.Invocations.{result_of}
 use Rattle.realm_machine.specs.declared.requester.Requester.{Requester}
 use Rattle.realm_machine.specs.Config.{Config}
-use Rattle.realm_machine.specs.Content.{Content}
+use Rattle.realm_machine.specs.Content.{Content, quiet}
 use Rattle.realm_machine.specs.Leaving.{violation}
 use Rattle.realm_laws.specs.Laws.{IsSound}
 use Rattle.wamp_ids.specs.Uri.{is_reserved}
@@ -15,7 +16,9 @@ use Rattle.realm_registrations.specs.Registrations as registering
 use Rattle.realm_registrations.proofs.SoundRegistrations as sound_registrations
 use Rattle.wamp_ids.specs.Uri.{uri_of as read_uri}
 use Rattle.wamp_ids.specs.declared.policy.Mode.{Mode}
+use Rattle.wamp_values.specs.declared.args.Args.{Args}
 use Rattle.wamp_message_types.specs.declared.call.Call.{Call as CallMessage}
+use Rattle.wamp_message_types.specs.declared.call.Yield.{Yield}
 use Rattle.realm_sessions.specs.Links.{is_taken, announces, invocation_of, session_with, set_invocation}
 use Rattle.realm_sessions.specs.Sessions.{invoked_with, next_invocation}
 use Rattle.realm_registrations.specs.declared.registration.Chosen.{Chosen}
@@ -24,8 +27,7 @@ use Rattle.realm_calls.specs.declared.calls.Cancelled.{Cancelled}
 use Rattle.realm_calls.specs.Calls.{Calls, has, open_of, cancel_one, without_cancelled}
 use Rattle.realm_calls.specs.Calls as calls
 use Rattle.realm_machine.specs.Calling.{refuse_call, invoke, call_chosen, call_uri, on_call}
-use Rattle.realm_machine.specs.Calling.{cancel_found, replied, reply_to}
-use Rattle.std.specs.Prelude.{find}
+use Rattle.realm_machine.specs.Calling.{cancel_found, replied, reply_to, progressed, on_yield}
 use Rattle.realm_sessions.proofs.Invoking.{invoked_links}
 use Rattle.realm_laws.proofs.Standing.{invoked_taken}
 use Rattle.realm_laws.proofs.Holders.{callees_stay, callees_turned, members_stay}
@@ -117,4 +119,21 @@ replied_sound config c answer (Some call) ok =
 pub reply_sound : (config : Config) (c : Content) (callee request : ℕ) (answer : ℕ → Message) → IsSound config c
     → Keeps config (reply_to c callee request answer)
 reply_sound config c callee request answer ok =
-    replied_sound config c answer (find (calls.is_invocation callee request) c.calls.list) ok
+    replied_sound config c answer (calls.peek c.calls.list callee request) ok
+
+progressed_sound : (config : Config) (c : Content) (args : Args) (o : Option Open) → IsSound config c
+    → Keeps config (progressed c args o)
+progressed_sound config c args None ok = ok
+progressed_sound config c args (Some call) ok =
+    cond_both call.progress
+    (record { content = c; says = to_session c.sessions.list call.caller (result_of true args call.request) }) (quiet c)
+    (Keeps config) (λ _. ok) (λ _. ok)
+
+pub yield_sound : (config : Config) (c : Content) (r : Requester) (it : Yield) → IsSound config c
+    → Keeps config (on_yield c r it)
+yield_sound config c r it ok =
+    let found = calls.peek c.calls.list r.session it.request in
+    cond_both it.progress (progressed c it.args found) (reply_to c r.session it.request (result_of false it.args))
+    (Keeps config)
+    (λ _. progressed_sound config c it.args found ok)
+    (λ _. reply_sound config c r.session it.request (result_of false it.args) ok)

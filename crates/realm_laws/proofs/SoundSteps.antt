@@ -10,7 +10,7 @@ use Rattle.wamp_message_types.specs.declared.request_kind.RequestKind.TheVariant
 use Rattle.wamp_message_types.specs.declared.message.Message.{Message}
 use Rattle.wamp_message_types.specs.declared.message.Message.TheVariants.{Hello, Abort, Goodbye, Error, Publish, Subscribe}
 use Rattle.wamp_message_types.specs.declared.message.Message.TheVariants.{Unsubscribe, Register, Unregister}
-use Rattle.wamp_message_types.specs.declared.message.Message.TheVariants.{Call, Cancel, Yield, CallResult}
+use Rattle.wamp_message_types.specs.declared.message.Message.TheVariants.{Call, Cancel, Yield}
 use Rattle.wamp_message_types.specs.declared.read_result.UnfitKind.{UnfitKind}
 use Rattle.wamp_message_types.specs.declared.read_result.UnfitKind.TheVariants as unfit
 use Rattle.wamp_message_types.specs.declared.read_result.Read.{Read}
@@ -45,7 +45,7 @@ use Rattle.realm_laws.proofs.Holders.{callees_stay, members_stay}
 use Rattle.realm_laws.proofs.SoundParts.{Keeps, remove_sound, violation_sound, aborted_sound, goodbye_sound}
 use Rattle.realm_laws.proofs.SoundParts.{hello_sound, subscribe_to_sound, unsubscribe_sound, publish_sound}
 use Rattle.realm_laws.proofs.SoundParts.{register_for_sound, unregister_sound}
-use Rattle.realm_laws.proofs.SoundCalling.{call_sound, cancel_sound, reply_sound}
+use Rattle.realm_laws.proofs.SoundCalling.{call_sound, cancel_sound, reply_sound, yield_sound}
 
 -- ---- by what the client sends
 
@@ -89,8 +89,7 @@ request_sound config c r (Unregister asked) here ok = unregister_sound config c 
 request_sound config c r (Call asked) here ok = call_sound config c r asked ok
 request_sound config c r (Cancel asked) here ok =
     cancel_sound config c r asked.mode (calls.call_of c.calls.list r.session asked.request) ok
-request_sound config c r (Yield asked) here ok =
-    reply_sound config c r.session asked.request (λ request. CallResult (record { request = request; args = asked.args })) ok
+request_sound config c r (Yield asked) here ok = yield_sound config c r asked ok
 request_sound config c r message here ok = violation_sound config c r.transport ok
 
 opening_sound : (config : Config) (c : Content) (t : Transport) (draw : ℕ) (message : Message)
