@@ -102,7 +102,7 @@ fn acts_are_read_from_octets(rt: HostRuntime) {
 #[test]
 fn messages_stand_as_they_are_written(rt: HostRuntime) {
     let alloc = rt.alloc();
-    let rows: [(u8, &str, u8); 8] = [
+    let rows: [(u8, &str, u8); 9] = [
         (15, "[32,1,{},\"a.b\"]", b'G'),
         (15, "[32,1,{},\"a.b\"]x", 44),
         (16, "[32,1,{}, \"a.b\"]", 43),
@@ -110,7 +110,8 @@ fn messages_stand_as_they_are_written(rt: HostRuntime) {
         (2, "xx", 43),
         (0, "", 43),
         (8, "[2,1,{}]", 43),
-        (24, "[70,1,{\"progress\":true}]", 43),
+        (24, "[70,1,{\"progress\":true}]", b'G'),
+        (25, "[70,1,{\"progress\":false}]", 43),
     ];
     for (length, text, wanted) in rows {
         let octets = said(&rt, alloc, &[0, 0, 0, 0, length], text);

@@ -7,8 +7,9 @@ use wamp_messages::{Memory, Message, Parser, Read, UnfitKind, read, read_by, wri
 
 const WELCOME: &str = "[2,1,{\"roles\":{\"broker\":{\"features\":{\
     \"pattern_based_subscription\":true,\"publisher_exclusion\":true}},\
-    \"dealer\":{\"features\":{\"call_canceling\":true,\
-    \"pattern_based_registration\":true,\"shared_registration\":true}}}}]";
+    \"dealer\":{\"features\":{\"call_canceling\":true,\"caller_identification\":true,\
+    \"pattern_based_registration\":true,\"progressive_call_results\":true,\
+    \"shared_registration\":true}}}}]";
 
 // Returns the number of the fault, or 0 if there is none.
 fn fault_number(done: &Read) -> u8 {
@@ -121,12 +122,23 @@ const FAULTS: &[(&str, u8)] = &[
     ("[50,0,{},[0.5]]", 25),
     ("[69,0,{}]", 25),
     ("[68,1,1,{\"procedure\":1}]", 25),
+    ("[68,0,1,{\"receive_progress\":1}]", 25),
+    ("[68,1,1,{\"receive_progress\":null}]", 25),
+    ("[68,1,1,{\"caller\":\"21\"}]", 25),
+    ("[68,1,1,{\"caller\":0}]", 25),
+    ("[68,1,1,{\"caller\":-1}]", 25),
+    ("[68,1,1,{\"caller\":9007199254740993}]", 25),
+    ("[68,1,1,{\"caller\":1.5}]", 25),
+    ("[50,0,{\"progress\":1}]", 25),
+    ("[50,7,{\"progress\":\"true\"},[1]]", 25),
     ("[32,0,{},\"a\"]", 26),
     ("[32,-1,{},\"a\"]", 26),
     ("[16,0,{},\"a\",[0.5]]", 26),
     ("[34,0,1]", 26),
     ("[64,0,{\"invoke\":\"random\"},\"p\"]", 26),
     ("[70,0,{},[0.5]]", 26),
+    ("[70,0,{\"progress\":1}]", 26),
+    ("[48,0,{\"disclose_me\":1},\"p.q\"]", 26),
 ];
 
 #[test]
@@ -193,8 +205,19 @@ fn each_kind_of_unfit_request_is_told(rt: HostRuntime) {
         ("[64,1,{\"invoke\":null},\"p\"]", UnfitKind::Register),
         ("[64,1,{\"match\":\"fuzzy\"},\"p\"]", UnfitKind::Register),
         ("[48,1,{},\"p\",[1.5]]", UnfitKind::Call),
+        ("[48,1,{\"disclose_me\":1},\"p.q\"]", UnfitKind::Call),
+        (
+            "[48,1,{\"receive_progress\":\"true\"},\"p.q\"]",
+            UnfitKind::Call,
+        ),
+        (
+            "[48,1,{\"disclose_me\":true,\"receive_progress\":null},\"p.q\"]",
+            UnfitKind::Call,
+        ),
         ("[49,1,{\"mode\":\"stop\"}]", UnfitKind::Cancel),
         ("[70,1,{},[0.5]]", UnfitKind::Yield),
+        ("[70,1,{\"progress\":1}]", UnfitKind::Yield),
+        ("[70,1,{\"progress\":[]},[1]]", UnfitKind::Yield),
     ] {
         check!(&rt; reads_unfit(&rt, rt.alloc(), text, kind, false), text);
     }
@@ -212,6 +235,24 @@ fn keys_are_written_in_their_order(rt: HostRuntime) {
             "[64,1,{},\"a\"]",
         ),
         ("[49,1,{\"mode\":\"killnowait\"}]", "[49,1,{}]"),
+        (
+            "[48,7,{\"receive_progress\":true,\"disclose_me\":true},\"p.q\"]",
+            "[48,7,{\"disclose_me\":true,\"receive_progress\":true},\"p.q\"]",
+        ),
+        (
+            "[48,7,{\"disclose_me\":false,\"receive_progress\":false,\"timeout\":9},\"p.q\"]",
+            "[48,7,{},\"p.q\"]",
+        ),
+        (
+            "[68,1,1,{\"receive_progress\":true,\"procedure\":\"p.q\",\"caller\":21}]",
+            "[68,1,1,{\"caller\":21,\"procedure\":\"p.q\",\"receive_progress\":true}]",
+        ),
+        (
+            "[68,1,1,{\"receive_progress\":false},[1]]",
+            "[68,1,1,{},[1]]",
+        ),
+        ("[50,7,{\"progress\":false},[1]]", "[50,7,{},[1]]"),
+        ("[70,1,{\"progress\":false}]", "[70,1,{}]"),
     ] {
         check!(&rt; is_written_as(&rt, rt.alloc(), text, written), text);
     }
@@ -242,6 +283,15 @@ const WRITTEN: &[&str] = &[
     "[68,1,1,{\"procedure\":\"p.q\"},[1]]",
     "[69,1,{\"mode\":\"killnowait\"}]",
     "[70,1,{},[2],{\"a\":1}]",
+    "[48,7,{\"disclose_me\":true,\"receive_progress\":true},\"p.q\"]",
+    "[48,7,{\"disclose_me\":true},\"p.q\",[1]]",
+    "[48,7,{\"receive_progress\":true},\"p.q\"]",
+    "[68,1,1,{}]",
+    "[68,1,1,{\"caller\":21,\"receive_progress\":true}]",
+    "[68,1,1,{\"caller\":9007199254740992,\"procedure\":\"p.q\",\"receive_progress\":true},[1]]",
+    "[50,7,{\"progress\":true},[1]]",
+    "[70,1,{\"progress\":true},[1]]",
+    "[70,1,{\"progress\":true}]",
     "[36,1,500,{\"topic\":\"com.a.x-low\"},[\"hi\"]]",
     WELCOME,
 ];

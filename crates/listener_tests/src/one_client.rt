@@ -13,8 +13,9 @@ const ASKED: &[u8] = b"\x7F\xF1\0\0\
 
 // The router's octets of the stored run.
 const ANSWERED: &[u8] = b"\x7F\xB1\0\0\
-\0\0\0\xD1[2,1,{\"roles\":{\"broker\":{\"features\":{\"pattern_based_subscription\":true,\"publisher_exclusion\":true}},\
-\"dealer\":{\"features\":{\"call_canceling\":true,\"pattern_based_registration\":true,\"shared_registration\":true}}}}]\
+\0\0\x01\x0E[2,1,{\"roles\":{\"broker\":{\"features\":{\"pattern_based_subscription\":true,\"publisher_exclusion\":true}},\
+\"dealer\":{\"features\":{\"call_canceling\":true,\"caller_identification\":true,\"pattern_based_registration\":true,\
+\"progressive_call_results\":true,\"shared_registration\":true}}}}]\
 \0\0\0\x08[33,1,1]\
 \0\0\0\x08[17,2,3]\
 \0\0\0\x12[36,1,3,{},[\"hi\"]]\
@@ -37,6 +38,29 @@ const CALLED: &[u8] = b"\
 \0\0\0\x0B[68,2,1,{}]\
 \0\0\0\x1C[69,2,{\"mode\":\"killnowait\"}]\
 \0\0\0\x21[8,48,3,{},\"wamp.error.canceled\"]";
+
+// The client's octets of a run in which it calls itself, and answers in parts.
+const PROGRESSING: &[u8] = b"\x7F\xF1\0\0\
+\0\0\0\x0F[1,\"realm1\",{}]\
+\0\0\0\x0F[64,1,{},\"p.q\"]\
+\0\0\0\x39[48,7,{\"disclose_me\":true,\"receive_progress\":true},\"p.q\"]\
+\0\0\0\x1C[70,1,{\"progress\":true},[1]]\
+\0\0\0\x0D[70,1,{},[2]]\
+\0\0\0\x18[70,1,{\"progress\":true}]\
+\0\0\0\x0F[48,8,{},\"p.q\"]\
+\0\0\0\x1C[70,2,{\"progress\":true},[1]]\
+\0\0\0\x09[70,2,{}]\
+\0\0\0\x1E[48,9,{\"disclose_me\":1},\"p.q\"]";
+
+// The router's octets of that run after those of WELCOME.
+const PROGRESSED: &[u8] = b"\
+\0\0\0\x08[65,1,1]\
+\0\0\0\x2D[68,1,1,{\"caller\":1,\"receive_progress\":true}]\
+\0\0\0\x1C[50,7,{\"progress\":true},[1]]\
+\0\0\0\x0D[50,7,{},[2]]\
+\0\0\0\x0B[68,2,1,{}]\
+\0\0\0\x09[50,8,{}]\
+\0\0\0\x29[8,48,9,{},\"wamp.error.invalid_argument\"]";
 
 // A run from the one to the other.
 fn run(alloc: Global, reader: &mut Pieces<'_>, paper: &mut Paper) -> Result<(), RunFault> {
@@ -103,23 +127,38 @@ fn answers_the_stored_run_in_any_pieces(rt: HostRuntime) {
     answers_by(&rt, rt.alloc(), ASKED.len());
 }
 
-fn answers_calls_by(rt: &impl Abort, alloc: Global, most: usize) {
-    let (written, outcome) = answers(alloc, CALLING, most);
-    is_called(rt, outcome, written.as_slice(), most);
+fn answers_calls_by(rt: &impl Abort, alloc: Global, asked: &[u8], due: &[u8], most: usize) {
+    let (written, outcome) = answers(alloc, asked, most);
+    is_called(rt, outcome, written.as_slice(), due, most);
 }
 
-fn is_called(rt: &impl Abort, outcome: Result<(), RunFault>, written: &[u8], most: usize) {
+fn is_called(
+    rt: &impl Abort,
+    outcome: Result<(), RunFault>,
+    written: &[u8],
+    due: &[u8],
+    most: usize,
+) {
     check_eq!(rt; outcome, Ok(()), most);
-    check!(rt; written.ends_with(CALLED), most);
+    check!(rt; written.ends_with(due), most);
     // The handshake's answer and WELCOME come before.
-    check_eq!(rt; written.len(), CALLED.len().wrapping_add(217), most);
+    check_eq!(rt; written.len(), due.len().wrapping_add(278), most);
+}
+
+fn answers_calls(rt: &impl Abort, alloc: Global, asked: &[u8], due: &[u8]) {
+    answers_calls_by(rt, alloc, asked, due, 1);
+    answers_calls_by(rt, alloc, asked, due, 7);
+    answers_calls_by(rt, alloc, asked, due, asked.len());
 }
 
 #[test]
 fn answers_a_client_that_calls_itself(rt: HostRuntime) {
-    answers_calls_by(&rt, rt.alloc(), 1);
-    answers_calls_by(&rt, rt.alloc(), 7);
-    answers_calls_by(&rt, rt.alloc(), CALLING.len());
+    answers_calls(&rt, rt.alloc(), CALLING, CALLED);
+}
+
+#[test]
+fn answers_a_client_that_calls_itself_in_parts(rt: HostRuntime) {
+    answers_calls(&rt, rt.alloc(), PROGRESSING, PROGRESSED);
 }
 
 #[test]
@@ -266,8 +305,10 @@ fn stops_at_a_failed_write(rt: HostRuntime) {
 // The octets of a client that takes payloads of up to 512 octets and is subscribed, and what it is answered.
 const SMALL: (&[u8], &[u8]) = (
     b"\x7F\x01\0\0\0\0\0\x0F[1,\"realm1\",{}]\0\0\0\x0D[32,1,{},\"a\"]",
-    b"\x7F\xB1\0\0\0\0\0\xD1[2,1,{\"roles\":{\"broker\":{\"features\":{\"pattern_based_subscription\":true,\"publisher_exclusion\":true}},\
-\"dealer\":{\"features\":{\"call_canceling\":true,\"pattern_based_registration\":true,\"shared_registration\":true}}}}]\
+    b"\x7F\xB1\0\0\
+\0\0\x01\x0E[2,1,{\"roles\":{\"broker\":{\"features\":{\"pattern_based_subscription\":true,\"publisher_exclusion\":true}},\
+\"dealer\":{\"features\":{\"call_canceling\":true,\"caller_identification\":true,\"pattern_based_registration\":true,\
+\"progressive_call_results\":true,\"shared_registration\":true}}}}]\
 \0\0\0\x08[33,1,1]",
 );
 
@@ -381,6 +422,6 @@ fn writes_before_many_replies_wait(rt: HostRuntime) {
     let mut reader = reader_of(asked.as_slice(), 1 << 20);
     let outcome = run(rt.alloc(), &mut reader, &mut paper);
     check_eq!(&rt; outcome, Ok(()));
-    check!(&rt; paper.longest > 65536 && paper.longest < 65536 + 256);
-    check!(&rt; paper.octets.len() > 1500 * (213 + 39));
+    check!(&rt; paper.longest > 65536 && paper.longest < 65536 + 512);
+    check!(&rt; paper.octets.len() > 1500 * (274 + 39));
 }

@@ -15,8 +15,9 @@ use wamp_rawsocket::FrameKind;
 
 // The router's frames of the stored run, and the texts of their messages.
 const ANSWERED: &[u8] =
-    b"\0\0\0\xD1[2,1,{\"roles\":{\"broker\":{\"features\":{\"pattern_based_subscription\":true,\"publisher_exclusion\":true}},\
-\"dealer\":{\"features\":{\"call_canceling\":true,\"pattern_based_registration\":true,\"shared_registration\":true}}}}]\
+    b"\0\0\x01\x0E[2,1,{\"roles\":{\"broker\":{\"features\":{\"pattern_based_subscription\":true,\"publisher_exclusion\":true}},\
+\"dealer\":{\"features\":{\"call_canceling\":true,\"caller_identification\":true,\"pattern_based_registration\":true,\
+\"progressive_call_results\":true,\"shared_registration\":true}}}}]\
 \0\0\0\x08[33,1,1]\
 \0\0\0\x08[17,2,3]\
 \0\0\0\x12[36,1,3,{},[\"hi\"]]\

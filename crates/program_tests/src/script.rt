@@ -8,7 +8,8 @@ use test_checks::{Paper, Pieces, check, check_eq, new_paper, reader_of};
 // What WELCOME announces; a row says W in its place.
 const FEATURES: &str =
     "{\"roles\":{\"broker\":{\"features\":{\"pattern_based_subscription\":true,\"publisher_exclusion\":true}},\
-\"dealer\":{\"features\":{\"call_canceling\":true,\"pattern_based_registration\":true,\"shared_registration\":true}}}}";
+\"dealer\":{\"features\":{\"call_canceling\":true,\"caller_identification\":true,\"pattern_based_registration\":true,\
+\"progressive_call_results\":true,\"shared_registration\":true}}}}";
 
 // A script in a cluster of `nodes` nodes, and the text that it writes: each node's, and what was said to transports.
 pub(crate) struct Row {
@@ -292,6 +293,6 @@ fn writes_before_much_text_waits(rt: HostRuntime) {
     let mut reader = reader_of(script.as_slice(), 1 << 20);
     let outcome = run(rt.alloc(), &mut reader, &mut paper, members);
     check_eq!(&rt; outcome, Ok(()));
-    check!(&rt; paper.longest >= 65536 && paper.longest < 65536 + 256);
-    check!(&rt; paper.octets.len() > 400 * (213 + 39));
+    check!(&rt; paper.longest >= 65536 && paper.longest < 65536 + 512);
+    check!(&rt; paper.octets.len() > 400 * (274 + 39));
 }
