@@ -6,7 +6,7 @@ use std::process::Abort;
 use test_checks::check;
 
 // A HELLO that announces call canceling.
-const CANCELING: &str =
+pub const CANCELING: &str =
     "[1,\"realm1\",{\"roles\":{\"callee\":{\"features\":{\"call_canceling\":true}}}}]";
 
 const CANCELED_CALLS: &[Row] = &[

@@ -27,6 +27,8 @@ mod pattern_tables;
 #[cfg(test)]
 mod patterns;
 #[cfg(test)]
+mod progressing;
+#[cfg(test)]
 mod realm;
 #[cfg(test)]
 mod registrations;
