@@ -12,8 +12,9 @@ const GREETED: (&[u8], &[u8]) = (b"\x7F\x01\0\0", b"\x7F\xB1\0\0");
 const SUBSCRIBED: (&[u8], &[u8]) = (
     b"\0\0\0\x28[1,\"realm1\",{\"roles\":{\"subscriber\":{}}}]\
 \0\0\0\x0F[32,1,{},\"a.b\"]",
-    b"\0\0\0\xD1[2,1,{\"roles\":{\"broker\":{\"features\":{\"pattern_based_subscription\":true,\"publisher_exclusion\":true}},\
-\"dealer\":{\"features\":{\"call_canceling\":true,\"pattern_based_registration\":true,\"shared_registration\":true}}}}]\
+    b"\0\0\x01\x0E[2,1,{\"roles\":{\"broker\":{\"features\":{\"pattern_based_subscription\":true,\"publisher_exclusion\":true}},\
+\"dealer\":{\"features\":{\"call_canceling\":true,\"caller_identification\":true,\"pattern_based_registration\":true,\
+\"progressive_call_results\":true,\"shared_registration\":true}}}}]\
 \0\0\0\x08[33,1,1]\
 \0\0\0\x08[17,2,3]",
 );
