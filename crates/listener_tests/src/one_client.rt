@@ -88,7 +88,7 @@ fn is_due(
 }
 
 // After how many of the client's octets how many of the router's are due.
-const DUE: &[(usize, usize)] = &[(4, 4), (48, 217), (67, 229), (130, 263), (165, 302)];
+const DUE: &[(usize, usize)] = &[(4, 4), (48, 278), (67, 290), (130, 324), (165, 363)];
 
 // How many of the router's octets are due to this many of the client's.
 fn due_to(asked: usize) -> usize {
@@ -277,7 +277,7 @@ fn stops_at_a_failed_read(rt: HostRuntime) {
 const CALLS: u32 = 10;
 
 // How many octets are written if the first 0, 1, 2 .. calls succeed. The first read has two frames.
-const WRITTEN: &[usize] = &[0, 4, 4, 4, 229, 229, 263, 263, 302, 302, 302, 302];
+const WRITTEN: &[usize] = &[0, 4, 4, 4, 290, 290, 324, 324, 363, 363, 363, 363];
 
 fn stops_after_writes(rt: &impl Abort, alloc: Global, calls: u32, length: usize) {
     let mut paper = new_paper(alloc, Some(calls));

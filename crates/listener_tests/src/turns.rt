@@ -83,5 +83,5 @@ fn answers_before_the_next_read(rt: HostRuntime) {
     let outcome = stream_run(rt.alloc(), &mut client, &mut way, "realm1");
     check_eq!(&rt; outcome, Ok(()));
     check!(&rt; client.others.is_empty());
-    check_eq!(&rt; received.get(), 302);
+    check_eq!(&rt; received.get(), 363);
 }

@@ -156,13 +156,13 @@ impl Client {
         Ok(())
     }
 
-    // Reads the next message, which fails if it has 256 octets or more.
+    // Reads the next message, which fails if it has more than 512 octets.
     fn hear(&mut self, alloc: Global) -> io::Result<String> {
         let mut head = [0u8; 4];
         self.stream.read_exact(&mut head)?;
-        let mut text = [0u8; 255];
-        let length = usize::from(head[3]);
-        if head[2] != 0 || length > text.len() {
+        let mut text = [0u8; 512];
+        let length = usize::from(u16::from_be_bytes([head[2], head[3]]));
+        if head[1] != 0 || length > text.len() {
             return Err(io::ErrorKind::InvalidData.into());
         }
         self.stream.read_exact(&mut text[..length])?;
