@@ -48,7 +48,7 @@ fn answer(alloc: Global, octets: &[u8]) -> u8 {
     }
 }
 
-fn letter_again(alloc: Global, entry: &Entry<Act>, octets: &[u8]) -> u8 {
+pub fn letter_again(alloc: Global, entry: &Entry<Act>, octets: &[u8]) -> u8 {
     let mut again = Vec::new(alloc);
     match put_entry::<Act, ActCoder>(entry, &mut again) {
         Ok(()) if again.as_slice() == octets => letter(entry),
@@ -102,7 +102,7 @@ fn acts_are_read_from_octets(rt: HostRuntime) {
 #[test]
 fn messages_stand_as_they_are_written(rt: HostRuntime) {
     let alloc = rt.alloc();
-    let rows: [(u8, &str, u8); 9] = [
+    let rows: [(u8, &str, u8); 16] = [
         (15, "[32,1,{},\"a.b\"]", b'G'),
         (15, "[32,1,{},\"a.b\"]x", 44),
         (16, "[32,1,{}, \"a.b\"]", 43),
@@ -112,6 +112,21 @@ fn messages_stand_as_they_are_written(rt: HostRuntime) {
         (8, "[2,1,{}]", 43),
         (24, "[70,1,{\"progress\":true}]", b'G'),
         (25, "[70,1,{\"progress\":false}]", 43),
+        (9, "[70,1,{}]", b'G'),
+        (13, "[48,1,{},\"p\"]", b'G'),
+        (
+            55,
+            "[48,1,{\"disclose_me\":true,\"receive_progress\":true},\"p\"]",
+            b'G',
+        ),
+        (
+            55,
+            "[48,1,{\"receive_progress\":true,\"disclose_me\":true},\"p\"]",
+            43,
+        ),
+        (32, "[48,1,{\"disclose_me\":false},\"p\"]", 43),
+        (9, "[50,1,{}]", b'G'),
+        (26, "[68,1,1,{\"procedure\":\"p\"}]", b'G'),
     ];
     for (length, text, wanted) in rows {
         let octets = said(&rt, alloc, &[0, 0, 0, 0, length], text);

@@ -19,6 +19,8 @@ mod frames;
 #[cfg(test)]
 mod ids;
 #[cfg(test)]
+mod kept_log;
+#[cfg(test)]
 mod limits;
 #[cfg(test)]
 mod messages;

@@ -36,7 +36,7 @@ fn parsed(rt: &impl Abort, alloc: Global, draw: u64, text: &str) -> Act {
     Act::Said { draw, read }
 }
 
-fn spelled(rt: &impl Abort, alloc: Global, out: &Out) -> Vec<u8> {
+pub fn spelled(rt: &impl Abort, alloc: Global, out: &Out) -> Vec<u8> {
     match out {
         Out::Send(message) => write(alloc, message).expect(rt, "room for a text"),
         Out::Close => Vec::from_slice(alloc, b"close").expect(rt, "room for a text"),
