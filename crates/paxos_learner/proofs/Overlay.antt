@@ -66,7 +66,7 @@ found_put p q set (t ∷ ts) = go (same_place q t.0) (same_place p q) (same_plac
     go false false true a b c more = rw c refl
     go false false false a b c more = rw (c, more, b) refl
 
-nodes_put : (p q : SlotBallot) (set : List Bool) (heard : Heard)
+pub nodes_put : (p q : SlotBallot) (set : List Bool) (heard : Heard)
     → nodes_heard p (insert_entry same_place heard q set) ≡ cond (same_place p q) set (nodes_heard p heard)
 nodes_put p q set heard = ap (λ (o : Option (List Bool)). unwrap_or o no_nodes) (found_put p q set heard) ∙ go (same_place p q)
   where

@@ -3,8 +3,9 @@
 use Rattle.std.specs.Prelude.{◌≡◌, ℕ, suc, Bool, true, false, not, ◌&&◌, nat_lt, nat_le, ◌==◌, Option, Some, None, option_map, List, [], ◌∷◌}
 use Rattle.std.specs.Prelude.{filter, if◌then◌else◌}
 use Rattle.std.specs.List.{find}
-use Rattle.paxos_packets.specs.Members.{is_in, is_majority}
+use Rattle.paxos_packets.specs.Members.{is_in, is_majority, set_with}
 use Rattle.paxos_packets.specs.Entry.{same_entry}
+use Rattle.paxos_packets.specs.declared.ballot.Ballot.{Ballot}
 use Rattle.paxos_packets.specs.declared.entry.Entry.{Entry}
 use Rattle.paxos_packets.specs.declared.vote.Vote.{Vote}
 use Rattle.paxos_learner.specs.declared.learned.LearnedEntry.{LearnedEntry}
@@ -60,6 +61,11 @@ disagrees same slot entry l = is_other same entry (learned_at slot l.learned)
 -- a majority is heard to have cast this vote
 abbrev pub has_most : {B : Type 0} → ℕ → Vote B → LearnerState B → Bool
 has_most members v l = is_majority members (is_in (nodes_heard (place_of v) l.heard))
+
+-- with a vote of this member a majority is heard to have voted in this ballot and slot
+abbrev pub makes_majority : {B : Type 0} → ℕ → ℕ → Ballot → ℕ → LearnerState B → Bool
+makes_majority members node b slot l =
+    is_majority members (is_in (set_with (nodes_heard (record { slot = slot; ballot = b }) l.heard) node))
 
 abbrev pub learn_chosen : {B : Type 0} → ℕ → Vote B → LearnerState B → LearnerState B
 learn_chosen members v l = if has_most members v l then learn v.slot v.entry l else l

@@ -4,7 +4,7 @@ ghost use Rattle.paxos_packets.specs.Members.{is_in, is_majority};
 ghost use Rattle.paxos_learner.specs.Learned.{has_place, KeepsPlaces, Rises};
 ghost use Rattle.paxos_learner.specs.Tallies.{nodes_heard};
 ghost use Rattle.paxos_learner.specs.Learner.{learned_at, learn_among, is_other, begun, told, voted, disagrees, vote_disagrees};
-ghost use Rattle.paxos_learner.specs.Learner.{has_room_at, KeepsRoom};
+ghost use Rattle.paxos_learner.specs.Learner.{has_room_at, KeepsRoom, makes_majority};
 
 use crate::fault::LearnerFault;
 use crate::learned::LearnedEntries;
@@ -63,6 +63,15 @@ impl<B> Learner<B> {
         ensures { option_copied result ≡ learned_at slot self.now.state.learner.learned }
     {
         self.learned.find(slot)
+    }
+
+    /// Returns whether a vote of the member in this ballot and slot makes a majority there. Does not allocate.
+    pub fn makes_majority(&self, node: u8, ballot: Ballot, slot: Slot) -> bool
+        ensures { result ≡ makes_majority self.now.state.members node ballot slot self.now.state.learner }
+    {
+        let place = SlotBallot { slot, ballot };
+        let nodes = self.nodes(&place).with(node);
+        self.has_majority(nodes)
     }
 }
 

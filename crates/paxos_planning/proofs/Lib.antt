@@ -5,3 +5,4 @@ pub mod Rounds
 pub mod Again
 pub mod Sending
 pub mod Standing
+pub mod OwnVotes

@@ -7,3 +7,4 @@ pub mod Ticking
 pub mod Starting
 pub mod Drafting
 pub mod Front
+pub mod Walking

@@ -9,6 +9,8 @@ mod proposals;
 mod replies;
 mod starting;
 mod ticking;
+mod walking;
+mod wanted;
 
 pub use draft::Draft;
 pub use effects::Effects;
@@ -17,3 +19,4 @@ pub use paxos_acceptor::Acceptor;
 pub use paxos_learner::{Learner, News};
 pub use paxos_packets::{Body, Change, Entries, Entry, Kind, Members, Memory, Packet};
 pub use paxos_proposer::{Move, Proposer};
+pub use wanted::Wanted;

@@ -1,3 +1,4 @@
+pub mod Called
 pub mod Fault
 pub mod Identity
 pub mod Moves

@@ -2,6 +2,7 @@
 //! 2001, sections 2.2 and 3).
 #![tactic(auto)]
 
+mod called;
 mod fault;
 mod identity;
 pub mod laws;
@@ -14,6 +15,7 @@ mod proposer;
 mod proposing;
 mod reports;
 
+pub use called::Called;
 pub use fault::ProposerFault;
 pub use identity::Identity;
 pub use moves::Move;

@@ -1,15 +1,17 @@
-ghost use Rattle.std.specs.Prelude.{◌≡◌, ◌↔◌, ◌≤◌, ◌+◌, true, false, Some, None, Ok, Err, IsOk, IfOk, OnOk, OnErr, IsOkUnless};
+ghost use Rattle.std.specs.Prelude.{◌≡◌, ◌↔◌, ◌≤◌, ◌+◌, true, false, Some, None, Ok, Err, IsOk, IfOk, OnOk, OnErr, IsOkUnless, option_map};
+ghost use Rattle.std.specs.Option.{ForSome};
 ghost use Rattle.paxos_proposer.specs.declared.fault.ProposerFault.TheVariants.{Rounds, SlotsFull, NotLeading, Memory};
 ghost use Rattle.paxos_proposer.specs.Promises.{counts, called_by};
 ghost use Rattle.paxos_proposer.specs.Proposals.{stands, behind, AreInSlots, ProposesInTurn};
 ghost use Rattle.paxos_proposer.specs.Proposer.{own_ballot, is_spent, is_leading, slots_spent, next_slot, ballot_of, is_below, is_refused};
-ghost use Rattle.paxos_proposer.specs.Reports.{is_counted};
-ghost use Rattle.paxos_proposer.specs.Role.{Idle};
+ghost use Rattle.paxos_proposer.specs.Reports.{is_counted, called_for};
+ghost use Rattle.paxos_proposer.specs.Role.{Idle, Preparing};
 ghost use Rattle.paxos_proposer.specs.Proposing.{first_asked, promises_of, proposals_of};
 ghost use Rattle.paxos_proposer.specs.State.{role_of, IsAboveNone};
 ghost use Rattle.paxos_proposer.specs.State.{HasRoom, role_in, with_role, begun, saw, started, after_promise, after_submit, after_nack};
 ghost use Rattle.paxos_proposer.specs.State.{stepped_down};
 
+use crate::called::Called;
 use crate::fault::ProposerFault;
 use crate::phase::Phase;
 use crate::promises::{CountedPromise, is_counted, is_majority_with};
@@ -394,6 +396,34 @@ impl<B: Drop> Proposer<B> {
         self.promises.clear();
         self.proposed.clear();
         self.phase = Phase::Idle;
+    }
+}
+
+impl<B> Proposer<B> {
+    /// Returns what this promise calls for, as `called_by` does, by reference; `None` if it does not make the proposer lead. Does not
+    /// allocate.
+    pub fn calls<'a>(
+        &'a self,
+        node: u8,
+        ballot: Ballot,
+        votes: &'a Votes<B>,
+    ) -> Option<Called<'a, B>>
+        ensures called { option_map (λ c. called_for c.first c.votes) result
+            ≡ called_by self.now.state.members node ballot votes.now (role_in self.now) }
+        ensures role { ForSome result (λ c. role_in self.now ≡ Preparing c.ballot c.first (promises_of (role_in self.now))) }
+    {
+        let Phase::Preparing { ballot: own, first } = self.phase else {
+            return None;
+        };
+        if !self.counts(node, ballot) || !is_majority_with(self.members, &self.promises, node) {
+            return None;
+        }
+        Some(Called {
+            ballot: own,
+            first,
+            promises: &self.promises,
+            last: votes,
+        })
     }
 }
 

@@ -63,7 +63,7 @@ fn called_in<B: Body>(
 }
 
 // Returns the vote for the slot with the greatest ballot; of two with the same ballot, the later one.
-fn best<'a, B>(
+pub(crate) fn best<'a, B>(
     slot: Slot,
     promises: &'a [CountedPromise<B>],
     last: &'a Votes<B>,
@@ -98,7 +98,7 @@ fn greater<'a, B>(earlier: Option<&'a Vote<B>>, later: Option<&'a Vote<B>>) -> O
 }
 
 // Returns one past the greatest slot that these promises report, and at least the first one.
-fn past_of<B>(first: u64, promises: &[CountedPromise<B>]) -> u64
+pub(crate) fn past_of<B>(first: u64, promises: &[CountedPromise<B>]) -> u64
     ensures past { result ≡ past_reports first (reports promises.now) }
     ensures least { first ≤ result }
     ensures most { result ≤ max first (2 ^ 40) }
@@ -111,7 +111,7 @@ fn past_of<B>(first: u64, promises: &[CountedPromise<B>]) -> u64
 }
 
 // Returns one past the greatest slot of these votes, and at least the first one.
-fn past_in<B>(first: u64, votes: &[Vote<B>]) -> u64
+pub(crate) fn past_in<B>(first: u64, votes: &[Vote<B>]) -> u64
     ensures past { result ≡ past_reports first votes.now }
     ensures least { first ≤ result }
     ensures most { result ≤ max first (2 ^ 40) }
