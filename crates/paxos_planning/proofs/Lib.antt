@@ -6,3 +6,4 @@ pub mod Again
 pub mod Sending
 pub mod Standing
 pub mod OwnVotes
+pub mod LeaderVotes

@@ -49,7 +49,7 @@ impl<'a, B: Body> Parts<'a, B> {
         let walk = self.walk(&lead, entries);
         match added {
             None => walk.other,
-            Some(wanted) => walk.other || self.differs_next(&lead, entries, walk, &wanted),
+            Some(wanted) => self.ends_other(&lead, entries, walk, &wanted),
         }
     }
 
@@ -61,8 +61,9 @@ impl<'a, B: Body> Parts<'a, B> {
         let Some(ballot) = proposer.ballot() else {
             return None;
         };
-        let Ok(slot) = proposer.next() else {
-            return None;
+        let slot = match proposer.next() {
+            Ok(slot) => slot,
+            Err(_) => return None,
         };
         Some(Lead {
             ballot,
@@ -122,8 +123,8 @@ impl<'a, B: Body> Parts<'a, B> {
         }
     }
 
-    // Returns whether the entry, after these, is proposed, and the vote for it disagrees.
-    fn differs_next(
+    // Returns whether a vote disagrees once this entry is gone through, after these.
+    fn ends_other(
         &self,
         lead: &Lead<'_, B>,
         before: &[Entry<B>],
@@ -132,11 +133,11 @@ impl<'a, B: Body> Parts<'a, B> {
     ) -> bool
         requires least { 1 ≤ walk.next }
         requires from { walk.from ≤ length before.now }
-        ensures { result ≡ proposes_then B.same lead.now.applied lead.now.proposed.now walk.next (drop walk.from before.now) (entry_of wanted.now)
-            && differs B.same self.now.members self.now.me lead.now.ballot self.now.state.learner walk.next (entry_of wanted.now) }
+        ensures { result ≡ (walk_on B.same self.now.members self.now.me lead.now.applied lead.now.ballot lead.now.proposed.now
+            self.now.state.learner (entry_of wanted.now) (walked_through before.now walk)).other }
     {
-        proposes_then(lead, &before[walk.from..], walk.next, wanted)
-            && self.differs(lead.ballot, walk.next, wanted)
+        let proposes = proposes_then(lead, &before[walk.from..], walk.next, wanted);
+        walk.other || (proposes && self.differs(lead.ballot, walk.next, wanted))
     }
 
     // Returns whether the node's vote for the entry in this ballot and slot would disagree with what was learned.

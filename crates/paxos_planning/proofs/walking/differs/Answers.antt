@@ -12,6 +12,7 @@ returns-then-not-makes_majority g c =
     few_differ g.B.Body.same l.members c.args.me c.args.ballot l.learner c.args.slot (entry_of c.args.wanted.now) m
 
 pub returns-in-Some-learned : goal.returns-in-Some-learned
+unfolding slot_end
 returns-in-Some-learned g c =
     let l = c.args.learner.now.state in
     let m : makes_majority l.members c.args.me c.args.ballot c.args.slot l.learner ≡ true = search rules in
