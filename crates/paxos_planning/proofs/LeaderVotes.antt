@@ -162,3 +162,173 @@ module _ {B : Type 0} (same : B → B → Bool) (ok : IsEquality same) (members 
   none_left e next proposed other o a spent =
       ap (λ (r : Role B). propose_as same members me r e o) a.leads
       ∙ ap (λ (t : Bool). cond t (cast same members me (next_vote b next e) (offer members me b next proposed e o)) o) spent
+
+  module _ (before : List (Vote B)) where
+    any_recent : List (Entry B) → Entry B → Bool
+    any_recent recent d = list_any (λ x. same_entry same x d) recent
+
+    -- what stands was proposed before the event, or is among the entries gone through last; at an applied slot, only the first
+    record Tied (proposed : List (Vote B)) (w : Walked B) : Type 0 where
+      stand : nat_lt w.next slot_end ≡ true → (d : Entry B)
+          → stands_among same n d proposed ≡ stands_among same n d before || list_any (λ x. same_entry same x d) w.recent
+      old : nat_lt n w.next ≡ false → (d : Entry B) → stands_among same n d proposed ≡ stands_among same n d before
+
+    record Goes (p : Bool) (e : Entry B) (w : Walked B) (o : Plan B) : Type 0 where
+      proposed : List (Vote B)
+      at : At (walk_by same members me n b before l p e w).next proposed (walk_by same members me n b before l p e w).other (propose_new same members me e o)
+      tied : Tied proposed (walk_by same members me n b before l p e w)
+
+    module _ (e : Entry B) (w : Walked B) (proposed : List (Vote B)) (o : Plan B) (a : At w.next proposed w.other o) (t : Tied proposed w) where
+      stands_is : stands same (length o.node.applied) o.node.proposer.role e ≡ stands_among same n e proposed
+      stands_is i = stands same (a.length_is i) (a.leads i) e
+
+      stays : propose_new same members me e o ≡ o → At w.next proposed (w.other || false) (propose_new same members me e o)
+      stays k =
+          subst (λ (u : Plan B). At w.next proposed (w.other || false) u) (sym k)
+          (subst (λ (x : Bool). At w.next proposed x o) (sym (or_false w.other)) a)
+
+      spent : nat_lt w.next slot_end ≡ false → Goes false e w o
+      spent p =
+          let none : propose same members me e o ≡ o = none_left e w.next proposed w.other o a p in
+          let k : propose_new same members me e o ≡ o = either (stands same (length o.node.applied) o.node.proposer.role e) none in
+          record {
+            proposed = proposed;
+            at = stays k;
+            tied = record { stand = λ q. absurd (let c = sym p ∙ q in cc); old = t.old };
+          }
+        where
+          either : (x : Bool) → propose same members me e o ≡ o → cond x o (propose same members me e o) ≡ o
+          either true h = refl
+          either false h = h
+
+      -- an equal entry stands with this one
+      with_it : (d : Entry B) → stands_among same n e before || list_any (λ x. same_entry same x e) w.recent ≡ true
+          → stands_among same n d before || list_any (λ x. same_entry same x d) w.recent
+          ≡ stands_among same n d before || list_any (λ x. same_entry same x d) (w.recent ++ e ∷ [])
+      with_it d h =
+          go (same_entry same e d) refl ∙ ap (λ (x : Bool). stands_among same n d before || x) (sym (any_more (λ x. same_entry same x d) w.recent e))
+        where
+          go : (x : Bool) → same_entry same e d ≡ x → stands_among same n d before || list_any (λ y. same_entry same y d) w.recent
+              ≡ stands_among same n d before || (list_any (λ y. same_entry same y d) w.recent || x)
+          go true q =
+              let same_one : e ≡ d = (entry_equality same ok).sound e d q in
+              let k : stands_among same n d before || list_any (λ y. same_entry same y d) w.recent ≡ true =
+              subst (λ (z : Entry B). stands_among same n z before || list_any (λ y. same_entry same y z) w.recent ≡ true) same_one h in
+              k ∙ sym (sym (or_both (stands_among same n d before) (list_any (λ y. same_entry same y d) w.recent) true)
+              ∙ or_right (stands_among same n d before || list_any (λ y. same_entry same y d) w.recent) true refl)
+          go false q = ap (λ (x : Bool). stands_among same n d before || x) (sym (or_false (list_any (λ y. same_entry same y d) w.recent)))
+
+      passed : nat_lt w.next slot_end ≡ true → stands_among same n e before || list_any (λ x. same_entry same x e) w.recent ≡ true
+          → Goes false e w o
+      passed p h =
+          let k : propose_new same members me e o ≡ o =
+          ap (λ (x : Bool). cond x o (propose same members me e o)) (stands_is ∙ t.stand p e ∙ h) in
+          record {
+            proposed = proposed;
+            at = stays k;
+            tied = record { stand = λ q d. t.stand q d ∙ with_it d h; old = t.old };
+          }
+
+      more : (d : Entry B) → stands_among same n d (proposed ++ next_vote b w.next e ∷ [])
+          ≡ stands_among same n d proposed || (nat_lt n w.next && same_entry same e d)
+      more d = any_more (λ (v : Vote B). nat_lt n v.slot && same_entry same v.entry d) proposed (next_vote b w.next e)
+
+      none_more : nat_lt n w.next ≡ false → (d : Entry B)
+          → stands_among same n d (proposed ++ next_vote b w.next e ∷ []) ≡ stands_among same n d before
+      none_more q d =
+          more d ∙ ap (λ (x : Bool). stands_among same n d proposed || (x && same_entry same e d)) q
+          ∙ or_false (stands_among same n d proposed) ∙ t.old q d
+
+      goes : nat_lt w.next slot_end ≡ true → stands_among same n e before || list_any (λ x. same_entry same x e) w.recent ≡ false
+          → Goes true e w o
+      goes p h =
+          let k : propose_new same members me e o ≡ propose same members me e o =
+          ap (λ (x : Bool). cond x o (propose same members me e o)) (stands_is ∙ t.stand p e ∙ h) in
+          record {
+            proposed = proposed ++ next_vote b w.next e ∷ [];
+            at = subst (λ (u : Plan B). At (suc w.next) (proposed ++ next_vote b w.next e ∷ []) (w.other || differs same members me b l w.next e) u)
+                (sym k)
+                (subst (λ (x : Bool). At (suc w.next) (proposed ++ next_vote b w.next e ∷ [])
+                (w.other || (x && vote_disagrees same members me (next_vote b w.next e) l)) (propose same members me e o)) (sym p)
+                (offers e w.next proposed w.other o a p));
+            tied = go (nat_le w.next n) refl;
+          }
+        where
+          above : nat_le w.next n ≡ false → nat_lt n w.next ≡ true
+          above q = lt-ltb n w.next (let c = leb-false w.next n q in omega (arith, c))
+
+          not_above : nat_le w.next n ≡ true → nat_lt n w.next ≡ false
+          not_above q = le-ltb n w.next (leb-true w.next n q)
+
+          go : (x : Bool) → nat_le w.next n ≡ x → Tied (proposed ++ next_vote b w.next e ∷ []) (record {
+            next = suc w.next;
+            recent = cond x [] (w.recent ++ e ∷ []);
+            other = w.other || differs same members me b l w.next e;
+          })
+          go true q = record {
+            stand = λ r d. none_more (not_above q) d ∙ sym (or_false (stands_among same n d before));
+            old = λ r d. none_more (not_above q) d;
+          }
+          go false q = record {
+            stand = λ r d.
+                more d ∙ ap (λ (x : Bool). stands_among same n d proposed || (x && same_entry same e d)) (above q)
+                ∙ ap (λ (x : Bool). x || same_entry same e d) (t.stand p d)
+                ∙ or_both (stands_among same n d before) (list_any (λ x. same_entry same x d) w.recent) (same_entry same e d)
+                ∙ ap (λ (x : Bool). stands_among same n d before || x) (sym (any_more (λ x. same_entry same x d) w.recent e));
+            old = λ r. absurd (let c = ltb-true n w.next (above q) in let f = ltb-false n (suc w.next) r in omega (arith, c, f));
+          }
+
+      goes_on : Goes (proposes_then same n before w.next w.recent e) e w o
+      goes_on = go (nat_lt w.next slot_end) (stands_among same n e before) (list_any (λ x. same_entry same x e) w.recent) refl refl refl
+        where
+          go : (x y z : Bool) → nat_lt w.next slot_end ≡ x → stands_among same n e before ≡ y
+              → list_any (λ d. same_entry same d e) w.recent ≡ z → Goes (x && (not y && not z)) e w o
+          go false y z p q r = spent p
+          go true true z p q r = passed p (ap (λ (u : Bool). u || list_any (λ d. same_entry same d e) w.recent) q)
+          go true false true p q r = passed p (or_right (stands_among same n e before) (list_any (λ d. same_entry same d e) w.recent) r)
+          go true false false p q r = goes p (λ i. q i || r i)
+
+    each_walked : (es : List (Entry B)) (w : Walked B) (proposed : List (Vote B)) (o : Plan B) → At w.next proposed w.other o → Tied proposed w
+        → (propose_each same members me es o).disagrees ≡ (walk_all same members me n b before l es w).other
+    each_walked [] w proposed o a t = a.other_is
+    each_walked (e ∷ es) w proposed o a t =
+        let g : Goes (proposes_then same n before w.next w.recent e) e w o = goes_on e w proposed o a t in
+        each_walked es (walk_on same members me n b before l e w) g.proposed (propose_new same members me e o) g.at g.tied
+
+module _ {B : Type 0} (same : B → B → Bool) (ok : IsEquality same) (members me : ℕ) where
+  -- a leader proposes these
+
+  pub each_is : (es : List (Entry B)) (o : Plan B) → o.disagrees ≡ false → is_leading o.node.proposer.role ≡ true
+      → (propose_each same members me es o).disagrees
+      ≡ proposes_other same members me (length o.node.applied) o.node.learner o.node.proposer.role es
+  each_is es o none leads = go o.node.proposer.role refl leads
+    where
+      go : (r : Role B) → o.node.proposer.role ≡ r → is_leading r ≡ true
+          → (propose_each same members me es o).disagrees ≡ proposes_other same members me (length o.node.applied) o.node.learner r es
+      go Idle p q = absurd (cc)
+      go (Preparing b first promises) p q = absurd (cc)
+      go (Leading b next proposed) p q =
+          each_walked same ok members me (length o.node.applied) b o.node.learner (behind (length o.node.applied) proposed) es (walk_from next) proposed o
+          (record { leads = p; length_is = refl; other_is = none; heard = λ s le. refl; learned = λ s le. refl; })
+          (record {
+            stand = λ r d. among_behind same (length o.node.applied) d proposed
+                ∙ sym (or_false (stands_among same (length o.node.applied) d (behind (length o.node.applied) proposed)));
+            old = λ r d. among_behind same (length o.node.applied) d proposed;
+          })
+
+  not_leading : (n : ℕ) (l : LearnerState B) (r : Role B) (es : List (Entry B)) → is_leading r ≡ false → false ≡ proposes_other same members me n l r es
+  not_leading n l Idle es h = refl
+  not_leading n l (Preparing b first promises) es h = refl
+  not_leading n l (Leading b next proposed) es h = absurd (cc)
+
+  -- it pushes what is pending
+
+  pub push_is : (o : Plan B) → o.disagrees ≡ false → (push same members me o).disagrees
+      ≡ proposes_other same members me (length o.node.applied) o.node.learner o.node.proposer.role o.node.pending
+  push_is o none = go (is_leading o.node.proposer.role) refl
+    where
+      go : (x : Bool) → is_leading o.node.proposer.role ≡ x
+          → (cond x (propose_each same members me o.node.pending o) (send (forwarded me o.node.rows.promised o.node.pending) o)).disagrees
+          ≡ proposes_other same members me (length o.node.applied) o.node.learner o.node.proposer.role o.node.pending
+      go true p = each_is o.node.pending o none p
+      go false p = none ∙ not_leading (length o.node.applied) o.node.learner o.node.proposer.role o.node.pending p
