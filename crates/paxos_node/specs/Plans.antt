@@ -1,5 +1,5 @@
 -- What a node plans, and what it returns (docs/CONSENSUS.md, "One node").
-use Rattle.std.specs.Prelude.{◌≡◌, ℕ, Bool, true, false, ◌&&◌, ◌==◌, None, [], Result, Ok, Err}
+use Rattle.std.specs.Prelude.{◌≡◌, ℕ, Bool, true, false, ◌&&◌, ◌==◌, Option, Some, None, [], ◌∷◌, ◌++◌, length, Result, Ok, Err, if◌then◌else◌}
 use Rattle.paxos_acceptor.specs.Acceptor.{no_change}
 use Rattle.paxos_node.specs.declared.event.Event.{Event}
 use Rattle.paxos_node.specs.declared.event.Event.TheVariants.{Take, Tick, Start, Suspect, Deliver, Crash, Restart}
@@ -8,13 +8,11 @@ use Rattle.paxos_node.specs.declared.fault.NodeFault.TheVariants.{Rounds, Full, 
 use Rattle.paxos_node.specs.declared.outcome.Outcome.{Outcome}
 use Rattle.paxos_planning.specs.Node.{NodeState, Plan}
 use Rattle.paxos_planning.specs.Replies.{brings_other}
-use Rattle.paxos_packets.specs.declared.packet.Kind.{Kind}
-use Rattle.paxos_packets.specs.declared.packet.Kind.TheVariants.{Prepare, Promise, Accept, Accepted, Nack, Forward, Learned, Ask}
-use Rattle.paxos_proposer.specs.Promises.{promised}
-use Rattle.paxos_proposer.specs.Proposer.{is_leading}
+use Rattle.paxos_packets.specs.declared.entry.Entry.{Entry}
+use Rattle.paxos_planning.specs.Walking.{proposes_other}
 use Rattle.paxos_node.specs.Adopting.{Settled}
 use Rattle.paxos_node.specs.Applying.{settle}
-use Rattle.paxos_node.specs.Events.{owner, possible}
+use Rattle.paxos_node.specs.Events.{owner, possible, takes, has_room, new_item, new_lost}
 
 -- a crash and a restart are not planned: they lose what a node holds
 abbrev pub is_planned : {B : Type 0} → Event B → Bool
@@ -41,35 +39,27 @@ unchanged log =
       moves = record { proposer = []; news = []; added = None; front = 0; log = log };
     }
 
--- the event is a packet that brings another entry than the one that this node learned in its slot
-abbrev pub hears_other : {B : Type 0} → (B → B → Bool) → ℕ → ℕ → Event B → NodeState B → Bool
-hears_other same members me (Take n t body) x = false
-hears_other same members me (Tick n) x = false
-hears_other same members me (Start n) x = false
-hears_other same members me (Suspect n other) x = false
-hears_other same members me (Deliver p) x = brings_other same members me p.sender p.kind x
-hears_other same members me (Crash n) x = false
-hears_other same members me (Restart n) x = false
+-- the event disagrees with what this node learned: its packet brings another entry, or the node, as a leader, votes for another
 
--- the node may propose entries in the event, and vote for them: it leads, or a promise makes it lead
-abbrev pub proposes_at : {B : Type 0} → ℕ → ℕ → Kind B → NodeState B → Bool
-proposes_at members sender (Prepare b first) x = false
-proposes_at members sender (Promise b votes) x = is_leading (promised members sender b votes x.proposer.role)
-proposes_at members sender (Accept v) x = false
-proposes_at members sender (Accepted v) x = false
-proposes_at members sender (Nack b p) x = false
-proposes_at members sender (Forward es) x = is_leading x.proposer.role
-proposes_at members sender (Learned s e) x = false
-proposes_at members sender (Ask first) x = false
+abbrev pub takes_other : {B : Type 0} → (B → B → Bool) → ℕ → ℕ → ℕ → B → NodeState B → Bool
+takes_other same members me t body x =
+    if takes x then proposes_other same members me (length x.applied) x.learner x.proposer.role (x.pending ++ new_item me t body x ∷ [])
+    else false
 
-abbrev pub proposes : {B : Type 0} → ℕ → Event B → NodeState B → Bool
-proposes members (Take n t body) x = is_leading x.proposer.role
-proposes members (Tick n) x = is_leading x.proposer.role
-proposes members (Start n) x = false
-proposes members (Suspect n other) x = is_leading x.proposer.role
-proposes members (Deliver p) x = proposes_at members p.sender p.kind x
-proposes members (Crash n) x = false
-proposes members (Restart n) x = false
+abbrev pub suspects_other : {B : Type 0} → (B → B → Bool) → ℕ → ℕ → Option (Entry B) → NodeState B → Bool
+suspects_other same members me None x = false
+suspects_other same members me (Some lost) x =
+    if has_room x then proposes_other same members me (length x.applied) x.learner x.proposer.role (x.pending ++ lost ∷ [])
+    else false
+
+abbrev pub finds_other : {B : Type 0} → (B → B → Bool) → ℕ → ℕ → Event B → NodeState B → Bool
+finds_other same members me (Take n t body) x = takes_other same members me t body x
+finds_other same members me (Tick n) x = proposes_other same members me (length x.applied) x.learner x.proposer.role x.pending
+finds_other same members me (Start n) x = false
+finds_other same members me (Suspect n other) x = suspects_other same members me (new_lost same me other x) x
+finds_other same members me (Deliver p) x = brings_other same members me p.sender p.kind x
+finds_other same members me (Crash n) x = false
+finds_other same members me (Restart n) x = false
 
 -- it is the fault of memory
 abbrev pub is_memory : {A : Type 0} → Result A NodeFault → Bool

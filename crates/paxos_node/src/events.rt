@@ -10,7 +10,7 @@ ghost use Rattle.paxos_node.specs.Events.{owner, possible, on_event, on_take, on
 ghost use Rattle.paxos_planning.specs.Ticking.{on_tick};
 ghost use Rattle.paxos_planning.specs.Starting.{on_start, starts};
 ghost use Rattle.paxos_node.specs.Events.{is_round_refused, is_full_refused, made_by, taken_by, suspected_by};
-ghost use Rattle.paxos_node.specs.Plans.{is_planned, plans, unchanged, hears_other, proposes, is_memory, Answers, Answered};
+ghost use Rattle.paxos_node.specs.Plans.{is_planned, plans, unchanged, finds_other, takes_other, suspects_other, is_memory, Answers, Answered};
 ghost use Rattle.paxos_planning.specs.Proposals.{push};
 ghost use Rattle.paxos_planning.specs.Replies.{on_packet, round_in};
 ghost use Rattle.paxos_planning.specs.Plan.{begun};
@@ -21,6 +21,7 @@ use crate::fault::NodeFault;
 use crate::node::Node;
 use crate::outcome::Outcome;
 use paxos_packets::{Body, Entry, Packet};
+use paxos_planning::Wanted;
 
 // The greatest number of an act, and how many entries may be pending.
 const LAST_NUMBER: u64 = (1 << 48) - 1;
@@ -31,7 +32,8 @@ impl<B: Body> Node<B> {
     /// Returns what the event makes of the node, which itself stays as it is: `Rounds` or `Full` if it changes nothing because no round or
     /// no room is left, `Disagree` if another entry was learned in a slot. An event that is not possible at this node, a crash and a
     /// restart change nothing. Looks at no entry of the log, and copies what it sends, commits, proposes and applies. Returns `Memory` in
-    /// the place of none of these, except in the place of `Disagree` if the node itself proposes in the event (`proposes`).
+    /// the place of none of these: if memory runs out it looks once more, by reference, whether the event disagrees. That takes as many
+    /// steps as what it would propose squared.
     pub fn plan(&self, event: &Event<B>) -> Result<Outcome<B>, NodeFault>
         ensures planned { plans self.now.me event.now self.now.state ≡ true →
             Answers (is_round_refused event.now self.now.state) (is_full_refused B.same event.now self.now.state)
@@ -41,7 +43,7 @@ impl<B: Body> Node<B> {
         ensures fits { IfOk result (λ outcome. Fits self.now.me self.now.members outcome self.now.state) }
         ensures made { plans self.now.me event.now self.now.state ≡ true →
             IfOk result (λ outcome. listed outcome.moves.added ≡ made_by B.same event.now self.now.state) }
-        ensures memory { plans self.now.me event.now self.now.state ≡ true → proposes self.now.members event.now self.now.state ≡ false →
+        ensures memory { plans self.now.me event.now self.now.state ≡ true →
             result ≡ Err NoMemory → (outcome_of B.same self.now.members event.now self.now.state).disagrees ≡ false }
     {
         if !self.plans(event) {
@@ -52,28 +54,64 @@ impl<B: Body> Node<B> {
         unless_other(planned, other)
     }
 
-    // Returns whether memory for the plan ran out, and the event is a packet that brings another entry than the one that was learned.
+    // Returns whether memory for the plan ran out, and the event disagrees with what was learned.
     fn finds_other(&self, planned: &Result<Outcome<B>, NodeFault>, event: &Event<B>) -> bool
         requires { self.now.state.up ≡ true }
-        ensures { result ≡ is_memory planned.now && hears_other B.same self.now.members self.now.me event.now self.now.state }
+        ensures { result ≡ is_memory planned.now && finds_other B.same self.now.members self.now.me event.now self.now.state }
     {
-        ran_out(planned) && self.hears_other(event)
+        ran_out(planned) && self.is_other(event)
     }
 
-    // Returns whether the event is a packet that brings another entry than the one that was learned in its slot.
-    fn hears_other(&self, event: &Event<B>) -> bool
+    // Returns whether the event disagrees with what was learned. Does not allocate.
+    fn is_other(&self, event: &Event<B>) -> bool
         requires { self.now.state.up ≡ true }
-        ensures { result ≡ hears_other B.same self.now.members self.now.me event.now self.now.state }
+        ensures { result ≡ finds_other B.same self.now.members self.now.me event.now self.now.state }
     {
         match event {
             Event::Deliver { packet } => self.parts().brings_other(packet.sender, &packet.kind),
-            Event::Take { .. }
-            | Event::Tick { .. }
-            | Event::Start { .. }
-            | Event::Suspect { .. }
-            | Event::Crash { .. }
-            | Event::Restart { .. } => false,
+            Event::Take {
+                transport,
+                body,
+                ..
+            } => self.takes_other(*transport, body),
+            Event::Tick { .. } => self.parts().proposes_other(self.pending()),
+            Event::Suspect { other, .. } => self.suspects_other(*other),
+            Event::Start { .. } | Event::Crash { .. } | Event::Restart { .. } => false,
         }
+    }
+
+    // Returns whether a vote disagrees that is cast if the act becomes pending.
+    fn takes_other(&self, transport: u32, body: &B) -> bool
+        requires { self.now.state.up ≡ true }
+        ensures { result ≡ takes_other B.same self.now.members self.now.me transport body.now self.now.state }
+    {
+        if !self.takes() {
+            return false;
+        }
+        let item = Wanted::Item {
+            node: self.me(),
+            boot: self.boot(),
+            seq: self.taken() + 1,
+            transport,
+            body,
+        };
+        self.parts().proposes_other_then(self.pending(), &item)
+    }
+
+    // Returns whether a vote disagrees that is cast if the other's Lost becomes pending.
+    fn suspects_other(&self, other: u8) -> bool
+        requires { self.now.state.up ≡ true }
+        ensures { result ≡ suspects_other B.same self.now.members self.now.me
+            (new_lost B.same self.now.me other self.now.state) self.now.state }
+    {
+        let Some(lost) = self.new_lost(other) else {
+            return false;
+        };
+        if !self.has_room() {
+            return false;
+        }
+        self.parts()
+            .proposes_other_then(self.pending(), &Wanted::Held(&lost))
     }
 
     // Plans an event of this node that is possible.

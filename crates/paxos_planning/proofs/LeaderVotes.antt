@@ -1,8 +1,8 @@
 -- The votes that a leader casts in an event disagree with what was learned exactly if those of the entries do that are gone through.
-use Rattle.std.proofs.Common.{◌≡◌, ◌≤◌, ◌<◌, ℕ, suc, ◌+◌, Bool, true, false, cond, not, ◌&&◌, ◌||◌, Option, Some, None, is_some, List, [], ◌∷◌, ◌++◌, drop, filter, length, refl, ap, sym, ◌∙◌, subst, arith}
+use Rattle.std.proofs.Common.{◌≡◌, ◌≤◌, ◌<◌, ℕ, suc, Bool, true, false, cond, not, ◌&&◌, ◌||◌, Option, Some, None, is_some, List, [], ◌∷◌, ◌++◌, length, refl, ap, sym, ◌∙◌, subst, arith}
 use Rattle.std.specs.Prelude.{nat_lt, nat_le, ◌==◌}
 use Rattle.std.specs.List.{list_any}
-use Rattle.std.proofs.lemmas.Bool.{lt-ltb, le-ltb, ltb-true, ltb-false, leb-true, leb-false, eqb-true, or_left, or_right}
+use Rattle.std.proofs.lemmas.Bool.{lt-ltb, le-ltb, ltb-true, ltb-false, leb-true, leb-false, eqb-true, or_right}
 use Rattle.paxos_packets.specs.Ballot.{below, same_ballot}
 use Rattle.paxos_packets.specs.Body.{IsEquality}
 use Rattle.paxos_packets.specs.Members.{is_majority, is_in, set_with}
@@ -11,11 +11,10 @@ use Rattle.paxos_packets.specs.declared.ballot.Ballot.{Ballot}
 use Rattle.paxos_packets.specs.declared.entry.Entry.{Entry}
 use Rattle.paxos_packets.specs.declared.vote.Vote.{Vote}
 use Rattle.paxos_proposer.specs.Role.{Role, Idle, Preparing, Leading}
-use Rattle.paxos_proposer.specs.Proposer.{slot_end, next_vote, is_leading, offered}
+use Rattle.paxos_proposer.specs.Proposer.{slot_end, next_vote, is_leading}
 use Rattle.paxos_proposer.specs.Proposals.{stands_among, behind}
 use Rattle.paxos_learner.specs.declared.tallies.SlotBallot.{SlotBallot}
 use Rattle.paxos_learner.specs.Tallies.{nodes_heard, hear, place_of, same_place}
-use Rattle.paxos_learner.specs.declared.learned.LearnedEntry.{LearnedEntry}
 use Rattle.paxos_learner.specs.Learner.{LearnerState, learned_at, is_learned, put_learned, hears, has_most, is_other, vote_disagrees, count_vote}
 use Rattle.paxos_learner.proofs.Ahead.{learned_is}
 use Rattle.paxos_learner.proofs.Counting.{most_then}
@@ -24,6 +23,14 @@ use Rattle.paxos_planning.specs.Node.{Plan}
 use Rattle.paxos_planning.specs.Plan.{cast, send}
 use Rattle.paxos_planning.specs.Proposals.{offer, propose_as, propose, propose_new, propose_each, stands, push, forwarded}
 use Rattle.paxos_planning.specs.Walking.{Walked, proposes_then, differs, walk_by, walk_on, walk_all, walk_from, proposes_other}
+use Rattle.paxos_planning.specs.Walking.{called_votes, slot_after, called_other, leads_to_other, called_of}
+use Rattle.paxos_planning.specs.Plan.{with_role}
+use Rattle.paxos_planning.specs.Proposals.{propose_all, lead}
+use Rattle.paxos_planning.specs.Replies.{on_promise_as, count_promise, on_forward}
+use Rattle.paxos_proposer.specs.declared.promises.CountedPromise.{CountedPromise}
+use Rattle.paxos_proposer.specs.Promises.{called_by, calls, and_promise_of}
+use Rattle.paxos_proposer.specs.Reports.{called_for, reports, is_counted}
+use Rattle.std.proofs.lemmas.List.{append-nil, append_assoc}
 
 -- tests
 
@@ -308,8 +315,8 @@ module _ {B : Type 0} (same : B → B → Bool) (ok : IsEquality same) (members 
       go Idle p q = absurd (cc)
       go (Preparing b first promises) p q = absurd (cc)
       go (Leading b next proposed) p q =
-          each_walked same ok members me (length o.node.applied) b o.node.learner (behind (length o.node.applied) proposed) es (walk_from next) proposed o
-          (record { leads = p; length_is = refl; other_is = none; heard = λ s le. refl; learned = λ s le. refl; })
+          each_walked same ok members me (length o.node.applied) b o.node.learner (behind (length o.node.applied) proposed) es (walk_from next false) proposed o
+          (record { leads = p; length_is = refl; other_is = none; heard = λ s le. refl; learned = λ s le. refl })
           (record {
             stand = λ r d. among_behind same (length o.node.applied) d proposed
                 ∙ sym (or_false (stands_among same (length o.node.applied) d (behind (length o.node.applied) proposed)));
@@ -332,3 +339,140 @@ module _ {B : Type 0} (same : B → B → Bool) (ok : IsEquality same) (members 
           ≡ proposes_other same members me (length o.node.applied) o.node.learner o.node.proposer.role o.node.pending
       go true p = each_is o.node.pending o none p
       go false p = none ∙ not_leading (length o.node.applied) o.node.learner o.node.proposer.role o.node.pending p
+
+  pub forward_is : (es : List (Entry B)) (o : Plan B) → o.disagrees ≡ false → (on_forward same members me es o).disagrees
+      ≡ proposes_other same members me (length o.node.applied) o.node.learner o.node.proposer.role es
+  forward_is es o none = go (is_leading o.node.proposer.role) refl
+    where
+      go : (x : Bool) → is_leading o.node.proposer.role ≡ x → (cond x (propose_each same members me es o) o).disagrees
+          ≡ proposes_other same members me (length o.node.applied) o.node.learner o.node.proposer.role es
+      go true p = each_is es o none p
+      go false p = none ∙ not_leading (length o.node.applied) o.node.learner o.node.proposer.role es p
+
+  -- a promise makes it lead
+
+  kept_as : (r : Role B) (e : Entry B) (o : Plan B) → (propose_as same members me r e o).node.pending ≡ o.node.pending
+  kept_as Idle e o = refl
+  kept_as (Preparing b first promises) e o = refl
+  kept_as (Leading b next proposed) e o = go (nat_lt next slot_end)
+    where
+      go : (x : Bool) → (cond x (cast same members me (next_vote b next e) (offer members me b next proposed e o)) o).node.pending ≡ o.node.pending
+      go true = refl
+      go false = refl
+
+  kept_pending : (es : List (Entry B)) (o : Plan B) → (propose_all same members me es o).node.pending ≡ o.node.pending
+  kept_pending [] o = refl
+  kept_pending (e ∷ es) o = kept_pending es (propose same members me e o) ∙ kept_as o.node.proposer.role e o
+
+  module _ (n : ℕ) (b : Ballot) (l : LearnerState B) where
+    all_spent : (es : List (Entry B)) (slot : ℕ) (proposed : List (Vote B)) (other : Bool) (o : Plan B)
+        → At same ok members me n b l slot proposed other o → nat_lt slot slot_end ≡ false → propose_all same members me es o ≡ o
+    all_spent [] slot proposed other o a p = refl
+    all_spent (e ∷ es) slot proposed other o a p =
+        ap (λ (u : Plan B). propose_all same members me es u) (none_left same ok members me n b l e slot proposed other o a p)
+        ∙ all_spent es slot proposed other o a p
+
+    none_called : (es : List (Entry B)) (slot : ℕ) → nat_lt slot slot_end ≡ false → called_other same members me b l slot es ≡ false
+    none_called [] slot p = refl
+    none_called (e ∷ es) slot p =
+        let q : nat_lt (suc slot) slot_end ≡ false = le-ltb (suc slot) slot_end (let c = ltb-false slot slot_end p in omega (arith, c)) in
+        λ i. (p i && vote_disagrees same members me (next_vote b slot e) l) || none_called es (suc slot) q i
+
+    offers_all : (es : List (Entry B)) (slot : ℕ) (proposed : List (Vote B)) (other : Bool) (o : Plan B)
+        → At same ok members me n b l slot proposed other o
+        → At same ok members me n b l (slot_after slot es) (proposed ++ called_votes b slot es) (other || called_other same members me b l slot es)
+        (propose_all same members me es o)
+    offers_all [] slot proposed other o a =
+        subst (λ (vs : List (Vote B)). At same ok members me n b l slot vs (other || false) o) (sym (append-nil proposed))
+        (subst (λ (x : Bool). At same ok members me n b l slot proposed x o) (sym (or_false other)) a)
+    offers_all (e ∷ es) slot proposed other o a = go (nat_lt slot slot_end) refl
+        (λ p. offers_all es (suc slot) (proposed ++ v ∷ []) (other || vote_disagrees same members me v l) (propose same members me e o)
+        (offers same ok members me n b l e slot proposed other o a p))
+      where
+        v : Vote B
+        v = next_vote b slot e
+
+        To : Bool → Type 0
+        To x = At same ok members me n b l (cond x (slot_after (suc slot) es) slot) (proposed ++ cond x (v ∷ called_votes b (suc slot) es) [])
+            (other || ((x && vote_disagrees same members me v l) || called_other same members me b l (suc slot) es))
+            (propose_all same members me es (propose same members me e o))
+
+        go : (x : Bool) → nat_lt slot slot_end ≡ x
+            → (nat_lt slot slot_end ≡ true → At same ok members me n b l (slot_after (suc slot) es) ((proposed ++ v ∷ []) ++ called_votes b (suc slot) es)
+            ((other || vote_disagrees same members me v l) || called_other same members me b l (suc slot) es)
+            (propose_all same members me es (propose same members me e o)))
+            → To x
+        go true p more =
+            subst (λ (vs : List (Vote B)). At same ok members me n b l (slot_after (suc slot) es) vs
+            (other || (vote_disagrees same members me v l || called_other same members me b l (suc slot) es))
+            (propose_all same members me es (propose same members me e o)))
+            (append_assoc proposed (v ∷ []) (called_votes b (suc slot) es))
+            (subst (λ (x : Bool). At same ok members me n b l (slot_after (suc slot) es) ((proposed ++ v ∷ []) ++ called_votes b (suc slot) es) x
+            (propose_all same members me es (propose same members me e o)))
+            (or_both other (vote_disagrees same members me v l) (called_other same members me b l (suc slot) es)) (more p))
+        go false p more =
+            let q : nat_lt (suc slot) slot_end ≡ false = le-ltb (suc slot) slot_end (let c = ltb-false slot slot_end p in omega (arith, c)) in
+            let done : propose_all same members me es (propose same members me e o) ≡ o = all_spent (e ∷ es) slot proposed other o a p in
+            subst (λ (u : Plan B). At same ok members me n b l slot (proposed ++ []) (other || called_other same members me b l (suc slot) es) u) (sym done)
+            (subst (λ (vs : List (Vote B)). At same ok members me n b l slot vs (other || called_other same members me b l (suc slot) es) o)
+            (sym (append-nil proposed))
+            (subst (λ (x : Bool). At same ok members me n b l slot proposed x o)
+            (sym (ap (λ (x : Bool). other || x) (none_called es (suc slot) q) ∙ or_false other)) a))
+
+  lead_is : (b : Ballot) (first : ℕ) (votes : List (Vote B)) (o : Plan B) → o.disagrees ≡ false
+      → (push same members me (lead same members me b first votes o)).disagrees
+      ≡ leads_to_other same members me (length o.node.applied) o.node.learner b first (called_for first votes) o.node.pending
+  lead_is b first votes o none =
+      ap (λ (x : Bool). (cond x (propose_each same members me led.node.pending led)
+      (send (forwarded me led.node.rows.promised led.node.pending) led)).disagrees) (ap is_leading a.leads)
+      ∙ each_walked same ok members me n b l (called_votes b first called) led.node.pending
+      (walk_from (slot_after first called) (called_other same members me b l first called)) (called_votes b first called) led a
+      (record {
+        stand = λ r d. sym (or_false (stands_among same n d (called_votes b first called)));
+        old = λ r d. refl;
+      })
+      ∙ ap (λ (es : List (Entry B)). leads_to_other same members me n l b first called es) (kept_pending called begun)
+    where
+      n : ℕ
+      n = length o.node.applied
+
+      l : LearnerState B
+      l = o.node.learner
+
+      called : List (Entry B)
+      called = called_for first votes
+
+      begun : Plan B
+      begun = record o { node = with_role (Leading b first []) o.node }
+
+      led : Plan B
+      led = propose_all same members me called begun
+
+      a : At same ok members me n b l (slot_after first called) (called_votes b first called) (called_other same members me b l first called) led
+      a = offers_all n b l called first [] false begun (record {
+        leads = refl;
+        length_is = refl;
+        other_is = none;
+        heard = λ s le. refl;
+        learned = λ s le. refl;
+      })
+
+  pub promise_is : (sender : ℕ) (b : Ballot) (votes : List (Vote B)) (r : Role B) (o : Plan B) → o.disagrees ≡ false
+      → (on_promise_as same members me sender b votes r o).disagrees ≡ called_of same members me (length o.node.applied) o.node.learner o.node.pending r (called_by members sender b votes r)
+  promise_is sender b votes Idle o none = none
+  promise_is sender b votes (Leading c next proposed) o none = none
+  promise_is sender b votes (Preparing c first promises) o none = go (same_ballot b c && not (is_counted promises sender))
+    where
+      all : List (CountedPromise B)
+      all = and_promise_of sender votes promises
+
+      most : (m : Bool) → (cond m (push same members me (lead same members me c first (reports all) o))
+          (record o { node = with_role (Preparing c first all) o.node })).disagrees
+          ≡ called_of same members me (length o.node.applied) o.node.learner o.node.pending (Preparing c first promises) (cond m (Some (called_for first (reports all))) None)
+      most true = lead_is c first (reports all) o none
+      most false = none
+
+      go : (t : Bool) → (cond t (count_promise same members me c first all o) o).disagrees
+          ≡ called_of same members me (length o.node.applied) o.node.learner o.node.pending (Preparing c first promises) (cond t (calls members first all) None)
+      go true = most (is_majority members (is_counted all))
+      go false = none

@@ -1,5 +1,5 @@
 -- What a packet brings about at its addressee (docs/CONSENSUS.md, "Packets"; Lamport 2001, section 2.2).
-use Rattle.std.specs.Prelude.{ℕ, ◌+◌, max, Bool, false, not, ◌&&◌, nat_lt, nat_le, List, [], ◌∷◌, ◌++◌, if◌then◌else◌}
+use Rattle.std.specs.Prelude.{ℕ, ◌+◌, max, Bool, false, not, ◌&&◌, nat_lt, nat_le, List, [], ◌∷◌, ◌++◌, length, if◌then◌else◌}
 use Rattle.std.specs.List.{flat_map}
 use Rattle.paxos_packets.specs.Members.{is_majority}
 use Rattle.paxos_packets.specs.Vote.{votes_from}
@@ -22,6 +22,7 @@ use Rattle.paxos_learner.specs.Learner.{disagrees, vote_disagrees}
 use Rattle.paxos_planning.specs.Node.{NodeState, Plan}
 use Rattle.paxos_planning.specs.Plan.{with_role, send, promise, count, hear_learned, cast}
 use Rattle.paxos_planning.specs.Proposals.{lead, propose_each, push}
+use Rattle.paxos_planning.specs.Walking.{proposes_other, promise_other}
 
 -- the greatest round of the ballots in a packet
 abbrev pub round_of_votes : {B : Type 0} → List (Vote B) → ℕ
@@ -94,13 +95,14 @@ on_packet same members me sender (Forward es) o = on_forward same members me es 
 on_packet same members me sender (Learned s e) o = hear_learned same s e o
 on_packet same members me sender (Ask first) o = send (told_from me sender first o.node.learner.learned) o
 
--- the packet itself brings another entry than the one that was learned in its slot
+-- the packet brings another entry than the one that was learned in its slot, or the node votes for another because of it
 abbrev pub brings_other : {B : Type 0} → (B → B → Bool) → ℕ → ℕ → ℕ → Kind B → NodeState B → Bool
 brings_other same members me sender (Prepare b first) x = false
-brings_other same members me sender (Promise b votes) x = false
+brings_other same members me sender (Promise b votes) x = promise_other same members me sender b votes x
 brings_other same members me sender (Accept v) x = may_accept x.rows.promised v.ballot && vote_disagrees same members me v x.learner
 brings_other same members me sender (Accepted v) x = vote_disagrees same members sender v x.learner
 brings_other same members me sender (Nack b p) x = false
-brings_other same members me sender (Forward es) x = false
+brings_other same members me sender (Forward es) x =
+    proposes_other same members me (length x.applied) x.learner x.proposer.role es
 brings_other same members me sender (Learned s e) x = disagrees same s e x.learner
 brings_other same members me sender (Ask first) x = false

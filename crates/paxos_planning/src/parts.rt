@@ -170,8 +170,8 @@ impl<'a, B> Parts<'a, B> {
 }
 
 impl<'a, B: Body> Parts<'a, B> {
-    /// Returns whether the packet itself brings another entry than the one that was learned in its slot: a vote for it that is cast or that
-    /// makes a majority, or a report of it. Does not allocate.
+    /// Returns whether the packet brings another entry than the one that was learned in its slot: a vote for it that is cast or that makes a
+    /// majority, or a report of it; or whether the node, as a leader, votes for another because of it. Does not allocate.
     pub fn brings_other(&self, sender: u8, kind: &Kind<B>) -> bool
         ensures { result ≡ brings_other B.same self.now.members self.now.me sender kind.now self.now.state }
     {
@@ -180,11 +180,9 @@ impl<'a, B: Body> Parts<'a, B> {
                 && self.learner().vote_disagrees(self.me(), vote),
             Kind::Accepted { vote } => self.learner().vote_disagrees(sender, vote),
             Kind::Learned { slot, entry } => self.learner().disagrees(*slot, entry),
-            Kind::Prepare { .. }
-            | Kind::Promise { .. }
-            | Kind::Nack { .. }
-            | Kind::Forward { .. }
-            | Kind::Ask { .. } => false,
+            Kind::Promise { ballot, votes } => self.promise_other(sender, *ballot, votes),
+            Kind::Forward { entries } => self.proposes_other(entries.as_slice()),
+            Kind::Prepare { .. } | Kind::Nack { .. } | Kind::Ask { .. } => false,
         }
     }
 

@@ -9,6 +9,7 @@ use std::marker::Model;
 
 /// What a promise calls for that makes a proposer lead, by reference: for each slot from the first one that was asked for to the greatest
 /// one reported, the entry that was reported with the greatest ballot, or `Noop`. No call of it allocates.
+#[derive(Drop)]
 pub struct Called<'a, B> {
     pub(crate) ballot: Ballot,
     pub(crate) first: u64,

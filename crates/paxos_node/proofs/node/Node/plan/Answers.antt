@@ -1,11 +1,12 @@
 use Rattle.std.proofs.Common.{◌≡◌, Bool, cond, ◌&&◌, Result, Err, ap, sym, ◌∙◌, subst}
 use Rattle.std.specs.Prelude.{IfOk}
+use Rattle.paxos_packets.specs.Body.{IsEquality}
 use Rattle.paxos_node.specs.declared.fault.NodeFault.{NodeFault}
 use Rattle.paxos_node.specs.declared.fault.NodeFault.TheVariants.{Disagree}
 use Rattle.paxos_node.specs.declared.outcome.Outcome.{Outcome}
 use Rattle.paxos_planning.specs.Drafting.{listed}
 use Rattle.paxos_node.specs.Adopting.{Fits, Planned}
-use Rattle.paxos_node.specs.Plans.{Answers, hears_other, is_memory}
+use Rattle.paxos_node.specs.Plans.{Answers, finds_other, is_memory}
 use Rattle.paxos_node.proofs.Disagreeing.{answers_other, memory_is_last, ok_stays}
 use Rattle.paxos_planning.specs.Node.{NodeState}
 use Rattle.paxos_planning.specs.Plan.{begun}
@@ -33,24 +34,26 @@ finds_other-other-requires g c =
 pub returns-clause-planned : goal.returns-clause-planned
 returns-clause-planned g c = λ own.
     let x : NodeState g.row.B.Denot = c.args.self.now.state in
+    let equality : IsEquality g.B.Body.same = record { reflexive = g.met.B.Body.reflexive; sound = g.met.B.Body.sound } in
     let mine : owner c.args.event.now ≡ c.args.self.now.me = is_own c.args.self.now.me c.args.event.now x own in
-    let result : c.unless_other.result ≡ cond (is_memory c.plan_own-planned.result && hears_other g.B.Body.same c.args.self.now.members c.args.self.now.me c.args.event.now x) (Err Disagree) c.plan_own-planned.result =
+    let result : c.unless_other.result ≡ cond (is_memory c.plan_own-planned.result && finds_other g.B.Body.same c.args.self.now.members c.args.self.now.me c.args.event.now x) (Err Disagree) c.plan_own-planned.result =
     c.unless_other.ensures ∙ ap (λ (b : Bool). cond b (Err Disagree) c.plan_own-planned.result) c.finds_other-other.ensures in
     subst (λ (r : Result (Outcome g.row.B.Denot) NodeFault). Answers (is_round_refused c.args.event.now x) (is_full_refused g.B.Body.same c.args.event.now x)
     (outcome_of g.B.Body.same c.args.self.now.members c.args.event.now x).disagrees
     (λ o. Planned g.B.Body.same c.args.self.now.members c.args.event.now x o) r) (sym result)
-    (answers_other g.B.Body.same c.args.self.now.members c.args.self.now.me c.args.event.now x c.plan_own-planned.result mine
+    (answers_other g.B.Body.same equality c.args.self.now.members c.args.self.now.me c.args.event.now x c.plan_own-planned.result mine
     (is_round_refused c.args.event.now x) (is_full_refused g.B.Body.same c.args.event.now x)
     (λ o. Planned g.B.Body.same c.args.self.now.members c.args.event.now x o)
     (owner_answers g.B.Body.same c.args.self.now.me c.args.self.now.members c.args.event.now x c.plan_own-planned.result mine c.plan_own-planned.ensures.answered))
 
 pub returns-clause-memory : goal.returns-clause-memory
-returns-clause-memory g c = λ own quiet last.
+returns-clause-memory g c = λ own last.
     let x : NodeState g.row.B.Denot = c.args.self.now.state in
+    let equality : IsEquality g.B.Body.same = record { reflexive = g.met.B.Body.reflexive; sound = g.met.B.Body.sound } in
     let mine : owner c.args.event.now ≡ c.args.self.now.me = is_own c.args.self.now.me c.args.event.now x own in
-    let result : c.unless_other.result ≡ cond (is_memory c.plan_own-planned.result && hears_other g.B.Body.same c.args.self.now.members c.args.self.now.me c.args.event.now x) (Err Disagree) c.plan_own-planned.result =
+    let result : c.unless_other.result ≡ cond (is_memory c.plan_own-planned.result && finds_other g.B.Body.same c.args.self.now.members c.args.self.now.me c.args.event.now x) (Err Disagree) c.plan_own-planned.result =
     c.unless_other.ensures ∙ ap (λ (b : Bool). cond b (Err Disagree) c.plan_own-planned.result) c.finds_other-other.ensures in
-    memory_is_last g.B.Body.same c.args.self.now.members c.args.self.now.me c.args.event.now x c.plan_own-planned.result mine quiet (sym result ∙ last)
+    memory_is_last g.B.Body.same equality c.args.self.now.members c.args.self.now.me c.args.event.now x c.plan_own-planned.result mine (sym result ∙ last)
 
 pub returns-clause-fits : goal.returns-clause-fits
 returns-clause-fits g c =

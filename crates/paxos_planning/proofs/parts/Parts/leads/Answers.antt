@@ -1,6 +1,5 @@
 use Rattle.std.proofs.Common.{◌≡◌, true, false, length, ap, subst}
 use Rattle.paxos_proposer.specs.Proposer.{is_leading, slots_spent}
-use Rattle.paxos_proposer.specs.Role.{Role}
 use Rattle.paxos_proposer.specs.State.{role_in}
 use Rattle.paxos_planning.proofs.OwnVotes.{none_leads}
 use Rattle.paxos_planning.proofs.parts.Parts.leads.Goals as goal
