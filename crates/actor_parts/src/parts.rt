@@ -1,5 +1,5 @@
 //! The parts of an actor, and what is done to each.
-ghost use Rattle.std.specs.Prelude.{◌≡◌, ◌<◌, ◌++◌, [], length, nat_lt, true, false, Some, Ok, OnOk, OnErr, IfOk, IfErr, IfNone, IfSome, is_err};
+ghost use Rattle.std.specs.Prelude.{◌≡◌, ◌<◌, ◌++◌, [], length, nat_lt, true, false, Some, Ok, Err, OnOk, OnErr, IfOk, IfErr, IfNone, IfSome, is_err};
 ghost use Rattle.std.specs.Prelude.{IsOkUnless, if◌then◌else◌};
 ghost use Rattle.paxos_packets.specs.declared.rows.Rows.{Rows};
 ghost use Rattle.paxos_acceptor.specs.Acceptor as accepting;
@@ -189,6 +189,8 @@ impl<M: Machine, K: Keeper<M::Body>> Parts<M, K> {
             (outcome_of M.Body.same self.now.node.members event.now self.now.node.state).disagrees
             (λ outcome. Planned M.Body.same self.now.node.members event.now self.now.node.state outcome) result }
         ensures fits { IfOk result (λ outcome. Fits self.now.node.me self.now.node.members outcome self.now.node.state) }
+        ensures memory { result ≡ Err node_fault.Memory
+            → (outcome_of M.Body.same self.now.node.members event.now self.now.node.state).disagrees ≡ false }
     {
         self.node.plan(event)
     }

@@ -255,7 +255,7 @@ module _ {B S Y M K : Type 0} (same : B → B → Bool) (from : S → Machine B 
           held = subst (λ x. holds new.keeper x.rows) (is_node ∙ ap (λ x. x.node) (sym (ap seen h.2.seat ∙ reach.seen))) h.2.held;
         },
       )
-      acts_of fresh short (Err Memory) h = (fresh, h.1, is_taken, inr (is_agreed h.0), stops h.2)
+      acts_of fresh short (Err Memory) h = (fresh, h.1, is_taken, agrees, inr (worn_by true h.0), stops h.2)
       acts_of fresh short (Err Failed) h = absurd h
       acts_of fresh short (Err Rounds) h = absurd h
       acts_of fresh short (Err Full) h = absurd h
@@ -292,11 +292,13 @@ module _ {B S Y M K : Type 0} (same : B → B → Bool) (from : S → Machine B 
 
       pub memory_acts : p.spoiled ≡ false → IsServing holds is_failed p → IsSeated same (acting (record p { spoiled = true }) s)
           → (is_round_refused e p.node.state ≡ false) × (is_full_refused same e p.node.state ≡ false)
+          → (outcome_of same p.node.members e p.node.state).disagrees ≡ false
           → Acts same from content holds finds failures (Some e) (acting p v) (acting (record p { spoiled = true }) s) v (Err Memory)
-      memory_acts fresh serving behind h = (
+      memory_acts fresh serving behind h agrees = (
         fresh,
         refl,
         (ap (is_round_refused e) (sym stays_node) ∙ h.0, ap (is_full_refused same e) (sym stays_node) ∙ h.1),
+        ap (λ x. (outcome_of same p.node.members e x).disagrees) (sym stays_node) ∙ agrees,
         inl refl,
         stops_here serving (Some e) behind,
       )

@@ -104,7 +104,7 @@ module _ {B S Y M K : Type 0} (same : B → B → Bool) (from : S → Machine B 
   abbrev pub IsAgreed : Option (Event B) → Acting B M K → View B → Type 0
   IsAgreed e old v = IsTaken e old v × (disagrees same old.node.members e (seen v).node ≡ false) × (is_worn e v ≡ false)
 
-  -- nothing was done, since memory for the plan ran out: what an event says of the log, and its node's word, come after that
+  -- nothing was done, since memory for the plan ran out: the node's word comes after that
   abbrev pub IsUnplanned : Acting B M K → Acting B M K → Type 0
   IsUnplanned old new = parts new ≡ record (parts old) { spoiled = true }
 
@@ -127,4 +127,5 @@ module _ {B S Y M K : Type 0} (same : B → B → Bool) (from : S → Machine B 
       (old.spoiled ≡ false) × (new.spoiled ≡ true) × IsTaken e old v × (disagrees same old.node.members e (seen v).node ≡ false)
       × (is_worn e v ≡ true) × Stops None old new v
   Acts e old new v (Err Memory) =
-      (old.spoiled ≡ false) × (new.spoiled ≡ true) × IsTaken e old v × (IsUnplanned old new ⊎ IsAgreed e old v) × Stops e old new v
+      (old.spoiled ≡ false) × (new.spoiled ≡ true) × IsTaken e old v × (disagrees same old.node.members e (seen v).node ≡ false)
+      × (IsUnplanned old new ⊎ (is_worn e v ≡ false)) × Stops e old new v

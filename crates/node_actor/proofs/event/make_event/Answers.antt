@@ -1,4 +1,4 @@
-use Rattle.std.proofs.Common.{◌≡◌, false, rules}
+use Rattle.std.proofs.Common.{◌≡◌, false, Err, ap, rules}
 use Rattle.paxos_node.specs.Adopting.{Planned}
 use Rattle.paxos_node.specs.Events.{outcome_of, is_round_refused, is_full_refused}
 use Rattle.paxos_node.specs.declared.fault.NodeFault.TheVariants as node_fault
@@ -57,6 +57,7 @@ returns-in-Err-Memory-clause-acts g c = λ view reach.
     (outcome_of g.M.Body.Body.same c.args.parts.now.node.members c.args.event.now c.args.parts.now.node.state).disagrees
     (λ outcome. Planned g.M.Body.Body.same c.args.parts.now.node.members c.args.event.now c.args.parts.now.node.state outcome)
     c.in-Err-Memory.field-0 fault c.in-Err-Memory.ensures.planned in
+    let agrees = c.in-Err-Memory.ensures.memory (ap Err fault) in
     rw c.spoil-in-Err-Memory.ensures (memory_acts g.M.Body.Body.same _ _ _ _ _ g.K.Keeper.is_failed c.args.event.now c.args.parts.now view
     c.args.seat.now c.requires.seated reach fresh
-    (c.requires.sound.serves fresh) (seated_spoiled g.M.Body.Body.same c.args.parts.now c.args.seat.now c.requires.seated) refused)
+    (c.requires.sound.serves fresh) (seated_spoiled g.M.Body.Body.same c.args.parts.now c.args.seat.now c.requires.seated) refused agrees)
