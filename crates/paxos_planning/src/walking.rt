@@ -2,11 +2,10 @@
 //! to plan the event. Its entries are gone through in order, each with the slot that it would have; an entry that stands has none. No call
 //! allocates, and the steps are as many as the entries squared, and as the entries times what was proposed before.
 
-ghost use Rattle.std.specs.Prelude.{◌≡◌, ◌≤◌, ◌<◌, ◌+◌, ◌&&◌, ◌||◌, not, true, false, suc, length, drop, ◌^◌, get_or, Some, Option, option_map, nat_lt, List, [], ◌∷◌, ◌++◌, if◌then◌else◌};
+ghost use Rattle.std.specs.Prelude.{◌≡◌, ◌≤◌, ◌<◌, ◌&&◌, true, suc, length, ◌^◌, nat_lt, [], ◌∷◌, ◌++◌, if◌then◌else◌};
 ghost use Rattle.std.specs.List.{list_any};
 ghost use Rattle.paxos_packets.specs.Entry.{same_entry};
-ghost use Rattle.paxos_packets.specs.declared.entry.Entry.{Entry};
-ghost use Rattle.paxos_proposer.specs.Proposals.{stands_among, behind};
+ghost use Rattle.paxos_proposer.specs.Proposals.{stands_among};
 ghost use Rattle.paxos_proposer.specs.Reports.{called_for, entry_or_noop, best};
 ghost use Rattle.paxos_planning.specs.Walking.{entry_of, called_entry, walked_through, proposes_then, differs, walk_on, walk_all, walk_from};
 ghost use Rattle.paxos_planning.specs.Walking.{proposes_other, promise_other, called_votes, called_other, votes_of, Leads, LeadsBy};
@@ -94,8 +93,8 @@ impl<'a, B: Body> Parts<'a, B> {
         })
     }
 
-    /// Returns whether a vote that the node would cast because of this promise disagrees with what was learned: for an entry that the
-    /// promise calls for, if it makes the node lead, or then for one that is pending. Does not allocate.
+    // Returns whether a vote that the node would cast because of this promise disagrees with what was learned: for an entry that the promise
+    // calls for, if it makes the node lead, or then for one that is pending. Does not allocate.
     pub(crate) fn promise_other(&self, sender: u8, ballot: Ballot, votes: &Votes<B>) -> bool
         ensures { result ≡ promise_other B.same self.now.members self.now.me sender ballot votes.now self.now.state }
     {
