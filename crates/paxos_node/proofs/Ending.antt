@@ -48,14 +48,14 @@ ends_alike me x (Lost n b) = go (eqb n me) (eqb b x.rows.boot) (eqb-true n me) (
 
 -- many entries at once
 
-abbrev noted : {B : Type 0} → List (Entry B) → Plan B → Plan B
+abbrev pub noted : {B : Type 0} → List (Entry B) → Plan B → Plan B
 noted es t =
     record t {
       node = record t.node { applied = t.node.applied ++ es; pending = pending_behind t.node.applied es t.node.pending };
       applied = t.applied ++ es;
     }
 
-abbrev ended : {B : Type 0} → Bool → Plan B → Plan B
+abbrev pub ended : {B : Type 0} → Bool → Plan B → Plan B
 ended b t = cond b (go_down t) t
 
 noted_none : {B : Type 0} (t : Plan B) → noted [] t ≡ t
@@ -71,7 +71,7 @@ noted_more e es t = λ i.
       applied = append_assoc t.applied (e ∷ []) es i;
     }
 
-applied_at_once : {B : Type 0} (me boot : ℕ) (es : List (Entry B)) (s : Standing) (t : Plan B) → standing me t.node.applied ≡ s → t.node.rows.boot ≡ boot
+pub applied_at_once : {B : Type 0} (me boot : ℕ) (es : List (Entry B)) (s : Standing) (t : Plan B) → standing me t.node.applied ≡ s → t.node.rows.boot ≡ boot
     → apply_all me es t ≡ ended (has_end me boot s es) (noted (take (count_to_end me boot s es) es) t)
 applied_at_once me boot [] s t p q = sym (noted_none t)
 applied_at_once {B} me boot (e ∷ es) s t p q =

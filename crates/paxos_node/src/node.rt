@@ -1,5 +1,6 @@
-ghost use Rattle.std.specs.Prelude.{◌≡◌, ◌<◌, ◌≤◌, ◌+◌, ◌^◌, vec_len, vec_capacity, true, false, nat_lt, length, IfOk, IfErr, OnOk, OnErr, IsOkUnless, Err, option_copied};
-ghost use Rattle.paxos_node.specs.declared.fault.NodeFault.TheVariants.{Memory};
+ghost use Rattle.std.specs.Prelude.{◌≡◌, ◌↔◌, ◌<◌, ◌≤◌, ◌+◌, ◌^◌, vec_len, vec_capacity, true, false, nat_lt, length, IsOk, IfOk, IfErr, OnOk, OnErr, IsOkUnless, Err, option_copied};
+ghost use Rattle.paxos_node.specs.declared.fault.NodeFault.TheVariants.{Memory, Rounds};
+ghost use Rattle.paxos_packets.specs.Vote.{votes_from};
 ghost use Rattle.paxos_node.specs.Adopting.{adopted, Fits};
 ghost use Rattle.paxos_planning.specs.Parts.{proposer_of, learner_of};
 ghost use Rattle.paxos_node.specs.Applying.{down, started};
@@ -8,7 +9,7 @@ ghost use Rattle.paxos_learner.specs.Learned.{Begins};
 ghost use Rattle.paxos_learner.specs.Hearing.{HasRoomFor};
 ghost use Rattle.paxos_proposer.specs.Moves.{promises_in, proposals_in};
 ghost use Rattle.paxos_proposer.specs.State.{HasRoom as HasRoomToPropose};
-ghost use Rattle.paxos_proposer.specs.Proposer.{round_of, is_leading};
+ghost use Rattle.paxos_proposer.specs.Proposer.{round_of, is_leading, own_ballot, is_spent};
 ghost use Rattle.paxos_planning.specs.Drafting.{known, with_pending_entry};
 ghost use Rattle.paxos_planning.specs.Front.{IsFront};
 ghost use Rattle.paxos_planning.specs.Plan.{begun};
@@ -21,7 +22,7 @@ use crate::packets::Packets;
 use crate::waiting::{apply_all, wait};
 use paxos_acceptor::Acceptor;
 use paxos_learner::Learner;
-use paxos_packets::{Ballot, Body, Entries, Entry, Members, Rows, Vote};
+use paxos_packets::{Ballot, Body, Entries, Entry, Members, Rows, Vote, Votes};
 use paxos_planning::{Draft, Parts};
 use paxos_proposer::Proposer;
 use replica_machine::Roll;
@@ -109,8 +110,8 @@ impl<B> Model for Node<B> {
 }
 
 impl<B> Node<B> {
-    // Returns its number.
-    pub(crate) fn me(&self) -> u8
+    /// Returns its number.
+    pub fn me(&self) -> u8
         ensures { result ≡ self.now.me }
     {
         self.me
@@ -121,8 +122,8 @@ impl<B> Node<B> {
         self.alloc
     }
 
-    // Returns the standing of each node after its log.
-    pub(crate) fn roll(&self) -> &Roll
+    /// Returns the standing of each node after its log.
+    pub fn roll(&self) -> &Roll
         ensures { IsRollOf self.now.state.applied result.now }
     {
         &self.roll
@@ -135,15 +136,15 @@ impl<B> Node<B> {
         let _ = &self.learner;
     }
 
-    // Returns how many acts it took.
-    pub(crate) fn taken(&self) -> u64
+    /// Returns how many acts it took in its boot.
+    pub fn taken(&self) -> u64
         ensures { result ≡ self.now.state.taken }
     {
         self.taken
     }
 
-    // Returns the entries that wait for a slot.
-    pub(crate) fn pending(&self) -> &[Entry<B>]
+    /// Returns the entries that wait for a slot.
+    pub fn pending(&self) -> &[Entry<B>]
         ensures { result.now ≡ self.now.state.pending }
     {
         self.pending.as_slice()
@@ -227,6 +228,18 @@ impl<B> Node<B> {
         self.acceptor.promised()
     }
 
+    /// Returns the ballot that a Start would begin, whose round is one above the greatest that it saw, or `Rounds` if no round is left.
+    pub fn next_ballot(&self) -> Result<Ballot, NodeFault>
+        ensures ok { IfOk result (λ ballot. ballot ≡ own_ballot self.now.me self.now.state.proposer) }
+        ensures rounds { (result ≡ Err Rounds) ↔ (is_spent self.now.state.proposer ≡ true) }
+        ensures otherwise { is_spent self.now.state.proposer ≡ false → IsOk result }
+    {
+        match self.proposer.next_ballot() {
+            Ok(ballot) => Ok(ballot),
+            Err(_) => Err(NodeFault::Rounds),
+        }
+    }
+
     /// Returns the votes that the node has cast, by ascending slot.
     pub fn votes(&self) -> &[Vote<B>]
         ensures { result.now ≡ self.now.state.rows.votes }
@@ -308,6 +321,17 @@ impl<B: Drop> Node<B> {
 }
 
 impl<B: Body> Node<B> {
+    /// Returns copies of the votes that the node has cast from the slot with this number on, or `Memory`. It copies no other vote, and looks
+    /// at only a logarithmic number of others.
+    pub fn votes_from(&self, first: u64) -> Result<Votes<B>, paxos_packets::Memory>
+        ensures { IfOk result (λ votes. votes ≡ votes_from first self.now.state.rows.votes) }
+    {
+        match self.acceptor.votes_from(first) {
+            Ok(votes) => Ok(votes),
+            Err(_) => Err(paxos_packets::Memory),
+        }
+    }
+
     /// Reserves all memory that adopting this outcome needs. The node stays as it was, with `Memory` too. A failed node returns `Memory`.
     pub fn make_room(&mut self, outcome: &Outcome<B>) -> Result<(), NodeFault>
         ensures ok { OnOk result (HasRoom outcome.now self.new) }

@@ -149,6 +149,15 @@ impl Roll {
         }
     }
 
+    /// Returns an equal roll. Does not allocate.
+    pub fn copy(&self) -> Roll
+        ensures { result ≡ self.now }
+    {
+        Roll {
+            standings: self.standings,
+        }
+    }
+
     /// Returns the node's standing. Does not allocate.
     pub fn standing(&self, node: u8) -> Standing
         ensures { result ≡ standing_in self.now node }

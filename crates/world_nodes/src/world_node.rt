@@ -1,4 +1,4 @@
-ghost use Rattle.std.specs.Prelude.{◌≡◌, ◌<◌, ◌^◌, length, true, false, IfOk, OnOk, OnErr, IfSome, IfNone};
+ghost use Rattle.std.specs.Prelude.{◌≡◌, ◌<◌, ◌^◌, length, true, false, IfOk, OnOk, OnErr, IfSome, IfNone, is_some, option_copied};
 ghost use Rattle.paxos_packets.specs.Rows.{last_boot, raised};
 ghost use Rattle.paxos_node.specs.Adopting.{adopted, Fits, Planned};
 ghost use Rattle.paxos_node.specs.Applying.{down, started, first_rows};
@@ -58,6 +58,18 @@ impl<B> WorldNode<B> {
         match &self.status {
             NodeStatus::Up(_) => true,
             NodeStatus::Down(_) => false,
+        }
+    }
+
+    /// Returns its node, if that is up. Does not allocate.
+    pub fn running(&self) -> Option<&Node<B>>
+        ensures up { is_some result ≡ (node_of self.now).up }
+        ensures me { IfSome (option_copied result) (λ node. node.me ≡ self.now.me) }
+        ensures state { IfSome (option_copied result) (λ node. node.state ≡ node_of self.now) }
+    {
+        match &self.status {
+            NodeStatus::Up(node) => Some(node),
+            NodeStatus::Down(_) => None,
         }
     }
 
