@@ -1,0 +1,4 @@
+pub mod Casting
+pub mod Coursing
+pub mod Ending
+pub mod Listing

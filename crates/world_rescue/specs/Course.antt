@@ -1,0 +1,193 @@
+-- The events of a rescue, from what the nodes hold (docs/CONSENSUS.md, "No dead end").
+use Rattle.std.specs.Prelude.{ℕ, suc, max, Bool, Option, Some, None, List, [], ◌∷◌, ◌++◌, map, filter, fold, length, if◌then◌else◌}
+use Rattle.std.specs.List.{flat_map}
+use Rattle.paxos_packets.specs.Ballot.{below}
+use Rattle.paxos_packets.specs.Packet.{packet}
+use Rattle.paxos_packets.specs.Vote.{put_votes, votes_from}
+use Rattle.paxos_packets.specs.declared.ballot.Ballot.{Ballot}
+use Rattle.paxos_packets.specs.declared.entry.Entry.{Entry}
+use Rattle.paxos_packets.specs.declared.entry.Entry.TheVariants.{Boot, Item}
+use Rattle.paxos_packets.specs.declared.packet.Kind.{Kind}
+use Rattle.paxos_packets.specs.declared.packet.Kind.TheVariants.{Prepare, Promise, Accept, Accepted, Nack}
+use Rattle.paxos_packets.specs.declared.vote.Vote.{Vote}
+use Rattle.paxos_proposer.specs.Promises.{promised, called_by}
+use Rattle.paxos_proposer.specs.Proposals.{stands, behind}
+use Rattle.paxos_proposer.specs.Proposer.{own_ballot, asking, submitted}
+use Rattle.paxos_proposer.specs.Proposing.{proposals_of}
+use Rattle.paxos_proposer.specs.Role.{Role}
+use Rattle.paxos_planning.specs.Node.{NodeState}
+use Rattle.paxos_node.specs.Applying.{has_end}
+use Rattle.paxos_node.specs.Held.{Held}
+use Rattle.paxos_node.specs.declared.event.Event.{Event}
+use Rattle.paxos_node.specs.declared.event.Event.TheVariants.{Take, Start, Deliver, Restart}
+use Rattle.replica_machine.specs.Roll.{standing, is_wanted}
+
+-- a node that takes part, as it is before the rescue
+pub record Seat (B : Type 0) : Type 0 where
+  pub number : ℕ
+  pub node : NodeState B
+
+abbrev pub seat_of : {B : Type 0} → Held B → Seat B
+seat_of h = record { number = h.me; node = h.state }
+
+-- the nodes that take part: the one that is rescued, and others that make a majority with it
+pub record Crew (B : Type 0) : Type 0 where
+  pub members : ℕ
+  pub own : Seat B
+  pub helpers : List (Seat B)
+
+abbrev pub delivered : {B : Type 0} → ℕ → Kind B → ℕ → Event B
+delivered from kind to = Deliver (packet from kind to)
+
+-- ---- the node sees the rounds that the helpers promised: each is asked for a promise, and what refuses it comes back
+
+abbrev pub refusal : {B : Type 0} → Ballot → ℕ → Option Ballot → List (Event B)
+refusal b k None = []
+refusal b k (Some p) = if below p b then [] else delivered k (Nack b p) b.node ∷ []
+
+abbrev pub refused_round : Ballot → Option Ballot → ℕ
+refused_round b None = 0
+refused_round b (Some p) = if below p b then 0 else p.round
+
+abbrev pub asked_in_vain : {B : Type 0} → Ballot → ℕ → Seat B → List (Event B)
+asked_in_vain b first s = delivered b.node (Prepare b first) s.number ∷ refusal b s.number s.node.rows.promised
+
+abbrev pub look : {B : Type 0} → Ballot → ℕ → List (Seat B) → List (Event B)
+look b first seats = Start b.node ∷ flat_map (asked_in_vain b first) seats
+
+-- the greatest round that it saw then
+abbrev pub seen_then : {B : Type 0} → Ballot → List (Seat B) → ℕ
+seen_then b seats = fold (λ r s. max r (refused_round b s.node.rows.promised)) b.round seats
+
+-- ---- the node leads: each helper promises, once it has cast these votes
+
+abbrev pub votes_then : {B : Type 0} → ℕ → List (Vote B) → Seat B → List (Vote B)
+votes_then first cast s = votes_from first (put_votes cast s.node.rows.votes)
+
+abbrev pub promises : {B : Type 0} → Ballot → ℕ → List (Vote B) → Seat B → List (Event B)
+promises b first cast s =
+    delivered b.node (Prepare b first) s.number ∷ delivered s.number (Promise b (votes_then first cast s)) b.node ∷ []
+
+abbrev pub lead : {B : Type 0} → Ballot → ℕ → List (Vote B) → List (Seat B) → List (Event B)
+lead b first cast seats = Start b.node ∷ flat_map (promises b first cast) seats
+
+-- what it proposes then: what the promises call for, and what is pending unless it stands
+
+abbrev pub propose_all : {B : Type 0} → List (Entry B) → Role B → Role B
+propose_all es r = fold (λ s e. submitted e s) r es
+
+abbrev pub propose_new : {B : Type 0} → (B → B → Bool) → ℕ → List (Entry B) → Role B → Role B
+propose_new same applied es r = fold (λ s e. if stands same applied s e then s else submitted e s) r es
+
+abbrev pub proposes : {B : Type 0} → (B → B → Bool) → ℕ → List (Entry B) → Option (List (Entry B)) → Role B → Role B
+proposes same applied pending None r = r
+proposes same applied pending (Some es) r = propose_new same applied pending (propose_all es r)
+
+abbrev pub hears : {B : Type 0} → (B → B → Bool) → ℕ → ℕ → List (Entry B) → Ballot → ℕ → List (Vote B) → Role B → Role B
+hears same members applied pending b k votes r =
+    proposes same applied pending (called_by members k b votes r) (promised members k b votes r)
+
+-- its role after the promises
+abbrev pub led : {B : Type 0} → (B → B → Bool) → ℕ → ℕ → List (Entry B) → Ballot → ℕ → List (Vote B) → Seat B → List (Seat B) → Role B
+led same members applied pending b first cast own helpers =
+    fold (λ r s. hears same members applied pending b s.number (votes_then first cast s) r)
+    (asking own.number b first (votes_then first cast own))
+    helpers
+
+-- ---- each helper casts each of these votes, in order
+
+abbrev pub cast_by : {B : Type 0} → ℕ → Vote B → Seat B → List (Event B)
+cast_by n v s = delivered n (Accept v) s.number ∷ delivered s.number (Accepted v) n ∷ []
+
+abbrev pub pass : {B : Type 0} → ℕ → List (Seat B) → List (Vote B) → List (Event B)
+pass n seats votes = flat_map (λ v. flat_map (cast_by n v) seats) votes
+
+abbrev pub entries_of : {B : Type 0} → List (Vote B) → List (Entry B)
+entries_of votes = map (λ v. v.entry) votes
+
+-- ---- the act
+
+-- the act that is to be applied, by the number of its transport
+pub record Act (B : Type 0) : Type 0 where
+  pub transport : ℕ
+  pub body : B
+
+abbrev pub act : {B : Type 0} → ℕ → B → Act B
+act transport body = record { transport = transport; body = body }
+
+-- the node takes it
+abbrev pub take : {B : Type 0} → ℕ → Act B → Event B
+take n act = Take n act.transport act.body
+
+-- its Item, the next one after `taken` others of the boot
+abbrev pub item_of : {B : Type 0} → ℕ → ℕ → ℕ → Act B → Entry B
+item_of n boot taken act = Item n boot (suc taken) act.transport act.body
+
+-- ---- the whole
+
+module _ {B : Type 0} (same : B → B → Bool) (c : Crew B) (act : Act B) where
+  -- the length of its log, and the ballots: the one that need not be promised, and the one in which it leads
+  abbrev pub applied : ℕ
+  applied = length c.own.node.applied
+
+  abbrev pub first_ballot : Ballot
+  first_ballot = own_ballot c.own.number c.own.node.proposer
+
+  abbrev pub ballot_after : ℕ → Ballot
+  ballot_after seen = record { round = suc seen; node = c.own.number }
+
+  abbrev pub seen : ℕ
+  seen = seen_then first_ballot c.helpers
+
+  -- the first pass: the node leads, and what it proposes is voted for
+  abbrev pub first_role : Role B
+  first_role = led same c.members applied c.own.node.pending (ballot_after seen) (suc applied) [] c.own c.helpers
+
+  abbrev pub first_votes : List (Vote B)
+  first_votes = behind applied (proposals_of first_role)
+
+  abbrev pub first_pass : List (Event B)
+  first_pass =
+      look first_ballot (suc applied) c.helpers ++ lead (ballot_after seen) (suc applied) [] c.helpers
+      ++ pass c.own.number c.helpers first_votes
+
+  abbrev pub log_then : List (Entry B)
+  log_then = c.own.node.applied ++ entries_of first_votes
+
+  -- whether the loss of its boot is among what it applies then
+  abbrev pub falls : Bool
+  falls = has_end c.own.number c.own.node.rows.boot (standing c.own.number c.own.node.applied) (entries_of first_votes)
+
+  -- the node is up: it takes the act, and proposes what is still pending, the act last
+  abbrev pub pending_then : List (Entry B)
+  pending_then = filter (is_wanted log_then) c.own.node.pending ++ item_of c.own.number c.own.node.rows.boot c.own.node.taken act ∷ []
+
+  abbrev pub second_role : Role B
+  second_role = propose_new same (length log_then) pending_then first_role
+
+  abbrev pub second_votes : List (Vote B)
+  second_votes = behind (length log_then) (proposals_of second_role)
+
+  abbrev pub goes_on : List (Event B)
+  goes_on = take c.own.number act ∷ pass c.own.number c.helpers second_votes
+
+  -- the node went down: it begins its next boot, takes the act, leads, and learns the log anew
+  abbrev pub next_boot : ℕ
+  next_boot = suc c.own.node.rows.boot
+
+  abbrev pub pending_again : List (Entry B)
+  pending_again = Boot c.own.number next_boot ∷ item_of c.own.number next_boot 0 act ∷ []
+
+  abbrev pub again_role : Role B
+  again_role = led same c.members 0 pending_again (ballot_after (suc seen)) 1 first_votes c.own c.helpers
+
+  abbrev pub again_votes : List (Vote B)
+  again_votes = behind 0 (proposals_of again_role)
+
+  abbrev pub comes_back : List (Event B)
+  comes_back =
+      Restart c.own.number ∷ take c.own.number act ∷ lead (ballot_after (suc seen)) 1 first_votes c.helpers
+      ++ pass c.own.number c.helpers again_votes
+
+  abbrev pub course : List (Event B)
+  course = first_pass ++ (if falls then comes_back else goes_on)

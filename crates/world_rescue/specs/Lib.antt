@@ -1,0 +1,3 @@
+pub mod Casting
+pub mod Course
+pub mod Parts

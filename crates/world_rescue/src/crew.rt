@@ -1,0 +1,256 @@
+ghost use Rattle.std.specs.Prelude.{◌≡◌, ◌<◌, ◌^◌, ℕ, suc, ◌++◌, ◌∷◌, [], List, map, length, IfOk, OnOk};
+ghost use Rattle.paxos_node.specs.Events.{last_number};
+ghost use Rattle.paxos_packets.specs.Rows.{last_boot};
+ghost use Rattle.paxos_packets.specs.declared.entry.Entry as log_entries;
+ghost use Rattle.paxos_proposer.specs.Proposals.{behind};
+ghost use Rattle.paxos_proposer.specs.Proposer.{own_ballot};
+ghost use Rattle.paxos_proposer.specs.Proposing.{proposals_of};
+ghost use Rattle.paxos_proposer.specs.State.{begun, saw, role_in};
+ghost use Rattle.replica_machine.specs.Roll.{IsRollOf};
+ghost use Rattle.world_rescue.specs.Course.{act, seat_of, look, seen_then, lead, led, pass, take, item_of, course};
+ghost use Rattle.world_rescue.specs.Parts.{crew_of, goes_on_from, comes_back_from};
+
+use crate::bid::{Bid, lead, propose_new};
+use crate::falling::{falls, wanted};
+use crate::visits::{ask_all_in_vain, happen, pass};
+use paxos_node::{Event, Node};
+use paxos_packets::{Ballot, Body, Entries, Entry, Members, Memory, Vote};
+use paxos_proposer::Proposer;
+use replica_machine::Roll;
+use std::alloc::Global;
+use std::marker::Model;
+
+/// The nodes that take part in a rescue: the one that is rescued, and others that make a majority with it. All are up.
+#[derive(Drop)]
+pub struct Crew<'a, B> {
+    alloc: Global,
+    members: Members,
+    own: &'a Node<B>,
+    helpers: &'a [&'a Node<B>],
+}
+
+impl<'a, B> Model for Crew<'a, B> {
+    ghost use Rattle.std.specs.Prelude.{map};
+    ghost use Rattle.world_rescue.specs.Course as courses;
+
+    ghost Value = { courses.Crew B };
+
+    ghost view = { λ c. record {
+      members = c.members;
+      own = courses.seat_of c.own.now;
+      helpers = map (λ h. courses.seat_of h.now) c.helpers.now;
+    } };
+}
+
+impl<'a, B: Body> Crew<'a, B> {
+    /// Returns the crew of these nodes. Does not allocate; `course` will, from `alloc`.
+    pub fn of(
+        alloc: Global,
+        members: Members,
+        own: &'a Node<B>,
+        helpers: &'a [&'a Node<B>],
+    ) -> Crew<'a, B>
+        ensures { result ≡ crew_of members (seat_of own.now) (map (λ h. seat_of h.now) helpers.now) }
+    {
+        Crew {
+            alloc,
+            members,
+            own,
+            helpers,
+        }
+    }
+
+    /// Appends the events by which the node applies the act `body` of its transport with this number, if a boot and an act are left to it. On
+    /// `Memory` some of them may be appended. It copies nothing of the node's log, unless the node has to go down.
+    pub fn course(&self, events: &mut Vec<Event<B>>, number: u32, body: &B) -> Result<(), Memory>
+        ensures { self.now.own.node.rows.boot < last_boot → self.now.own.node.taken < last_number →
+            OnOk result (events.new.items ≡ events.old.items ++ course B.same self.now (act number body.now)) }
+    {
+        let applied = self.own.applied();
+        let seen = self.look(events, applied + 1)?;
+        let mut proposer = self.proposer(seen);
+        let ballot = self.first_pass(events, &mut proposer, applied)?;
+        let cast = proposer.proposed_after(applied);
+        let mut roll = self.own.roll().copy();
+        if falls(&mut roll, self.own.me(), self.own.boot(), cast) {
+            return self.comes_back(events, ballot, cast, number, body);
+        }
+        let log = applied + cast.len() as u64;
+        self.goes_on(events, &mut proposer, &roll, log, number, body)
+    }
+
+    // The node leads, and what it proposes after this many entries is voted for. Returns the ballot in which it leads.
+    fn first_pass(
+        &self,
+        events: &mut Vec<Event<B>>,
+        proposer: &mut Proposer<B>,
+        applied: u64,
+    ) -> Result<Ballot, Memory>
+        requires me { proposer.old.state.me ≡ self.now.own.number }
+        requires members { proposer.old.state.members ≡ self.now.members }
+        requires applied { applied ≡ length self.now.own.node.applied }
+        requires within { applied < 2 ^ 40 }
+        ensures events { OnOk result (events.new.items ≡ events.old.items
+            ++ (lead (own_ballot self.now.own.number proposer.old.state.proposer) (suc applied) [] self.now.helpers
+            ++ pass self.now.own.number self.now.helpers (behind applied (proposals_of (role_in proposer.new))))) }
+        ensures role { OnOk result (role_in proposer.new ≡ led B.same self.now.members applied self.now.own.node.pending
+            (own_ballot self.now.own.number proposer.old.state.proposer) (suc applied) [] self.now.own self.now.helpers) }
+        ensures ballot { IfOk result (λ ballot. ballot ≡ own_ballot self.now.own.number proposer.old.state.proposer) }
+    {
+        let bid = Bid {
+            applied,
+            first: applied + 1,
+            cast: &[],
+            pending: self.own.pending(),
+        };
+        let ballot = lead(self.alloc, events, proposer, self.own, self.helpers, &bid)?;
+        self.pass(events, proposer.proposed_after(applied))?;
+        Ok(ballot)
+    }
+
+    // Begins a ballot that need not be promised, so that the node sees the rounds that the helpers promised. Returns the greatest round that
+    // it saw then.
+    fn look(&self, events: &mut Vec<Event<B>>, first: u64) -> Result<u64, Memory>
+        ensures events { OnOk result (events.new.items
+            ≡ events.old.items ++ look (own_ballot self.now.own.number self.now.own.node.proposer) first self.now.helpers) }
+        ensures seen { IfOk result (λ round. round ≡ seen_then (own_ballot self.now.own.number self.now.own.node.proposer) self.now.helpers) }
+    {
+        let Ok(ballot) = self.own.next_ballot() else {
+            return Err(Memory);
+        };
+        happen(
+            events,
+            Event::Start {
+                node: self.own.me(),
+            },
+        )?;
+        ask_all_in_vain(events, self.helpers, ballot, first)
+    }
+
+    // Has each helper cast each of these votes, and brings them to the node.
+    fn pass(&self, events: &mut Vec<Event<B>>, votes: &[Vote<B>]) -> Result<(), Memory>
+        ensures { OnOk result (events.new.items ≡ events.old.items ++ pass self.now.own.number self.now.helpers votes.now) }
+    {
+        pass(self.alloc, events, self.own.me(), votes, self.helpers)
+    }
+
+    // The rest if the node stays up: it takes the act, and proposes what is still pending, the act last, after this many entries.
+    fn goes_on(
+        &self,
+        events: &mut Vec<Event<B>>,
+        proposer: &mut Proposer<B>,
+        roll: &Roll,
+        log: u64,
+        number: u32,
+        body: &B,
+    ) -> Result<(), Memory>
+        ensures { (now : List (log_entries.Entry B)) → IsRollOf now roll.now → self.now.own.node.taken < last_number →
+            OnOk result (events.new.items ≡ events.old.items ++ goes_on_from B.same self.now (act number body.now) now log (role_in proposer.old)) }
+    {
+        self.take(events, number, body)?;
+        let mut pending = wanted(self.alloc, roll, self.own.pending())?;
+        self.wait(
+            &mut pending,
+            self.own.boot(),
+            next(self.own.taken()),
+            number,
+            body,
+        )?;
+        propose_new(self.alloc, proposer, log, pending.as_slice())?;
+        self.pass(events, proposer.proposed_after(log))
+    }
+
+    // The rest if the node goes down, once these votes were cast: it begins its next boot, takes the act, leads, and learns the log anew.
+    fn comes_back(
+        &self,
+        events: &mut Vec<Event<B>>,
+        ballot: Ballot,
+        cast: &[Vote<B>],
+        number: u32,
+        body: &B,
+    ) -> Result<(), Memory>
+        ensures { self.now.own.node.rows.boot < last_boot →
+            OnOk result (events.new.items ≡ events.old.items ++ comes_back_from B.same self.now (act number body.now) ballot cast.now) }
+    {
+        let node = self.own.me();
+        happen(events, Event::Restart { node })?;
+        self.take(events, number, body)?;
+        let boot = next(self.own.boot());
+        let mut pending = Entries::new(self.alloc);
+        pending.push(Entry::Boot { node, boot })?;
+        self.wait(&mut pending, boot, 1, number, body)?;
+        let mut proposer = self.proposer(ballot.round);
+        let bid = Bid {
+            applied: 0,
+            first: 1,
+            cast,
+            pending: pending.as_slice(),
+        };
+        lead(
+            self.alloc,
+            events,
+            &mut proposer,
+            self.own,
+            self.helpers,
+            &bid,
+        )?;
+        self.pass(events, proposer.proposed_after(0))
+    }
+
+    // Returns a proposer of the node that saw this round.
+    fn proposer(&self, seen: u64) -> Proposer<B>
+        ensures { result.state ≡ saw seen (begun self.now.own.number self.now.members) }
+    {
+        let mut proposer = Proposer::new(self.alloc, self.own.me(), self.members);
+        proposer.saw(seen);
+        proposer
+    }
+
+    // Appends that the node takes the act.
+    fn take(&self, events: &mut Vec<Event<B>>, number: u32, body: &B) -> Result<(), Memory>
+        ensures { OnOk result (events.new.items ≡ events.old.items ++ take self.now.own.number (act number body.now) ∷ []) }
+    {
+        let body = body.copy(self.alloc)?;
+        happen(
+            events,
+            Event::Take {
+                node: self.own.me(),
+                transport: number,
+                body,
+            },
+        )
+    }
+
+    // Appends the act's Item, with this number in this boot.
+    fn wait(
+        &self,
+        pending: &mut Entries<B>,
+        boot: u64,
+        seq: u64,
+        number: u32,
+        body: &B,
+    ) -> Result<(), Memory>
+        ensures { (taken : ℕ) → seq ≡ suc taken →
+            OnOk result (pending.new ≡ pending.old ++ item_of self.now.own.number boot taken (act number body.now) ∷ []) }
+    {
+        let body = body.copy(self.alloc)?;
+        let item = Entry::Item {
+            node: self.own.me(),
+            boot,
+            seq,
+            transport: number,
+            body,
+        };
+        let Ok(()) = pending.push(item) else {
+            return Err(Memory);
+        };
+        Ok(())
+    }
+}
+
+// Returns the number after this one; none of a boot or an act is above 2^48 - 1.
+fn next(number: u64) -> u64
+    ensures { number < 2 ^ 48 → result ≡ suc number }
+{
+    number.saturating_add(1)
+}
