@@ -152,7 +152,7 @@ count_one test k (suc n) h = go (test (suc n)) refl (count_one test k n h)
     go true e l = sum (count_none test n (λ j i t. apart j i (h j t) (h (suc n) e)))
     go false e l = omega arith
 
-alone_is_few : (members : ℕ) → 2 ≤ members → (test : ℕ → Bool) (k : ℕ) → ((j : ℕ) → test j ≡ true → j ≡ k) → is_majority members test ≡ false
+pub alone_is_few : (members : ℕ) → 2 ≤ members → (test : ℕ → Bool) (k : ℕ) → ((j : ℕ) → test j ≡ true → j ≡ k) → is_majority members test ≡ false
 alone_is_few members many test k h = go (is_majority members test) refl
   where
     few : count_nodes test members ≤ 1 → members < 2 * count_nodes test members → ⊥

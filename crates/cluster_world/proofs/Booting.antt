@@ -303,6 +303,10 @@ module _ {B : Type 0} (same : B → B → Bool) where
         play_boots events (first_world members)
         (record { nodes = founded_length same members members; had = λ n b h. first_had members (omega arith) n b h })
 
+    pub boot_made : (events : List (Event B)) (n b : ℕ) → Has (played same members events).made (Boot n b)
+        → b ≤ (node_at (played same members events).nodes n).rows.boot
+    boot_made events n b h = ((boots_ok events).had n b h).to
+
     pub boot_was_had : IsEquality same → (events : List (Event B)) (k n b : ℕ) → Has (log_of (played same members events) k) (Boot n b)
         → IsMember members n × (1 ≤ b) × (b ≤ (node_at (played same members events).nodes n).rows.boot)
     boot_was_had equal events k n b h =

@@ -1,5 +1,5 @@
 -- Each majority holds what is chosen, and a ballot that its own node has not promised is fresh.
-use Rattle.std.proofs.Common.{◌≡◌, ℕ, ◌≤◌, Bool, true, sym, ◌∙◌, subst, arith, List, Option, Some, None}
+use Rattle.std.proofs.Common.{◌≡◌, ℕ, Bool, true, subst, arith, List, Option, Some, None}
 use Rattle.paxos_packets.proofs.Meeting.{common_member}
 use Rattle.cluster_world.proofs.Agreeing.{chosen_in}
 use Rattle.cluster_world.proofs.EveryWorld.{world_ok}
@@ -11,7 +11,7 @@ use Rattle.paxos_packets.specs.Body.{IsEquality}
 use Rattle.paxos_packets.specs.Members.{IsMember}
 use Rattle.paxos_packets.specs.declared.ballot.Ballot.{Ballot}
 use Rattle.paxos_packets.specs.declared.packet.Kind.{Kind}
-use Rattle.paxos_packets.specs.declared.packet.Kind.TheVariants.{Prepare, Accept, Accepted}
+use Rattle.paxos_packets.specs.declared.packet.Kind.TheVariants.{Accept}
 use Rattle.paxos_packets.specs.declared.packet.Packet.{Packet}
 use Rattle.paxos_packets.specs.declared.vote.Vote.{Vote}
 use Rattle.cluster_world.specs.Chosen.{WasSent}

@@ -32,7 +32,7 @@ use Rattle.paxos_planning.specs.Node.{NodeState}
 off : false ≡ true → ⊥
 off e = cc
 
-place_sound : (p q : SlotBallot) → same_place p q ≡ true → p ≡ q
+pub place_sound : (p q : SlotBallot) → same_place p q ≡ true → p ≡ q
 place_sound p q e =
     let k = numbers_joined p.slot q.slot (same_ballot p.ballot q.ballot) e in
     let b = ballot_sound p.ballot q.ballot k.1 in
@@ -50,7 +50,7 @@ no_node (suc (suc (suc (suc (suc (suc (suc zero))))))) = refl
 no_node (suc (suc (suc (suc (suc (suc (suc (suc k)))))))) = refl
 
 -- a node that was heard at a place is in its tally
-heard_at : (hs : Heard) (p : SlotBallot) (k : ℕ) → is_in (nodes_heard p hs) k ≡ true
+pub heard_at : (hs : Heard) (p : SlotBallot) (k : ℕ) → is_in (nodes_heard p hs) k ≡ true
     → (t : SlotBallot × List Bool) × Has hs t × (t.0 ≡ p) × (is_in t.1 k ≡ true)
 heard_at [] p k e = absurd (off (sym (no_node k) ∙ e))
 heard_at (t ∷ hs) p k e =
@@ -63,7 +63,7 @@ heard_at (t ∷ hs) p k e =
     Goal = (u : SlotBallot × List Bool) × Has (t ∷ hs) u × (u.0 ≡ p) × (is_in u.1 k ≡ true)
 
 -- a tally after one more was heard is one of before, or that of its place
-tally_cases : (hs : Heard) (p : SlotBallot) (set : List Bool) (u : SlotBallot × List Bool) → Has (insert_entry same_place hs p set) u
+pub tally_cases : (hs : Heard) (p : SlotBallot) (set : List Bool) (u : SlotBallot × List Bool) → Has (insert_entry same_place hs p set) u
     → Has hs u ⊎ ((p ≡ u.0) × (set ≡ u.1))
 tally_cases [] p set u h = let e = has_one h in inr (ap (λ z. z.0) e, ap (λ z. z.1) e)
 tally_cases (t ∷ hs) p set u h =
@@ -75,7 +75,7 @@ tally_cases (t ∷ hs) p set u h =
     Goal : Type 0
     Goal = Has (t ∷ hs) u ⊎ ((p ≡ u.0) × (set ≡ u.1))
 
-with_cases : (set : List Bool) (n k : ℕ) → is_in (set_with set n) k ≡ true → (k ≡ n) ⊎ (is_in set k ≡ true)
+pub with_cases : (set : List Bool) (n k : ℕ) → is_in (set_with set n) k ≡ true → (k ≡ n) ⊎ (is_in set k ≡ true)
 with_cases set n k e = ⊎_elim inl (λ d. inr (sym (get_or-set_other set n k true false d) ∙ e)) (cases_eq k n)
 
 pub learned_cases : {B : Type 0} (f : LearnedEntry B) (gs : List (LearnedEntry B)) (u : LearnedEntry B) → Has (put_learned f gs) u

@@ -1,13 +1,12 @@
 -- What each learner keeps, and that nothing which a node has learned waits.
-use Rattle.std.proofs.Common.{◌≡◌, ⊎_elim, ℕ, suc, ◌<◌, ◌≤◌, Bool, true, false, not, ◌&&◌, ◌||◌, eqb, refl, sym, ap, ◌∙◌, subst, arith}
+use Rattle.std.proofs.Common.{◌≡◌, ⊎_elim, ℕ, suc, ◌<◌, ◌≤◌, Bool, true, false, not, ◌&&◌, ◌||◌, eqb, refl, sym, ◌∙◌, subst, arith}
 use Rattle.std.proofs.Common.{List, [], ◌∷◌, ◌++◌, length, Option, Some, None}
 use Rattle.std.specs.Prelude.{nat_lt, if◌then◌else◌}
-use Rattle.std.proofs.lemmas.Bool.{cond_both, cases_eq, eqb-true, ltb-true, ltb-false, eq-eqb, ne_eqb, or_from}
+use Rattle.std.proofs.lemmas.Bool.{cond_both, cases_eq, ltb-true, ltb-false, eq-eqb, ne_eqb, or_from}
 use Rattle.cluster_world.proofs.Applied.{in_every}
-use Rattle.cluster_world.proofs.AtOnce.{AtRest}
 use Rattle.cluster_world.proofs.EventsAtOnce.{all_rest}
 use Rattle.cluster_world.proofs.EveryWorld.{within, node_same, node_other, plain_at}
-use Rattle.cluster_world.proofs.Taking.{May, by_next}
+use Rattle.cluster_world.proofs.Taking.{by_next}
 use Rattle.paxos_packets.specs.Ballot.{same_ballot}
 use Rattle.paxos_packets.specs.Members.{is_majority}
 use Rattle.paxos_packets.specs.Packet.{packet}
@@ -32,11 +31,11 @@ use Rattle.paxos_planning.specs.Plan.{with_role, with_pending, begun, send, prom
 use Rattle.paxos_planning.specs.Proposals.{offer, propose_as, propose, propose_all, lead, stands, propose_new, propose_each, forwarded, push}
 use Rattle.paxos_planning.specs.Replies.{saw, refuse, count_promise, on_promise_as, on_packet}
 use Rattle.paxos_planning.specs.Starting.{begin, starts, on_start}
-use Rattle.paxos_planning.specs.Ticking.{again, on_tick}
+use Rattle.paxos_planning.specs.Ticking.{again}
 use Rattle.paxos_node.specs.Applying.{note, ends, go_down, apply_all, settle}
 use Rattle.paxos_node.specs.Events.{takes, with_item, on_take, has_room, suspected, new_lost, owner, outcome_of}
 use Rattle.cluster_world.specs.Laws.{NothingWaits}
-use Rattle.cluster_world.specs.World.{World, node_at, put_node, first_world, done, next, played}
+use Rattle.cluster_world.specs.World.{World, node_at, put_node, first_world, next, played}
 
 -- what holds of a learner that has just begun, and stays so as votes are counted and entries learned, holds of each
 module _ {B : Type 0} (same : B → B → Bool) (members : ℕ) (Q : LearnerState B → Type 0) (none : Q unheard)

@@ -53,7 +53,7 @@ module _ {B : Type 0} (n b : ℕ) where
       if is_live s b then items_after n b (taken_in s) (drop (taken_in s) acts)
       else Boot n b ∷ items_after n b 0 acts
 
-  abbrev whole : List (Act B) → List (Entry B)
+  abbrev pub whole : List (Act B) → List (Entry B)
   whole acts = Boot n b ∷ items_after n b 0 acts
 
 -- the log has no boot of the node, or an earlier one
@@ -71,19 +71,19 @@ apart b c l = ne_eqb c b (λ e. absurd (differ e))
     differ : c ≡ b → ⊥
     differ e = omega arith
 
-early_live : (b c q : ℕ) → c < b → Early b (Live c q)
+pub early_live : (b c q : ℕ) → c < b → Early b (Live c q)
 early_live b c q l =
     record { fresh = lt-ltb c b l; untaken = λ i. ap (λ z. z && leb i q) (apart b c l); not_live = apart b c l }
 
 early_gone : (b c : ℕ) → c < b → Early b (Gone c)
 early_gone b c l = record { fresh = lt-ltb c b l; untaken = λ i. refl; not_live = refl }
 
-gone_early : (b : ℕ) (s : Standing) → Early b s → Early b (gone s)
+pub gone_early : (b : ℕ) (s : Standing) → Early b s → Early b (gone s)
 gone_early b Unknown e = e
 gone_early b (Live c q) e = early_gone b c (ltb-true c b e.fresh)
 gone_early b (Gone c) e = e
 
-next_early : (b c q : ℕ) (s : Standing) → Early b s → is_next s c q ≡ true → Early b (Live c q)
+pub next_early : (b c q : ℕ) (s : Standing) → Early b s → is_next s c q ≡ true → Early b (Live c q)
 next_early b c q Unknown e h = absurd (off h)
 next_early b c q (Live d p) e h =
     early_live b c q (subst (λ k. k < b) (eqb-true d c (and_parts (eqb d c) (eqb q (p + 1)) h).0) (ltb-true d b e.fresh))
@@ -94,14 +94,14 @@ abbrev pub MayStand : ℕ → Standing → ℕ → Type 0
 MayStand b s taken = Early b s ⊎ ((q : ℕ) × (s ≡ Live b q) × (q ≤ taken))
 
 module _ {B : Type 0} (n b : ℕ) where
-  owed_early : (s : Standing) → Early b s → (acts : List (Act B)) → owed_by n b s acts ≡ whole n b acts
+  pub owed_early : (s : Standing) → Early b s → (acts : List (Act B)) → owed_by n b s acts ≡ whole n b acts
   owed_early s e acts = cond-false (is_live s b) (items_after n b (taken_in s) (drop (taken_in s) acts)) (whole n b acts) e.not_live
 
-  owed_live : (q : ℕ) (acts : List (Act B)) → owed_by n b (Live b q) acts ≡ items_after n b q (drop q acts)
+  pub owed_live : (q : ℕ) (acts : List (Act B)) → owed_by n b (Live b q) acts ≡ items_after n b q (drop q acts)
   owed_live q acts = cond-true (eqb b b) (items_after n b q (drop q acts)) (whole n b acts) (eq-eqb b b refl)
 
   module _ (log : List (Entry B)) where
-    abbrev Wants : List (Entry B) → List (Entry B)
+    abbrev pub Wants : List (Entry B) → List (Entry B)
     Wants es = filter (is_wanted log) es
 
     items_stay : (s : Standing) → standing n log ≡ s → (j : ℕ) (acts : List (Act B)) → ((i : ℕ) → j < i → was_taken s b i ≡ false)
@@ -144,10 +144,10 @@ module _ {B : Type 0} (n b : ℕ) where
         ∙ items_stay (Live b (suc q)) is (suc q) (drop (suc q) acts) (λ i l. not_yet (suc q) i l))
 
     -- what is owed goes on with the standing
-    abbrev Goes : Standing → List (Act B) → Standing → Type 0
+    abbrev pub Goes : Standing → List (Act B) → Standing → Type 0
     Goes s acts new = MayStand b new (length acts) × (Wants (owed_by n b s acts) ≡ owed_by n b new acts)
 
-    stays : (s : Standing) (acts : List (Act B)) → MayStand b s (length acts) → standing n log ≡ s → Goes s acts s
+    pub stays : (s : Standing) (acts : List (Act B)) → MayStand b s (length acts) → standing n log ≡ s → Goes s acts s
     stays s acts (inl e) is = (
       inl e,
       ap (λ l. Wants l) (owed_early s e acts) ∙ early_stays s is e acts ∙ sym (owed_early s e acts),

@@ -258,6 +258,12 @@ module _ {B : Type 0} (same : B → B → Bool) (members : ℕ) where
       in_every same members (λ w. AllModest w) next_modest events (first_world members)
       (λ k. founded_each (λ j x. Modest j x) (λ j. modest_started (suc j) first_rows) (λ j. modest_down j _) members k)
 
+-- the same by standings
+pub losts_live : {B : Type 0} (same : B → B → Bool) (members : ℕ) (events : List (Event B)) (n k b : ℕ)
+    → Has (node_at (played same members events).nodes n).pending (Lost k b)
+    → (k ≡ n → ⊥) × (is_live (standing k (log_of (played same members events) n)) b ≡ true)
+losts_live same members events n k b h = (all_modest same members events n).losts k b h
+
 pub pending_losts_are_live : {B : Type 0} (same : B → B → Bool) → PendingLostsAreLive B same
 pending_losts_are_live same members events n k b h =
     let l = (all_modest same members events n).losts k b h in

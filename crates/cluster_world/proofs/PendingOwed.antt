@@ -104,7 +104,7 @@ module _ {B : Type 0} (same : B → B → Bool) (members : ℕ) where
     abbrev acts_at : World B → ℕ → List (Act B)
     acts_at w k = acts_of k (node_at w.nodes k).rows.boot w.made
 
-    known_at : (es : List (Event B)) (k : ℕ)
+    pub known_at : (es : List (Event B)) (k : ℕ)
         → Known k (acts_at (played same members es) k) (node_at (played same members es).nodes k).rows.boot
         (node_at (played same members es).nodes k).applied
     known_at es k =
@@ -285,6 +285,11 @@ module _ {B : Type 0} (same : B → B → Bool) (members : ℕ) where
         → Owes j (acts_of {B = B} j z.rows.boot (first_boots members)) z)
         (λ j u c. started_owes (first_world members) (Tick 0) (suc j) first_rows (acts_of {B = B} (suc j) 1 (first_boots members)) c)
         (λ j u c. absurd (off u)) members k up (((acts_ok same members []).counts k).now up)
+
+    pub owes_all : (events : List (Event B)) (n : ℕ) → (node_at (played same members events).nodes n).up ≡ true
+        → Owes n (acts_of n (node_at (played same members events).nodes n).rows.boot (played same members events).made)
+        (node_at (played same members events).nodes n)
+    owes_all events n up = owe_play events [] first_owes n up
 
     pub pending_is_owed : (events : List (Event B)) (n : ℕ) → (node_at (played same members events).nodes n).up ≡ true
         → filter kept (node_at (played same members events).nodes n).pending

@@ -119,7 +119,7 @@ best_is slot vs u h s =
     let b = best_has slot vs a.0 a.1 in
     record { m = a.0; is = a.1; has = b.0; slot_is = b.1; high = a.2 }
 
-reports_has : {B : Type 0} {cs : List (CountedPromise B)} {c : CountedPromise B} {u : Vote B} → Has cs c → Has c.votes u
+pub reports_has : {B : Type 0} {cs : List (CountedPromise B)} {c : CountedPromise B} {u : Vote B} → Has cs c → Has c.votes u
     → Has (reports cs) u
 reports_has (here {x = c}) g = has_left _ g
 reports_has (there {y = d} h) g = has_right d.votes (reports_has h g)
@@ -130,7 +130,7 @@ has_reports [] u h = absurd (has_nil h)
 has_reports (c ∷ cs) u h =
     ⊎_elim (λ g. (c, here, g)) (λ g. let r = has_reports cs u g in (r.0, there r.1, r.2)) (has_cases c.votes (reports cs) h)
 
-past_has : {B : Type 0} (floor : ℕ) (vs : List (Vote B)) (u : Vote B) → Has vs u → u.slot < past_reports floor vs
+pub past_has : {B : Type 0} (floor : ℕ) (vs : List (Vote B)) (u : Vote B) → Has vs u → u.slot < past_reports floor vs
 past_has floor [] u h = absurd (has_nil h)
 past_has {B} floor (v ∷ vs) u h =
     ⊎_elim (λ e. subst (λ (z : Vote B). z.slot < past_reports floor (v ∷ vs)) e (omega arith))

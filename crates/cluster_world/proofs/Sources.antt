@@ -262,7 +262,7 @@ module _ {B : Type 0} (G : Entry B → Type 0) where
           go None e = noop
           go (Some v) e = g v (best_has slot vs v e).0
 
-      called_good : (vs : List (Vote B)) → VotesGood vs → (slot k : ℕ) (e : Entry B) → Has (called_in vs slot k) e → G e
+      pub called_good : (vs : List (Vote B)) → VotesGood vs → (slot k : ℕ) (e : Entry B) → Has (called_in vs slot k) e → G e
       called_good vs g slot zero e h = absurd (has_nil h)
       called_good vs g slot (suc k) e h =
           ⊎_elim (λ s. subst (λ z. G z) s (entry_good slot vs g)) (λ o. called_good vs g (suc slot) k e o) (has_cons h)

@@ -21,7 +21,7 @@ or_second true b e = refl
 or_second false b e = e
 
 module _ {B : Type 0} (same : B → B → Bool) (equal : IsEquality same) where
-  has_among : (p : Packet B) (sent : List (Packet B)) → Has sent p → is_among same p sent ≡ true
+  pub has_among : (p : Packet B) (sent : List (Packet B)) → Has sent p → is_among same p sent ≡ true
   has_among p sent (here {xs = qs}) = or_first (same_packet same p p) (is_among same p qs) ((packet_equality same equal).reflexive p)
   has_among p sent (there {y = q} {xs = qs} h) = or_second (same_packet same q p) (is_among same p qs) (has_among p qs h)
 

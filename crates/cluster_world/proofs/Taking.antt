@@ -9,7 +9,7 @@ use Rattle.cluster_world.proofs.Lists.{has_nil, has_one, has_cases, has_left, ha
 use Rattle.cluster_world.proofs.EveryWorld.{within, node_same, node_other, among_has}
 use Rattle.cluster_world.proofs.Standing.{acts_after}
 use Rattle.cluster_world.proofs.Handing.{Ran, Began, event_cases}
-use Rattle.cluster_world.proofs.Sources.{Each, SentGood, NodeGood, EventGood, sent_good, outcome_good}
+use Rattle.cluster_world.proofs.Sources.{Each, VotesGood, SentGood, NodeGood, EventGood, sent_good, outcome_good}
 use Rattle.cluster_world.specs.Has.{Has, here}
 use Rattle.paxos_packets.specs.declared.entry.Entry.{Entry}
 use Rattle.paxos_packets.specs.declared.entry.Entry.TheVariants.{Noop, Boot, Lost, Item}
@@ -146,6 +146,11 @@ module _ {B : Type 0} (same : B → B → Bool) (members : ℕ) where
         at : (k : ℕ) → NodeGood G (node_at (founded members) k)
         at zero = absent_good
         at (suc k) = founded_good members g k
+
+    pub votes_good : (events : List (Event B)) → Each G (played same members events).made → (k : ℕ)
+        → VotesGood G (node_at (played same members events).nodes k).rows.votes
+    votes_good events g k =
+        ((play_good events (first_world members) (first_good (λ x h. g x (made_play events (first_world members) x h))) g).nodes k).votes
 
     log_good : (events : List (Event B)) → Each G (played same members events).made → (k : ℕ) → Each G (log_of (played same members events) k)
     log_good events g k =

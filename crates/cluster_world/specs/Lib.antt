@@ -16,3 +16,5 @@ pub mod Members
 pub mod Founding
 pub mod Headline
 pub mod Told
+pub mod Rescue
+pub mod Helpers

@@ -1,4 +1,5 @@
 ghost use Rattle.std.specs.Prelude.{◌≡◌};
+ghost use Rattle.cluster_world.specs.Rescue.{rescue_fault_number};
 
 use thiserror::Error;
 
@@ -13,5 +14,36 @@ impl Memory {
         ensures { result ≡ 60 }
     {
         60
+    }
+}
+
+/// Why no events bring an act to be applied at a node.
+#[derive(Clone, Copy, Debug, PartialEq, Eq, Drop, Error)]
+pub enum RescueFault {
+    /// No majority of the nodes is up.
+    #[error("no majority of the nodes is up")]
+    NoMajority,
+    /// The node is down, or not a member.
+    #[error("the node is down")]
+    NodeDown,
+    /// A node that is up holds a round above 2^48 - 8, or a vote in a slot above 2^40 - 4,097.
+    #[error("a round or a slot of a node that is up is too great")]
+    NoRoom,
+    /// Memory ran out for the events.
+    #[error("no memory for the events")]
+    Memory,
+}
+
+impl RescueFault {
+    /// Returns the fault's number: 57 to 60, in the order of the variants.
+    pub fn number(self) -> u8
+        ensures { result ≡ rescue_fault_number self }
+    {
+        match self {
+            RescueFault::NoMajority => 57,
+            RescueFault::NodeDown => 58,
+            RescueFault::NoRoom => 59,
+            RescueFault::Memory => 60,
+        }
     }
 }

@@ -12,6 +12,7 @@ ghost use Rattle.cluster_world.specs.Examples.{lost_log, duel_log, crash_packets
 ghost use Rattle.cluster_world.specs.Owed.{PendingIsOwed, TakenAreCounted, PendingLostsAreLive, PendingIsFew, DownIsRows};
 ghost use Rattle.cluster_world.specs.Proposers.{RoundsWereSent, ProposalsFollow};
 ghost use Rattle.cluster_world.specs.Majorities.{MajoritiesHold, NewBallotsAreFresh};
+ghost use Rattle.cluster_world.specs.Rescue.{NoDeadEnd};
 ghost use Rattle.cluster_world.specs.Scripts.{ScriptsArePlayed};
 ghost use Rattle.cluster_world.specs.Steps.{SentIsAmong, NodesAreMembers, OneEventMore, EventGoes, EventStays};
 ghost use Rattle.cluster_world.specs.Told.{HandedIsOne};
@@ -126,6 +127,12 @@ pub fn majorities_hold<B: Body>()
 /// heard in it.
 pub fn new_ballots_are_fresh<B: Body>()
     ensures { NewBallotsAreFresh B B.same }
+{}
+
+/// No dead end: from every world that events lead to, with a majority up and room for rounds and slots, the events of a rescue of a node that is
+/// up bring an act to be applied there. They restart the node at most once, and take no other node down.
+pub fn no_dead_end<B: Body>()
+    ensures { NoDeadEnd B B.same }
 {}
 
 /// A script, line by line, leads to the world of its events, with each flush written out as its deliveries.

@@ -6,10 +6,11 @@ mod fault;
 mod handings;
 pub mod laws;
 mod member;
+mod rescue;
 mod run;
 mod world;
 
-pub use fault::Memory;
+pub use fault::{Memory, RescueFault};
 pub use handings::Handings;
 pub use paxos_node::Event;
 pub use paxos_packets::{Body, Entry, Members, Packet, Transport};

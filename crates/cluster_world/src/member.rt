@@ -1,6 +1,6 @@
 //! One member of a world: its node, and the machine that attends the node.
 
-ghost use Rattle.std.specs.Prelude.{◌≡◌, suc, ◌≤◌, ◌<◌, ◌+◌, ◌-◌, ◌^◌, ◌++◌, [], ◌∷◌, List, take, drop, length, true, false, IfOk, OnOk, OnErr, vec_len, vec_capacity, option_copied};
+ghost use Rattle.std.specs.Prelude.{◌≡◌, suc, ◌≤◌, ◌<◌, ◌+◌, ◌-◌, ◌^◌, ◌++◌, [], ◌∷◌, List, take, drop, length, true, false, IfOk, OnOk, OnErr, vec_len, vec_capacity, option_copied, is_some, IfSome};
 ghost use Rattle.paxos_packets.specs.declared.entry.Entry as log_entries;
 ghost use Rattle.paxos_packets.specs.declared.entry.Entry.TheVariants.{Boot};
 ghost use Rattle.paxos_packets.specs.declared.transport.Transport as transports;
@@ -19,7 +19,7 @@ ghost use Rattle.cluster_world.specs.StandsAt.{Attends};
 ghost use Rattle.cluster_world.specs.Answers.{log_after};
 ghost use Rattle.cluster_world.specs.Laws.{IsPrefixOf};
 
-use paxos_node::{Event, Outcome};
+use paxos_node::{Event, Node, Outcome};
 use paxos_packets::{Body, Entry, Members, Memory, Transport};
 use replica_follower::{Follower, Tellings};
 use replica_machine::Machine;
@@ -86,6 +86,15 @@ impl<M: Machine> Member<M> {
         ensures { result ≡ self.now.node.up }
     {
         self.node.is_up()
+    }
+
+    /// Returns its node, if that is up. Does not allocate.
+    pub fn running(&self) -> Option<&Node<M::Body>>
+        ensures up { is_some result ≡ self.now.node.up }
+        ensures me { IfSome (option_copied result) (λ node. node.me ≡ self.now.me) }
+        ensures state { IfSome (option_copied result) (λ node. node.state ≡ self.now.node) }
+    {
+        self.node.running()
     }
 
     /// Returns its node's log. Does not allocate.

@@ -56,7 +56,7 @@ impl<M: Machine> World<M> {
     }
 
     // Some events lead to it.
-    fn leads(&self)
+    pub(crate) fn leads(&self)
         ensures many { 3 ≤ self.now.members }
         ensures leads { (first : M.Content) × (es : List (occurred.Event M.Body))
             × StandsAt M.Body.same M.content (machine_from M.next M.says M.to first) self.now es }

@@ -146,10 +146,11 @@ impl<M: Machine> World<M> {
     }
 
     // Returns the member with this number.
-    fn member(&self, node: u8) -> Option<&Member<M>>
+    pub(crate) fn member(&self, node: u8) -> Option<&Member<M>>
         ensures node { node_at self.now.nodes node ≡ node_or_absent (option_copied result) }
         ensures machine { machine_at self.now.machines node ≡ machine_or_none (option_copied result) }
         ensures front { IfSome (option_copied result) (λ s. IsPrefixOf s.node.applied s.machine.log) }
+        ensures me { IfSome (option_copied result) (λ s. s.me ≡ node) }
     {
         if node == 0 {
             return None;

@@ -1,5 +1,5 @@
 -- The member at the place.
-use Rattle.std.proofs.Common.{◌≡◌, ◌≤◌, ◌<◌, ◌-◌, suc, Some, None, refl, ap, subst, arith, List, length}
+use Rattle.std.proofs.Common.{◌≡◌, ◌≤◌, ◌<◌, ◌-◌, suc, Some, None, refl, sym, ap, ◌∙◌, subst, arith, List, length}
 use Rattle.std.specs.Prelude.{slice_index_or}
 use Rattle.std.proofs.lemmas.Option.{slice_get_read}
 use Rattle.paxos_planning.specs.Node.{NodeState}
@@ -58,3 +58,13 @@ returns-in-None-clause-machine g c =
     subst (λ (w : Held _ _ _). machine_at w.machines c.args.node ≡ None) c.self.view_is
     (machine_past c.self.inside.list.items c.args.node (c.args.node - 1) number
     (subst (λ (l : List (MemberState _ _ _)). length l ≤ (c.args.node - 1)) c.deref.ensures.value (omega (arith, c.in-None.ensures.lookup.3))))
+
+pub returns-in-Some-clause-me : goal.returns-in-Some-clause-me
+returns-in-Some-clause-me g c =
+    let number : c.args.node ≡ suc (c.args.node - 1) = omega (arith, c.if-node-eq0.false) in
+    let each = c.self.invariant.0.each (c.args.node - 1) c.in-Some.member.now
+    (slice_get_read c.self.inside.list.items (length c.self.inside.list.items) (c.args.node - 1) c.in-Some.member.now refl
+    (subst (λ (l : List (MemberState _ _ _)). (c.args.node - 1) < length l) c.deref.ensures.value c.in-Some.ensures.lookup.3.0)
+    (subst (λ (l : List (MemberState _ _ _)). c.in-Some.member.now ≡ slice_index_or l (c.args.node - 1) c.in-Some.member.now) c.deref.ensures.value
+    c.in-Some.ensures.lookup.1)) in
+    each.0 ∙ sym number
