@@ -1,5 +1,5 @@
 //! Measures of the consensus core, each over a run of this program: `core_bench log N W`, `core_bench codec N`,
-//! `core_bench nodes N W number|act`, `core_bench actors N W` and `core_bench threads N W`.
+//! `core_bench nodes N W number|act`, `core_bench actors N W`, `core_bench threads N W` and `core_bench rescue N`.
 #![tactic(auto)]
 
 mod actors;
@@ -9,6 +9,7 @@ mod codec;
 mod fault;
 mod log;
 mod nodes;
+mod rescue;
 mod threads;
 
 use crate::cluster::Load;
@@ -24,6 +25,7 @@ usage: core_bench log N W
        core_bench nodes N W number|act
        core_bench actors N W
        core_bench threads N W
+       core_bench rescue N
        core_bench all N W
   log N W  learns N entries in windows of W slots, the last slot of each first, and applies them
   codec N  puts and takes a PUBLISH with 200 octets of text N times a turn, beside writing it and reading its text
@@ -33,8 +35,9 @@ usage: core_bench log N W
            does the same with numbers at three actors over stores in memory
   threads N W
            takes N acts at the second of three actors, W at a time, each actor on a thread of its own
+  rescue N lets three nodes apply N acts, and computes rescues of the one that leads
   all N W  does each, one after the other
-  Counts are printed, and on standard error the nanoseconds of an entry, a call, an event or an act";
+  Counts are printed, and on standard error the nanoseconds of an entry, a call, an event, an act or a rescue";
 
 // Returns the words of the command line, without the program's own name.
 fn words_of(rt: &HostRuntime) -> Result<Vec<String>, Error> {
@@ -76,6 +79,7 @@ enum Measure {
     Acts,
     Actors,
     Threads,
+    Rescue,
 }
 
 // A measure's name, the body that is named after its numbers, how many words there are with these, and what is measured.
@@ -88,6 +92,7 @@ const MEASURES: &[Row] = &[
     ("nodes", "act", 4, &[Measure::Acts]),
     ("actors", "", 3, &[Measure::Actors]),
     ("threads", "", 3, &[Measure::Threads]),
+    ("rescue", "", 2, &[Measure::Rescue]),
     ("all", "", 3, EACH),
 ];
 
@@ -98,6 +103,7 @@ const EACH: &[Measure] = &[
     Measure::Acts,
     Measure::Actors,
     Measure::Threads,
+    Measure::Rescue,
 ];
 
 // Returns the word at this place, empty if there is none.
@@ -142,6 +148,7 @@ fn run_one(
         Measure::Acts => nodes::run_acts(rt, load),
         Measure::Actors => actors::run(rt, load),
         Measure::Threads => threads::run(rt, threads, load),
+        Measure::Rescue => rescue::run(rt, load),
     }
 }
 

@@ -44,6 +44,8 @@ mod proposer;
 #[cfg(test)]
 mod proposing;
 #[cfg(test)]
+mod rescue;
+#[cfg(test)]
 mod schedule;
 #[cfg(test)]
 mod sent;
