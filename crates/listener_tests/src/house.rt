@@ -6,7 +6,7 @@ use crate::writing::{hand, message_of};
 use bytes::Bytes;
 use client_listener::ToClient;
 use rtrb::{Consumer, Producer, RingBuffer};
-use serve_connections::{Arrival, Door, Found, Lobby, run_porter};
+use serve_connections::{Arrival, Door, Found, Lobby, NodeConnection, RequestReceiver, run_porter};
 use std::alloc::{AllocError, Global};
 use std::io::{Read, Write};
 use std::net::{Net, SocketAddr, TcpListener, TcpStream};
@@ -17,6 +17,14 @@ use std::thread;
 use std::thread::{JoinHandle, Threads};
 use std::time::{Clock, Duration};
 use test_checks::check_eq;
+
+/// A client whose requests a test takes, as a node has it.
+#[derive(Drop)]
+pub struct Guest {
+    pub requests: RequestReceiver,
+    pub sayings: Producer<ToClient>,
+    pub connection: NodeConnection,
+}
 
 // A listener's thread, and what it shares with the test.
 pub struct House {
@@ -80,16 +88,27 @@ impl House {
     pub fn client<R: Net<Listener = TcpListener, Stream = TcpStream> + Clock + Abort>(
         &mut self,
         rt: &R,
-    ) -> (TcpStream, Arrival) {
+    ) -> (TcpStream, Guest) {
         let (client, answer) = self.knock(rt, [0x7F, 0xF1, 0, 0]);
         check_eq!(rt; answer, [0x7F, 0xB1, 0, 0]);
         (client, self.arrival(rt))
     }
 
-    pub fn arrival<R: Clock + Abort>(&mut self, rt: &R) -> Arrival {
+    pub fn arrival<R: Clock + Abort>(&mut self, rt: &R) -> Guest {
         for _ in 0..10_000 {
-            if let Ok(arrival) = self.arrivals.pop() {
-                return arrival;
+            if let Ok(
+                Arrival {
+                    requests,
+                    sayings,
+                    connection,
+                },
+            ) = self.arrivals.pop()
+            {
+                return Guest {
+                    requests,
+                    sayings,
+                    connection,
+                };
             }
             thread::sleep(rt, Duration::from_millis(1));
         }
@@ -157,7 +176,7 @@ fn count_free(lobby: &Lobby) -> u32 {
 }
 
 // The letter of the next item of a client; 'E' once none is left and its reader has ended, 'L' if none came in time.
-fn next_letter<R: Clock>(rt: &R, arrival: &mut Arrival) -> char {
+fn next_letter<R: Clock>(rt: &R, arrival: &mut Guest) -> char {
     for _ in 0..10_000 {
         match arrival.requests.next() {
             Found::Request(request) => {
@@ -174,7 +193,7 @@ fn next_letter<R: Clock>(rt: &R, arrival: &mut Arrival) -> char {
 }
 
 // The next items of a client have these letters, one after another.
-pub fn comes<R: Clock + Abort>(rt: &R, arrival: &mut Arrival, letters: &str) {
+pub fn comes<R: Clock + Abort>(rt: &R, arrival: &mut Guest, letters: &str) {
     for letter in letters.chars() {
         check_eq!(rt; next_letter(rt, arrival), letter, letters);
     }

@@ -1,7 +1,9 @@
 // What a porter does for its connections, from the handshake to the end.
 use crate::check::Check;
-use crate::house::{House, comes, hand_close, hand_message, hand_pong, reads, reads_the_end};
-use serve_connections::{Arrival, REQUESTS_WAITING};
+use crate::house::{
+    Guest, House, comes, hand_close, hand_message, hand_pong, reads, reads_the_end,
+};
+use serve_connections::REQUESTS_WAITING;
 use std::alloc::Global;
 use std::io::Write;
 use std::net::{Shutdown, TcpStream};
@@ -27,7 +29,7 @@ fn sends(rt: &impl Abort, client: &mut TcpStream, octets: &[u8], times: u32) {
 }
 
 // A message and a PONG that are handed over reach the client, and then the end.
-fn is_answered(rt: &impl Abort, alloc: Global, client: &mut TcpStream, arrival: &mut Arrival) {
+fn is_answered(rt: &impl Abort, alloc: Global, client: &mut TcpStream, arrival: &mut Guest) {
     check!(rt; hand_message(alloc, &mut arrival.sayings, &REGISTERED[4..]));
     arrival.connection.announce_sayings();
     check!(rt; reads(rt, client, alloc, REGISTERED));
@@ -139,7 +141,7 @@ fn a_reader_waits_for_room_and_goes_on(rt: HostRuntime) {
 }
 
 // Waits until a client's ring is full, ten seconds at the most. Returns how many items are there.
-fn fills<R: Clock>(rt: &R, arrival: &mut Arrival) -> usize {
+fn fills<R: Clock>(rt: &R, arrival: &mut Guest) -> usize {
     for _ in 0..1_000 {
         if arrival.requests.count_waiting() == REQUESTS_WAITING {
             break;

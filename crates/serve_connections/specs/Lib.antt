@@ -1,2 +1,3 @@
 pub mod Handing
 pub mod Requests
+pub mod Taken

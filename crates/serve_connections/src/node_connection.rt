@@ -1,3 +1,6 @@
+ghost use Rattle.std.specs.Prelude.{◌≡◌, length};
+ghost use Rattle.serve_connections.specs.Taken.{taken_by};
+
 use crate::lobby::Lobby;
 use crate::requests::RequestReceiver;
 use crate::shared::SharedConnection;
@@ -13,12 +16,14 @@ pub const SAYINGS_WAITING: usize = 1024;
 /// A connection that came, as its node gets it: the end of its requests, the ring of its sayings, and the node's hold on the
 /// connection, which is dropped with the arrival.
 ///
-/// The first request is `Connect`, once the handshake is done. If the handshake fails, the requests end with nothing in them.
+/// The first request is `Connect`, once the handshake is done. If the handshake fails, the requests end with nothing in them. None of them
+/// was taken before the arrival: a node takes it apart, and then takes them.
 #[derive(Drop)]
 pub struct Arrival {
     pub requests: RequestReceiver,
     pub sayings: Producer<ToClient>,
     pub connection: NodeConnection,
+    ghost untouched: { length (taken_by requests) ≡ 0 },
 }
 
 /// A node's hold on a client's connection. Only [`NodeConnection::over`] allocates, and no call waits.

@@ -1,1 +1,5 @@
 pub mod Signs
+pub mod Tells
+pub mod Steps
+pub mod Saw
+pub mod Feeds

@@ -1,3 +1,12 @@
+ghost use Rattle.std.specs.Prelude.{◌≡◌, ◌++◌, [], ℕ, List};
+ghost use Rattle.std.specs.Option.{option_to_list};
+ghost use Rattle.paxos_node.specs.declared.event.Event.{Event};
+ghost use Rattle.actor_run.specs.Events.{asked_by};
+ghost use Rattle.realm_acts.specs.declared.act.Act.{Act};
+ghost use Rattle.realm_machine.specs.declared.sayings.say.Say.{Say};
+ghost use Rattle.serve_feed.specs.Tells.{Tells};
+ghost use Rattle.serve_feed.specs.Saw.{Saw};
+
 use crate::home::Home;
 use crate::lanes::Lanes;
 use crate::pace::Pace;
@@ -101,7 +110,9 @@ impl<'a> ClientFeed<'a> {
         home: Home<'a>,
         boot: u64,
         arrivals: Consumer<Arrival>,
-    ) -> ClientFeed<'a> {
+    ) -> ClientFeed<'a>
+        ensures begins { Saw result.node result.lanes.sources [] }
+    {
         let Home {
             node,
             members,
@@ -132,18 +143,24 @@ impl<'a> ClientFeed<'a> {
     }
 
     /// Begins the first boot of the node in this run, as [`ClientFeed::restart`] does a later one; a ballot is due at once at node 1.
-    pub fn begin(&mut self, boot: u64) {
+    pub fn begin(&mut self, boot: u64)
+        ensures begins { Saw self.new.node self.new.lanes.sources [] }
+    {
         self.begin_boot(boot, true);
     }
 
     /// Begins another boot of the node: every connection ends, transports are numbered from 1, the draws are those of the boot, and nothing is
     /// counted yet. Arrivals that were not taken yet stay.
-    pub fn restart(&mut self, boot: u64) {
+    pub fn restart(&mut self, boot: u64)
+        ensures begins { Saw self.new.node self.new.lanes.sources [] }
+    {
         self.begin_boot(boot, false);
     }
 
     // Begins a boot, which is the first one of the run or a later one.
-    fn begin_boot(&mut self, boot: u64, is_first: bool) {
+    fn begin_boot(&mut self, boot: u64, is_first: bool)
+        ensures begins { Saw self.new.node self.new.lanes.sources [] }
+    {
         self.lanes.end_all(self.lobby);
         self.boot = Boot::new(self.key, self.node, self.members, boot, is_first);
         self.round.may_be_due = true;
@@ -158,7 +175,10 @@ impl<'a> ClientFeed<'a> {
     }
 
     // Gives lanes to the connections that came.
-    fn take_arrivals(&mut self) {
+    fn take_arrivals(&mut self)
+        ensures node { self.new.node ≡ self.old.node }
+        ensures tells { (given : List (ℕ × Act)) → Tells self.old.lanes.sources given → Tells self.new.lanes.sources given }
+    {
         for _ in 0..MOST_ARRIVALS {
             let Ok(arrival) = self.arrivals.pop() else {
                 return;
@@ -168,7 +188,10 @@ impl<'a> ClientFeed<'a> {
     }
 
     // Counts the last turn, and wakes the nodes that it concerns. Once a round.
-    fn count(&mut self, seen: &Seen) {
+    fn count(&mut self, seen: &Seen)
+        ensures node { self.new.node ≡ self.old.node }
+        ensures tells { (given : List (ℕ × Act)) → Tells self.old.lanes.sources given → Tells self.new.lanes.sources given }
+    {
         // What a tick alone has posted waits for the peers' own ticks.
         let may_wait = self.round.is_ticked && !self.boot.peers.has_waiting();
         self.round.is_ticked = false;
@@ -183,7 +206,10 @@ impl<'a> ClientFeed<'a> {
     }
 
     // Judges whether the last turn was idle: nothing came, all that could be posted is, and no event is at hand.
-    fn judge(&mut self, seen: &Seen, moved: bool) {
+    fn judge(&mut self, seen: &Seen, moved: bool)
+        ensures node { self.new.node ≡ self.old.node }
+        ensures tells { (given : List (ℕ × Act)) → Tells self.old.lanes.sources given → Tells self.new.lanes.sources given }
+    {
         if seen.pending || seen.applied != self.round.applied {
             self.pace.moved();
         } else if moved {
@@ -197,7 +223,10 @@ impl<'a> ClientFeed<'a> {
     }
 
     // Counts time by what the last turn brought.
-    fn count_time(&mut self, seen: &Seen) {
+    fn count_time(&mut self, seen: &Seen)
+        ensures node { self.new.node ≡ self.old.node }
+        ensures sources { self.new.lanes.sources ≡ self.old.lanes.sources }
+    {
         let turn = turn_of(seen, self.boot.promised, self.pace.due());
         self.boot.promised = seen.promised;
         if self.boot.ticks.count(turn) {
@@ -212,7 +241,10 @@ impl<'a> ClientFeed<'a> {
     }
 
     // Looks into the node's rings if a thread has put something there.
-    fn take_stirred(&mut self) {
+    fn take_stirred(&mut self)
+        ensures node { self.new.node ≡ self.old.node }
+        ensures tells { (given : List (ℕ × Act)) → Tells self.old.lanes.sources given → Tells self.new.lanes.sources given }
+    {
         if self.lobby.take_stirred() {
             self.take_arrivals();
             self.lanes.stir();
@@ -221,7 +253,10 @@ impl<'a> ClientFeed<'a> {
 
     // Returns whether the node is woken within some microseconds, if that is expected. The turn that follows then finds what it was woken for,
     // and no idle one comes between.
-    fn is_woken_soon(&mut self) -> bool {
+    fn is_woken_soon(&mut self) -> bool
+        ensures node { self.new.node ≡ self.old.node }
+        ensures tells { (given : List (ℕ × Act)) → Tells self.old.lanes.sources given → Tells self.new.lanes.sources given }
+    {
         let is_woken = self.pace.expects_more() && self.lobby.is_woken_soon();
         if is_woken {
             self.take_stirred();
@@ -230,7 +265,10 @@ impl<'a> ClientFeed<'a> {
     }
 
     // Notes how the other members get on, and says in the node's lobby for which of them its packets wait.
-    fn watch(&mut self, seen: &Seen) {
+    fn watch(&mut self, seen: &Seen)
+        ensures node { self.new.node ≡ self.old.node }
+        ensures sources { self.new.lanes.sources ≡ self.old.lanes.sources }
+    {
         let beat = self.boot.ticks.beats();
         if self.boot.peers.watch(beat, seen) {
             say_waits(self.lobby, self.members, &seen.waiting);
@@ -238,14 +276,20 @@ impl<'a> ClientFeed<'a> {
     }
 
     // Notes that something happens in this round: no rest comes before the turn that follows is counted.
-    fn stay(&mut self) {
+    fn stay(&mut self)
+        ensures node { self.new.node ≡ self.old.node }
+        ensures sources { self.new.lanes.sources ≡ self.old.lanes.sources }
+    {
         self.round.is_busy = true;
         self.round.is_ticked = false;
         self.pace.judge(false);
     }
 
     // Notes what the node has come to.
-    fn see(&mut self, seen: &Seen) {
+    fn see(&mut self, seen: &Seen)
+        ensures node { self.new.node ≡ self.old.node }
+        ensures tells { (given : List (ℕ × Act)) → Tells self.old.lanes.sources given → Tells self.new.lanes.sources given }
+    {
         self.boot.admission.see(seen.leads, seen.pending);
         let round = self.pace.round();
         if round != self.round.number {
@@ -255,7 +299,11 @@ impl<'a> ClientFeed<'a> {
     }
 
     // Returns the event that time has brought.
-    fn due(&mut self, due: Due) -> Event<Act> {
+    fn due(&mut self, due: Due) -> Event<Act>
+        ensures node { self.new.node ≡ self.old.node }
+        ensures sources { self.new.lanes.sources ≡ self.old.lanes.sources }
+        ensures none { (me : ℕ) → asked_by me result ≡ [] }
+    {
         self.stay();
         let node = self.node;
         match due {
@@ -275,10 +323,15 @@ impl<'a> ClientFeed<'a> {
     }
 
     // Returns what a client does next.
-    fn act(&mut self) -> Option<Event<Act>> {
+    fn act(&mut self) -> Option<Event<Act>>
+        ensures saw { (given : List (Event Act)) → Saw self.old.node self.old.lanes.sources given
+            → Saw self.new.node self.new.lanes.sources (given ++ option_to_list result) }
+    {
         let next = self.lanes.next(self.lobby, &mut self.boot.draws);
         self.lanes.wake_told();
-        let (transport, body) = next?;
+        let Some((transport, body)) = next else {
+            return None;
+        };
         self.stay();
         self.boot.admission.give();
         Some(Event::Take {
@@ -289,7 +342,10 @@ impl<'a> ClientFeed<'a> {
     }
 
     // Passes a saying to its transport; one for another boot's is dropped.
-    fn tell(&mut self, say: Say) {
+    fn tell(&mut self, say: Say)
+        ensures node { self.new.node ≡ self.old.node }
+        ensures sources { self.new.lanes.sources ≡ self.old.lanes.sources }
+    {
         let Say { transport, out } = say;
         let saying = saying_of(out);
         if transport.node == self.node && transport.boot == self.boot.number {
@@ -301,10 +357,14 @@ impl<'a> ClientFeed<'a> {
 }
 
 impl Feed<Act, Say> for ClientFeed<'_> {
-    ghost saw = { λ feed given got. Unit {0} };
+    ghost use Rattle.serve_feed.specs.Saw.{Saw};
+
+    // Of its sayings it says nothing: one for a transport that is gone is dropped.
+    ghost saw = { λ feed given got. Saw feed.node feed.lanes.sources given };
 
     fn next(&mut self, seen: Seen) -> Option<Event<Act>>
-        ensures { Unit {0} }
+        ensures { (given : List (Event Act)) (got : List Say) → Saw self.old.node self.old.lanes.sources given
+            → Saw self.new.node self.new.lanes.sources (given ++ option_to_list result) }
     {
         self.see(&seen);
         if self.round.may_be_due
@@ -320,7 +380,8 @@ impl Feed<Act, Say> for ClientFeed<'_> {
     }
 
     fn hand(&mut self, says: Vec<Say>)
-        ensures { Unit {0} }
+        ensures { (given : List (Event Act)) (got : List Say) → Saw self.old.node self.old.lanes.sources given
+            → Saw self.new.node self.new.lanes.sources given }
     {
         if says.is_empty() {
             return;

@@ -1,6 +1,6 @@
 use client_listener::ToClient;
 use rtrb::Producer;
-use serve_connections::{Arrival, Found, Lobby};
+use serve_connections::{Lobby, NodeConnection};
 use serve_policy::Reader;
 
 // How far a connection is: its client has not been greeted yet, it is open, or the node has ended it.
@@ -11,7 +11,7 @@ pub(crate) enum Stage {
     Ended,
 }
 
-// A connection at its node.
+// A connection at its node, but for the requests that come of it.
 #[derive(Drop)]
 pub(crate) struct Lane {
     // The number of its transport.
@@ -20,18 +20,20 @@ pub(crate) struct Lane {
     // Whether its porter is to be told of sayings.
     is_told: bool,
     reader: Reader,
-    arrival: Arrival,
+    sayings: Producer<ToClient>,
+    connection: NodeConnection,
 }
 
 impl Lane {
     // Returns the lane of a connection that came.
-    pub fn new(number: u32, arrival: Arrival) -> Lane {
+    pub fn new(number: u32, sayings: Producer<ToClient>, connection: NodeConnection) -> Lane {
         Lane {
             number,
             stage: Stage::New,
             is_told: false,
             reader: Reader::new(),
-            arrival,
+            sayings,
+            connection,
         }
     }
 
@@ -50,12 +52,9 @@ impl Lane {
         self.stage = Stage::Open;
     }
 
-    // Returns the next request, or that no other will come: the node has ended the lane, or all that its porter put has been taken.
-    pub fn find(&mut self) -> Found {
-        if self.stage == Stage::Ended {
-            return Found::End;
-        }
-        self.arrival.requests.next()
+    // Returns whether the node has ended it.
+    pub fn is_ended(&self) -> bool {
+        self.stage == Stage::Ended
     }
 
     // Puts a saying after the others. If there is no room the connection ends, and the result is false.
@@ -64,19 +63,19 @@ impl Lane {
             drop(saying);
             return true;
         }
-        if !push(&mut self.arrival.sayings, saying) {
+        if !push(&mut self.sayings, saying) {
             self.end(lobby);
             return false;
         }
-        if self.reader.put() && self.reader.judge(self.arrival.sayings.slots()) {
-            self.arrival.connection.mark_slow(lobby);
+        if self.reader.put() && self.reader.judge(self.sayings.slots()) {
+            self.connection.mark_slow(lobby);
         }
         true
     }
 
     // Ignores the client until it has caught up, if the node has waited for it in vain.
     pub fn ignore_slow(&mut self, lobby: &Lobby) {
-        if self.arrival.connection.clear_slow(lobby) {
+        if self.connection.clear_slow(lobby) {
             self.reader.ignore();
         }
     }
@@ -91,24 +90,24 @@ impl Lane {
     // Tells its porter that there are sayings to write.
     pub fn announce_sayings(&mut self) {
         self.is_told = false;
-        self.arrival.connection.announce_sayings();
+        self.connection.announce_sayings();
     }
 
     // Tells its porter, which may wait for room, that there is some.
     pub fn announce_room(&self) {
-        self.arrival.connection.announce_room();
+        self.connection.announce_room();
     }
 
     // Takes the client out of those that the node waits for.
     pub fn forget_slow(&self, lobby: &Lobby) {
-        self.arrival.connection.clear_slow(lobby);
+        self.connection.clear_slow(lobby);
     }
 
     // Ends the connection at once.
     pub fn end(&mut self, lobby: &Lobby) {
         self.stage = Stage::Ended;
         self.forget_slow(lobby);
-        self.arrival.connection.hang_up();
+        self.connection.hang_up();
     }
 }
 

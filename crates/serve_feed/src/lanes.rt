@@ -1,9 +1,16 @@
+ghost use Rattle.std.specs.Prelude.{◌≡◌, ℕ, List, [], IfSome};
+ghost use Rattle.realm_acts.specs.declared.act.Act.{Act};
+ghost use Rattle.realm_acts.specs.declared.act.Act.TheVariants.{Said};
+ghost use Rattle.serve_feed.specs.Tells.{Tells, TellsWithout, Owes};
+ghost use Rattle.serve_feed.specs.Steps.{Steps, Looks};
+
 use crate::lane::Lane;
 use crate::look::Look;
+use crate::sources::{Next, Sources};
 use client_listener::{FromClient, ToClient};
 use paxos_packets::Shared;
 use realm_acts::Act;
-use serve_connections::{Arrival, Found, Lobby};
+use serve_connections::{Arrival, Lobby};
 use serve_policy::Draws;
 use std::alloc::Global;
 use wamp_message_types::Read;
@@ -15,9 +22,9 @@ const MOST_LOOKS: u16 = 512;
 #[derive(Drop)]
 pub(crate) struct Lanes {
     alloc: Global,
+    // What comes of each of them, at the same places.
+    sources: Sources,
     lanes: Vec<Lane>,
-    // The last number that was given.
-    last: u32,
     look: Look,
     // The lanes whose porter is to be told of sayings.
     told: Vec<u32>,
@@ -33,18 +40,22 @@ enum Step {
 
 impl Lanes {
     // Returns the lanes of a node without connections. Does not allocate.
-    pub fn new(alloc: Global) -> Lanes {
+    pub fn new(alloc: Global) -> Lanes
+        ensures begins { Tells result.sources [] }
+    {
         Lanes {
             alloc,
+            sources: Sources::new(alloc),
             lanes: Vec::new(alloc),
-            last: 0,
             look: Look::new(),
             told: Vec::new(alloc),
         }
     }
 
     // Notes that any lane may have something.
-    pub fn stir(&mut self) {
+    pub fn stir(&mut self)
+        ensures sources { self.new.sources ≡ self.old.sources }
+    {
         self.look.stir();
     }
 
@@ -54,18 +65,31 @@ impl Lanes {
     }
 
     // Gives the next number to a connection that came. If no number or no memory is left, the connection ends.
-    pub fn come(&mut self, arrival: Arrival) {
-        let Some(number) = self.last.checked_add(1) else {
+    pub fn come(&mut self, arrival: Arrival)
+        ensures tells { (given : List (ℕ × Act)) → Tells self.old.sources given → Tells self.new.sources given }
+    {
+        if self.lanes.reserve(1).is_err() {
             drop(arrival);
             return;
+        }
+        let Arrival {
+            requests,
+            sayings,
+            connection,
+        } = arrival;
+        let Some(number) = self.sources.add(requests) else {
+            drop(sayings);
+            drop(connection);
+            return;
         };
-        self.last = number;
-        let pushed = self.lanes.push(Lane::new(number, arrival));
+        let pushed = self.lanes.push(Lane::new(number, sayings, connection));
         drop(pushed);
     }
 
     // Returns the next act of a client, and its transport's number.
-    pub fn next(&mut self, lobby: &Lobby, draws: &mut Draws) -> Option<(u32, Act)> {
+    pub fn next(&mut self, lobby: &Lobby, draws: &mut Draws) -> Option<(u32, Act)>
+        ensures looks { (given : List (ℕ × Act)) → Tells self.old.sources given → Looks result self.new.sources given }
+    {
         for _ in 0..MOST_LOOKS {
             match self.step(lobby, draws) {
                 Step::Through => return None,
@@ -77,26 +101,35 @@ impl Lanes {
     }
 
     // Looks at the lane that is next.
-    fn step(&mut self, lobby: &Lobby, draws: &mut Draws) -> Step {
+    fn step(&mut self, lobby: &Lobby, draws: &mut Draws) -> Step
+        ensures steps { (given : List (ℕ × Act)) → Tells self.old.sources given → Steps result self.new.sources given }
+    {
         let Some(place) = self.look.place(self.lanes.len()) else {
             return Step::Through;
         };
-        let Some(lane) = self.lanes.get_mut(place) else {
-            return Step::Through;
-        };
-        let number = lane.number();
-        match lane.find() {
-            Found::Nothing => {
+        let is_ended = self.is_ended(place);
+        match self.sources.next(place, is_ended) {
+            Next::Nothing => {
                 self.leave(place);
                 Step::On
             },
-            Found::End => self.remove(lobby, place),
-            Found::Request(request) => self.treat(lobby, place, number, request, draws),
+            Next::End(number) => self.remove(lobby, place, number),
+            Next::Request(number, request) => self.treat(lobby, place, number, request, draws),
+        }
+    }
+
+    // Returns whether the node has ended the lane.
+    fn is_ended(&self, place: usize) -> bool {
+        match self.lanes.get(place) {
+            Some(lane) => lane.is_ended(),
+            None => true,
         }
     }
 
     // Leaves the lane. Its porter may wait for the room of what was taken.
-    fn leave(&mut self, place: usize) {
+    fn leave(&mut self, place: usize)
+        ensures sources { self.new.sources ≡ self.old.sources }
+    {
         if self.look.leave()
             && let Some(lane) = self.lanes.get(place)
         {
@@ -105,14 +138,16 @@ impl Lanes {
     }
 
     // Removes the lane, and takes its client out of the slow ones. A Hung is due if a Connect was taken.
-    fn remove(&mut self, lobby: &Lobby, place: usize) -> Step {
+    fn remove(&mut self, lobby: &Lobby, place: usize, number: u32) -> Step
+        ensures removes { (given : List (ℕ × Act)) → TellsWithout place number self.old.sources given → Steps result self.new.sources given }
+    {
+        self.sources.remove(place);
         if place >= self.lanes.len() {
             return Step::On;
         }
         self.look.removed();
         let lane = self.lanes.remove(place);
         lane.forget_slow(lobby);
-        let number = lane.number();
         let known = lane.is_known();
         drop(lane);
         if known {
@@ -130,7 +165,9 @@ impl Lanes {
         number: u32,
         request: FromClient,
         draws: &mut Draws,
-    ) -> Step {
+    ) -> Step
+        ensures treats { (given : List (ℕ × Act)) → Owes place number request self.old.sources given → Steps result self.new.sources given }
+    {
         match request {
             FromClient::Connect => {
                 self.connect(place);
@@ -141,35 +178,40 @@ impl Lanes {
                     self.took(place);
                     Step::Act(number, said(read, draws))
                 },
-                None => self.refuse(lobby, place),
+                None => self.refuse(lobby, place, number),
             },
             FromClient::Ping(payload) => {
                 self.answer(lobby, place, ToClient::Pong(payload));
                 Step::On
             },
-            FromClient::Hung => self.remove(lobby, place),
+            FromClient::Hung => self.remove(lobby, place, number),
         }
     }
 
     // Notes that the client of the lane has connected.
-    fn connect(&mut self, place: usize) {
+    fn connect(&mut self, place: usize)
+        ensures sources { self.new.sources ≡ self.old.sources }
+    {
         if let Some(lane) = self.lanes.get_mut(place) {
             lane.open();
         }
         self.took(place);
     }
 
-    // Ends the connection: there is no memory for what its client sent.
-    fn refuse(&mut self, lobby: &Lobby, place: usize) -> Step {
+    // Ends the connection, and removes the lane: there is no memory for what its client sent.
+    fn refuse(&mut self, lobby: &Lobby, place: usize, number: u32) -> Step
+        ensures removes { (given : List (ℕ × Act)) → TellsWithout place number self.old.sources given → Steps result self.new.sources given }
+    {
         if let Some(lane) = self.lanes.get_mut(place) {
             lane.end(lobby);
         }
-        self.look.stir();
-        Step::On
+        self.remove(lobby, place, number)
     }
 
     // Answers the client of the lane without the log.
-    fn answer(&mut self, lobby: &Lobby, place: usize, saying: ToClient) {
+    fn answer(&mut self, lobby: &Lobby, place: usize, saying: ToClient)
+        ensures sources { self.new.sources ≡ self.old.sources }
+    {
         if let Some(lane) = self.lanes.get_mut(place) {
             put(lobby, lane, &mut self.told, &mut self.look, saying);
         } else {
@@ -179,7 +221,9 @@ impl Lanes {
     }
 
     // Notes that a request of the lane was taken. The lane is left after some requests.
-    fn took(&mut self, place: usize) {
+    fn took(&mut self, place: usize)
+        ensures sources { self.new.sources ≡ self.old.sources }
+    {
         if self.look.took()
             && let Some(lane) = self.lanes.get(place)
         {
@@ -188,7 +232,9 @@ impl Lanes {
     }
 
     // Puts a saying after the others for the transport with this number, if it is there.
-    pub fn say(&mut self, lobby: &Lobby, number: u32, saying: ToClient) {
+    pub fn say(&mut self, lobby: &Lobby, number: u32, saying: ToClient)
+        ensures sources { self.new.sources ≡ self.old.sources }
+    {
         match lane_of(&mut self.lanes, number) {
             Some(lane) => put(lobby, lane, &mut self.told, &mut self.look, saying),
             None => drop(saying),
@@ -196,7 +242,9 @@ impl Lanes {
     }
 
     // Tells the porter of all lanes that got a saying since the last call.
-    pub fn wake_told(&mut self) {
+    pub fn wake_told(&mut self)
+        ensures sources { self.new.sources ≡ self.old.sources }
+    {
         for number in &self.told {
             if let Some(lane) = lane_of(&mut self.lanes, *number) {
                 lane.announce_sayings();
@@ -206,26 +254,32 @@ impl Lanes {
     }
 
     // Ignores the slow clients, for which the node has waited in vain, until they have caught up.
-    pub fn ignore_slow(&mut self, lobby: &Lobby) {
+    pub fn ignore_slow(&mut self, lobby: &Lobby)
+        ensures sources { self.new.sources ≡ self.old.sources }
+    {
         for lane in &mut self.lanes {
             lane.ignore_slow(lobby);
         }
     }
 
     // Ends every connection. Numbers begin at 1 again.
-    pub fn end_all(&mut self, lobby: &Lobby) {
+    pub fn end_all(&mut self, lobby: &Lobby)
+        ensures begins { Tells self.new.sources [] }
+    {
         for lane in &mut self.lanes {
             lane.end(lobby);
         }
+        self.sources.clear();
         self.lanes.clear();
         self.told.clear();
-        self.last = 0;
         self.look = Look::new();
     }
 }
 
 // Returns the value, shared; `None` if memory runs out.
-fn share<T: Drop>(alloc: Global, value: T) -> Option<Shared<T>> {
+fn share<T: Drop>(alloc: Global, value: T) -> Option<Shared<T>>
+    ensures { IfSome result (λ shared. shared ≡ value) }
+{
     match Shared::new(alloc, value) {
         Ok(shared) => Some(shared),
         Err(refused) => {
@@ -236,7 +290,9 @@ fn share<T: Drop>(alloc: Global, value: T) -> Option<Shared<T>> {
 }
 
 // Returns the `Said` act for a client's message, with the next draw.
-fn said(read: Shared<Read>, draws: &mut Draws) -> Act {
+fn said(read: Shared<Read>, draws: &mut Draws) -> Act
+    ensures { (draw : ℕ) × (result ≡ Said draw read) }
+{
     Act::Said {
         draw: draws.next(),
         read,

@@ -24,6 +24,7 @@ mod look;
 mod pace;
 mod peers;
 mod signs;
+mod sources;
 
 pub use actor_run::{Feed, Gate, Seen};
 pub use feed::ClientFeed;

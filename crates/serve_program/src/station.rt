@@ -1,8 +1,13 @@
 // A node's thread.
-ghost use Rattle.std.specs.Prelude.{◌≡◌, false, IfOk, IfErr};
+ghost use Rattle.std.specs.Prelude.{◌≡◌, ◌++◌, [], false, List, IfOk, IfErr};
+ghost use Rattle.std.specs.Option.{option_to_list};
 ghost use Rattle.mail_table.specs.Seats.{Owns};
 ghost use Rattle.realm_machine.specs.Machine.{has_failed};
+ghost use Rattle.paxos_node.specs.declared.event.Event.{Event};
 ghost use Rattle.paxos_node.specs.declared.view.Opened.TheVariants.{Never};
+ghost use Rattle.realm_acts.specs.declared.act.Act.{Act};
+ghost use Rattle.realm_machine.specs.declared.sayings.say.Say.{Say};
+ghost use Rattle.serve_feed.specs.Feeds.{HasGiven};
 ghost use Rattle.serve_program.specs.Fault.{IsEnding};
 
 use crate::cluster::{Cluster, Left};
@@ -62,10 +67,13 @@ struct Served<'a, R> {
 }
 
 impl<R: Eprint> Feed<Act, Say> for Served<'_, R> {
-    ghost saw = { λ feed given got. Unit {0} };
+    ghost use Rattle.serve_feed.specs.Feeds.{HasGiven};
+
+    ghost saw = { λ served given got. HasGiven served.feed given };
 
     fn next(&mut self, seen: Seen) -> Option<Event<Act>>
-        ensures { Unit {0} }
+        ensures { (given : List (Event Act)) (got : List Say) → HasGiven self.old.feed given
+            → HasGiven self.new.feed (given ++ option_to_list result) }
     {
         if seen.leads && !self.leads {
             let _ = eprintln!(self.rt; "node {} leads", self.node);
@@ -75,7 +83,7 @@ impl<R: Eprint> Feed<Act, Say> for Served<'_, R> {
     }
 
     fn hand(&mut self, says: Vec<Say>)
-        ensures { Unit {0} }
+        ensures { (given : List (Event Act)) (got : List Say) → HasGiven self.old.feed given → HasGiven self.new.feed given }
     {
         self.feed.hand(says)
     }
@@ -83,14 +91,14 @@ impl<R: Eprint> Feed<Act, Say> for Served<'_, R> {
 
 impl<R: Eprint> Boots<Act, Say> for Served<'_, R> {
     fn up(&mut self, node: u8, boot: u64)
-        ensures { Unit {0} }
+        ensures { HasGiven self.new.feed [] }
     {
         self.feed.begin(boot);
         let _ = eprintln!(self.rt; "node {node} is up in boot {boot}");
     }
 
     fn up_again(&mut self, node: u8, boot: u64)
-        ensures { Unit {0} }
+        ensures { HasGiven self.new.feed [] }
     {
         self.feed.restart(boot);
         let _ = eprintln!(self.rt;

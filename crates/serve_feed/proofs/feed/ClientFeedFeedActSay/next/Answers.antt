@@ -1,0 +1,49 @@
+use Rattle.std.proofs.Common.{◌≡◌, ◌∷◌, [], ◌++◌, ◌∙◌, refl, ap, sym}
+use Rattle.actor_run.specs.Events.{asked_in}
+use Rattle.serve_feed.proofs.Giving.{gives_none, gives_other, carried}
+use Rattle.serve_feed.proofs.feed.ClientFeedFeedActSay.next.Goals as goal
+use Rattle.serve_feed.proofs.feed.ClientFeedFeedActSay.next.Goals.{else-self-via-else-self, else-self-via-then-self+in-None-1}
+
+pub returns : goal.returns
+returns c =
+    λ given got saw.
+    let now = c.see.new.self in
+    let tells = c.see.ensures.tells (asked_in c.args.self.now.node given) saw in
+    let seen = carried c.args.self.now.node now.node now.lanes.sources now.lanes.sources given (sym c.see.ensures.node) refl tells in
+    carried now.node c.due.new.self.node now.lanes.sources c.due.new.self.lanes.sources (given ++ c.due.result ∷ [])
+    (sym c.due.ensures.node) (sym c.due.ensures.sources)
+    (gives_other now.node c.due.result now.lanes.sources given (c.due.ensures.none now.node) seen)
+
+pub returns-then-not-may_act : goal.returns-then-not-may_act
+returns-then-not-may_act c =
+    let now = c.see.new.self in
+    let here = c.else-self.self in
+    let node : here.node ≡ now.node = elim c.else-self.branch [
+      | else-self-via-else-self w ↦ ap (λ s. s.node) w.self-is
+      | else-self-via-then-self+in-None-1 w ↦ ap (λ s. s.node) w.self-is
+    ] in
+    let sources : here.lanes.sources ≡ now.lanes.sources = elim c.else-self.branch [
+      | else-self-via-else-self w ↦ ap (λ s. s.lanes.sources) w.self-is
+      | else-self-via-then-self+in-None-1 w ↦ ap (λ s. s.lanes.sources) w.self-is
+    ] in
+    λ given got saw.
+    let tells = c.see.ensures.tells (asked_in c.args.self.now.node given) saw in
+    gives_none here.node here.lanes.sources given
+    (carried c.args.self.now.node here.node now.lanes.sources here.lanes.sources given (sym c.see.ensures.node ∙ sym node) (sym sources) tells)
+
+pub returns-2 : goal.returns-2
+returns-2 c =
+    let now = c.see.new.self in
+    let here = c.else-self.self in
+    let node : here.node ≡ now.node = elim c.else-self.branch [
+      | else-self-via-else-self w ↦ ap (λ s. s.node) w.self-is
+      | else-self-via-then-self+in-None-1 w ↦ ap (λ s. s.node) w.self-is
+    ] in
+    let sources : here.lanes.sources ≡ now.lanes.sources = elim c.else-self.branch [
+      | else-self-via-else-self w ↦ ap (λ s. s.lanes.sources) w.self-is
+      | else-self-via-then-self+in-None-1 w ↦ ap (λ s. s.lanes.sources) w.self-is
+    ] in
+    λ given got saw.
+    let tells = c.see.ensures.tells (asked_in c.args.self.now.node given) saw in
+    c.act.ensures.saw given
+    (carried c.args.self.now.node here.node now.lanes.sources here.lanes.sources given (sym c.see.ensures.node ∙ sym node) (sym sources) tells)

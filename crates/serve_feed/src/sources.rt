@@ -1,0 +1,106 @@
+// The requests of a node's clients, each client's under the number of its transport.
+ghost use Rattle.std.specs.Prelude.{◌≡◌, ℕ, List, [], length};
+ghost use Rattle.std.specs.List.{remove};
+ghost use Rattle.realm_acts.specs.declared.act.Act.{Act};
+ghost use Rattle.serve_connections.specs.Taken.{taken_by};
+ghost use Rattle.serve_feed.specs.Tells.{Tells, Finds, Takes};
+
+use client_listener::FromClient;
+use serve_connections::{Found, RequestReceiver};
+use std::alloc::Global;
+
+// The requests of a client, and the number of its transport.
+#[derive(Drop)]
+pub(crate) struct Source {
+    number: u32,
+    requests: RequestReceiver,
+}
+
+// What is found at a place: nothing yet, the next request, or that no other will come. The last two with the number of the transport.
+#[derive(Drop)]
+pub(crate) enum Next {
+    Nothing,
+    End(u32),
+    Request(u32, FromClient),
+}
+
+impl Source {
+    // Takes the next request, unless the node has ended the connection.
+    fn next(&mut self, is_ended: bool) -> Next
+        ensures number { self.new.number ≡ self.old.number }
+        ensures takes { Takes result self.old.number (taken_by self.old.requests) (taken_by self.new.requests) }
+    {
+        if is_ended {
+            return Next::End(self.number);
+        }
+        match self.requests.next() {
+            Found::Nothing => Next::Nothing,
+            Found::End => Next::End(self.number),
+            Found::Request(request) => Next::Request(self.number, request),
+        }
+    }
+}
+
+// The requests of all clients of a node, by ascending number.
+#[derive(Drop)]
+pub(crate) struct Sources {
+    list: Vec<Source>,
+    // The last number that was given.
+    last: u32,
+}
+
+impl Sources {
+    // Returns those of a node without clients. Does not allocate.
+    pub fn new(alloc: Global) -> Sources
+        ensures begins { Tells result [] }
+    {
+        Sources {
+            list: Vec::new(alloc),
+            last: 0,
+        }
+    }
+
+    // Gives the next number to a client that came, of whose requests none was taken. Returns it, unless no number or no memory is left.
+    pub fn add(&mut self, requests: RequestReceiver) -> Option<u32>
+        requires untouched { length (taken_by requests) ≡ 0 }
+        ensures tells { (given : List (ℕ × Act)) → Tells self.old given → Tells self.new given }
+    {
+        let Some(number) = self.last.checked_add(1) else {
+            drop(requests);
+            return None;
+        };
+        self.last = number;
+        let pushed = self.list.push(Source { number, requests });
+        let is_there = pushed.is_ok();
+        drop(pushed);
+        if is_there { Some(number) } else { None }
+    }
+
+    // Takes the next request at a place; finds the end if the node has ended that connection.
+    pub fn next(&mut self, place: usize, is_ended: bool) -> Next
+        ensures finds { (given : List (ℕ × Act)) → Tells self.old given → Finds place result self.new given }
+    {
+        match self.list.get_mut(place) {
+            Some(source) => source.next(is_ended),
+            None => Next::Nothing,
+        }
+    }
+
+    // Removes the client at a place, if one is there.
+    pub fn remove(&mut self, place: usize)
+        ensures list { self.new.list.items ≡ remove self.old.list.items place }
+        ensures last { self.new.last ≡ self.old.last }
+    {
+        if place < self.list.len() {
+            drop(self.list.remove(place));
+        }
+    }
+
+    // Removes all. Numbers begin at 1 again.
+    pub fn clear(&mut self)
+        ensures begins { Tells self.new [] }
+    {
+        self.list.clear();
+        self.last = 0;
+    }
+}
