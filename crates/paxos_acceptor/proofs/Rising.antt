@@ -2,6 +2,7 @@
 use Rattle.std.proofs.Common.{◌≡◌, ℕ, Bool, true, false, not, ◌&&◌, ◌||◌, cond, ltb, eqb, Option, Some, refl, subst, arith}
 use Rattle.std.proofs.lemmas.Bool.Decides.{nat_tests}
 use Rattle.paxos_packets.specs.Ballot.{below}
+use Rattle.paxos_packets.specs.Rows.{promise_change, vote_change}
 use Rattle.paxos_packets.specs.Vote.{votes_from}
 use Rattle.paxos_packets.specs.declared.ballot.Ballot.{Ballot}
 use Rattle.paxos_packets.specs.declared.vote.Vote.{Vote}
@@ -11,7 +12,7 @@ use Rattle.paxos_packets.specs.declared.rows.Rows.{Rows}
 use Rattle.paxos_acceptor.specs.declared.verdict.Verdict.{Verdict}
 use Rattle.paxos_acceptor.specs.declared.verdict.Answer.TheVariants.{ToSender, ToOthers}
 use Rattle.std.specs.Option.{option_or}
-use Rattle.paxos_acceptor.specs.Acceptor.{may_promise, may_accept, promise_change, vote_change, refused, judged}
+use Rattle.paxos_acceptor.specs.Acceptor.{may_promise, may_accept, refused, judged}
 
 none : (m i : ℕ) → (ltb m m || (eqb m m && ltb i i)) ≡ false
 none m i = grind (arith, nat_tests)

@@ -2,6 +2,7 @@
 use Rattle.std.specs.Prelude.{ℕ, Bool, true, not, Option, Some, None, List, [], ◌∷◌, if◌then◌else◌}
 use Rattle.std.specs.Option.{option_or, unwrap_or}
 use Rattle.paxos_packets.specs.Ballot.{below}
+use Rattle.paxos_packets.specs.Rows.{no_change, promise_change, vote_change}
 use Rattle.paxos_packets.specs.Vote.{put_vote, put_votes, votes_from}
 use Rattle.paxos_packets.specs.Packet.{packet, to_others}
 use Rattle.paxos_packets.specs.declared.ballot.Ballot.{Ballot}
@@ -35,25 +36,14 @@ may_accept None b = true
 may_accept (Some p) b = not (below b p)
 
 abbrev pub with_promise : {B : Type 0} → Ballot → Rows B → Rows B
-with_promise b rows = record { boot = rows.boot; promised = Some b; votes = rows.votes }
+with_promise b rows = record rows { promised = Some b }
 
 abbrev pub with_vote : {B : Type 0} → Vote B → Rows B → Rows B
-with_vote v rows = record { boot = rows.boot; promised = Some v.ballot; votes = put_vote v rows.votes }
-
--- changes: nothing, a promise, a vote together with its promise
-abbrev pub no_change : {B : Type 0} → Change B
-no_change = record { promised = None; votes = [] }
-
-abbrev pub promise_change : {B : Type 0} → Ballot → Change B
-promise_change b = record { promised = Some b; votes = [] }
-
-abbrev pub vote_change : {B : Type 0} → Vote B → Change B
-vote_change v = record { promised = Some v.ballot; votes = v ∷ [] }
+with_vote v rows = record rows { promised = Some v.ballot; votes = put_vote v rows.votes }
 
 -- the rows after a change
 abbrev pub adopted : {B : Type 0} → Rows B → Change B → Rows B
-adopted rows change =
-    record { boot = rows.boot; promised = option_or change.promised rows.promised; votes = put_votes change.votes rows.votes }
+adopted rows change = record rows { promised = option_or change.promised rows.promised; votes = put_votes change.votes rows.votes }
 
 abbrev pub refused : {B : Type 0} → Rows B → Ballot → Verdict B
 refused rows b = record { change = no_change; answer = ToSender (Nack b (unwrap_or rows.promised b)) }

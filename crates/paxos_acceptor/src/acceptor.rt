@@ -1,6 +1,6 @@
 ghost use Rattle.std.specs.Prelude.{◌≡◌, ◌≤◌, true, false, length, IfOk, IsErr, OnOk, OnErr};
 ghost use Rattle.paxos_packets.specs.Vote.{votes_from};
-ghost use Rattle.paxos_acceptor.specs.Acceptor.{adopted, judged, no_change, may_promise, may_accept, refused, prepared, voted};
+ghost use Rattle.paxos_acceptor.specs.Acceptor.{adopted, judged, may_promise, may_accept, refused, prepared, voted};
 
 use crate::fault::Memory;
 use crate::verdict::{Answer, Verdict};
@@ -108,7 +108,7 @@ impl<B> Acceptor<B> {
         ensures { result ≡ refused self.now.rows ballot }
     {
         Verdict {
-            change: no_change(self.alloc),
+            change: Change::none(self.alloc),
             answer: Answer::ToSender {
                 kind: Kind::Nack {
                     ballot,
@@ -141,7 +141,7 @@ impl<B: Body> Acceptor<B> {
             | Kind::Forward { .. }
             | Kind::Learned { .. }
             | Kind::Ask { .. } => Ok(Verdict {
-                change: no_change(self.alloc),
+                change: Change::none(self.alloc),
                 answer: Answer::Nothing,
             }),
         }
@@ -207,11 +207,10 @@ impl<B: Body> Acceptor<B> {
             return Ok(self.refuse(ballot));
         }
         let votes = self.votes.copy_from(self.alloc, first)?;
+        let mut change = Change::none(self.alloc);
+        change.promised = Some(ballot);
         Ok(Verdict {
-            change: Change {
-                promised: Some(ballot),
-                votes: Votes::new(self.alloc),
-            },
+            change,
             answer: Answer::ToSender {
                 kind: Kind::Promise { ballot, votes },
             },
@@ -225,28 +224,17 @@ impl<B: Body> Acceptor<B> {
         if !may_accept(self.promised, vote.ballot) {
             return Ok(self.refuse(vote.ballot));
         }
-        let mut votes = Votes::new(self.alloc);
-        votes.put(vote.copy(self.alloc)?)?;
+        let mut change = Change::none(self.alloc);
+        change.promised = Some(vote.ballot);
+        change.votes.put(vote.copy(self.alloc)?)?;
         Ok(Verdict {
-            change: Change {
-                promised: Some(vote.ballot),
-                votes,
-            },
+            change,
             answer: Answer::ToOthers {
                 kind: Kind::Accepted {
                     vote: vote.copy(self.alloc)?,
                 },
             },
         })
-    }
-}
-
-fn no_change<B>(alloc: Global) -> Change<B>
-    ensures { result ≡ no_change }
-{
-    Change {
-        promised: None,
-        votes: Votes::new(alloc),
     }
 }
 

@@ -6,7 +6,8 @@ ghost use Rattle.paxos_packets.specs.declared.ballot.Ballot.{Ballot};
 ghost use Rattle.paxos_packets.specs.declared.packet.Kind.{Kind};
 ghost use Rattle.paxos_packets.specs.declared.rows.Rows.{Rows};
 ghost use Rattle.paxos_packets.specs.declared.vote.Vote.{Vote};
-ghost use Rattle.paxos_acceptor.specs.Acceptor.{adopted, judged, no_change, promise_change, refused, vote_change};
+ghost use Rattle.paxos_acceptor.specs.Acceptor.{adopted, judged, refused};
+ghost use Rattle.paxos_packets.specs.Rows.{no_change, promise_change, vote_change};
 ghost use Rattle.paxos_acceptor.specs.Acceptor.{voted, prepared, with_promise, with_vote};
 
 /// No packet lowers a promise: once its change is adopted, the promise is not below the one of before.

@@ -1,4 +1,5 @@
 ghost use Rattle.std.specs.Prelude.{◌≡◌, IfOk};
+ghost use Rattle.paxos_packets.specs.Rows.{bare_rows, first_rows, no_change};
 
 use crate::ballot::Ballot;
 use crate::body::{Body, Memory};
@@ -23,6 +24,38 @@ pub struct Rows<B> {
     pub promised: Option<Ballot>,
     /// For each slot, the last vote that the node cast there.
     pub votes: Votes<B>,
+}
+
+impl<B> Change<B> {
+    /// Returns the change that adds nothing. Does not allocate; its votes will, from `alloc`.
+    pub fn none(alloc: Global) -> Change<B>
+        ensures { result ≡ no_change }
+    {
+        Change {
+            promised: None,
+            votes: Votes::new(alloc),
+        }
+    }
+}
+
+impl<B> Rows<B> {
+    /// Returns the rows of a node's first start, before it commits anything. Does not allocate; its votes will, from `alloc`.
+    pub fn first(alloc: Global) -> Rows<B>
+        ensures { result ≡ first_rows }
+    {
+        Rows::bare(alloc, 1)
+    }
+
+    /// Returns the rows after this many starts, if nothing is committed. Does not allocate; its votes will, from `alloc`.
+    pub fn bare(alloc: Global, boot: u64) -> Rows<B>
+        ensures { result ≡ bare_rows boot }
+    {
+        Rows {
+            boot,
+            promised: None,
+            votes: Votes::new(alloc),
+        }
+    }
 }
 
 impl<B: Body> Change<B> {

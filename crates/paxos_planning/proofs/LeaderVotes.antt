@@ -1,5 +1,5 @@
 -- The votes that a leader casts in an event disagree with what was learned exactly if those of the entries do that are gone through.
-use Rattle.std.proofs.Common.{◌≡◌, ◌≤◌, ◌<◌, ℕ, suc, Bool, true, false, cond, not, ◌&&◌, ◌||◌, Option, Some, None, is_some, List, [], ◌∷◌, ◌++◌, length, refl, ap, sym, ◌∙◌, subst, arith}
+use Rattle.std.proofs.Common.{◌≡◌, ◌≤◌, ◌<◌, ℕ, suc, Bool, true, false, cond, not, ◌&&◌, ◌||◌, Option, Some, None, is_some, List, [], ◌∷◌, ◌++◌, refl, ap, sym, ◌∙◌, subst, arith}
 use Rattle.std.specs.Prelude.{nat_lt, nat_le, ◌==◌}
 use Rattle.std.specs.List.{list_any}
 use Rattle.std.proofs.lemmas.Bool.{lt-ltb, le-ltb, ltb-true, ltb-false, leb-true, leb-false, eqb-true, or_right}
@@ -19,7 +19,7 @@ use Rattle.paxos_learner.specs.Learner.{LearnerState, learned_at, is_learned, pu
 use Rattle.paxos_learner.proofs.Ahead.{learned_is}
 use Rattle.paxos_learner.proofs.Counting.{most_then}
 use Rattle.paxos_learner.proofs.Overlay.{at_put, nodes_put}
-use Rattle.paxos_planning.specs.Node.{Plan}
+use Rattle.paxos_planning.specs.Node.{Plan, log_length}
 use Rattle.paxos_planning.specs.Plan.{cast, send}
 use Rattle.paxos_planning.specs.Proposals.{offer, propose_as, propose, propose_new, propose_each, stands, push, forwarded}
 use Rattle.paxos_planning.specs.Walking.{Walked, proposes_then, differs, walk_by, walk_on, walk_all, walk_from, proposes_other}
@@ -140,7 +140,7 @@ module _ {B : Type 0} (same : B → B → Bool) (ok : IsEquality same) (members 
   -- a leader at this slot, which proposed these in its ballot; of this slot and later ones its learner knows what the first one does
   record At (next : ℕ) (proposed : List (Vote B)) (other : Bool) (o : Plan B) : Type 0 where
     leads : o.node.proposer.role ≡ Leading b next proposed
-    length_is : length o.node.applied ≡ n
+    length_is : log_length o.node ≡ n
     other_is : o.disagrees ≡ other
     heard : (s : ℕ) → next ≤ s → nodes_heard (record { slot = s; ballot = b }) o.node.learner.heard ≡ nodes_heard (record { slot = s; ballot = b }) l.heard
     learned : (s : ℕ) → next ≤ s → learned_at s o.node.learner.learned ≡ learned_at s l.learned
@@ -186,7 +186,7 @@ module _ {B : Type 0} (same : B → B → Bool) (ok : IsEquality same) (members 
       tied : Tied proposed (walk_by same members me n b before l p e w)
 
     module _ (e : Entry B) (w : Walked B) (proposed : List (Vote B)) (o : Plan B) (a : At w.next proposed w.other o) (t : Tied proposed w) where
-      stands_is : stands same (length o.node.applied) o.node.proposer.role e ≡ stands_among same n e proposed
+      stands_is : stands same (log_length o.node) o.node.proposer.role e ≡ stands_among same n e proposed
       stands_is i = stands same (a.length_is i) (a.leads i) e
 
       stays : propose_new same members me e o ≡ o → At w.next proposed (w.other || false) (propose_new same members me e o)
@@ -197,7 +197,7 @@ module _ {B : Type 0} (same : B → B → Bool) (ok : IsEquality same) (members 
       spent : nat_lt w.next slot_end ≡ false → Goes false e w o
       spent p =
           let none : propose same members me e o ≡ o = none_left e w.next proposed w.other o a p in
-          let k : propose_new same members me e o ≡ o = either (stands same (length o.node.applied) o.node.proposer.role e) none in
+          let k : propose_new same members me e o ≡ o = either (stands same (log_length o.node) o.node.proposer.role e) none in
           record {
             proposed = proposed;
             at = stays k;
@@ -307,20 +307,20 @@ module _ {B : Type 0} (same : B → B → Bool) (ok : IsEquality same) (members 
 
   pub each_is : (es : List (Entry B)) (o : Plan B) → o.disagrees ≡ false → is_leading o.node.proposer.role ≡ true
       → (propose_each same members me es o).disagrees
-      ≡ proposes_other same members me (length o.node.applied) o.node.learner o.node.proposer.role es
+      ≡ proposes_other same members me (log_length o.node) o.node.learner o.node.proposer.role es
   each_is es o none leads = go o.node.proposer.role refl leads
     where
       go : (r : Role B) → o.node.proposer.role ≡ r → is_leading r ≡ true
-          → (propose_each same members me es o).disagrees ≡ proposes_other same members me (length o.node.applied) o.node.learner r es
+          → (propose_each same members me es o).disagrees ≡ proposes_other same members me (log_length o.node) o.node.learner r es
       go Idle p q = absurd (cc)
       go (Preparing b first promises) p q = absurd (cc)
       go (Leading b next proposed) p q =
-          each_walked same ok members me (length o.node.applied) b o.node.learner (behind (length o.node.applied) proposed) es (walk_from next false) proposed o
+          each_walked same ok members me (log_length o.node) b o.node.learner (behind (log_length o.node) proposed) es (walk_from next false) proposed o
           (record { leads = p; length_is = refl; other_is = none; heard = λ s le. refl; learned = λ s le. refl })
           (record {
-            stand = λ r d. among_behind same (length o.node.applied) d proposed
-                ∙ sym (or_false (stands_among same (length o.node.applied) d (behind (length o.node.applied) proposed)));
-            old = λ r d. among_behind same (length o.node.applied) d proposed;
+            stand = λ r d. among_behind same (log_length o.node) d proposed
+                ∙ sym (or_false (stands_among same (log_length o.node) d (behind (log_length o.node) proposed)));
+            old = λ r d. among_behind same (log_length o.node) d proposed;
           })
 
   not_leading : (n : ℕ) (l : LearnerState B) (r : Role B) (es : List (Entry B)) → is_leading r ≡ false → false ≡ proposes_other same members me n l r es
@@ -331,23 +331,23 @@ module _ {B : Type 0} (same : B → B → Bool) (ok : IsEquality same) (members 
   -- it pushes what is pending
 
   pub push_is : (o : Plan B) → o.disagrees ≡ false → (push same members me o).disagrees
-      ≡ proposes_other same members me (length o.node.applied) o.node.learner o.node.proposer.role o.node.pending
+      ≡ proposes_other same members me (log_length o.node) o.node.learner o.node.proposer.role o.node.pending
   push_is o none = go (is_leading o.node.proposer.role) refl
     where
       go : (x : Bool) → is_leading o.node.proposer.role ≡ x
           → (cond x (propose_each same members me o.node.pending o) (send (forwarded me o.node.rows.promised o.node.pending) o)).disagrees
-          ≡ proposes_other same members me (length o.node.applied) o.node.learner o.node.proposer.role o.node.pending
+          ≡ proposes_other same members me (log_length o.node) o.node.learner o.node.proposer.role o.node.pending
       go true p = each_is o.node.pending o none p
-      go false p = none ∙ not_leading (length o.node.applied) o.node.learner o.node.proposer.role o.node.pending p
+      go false p = none ∙ not_leading (log_length o.node) o.node.learner o.node.proposer.role o.node.pending p
 
   pub forward_is : (es : List (Entry B)) (o : Plan B) → o.disagrees ≡ false → (on_forward same members me es o).disagrees
-      ≡ proposes_other same members me (length o.node.applied) o.node.learner o.node.proposer.role es
+      ≡ proposes_other same members me (log_length o.node) o.node.learner o.node.proposer.role es
   forward_is es o none = go (is_leading o.node.proposer.role) refl
     where
       go : (x : Bool) → is_leading o.node.proposer.role ≡ x → (cond x (propose_each same members me es o) o).disagrees
-          ≡ proposes_other same members me (length o.node.applied) o.node.learner o.node.proposer.role es
+          ≡ proposes_other same members me (log_length o.node) o.node.learner o.node.proposer.role es
       go true p = each_is es o none p
-      go false p = none ∙ not_leading (length o.node.applied) o.node.learner o.node.proposer.role es p
+      go false p = none ∙ not_leading (log_length o.node) o.node.learner o.node.proposer.role es p
 
   -- a promise makes it lead
 
@@ -421,7 +421,7 @@ module _ {B : Type 0} (same : B → B → Bool) (ok : IsEquality same) (members 
 
   lead_is : (b : Ballot) (first : ℕ) (votes : List (Vote B)) (o : Plan B) → o.disagrees ≡ false
       → (push same members me (lead same members me b first votes o)).disagrees
-      ≡ leads_to_other same members me (length o.node.applied) o.node.learner b first (called_for first votes) o.node.pending
+      ≡ leads_to_other same members me (log_length o.node) o.node.learner b first (called_for first votes) o.node.pending
   lead_is b first votes o none =
       ap (λ (x : Bool). (cond x (propose_each same members me led.node.pending led)
       (send (forwarded me led.node.rows.promised led.node.pending) led)).disagrees) (ap is_leading a.leads)
@@ -434,7 +434,7 @@ module _ {B : Type 0} (same : B → B → Bool) (ok : IsEquality same) (members 
       ∙ ap (λ (es : List (Entry B)). leads_to_other same members me n l b first called es) (kept_pending called begun)
     where
       n : ℕ
-      n = length o.node.applied
+      n = log_length o.node
 
       l : LearnerState B
       l = o.node.learner
@@ -458,7 +458,7 @@ module _ {B : Type 0} (same : B → B → Bool) (ok : IsEquality same) (members 
       })
 
   pub promise_is : (sender : ℕ) (b : Ballot) (votes : List (Vote B)) (r : Role B) (o : Plan B) → o.disagrees ≡ false
-      → (on_promise_as same members me sender b votes r o).disagrees ≡ called_of same members me (length o.node.applied) o.node.learner o.node.pending r (called_by members sender b votes r)
+      → (on_promise_as same members me sender b votes r o).disagrees ≡ called_of same members me (log_length o.node) o.node.learner o.node.pending r (called_by members sender b votes r)
   promise_is sender b votes Idle o none = none
   promise_is sender b votes (Leading c next proposed) o none = none
   promise_is sender b votes (Preparing c first promises) o none = go (same_ballot b c && not (is_counted promises sender))
@@ -468,11 +468,11 @@ module _ {B : Type 0} (same : B → B → Bool) (ok : IsEquality same) (members 
 
       most : (m : Bool) → (cond m (push same members me (lead same members me c first (reports all) o))
           (record o { node = with_role (Preparing c first all) o.node })).disagrees
-          ≡ called_of same members me (length o.node.applied) o.node.learner o.node.pending (Preparing c first promises) (cond m (Some (called_for first (reports all))) None)
+          ≡ called_of same members me (log_length o.node) o.node.learner o.node.pending (Preparing c first promises) (cond m (Some (called_for first (reports all))) None)
       most true = lead_is c first (reports all) o none
       most false = none
 
       go : (t : Bool) → (cond t (count_promise same members me c first all o) o).disagrees
-          ≡ called_of same members me (length o.node.applied) o.node.learner o.node.pending (Preparing c first promises) (cond t (calls members first all) None)
+          ≡ called_of same members me (log_length o.node) o.node.learner o.node.pending (Preparing c first promises) (cond t (calls members first all) None)
       go true = most (is_majority members (is_counted all))
       go false = none

@@ -12,7 +12,7 @@ use Rattle.paxos_packets.specs.declared.vote.Vote.{Vote}
 use Rattle.paxos_proposer.specs.Role.{Role, Idle, Preparing, Leading}
 use Rattle.paxos_proposer.specs.Proposer.{slot_end, next_vote, is_leading}
 use Rattle.paxos_proposer.specs.Proposals.{stands_among}
-use Rattle.paxos_planning.specs.Node.{Plan}
+use Rattle.paxos_planning.specs.Node.{Plan, log_length}
 use Rattle.paxos_planning.specs.Plan.{send, cast}
 use Rattle.paxos_planning.specs.Proposals.{offer, propose_as, propose, stands, propose_new, propose_each, forwarded, push}
 use Rattle.paxos_planning.specs.Drafting.{listed}
@@ -22,11 +22,11 @@ use Rattle.paxos_planning.specs.Front.{AllStand, IsFront}
 -- none is proposed again
 
 passes_one : {B : Type 0} (same : B → B → Bool) (members me : ℕ) (e : Entry B) (t : Plan B)
-    → stands same (length t.node.applied) t.node.proposer.role e ≡ true → propose_new same members me e t ≡ t
+    → stands same (log_length t.node) t.node.proposer.role e ≡ true → propose_new same members me e t ≡ t
 passes_one {B} same members me e t h = ap (λ (b : Bool). cond b t (propose same members me e t)) h
 
 passes : {B : Type 0} (same : B → B → Bool) (members me : ℕ) (es : List (Entry B)) (t : Plan B)
-    → AllStand same (length t.node.applied) t.node.proposer.role es → propose_each same members me es t ≡ t
+    → AllStand same (log_length t.node) t.node.proposer.role es → propose_each same members me es t ≡ t
 passes same members me [] t h = refl
 passes {B} same members me (e ∷ es) t h =
     ap (λ (u : Plan B). propose_each same members me es u) (passes_one same members me e t h.0) ∙ passes same members me es t h.1
@@ -37,7 +37,7 @@ each_in_turn same members me [] ds t = refl
 each_in_turn same members me (e ∷ es) ds t = each_in_turn same members me es ds (propose_new same members me e t)
 
 pub passes_over : {B : Type 0} (same : B → B → Bool) (members me n : ℕ) (es : List (Entry B)) (t : Plan B)
-    → AllStand same (length t.node.applied) t.node.proposer.role (take n es)
+    → AllStand same (log_length t.node) t.node.proposer.role (take n es)
     → propose_each same members me es t ≡ propose_each same members me (drop n es) t
 passes_over {B} same members me n es t h =
     ap (λ (ds : List (Entry B)). propose_each same members me ds t) (sym (take-append-drop n es))
@@ -63,7 +63,7 @@ all_more same n b next next' vs v (e ∷ es) h = (among_more same n e vs v h.0, 
 
 -- these stand in what is made of a leader so far
 abbrev Stays : {B : Type 0} → (B → B → Bool) → List (Entry B) → Plan B → Type 0
-Stays test es t = is_leading t.node.proposer.role ≡ true → AllStand test (length t.node.applied) t.node.proposer.role es
+Stays test es t = is_leading t.node.proposer.role ≡ true → AllStand test (log_length t.node) t.node.proposer.role es
 
 module _ {B : Type 0} (test same : B → B → Bool) (members me : ℕ) (es : List (Entry B)) where
   proposed_as : (r : Role B) (e : Entry B) (t : Plan B) → r ≡ t.node.proposer.role → Stays test es t → Stays test es (propose_as same members me r e t)
@@ -71,14 +71,14 @@ module _ {B : Type 0} (test same : B → B → Bool) (members me : ℕ) (es : Li
   proposed_as (Preparing b first promises) e t p h = h
   proposed_as (Leading b next vs) e t p h = go (nat_lt next slot_end)
     where
-      here : AllStand test (length t.node.applied) (Leading b next vs) es
-      here = subst (λ (r : Role B). AllStand test (length t.node.applied) r es) (sym p) (h (ap is_leading (sym p)))
+      here : AllStand test (log_length t.node) (Leading b next vs) es
+      here = subst (λ (r : Role B). AllStand test (log_length t.node) r es) (sym p) (h (ap is_leading (sym p)))
 
-      more : AllStand test (length t.node.applied) (Leading b (suc next) (vs ++ next_vote b next e ∷ [])) es
-      more = all_more test (length t.node.applied) b next (suc next) vs (next_vote b next e) es here
+      more : AllStand test (log_length t.node) (Leading b (suc next) (vs ++ next_vote b next e ∷ [])) es
+      more = all_more test (log_length t.node) b next (suc next) vs (next_vote b next e) es here
 
       down : (x : Bool) → is_leading (cond x Idle (Leading b (suc next) (vs ++ next_vote b next e ∷ []))) ≡ true
-          → AllStand test (length t.node.applied) (cond x Idle (Leading b (suc next) (vs ++ next_vote b next e ∷ []))) es
+          → AllStand test (log_length t.node) (cond x Idle (Leading b (suc next) (vs ++ next_vote b next e ∷ []))) es
       down true q = absurd (cc)
       down false q = more
 
@@ -87,7 +87,7 @@ module _ {B : Type 0} (test same : B → B → Bool) (members me : ℕ) (es : Li
       go false = h
 
   proposed_new : (e : Entry B) (t : Plan B) → Stays test es t → Stays test es (propose_new same members me e t)
-  proposed_new e t h = go (stands same (length t.node.applied) t.node.proposer.role e)
+  proposed_new e t h = go (stands same (log_length t.node) t.node.proposer.role e)
     where
       go : (x : Bool) → Stays test es (cond x t (propose same members me e t))
       go true = h
@@ -157,8 +157,8 @@ more_front {B} same ok n m applied r es front more = λ test fine leads.
     (all_alike same test ok fine applied r (take m (drop n es)) more))
 
 pub front_pushed : {B : Type 0} (same : B → B → Bool) (members me n : ℕ) (es : List (Entry B)) (t : Plan B)
-    → IsFront n (length t.node.applied) t.node.proposer.role es
-    → IsFront n (length (push same members me t).node.applied) (push same members me t).node.proposer.role es
+    → IsFront n (log_length t.node) t.node.proposer.role es
+    → IsFront n (log_length (push same members me t).node) (push same members me t).node.proposer.role es
 front_pushed same members me n es t front = λ test fine. pushed test same members me (take n es) t (front test fine)
 
 -- one more stands at the end
@@ -174,7 +174,7 @@ stands_next same applied r (suc i) (d ∷ ds) e l p h k = (h.0, stands_next same
 
 pub pushes_rest : {B : Type 0} (same : B → B → Bool) (members me n : ℕ) (added : Option (Entry B)) (es : List (Entry B)) (t : Plan B)
     → t.node.pending ≡ pending_with added es → is_leading t.node.proposer.role ≡ true
-    → AllStand same (length t.node.applied) t.node.proposer.role (take n es)
+    → AllStand same (log_length t.node) t.node.proposer.role (take n es)
     → propose_each same members me (listed added) (propose_each same members me (drop n es) t) ≡ push same members me t
 pushes_rest {B} same members me n added es t pending leads stand =
     ap (λ (u : Plan B). propose_each same members me (listed added) u) (sym (passes_over same members me n es t stand))

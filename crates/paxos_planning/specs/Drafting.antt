@@ -64,9 +64,9 @@ abbrev pub and_kept : {B : Type 0} → Vote B → Plan B → Plan B
 and_kept v o =
     record o {
       node = record o.node {
-        rows = record { boot = o.node.rows.boot; promised = o.node.rows.promised; votes = put_vote v o.node.rows.votes };
+        rows = record o.node.rows { votes = put_vote v o.node.rows.votes };
       };
-      change = record { promised = o.change.promised; votes = put_vote v o.change.votes };
+      change = record o.change { votes = put_vote v o.change.votes };
     }
 
 -- a ballot of this round came

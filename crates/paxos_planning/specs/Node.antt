@@ -1,5 +1,5 @@
 -- One node between two events, and what an event makes of it (docs/CONSENSUS.md, "One node").
-use Rattle.std.specs.Prelude.{ℕ, Bool, List}
+use Rattle.std.specs.Prelude.{ℕ, Bool, List, length}
 use Rattle.paxos_packets.specs.declared.entry.Entry.{Entry}
 use Rattle.paxos_packets.specs.declared.packet.Packet.{Packet}
 use Rattle.paxos_packets.specs.declared.rows.Change.{Change}
@@ -20,6 +20,10 @@ pub record NodeState (B : Type 0) : Type 0 where
   pub pending : List (Entry B)
   -- how many acts it has taken in its boot
   pub taken : ℕ
+
+-- the length of its log, which is the slot of its last entry
+abbrev pub log_length : {B : Type 0} → NodeState B → ℕ
+log_length x = length x.applied
 
 -- what an event makes of a node, so far or at its end; no code makes one
 pub record Plan (B : Type 0) : Type 0 where

@@ -8,7 +8,8 @@ use Rattle.paxos_packets.specs.declared.vote.Vote.{Vote}
 use Rattle.paxos_packets.specs.declared.packet.Kind.TheVariants.{Accepted}
 use Rattle.paxos_packets.specs.declared.packet.Packet.{Packet}
 use Rattle.paxos_packets.specs.declared.rows.Change.{Change}
-use Rattle.paxos_acceptor.specs.Acceptor.{with_promise, with_vote, no_change}
+use Rattle.paxos_packets.specs.Rows.{no_change}
+use Rattle.paxos_acceptor.specs.Acceptor.{with_promise, with_vote}
 use Rattle.paxos_proposer.specs.Role.{Role}
 use Rattle.paxos_proposer.specs.Proposer.{step_down}
 use Rattle.paxos_learner.specs.Learner.{LearnerState}
@@ -48,10 +49,10 @@ send packets o = record o { packets = o.packets ++ packets }
 
 -- what is committed with what the event commits already
 abbrev pub and_promise : {B : Type 0} → Ballot → Change B → Change B
-and_promise b c = record { promised = Some b; votes = c.votes }
+and_promise b c = record c { promised = Some b }
 
 abbrev pub and_vote : {B : Type 0} → Vote B → Change B → Change B
-and_vote v c = record { promised = Some v.ballot; votes = put_vote v c.votes }
+and_vote v c = record c { promised = Some v.ballot; votes = put_vote v c.votes }
 
 abbrev pub promise : {B : Type 0} → Ballot → Plan B → Plan B
 promise b o = record o { node = promised_at b o.node; change = and_promise b o.change }

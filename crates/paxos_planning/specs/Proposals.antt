@@ -1,6 +1,6 @@
 -- What a node proposes: what a majority's promises call for, what is pending, and what is forwarded to it (docs/CONSENSUS.md, "Events":
 -- Propose and Push; Lamport 2001, section 3).
-use Rattle.std.specs.Prelude.{ℕ, Bool, false, ◌&&◌, nat_lt, ◌==◌, Option, Some, None, List, [], ◌∷◌, ◌++◌, take, length, fold}
+use Rattle.std.specs.Prelude.{ℕ, Bool, false, ◌&&◌, nat_lt, ◌==◌, Option, Some, None, List, [], ◌∷◌, ◌++◌, take, fold}
 use Rattle.std.specs.Prelude.{if◌then◌else◌}
 use Rattle.std.specs.List.{list_any}
 use Rattle.paxos_packets.specs.Entry.{same_entry}
@@ -13,7 +13,7 @@ use Rattle.paxos_packets.specs.declared.packet.Packet.{Packet}
 use Rattle.paxos_proposer.specs.Role.{Role, Idle, Preparing, Leading}
 use Rattle.paxos_proposer.specs.Proposer.{slot_end, next_vote, offered, is_leading}
 use Rattle.paxos_proposer.specs.Reports.{called_for}
-use Rattle.paxos_planning.specs.Node.{Plan}
+use Rattle.paxos_planning.specs.Node.{Plan, log_length}
 use Rattle.paxos_planning.specs.Plan.{with_role, send, cast}
 
 -- the entry is proposed to the others in the leader's next slot
@@ -51,7 +51,7 @@ stands same applied (Leading b next proposed) e = list_any (λ v. nat_lt applied
 
 abbrev pub propose_new : {B : Type 0} → (B → B → Bool) → ℕ → ℕ → Entry B → Plan B → Plan B
 propose_new same members me e o =
-    if stands same (length o.node.applied) o.node.proposer.role e then o
+    if stands same (log_length o.node) o.node.proposer.role e then o
     else propose same members me e o
 
 abbrev pub propose_each : {B : Type 0} → (B → B → Bool) → ℕ → ℕ → List (Entry B) → Plan B → Plan B

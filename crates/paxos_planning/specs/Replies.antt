@@ -1,5 +1,5 @@
 -- What a packet brings about at its addressee (docs/CONSENSUS.md, "Packets"; Lamport 2001, section 2.2).
-use Rattle.std.specs.Prelude.{ℕ, ◌+◌, max, Bool, false, not, ◌&&◌, nat_lt, nat_le, List, [], ◌∷◌, ◌++◌, length, if◌then◌else◌}
+use Rattle.std.specs.Prelude.{ℕ, ◌+◌, max, Bool, false, not, ◌&&◌, nat_lt, nat_le, List, [], ◌∷◌, ◌++◌, if◌then◌else◌}
 use Rattle.std.specs.List.{flat_map}
 use Rattle.paxos_packets.specs.Members.{is_majority}
 use Rattle.paxos_packets.specs.Vote.{votes_from}
@@ -19,7 +19,7 @@ use Rattle.paxos_proposer.specs.Proposer.{nacked, is_leading}
 use Rattle.paxos_proposer.specs.Reports.{is_counted, reports}
 use Rattle.paxos_learner.specs.declared.learned.LearnedEntry.{LearnedEntry}
 use Rattle.paxos_learner.specs.Learner.{disagrees, vote_disagrees}
-use Rattle.paxos_planning.specs.Node.{NodeState, Plan}
+use Rattle.paxos_planning.specs.Node.{NodeState, Plan, log_length}
 use Rattle.paxos_planning.specs.Plan.{with_role, send, promise, count, hear_learned, cast}
 use Rattle.paxos_planning.specs.Proposals.{lead, propose_each, push}
 use Rattle.paxos_planning.specs.Walking.{proposes_other, promise_other}
@@ -103,6 +103,6 @@ brings_other same members me sender (Accept v) x = may_accept x.rows.promised v.
 brings_other same members me sender (Accepted v) x = vote_disagrees same members sender v x.learner
 brings_other same members me sender (Nack b p) x = false
 brings_other same members me sender (Forward es) x =
-    proposes_other same members me (length x.applied) x.learner x.proposer.role es
+    proposes_other same members me (log_length x) x.learner x.proposer.role es
 brings_other same members me sender (Learned s e) x = disagrees same s e x.learner
 brings_other same members me sender (Ask first) x = false

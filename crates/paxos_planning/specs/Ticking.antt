@@ -1,5 +1,5 @@
 -- Tick: what waits for an answer is sent again, and what a node lacks is asked for (docs/CONSENSUS.md, "Events").
-use Rattle.std.specs.Prelude.{ℕ, suc, Bool, not, List, [], map, filter, length, if◌then◌else◌}
+use Rattle.std.specs.Prelude.{ℕ, suc, Bool, not, List, [], map, filter, if◌then◌else◌}
 use Rattle.std.specs.List.{flat_map}
 use Rattle.paxos_packets.specs.Members.{others}
 use Rattle.paxos_packets.specs.Packet.{packet, to_others}
@@ -10,7 +10,7 @@ use Rattle.paxos_proposer.specs.Role.{Role, Idle, Preparing, Leading}
 use Rattle.paxos_proposer.specs.Reports.{is_counted}
 use Rattle.paxos_learner.specs.declared.learned.LearnedEntry.{LearnedEntry}
 use Rattle.paxos_learner.specs.Learner.{is_learned}
-use Rattle.paxos_planning.specs.Node.{Plan}
+use Rattle.paxos_planning.specs.Node.{Plan, log_length}
 use Rattle.paxos_planning.specs.Plan.{send}
 use Rattle.paxos_planning.specs.Proposals.{push}
 
@@ -27,7 +27,7 @@ again members me (Leading b next proposed) learned = accepts_again members me le
 
 -- it asks the others for the slots that it lacks
 abbrev pub ask : {B : Type 0} → ℕ → ℕ → Plan B → Plan B
-ask members me o = send (to_others members me (Ask (suc (length o.node.applied)))) o
+ask members me o = send (to_others members me (Ask (suc (log_length o.node)))) o
 
 abbrev pub on_tick : {B : Type 0} → (B → B → Bool) → ℕ → ℕ → Plan B → Plan B
 on_tick same members me o = ask members me (push same members me (send (again members me o.node.proposer.role o.node.learner.learned) o))

@@ -1,7 +1,7 @@
 -- Whether the votes that a leader would cast in an event disagree with what was learned, stated without what it proposes: its entries are gone
 -- through in order, each with the slot that it would have.
 use denote.Ref.{Bor}
-use Rattle.std.specs.Prelude.{◌≡◌, ◌≤◌, length, ℕ, suc, Bool, false, not, ◌&&◌, ◌||◌, nat_lt, nat_le, Option, Some, None, List, [], ◌∷◌, ◌++◌, drop, if◌then◌else◌}
+use Rattle.std.specs.Prelude.{◌≡◌, ◌≤◌, ℕ, suc, Bool, false, not, ◌&&◌, ◌||◌, nat_lt, nat_le, Option, Some, None, List, [], ◌∷◌, ◌++◌, drop, if◌then◌else◌}
 use Rattle.std.specs.List.{list_any}
 use Rattle.paxos_packets.specs.Entry.{same_entry}
 use Rattle.paxos_packets.specs.declared.ballot.Ballot.{Ballot}
@@ -18,7 +18,7 @@ use Rattle.paxos_planning.specs.declared.walking.Earlier.{Earlier}
 use Rattle.paxos_planning.specs.declared.walking.Earlier.TheVariants.{Proposed, Called}
 use Rattle.paxos_proposer.specs.Promises.{called_by}
 use Rattle.paxos_proposer.specs.Reports.{called_for}
-use Rattle.paxos_planning.specs.Node.{NodeState}
+use Rattle.paxos_planning.specs.Node.{NodeState, log_length}
 use Rattle.paxos_planning.specs.declared.walking.Walk.{Walk}
 use Rattle.paxos_planning.specs.declared.wanted.Wanted.{Wanted}
 use Rattle.paxos_planning.specs.declared.wanted.Wanted.TheVariants.{Held, Noop, Item}
@@ -111,7 +111,7 @@ called_of same members me applied l pending (Leading b next proposed) (Some call
 
 abbrev pub promise_other : {B : Type 0} → (B → B → Bool) → ℕ → ℕ → ℕ → Ballot → List (Vote B) → NodeState B → Bool
 promise_other same members me sender b votes x =
-    called_of same members me (length x.applied) x.learner x.pending x.proposer.role (called_by members sender b votes x.proposer.role)
+    called_of same members me (log_length x) x.learner x.pending x.proposer.role (called_by members sender b votes x.proposer.role)
 
 -- what was proposed before the entries that are gone through
 abbrev pub votes_of : {B : Type 0} → Earlier B → List (Vote B)
@@ -127,9 +127,9 @@ goes_from same w lead es =
 
 abbrev pub Leads : {B : Type 0} → (B → B → Bool) → Whole B → Option (Lead B) → Type 0
 Leads {B} same w None = (es : List (Entry B))
-    → proposes_other same w.members w.me (length w.state.applied) w.state.learner w.state.proposer.role es ≡ false
+    → proposes_other same w.members w.me (log_length w.state) w.state.learner w.state.proposer.role es ≡ false
 Leads {B} same w (Some lead) = (1 ≤ lead.next) × ((es : List (Entry B))
-    → proposes_other same w.members w.me (length w.state.applied) w.state.learner w.state.proposer.role es
+    → proposes_other same w.members w.me (log_length w.state) w.state.learner w.state.proposer.role es
     ≡ (goes_from same w lead es).other)
 
 abbrev pub LeadsBy : {B : Type 0} → (B → B → Bool) → Whole B → ℕ → Ballot → List (Vote B) → Option (Lead B) → Type 0

@@ -10,6 +10,7 @@ ghost use Rattle.paxos_learner.specs.Learner.{run_from, learn, count_vote, disag
 ghost use Rattle.paxos_acceptor.specs.Acceptor.{may_promise, may_accept};
 ghost use Rattle.paxos_proposer.specs.Moves.{ArePossible};
 ghost use Rattle.paxos_proposer.specs.Proposer.{is_leading};
+ghost use Rattle.paxos_planning.specs.Node.{log_length};
 ghost use Rattle.paxos_planning.specs.Parts.{proposer_of, learner_of};
 ghost use Rattle.paxos_planning.specs.Drafting.{known, with_pending_entry, and_kept, plan_with_effects};
 ghost use Rattle.paxos_planning.specs.Plan.{begun, send, promise, vote, count, hear_learned, cast};
@@ -83,10 +84,7 @@ impl<'a, B> Draft<'a, B> {
             alloc,
             node,
             added,
-            change: Change {
-                promised: None,
-                votes: Votes::new(alloc),
-            },
+            change: Change::none(alloc),
             packets: Vec::new(alloc),
             proposing,
             hearing,
@@ -129,8 +127,8 @@ impl<'a, B> Draft<'a, B> {
 
     /// Returns how many entries are applied.
     pub fn applied(&self) -> u64
-        ensures length { result ≡ length self.now.of.state.applied }
-        ensures plan { result ≡ length self.now.plan.node.applied }
+        ensures length { result ≡ log_length self.now.of.state }
+        ensures plan { result ≡ log_length self.now.plan.node }
         ensures within { result < 2 ^ 40 }
     {
         self.node.applied()
@@ -194,7 +192,7 @@ impl<'a, B: Drop> Draft<'a, B> {
 impl<'a, B: Body> Draft<'a, B> {
     /// Copies what would be learned after its log, up to the first slot that would have nothing.
     pub fn run(&self) -> Result<Entries<B>, Memory>
-        ensures { IfOk result (λ run. run ≡ run_from (suc (length self.now.of.state.applied)) self.now.plan.node.learner.learned) }
+        ensures { IfOk result (λ run. run ≡ run_from (suc (log_length self.now.of.state)) self.now.plan.node.learner.learned) }
     {
         let Ok(run) = self.hearing.run_after(self.node.applied()) else {
             return Err(Memory);

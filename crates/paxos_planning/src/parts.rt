@@ -1,6 +1,7 @@
 ghost use Rattle.std.specs.Prelude.{◌≡◌, ◌<◌, ◌^◌, [], length, IfOk};
 ghost use Rattle.paxos_learner.specs.Learned.{Begins};
 ghost use Rattle.paxos_packets.specs.Vote.{votes_from};
+ghost use Rattle.paxos_planning.specs.Node.{log_length};
 ghost use Rattle.paxos_planning.specs.Parts.{proposer_of, learner_of, first_learned, whole};
 ghost use Rattle.paxos_planning.specs.Replies.{brings_other};
 
@@ -132,7 +133,7 @@ impl<'a, B> Parts<'a, B> {
 
     // Returns how many entries it has applied.
     pub(crate) fn applied(&self) -> u64
-        ensures length { result ≡ length self.now.state.applied }
+        ensures length { result ≡ log_length self.now.state }
         ensures within { result < 2 ^ 40 }
     {
         self.applied as u64

@@ -5,6 +5,7 @@ ghost use Rattle.std.specs.Prelude.{◌≡◌, ◌≤◌, drop, ◌∷◌, [], �
 ghost use Rattle.paxos_packets.specs.Packet.{to_others};
 ghost use Rattle.paxos_proposer.specs.Proposer.{submitted};
 ghost use Rattle.paxos_proposer.specs.Proposing.{offer_of};
+ghost use Rattle.paxos_planning.specs.Node.{log_length};
 ghost use Rattle.paxos_planning.specs.Parts.{pending_with};
 ghost use Rattle.paxos_planning.specs.Drafting.{in_role, listed};
 ghost use Rattle.paxos_planning.specs.Front.{AllStand, FrontOf};
@@ -119,7 +120,7 @@ impl<'a, B: Body> Draft<'a, B> {
 
     // Returns how many of the entries stand, up to the first that does not.
     fn count_standing(&self, entries: &[Entry<B>]) -> usize
-        ensures stand { AllStand B.same (length self.now.plan.node.applied) self.now.plan.node.proposer.role (take result entries.now) }
+        ensures stand { AllStand B.same (log_length self.now.plan.node) self.now.plan.node.proposer.role (take result entries.now) }
         ensures most { result ≤ length entries.now }
     {
         let mut count = 0;
@@ -183,7 +184,7 @@ impl<'a, B: Body> Draft<'a, B> {
 
     // Returns whether the entry stands.
     fn stands(&self, entry: &Entry<B>) -> bool
-        ensures { result ≡ stands B.same (length self.now.plan.node.applied) self.now.plan.node.proposer.role entry.now }
+        ensures { result ≡ stands B.same (log_length self.now.plan.node) self.now.plan.node.proposer.role entry.now }
     {
         self.proposing.stands(self.node.applied(), entry)
     }

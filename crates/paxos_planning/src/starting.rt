@@ -1,7 +1,8 @@
 //! A ballot that begins.
 
-ghost use Rattle.std.specs.Prelude.{◌≡◌, ◌≤◌, suc, false, [], length, true, OnOk};
+ghost use Rattle.std.specs.Prelude.{◌≡◌, ◌≤◌, suc, false, [], true, OnOk};
 ghost use Rattle.paxos_proposer.specs.Proposer.{is_spent, new_ballot, round_of};
+ghost use Rattle.paxos_planning.specs.Node.{log_length};
 ghost use Rattle.paxos_planning.specs.Drafting.{next_own, with_prepared, committing};
 ghost use Rattle.paxos_planning.specs.Starting.{begin, starts};
 
@@ -26,7 +27,7 @@ impl<'a, B: Body> Draft<'a, B> {
         ensures of { self.new.of ≡ self.old.of }
         ensures plan { OnOk result (self.new.plan ≡ begin self.old.of.members self.old.of.me
             (new_ballot self.old.of.me self.old.plan.node.rows.promised self.old.plan.node.proposer)
-            (suc (length self.old.plan.node.applied)) self.old.plan) }
+            (suc (log_length self.old.plan.node)) self.old.plan) }
     {
         self.saw(round_of(self.promised()))?;
         let Some(ballot) = self.next_ballot() else {

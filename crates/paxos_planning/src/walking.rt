@@ -7,6 +7,7 @@ ghost use Rattle.std.specs.List.{list_any};
 ghost use Rattle.paxos_packets.specs.Entry.{same_entry};
 ghost use Rattle.paxos_proposer.specs.Proposals.{stands_among};
 ghost use Rattle.paxos_proposer.specs.Reports.{called_for, entry_or_noop, best};
+ghost use Rattle.paxos_planning.specs.Node.{log_length};
 ghost use Rattle.paxos_planning.specs.Walking.{entry_of, called_entry, walked_through, proposes_then, differs, walk_on, walk_all, walk_from};
 ghost use Rattle.paxos_planning.specs.Walking.{proposes_other, promise_other, called_votes, called_other, votes_of, Leads, LeadsBy};
 
@@ -51,7 +52,7 @@ impl<'a, B: Body> Parts<'a, B> {
     /// Returns whether a vote that the node would cast as a leader for one of these entries disagrees with what was learned. Does not
     /// allocate.
     pub fn proposes_other(&self, entries: &[Entry<B>]) -> bool
-        ensures { result ≡ proposes_other B.same self.now.members self.now.me (length self.now.state.applied) self.now.state.learner
+        ensures { result ≡ proposes_other B.same self.now.members self.now.me (log_length self.now.state) self.now.state.learner
             self.now.state.proposer.role entries.now }
     {
         let Some(lead) = self.leads() else {
@@ -62,7 +63,7 @@ impl<'a, B: Body> Parts<'a, B> {
 
     /// Returns what `proposes_other` does of these entries and one more after them.
     pub fn proposes_other_then(&self, entries: &[Entry<B>], added: &Wanted<'_, B>) -> bool
-        ensures { result ≡ proposes_other B.same self.now.members self.now.me (length self.now.state.applied) self.now.state.learner
+        ensures { result ≡ proposes_other B.same self.now.members self.now.me (log_length self.now.state) self.now.state.learner
             self.now.state.proposer.role (entries.now ++ entry_of added.now ∷ []) }
     {
         let Some(lead) = self.leads() else {

@@ -6,7 +6,7 @@ ghost use Rattle.store_keeper.specs.Memory.{Commits, BootsIn, Loads};
 
 use crate::fault::KeeperFault;
 use crate::keeper::Keeper;
-use paxos_packets::{Body, Change, Memory, Rows, Votes};
+use paxos_packets::{Body, Change, Memory, Rows};
 use std::alloc::Global;
 use std::marker::Model;
 
@@ -62,11 +62,7 @@ impl<B> MemKeeper<B> {
     {
         MemKeeper {
             alloc,
-            rows: Rows {
-                boot: 0,
-                promised: None,
-                votes: Votes::new(alloc),
-            },
+            rows: Rows::bare(alloc, 0),
             left: k,
             keeps: after,
             failed: false,

@@ -6,7 +6,7 @@ use Rattle.paxos_packets.specs.declared.vote.Vote.{Vote}
 use Rattle.paxos_proposer.specs.Proposals.{behind, AreInSlots}
 use Rattle.paxos_proposer.specs.Proposing.{proposals_of}
 use Rattle.paxos_proposer.specs.State as proposing
-use Rattle.paxos_planning.specs.Node.{NodeState}
+use Rattle.paxos_planning.specs.Node.{NodeState, log_length}
 use Rattle.paxos_planning.specs.Parts.{learner_of}
 use Rattle.paxos_planning.specs.Drafting.{asked_again}
 use Rattle.paxos_planning.specs.Ticking.{accepts_again}
@@ -20,7 +20,7 @@ returns g c =
     let x : NodeState g.row.B.Denot = c.args.node.now.state in
     let proposed : List (Vote g.row.B.Denot) = proposals_of x.proposer.role in
     let learned : c.learner.result.now.state ≡ learner_of members x = c.learner.ensures in
-    let votes : c.proposed_after-votes.result.now ≡ behind (length x.applied) proposed =
+    let votes : c.proposed_after-votes.result.now ≡ behind (log_length x) proposed =
     c.proposed_after-votes.ensures.behind ∙ (λ i. behind (c.applied.ensures.length i) (proposals_of (c.proposer.ensures i).proposer.role)) in
     let own : c.me-me.result ≡ me = c.me-me.ensures in
     let rest : c.as_slice.result.now ≡ others me members = search rules in
@@ -29,9 +29,9 @@ returns g c =
     let asked : List (Packet g.row.B.Denot) = flat_map (asked_again c.me-me.result c.as_slice.result.now c.learner.result.now.state.learner.learned)
     c.proposed_after-votes.result.now in
     let put : c.put_accepts.new.packets.items ≡ c.args.packets.now.items ++ asked = c.in_ok-put_accepts.ensures.ok in
-    let same : asked ≡ flat_map (asked_again me (others me members) x.learner.learned) (behind (length x.applied) proposed) =
+    let same : asked ≡ flat_map (asked_again me (others me members) x.learner.learned) (behind (log_length x) proposed) =
     (λ i. flat_map (asked_again (own i) (rest i) (learned i).learner.learned) (votes i)) in
-    let all : flat_map (asked_again me (others me members) x.learner.learned) (behind (length x.applied) proposed) ≡ accepts_again members me x.learner.learned proposed =
+    let all : flat_map (asked_again me (others me members) x.learner.learned) (behind (log_length x) proposed) ≡ accepts_again members me x.learner.learned proposed =
     passes_over me members x.applied x.learner.learned proposed c.begins.ensures slots in
     let whole : asked ≡ accepts_again members me x.learner.learned proposed = same ∙ all in
     record { ok = put ∙ ap (λ (ps : List (Packet g.row.B.Denot)). c.args.packets.now.items ++ ps) whole }

@@ -1,5 +1,6 @@
-use Rattle.std.proofs.Common.{◌≡◌, ℕ, suc, true, ◌+◌, List, length, take, sym, ◌∙◌, subst, arith}
+use Rattle.std.proofs.Common.{◌≡◌, ℕ, suc, true, ◌+◌, List, take, sym, ◌∙◌, subst, arith}
 use Rattle.paxos_packets.specs.declared.entry.Entry.{Entry}
+use Rattle.paxos_planning.specs.Node.{log_length}
 use Rattle.paxos_planning.specs.Drafting.{Drafted}
 use Rattle.paxos_planning.specs.Front.{AllStand}
 use Rattle.paxos_planning.specs.Proposals.{stands}
@@ -13,12 +14,12 @@ loop-entry-preserved g c =
     let i : ℕ = c.loop-entry.entry-index in
     let so_far : c.loop-entry.count ≡ i = c.loop-entry.invariant.1 in
     let one : suc i ≡ c.loop-entry.count + 1 = omega arith in
-    let stood : AllStand g.B.Body.same (length d.plan.node.applied) d.plan.node.proposer.role (take i es) =
-    subst (λ (n : ℕ). AllStand g.B.Body.same (length d.plan.node.applied) d.plan.node.proposer.role (take n es)) so_far c.loop-entry.invariant.0 in
-    let now : stands g.B.Body.same (length d.plan.node.applied) d.plan.node.proposer.role c.entry-item.result ≡ true =
+    let stood : AllStand g.B.Body.same (log_length d.plan.node) d.plan.node.proposer.role (take i es) =
+    subst (λ (n : ℕ). AllStand g.B.Body.same (log_length d.plan.node) d.plan.node.proposer.role (take n es)) so_far c.loop-entry.invariant.0 in
+    let now : stands g.B.Body.same (log_length d.plan.node) d.plan.node.proposer.role c.entry-item.result ≡ true =
     sym c.stands.ensures ∙ c.if-not-stands.false in
-    let all : AllStand g.B.Body.same (length d.plan.node.applied) d.plan.node.proposer.role (take (suc i) es) =
-    stands_next g.B.Body.same (length d.plan.node.applied) d.plan.node.proposer.role i es c.entry-item.result c.loop-entry-test.true c.entry-item.is stood now in (
-      subst (λ (n : ℕ). AllStand g.B.Body.same (length d.plan.node.applied) d.plan.node.proposer.role (take n es)) one all,
+    let all : AllStand g.B.Body.same (log_length d.plan.node) d.plan.node.proposer.role (take (suc i) es) =
+    stands_next g.B.Body.same (log_length d.plan.node) d.plan.node.proposer.role i es c.entry-item.result c.loop-entry-test.true c.entry-item.is stood now in (
+      subst (λ (n : ℕ). AllStand g.B.Body.same (log_length d.plan.node) d.plan.node.proposer.role (take n es)) one all,
       omega arith,
     )

@@ -1,8 +1,8 @@
-use Rattle.std.proofs.Common.{◌≡◌, true, length, drop, sym, ap, ◌∙◌, subst}
+use Rattle.std.proofs.Common.{◌≡◌, true, drop, sym, ap, ◌∙◌, subst}
 use Rattle.paxos_packets.specs.Body.{IsEquality}
 use Rattle.paxos_proposer.specs.Proposer.{is_leading}
 use Rattle.paxos_planning.specs.Drafting.{Drafted, Known, listed}
-use Rattle.paxos_planning.specs.Node.{Plan}
+use Rattle.paxos_planning.specs.Node.{Plan, log_length}
 use Rattle.paxos_planning.specs.Front.{IsFront}
 use Rattle.paxos_planning.specs.Proposals.{propose_each, push}
 use Rattle.paxos_planning.proofs.Standing.{front_pushed, pushes_rest}
@@ -31,9 +31,9 @@ returns-clause-front g c =
     let new : Drafted g.row.B.Denot = c.propose_added.new.self in
     let of : new.of ≡ d.of = c.in_ok-propose_added.ensures.of ∙ c.in_ok-propose_each.ensures.of in
     let plan : new.plan ≡ push g.B.Body.same d.of.members d.of.me d.plan = returns-clause-plan g c in
-    let pushed : IsFront c.args.front (length (push g.B.Body.same d.of.members d.of.me d.plan).node.applied)
+    let pushed : IsFront c.args.front (log_length (push g.B.Body.same d.of.members d.of.me d.plan).node)
     (push g.B.Body.same d.of.members d.of.me d.plan).node.proposer.role d.of.state.pending =
     front_pushed g.B.Body.same d.of.members d.of.me c.args.front d.of.state.pending d.plan c.requires in
-    subst (λ (t : Plan g.row.B.Denot). IsFront c.args.front (length t.node.applied) t.node.proposer.role new.of.state.pending) (sym plan)
-    (subst (λ (k : Known g.row.B.Denot). IsFront c.args.front (length (push g.B.Body.same d.of.members d.of.me d.plan).node.applied)
+    subst (λ (t : Plan g.row.B.Denot). IsFront c.args.front (log_length t.node) t.node.proposer.role new.of.state.pending) (sym plan)
+    (subst (λ (k : Known g.row.B.Denot). IsFront c.args.front (log_length (push g.B.Body.same d.of.members d.of.me d.plan).node)
     (push g.B.Body.same d.of.members d.of.me d.plan).node.proposer.role k.state.pending) (sym of) pushed)
