@@ -34,7 +34,7 @@ founded_stores {B} reading db is = record {
   sound = is.sound;
   has = record {
     meta = (_, is.meta, refl);
-    votes = subst (λ tree. AreVotes reading None tree []) (sym is.votes) (record { each = tt; all = tt; once = tt; promised_all = tt; ascend = tt });
+    votes = subst (λ tree. AreVotes reading None tree []) (sym is.empty.0) (record { each = tt; all = tt; once = tt; promised_all = tt; ascend = tt });
   };
 }
 

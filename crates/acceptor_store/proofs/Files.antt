@@ -21,17 +21,17 @@ use Rattle.sqlite.proofs.Theorems.{next_run}
 use Rattle.paxos_packets.specs.declared.rows.Rows.{Rows}
 use Rattle.command_codec.specs.Number.{Reading}
 use Rattle.store_keeper.specs.Keeper.{no_rows}
-use Rattle.acceptor_store.specs.Tables.{store_schema, empty_schema}
+use Rattle.acceptor_store.specs.Tables.{empty_schema}
 use Rattle.acceptor_store.specs.Store.{Kept, Stores, Holds}
 use Rattle.acceptor_store.specs.Files.{HoldsImage}
 use Rattle.acceptor_store.proofs.Calling.{earlier}
 
 -- what each database that a crash leaves is, so is the one that is found
-pub found_left : {D : Type 0} {g : Ghosts D} (it : FileStore D g) (P : Trees → Type 0) → IsTrue (files.view it).is_numbered
-    → ((trees : Trees) → files.recovers it trees → IsSound store_schema trees × P trees)
+pub found_left : {D : Type 0} {g : Ghosts D} (it : FileStore D g) (known : Schema) (P : Trees → Type 0) → IsTrue (files.view it).is_numbered
+    → ((trees : Trees) → files.recovers it trees → IsSound known trees × P trees)
     → (left : Image) → (files.state it).may_leave left → (opened : State) → FindsIn left opened → ∥ P opened.committed.trees ∥₁
-found_left it P numbered made left may opened found =
-    ∥∥₁_map (next_run it numbered (λ trees r. (store_schema, (made trees r).0)) left may opened found) (λ r. (made opened.committed.trees r).1)
+found_left it known P numbered made left may opened found =
+    ∥∥₁_map (next_run it numbered (λ trees r. (known, (made trees r).0)) left may opened found) (λ r. (made opened.committed.trees r).1)
 
 zip_nil : {A C : Type 0} (P : A → C → Type 0) (ys : List C) → AllZip P [] ys → ys ≡ []
 zip_nil P [] h = refl

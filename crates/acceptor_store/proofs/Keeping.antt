@@ -1,9 +1,8 @@
 -- What a keeper holds and finds, over the calls of its connection.
-use Rattle.std.proofs.Common.{◌≡◌, ◌⊎◌, inl, inr, ⊎_elim, ℕ, zero, suc, length, drop, ◌+◌, ◌≤◌, not, ◌||◌, Bool, true, false, cond, List, [], ◌∷◌, map, Option, Some, None, Ok, refl, ap, sym, ◌∙◌, subst, arith, IsTrue, nat_lt}
-use Rattle.std.specs.Prelude.{IsPermutation, ◌&&◌, ◌==◌}
+use Rattle.std.proofs.Common.{◌≡◌, ◌⊎◌, inl, inr, ⊎_elim, ℕ, zero, suc, length, drop, ◌+◌, ◌≤◌, not, ◌||◌, Bool, true, false, cond, List, [], ◌∷◌, Option, Some, None, Ok, refl, ap, sym, ◌∙◌, subst, arith, IsTrue, nat_lt}
+use Rattle.std.specs.Prelude.{◌&&◌, ◌==◌}
 use Rattle.std.specs.Option.{option_or}
 use Rattle.std.proofs.lemmas.Bool.Decides.{nat_tests}
-use Rattle.sqlite_value.specs.Order.{Row}
 use Rattle.sqlite_trees.specs.Tree.{Trees}
 use Rattle.sqlite_catalog.specs.Listing.{IsSound}
 use Rattle.sqlite_catalog.proofs.ReadLemmas.{lists_once}
@@ -17,8 +16,9 @@ use Rattle.paxos_packets.specs.declared.ballot.Ballot.{Ballot}
 use Rattle.paxos_packets.specs.declared.vote.Vote.{Vote}
 use Rattle.paxos_packets.specs.declared.rows.Rows.{Rows}
 use Rattle.command_codec.specs.Number.{Reading}
-use Rattle.acceptor_store.specs.Tables.{store_schema, meta_columns, vote_columns}
-use Rattle.store_rows.specs.Rows.{is_promised, rows_of}
+use Rattle.acceptor_store.specs.Tables.{store_schema}
+use Rattle.acceptor_store.specs.Statements.{AreShown}
+use Rattle.store_rows.specs.Rows.{is_promised, TableRows, rows_of}
 use Rattle.acceptor_store.specs.Store.{StandsFor, Stores, Reads, Leaves, GoesOn, NotLowered}
 use Rattle.store_rows.specs.Changes.{is_placed, is_lower, promise_after}
 use Rattle.store_rows.specs.Numbers.{is_ballot}
@@ -54,21 +54,19 @@ module _ {B : Type 0} (reading : List ℕ → Reading B) where
   reads_left s rows crash stores trees may = subst (λ t. Stores reading t rows) (sym (crash trees may)) stores
 
   -- rows that were read are stored
-  pub read_stores : (s : State) (metas votes : List Row) (rows : Rows B) → IsLive s → IsTrue s.is_open → s.now ≡ s.committed → s.now.schema ≡ store_schema
-      → IsPermutation (map meta_columns (s.now.trees 0)) metas → IsPermutation (map vote_columns (s.now.trees 1)) votes → rows_of reading metas votes ≡ Ok rows
-      → Stores reading s.committed.trees rows
-  read_stores s metas votes rows live is_open settled has m v h = record {
+  pub read_stores : (s : State) (shown : TableRows) (rows : Rows B) → IsLive s → IsTrue s.is_open → s.now ≡ s.committed → s.now.schema ≡ store_schema
+      → AreShown s.now.trees shown → rows_of reading shown ≡ Ok rows → Stores reading s.committed.trees rows
+  read_stores s shown rows live is_open settled has are h = record {
     sound = subst (λ (d : Database). IsSound store_schema d.trees) settled (subst (λ (t : Schema). IsSound t s.now.trees) has (live is_open).0);
-    has = subst (λ (d : Database). StandsFor reading d.trees rows) settled (stands reading s.now.trees metas votes m v rows h);
+    has = subst (λ (d : Database). StandsFor reading d.trees rows) settled (stands reading s.now.trees shown are rows h);
   }
 
   -- and they are those that are left
-  pub read_right : (s : State) (metas votes : List Row) (rows others : Rows B) → s.now ≡ s.committed → s.may_leave s.committed.trees
-      → IsPermutation (map meta_columns (s.now.trees 0)) metas → IsPermutation (map vote_columns (s.now.trees 1)) votes → rows_of reading metas votes ≡ Ok rows
-      → Leaves reading s others → rows ≡ others
-  read_right s metas votes rows others settled stays m v h left =
+  pub read_right : (s : State) (shown : TableRows) (rows others : Rows B) → s.now ≡ s.committed → s.may_leave s.committed.trees
+      → AreShown s.now.trees shown → rows_of reading shown ≡ Ok rows → Leaves reading s others → rows ≡ others
+  read_right s shown rows others settled stays are h left =
       let has : StandsFor reading s.now.trees others = subst (λ (d : Database). StandsFor reading d.trees others) (sym settled) (left s.committed.trees stays).has in
-      stands_once reading s.now.trees others rows has (stands reading s.now.trees metas votes m v rows h)
+      stands_once reading s.now.trees others rows has (stands reading s.now.trees shown are rows h)
 
 -- a promise that is taken over is not lower
 

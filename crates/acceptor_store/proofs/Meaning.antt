@@ -18,7 +18,8 @@ use Rattle.command_codec.specs.Number.{Reading}
 use Rattle.store_keeper.specs.declared.fault.KeeperFault.{KeeperFault}
 use Rattle.store_rows.specs.declared.rows.Numbers.{Numbers}
 use Rattle.acceptor_store.specs.Tables.{meta_columns, vote_columns}
-use Rattle.store_rows.specs.Rows.{vote_of, is_promised, with_row, votes_after, numbers_in, rows_of, rows_with, with_votes, or_damaged}
+use Rattle.store_rows.specs.Rows.{vote_of, is_promised, with_row, votes_after, numbers_in, TableRows, rows_of, rows_with, with_votes, or_damaged}
+use Rattle.acceptor_store.specs.Statements.{AreShown}
 use Rattle.acceptor_store.specs.Store.{AscendFrom, key_of, AreVotes, HasNumbers, StandsFor}
 use Rattle.store_rows.specs.Numbers.{numbers_in_rows}
 use Rattle.acceptor_store.specs.Once.{all_has, votes_once}
@@ -190,28 +191,29 @@ numbers_loaded tree rows numbers same (row, is, h) =
     let one = one_permutation (meta_columns row) rows (subst (λ ts. IsPermutation (map meta_columns ts) rows) is same) in
     rw one h
 
--- both tables
+-- the tables
 
-module _ {B : Type 0} (reading : List ℕ → Reading B) (trees : Trees) (metas votes : List Row)
-    (same_metas : IsPermutation (map meta_columns (trees 0)) metas) (same_votes : IsPermutation (map vote_columns (trees 1)) votes) where
-  pub stands : (rows : Rows B) → rows_of reading metas votes ≡ Ok rows → StandsFor reading trees rows
-  stands rows h = go (numbers_in metas) refl h
+module _ {B : Type 0} (reading : List ℕ → Reading B) (trees : Trees) (shown : TableRows) (are : AreShown trees shown) where
+  pub stands : (rows : Rows B) → rows_of reading shown ≡ Ok rows → StandsFor reading trees rows
+  stands rows h = go (numbers_in shown.metas) refl h
     where
-      with : (numbers : Numbers) (o : Option (List (Vote B))) → votes_after reading numbers.promised [] votes ≡ o → numbers_in metas ≡ Ok numbers
+      with : (numbers : Numbers) (o : Option (List (Vote B))) → votes_after reading numbers.promised [] shown.votes ≡ o → numbers_in shown.metas ≡ Ok numbers
           → or_damaged (option_map (rows_with numbers) o) ≡ Ok rows → StandsFor reading trees rows
       with numbers None e n h = absurd cc
       with numbers (Some vs) e n h =
           let same : rows_with numbers vs ≡ rows = cc in
           let made : StandsFor reading trees (rows_with numbers vs) = record {
-            meta = numbers_found (trees 0) metas numbers same_metas n;
-            votes = votes_found reading numbers.promised (trees 1) votes vs same_votes e;
+            meta = numbers_found (trees 0) shown.metas numbers are.metas n;
+            votes = votes_found reading numbers.promised (trees 1) shown.votes vs are.votes e;
           } in
           subst (StandsFor reading trees) same made
 
-      go : (r : Result Numbers KeeperFault) → numbers_in metas ≡ r → with_votes reading votes r ≡ Ok rows → StandsFor reading trees rows
+      go : (r : Result Numbers KeeperFault) → numbers_in shown.metas ≡ r → with_votes reading shown.votes r ≡ Ok rows → StandsFor reading trees rows
       go (Err fault) e h = absurd cc
-      go (Ok numbers) e h = with numbers (votes_after reading numbers.promised [] votes) refl e h
+      go (Ok numbers) e h = with numbers (votes_after reading numbers.promised [] shown.votes) refl e h
 
-  pub loads : (rows : Rows B) → StandsFor reading trees rows → rows_of reading metas votes ≡ Ok rows
-  loads rows it =
-      rw (numbers_loaded (trees 0) metas (numbers_in_rows rows) same_metas it.meta, votes_loaded reading rows.promised (trees 1) votes rows.votes same_votes it.votes) refl
+  pub loads : (rows : Rows B) → StandsFor reading trees rows → rows_of reading shown ≡ Ok rows
+  loads rows it = rw (
+    numbers_loaded (trees 0) shown.metas (numbers_in_rows rows) are.metas it.meta,
+    votes_loaded reading rows.promised (trees 1) shown.votes rows.votes are.votes it.votes,
+  ) refl

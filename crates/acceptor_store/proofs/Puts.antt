@@ -1,5 +1,7 @@
 -- What INSERT OR REPLACE makes of a tree: the row goes in if no other has its rowid.
 use Rattle.std.proofs.Common.{◌≡◌, ◌≢◌, ◌⊎◌, inl, inr, ℕ, ℤ, List, [], ◌∷◌, Bool, true, false, not, ◌&&◌, cond, Option, Some, None, Ok, Err, Result, refl, sym, ap, subst, ◌∙◌}
+use Rattle.std.specs.Prelude.{MatchBool}
+use Rattle.std.specs.Ordering.{is_lt, int_cmp}
 use Rattle.sqlite_value.specs.declared.value.Value.{Value}
 use Rattle.sqlite_value.specs.declared.value.Value.TheVariants.{Null, Int}
 use Rattle.sqlite_value.specs.Order.{Row}
@@ -16,7 +18,7 @@ use Rattle.sqlite_rules.specs.Keys.{AreConflicts}
 use Rattle.sqlite_rules.specs.Calls.{ids_of}
 use Rattle.sqlite_rules.specs.Action.{works}
 use Rattle.sqlite_rules.specs.Edit.{edit_of, is_taken, is_chosen, without_all, with_rowid, taken_by, IsNoIndex}
-use Rattle.sqlite.specs.Rows.{Task, Written, Puts, Clears, Tries, TriesEach, Then, Gives, nothing, joined, higher, mended, rowids_for}
+use Rattle.sqlite.specs.Rows.{Task, Written, Puts, Clears, Tries, TriesEach, Counts, CountsIn, Then, Gives, nothing, joined, count_of, higher, mended, rowids_for, sequence}
 use Rattle.sqlite.proofs.Callers.{one_step}
 
 either : (b : Bool) (x : Value) → cond b x x ≡ x
@@ -38,6 +40,14 @@ went (inr on) = on
 
 pub same_value : {B E : Type 0} {a b : B} → ◌≡◌ {A = Result B E} (Ok a) (Ok b) → a ≡ b
 same_value e = cc
+
+-- a table without AUTOINCREMENT is not counted
+pub not_counted : (task : Task) (db next : Trees) (counter : Option Row) (top : ℤ) → task.table.is_counted ≡ false
+    → Counts task db counter top (Ok next) → next ≡ db
+not_counted task db next counter top none h =
+    let is_higher = is_lt (int_cmp (count_of counter) top) in
+    let counts = CountsIn task db counter top (sequence task.schema) (Ok next) in
+    same_value (subst (λ b. MatchBool (cond b is_higher false) counts (Gives db (Ok next))) none h)
 
 -- no row has the rowid
 abbrev pub IsFree : Row → List Row → Type 0

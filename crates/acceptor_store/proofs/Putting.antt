@@ -1,6 +1,6 @@
--- What the two INSERT OR REPLACE statements make of a database.
+-- What an INSERT OR REPLACE of one row makes of a database.
 use Rattle.std.proofs.Common.{◌≡◌, ◌⊎◌, inl, inr, ℕ, ℤ, pos, negsuc, ◌≤◌, not, Bool, true, false, cond, List, [], ◌∷◌, map, Option, Some, None, Ok, Err, Result, OnOk, eqb, refl, sym, ap, subst, ◌∙◌, arith}
-use Rattle.std.specs.Prelude.{nat_le, ◌&&◌}
+use Rattle.std.specs.Prelude.{nat_le, ◌&&◌, ◌/◌, length, slice_get}
 use Rattle.std.specs.List.{AllByRecursion}
 use Rattle.std.proofs.lemmas.Bool.{eqb-false, leb-true}
 use Rattle.std.proofs.lemmas.Bool.Decides.{nat_tests}
@@ -8,8 +8,12 @@ use Rattle.sqlite_value.specs.declared.value.Value.{Value}
 use Rattle.sqlite_value.specs.declared.value.Value.TheVariants.{Null, Int, Real, Text, Blob}
 use Rattle.sqlite_value.specs.Order.{Row, column}
 use Rattle.sqlite_trees.specs.Tree.{Trees, rowid, put_row, has_rowid}
+use Rattle.sqlite_sql.specs.Term.{Term}
+use Rattle.sqlite_schema.specs.declared.schema.Keys.{Keys}
+use Rattle.sqlite_schema.specs.declared.schema.Table.{Table}
 use Rattle.sqlite_schema.specs.declared.command.Conflict.TheVariants.{Replace}
 use Rattle.sqlite_schema.specs.declared.command.Source.TheVariants.{Values}
+use Rattle.sqlite_schema.specs.declared.command.Command.{Command}
 use Rattle.sqlite_schema.specs.declared.command.Command.TheVariants.{InsertOr}
 use Rattle.sqlite_schema.specs.declared.schema.Schema.{Schema}
 use Rattle.sqlite_catalog.specs.Listing.{IsSound}
@@ -17,24 +21,26 @@ use Rattle.sqlite_rules.specs.Cast.{cast_row}
 use Rattle.sqlite_rules.specs.Keys.{AreConflicts}
 use Rattle.sqlite_rules.specs.Lists.{Has}
 use Rattle.sqlite_rules.specs.Calls.{ids_of}
-use Rattle.sqlite_rules.specs.Edit.{is_taken, without_all}
+use Rattle.sqlite_rules.specs.declared.error.Rowids.TheVariants.{Chosen}
+use Rattle.sqlite_rules.specs.Action.{works}
+use Rattle.sqlite_rules.specs.Edit.{is_taken, is_chosen, without_all}
 use Rattle.sqlite.specs.declared.error.Error.{Error}
-use Rattle.sqlite.specs.Does.{Tally, Does}
-use Rattle.sqlite.specs.Effect.{Database}
+use Rattle.sqlite.specs.Does.{Tally, Does, AtPlace, OnRows}
+use Rattle.sqlite.specs.Effect.{Database, value_rows}
 use Rattle.sqlite.specs.Listing.{understood}
-use Rattle.sqlite.specs.Rows.{Written, TriesEach, nothing, count_of, mended}
+use Rattle.sqlite.specs.Rows.{Written, TriesEach, nothing, count_of, mended, stamped}
 use Rattle.sqlite.specs.State.{State, mode_of, Executes}
-use Rattle.sqlite.proofs.Callers.{runs_as, statement_of}
+use Rattle.sqlite.proofs.Callers.{IsPlain, runs_as, command_of, statement_of}
 use Rattle.paxos_packets.specs.Vote.{put_vote}
 use Rattle.paxos_packets.specs.declared.ballot.Ballot.{Ballot}
 use Rattle.paxos_packets.specs.declared.vote.Vote.{Vote}
 use Rattle.command_codec.specs.Number.{Reading}
-use Rattle.acceptor_store.specs.Tables.{meta_table, vote_table, store_schema, put_meta_text, put_vote_text, meta_row, vote_row, vote_columns}
-use Rattle.acceptor_store.specs.Statements.{HasAtMost, PutsMeta}
+use Rattle.acceptor_store.specs.Tables.{meta_table, vote_table, store_tables, schema_of, store_schema, put_meta_text, put_vote_text, meta_row, vote_row, vote_columns}
+use Rattle.acceptor_store.specs.Statements.{HasAtMost, Edits, PutsAlone}
 use Rattle.store_rows.specs.Rows.{within, slot_in, ballot_in, entry_in, vote_of, is_promised}
 use Rattle.acceptor_store.specs.Store.{key_of, IsVote, AreVotes}
 use Rattle.acceptor_store.proofs.Texts.{put_meta_terms, put_vote_terms, put_meta_is, put_meta_plain, put_vote_is, put_vote_plain}
-use Rattle.acceptor_store.proofs.Puts.{went, same_value, cast_null, cast_int, task, replaces}
+use Rattle.acceptor_store.proofs.Puts.{went, same_value, cast_null, cast_int, not_counted, task, replaces}
 use Rattle.acceptor_store.proofs.Trees.{has_row_new, has_row, has_row_old, not_taken, has_left, left_has, once_left, once_put, number_cmp, conflict_ids}
 use Rattle.store_rows.proofs.Options.{and_then_is, map_is}
 use Rattle.acceptor_store.specs.Once.{all_has}
@@ -75,7 +81,8 @@ vote_slot {B} reading row v h =
 -- a row for a vote is put among the rows of votes
 module _ {B : Type 0} (reading : List ℕ → Reading B) (promised : Option Ballot) (tree : List Row) (vs : List (Vote B)) (are : AreVotes reading promised tree vs)
     (n : Row) (v : Vote B) (is : IsVote reading n v) (under : is_promised promised v.ballot ≡ true)
-    (found : List Row) (conflict : AreConflicts None [] vote_table tree n found) (free : is_taken (without_all tree (ids_of found)) n ≡ false) where
+    (t : Table) (found : List Row) (conflict : AreConflicts None [] t tree n found)
+    (free : is_taken (without_all tree (ids_of found)) n ≡ false) where
   abbrev left : List Row
   left = without_all tree (ids_of found)
 
@@ -86,7 +93,7 @@ module _ {B : Type 0} (reading : List ℕ → Reading B) (promised : Option Ball
   numbered x h = let e = all_has _ tree x are.each h in (e.0.slot, (vote_slot reading (vote_columns x) e.0 e.1).0)
 
   ids : AllByRecursion (λ i. i ≡ pos v.slot) (ids_of found)
-  ids = conflict_ids vote_table n tree found v.slot numbered new_slot conflict
+  ids = conflict_ids t n tree found v.slot numbered new_slot conflict
 
   -- a row that is left shows another slot
   apart : (x : Row) (m : ℕ) → Has left x → rowid x ≡ Int (pos m) → eqb m v.slot ≡ false
@@ -167,6 +174,73 @@ one_put k tree n found (inr o) is free = rw o.1 (go (without_one (ids_of found) 
         absurd (grind (arith, nat_tests))
     go (inr e) f = rw e refl
 
+-- a row is put into the tree of a table, in the place of those with its rowid, and the other trees stay
+pub record PutsRow (tables : List Table) (t : Table) (new_row : Row) (old new : Database) : Type 0 where
+  pub edits : Edits (schema_of tables) t.tree old new
+  pub found : List Row
+  pub conflict : AreConflicts None [] t (old.trees t.tree) new_row found
+  pub free : is_taken (without_all (old.trees t.tree) (ids_of found)) new_row ≡ false
+  pub rows : new.trees t.tree ≡ put_row new_row (without_all (old.trees t.tree) (ids_of found))
+
+-- a text that puts a row into the table at a place of the schema, whose keys lead to no other table
+module _ (tables : List Table) (at : ℕ) (t : Table) (sql : List ℕ) (terms : List Term) (width : ℕ) (params row : Row)
+    (is_at : slice_get tables at ≡ Some t) (is : command_of (understood (schema_of tables) sql) ≡ InsertOr at Replace (Values terms width) [])
+    (plain : IsPlain (understood (schema_of tables) sql)) (uncounted : t.is_counted ≡ false)
+    (alone : (keys : Keys) (olds news : List Row) → works (schema_of tables) keys 0 t.tree olds news ≡ [])
+    (given : value_rows (stamped t params) width (length terms / width) terms ≡ row ∷ [])
+    (whole : cast_row t row ≡ row) (made : cast_row t (mended Replace t row) ≡ row) (chosen : is_chosen Chosen (rowid row) ≡ false) where
+  abbrev known : Schema
+  known = schema_of tables
+
+  abbrev writes : Command
+  writes = InsertOr at Replace (Values terms width) []
+
+  puts_row : (old new : State) (r : Result ℕ Error) → old.now.schema ≡ known → Executes sql params old new r
+      → OnOk r (PutsRow tables t row old.now new.now)
+  puts_row old new (Err e) has h = tt
+  puts_row old new (Ok count) has h =
+      let db = old.now.trees in
+      let mode = mode_of old in
+      let steps = old.step_limit in
+      let w = runs_as sql params old new known has writes is plain count h in
+      let text = statement_of sql (understood known sql) in
+      let out : Result (Tally × Database) (Option Error) = Ok (w.tally, new.now) in
+      let does = subst (λ s. Does steps mode params (record old.now { schema = s }) text None writes out) has w.changed in
+      let doing = λ (table : Table).
+      OnRows (record { limit = steps; keys = mode.keys; schema = known; table = table; params = params }) mode None writes db in
+      let it = task t row whole known alone steps mode.keys params in
+      let on : OnRows it mode None writes db out = subst (λ o. AtPlace doing o out) is_at does in
+      let done = went on in
+      let now = ap (λ (p : Tally × Database). p.1) (same_value (went (went done.2).2).2) in
+      let source = went done.1 in
+      let counted = went source.2 in
+      let all = went counted.2 in
+      let top = count_of counted.0 in
+      let last = went all.2 in
+      let same : last.0 ≡ all.0.0.trees = not_counted it all.0.0.trees last.0 counted.0 all.0.1 uncounted last.1 in
+      let trees : done.0.trees ≡ all.0.0.trees = ap (λ (w : Written). w.trees) (same_value last.2) ∙ same in
+      let tried = subst (λ rows. TriesEach it Replace [] rows top (nothing db) (Ok all.0)) (source.1.1 ∙ given) all.1 in
+      let one = replaces t row whole known alone steps mode.keys params row made chosen uncounted db top all.0 tried in
+      let left = λ (tree : ℕ). ap (λ (d : Database). d.trees tree) now ∙ ap (λ (ts : Trees). ts tree) trees in
+      record {
+        edits = record {
+          schema = ap (λ (d : Database). d.schema) now;
+          sound = subst (λ (s : Schema). IsSound s new.now.trees) (ap (λ (d : Database). d.schema) now) w.sound;
+          others = λ other differs. left other ∙ one.puts.others other differs tt;
+        };
+        found = one.found;
+        conflict = one.are;
+        free = one.puts.free;
+        rows = left t.tree ∙ one.puts.rows;
+      }
+
+-- the row of a table that has no row of another rowid
+puts_alone : (tables : List Table) (t : Table) (row : Row) (k : ℕ) (old new : Database) (r : Result ℕ Error) → rowid row ≡ Int (pos k)
+    → HasAtMost k (old.trees t.tree) → OnOk r (PutsRow tables t row old new) → OnOk r (PutsAlone (schema_of tables) t.tree row old new)
+puts_alone tables t row k old new (Err e) is most h = tt
+puts_alone tables t row k old new (Ok count) is most put =
+    record { edits = put.edits; alone = put.rows ∙ one_put k (old.trees t.tree) row put.found most is put.free }
+
 -- the statements
 
 abbrev pub vote_params : ℕ → ℕ → ℕ → List ℕ → Row
@@ -178,45 +252,12 @@ vote_cast slot round node entry = rw (cast_int (pos slot), cast_int (pos round),
 vote_made : (slot round node : ℕ) (entry : List ℕ) → cast_row vote_table (mended Replace vote_table (vote_row slot round node entry)) ≡ vote_row slot round node entry
 vote_made slot round node entry = rw (cast_int (pos slot), cast_int (pos round), cast_int (pos node), cast_null) refl
 
-pub record PutsVote (new_row : Row) (old new : Database) : Type 0 where
-  pub schema : new.schema ≡ store_schema
-  pub sound : IsSound store_schema new.trees
-  pub meta : new.trees 0 ≡ old.trees 0
-  pub found : List Row
-  pub conflict : AreConflicts None [] vote_table (old.trees 1) new_row found
-  pub free : is_taken (without_all (old.trees 1) (ids_of found)) new_row ≡ false
-  pub votes : new.trees 1 ≡ put_row new_row (without_all (old.trees 1) (ids_of found))
-
 pub puts_vote : (old new : State) (slot round node : ℕ) (entry : List ℕ) (r : Result ℕ Error) → old.now.schema ≡ store_schema
-    → Executes put_vote_text (vote_params slot round node entry) old new r → OnOk r (PutsVote (vote_row slot round node entry) old.now new.now)
-puts_vote old new slot round node entry (Err e) has h = tt
-puts_vote old new slot round node entry (Ok count) has h =
-    let params = vote_params slot round node entry in
-    let row = vote_row slot round node entry in
-    let whole = vote_cast slot round node entry in
-    let db = old.now.trees in
-    let command = InsertOr 1 Replace (Values put_vote_terms 5) [] in
-    let w = runs_as put_vote_text params old new store_schema has command put_vote_is put_vote_plain count h in
-    let text = statement_of put_vote_text (understood store_schema put_vote_text) in
-    let done = went (subst (λ s. Does old.step_limit (mode_of old) params (record old.now { schema = s }) text None command (Ok (w.tally, new.now))) has w.changed) in
-    let now = ap (λ (p : Tally × Database). p.1) (same_value (went (went done.2).2).2) in
-    let given = went done.1 in
-    let counted = went given.2 in
-    let all = went counted.2 in
-    let top = count_of counted.0 in
-    let last = went all.2 in
-    let trees : done.0.trees ≡ all.0.0.trees = ap (λ (w : Written). w.trees) (same_value last.2) ∙ same_value last.1 in
-    let one = replaces vote_table row whole store_schema (λ _ _ _. refl) old.step_limit (mode_of old).keys params row (vote_made slot round node entry) refl refl db top all.0
-    (subst (λ rows. TriesEach (task vote_table row whole store_schema (λ _ _ _. refl) old.step_limit (mode_of old).keys params) Replace [] rows top (nothing db) (Ok all.0)) given.1.1 all.1) in
-    record {
-      schema = ap (λ (d : Database). d.schema) now;
-      sound = subst (λ (s : Schema). IsSound s new.now.trees) (ap (λ (d : Database). d.schema) now) w.sound;
-      meta = ap (λ (d : Database). d.trees 0) now ∙ ap (λ (t : Trees). t 0) trees ∙ one.puts.others 0 (λ e. omega (arith, e)) tt;
-      found = one.found;
-      conflict = one.are;
-      free = one.puts.free;
-      votes = ap (λ (d : Database). d.trees 1) now ∙ ap (λ (t : Trees). t 1) trees ∙ one.puts.rows;
-    }
+    → Executes put_vote_text (vote_params slot round node entry) old new r
+    → OnOk r (PutsRow store_tables vote_table (vote_row slot round node entry) old.now new.now)
+puts_vote old new slot round node entry =
+    puts_row store_tables 1 vote_table put_vote_text put_vote_terms 5 (vote_params slot round node entry) (vote_row slot round node entry)
+    refl put_vote_is put_vote_plain refl (λ _ _ _. refl) refl (vote_cast slot round node entry) (vote_made slot round node entry) refl old new
 
 abbrev pub meta_params : ℕ → ℕ → ℕ → Row
 meta_params boot round node = Int (pos boot) ∷ Int (pos round) ∷ Int (pos node) ∷ []
@@ -228,29 +269,9 @@ meta_made : (boot round node : ℕ) → cast_row meta_table (mended Replace meta
 meta_made boot round node = rw (cast_int (pos 1), cast_int (pos boot), cast_int (pos round), cast_int (pos node), cast_null) refl
 
 pub puts_meta : (old new : State) (boot round node : ℕ) (r : Result ℕ Error) → old.now.schema ≡ store_schema → HasAtMost 1 (old.now.trees 0)
-    → Executes put_meta_text (meta_params boot round node) old new r → OnOk r (PutsMeta (meta_row boot round node) old.now new.now)
-puts_meta old new boot round node (Err e) has most h = tt
-puts_meta old new boot round node (Ok count) has most h =
-    let params = meta_params boot round node in
-    let row = meta_row boot round node in
-    let whole = meta_cast boot round node in
-    let db = old.now.trees in
-    let command = InsertOr 0 Replace (Values put_meta_terms 6) [] in
-    let w = runs_as put_meta_text params old new store_schema has command put_meta_is put_meta_plain count h in
-    let text = statement_of put_meta_text (understood store_schema put_meta_text) in
-    let done = went (subst (λ s. Does old.step_limit (mode_of old) params (record old.now { schema = s }) text None command (Ok (w.tally, new.now))) has w.changed) in
-    let now = ap (λ (p : Tally × Database). p.1) (same_value (went (went done.2).2).2) in
-    let given = went done.1 in
-    let counted = went given.2 in
-    let all = went counted.2 in
-    let top = count_of counted.0 in
-    let last = went all.2 in
-    let trees : done.0.trees ≡ all.0.0.trees = ap (λ (w : Written). w.trees) (same_value last.2) ∙ same_value last.1 in
-    let one = replaces meta_table row whole store_schema (λ _ _ _. refl) old.step_limit (mode_of old).keys params row (meta_made boot round node) refl refl db top all.0
-    (subst (λ rows. TriesEach (task meta_table row whole store_schema (λ _ _ _. refl) old.step_limit (mode_of old).keys params) Replace [] rows top (nothing db) (Ok all.0)) given.1.1 all.1) in
-    record {
-      schema = ap (λ (d : Database). d.schema) now;
-      sound = subst (λ (s : Schema). IsSound s new.now.trees) (ap (λ (d : Database). d.schema) now) w.sound;
-      meta = ap (λ (d : Database). d.trees 0) now ∙ ap (λ (t : Trees). t 0) trees ∙ one.puts.rows ∙ one_put 1 (db 0) row one.found most refl one.puts.free;
-      votes = ap (λ (d : Database). d.trees 1) now ∙ ap (λ (t : Trees). t 1) trees ∙ one.puts.others 1 (λ e. omega (arith, e)) tt;
-    }
+    → Executes put_meta_text (meta_params boot round node) old new r
+    → OnOk r (PutsAlone store_schema 0 (meta_row boot round node) old.now new.now)
+puts_meta old new boot round node r has most h =
+    puts_alone store_tables meta_table (meta_row boot round node) 1 old.now new.now r refl most
+    (puts_row store_tables 0 meta_table put_meta_text put_meta_terms 6 (meta_params boot round node) (meta_row boot round node)
+    refl put_meta_is put_meta_plain refl (λ _ _ _. refl) refl (meta_cast boot round node) (meta_made boot round node) refl old new r has h)

@@ -4,11 +4,14 @@ use Rattle.std.specs.Prelude.{IsPermutation, flat_map}
 use Rattle.std.proofs.lemmas.List.Sorted.{IsPermutation-map}
 use Rattle.sqlite_value.specs.declared.value.Value.TheVariants.{Null, Int}
 use Rattle.sqlite_value.specs.declared.keys.Collation.TheVariants.{Binary}
+use Rattle.sqlite_value.specs.declared.keys.Key.{Key}
 use Rattle.sqlite_value.specs.Order.{Row}
-use Rattle.sqlite_sql.specs.Term.{lit, col, Env}
+use Rattle.sqlite_trees.specs.Tree.{Trees}
+use Rattle.sqlite_sql.specs.Term.{Term, Env, lit, col, eval_all}
 use Rattle.sqlite_sql.specs.Query.{Query, inner, end, IsAnswer, output, Output}
 use Rattle.sqlite_sql.specs.Program.{overlay}
 use Rattle.sqlite_schema.specs.declared.command.Command.TheVariants.{Select}
+use Rattle.sqlite_schema.specs.declared.schema.Schema.{Schema}
 use Rattle.sqlite_tied.specs.Compute.{everything}
 use Rattle.sqlite.specs.Listing.{understood, reads_listing}
 use Rattle.sqlite.specs.Clock.{timed}
@@ -17,31 +20,26 @@ use Rattle.sqlite.proofs.Callers.{IsPlain, command_of, reads_as, never_commits}
 use Rattle.sqlite.proofs.StateLemmas.{survives_weaker}
 use Rattle.acceptor_store.specs.Tables.{store_schema, read_meta_text, read_votes_text, meta_columns, vote_columns}
 
-abbrev pub meta_query : Query
-meta_query = record {
-  from = inner 0 end;
+-- a query of each row of a tree
+abbrev pub query_of : ℕ → List Term → List (Term × Key) → Query
+query_of tree terms order = record {
+  from = inner tree end;
   filter = [];
   group = None;
-  project = col 1 0 ∷ col 1 2 ∷ col 1 3 ∷ col 1 4 ∷ col 1 5 ∷ [];
+  project = terms;
   distinct = false;
   collations = [];
-  order = [];
+  order = order;
   limit = lit (Int (negsuc 0));
   offset = lit (Int (pos 0));
 }
 
-abbrev pub votes_query : Query
-votes_query = record {
-  from = inner 1 end;
-  filter = [];
-  group = None;
-  project = col 1 0 ∷ col 1 2 ∷ col 1 3 ∷ col 1 4 ∷ [];
-  distinct = false;
-  collations = [];
-  order = (col 1 0, record { collation = Binary; descending = false }) ∷ [];
-  limit = lit (Int (negsuc 0));
-  offset = lit (Int (pos 0));
-}
+abbrev meta_query : Query
+meta_query = query_of 0 (col 1 0 ∷ col 1 2 ∷ col 1 3 ∷ col 1 4 ∷ col 1 5 ∷ []) []
+
+abbrev votes_query : Query
+votes_query =
+    query_of 1 (col 1 0 ∷ col 1 2 ∷ col 1 3 ∷ col 1 4 ∷ []) ((col 1 0, record { collation = Binary; descending = false }) ∷ [])
 
 pub read_meta_is : (command_of (understood store_schema read_meta_text)
     ≡ Select (record { lets = []; body = meta_query }) (codes "k" ∷ codes "version" ∷ codes "boot" ∷ codes "round" ∷ codes "node" ∷ []))
@@ -67,35 +65,43 @@ one_each : (rows : List Row) → flat_map (λ r. ([] ∷ r ∷ []) ∷ []) rows 
 one_each [] = refl
 one_each (r ∷ rs) = ap (λ (es : List Env). ([] ∷ r ∷ []) ∷ es) (one_each rs)
 
-metas_shown : (rows : List Row) → map (λ (o : Output). o.1) (map (output meta_query) (map (λ r. [] ∷ r ∷ []) rows)) ≡ map meta_columns rows
-metas_shown [] = refl
-metas_shown (r ∷ rs) = ap (λ (es : List Row). meta_columns r ∷ es) (metas_shown rs)
+-- what such a query shows, in some order
+module _ (known : Schema) (tree : ℕ) (terms : List Term) (order : List (Term × Key)) (columns : Row → Row)
+    (shows : (row : Row) → eval_all terms ([] ∷ row ∷ []) ≡ columns row) (sql : List ℕ) (names : List (List ℕ))
+    (is : (command_of (understood known sql) ≡ Select (record { lets = []; body = query_of tree terms order }) names)
+    × (reads_listing known sql ≡ false))
+    (plain : IsPlain (understood known sql)) (base : (db : Trees) → overlay db [] tree ≡ db tree) where
+  abbrev query : Query
+  query = query_of tree terms order
 
-votes_shown : (rows : List Row) → map (λ (o : Output). o.1) (map (output votes_query) (map (λ r. [] ∷ r ∷ []) rows)) ≡ map vote_columns rows
-votes_shown [] = refl
-votes_shown (r ∷ rs) = ap (λ (es : List Row). vote_columns r ∷ es) (votes_shown rs)
+  each_shown : (rows : List Row) → map (λ (o : Output). o.1) (map (output query) (map (λ r. [] ∷ r ∷ []) rows)) ≡ map columns rows
+  each_shown [] = refl
+  each_shown (r ∷ rs) = λ i. shows r i ∷ each_shown rs i
+
+  shows_rows : (old new : State) (rows : List Row) → old.now.schema ≡ known → Shown sql [] old new rows
+      → IsPermutation (map columns (old.now.trees tree)) rows
+  shows_rows old new rows has h =
+      let here = old.now.trees tree in
+      let got = (reads_as sql [] old new known has _ is.0 plain is.1 rows h).answer in
+      let a : IsAnswer query (overlay old.now.trees []) [] rows = got Null in
+      let staged = a.grouped ∙ ap (flat_map (λ r. ([] ∷ r ∷ []) ∷ [])) (base old.now.trees) ∙ one_each here in
+      let kept : a.kept ≡ map (output query) (map (λ r. [] ∷ r ∷ []) here) = a.distinct ∙ ap (map (output query)) staged in
+      let all : rows ≡ map (λ (o : Output). o.1) a.ordered = a.shown in
+      let same = IsPermutation-map (λ (o : Output). o.1) a.kept a.ordered a.same in
+      let shown = ap (map (λ (o : Output). o.1)) kept ∙ each_shown here in
+      subst (IsPermutation (map columns here)) (sym all) (subst (λ xs. IsPermutation xs (map (λ (o : Output). o.1) a.ordered)) shown same)
 
 pub shows_meta : (old new : State) (rows : List Row) → old.now.schema ≡ store_schema → Shown read_meta_text [] old new rows
     → IsPermutation (map meta_columns (old.now.trees 0)) rows
-shows_meta old new rows has h =
-    let got = (reads_as read_meta_text [] old new store_schema has _ read_meta_is.0 read_meta_plain read_meta_is.1 rows h).answer in
-    let a : IsAnswer meta_query (overlay old.now.trees []) [] rows = got Null in
-    let kept : a.kept ≡ map (output meta_query) (map (λ r. [] ∷ r ∷ []) (old.now.trees 0)) = a.distinct ∙ ap (map (output meta_query)) (a.grouped ∙ one_each (old.now.trees 0)) in
-    let all : rows ≡ map (λ (o : Output). o.1) a.ordered = a.shown in
-    let same = IsPermutation-map (λ (o : Output). o.1) a.kept a.ordered a.same in
-    subst (IsPermutation (map meta_columns (old.now.trees 0))) (sym all)
-    (subst (λ xs. IsPermutation xs (map (λ (o : Output). o.1) a.ordered)) (ap (map (λ (o : Output). o.1)) kept ∙ metas_shown (old.now.trees 0)) same)
+shows_meta =
+    shows_rows store_schema 0 meta_query.project meta_query.order meta_columns (λ row. refl) read_meta_text _ read_meta_is read_meta_plain
+    (λ db. refl)
 
 pub shows_votes : (old new : State) (rows : List Row) → old.now.schema ≡ store_schema → Shown read_votes_text [] old new rows
     → IsPermutation (map vote_columns (old.now.trees 1)) rows
-shows_votes old new rows has h =
-    let got = (reads_as read_votes_text [] old new store_schema has _ read_votes_is.0 read_votes_plain read_votes_is.1 rows h).answer in
-    let a : IsAnswer votes_query (overlay old.now.trees []) [] rows = got Null in
-    let kept : a.kept ≡ map (output votes_query) (map (λ r. [] ∷ r ∷ []) (old.now.trees 1)) = a.distinct ∙ ap (map (output votes_query)) (a.grouped ∙ one_each (old.now.trees 1)) in
-    let all : rows ≡ map (λ (o : Output). o.1) a.ordered = a.shown in
-    let same = IsPermutation-map (λ (o : Output). o.1) a.kept a.ordered a.same in
-    subst (IsPermutation (map vote_columns (old.now.trees 1))) (sym all)
-    (subst (λ xs. IsPermutation xs (map (λ (o : Output). o.1) a.ordered)) (ap (map (λ (o : Output). o.1)) kept ∙ votes_shown (old.now.trees 1)) same)
+shows_votes =
+    shows_rows store_schema 1 votes_query.project votes_query.order vote_columns (λ row. refl) read_votes_text _ read_votes_is read_votes_plain
+    (λ db. refl)
 
 -- a query changes nothing
 pub shown_unchanged : (sql : List ℕ) (params : Row) (old new : State) (rows : List Row) → IsPlain (understood old.now.schema sql) → Shown sql params old new rows

@@ -1,5 +1,5 @@
 -- Which changes a commit refuses.
-use Rattle.std.proofs.Common.{◌≡◌, ◌⊎◌, inl, inr, ℕ, List, ◌∷◌, map, true, false, Option, Some, None, Result, Ok, Err, refl, ap, sym, subst, ◌∙◌}
+use Rattle.std.proofs.Common.{◌≡◌, ◌⊎◌, inl, inr, ℕ, List, ◌∷◌, true, false, Option, Some, None, Result, Ok, Err, refl, ap, sym, subst, ◌∙◌}
 use Rattle.std.specs.Prelude.{IfErr, OnOk, is_some}
 use Rattle.std.proofs.lemmas.List.Sorted.{IsPermutation-refl}
 use Rattle.sqlite.specs.Effect.{Database}
@@ -12,7 +12,7 @@ use Rattle.command_codec.specs.Number.{Reading}
 use Rattle.store_keeper.specs.declared.fault.KeeperFault.{KeeperFault}
 use Rattle.store_keeper.specs.declared.fault.KeeperFault.TheVariants.{Store, Damaged, Version, Memory, Failed, Boots}
 use Rattle.store_rows.specs.declared.rows.Numbers.{Numbers}
-use Rattle.acceptor_store.specs.Tables.{meta_columns, vote_columns}
+use Rattle.acceptor_store.specs.Statements.{shown_in}
 use Rattle.acceptor_store.specs.Store.{Reads}
 use Rattle.store_rows.specs.Changes.{numbers_after}
 use Rattle.store_rows.specs.Faults.{LiesBelow}
@@ -115,8 +115,8 @@ module _ {B : Type 0} (reading : List ℕ → Reading B) where
   -- rows that a database has are read
   pub held_stored : (db : Database) (rows : Rows B) → Reads reading db rows → stored_in reading db.trees ≡ Ok rows
   held_stored db rows has =
-      loads reading db.trees (map meta_columns (db.trees 0)) (map vote_columns (db.trees 1)) (IsPermutation-refl (map meta_columns (db.trees 0)))
-      (IsPermutation-refl (map vote_columns (db.trees 1))) rows has.1.has
+      let shown = shown_in db.trees in
+      loads reading db.trees shown (record { metas = IsPermutation-refl shown.metas; votes = IsPermutation-refl shown.votes }) rows has.1.has
 
   pub held_told : (db : Database) (rows : Rows B) (e : KeeperFault) → Reads reading db rows → Tells reading db e → Refuses ⊥ e
   held_told db rows Damaged has t = let a = held_stored db rows has in let b = t has.0 in absurd cc

@@ -14,8 +14,9 @@ use Rattle.store_keeper.specs.declared.fault.KeeperFault.{KeeperFault}
 use Rattle.store_keeper.specs.declared.fault.KeeperFault.TheVariants.{Store, Damaged, Version, Memory, Failed, Boots}
 use Rattle.store_rows.specs.declared.rows.Numbers.{Numbers}
 use Rattle.acceptor_store.specs.Tables.{store_schema, meta_columns, vote_columns}
-use Rattle.store_rows.specs.Rows.{votes_after, numbers_in, rows_of, rows_with, with_votes, or_damaged}
+use Rattle.store_rows.specs.Rows.{votes_after, numbers_in, TableRows, rows_of, rows_with, with_votes, or_damaged}
 use Rattle.store_rows.specs.Faults.{LiesBelow}
+use Rattle.acceptor_store.specs.Statements.{AreShown}
 use Rattle.acceptor_store.specs.Once.{votes_once}
 use Rattle.acceptor_store.specs.Answers.{stored_in, Tells}
 use Rattle.acceptor_store.proofs.Meaning.{votes_found, votes_loaded}
@@ -48,13 +49,12 @@ module _ {B : Type 0} (reading : List ℕ → Reading B) where
       go None (Some y) p q =
           let k = votes_loaded reading promised tree rows y same (votes_found reading promised tree (map vote_columns tree) y self q) in absurd cc
 
-  pub read_same : (trees : Trees) (metas votes : List Row) → IsPermutation (map meta_columns (trees 0)) metas → IsPermutation (map vote_columns (trees 1)) votes
-      → rows_of reading metas votes ≡ stored_in reading trees
-  read_same trees metas votes m v = ap (with_votes reading votes) (numbers_same (trees 0) metas m) ∙ go (numbers_in (map meta_columns (trees 0)))
+  pub read_same : (trees : Trees) (shown : TableRows) → AreShown trees shown → rows_of reading shown ≡ stored_in reading trees
+  read_same trees shown are = ap (with_votes reading shown.votes) (numbers_same (trees 0) shown.metas are.metas) ∙ go (numbers_in (map meta_columns (trees 0)))
     where
-      go : (r : Result Numbers KeeperFault) → with_votes reading votes r ≡ with_votes reading (map vote_columns (trees 1)) r
+      go : (r : Result Numbers KeeperFault) → with_votes reading shown.votes r ≡ with_votes reading (map vote_columns (trees 1)) r
       go (Err fault) = refl
-      go (Ok numbers) = ap (λ o. or_damaged (option_map (rows_with numbers) o)) (votes_same numbers.promised (trees 1) votes v)
+      go (Ok numbers) = ap (λ o. or_damaged (option_map (rows_with numbers) o)) (votes_same numbers.promised (trees 1) shown.votes are.votes)
 
   -- the connection
   pub tells_conn : (db : Database) (e : KeeperFault) → (e ≡ Memory) ⊎ (e ≡ Store) → Tells reading db e
@@ -70,11 +70,10 @@ module _ {B : Type 0} (reading : List ℕ → Reading B) where
   tells_fault db Failed is h below = tt
 
   -- the rows
-  pub tells_rows : (db : Database) (metas votes : List Row) (r : Result (Rows B) KeeperFault) → db.schema ≡ store_schema
-      → IsPermutation (map meta_columns (db.trees 0)) metas → IsPermutation (map vote_columns (db.trees 1)) votes
-      → IfErr r (λ e. e ≢ Memory → rows_of reading metas votes ≡ Err e) → IfErr r LiesBelow → IfErr r (Tells reading db)
-  tells_rows db metas votes (Ok rows) is m v h below = tt
-  tells_rows db metas votes (Err e) is m v h below = tells_fault db e is (λ other. sym (read_same db.trees metas votes m v) ∙ h other) below
+  pub tells_rows : (db : Database) (shown : TableRows) (r : Result (Rows B) KeeperFault) → db.schema ≡ store_schema → AreShown db.trees shown
+      → IfErr r (λ e. e ≢ Memory → rows_of reading shown ≡ Err e) → IfErr r LiesBelow → IfErr r (Tells reading db)
+  tells_rows db shown (Ok rows) is are h below = tt
+  tells_rows db shown (Err e) is are h below = tells_fault db e is (λ other. sym (read_same db.trees shown are) ∙ h other) below
 
   -- a refusal that is counted
   pub tells_told : (db : Database) (fault e : KeeperFault) → Tells reading db fault → (e ≡ fault) ⊎ (e ≡ Failed) → Tells reading db e

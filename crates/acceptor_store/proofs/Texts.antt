@@ -9,7 +9,7 @@ use Rattle.sqlite_resolve.specs.Compile.{table_defined_by}
 use Rattle.sqlite_tied.specs.Compute.{everything}
 use Rattle.sqlite.specs.Listing.{understood}
 use Rattle.sqlite.proofs.Callers.{IsPlain, command_of, statement_of}
-use Rattle.acceptor_store.specs.Tables.{meta_table, vote_table, store_schema, meta_schema, empty_schema, create_meta_text, create_vote_text, put_meta_text, put_vote_text}
+use Rattle.acceptor_store.specs.Tables.{meta_table, vote_table, store_schema, schema_of, empty_schema, create_meta_text, create_vote_text, put_meta_text, put_vote_text}
 
 pub create_meta_is : (command_of (understood empty_schema create_meta_text) ≡ CreateTable)
     × (statement_of create_meta_text (understood empty_schema create_meta_text) ≡ create_meta_text)
@@ -21,13 +21,13 @@ pub create_meta_plain : IsPlain (understood empty_schema create_meta_text)
 unfolding understood everything
 create_meta_plain = (refl, refl)
 
-pub create_vote_is : (command_of (understood meta_schema create_vote_text) ≡ CreateTable)
-    × (statement_of create_vote_text (understood meta_schema create_vote_text) ≡ create_vote_text)
+pub create_vote_is : (command_of (understood (schema_of (meta_table ∷ [])) create_vote_text) ≡ CreateTable)
+    × (statement_of create_vote_text (understood (schema_of (meta_table ∷ [])) create_vote_text) ≡ create_vote_text)
     × (table_defined_by create_vote_text ≡ Ok (record vote_table { tree = 0 }))
 unfolding understood everything
 create_vote_is = (refl, refl, refl)
 
-pub create_vote_plain : IsPlain (understood meta_schema create_vote_text)
+pub create_vote_plain : IsPlain (understood (schema_of (meta_table ∷ [])) create_vote_text)
 unfolding understood everything
 create_vote_plain = (refl, refl)
 

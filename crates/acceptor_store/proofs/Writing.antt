@@ -1,5 +1,5 @@
 -- Rows that were written are read again.
-use Rattle.std.proofs.Common.{◌≡◌, inr, ℕ, pos, negsuc, ◌<◌, ◌≤◌, ◌^◌, ◌&&◌, not, Bool, true, false, cond, List, [], Option, Some, None, Ok, Err, eqb, leb, refl, ap, sym, ◌∙◌, subst, arith, append-nil}
+use Rattle.std.proofs.Common.{◌≡◌, ◌≢◌, inr, ℕ, pos, negsuc, ◌<◌, ◌≤◌, ◌^◌, ◌&&◌, not, Bool, true, false, cond, List, [], Option, Some, None, Ok, Err, eqb, leb, refl, ap, sym, ◌∙◌, subst, arith, append-nil}
 use Rattle.std.specs.Prelude.{nat_le, option_map, option_and_then}
 use Rattle.std.proofs.lemmas.Bool.{and_parts, leb-true, le-leb}
 use Rattle.std.proofs.lemmas.Bool.Decides.{nat_tests}
@@ -8,7 +8,6 @@ use Rattle.sqlite_value.specs.declared.value.Value.TheVariants.{Null, Int, Real,
 use Rattle.store_keeper.specs.declared.fault.KeeperFault.TheVariants.{Damaged, Version}
 use Rattle.sqlite_value.specs.Order.{Row, column}
 use Rattle.sqlite_trees.specs.Tree.{rowid}
-use Rattle.sqlite_catalog.specs.Listing.{IsSound}
 use Rattle.sqlite.specs.Effect.{Database}
 use Rattle.paxos_packets.specs.Vote.{put_vote}
 use Rattle.paxos_packets.specs.declared.ballot.Ballot.{Ballot}
@@ -20,10 +19,10 @@ use Rattle.command_codec.specs.Entry.{entry_reading, entry_spelling, entry_front
 use Rattle.paxos_packets.specs.declared.entry.Entry.{Entry}
 use Rattle.store_rows.specs.declared.rows.Numbers.{Numbers}
 use Rattle.acceptor_store.specs.Tables.{store_schema, meta_row, vote_row, meta_columns}
-use Rattle.acceptor_store.specs.Statements.{round_of, node_of, HasAtMost, PutsMeta}
+use Rattle.acceptor_store.specs.Statements.{round_of, node_of, HasAtMost, Edits, PutsAlone}
 use Rattle.store_rows.specs.Rows.{number, is_number, within, boot_in, ballot_in, promise_in, numbers_of, or_damaged}
 use Rattle.acceptor_store.specs.Store.{IsVote, AreVotes, HasNumbers, Reads, written, NotLowered}
-use Rattle.store_rows.specs.Numbers.{is_ballot, is_promise, are_numbers}
+use Rattle.store_rows.specs.Numbers.{is_ballot, is_promise, are_numbers, numbers_in_rows}
 use Rattle.acceptor_store.specs.Once.{all_has}
 use Rattle.acceptor_store.proofs.Votes.{all_from}
 
@@ -118,30 +117,37 @@ votes_under reading p q tree vs up a = record {
   ascend = a.ascend;
 }
 
+-- what another tree stands for
+stays : (tree other : ℕ) (old new : Database) → Edits store_schema tree old new → other ≢ tree → (P : List Row → Type 0)
+    → P (old.trees other) → P (new.trees other)
+stays tree other old new edits differs P has = subst P (sym (edits.others other differs)) has
+
 pub meta_reads : {B : Type 0} (reading : List ℕ → Reading B) (old new : Database) (rows : Rows B) (n : Numbers) → Reads reading old rows
-    → PutsMeta (meta_row n.boot (round_of n.promised) (node_of n.promised)) old new → are_numbers n ≡ true → NotLowered rows.promised n.promised
+    → PutsAlone store_schema 0 (meta_row n.boot (round_of n.promised) (node_of n.promised)) old new → are_numbers n ≡ true
+    → NotLowered rows.promised n.promised
     → Reads reading new (written n [] rows)
 meta_reads reading old new rows n has put ok up = (
-  put.schema,
+  put.edits.schema,
   record {
-    sound = put.sound;
+    sound = put.edits.sound;
     has = record {
-      meta = (_, put.meta, numbers_read n ok);
-      votes = subst (λ tree. AreVotes reading n.promised tree rows.votes) (sym put.votes) (votes_under reading rows.promised n.promised (old.trees 1) rows.votes up has.1.has.votes);
+      meta = (_, put.alone, numbers_read n ok);
+      votes = stays 0 1 old new put.edits (λ e. omega (arith, e)) (λ tree. AreVotes reading n.promised tree rows.votes)
+          (votes_under reading rows.promised n.promised (old.trees 1) rows.votes up has.1.has.votes);
     };
   },
 )
 
 pub vote_reads : {B : Type 0} (reading : List ℕ → Reading B) (old new : Database) (rows : Rows B) (v : Vote B) → Reads reading old rows
-    → (new.schema ≡ store_schema) × IsSound store_schema new.trees × (new.trees 0 ≡ old.trees 0) × AreVotes reading rows.promised (new.trees 1) (put_vote v rows.votes)
+    → Edits store_schema 1 old new × AreVotes reading rows.promised (new.trees 1) (put_vote v rows.votes)
     → Reads reading new (record rows { votes = put_vote v rows.votes })
 vote_reads reading old new rows v has put = (
-  put.0,
+  put.0.schema,
   record {
-    sound = put.1;
+    sound = put.0.sound;
     has = record {
-      meta = (has.1.has.meta.0, put.2 ∙ has.1.has.meta.1, has.1.has.meta.2);
-      votes = put.3;
+      meta = stays 1 0 old new put.0 (λ e. omega (arith, e)) (λ tree. HasNumbers tree (numbers_in_rows rows)) has.1.has.meta;
+      votes = put.1;
     };
   },
 )

@@ -1,5 +1,5 @@
 -- Which faults a load and a commit return, beside those of memory and of the connection.
-use Rattle.std.specs.Prelude.{◌≡◌, ◌⊎◌, IsErrOf, Bool, ◌&&◌, ⊤, ℕ, List, map, Option, is_some, Result, Ok, Err}
+use Rattle.std.specs.Prelude.{◌≡◌, ◌⊎◌, IsErrOf, Bool, ◌&&◌, ⊤, ℕ, List, Option, is_some, Result, Ok, Err}
 use Rattle.std.specs.List.{list_all}
 use Rattle.sqlite_trees.specs.Tree.{Trees}
 use Rattle.sqlite.specs.Effect.{Database}
@@ -11,13 +11,14 @@ use Rattle.command_codec.specs.Entry.{entry_spelling}
 use Rattle.store_keeper.specs.declared.fault.KeeperFault.{KeeperFault}
 use Rattle.store_keeper.specs.declared.fault.KeeperFault.TheVariants.{Store, Damaged, Version, Memory, Failed, Boots}
 use Rattle.store_rows.specs.declared.rows.Numbers.{Numbers}
-use Rattle.acceptor_store.specs.Tables.{store_schema, meta_columns, vote_columns}
+use Rattle.acceptor_store.specs.Tables.{store_schema}
+use Rattle.acceptor_store.specs.Statements.{shown_in}
 use Rattle.store_rows.specs.Rows.{rows_of}
 use Rattle.store_rows.specs.Changes.{numbers_after}
 
--- what the rows of the two trees read as
+-- what the rows of the trees read as
 abbrev pub stored_in : {B : Type 0} → (List ℕ → Reading B) → Trees → Result (Rows B) KeeperFault
-stored_in reading trees = rows_of reading (map meta_columns (trees 0)) (map vote_columns (trees 1))
+stored_in reading trees = rows_of reading (shown_in trees)
 
 -- a load of this database gives these rows
 abbrev pub Gives : {B : Type 0} → (List ℕ → Reading B) → Database → Rows B → Type 0

@@ -43,15 +43,22 @@ vote_table = table_of (codes "vote") 1
     (column_of (codes "slot") Integer false ∷ column_of (codes "round") Integer true ∷ column_of (codes "node") Integer true
     ∷ column_of (codes "entry") Blob true ∷ [])
 
-abbrev pub store_schema : Schema
-store_schema = record { tables = meta_table ∷ vote_table ∷ []; indexes = []; views = [] }
+-- the tables beside `meta`
+abbrev pub other_tables : List Table
+other_tables = vote_table ∷ []
 
--- the schema with the first table alone
-abbrev pub meta_schema : Schema
-meta_schema = record { tables = meta_table ∷ []; indexes = []; views = [] }
+abbrev pub store_tables : List Table
+store_tables = meta_table ∷ other_tables
+
+-- a schema that has these tables, and nothing else
+abbrev pub schema_of : List Table → Schema
+schema_of tables = record { tables = tables; indexes = []; views = [] }
+
+abbrev pub store_schema : Schema
+store_schema = schema_of store_tables
 
 abbrev pub empty_schema : Schema
-empty_schema = record { tables = []; indexes = []; views = [] }
+empty_schema = schema_of []
 
 abbrev pub create_meta_text : List ℕ
 create_meta_text = codes "CREATE TABLE meta (k INTEGER PRIMARY KEY, version INTEGER NOT NULL, boot INTEGER NOT NULL, round INTEGER NOT NULL, node INTEGER NOT NULL) STRICT"

@@ -1,15 +1,14 @@
 // The statements of the store, each a function whose contract says what its text means.
-ghost use Rattle.std.specs.Prelude.{◌≡◌, ◌⊎◌, ◌<◌, ◌^◌, ◌∷◌, [], List, Option, pos, map, true, false, IsTrue, OnOk, IfOk, IfErr, Ok, Err, IsPermutation};
+ghost use Rattle.std.specs.Prelude.{◌≡◌, ◌⊎◌, ◌<◌, ◌^◌, ◌∷◌, [], List, Option, pos, true, false, IsTrue, OnOk, IfOk, IfErr, Ok, Err, IsPermutation};
 ghost use Rattle.sqlite_value.specs.declared.value.Value.TheVariants.{Int, Blob};
-ghost use Rattle.sqlite_catalog.specs.Listing.{IsSound};
 ghost use Rattle.sqlite.specs.Held.{state};
 ghost use Rattle.sqlite.specs.State.{HasCleanDisk, Survives, Shows, Shown, IsUnchanged, ExecutesInside, CommitsShowing};
 ghost use Rattle.paxos_packets.specs.Vote.{put_vote};
 ghost use Rattle.paxos_packets.specs.declared.ballot.Ballot.{Ballot};
 ghost use Rattle.paxos_packets.specs.declared.vote.Vote.{Vote};
-ghost use Rattle.acceptor_store.specs.Tables.{store_schema, empty_schema, meta_schema, meta_row, vote_row, meta_columns, vote_columns};
+ghost use Rattle.acceptor_store.specs.Tables.{meta_table, vote_table, schema_of, store_schema, empty_schema, meta_row, vote_row};
 ghost use Rattle.acceptor_store.specs.Tables.{create_meta_text, create_vote_text, put_meta_text, put_vote_text, read_meta_text, read_votes_text};
-ghost use Rattle.acceptor_store.specs.Statements.{round_of, node_of, HasAtMost, PutsMeta, IsFounded};
+ghost use Rattle.acceptor_store.specs.Statements.{round_of, node_of, HasAtMost, Makes, Edits, PutsAlone, shown_in, AreShown, IsFounded};
 ghost use Rattle.store_rows.specs.Rows.{is_promised};
 ghost use Rattle.acceptor_store.specs.Store.{IsVote, AreVotes};
 ghost use Rattle.store_rows.specs.Faults.{LiesBelow};
@@ -127,7 +126,7 @@ fn create_meta<S: Alter>(tx: &mut Transaction<'_, S>) -> Result<(), KeeperFault>
     ensures same_reference { tx.new.conn.ghost_name ≡ tx.old.conn.ghost_name }
     ensures made { HasCleanDisk (state S.Store tx.new.conn.now) → IsTrue (state S.Store tx.old.conn.now).in_transaction
         → (state S.Store tx.old.conn.now).now.schema ≡ empty_schema
-        → OnOk result (((state S.Store tx.new.conn.now).now.schema ≡ meta_schema) × ((state S.Store tx.new.conn.now).now.trees 0 ≡ [])) }
+        → OnOk result (Makes [] meta_table (state S.Store tx.old.conn.now).now (state S.Store tx.new.conn.now).now) }
     ensures shown { HasCleanDisk (state S.Store tx.new.conn.now) → IsTrue (state S.Store tx.old.conn.now).in_transaction
         → OnOk result (Shows (state S.Store tx.old.conn.now) (state S.Store tx.new.conn.now) (state S.Store tx.new.conn.now).now (state S.Store tx.old.conn.now).committed true) }
     ensures survives { Survives (state S.Store tx.old.conn.now) (state S.Store tx.new.conn.now) (λ _. ⊥) }
@@ -143,9 +142,8 @@ fn create_meta<S: Alter>(tx: &mut Transaction<'_, S>) -> Result<(), KeeperFault>
 fn create_vote<S: Alter>(tx: &mut Transaction<'_, S>) -> Result<(), KeeperFault>
     ensures same_reference { tx.new.conn.ghost_name ≡ tx.old.conn.ghost_name }
     ensures made { HasCleanDisk (state S.Store tx.new.conn.now) → IsTrue (state S.Store tx.old.conn.now).in_transaction
-        → (state S.Store tx.old.conn.now).now.schema ≡ meta_schema → (state S.Store tx.old.conn.now).now.trees 0 ≡ []
-        → OnOk result (((state S.Store tx.new.conn.now).now.schema ≡ store_schema) × ((state S.Store tx.new.conn.now).now.trees 0 ≡ [])
-        × ((state S.Store tx.new.conn.now).now.trees 1 ≡ [])) }
+        → (state S.Store tx.old.conn.now).now.schema ≡ schema_of (meta_table ∷ [])
+        → OnOk result (Makes (meta_table ∷ []) vote_table (state S.Store tx.old.conn.now).now (state S.Store tx.new.conn.now).now) }
     ensures shown { HasCleanDisk (state S.Store tx.new.conn.now) → IsTrue (state S.Store tx.old.conn.now).in_transaction
         → OnOk result (Shows (state S.Store tx.old.conn.now) (state S.Store tx.new.conn.now) (state S.Store tx.new.conn.now).now (state S.Store tx.old.conn.now).committed true) }
     ensures survives { Survives (state S.Store tx.old.conn.now) (state S.Store tx.new.conn.now) (λ _. ⊥) }
@@ -168,7 +166,7 @@ pub(crate) fn put_meta<S: Alter>(
     ensures same_reference { tx.new.conn.ghost_name ≡ tx.old.conn.ghost_name }
     ensures put { HasCleanDisk (state S.Store tx.new.conn.now) → IsTrue (state S.Store tx.old.conn.now).in_transaction
         → (state S.Store tx.old.conn.now).now.schema ≡ store_schema → HasAtMost 1 ((state S.Store tx.old.conn.now).now.trees 0)
-        → OnOk result (PutsMeta (meta_row boot (round_of promised.now) (node_of promised.now))
+        → OnOk result (PutsAlone store_schema 0 (meta_row boot (round_of promised.now) (node_of promised.now))
         (state S.Store tx.old.conn.now).now (state S.Store tx.new.conn.now).now) }
     ensures shown { HasCleanDisk (state S.Store tx.new.conn.now) → IsTrue (state S.Store tx.old.conn.now).in_transaction
         → OnOk result (Shows (state S.Store tx.old.conn.now) (state S.Store tx.new.conn.now) (state S.Store tx.new.conn.now).now (state S.Store tx.old.conn.now).committed true) }
@@ -199,9 +197,7 @@ pub(crate) fn put_vote<B, C: Coder<B>, S: Alter>(
         → (promised : Option Ballot) (votes : List (Vote B)) (v : Vote B)
         → AreVotes C.reading promised ((state S.Store tx.old.conn.now).now.trees 1) votes
         → IsVote C.reading (vote_row slot ballot.now.round ballot.now.node entry.now) v → is_promised promised v.ballot ≡ true
-        → OnOk result (((state S.Store tx.new.conn.now).now.schema ≡ store_schema)
-        × IsSound store_schema (state S.Store tx.new.conn.now).now.trees
-        × ((state S.Store tx.new.conn.now).now.trees 0 ≡ (state S.Store tx.old.conn.now).now.trees 0)
+        → OnOk result (Edits store_schema 1 (state S.Store tx.old.conn.now).now (state S.Store tx.new.conn.now).now
         × AreVotes C.reading promised ((state S.Store tx.new.conn.now).now.trees 1) (put_vote v votes)) }
     ensures shown { HasCleanDisk (state S.Store tx.new.conn.now) → IsTrue (state S.Store tx.old.conn.now).in_transaction
         → OnOk result (Shows (state S.Store tx.old.conn.now) (state S.Store tx.new.conn.now) (state S.Store tx.new.conn.now).now (state S.Store tx.old.conn.now).committed true) }
@@ -256,7 +252,7 @@ fn query_votes<S: Alter>(conn: &mut Connection<S>) -> Result<Vec<Row>, Error>
 // Reads the rows of `meta`, in some order.
 fn read_meta<S: Alter>(conn: &mut Connection<S>) -> Result<Vec<Row>, KeeperFault>
     ensures shown { HasCleanDisk (state S.Store conn.new) → (state S.Store conn.old).now.schema ≡ store_schema
-        → IfOk result (λ rows. IsPermutation (map meta_columns ((state S.Store conn.old).now.trees 0)) rows.items) }
+        → IfOk result (λ rows. IsPermutation (shown_in (state S.Store conn.old).now.trees).metas rows.items) }
     ensures same { HasCleanDisk (state S.Store conn.new) → (state S.Store conn.old).now.schema ≡ store_schema
         → OnOk result (IsUnchanged (state S.Store conn.old) (state S.Store conn.new)) }
     ensures mode { conn.old.in_transaction ≡ false → conn.new.in_transaction ≡ false }
@@ -272,7 +268,7 @@ fn read_meta<S: Alter>(conn: &mut Connection<S>) -> Result<Vec<Row>, KeeperFault
 // Reads the rows of `vote`, in some order.
 fn read_votes<S: Alter>(conn: &mut Connection<S>) -> Result<Vec<Row>, KeeperFault>
     ensures shown { HasCleanDisk (state S.Store conn.new) → (state S.Store conn.old).now.schema ≡ store_schema
-        → IfOk result (λ rows. IsPermutation (map vote_columns ((state S.Store conn.old).now.trees 1)) rows.items) }
+        → IfOk result (λ rows. IsPermutation (shown_in (state S.Store conn.old).now.trees).votes rows.items) }
     ensures same { HasCleanDisk (state S.Store conn.new) → (state S.Store conn.old).now.schema ≡ store_schema
         → OnOk result (IsUnchanged (state S.Store conn.old) (state S.Store conn.new)) }
     ensures mode { conn.old.in_transaction ≡ false → conn.new.in_transaction ≡ false }
@@ -290,9 +286,8 @@ pub(crate) fn read_tables<S: Alter>(
     conn: &mut Connection<S>,
 ) -> Result<(Vec<Row>, Vec<Row>), KeeperFault>
     requires { conn.old.schema ≡ store_schema }
-    ensures shown { HasCleanDisk (state S.Store conn.new) → IfOk result (λ rows.
-        IsPermutation (map meta_columns ((state S.Store conn.old).now.trees 0)) rows.0.items
-        × IsPermutation (map vote_columns ((state S.Store conn.old).now.trees 1)) rows.1.items) }
+    ensures shown { HasCleanDisk (state S.Store conn.new)
+        → IfOk result (λ rows. AreShown (state S.Store conn.old).now.trees (record { metas = rows.0.items; votes = rows.1.items })) }
     ensures same { HasCleanDisk (state S.Store conn.new) → OnOk result (IsUnchanged (state S.Store conn.old) (state S.Store conn.new)) }
     ensures mode { conn.old.in_transaction ≡ false → conn.new.in_transaction ≡ false }
     ensures survives { Survives (state S.Store conn.old) (state S.Store conn.new) (λ _. ⊥) }

@@ -5,6 +5,7 @@ use Rattle.sqlite_value.specs.declared.value.Value.{Value}
 use Rattle.sqlite_value.specs.declared.value.Value.TheVariants.{Null, Int, Real, Text, Blob}
 use Rattle.sqlite_value.specs.Order.{Row, column}
 use Rattle.paxos_packets.specs.Ballot.{below}
+use Rattle.paxos_packets.specs.Rows.{bare_rows}
 use Rattle.paxos_packets.specs.Vote.{vote_in, put_vote}
 use Rattle.paxos_packets.specs.declared.ballot.Ballot.{Ballot}
 use Rattle.paxos_packets.specs.declared.entry.Entry.{Entry}
@@ -117,13 +118,18 @@ numbers_in (row ∷ []) = numbers_of row
 numbers_in (row ∷ other ∷ rows) = Err Damaged
 
 abbrev pub rows_with : {B : Type 0} → Numbers → List (Vote B) → Rows B
-rows_with numbers votes = record { boot = numbers.boot; promised = numbers.promised; votes = votes }
+rows_with {B} numbers votes = record (bare_rows {B = B} numbers.boot) { promised = numbers.promised; votes = votes }
 
 abbrev pub with_votes : {B : Type 0} → (List ℕ → Reading B) → List Row → Result Numbers KeeperFault → Result (Rows B) KeeperFault
 with_votes reading votes (Err fault) = Err fault
 with_votes reading votes (Ok numbers) =
     or_damaged (option_map (rows_with numbers) (votes_after reading numbers.promised [] votes))
 
--- what the rows of both tables read as: another version before any damage of the numbers, and these before the votes
-abbrev pub rows_of : {B : Type 0} → (List ℕ → Reading B) → List Row → List Row → Result (Rows B) KeeperFault
-rows_of reading metas votes = with_votes reading votes (numbers_in metas)
+-- the rows of each table, as a query shows them
+pub record TableRows : Type 0 where
+  pub metas : List Row
+  pub votes : List Row
+
+-- what the rows of the tables read as: another version before any damage of the numbers, and these before the votes
+abbrev pub rows_of : {B : Type 0} → (List ℕ → Reading B) → TableRows → Result (Rows B) KeeperFault
+rows_of reading rows = with_votes reading rows.votes (numbers_in rows.metas)

@@ -215,8 +215,9 @@ pub fn read_rows<B: Drop, C: Coder<B>>(
     metas: &[Row],
     votes: Vec<Row>,
 ) -> Result<Rows<B>, KeeperFault>
-    ensures rows { IfOk result (λ rows. rows_of C.reading metas.now votes.items ≡ Ok rows) }
-    ensures fault { IfErr result (λ fault. fault ≢ KeeperFault.Memory → rows_of C.reading metas.now votes.items ≡ Err fault) }
+    ensures rows { IfOk result (λ rows. rows_of C.reading (record { metas = metas.now; votes = votes.items }) ≡ Ok rows) }
+    ensures fault { IfErr result (λ fault. fault ≢ KeeperFault.Memory
+        → rows_of C.reading (record { metas = metas.now; votes = votes.items }) ≡ Err fault) }
     ensures below { IfErr result LiesBelow }
     ensures numbers { IfOk result (λ rows. are_numbers (numbers_in_rows rows) ≡ true) }
 {

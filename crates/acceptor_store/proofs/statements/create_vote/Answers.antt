@@ -4,5 +4,5 @@ use Rattle.acceptor_store.proofs.Founding.{creates_vote}
 use Rattle.acceptor_store.proofs.statements.create_vote.Goals as goal
 
 pub returns-in-Ok-clause-made : goal.returns-in-Ok-clause-made
-returns-in-Ok-clause-made g c clean inside has none =
-    creates_vote (state g.S.Store c.args.tx.now.conn.now) (state g.S.Store c.execute_create_vote.new.tx.conn.now) (Ok c.in-Ok.field-0) has none (c.in-Ok.ensures.runs clean inside).0
+returns-in-Ok-clause-made g c clean inside has =
+    creates_vote (state g.S.Store c.args.tx.now.conn.now) (state g.S.Store c.execute_create_vote.new.tx.conn.now) (Ok c.in-Ok.field-0) has (c.in-Ok.ensures.runs clean inside).0

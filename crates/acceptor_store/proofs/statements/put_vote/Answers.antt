@@ -4,7 +4,7 @@ use Rattle.std.specs.Int.{w64}
 use Rattle.sqlite.specs.Held.{state}
 use Rattle.sqlite.specs.State.{Executes}
 use Rattle.paxos_packets.specs.Vote.{put_vote}
-use Rattle.acceptor_store.specs.Tables.{put_vote_text, vote_row}
+use Rattle.acceptor_store.specs.Tables.{vote_table, put_vote_text, vote_row}
 use Rattle.acceptor_store.specs.Store.{AreVotes}
 use Rattle.acceptor_store.proofs.Putting.{puts_vote, vote_params, votes_put}
 use Rattle.acceptor_store.proofs.Refusing.{below_conn}
@@ -22,11 +22,9 @@ returns-in-Ok-clause-put g c clean inside has promised votes v are is under =
     let known : Executes put_vote_text (vote_params c.args.slot round node entry) old new (Ok c.in-Ok.field-0) =
     rw (c.signed.ensures, c.signed-round.ensures, c.signed-node.ensures, c.node_in.ensures.value, to_z_pos w64 c.args.slot c.requires.slot, to_z_pos w64 round c.requires.round, to_z_pos w64 node small) at ran in
     let put = puts_vote old new c.args.slot round node entry (Ok c.in-Ok.field-0) has known in (
-      put.schema,
-      put.sound,
-      put.meta,
-      subst (λ tree. AreVotes g.C.Coder.reading promised tree (put_vote v votes)) (sym put.votes)
-          (votes_put g.C.Coder.reading promised (old.now.trees 1) votes are (vote_row c.args.slot round node entry) v is under put.found put.conflict put.free),
+      put.edits,
+      subst (λ tree. AreVotes g.C.Coder.reading promised tree (put_vote v votes)) (sym put.rows)
+          (votes_put g.C.Coder.reading promised (old.now.trees 1) votes are (vote_row c.args.slot round node entry) v is under vote_table put.found put.conflict put.free),
     )
 
 pub returns-in-Err-clause-below : goal.returns-in-Err-clause-below

@@ -1,4 +1,4 @@
-use Rattle.std.proofs.Common.{◌≡◌, ◌∙◌, [], ap, sym, subst, arith, map}
+use Rattle.std.proofs.Common.{◌≡◌, ◌∙◌, [], ap, sym, subst, arith}
 use Rattle.std.specs.Prelude.{IsPermutation}
 use Rattle.sqlite_schema.specs.declared.schema.Schema.{Schema}
 use Rattle.sqlite.specs.Effect.{Database}
@@ -7,7 +7,8 @@ use Rattle.sqlite.specs.Listing.{understood}
 use Rattle.sqlite.specs.State.{HasCleanDisk}
 use Rattle.sqlite.proofs.Callers.{IsPlain, never_commits, unchanged_then}
 use Rattle.sqlite.proofs.StateLemmas.{survives_then}
-use Rattle.acceptor_store.specs.Tables.{store_schema, vote_columns, read_meta_text, read_votes_text}
+use Rattle.acceptor_store.specs.Tables.{store_schema, read_meta_text, read_votes_text}
+use Rattle.acceptor_store.specs.Statements.{shown_in}
 use Rattle.acceptor_store.proofs.Reading.{read_meta_plain, read_votes_plain, shows_no_commit}
 use Rattle.acceptor_store.proofs.statements.read_tables.Goals as goal
 
@@ -34,11 +35,12 @@ returns-in_err-votes-clause-survives g c =
 pub returns-clause-shown : goal.returns-clause-shown
 returns-clause-shown g c clean =
     let early : HasCleanDisk (state g.S.Store c.read_meta.new.conn) = omega (arith, c.read_votes.ensures.survives.clean) in
-    let same = c.in_ok-metas.ensures.same early c.requires in (
-      c.in_ok-metas.ensures.shown early c.requires,
-      subst (λ (d : Database). IsPermutation (map vote_columns (d.trees 1)) c.in_ok-votes.votes.items) same.0.now_is
-          (c.in_ok-votes.ensures.shown clean (ap (λ (d : Database). d.schema) same.0.now_is ∙ c.requires)),
-    )
+    let same = c.in_ok-metas.ensures.same early c.requires in
+    record {
+      metas = c.in_ok-metas.ensures.shown early c.requires;
+      votes = subst (λ (d : Database). IsPermutation (shown_in d.trees).votes c.in_ok-votes.votes.items) same.0.now_is
+          (c.in_ok-votes.ensures.shown clean (ap (λ (d : Database). d.schema) same.0.now_is ∙ c.requires));
+    }
 
 pub returns-clause-same : goal.returns-clause-same
 returns-clause-same g c clean =
