@@ -8,6 +8,7 @@ use Rattle.paxos_packets.specs.declared.entry.Entry.{Entry}
 use Rattle.paxos_packets.specs.declared.transport.Transport.{Transport}
 use Rattle.paxos_packets.specs.Transport.{same_transport}
 use Rattle.replica_machine.specs.Log.{Begins, LogState}
+use Rattle.replica_machine.specs.Roll.{IsRollOf}
 use Rattle.replica_machine.specs.Replay.{Machine, state, sayings_behind, sayings_by_slot}
 use Rattle.replica_follower.specs.declared.handed.Told.{Told}
 use Rattle.replica_follower.specs.declared.deferred.BootSlot.{BootSlot}
@@ -71,11 +72,14 @@ LaterBootsAreKept B M S Y =
 abbrev pub HasHeard : {B M : Type 0} → ℕ → LogState B M → Type 0
 HasHeard stands applied = (applied.failed ≡ true) ⊎ (stands < length applied.applied)
 
--- the log holds the entries that the machine followed, and nothing ahead of them; if the machine is not given up it holds no more, and
--- nothing is deferred of indices after them; and it is given up only after it was given an entry that its node has not had
+-- the log was never cut; it holds the entries that the machine followed, and nothing ahead of them; if the machine is not given up it
+-- holds no more, its roll is that of these, and nothing is deferred of indices after them; and it is given up only after it was given an
+-- entry that its node has not had
 pub record IsHeld {B M Y : Type 0} (stands : ℕ) (applied : LogState B M) (given_up : Bool) (deferred : List (BootSlot × Vec Y Global)) : Type 0 where
+  pub floor : applied.floor ≡ 0
   pub within : stands ≤ length applied.applied
   pub ahead : applied.ahead ≡ []
   pub whole : given_up ≡ false → length applied.applied ≡ stands
+  pub rolled : given_up ≡ false → IsRollOf applied.applied applied.roll
   pub behind : given_up ≡ false → (b i : ℕ) → stands ≤ i → deferred_at b i deferred ≡ []
   pub heard : given_up ≡ true → HasHeard stands applied

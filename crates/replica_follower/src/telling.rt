@@ -4,6 +4,7 @@ ghost use Rattle.std.specs.Prelude.{◌≡◌, ◌+◌, ◌<◌, ◌≤◌, ◌^
 ghost use Rattle.paxos_packets.specs.declared.transport.Transport.{Transport};
 ghost use Rattle.replica_machine.specs.Log.{Begins, Follows, machine_from};
 ghost use Rattle.replica_machine.specs.Replay.{sayings_by_slot};
+ghost use Rattle.replica_machine.specs.Roll.{IsRollOf};
 ghost use Rattle.replica_follower.specs.declared.telling.Untold.TheVariants.{Unheard, Heard};
 ghost use Rattle.replica_follower.specs.Following.{HasHeard, said_to, said_in_boot, deferred_at, deferred_from};
 ghost use Rattle.replica_follower.specs.Handed.{said_in, room_in};
@@ -46,8 +47,10 @@ pub fn tell<M: Machine>(
     requires slots { length applied.old.applied + vec_len entries < 2 ^ 40 }
     requires behind { (b i : ℕ) → length applied.old.applied ≤ i → deferred_at b i deferred.old ≡ [] }
     ensures ahead { applied.new.ahead ≡ [] }
+    ensures floor { applied.new.floor ≡ applied.old.floor }
     ensures applied { OnOk result (applied.new.applied ≡ applied.old.applied ++ entries.items) }
     ensures begins { OnErr result (Begins applied.old.applied applied.new.applied) }
+    ensures rolled { IsRollOf applied.old.applied applied.old.roll → OnOk result (IsRollOf applied.new.applied applied.new.roll) }
     ensures follows { (first : M.Content) → Follows (machine_from M.next M.says M.to) M.content first applied.old
         → OnOk result (Follows (machine_from M.next M.says M.to) M.content first applied.new) }
     ensures unheard { IsErrOf result Unheard → (applied.new ≡ applied.old) × (deferred.new ≡ deferred.old) }

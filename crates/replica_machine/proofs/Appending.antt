@@ -7,10 +7,9 @@ use Rattle.std.proofs.lemmas.List.{append-nil, append_assoc}
 use Rattle.paxos_packets.specs.declared.entry.Entry.{Entry}
 use Rattle.replica_machine.specs.declared.log.LearnFault.{LearnFault}
 use Rattle.replica_machine.specs.declared.log.LearnFault.TheVariants.{Disagree, Memory, Failed}
-use Rattle.replica_machine.specs.Log.{LogState, Begins, next_by, says_by}
-use Rattle.replica_machine.specs.Replay.{Machine, input_of, state, sayings_behind, sayings_by_slot}
-use Rattle.replica_machine.specs.Roll.{takes_effect}
-use Rattle.replica_machine.proofs.Applying.{said_behind, state_behind}
+use Rattle.replica_machine.specs.Log.{LogState, Begins, IsAt, IsLogOf}
+use Rattle.replica_machine.specs.Replay.{Machine, sayings_behind, sayings_by_slot}
+use Rattle.replica_machine.specs.Roll.{IsRollOf}
 
 pub rest_applied : {A : Type 0} (old new rest more all : List A) (e : A) → new ≡ old ++ e ∷ [] → rest ≡ e ∷ more → old ++ rest ≡ all
     → new ++ more ≡ all
@@ -21,23 +20,18 @@ pub begins_on : {B : Type 0} (log old new : List (Entry B)) (e : Entry B) → ne
 begins_on log old new e longer begins =
     (begins.0 ++ e ∷ [], sym (append_assoc log begins.0 (e ∷ [])) ∙ ap (λ l. l ++ e ∷ []) begins.1 ∙ sym longer)
 
-module _ {B S Y : Type 0} (m : Machine B S Y) where
-  pub state_on : (old new : List (Entry B)) (e : Entry B) (s t : S) → new ≡ old ++ e ∷ [] → s ≡ state m old
-      → t ≡ next_by m.next (takes_effect old e) s (input_of e) → t ≡ state m new
-  state_on old new e s t longer was goes =
-      goes ∙ ap (λ u. next_by m.next (takes_effect old e) u (input_of e)) was ∙ state_behind m old e ∙ ap (λ l. state m l) (sym longer)
-
-  pub said_on : (old new rest more : List (Entry B)) (e : Entry B) (s : S) (says : List Y) (said told all : List (List Y))
-      → new ≡ old ++ e ∷ [] → rest ≡ e ∷ more → s ≡ state m old → says ≡ says_by m.says (takes_effect old e) s (input_of e)
-      → told ≡ said ++ says ∷ [] → said ++ sayings_by_slot m old rest ≡ all → told ++ sayings_by_slot m new more ≡ all
-  said_on old new rest more e s says said told all longer first was says_is told_is h =
-      let here = says_is ∙ ap (λ u. says_by m.says (takes_effect old e) u (input_of e)) was ∙ said_behind m old e in
-      ap (λ l. l ++ sayings_by_slot m new more) told_is
-      ∙ append_assoc said (says ∷ []) (sayings_by_slot m new more)
-      ∙ ap (λ x. said ++ x ∷ sayings_by_slot m new more) here
-      ∙ ap (λ l. said ++ sayings_behind m old (e ∷ []) ∷ sayings_by_slot m l more) longer
-      ∙ ap (λ l. said ++ sayings_by_slot m old l) (sym first)
-      ∙ h
+-- what is said at the entries after a log, with the first of them applied
+pub said_on : {B S Y : Type 0} (m : Machine B S Y) (under old new rest more : List (Entry B)) (e : Entry B) (says : List Y)
+    (said told all : List (List Y)) → new ≡ old ++ e ∷ [] → rest ≡ e ∷ more → says ≡ sayings_behind m (under ++ old) (e ∷ [])
+    → told ≡ said ++ says ∷ [] → said ++ sayings_by_slot m (under ++ old) rest ≡ all → told ++ sayings_by_slot m (under ++ new) more ≡ all
+said_on m under old new rest more e says said told all longer first says_is told_is h =
+    ap (λ l. l ++ sayings_by_slot m (under ++ new) more) told_is
+    ∙ append_assoc said (says ∷ []) (sayings_by_slot m (under ++ new) more)
+    ∙ ap (λ x. said ++ x ∷ sayings_by_slot m (under ++ new) more) says_is
+    ∙ ap (λ l. said ++ sayings_behind m (under ++ old) (e ∷ []) ∷ sayings_by_slot m l more)
+    (ap (λ l. under ++ l) longer ∙ sym (append_assoc under old (e ∷ [])))
+    ∙ ap (λ l. said ++ sayings_by_slot m (under ++ old) l) (sym first)
+    ∙ h
 
 -- what holds of a success holds if there was no error
 pub if_not_err : {T E P : Type 0} (r : Result T E) → is_err r ≡ false → OnOk r P → P
@@ -84,7 +78,24 @@ module _ {B M : Type 0} (now inside : LogState B M) (same : inside ≡ now) wher
       → Begins front (now.applied ++ more)
   begins_to applied front more h = subst (λ l. Begins front (l ++ more)) (applied_is applied h)
 
-  pub state_inside : {S Y : Type 0} (m : Machine B S Y) (content : M → S) (applied : List (Entry B)) → applied ≡ inside.applied
-      → content now.machine ≡ state m now.applied → content inside.machine ≡ state m applied
-  state_inside m content applied h follows =
-      ap (λ (v : LogState B M). content v.machine) same ∙ follows ∙ ap (λ l. state m l) (sym (applied_is applied h))
+  pub floor_is : inside.floor ≡ now.floor
+  floor_is = ap (λ (v : LogState B M). v.floor) same
+
+  pub rolled_inside : (under applied : List (Entry B)) → applied ≡ inside.applied → IsRollOf (under ++ now.applied) now.roll
+      → IsRollOf (under ++ applied) inside.roll
+  rolled_inside under applied h rolled =
+      subst (λ l. IsRollOf (under ++ l) inside.roll) (sym h)
+      (subst (λ (v : LogState B M). IsRollOf (under ++ v.applied) v.roll) (sym same) rolled)
+
+  pub stands_inside : {S Y : Type 0} (from : S → Machine B S Y) (content : M → S) (first : S) (under applied : List (Entry B))
+      → applied ≡ inside.applied → IsLogOf from content first under now
+      → IsAt from content first (under ++ applied) inside.roll inside.machine
+  stands_inside from content first under applied h stands =
+      subst (λ l. IsAt from content first (under ++ l) inside.roll inside.machine) (sym h)
+      (subst (λ (v : LogState B M). IsAt from content first (under ++ v.applied) v.roll v.machine) (sym same) stands.stands)
+
+  -- the log goes on with these, and its floor stays
+  pub log_on : {S Y : Type 0} (from : S → Machine B S Y) (content : M → S) (first : S) (under : List (Entry B)) (new : LogState B M)
+      → new.floor ≡ inside.floor → IsLogOf from content first under now
+      → IsAt from content first (under ++ new.applied) new.roll new.machine → IsLogOf from content first under new
+  log_on from content first under new floor was stands = record { below = was.below ∙ sym (floor ∙ floor_is); stands = stands }

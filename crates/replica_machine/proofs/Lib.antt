@@ -5,3 +5,4 @@ pub mod Wanted
 pub mod Replaying
 pub mod Applying
 pub mod Appending
+pub mod Snapshots

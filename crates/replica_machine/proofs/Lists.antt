@@ -1,7 +1,7 @@
 -- Lists that grow at the end.
 use Rattle.std.proofs.Common.{◌≡◌, ◌⊎◌, inl, inr, ⊎_elim, ℕ, suc, ◌+◌, ◌<◌, ◌≤◌, Bool, true, false, not, ◌&&◌, ◌||◌, cond, eqb, ltb, refl}
 use Rattle.std.proofs.Common.{sym, ap, ◌∙◌, subst, arith, List, [], ◌∷◌, ◌++◌, Option, Some, None, drop}
-use Rattle.std.specs.Prelude.{max, count_by}
+use Rattle.std.specs.Prelude.{max, count_by, Result, Ok, Err, OnOk}
 use Rattle.std.specs.List.{list_any, list_all, filter_map, cons_option, after_first, position_or_len, fold, reduce}
 use Rattle.std.proofs.lemmas.Bool.{cases_lt, or_left, or_right, ltb-true, eq-eqb, ne_eqb, and_parts}
 use Rattle.std.proofs.lemmas.Bool.Decides.{nat_tests}
@@ -150,3 +150,17 @@ none_above (x ∷ xs) b e =
     let p = and_parts (ltb x b) (list_all (λ c. ltb c b) xs) e in
     let l : x < b = ltb-true x b p.0 in
     ap (λ t. t || list_any (λ c. eqb c b) xs) (ne_eqb x b (λ q. absurd (omega arith))) ∙ none_above xs b p.1
+
+-- lists that are put at the end of another, one after the other
+pub two_put : {A : Type 0} (a b old mid new : List A) → mid ≡ old ++ a → new ≡ mid ++ b → new ≡ old ++ (a ++ b)
+two_put a b old mid new first more = more ∙ ap (λ l. l ++ b) first ∙ append_assoc old a b
+
+pub three_put : {A : Type 0} (a b c old mid late new : List A) → mid ≡ old ++ a → late ≡ mid ++ b → new ≡ late ++ c
+    → new ≡ old ++ (a ++ (b ++ c))
+three_put a b c old mid late new first more last = two_put a (b ++ c) old mid new first (two_put b c mid late new more last)
+
+-- the second of them by a call that is returned
+pub two_put_ok : {A T E : Type 0} (r : Result T E) (a b old mid new : List A) → mid ≡ old ++ a → OnOk r (new ≡ mid ++ b)
+    → OnOk r (new ≡ old ++ (a ++ b))
+two_put_ok (Ok _) a b old mid new first more = two_put a b old mid new first more
+two_put_ok (Err _) a b old mid new first more = tt

@@ -4,3 +4,8 @@ pub mod Replay
 pub mod Laws
 pub mod Examples
 pub mod Log
+pub mod Fault
+pub mod Given
+pub mod Snapshot
+pub mod SnapshotExamples
+pub mod SnapshotLaws

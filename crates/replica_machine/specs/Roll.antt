@@ -43,12 +43,27 @@ standing_from n s log = fold (standing_after n) s log
 abbrev pub standing : {B : Type 0} → ℕ → List (Entry B) → Standing
 standing n log = standing_from n Unknown log
 
+-- where each node stands after a log
+abbrev pub standings : {B : Type 0} → List (Entry B) → ℕ → Standing
+standings log = λ n. standing n log
+
+-- the same from where the nodes stand: after one more entry, and after these
+abbrev pub standings_after : {B : Type 0} → (ℕ → Standing) → Entry B → ℕ → Standing
+standings_after stands e = λ n. standing_after n (stands n) e
+
+abbrev pub standings_from : {B : Type 0} → (ℕ → Standing) → List (Entry B) → ℕ → Standing
+standings_from stands es = λ n. standing_from n (stands n) es
+
+-- whether an entry takes effect where the nodes stand so
+abbrev pub takes_by : {B : Type 0} → (ℕ → Standing) → Entry B → Bool
+takes_by stands Noop = false
+takes_by stands (Boot n b) = is_new_boot (stands n) b
+takes_by stands (Lost n b) = is_live (stands n) b
+takes_by stands (Item n b q t x) = is_next (stands n) b q
+
 -- whether an entry takes effect after a log
 abbrev pub takes_effect : {B : Type 0} → List (Entry B) → Entry B → Bool
-takes_effect log Noop = false
-takes_effect log (Boot n b) = is_new_boot (standing n log) b
-takes_effect log (Lost n b) = is_live (standing n log) b
-takes_effect log (Item n b q t x) = is_next (standing n log) b q
+takes_effect log = takes_by (standings log)
 
 -- the Item of the live boot with this number took effect
 abbrev pub was_taken : Standing → ℕ → ℕ → Bool
@@ -56,12 +71,16 @@ was_taken Unknown b q = false
 was_taken (Live c taken) b q = (c == b) && nat_le q taken
 was_taken (Gone c) b q = false
 
--- whether an entry stays pending after a log: neither a Boot nor an Item that took effect, nor a Lost whose boot isn't live
+-- whether an entry stays pending where the nodes stand so: neither a Boot nor an Item that took effect, nor a Lost whose boot isn't live
+abbrev pub is_wanted_by : {B : Type 0} → (ℕ → Standing) → Entry B → Bool
+is_wanted_by stands Noop = false
+is_wanted_by stands (Boot n b) = is_new_boot (stands n) b
+is_wanted_by stands (Lost n b) = is_live (stands n) b
+is_wanted_by stands (Item n b q t x) = not (was_taken (stands n) b q)
+
+-- whether an entry stays pending after a log
 abbrev pub is_wanted : {B : Type 0} → List (Entry B) → Entry B → Bool
-is_wanted log Noop = false
-is_wanted log (Boot n b) = is_new_boot (standing n log) b
-is_wanted log (Lost n b) = is_live (standing n log) b
-is_wanted log (Item n b q t x) = not (was_taken (standing n log) b q)
+is_wanted log = is_wanted_by (standings log)
 
 -- the live boot of a node with this standing
 abbrev pub live_in : Standing → Option ℕ
@@ -84,6 +103,10 @@ effective_behind log (e ∷ es) = (if takes_effect log e then e ∷ [] else []) 
 abbrev pub standing_in : List Standing → ℕ → Standing
 standing_in roll n = slice_index_or roll n Unknown
 
+-- the roll says where each node stands
+abbrev pub HasStandings : (ℕ → Standing) → List Standing → Type 0
+HasStandings stands roll = (n : ℕ) → n < 256 → standing_in roll n ≡ stands n
+
 -- the roll has each node's standing after the log
 abbrev pub IsRollOf : {B : Type 0} → List (Entry B) → List Standing → Type 0
-IsRollOf log roll = (n : ℕ) → n < 256 → standing_in roll n ≡ standing n log
+IsRollOf log = HasStandings (standings log)

@@ -2,12 +2,16 @@
 //! Simple, 2001, section 3: every server runs the same state machine over the chosen commands).
 #![tactic(auto)]
 
+mod fault;
+mod head;
 mod input;
 pub mod laws;
 mod log;
 mod machine;
 mod roll;
+mod steps;
 
+pub use fault::{LoadFault, SaveFault};
 pub use input::Input;
 pub use log::{AppliedLog, LearnFault, Step};
 pub use machine::{Failed, Machine};

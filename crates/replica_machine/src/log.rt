@@ -1,17 +1,24 @@
-ghost use Rattle.std.specs.Prelude.{◌≡◌, ◌↔◌, ◌<◌, ◌++◌, [], ◌∷◌, Option, Some, None, true, false, IsErr, IsOk};
-ghost use Rattle.std.specs.Prelude.{IsOkUnless, IsErrOf, IfOk, IfErr, OnOk, OnErr, IfSome, IfNone, if◌then◌else◌};
-ghost use Rattle.std.specs.Prelude.{Err, ◌≢◌, ◌+◌, ◌≤◌, length, map, vec_len, vec_capacity};
+ghost use Rattle.std.specs.Prelude.{◌≡◌, ◌↔◌, ◌<◌, ◌++◌, [], ◌∷◌, Option, Some, None, true, false, IsErr, IsOk, IsErrOf, IsOkUnless};
+ghost use Rattle.std.specs.Prelude.{IfOk, IfErr, OnOk, OnErr, IfSome, IfNone, IsSomeAnd, if◌then◌else◌, List};
+ghost use Rattle.std.specs.Prelude.{Err, ◌≢◌, ◌+◌, ◌-◌, ◌^◌, ◌≤◌, ◌||◌, min, length, map, vec_len};
 ghost use Rattle.std.specs.Option.{option_copied};
-ghost use Rattle.replica_machine.specs.Log.{learn_fault_number, LogState, learned_in, next_slot, Disagrees, Learns, Applies};
-ghost use Rattle.replica_machine.specs.Log.{Follows, Begins, machine_from, is_slot, next_by, says_by};
-ghost use Rattle.replica_machine.specs.Replay.{input_of, state, sayings_by_slot};
-ghost use Rattle.replica_machine.specs.Roll.{IsRollOf, takes_effect};
+ghost use Rattle.paxos_packets.specs.declared.entry.Entry.{Entry};
+ghost use Rattle.replica_machine.specs.declared.fault.SaveFault.TheVariants as save;
+ghost use Rattle.replica_machine.specs.Log.{learn_fault_number, learned_in, length_in, next_slot, first_log, cut_log};
+ghost use Rattle.replica_machine.specs.Log.{Disagrees, Learns, Applies};
+ghost use Rattle.replica_machine.specs.Log.{IsLogOf, Follows, Begins, machine_from, is_slot};
+ghost use Rattle.replica_machine.specs.Given.{AreGiven};
+ghost use Rattle.replica_machine.specs.Replay.{sayings_by_slot};
+ghost use Rattle.replica_machine.specs.Roll.{IsRollOf};
+ghost use Rattle.replica_machine.specs.Snapshot.{kept_of, kept_octets, loaded_log, IsLoaded};
 
-use crate::input::Input;
+use crate::fault::{LoadFault, SaveFault};
+use crate::head::{Head, put_kept, take_head};
 use crate::machine::{Failed, Machine};
 use crate::roll::Roll;
+use crate::steps::{apply, apply_all};
 use indexmap::IndexMap;
-use paxos_packets::{Body, Entry, Slot, Transport};
+use paxos_packets::{Body, Entry, Slot};
 use std::alloc::{AllocFailed, Global};
 use std::marker::Model;
 use thiserror::Error;
@@ -65,6 +72,7 @@ pub struct Step<Y> {
 ///
 /// Entries that are learned ahead of the next slot are kept in a hash table, by their slots. An entry is never copied.
 pub struct AppliedLog<M: Machine> {
+    floor: u64,
     applied: Vec<Entry<M::Body>>,
     ahead: IndexMap<Slot, Entry<M::Body>>,
     roll: Roll,
@@ -75,6 +83,7 @@ pub struct AppliedLog<M: Machine> {
 impl<M: Machine> Drop for AppliedLog<M> {
     fn drop(self) {
         let AppliedLog {
+            floor: _,
             applied: _applied,
             ahead: _ahead,
             roll: _roll,
@@ -85,25 +94,32 @@ impl<M: Machine> Drop for AppliedLog<M> {
 }
 
 impl<M: Machine> Model for AppliedLog<M> {
-    ghost use Rattle.std.specs.Prelude.{◌≡◌, false};
+    ghost use Rattle.std.specs.Prelude.{◌<◌, ◌^◌};
     ghost use Rattle.replica_machine.specs.Log.{LogState};
-    ghost use Rattle.replica_machine.specs.Roll.{IsRollOf};
 
     ghost Value = { LogState M.Body M };
 
-    ghost view = { λ a. record { applied = a.applied.items; ahead = a.ahead.entries; machine = a.machine; failed = a.failed } };
+    ghost view = { λ a. record {
+      floor = a.floor;
+      applied = a.applied.items;
+      ahead = a.ahead.entries;
+      roll = a.roll;
+      machine = a.machine;
+      failed = a.failed;
+    } };
 
-    ghost invariant = { λ a. a.failed ≡ false → IsRollOf a.applied.items a.roll };
+    ghost invariant = { λ a. a.floor < 2 ^ 40 };
 }
 
 impl<M: Machine> AppliedLog<M> {
     /// Returns a log in which nothing is learned, and the machine that is to follow it. Does not allocate; `learn` and `advance` will, from
     /// `alloc`.
     pub fn new(alloc: Global, machine: M) -> AppliedLog<M>
-        ensures empty { result ≡ record { applied = []; ahead = []; machine = machine; failed = false } }
+        ensures empty { result ≡ first_log machine }
         ensures follows { Follows (machine_from M.next M.says M.to) M.content (M.content machine) result }
     {
         AppliedLog {
+            floor: 0,
             applied: Vec::new(alloc),
             ahead: IndexMap::new(alloc),
             roll: Roll::new(),
@@ -117,7 +133,10 @@ impl<M: Machine> AppliedLog<M> {
         ensures value { option_copied result ≡ learned_in slot self.now }
         ensures slot { is_slot slot ≡ true }
     {
-        let before = (slot.get() - 1) as usize;
+        if slot.get() <= self.floor {
+            return None;
+        }
+        let before = (slot.get() - self.floor - 1) as usize;
         if before < self.applied.len() {
             self.applied.get(before)
         } else {
@@ -125,12 +144,14 @@ impl<M: Machine> AppliedLog<M> {
         }
     }
 
-    /// Learns the slot's entry. The same entry again changes nothing.
+    /// Learns the slot's entry. The same entry again changes nothing, nor does any entry of a slot up to the floor.
     ///
     /// Returns `Disagree` if another entry is learned there, `Memory` if memory for the entry runs out, and `Failed` if the log has failed;
     /// the log is then as it was. Takes constant time on average, whatever the log's length.
     pub fn learn(&mut self, slot: Slot, entry: Entry<M::Body>) -> Result<(), LearnFault>
-        ensures ok { OnOk result (Learns slot entry self.old self.new) }
+        ensures ok { self.old.floor < slot → OnOk result (Learns slot entry self.old self.new) }
+        ensures forgotten { slot ≤ self.old.floor → self.new ≡ self.old }
+        ensures forgotten_ok { self.old.failed ≡ false → slot ≤ self.old.floor → IsOk result }
         ensures err { OnErr result (self.new ≡ self.old) }
         ensures failed { self.old.failed ≡ true → IsErrOf result LearnFault.Failed }
         ensures disagree { self.old.failed ≡ false → (IsErrOf result LearnFault.Disagree ↔ Disagrees slot entry self.old) }
@@ -139,6 +160,9 @@ impl<M: Machine> AppliedLog<M> {
     {
         if self.failed {
             return Err(LearnFault::Failed);
+        }
+        if slot.get() <= self.floor {
+            return Ok(());
         }
         if let Some(learned) = self.learned(slot) {
             return if learned.same(&entry) {
@@ -151,11 +175,18 @@ impl<M: Machine> AppliedLog<M> {
         Ok(())
     }
 
+    // Returns how many slots are applied, with those up to the floor, or the greatest number there is.
+    fn length(&self) -> u64
+        ensures { result ≡ min (length_in self.now) (2 ^ 64 - 1) }
+    {
+        self.floor.saturating_add(self.applied.len() as u64)
+    }
+
     // Returns the slot that is applied next, or `None` after the last one.
     fn next_slot(&self) -> Option<Slot>
         ensures { result ≡ (if is_slot (next_slot self.now) then Some (next_slot self.now) else None) }
     {
-        Slot::new((self.applied.len() as u64).saturating_add(1))
+        Slot::new(self.length().saturating_add(1))
     }
 
     /// Applies the next slot if its entry is learned, and returns what came of it; `None` if it is not learned.
@@ -202,6 +233,7 @@ impl<M: Machine> AppliedLog<M> {
         ensures applied { OnOk result (self.new.applied ≡ self.old.applied ++ entries.items) }
         ensures count { IfOk result (λ said. vec_len said ≡ length entries.items) }
         ensures ahead { self.new.ahead ≡ [] }
+        ensures floor { self.new.floor ≡ self.old.floor }
         ensures alive { OnOk result (self.new.failed ≡ false) }
         ensures failed { self.old.failed ≡ true → result ≡ Err LearnFault.Failed }
         ensures memory { IsErrOf result LearnFault.Memory → self.new ≡ self.old }
@@ -214,6 +246,15 @@ impl<M: Machine> AppliedLog<M> {
         ensures says { (first : M.Content) → Follows (machine_from M.next M.says M.to) M.content first self.old
             → IfOk result (λ said. map (λ says. says.items) said.items
             ≡ sayings_by_slot (machine_from M.next M.says M.to first) self.old.applied entries.items) }
+        ensures rolled { (under : List (Entry M.Body)) → IsRollOf (under ++ self.old.applied) self.old.roll
+            → OnOk result (IsRollOf (under ++ self.new.applied) self.new.roll) }
+        ensures goes_on { (first : M.Content) (under : List (Entry M.Body))
+            → IsLogOf (machine_from M.next M.says M.to) M.content first under self.old
+            → OnOk result (IsLogOf (machine_from M.next M.says M.to) M.content first under self.new) }
+        ensures told { (first : M.Content) (under : List (Entry M.Body))
+            → IsLogOf (machine_from M.next M.says M.to) M.content first under self.old
+            → IfOk result (λ said. map (λ says. says.items) said.items
+            ≡ sayings_by_slot (machine_from M.next M.says M.to first) (under ++ self.old.applied) entries.items) }
     {
         if self.failed {
             return Err(LearnFault::Failed);
@@ -237,7 +278,86 @@ impl<M: Machine> AppliedLog<M> {
         Ok(said)
     }
 
-    /// Returns the entries that are applied, in the order of their slots from slot 1 on. Does not allocate.
+    /// Forgets the entries that are applied: the log's length is its floor from then on. The machine stays as it is. A log that is longer
+    /// than there are slots, which only `append` makes, stays as it was. Does not allocate.
+    pub fn cut(&mut self)
+        ensures cut { self.new ≡ cut_log self.old }
+        ensures stands { (first : M.Content) (under : List (Entry M.Body))
+            → IsLogOf (machine_from M.next M.says M.to) M.content first under self.old → length_in self.old < 2 ^ 40
+            → IsLogOf (machine_from M.next M.says M.to) M.content first (under ++ self.old.applied) self.new }
+    {
+        let length = self.length();
+        if length >= 1 << 40 {
+            return;
+        }
+        self.floor = length;
+        self.applied.clear();
+    }
+
+    /// Returns the octets of the log: its length, where nodes 1 to 7 stand after it, and its machine's. The entries are in none of them,
+    /// nor are those ahead.
+    ///
+    /// Fails with `Failed`, exactly if the log or its machine has failed, and with `Memory`. `load` of the octets is a log that stands for
+    /// the same one, if the content at first was sound, and the entries name nodes 1 to 7 and boots, Items and transports from 1.
+    ///
+    /// Takes the time of the machine's own `save`, and a copy of its octets.
+    pub fn save(&self) -> Result<Vec<u8>, SaveFault>
+        ensures failed { IsErrOf result save.Failed ↔ ((self.now.failed || M.has_failed self.now.machine) ≡ true) }
+        ensures octets { IfOk result (λ octets. octets.items ≡ kept_octets M.saved (kept_of M.content self.now)) }
+        ensures fault { (self.now.failed || M.has_failed self.now.machine) ≡ false → IsOkUnless result save.Memory }
+        ensures back { (first : M.Content) (under : List (Entry M.Body))
+            → IsLogOf (machine_from M.next M.says M.to) M.content first under self.now → M.is_sound first
+            → AreGiven (under ++ self.now.applied) → length_in self.now < 2 ^ 40
+            → IfOk result (λ octets. loaded_log M.loaded octets.items ≡ Some (kept_of M.content self.now)) }
+    {
+        if self.failed {
+            return Err(SaveFault::Failed);
+        }
+        let alloc = *self.applied.allocator();
+        let machine = self.machine.save(alloc)?;
+        let Some(floor) = self.floor.checked_add(self.applied.len() as u64) else {
+            return Err(SaveFault::Memory);
+        };
+        let head = Head {
+            floor,
+            standings: self.roll.seven(),
+        };
+        let mut octets = Vec::new(alloc);
+        let done = put_kept(&head, &machine, &mut octets);
+        drop(machine);
+        done.and(Ok(octets))
+    }
+
+    /// Returns a log of the length that these octets say, in which no entry is left, and nothing is learned ahead.
+    ///
+    /// Fails with `Damaged` if they are none that a log is saved as: if octets are missing or left, or a number is out of its range; and
+    /// with `Memory`.
+    pub fn load(alloc: Global, octets: &[u8]) -> Result<AppliedLog<M>, LoadFault>
+        ensures loaded { IfOk result (λ log. IsSomeAnd (loaded_log M.loaded octets.now) (λ kept. IsLoaded M.content kept log)) }
+        ensures damaged { IsErrOf result LoadFault.Damaged → loaded_log M.loaded octets.now ≡ None }
+    {
+        let Ok((head, rest)) = take_head(octets) else {
+            return Err(LoadFault::Damaged);
+        };
+        let machine = M::load(alloc, rest)?;
+        Ok(AppliedLog {
+            floor: head.floor,
+            applied: Vec::new(alloc),
+            ahead: IndexMap::new(alloc),
+            roll: Roll::of(head.standings),
+            machine,
+            failed: false,
+        })
+    }
+
+    /// Returns the slot up to which the entries are forgotten, 0 at first. Does not allocate.
+    pub fn floor(&self) -> u64
+        ensures { result ≡ self.now.floor }
+    {
+        self.floor
+    }
+
+    /// Returns the entries that are applied after the floor, in the order of their slots. Does not allocate.
     pub fn applied(&self) -> &[Entry<M::Body>]
         ensures { result.now ≡ self.now.applied }
     {
@@ -250,171 +370,4 @@ impl<M: Machine> AppliedLog<M> {
     {
         &self.machine
     }
-}
-
-// Applies the entry in the next slot. After an error the applied entries are as they were.
-fn apply<M: Machine>(
-    applied: &mut Vec<Entry<M::Body>>,
-    roll: &mut Roll,
-    machine: &mut M,
-    slot: Slot,
-    entry: Entry<M::Body>,
-) -> Result<Step<M::Say>, Failed>
-    requires { IsRollOf applied.old.items roll.old }
-    ensures ok { OnOk result (applied.new.items ≡ applied.old.items ++ entry ∷ []) }
-    ensures err { OnErr result (applied.new.items ≡ applied.old.items) }
-    ensures roll { OnOk result (IsRollOf applied.new.items roll.new) }
-    ensures slot { IfOk result (λ step. step.slot ≡ slot) }
-    ensures took { IfOk result (λ step. step.took ≡ takes_effect applied.old.items entry) }
-    ensures content { OnOk result (M.content machine.new
-        ≡ next_by M.next (takes_effect applied.old.items entry) (M.content machine.old) (input_of entry)) }
-    ensures says { IfOk result (λ step. step.says.items
-        ≡ says_by M.says (takes_effect applied.old.items entry) (M.content machine.old) (input_of entry)) }
-{
-    applied.reserve(1)?;
-    let (took, says) = apply_in_room(applied, roll, machine, entry)?;
-    Ok(Step { slot, took, says })
-}
-
-// Applies the entry, given room for it: returns whether it took effect, and what was said.
-fn apply_in_room<M: Machine>(
-    applied: &mut Vec<Entry<M::Body>>,
-    roll: &mut Roll,
-    machine: &mut M,
-    entry: Entry<M::Body>,
-) -> Result<(bool, Vec<M::Say>), Failed>
-    requires roll { IsRollOf applied.old.items roll.old }
-    requires room { vec_len applied.old < vec_capacity applied.old }
-    ensures ok { OnOk result (applied.new.items ≡ applied.old.items ++ entry ∷ []) }
-    ensures err { OnErr result (applied.new.items ≡ applied.old.items) }
-    ensures length { OnOk result (vec_len applied.new ≡ vec_len applied.old + 1) }
-    ensures capacity { vec_capacity applied.new ≡ vec_capacity applied.old }
-    ensures roll { OnOk result (IsRollOf applied.new.items roll.new) }
-    ensures took { IfOk result (λ did. did.0 ≡ takes_effect applied.old.items entry) }
-    ensures content { OnOk result (M.content machine.new
-        ≡ next_by M.next (takes_effect applied.old.items entry) (M.content machine.old) (input_of entry)) }
-    ensures says { IfOk result (λ did. did.1.items
-        ≡ says_by M.says (takes_effect applied.old.items entry) (M.content machine.old) (input_of entry)) }
-{
-    let took = roll.take(&entry);
-    let (entry, said) = follow(machine, *applied.allocator(), took, entry);
-    let says = said?;
-    applied.push_reserved(entry);
-    Ok((took, says))
-}
-
-// Applies the entries after those that are applied, given room for them, and appends what was said at each to `said`. After an error some
-// of them may be applied.
-fn apply_all<M: Machine>(
-    applied: &mut Vec<Entry<M::Body>>,
-    roll: &mut Roll,
-    machine: &mut M,
-    entries: Vec<Entry<M::Body>>,
-    said: &mut Vec<Vec<M::Say>>,
-) -> Result<(), Failed>
-    requires roll { IsRollOf applied.old.items roll.old }
-    requires room { vec_len applied.old + vec_len entries ≤ vec_capacity applied.old }
-    requires said_room { vec_len said.old + vec_len entries ≤ vec_capacity said.old }
-    ensures applied { OnOk result (applied.new.items ≡ applied.old.items ++ entries.items) }
-    ensures count { OnOk result (vec_len said.new ≡ vec_len said.old + length entries.items) }
-    ensures roll { OnOk result (IsRollOf applied.new.items roll.new) }
-    ensures err { OnErr result (Begins applied.old.items applied.new.items) }
-    ensures front { OnErr result (Begins applied.new.items (applied.old.items ++ entries.items)) }
-    ensures content { (first : M.Content) → M.content machine.old ≡ state (machine_from M.next M.says M.to first) applied.old.items
-        → OnOk result (M.content machine.new ≡ state (machine_from M.next M.says M.to first) applied.new.items) }
-    ensures said { (first : M.Content) → M.content machine.old ≡ state (machine_from M.next M.says M.to first) applied.old.items
-        → OnOk result (map (λ says. says.items) said.new.items ≡ map (λ says. says.items) said.old.items
-        ++ sayings_by_slot (machine_from M.next M.says M.to first) applied.old.items entries.items) }
-{
-    for entry in entries {
-        let (_took, says) = apply_in_room(applied, roll, machine, entry)?;
-        said.push_reserved(says);
-    }
-    Ok(())
-}
-
-// Does the machine's part in a slot: lends it the entry if that takes effect. Returns the entry, with what the machine said.
-fn follow<M: Machine>(
-    machine: &mut M,
-    alloc: Global,
-    took: bool,
-    entry: Entry<M::Body>,
-) -> (Entry<M::Body>, Result<Vec<M::Say>, Failed>)
-    ensures entry { result.0 ≡ entry }
-    ensures content { OnOk result.1 (M.content machine.new ≡ next_by M.next took (M.content machine.old) (input_of entry)) }
-    ensures says { IfOk result.1 (λ says. says.items ≡ says_by M.says took (M.content machine.old) (input_of entry)) }
-{
-    if took {
-        lend(machine, alloc, entry)
-    } else {
-        (entry, Ok(Vec::new(alloc)))
-    }
-}
-
-// Lends the entry to the machine, and returns it with what the machine said.
-fn lend<M: Machine>(
-    machine: &mut M,
-    alloc: Global,
-    entry: Entry<M::Body>,
-) -> (Entry<M::Body>, Result<Vec<M::Say>, Failed>)
-    ensures entry { result.0 ≡ entry }
-    ensures content { OnOk result.1 (M.content machine.new ≡ next_by M.next true (M.content machine.old) (input_of entry)) }
-    ensures says { IfOk result.1 (λ says. says.items ≡ says_by M.says true (M.content machine.old) (input_of entry)) }
-{
-    match entry {
-        Entry::Noop => (Entry::Noop, Ok(Vec::new(alloc))),
-        Entry::Boot { node, boot } => {
-            let said = machine.apply(&Input::Boot { node, boot });
-            (Entry::Boot { node, boot }, said)
-        },
-        Entry::Lost { node, boot } => {
-            let said = machine.apply(&Input::Lost { node, boot });
-            (Entry::Lost { node, boot }, said)
-        },
-        Entry::Item {
-            node,
-            boot,
-            seq,
-            transport,
-            body,
-        } => {
-            let (body, said) = lend_body(
-                machine,
-                Transport {
-                    node,
-                    boot,
-                    number: transport,
-                },
-                body,
-            );
-            (
-                Entry::Item {
-                    node,
-                    boot,
-                    seq,
-                    transport,
-                    body,
-                },
-                said,
-            )
-        },
-    }
-}
-
-// Lends an Item's body to the machine.
-fn lend_body<M: Machine>(
-    machine: &mut M,
-    transport: Transport,
-    body: M::Body,
-) -> (M::Body, Result<Vec<M::Say>, Failed>)
-    ensures body { result.0 ≡ body }
-    ensures content { OnOk result.1 (M.content machine.new ≡ M.next (M.content machine.old) (Input.Item transport body)) }
-    ensures says { IfOk result.1 (λ says. says.items ≡ M.says (M.content machine.old) (Input.Item transport body)) }
-{
-    let input = Input::Item { transport, body };
-    let said = machine.apply(&input);
-    let Input::Item { body, .. } = input else {
-        unreachable!()
-    };
-    (body, said)
 }

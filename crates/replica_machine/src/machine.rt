@@ -1,10 +1,14 @@
-ghost use Rattle.std.specs.Prelude.{◌≡◌, Bool, true, false, List, IfOk, OnOk, OnErr, IsErr};
+ghost use Rattle.std.specs.Prelude.{◌≡◌, ◌↔◌, ℕ, Bool, true, false, List, Option, Some, None, IfOk, OnOk, OnErr, IsErr, IsErrOf, IsOkUnless};
 ghost use Rattle.paxos_packets.specs.declared.transport.Transport.{Transport};
 ghost use Rattle.replica_machine.specs.declared.input.Input.{Input};
+ghost use Rattle.replica_machine.specs.declared.fault.SaveFault.TheVariants as save;
+ghost use Rattle.replica_machine.specs.declared.fault.LoadFault.TheVariants.{Damaged};
+ghost use Rattle.replica_machine.specs.Given.{IsGiven};
 
+use crate::fault::{LoadFault, SaveFault};
 use crate::input::Input;
 use paxos_packets::{Body, Transport};
-use std::alloc::{AllocError, AllocFailed};
+use std::alloc::{AllocError, AllocFailed, Global};
 use thiserror::Error;
 
 /// The machine or the log has failed, perhaps because memory ran out: every later call returns this.
@@ -54,6 +58,12 @@ pub trait Machine: Drop {
 
     ghost to: { Self.Say → Transport };
 
+    ghost saved: { Content → List ℕ };
+
+    ghost loaded: { List ℕ → Option Content };
+
+    ghost is_sound: { Content → Type 0 };
+
     /// Applies an input, and returns what is said at it, in order. After an error the machine has failed, each later call returns the same
     /// error, and its content has no meaning.
     fn apply(&mut self, input: &Input<Self::Body>) -> Result<Vec<Self::Say>, Failed>
@@ -66,4 +76,24 @@ pub trait Machine: Drop {
     /// Returns the transport that a saying is for. Does not allocate.
     fn to(say: &Self::Say) -> Transport
         ensures { result ≡ to say.now };
+
+    /// Returns the octets of its content, a function of that.
+    ///
+    /// Fails with `Failed`, exactly if the machine has failed, and with `Memory`. `load` of the octets of a sound content has that content.
+    fn save(&self, alloc: Global) -> Result<Vec<u8>, SaveFault>
+        ensures failed { IsErrOf result save.Failed ↔ (has_failed self.now ≡ true) }
+        ensures octets { IfOk result (λ octets. octets.items ≡ saved (content self.now)) }
+        ensures back { is_sound (content self.now) → IfOk result (λ octets. loaded octets.items ≡ Some (content self.now)) }
+        ensures fault { has_failed self.now ≡ false → IsOkUnless result save.Memory };
+
+    /// Returns a machine that has not failed, with the content that these octets are.
+    ///
+    /// Fails with `Damaged` if they are none, and with `Memory`.
+    fn load(alloc: Global, octets: &[u8]) -> Result<Self, LoadFault>
+        ensures content { IfOk result (λ made. loaded octets.now ≡ Some (content made)) }
+        ensures alive { IfOk result (λ made. has_failed made ≡ false) }
+        ensures damaged { IsErrOf result Damaged → loaded octets.now ≡ None };
+
+    /// A content stays sound at each input whose node, boot and transport are ones.
+    ghost keeps: { (s : Content) (input : Input Self.Body) → IsGiven input → is_sound s → is_sound (next s input) };
 }

@@ -1,7 +1,9 @@
 ghost use Rattle.std.specs.Prelude.{◌≡◌, ℕ, ◌<◌, ◌&&◌, ◌==◌, List, if◌then◌else◌};
 ghost use Rattle.paxos_packets.specs.declared.entry.Entry.{Entry};
 ghost use Rattle.replica_machine.specs.Roll.{is_new_boot, is_live, is_next, gone, standing_after, standing_in, IsRollOf, takes_effect};
-ghost use Rattle.replica_machine.specs.Roll.{live_in, taken_in, is_wanted, was_taken};
+ghost use Rattle.replica_machine.specs.Roll.{live_in, taken_in, is_wanted_by, was_taken, HasStandings};
+ghost use Rattle.replica_machine.specs.Log.{first_roll};
+ghost use Rattle.replica_machine.specs.Snapshot.{seven, standing_from_node};
 
 use paxos_packets::Entry;
 use std::marker::Model;
@@ -141,8 +143,10 @@ impl Model for Roll {
 
 impl Roll {
     /// Returns the roll of the empty log. Does not allocate.
+    #[tactic(auto, unfolding(crate::specs::Log::first_roll))]
     pub fn new() -> Roll
-        ensures { (n : ℕ) → n < 256 → standing_in result n ≡ Standing.Unknown }
+        ensures first { result ≡ first_roll }
+        ensures unknown { (n : ℕ) → n < 256 → standing_in result n ≡ Standing.Unknown }
     {
         Roll {
             standings: [Standing::Unknown; 256],
@@ -156,6 +160,37 @@ impl Roll {
         Roll {
             standings: self.standings,
         }
+    }
+
+    // Returns the roll in which nodes 1 to 7 have these standings, and no other node is known.
+    pub(crate) fn of(standings: [Standing; 7]) -> Roll
+        ensures { (n : ℕ) → n < 256 → standing_in result n ≡ standing_from_node 1 n standings }
+    {
+        let [a, b, c, d, e, f, g] = standings;
+        let mut roll = Roll::new();
+        roll.put(7, g);
+        roll.put(6, f);
+        roll.put(5, e);
+        roll.put(4, d);
+        roll.put(3, c);
+        roll.put(2, b);
+        roll.put(1, a);
+        roll
+    }
+
+    // Returns the standings of nodes 1 to 7.
+    pub(crate) fn seven(&self) -> [Standing; 7]
+        ensures { result ≡ seven self.now }
+    {
+        [
+            self.standing(1),
+            self.standing(2),
+            self.standing(3),
+            self.standing(4),
+            self.standing(5),
+            self.standing(6),
+            self.standing(7),
+        ]
     }
 
     /// Returns the node's standing. Does not allocate.
@@ -193,7 +228,7 @@ impl Roll {
     /// Returns whether the entry stays pending: it is no Boot or Item that took effect, and no Lost whose boot is not live. Does not
     /// allocate, and takes constant time.
     pub fn wants<B>(&self, entry: &Entry<B>) -> bool
-        ensures { (log : List (Entry B)) → IsRollOf log self.now → result ≡ is_wanted log entry.now }
+        ensures { (stands : ℕ → Standing) → HasStandings stands self.now → result ≡ is_wanted_by stands entry.now }
     {
         match entry {
             Entry::Noop => false,

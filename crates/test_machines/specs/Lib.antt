@@ -1,2 +1,3 @@
 pub mod Octet
 pub mod Foretold
+pub mod Sum

@@ -1,9 +1,9 @@
 -- Bodies that are numbers below 256, spelled as one octet.
 use Rattle.std.specs.Prelude.{◌≡◌, ℕ, Bool, true, false, nat_lt, Option, Some, None, List, [], ◌∷◌, ◌++◌, Ok, Err, if◌then◌else◌}
-use Rattle.std.proofs.Common.{cond, refl, sym, ap, ◌∙◌, subst, ◌<◌}
+use Rattle.std.proofs.Common.{cond, ap, ◌∙◌, subst, ◌<◌}
 use Rattle.std.proofs.lemmas.Bool.{lt-ltb}
 use Rattle.command_codec.specs.declared.fault.CodecFault.TheVariants.{Short}
-use Rattle.command_codec.specs.Coder.{AreOctets, IsReadAgain, IsSpelled}
+use Rattle.command_codec.specs.Coder.{IsReadAgain, IsSpelled}
 use Rattle.command_codec.specs.Number.{Reading}
 
 abbrev pub octet_spelling : ℕ → Option (List ℕ)

@@ -1,9 +1,11 @@
 ghost use Rattle.std.specs.Prelude.{◌≡◌, ℕ, Bool, false, IfOk, OnOk};
 ghost use Rattle.replica_machine.specs.Examples.{added, sum_said};
+ghost use Rattle.test_machines.specs.Sum.{saved_sum, loaded_sum};
 
 use crate::number::Number;
+use crate::sum;
 use paxos_packets::Transport;
-use replica_machine::{Failed, Input, Machine};
+use replica_machine::{Failed, Input, LoadFault, Machine, SaveFault};
 use std::alloc::Global;
 use std::marker::Model;
 
@@ -72,6 +74,14 @@ impl Machine for Count {
 
     ghost to = { λ y. y.0 };
 
+    ghost saved = { saved_sum };
+
+    ghost loaded = { loaded_sum };
+
+    ghost is_sound = { λ s. Unit {0} };
+
+    ghost keeps = { λ s input given sound. tt };
+
     fn apply(&mut self, input: &Input<Number>) -> Result<Vec<(Transport, u64)>, Failed> {
         if self.failed {
             return Err(Failed);
@@ -83,5 +93,21 @@ impl Machine for Count {
 
     fn to(say: &(Transport, u64)) -> Transport {
         say.0
+    }
+
+    fn save(&self, alloc: Global) -> Result<Vec<u8>, SaveFault> {
+        if self.failed {
+            return Err(SaveFault::Failed);
+        }
+        sum::save(alloc, self.sum)
+    }
+
+    fn load(alloc: Global, octets: &[u8]) -> Result<Count, LoadFault> {
+        let sum = sum::load(octets)?;
+        Ok(Count {
+            alloc,
+            sum,
+            failed: false,
+        })
     }
 }

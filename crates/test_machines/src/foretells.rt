@@ -1,10 +1,12 @@
 ghost use Rattle.std.specs.Prelude.{◌≡◌, ℕ, Bool, false, IfOk, IfSome, OnOk};
 ghost use Rattle.replica_machine.specs.Examples.{added};
 ghost use Rattle.test_machines.specs.Foretold.{foretold, next_one};
+ghost use Rattle.test_machines.specs.Sum.{saved_sum, loaded_sum};
 
 use crate::number::Number;
+use crate::sum;
 use paxos_packets::Transport;
-use replica_machine::{Failed, Input, Machine};
+use replica_machine::{Failed, Input, LoadFault, Machine, SaveFault};
 use std::alloc::Global;
 use std::marker::Model;
 
@@ -79,6 +81,14 @@ impl Machine for Foretells {
 
     ghost to = { λ y. y.0 };
 
+    ghost saved = { saved_sum };
+
+    ghost loaded = { loaded_sum };
+
+    ghost is_sound = { λ s. Unit {0} };
+
+    ghost keeps = { λ s input given sound. tt };
+
     fn apply(&mut self, input: &Input<Number>) -> Result<Vec<(Transport, u64)>, Failed> {
         if self.failed {
             return Err(Failed);
@@ -90,5 +100,21 @@ impl Machine for Foretells {
 
     fn to(say: &(Transport, u64)) -> Transport {
         say.0
+    }
+
+    fn save(&self, alloc: Global) -> Result<Vec<u8>, SaveFault> {
+        if self.failed {
+            return Err(SaveFault::Failed);
+        }
+        sum::save(alloc, self.sum)
+    }
+
+    fn load(alloc: Global, octets: &[u8]) -> Result<Foretells, LoadFault> {
+        let sum = sum::load(octets)?;
+        Ok(Foretells {
+            alloc,
+            sum,
+            failed: false,
+        })
     }
 }

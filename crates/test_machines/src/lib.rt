@@ -6,6 +6,7 @@ mod foretells;
 mod number;
 mod octet;
 mod refuses;
+mod sum;
 
 pub use count::Count;
 pub use foretells::Foretells;

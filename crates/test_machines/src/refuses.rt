@@ -1,12 +1,15 @@
 ghost use Rattle.std.specs.Prelude.{◌≡◌, ℕ, ◌+◌, Bool, false, [], IfOk, OnOk, OnErr};
+ghost use Rattle.test_machines.specs.Sum.{saved_sum, loaded_sum};
 
 use crate::number::Number;
+use crate::sum;
 use paxos_packets::Transport;
-use replica_machine::{Failed, Input, Machine};
+use replica_machine::{Failed, Input, LoadFault, Machine, SaveFault};
 use std::alloc::Global;
 use std::marker::Model;
 
-/// A machine that counts its inputs and says nothing. It takes a number of them, and refuses each after these.
+/// A machine that counts its inputs and says nothing. It takes a number of them, and refuses each after these; one that is loaded refuses
+/// none.
 #[derive(Drop)]
 pub struct Refuses {
     alloc: Global,
@@ -59,6 +62,14 @@ impl Machine for Refuses {
 
     ghost to = { λ y. y };
 
+    ghost saved = { saved_sum };
+
+    ghost loaded = { loaded_sum };
+
+    ghost is_sound = { λ s. Unit {0} };
+
+    ghost keeps = { λ s input given sound. tt };
+
     fn apply(&mut self, _input: &Input<Number>) -> Result<Vec<Transport>, Failed> {
         if self.failed || self.taken >= self.takes {
             self.failed = true;
@@ -70,5 +81,22 @@ impl Machine for Refuses {
 
     fn to(say: &Transport) -> Transport {
         *say
+    }
+
+    fn save(&self, alloc: Global) -> Result<Vec<u8>, SaveFault> {
+        if self.failed {
+            return Err(SaveFault::Failed);
+        }
+        sum::save(alloc, self.taken)
+    }
+
+    fn load(alloc: Global, octets: &[u8]) -> Result<Refuses, LoadFault> {
+        let sum = sum::load(octets)?;
+        Ok(Refuses {
+            alloc,
+            takes: u64::MAX,
+            taken: sum,
+            failed: false,
+        })
     }
 }

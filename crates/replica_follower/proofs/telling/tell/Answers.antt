@@ -39,8 +39,10 @@ returns-in-Err-Memory-clause-unheard g c = λ unheard. (c.in-Err-Memory.ensures.
 pub returns-in-Err-Failed : goal.returns-in-Err-Failed
 returns-in-Err-Failed g c = record {
   ahead = c.append.ensures.ahead;
+  floor = c.append.ensures.floor;
   applied = tt;
   begins = c.in-Err-Failed.ensures.err;
+  rolled = λ rolled. tt;
   follows = λ first follows. tt;
   unheard = λ unheard. not_unheard unheard;
   heard = λ _ some. inl (c.in-Err-Failed.ensures.refused (search rules));
@@ -92,6 +94,9 @@ returns-in_default-expect_all-clause-known g c = λ b i l.
 
 pub returns-clause-follows : goal.returns-clause-follows
 returns-clause-follows g c = λ first follows. c.in-Ok.ensures.follows first follows
+
+pub returns-clause-rolled : goal.returns-clause-rolled
+returns-clause-rolled g c = λ rolled. c.in-Ok.ensures.rolled [] rolled
 
 pub returns-clause-room : goal.returns-clause-room
 returns-clause-room g c = λ t.

@@ -129,9 +129,11 @@ invariant_of-self g c =
     let count = count_of c.self.inside.stands c.self.inside.applied.applied (c.self.invariant.whole c.if-self.false) c.args.entries.now
     c.tell.new.applied.applied told in
     record {
+      floor = c.tell.ensures.floor ∙ c.self.invariant.floor;
       within = subst (λ n. c.self.inside.stands + length c.args.entries.now ≤ n) (sym count) (at_most (c.self.inside.stands + length c.args.entries.now));
       ahead = c.tell.ensures.ahead;
       whole = λ alive. count;
+      rolled = λ alive. c.in-Ok.ensures.rolled (c.self.invariant.rolled c.if-self.false);
       behind = λ alive b i l. c.in-Ok.ensures.behind b i (subst (λ n. n ≤ i) (sym count) l);
       heard = λ spoilt. (let never : false ≡ true = sym c.if-self.false ∙ spoilt in cc);
     }
@@ -147,10 +149,12 @@ pub invariant_of-self-in-Err-Heard : goal.invariant_of-self-in-Err-Heard
 invariant_of-self-in-Err-Heard g c =
     let begins = c.in-Err-Heard.ensures.begins in
     record {
+      floor = c.tell.ensures.floor ∙ c.self.invariant.floor;
       within = within_of c.self.inside.stands c.self.inside.applied.applied (c.self.invariant.whole c.if-self.false) begins.0
           c.tell.new.applied.applied (sym begins.1);
       ahead = c.tell.ensures.ahead;
       whole = λ alive. (let never : true ≡ false = alive in cc);
+      rolled = λ alive. (let never : true ≡ false = alive in absurd cc);
       behind = λ alive b i l. (let never : true ≡ false = alive in cc);
       heard = λ spoilt. subst (λ n. HasHeard n c.tell.new.applied) (c.self.invariant.whole c.if-self.false)
           (c.in-Err-Heard.ensures.heard (search rules) (subst (λ n. 0 < n) (sym (c.in_ok-copies.copies.ok.0 ∙ ap (λ l. length l) c.in_ok-copies.ensures))
@@ -180,7 +184,8 @@ returns-in-Ok-clause-follows g c = λ first follows alive.
     (sym c.self.view_is) follows alive in
     let whole = c.self.invariant.whole alive in
     let told = c.in-Ok.ensures.applied ∙ ap (λ l. p ++ l) c.in_ok-copies.ensures in
-    c.in-Ok.ensures.follows first (was ∙ ap (λ l. state m l) (all_of stands p whole))
+    (c.in-Ok.ensures.follows first
+    (record { below = sym c.self.invariant.floor; stands = (was ∙ ap (λ l. state m l) (all_of stands p whole), c.self.invariant.rolled alive) })).stands.0
     ∙ ap (λ l. state m l) (sym (all_of (stands + length es) new (count_of stands p whole es new told)))
 
 pub returns-in-Ok-clause-room : goal.returns-in-Ok-clause-room
@@ -217,7 +222,8 @@ returns-in-Ok-clause-deferred g c = λ first follows b i later l.
     let front = all_of c.self.inside.stands p (c.self.invariant.whole c.if-self.false) in
     deferred_as m c.tell.new.deferred b i c.self.inside.node now.node p now.log c.in_ok-copies.copies.items c.args.entries.now
     (node_is _ now c.self.view_is) (sym front ∙ log_is _ now c.self.view_is) c.in_ok-copies.ensures
-    (c.in-Ok.ensures.deferred first (was ∙ ap (λ l. state m l) front) b i later
+    (c.in-Ok.ensures.deferred first
+    (record { below = sym c.self.invariant.floor; stands = (was ∙ ap (λ l. state m l) front, c.self.invariant.rolled c.if-self.false) }) b i later
     (subst (λ n. i < n) (sym (c.in_ok-copies.copies.ok.0 ∙ ap (λ es. length es) c.in_ok-copies.ensures)) l))
 
 pub returns-in-Ok-clause-spared : goal.returns-in-Ok-clause-spared

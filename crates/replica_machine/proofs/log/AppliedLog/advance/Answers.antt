@@ -1,4 +1,4 @@
-use Rattle.std.proofs.Common.{◌≡◌, ◌∙◌, sym, None, Some}
+use Rattle.std.proofs.Common.{◌≡◌, ◌∙◌, refl, sym, None, Some}
 use Rattle.replica_machine.proofs.Applying.{applies, learned_next}
 use Rattle.replica_machine.proofs.log.AppliedLog.advance.Goals as goal
 
@@ -18,4 +18,4 @@ returns-clause-applies g c =
     rw done.slot
     (applies g.M.Machine.next g.M.Machine.says g.M.Machine.to g.M.Machine.content c.args.self.now _ _ c.in-Some.slot entry
     c.in-Ok.step.took c.in-Ok.step.says.items c.self.view_is c.in-Some.ensures removed.value removed.updates.0
-    done.ok c.if-self.false done.took done.content done.says)
+    refl done.ok c.if-self.false done.took done.roll done.content done.says)

@@ -1,10 +1,11 @@
-use Rattle.std.proofs.Common.{refl, sym, ap, ◌∙◌, ◌++◌, arith, map, subst}
+use Rattle.std.proofs.Common.{◌≡◌, refl, sym, ap, ◌∙◌, [], ◌++◌, List, arith, map}
 use Rattle.replica_machine.specs.declared.log.LearnFault.TheVariants.{Memory, Failed}
-use Rattle.replica_machine.specs.Log.{machine_from}
-use Rattle.replica_machine.specs.Roll.{IsRollOf}
+use Rattle.paxos_packets.specs.declared.entry.Entry.{Entry}
+use Rattle.replica_machine.specs.Log.{IsAt, IsLogOf, machine_from}
 use Rattle.replica_machine.specs.Replay.{sayings_by_slot}
 use Rattle.replica_machine.proofs.Appending.{memory_failed, memory_disagree, failed_disagree, other_fault, no_fault}
-use Rattle.replica_machine.proofs.Appending.{if_not_err, log_stays, stays_empty, not_failed, applied_is, begins_with, begins_same, begins_to, state_inside}
+use Rattle.replica_machine.proofs.Appending.{if_not_err, log_stays, stays_empty, not_failed, applied_is, begins_with, begins_same, begins_to}
+use Rattle.replica_machine.proofs.Appending.{floor_is, rolled_inside, stands_inside, log_on}
 use Rattle.replica_machine.proofs.log.AppliedLog.append.Goals as goal
 
 pub apply_all-requires : goal.apply_all-requires
@@ -15,7 +16,6 @@ apply_all-requires g c =
     let made = c.in-Ok.ensures.capacity in
     let asked = c.len.ensures in
     record {
-      roll = subst (λ l. IsRollOf l c.self.inside.roll) (sym c.reserve.ensures.items) (c.self.invariant c.if-self.false);
       room = omega arith;
       said_room = omega arith;
     }
@@ -25,6 +25,7 @@ returns-in_default g c = record {
   applied = tt;
   count = tt;
   ahead = c.requires;
+  floor = refl;
   alive = tt;
   failed = λ f. absurd (not_failed c.args.self.now _ c.self.view_is c.if-self.false f);
   memory = λ _. refl;
@@ -34,6 +35,9 @@ returns-in_default g c = record {
   front = (c.args.entries.items, refl);
   follows = λ _ _. tt;
   says = λ _ _. tt;
+  rolled = λ _ _. tt;
+  goes_on = λ _ _ _. tt;
+  told = λ _ _ _. tt;
 }
 
 pub returns-then-is_err : goal.returns-then-is_err
@@ -41,6 +45,7 @@ returns-then-is_err g c = record {
   applied = tt;
   count = tt;
   ahead = stays_empty c.args.self.now _ c.self.view_is c.requires;
+  floor = floor_is c.args.self.now _ c.self.view_is;
   alive = tt;
   failed = λ f. absurd (not_failed c.args.self.now _ c.self.view_is c.if-self.false f);
   memory = λ _. log_stays c.args.self.now _ c.self.view_is _ c.reserve.ensures.items;
@@ -50,6 +55,9 @@ returns-then-is_err g c = record {
   front = (c.args.entries.items, ap (λ l. l ++ c.args.entries.items) (applied_is c.args.self.now _ c.self.view_is _ c.reserve.ensures.items));
   follows = λ _ _. tt;
   says = λ _ _. tt;
+  rolled = λ _ _. tt;
+  goes_on = λ _ _ _. tt;
+  told = λ _ _ _. tt;
 }
 
 pub returns-in_default-apply_all : goal.returns-in_default-apply_all
@@ -57,6 +65,7 @@ returns-in_default-apply_all g c = record {
   applied = tt;
   count = tt;
   ahead = stays_empty c.args.self.now _ c.self.view_is c.requires;
+  floor = floor_is c.args.self.now _ c.self.view_is;
   alive = tt;
   failed = λ _. refl;
   memory = λ e. absurd (other_fault Failed Memory (λ f. memory_failed (sym f)) e);
@@ -66,6 +75,9 @@ returns-in_default-apply_all g c = record {
   front = begins_to c.args.self.now _ c.self.view_is _ _ _ c.reserve.ensures.items c.in_default-apply_all.ensures.front;
   follows = λ _ _. tt;
   says = λ _ _. tt;
+  rolled = λ _ _. tt;
+  goes_on = λ _ _ _. tt;
+  told = λ _ _ _. tt;
 }
 
 pub returns : goal.returns
@@ -78,10 +90,23 @@ returns g c =
     let count = done.count in
     let content = g.M.Machine.content in
     let from = machine_from g.M.Machine.next g.M.Machine.says g.M.Machine.to in
+    let stands : (first : g.M.Machine.Content) (under : List (Entry g.row.M-Body.Denot)) → IsLogOf from content first under now
+    → IsAt from content first (under ++ c.reserve.new.self.items) c.self.inside.roll c.self.inside.machine =
+    λ first under was. stands_inside now _ c.self.view_is from content first under c.reserve.new.self.items stood was in
+    let on : (first : g.M.Machine.Content) (under : List (Entry g.row.M-Body.Denot)) → IsLogOf from content first under now
+    → IsLogOf from content first under _ =
+    λ first under was. log_on now _ c.self.view_is from content first under _ refl was (done.stands first under (stands first under was)) in
+    let told : (first : g.M.Machine.Content) (under : List (Entry g.row.M-Body.Denot)) → IsLogOf from content first under now
+    → map (λ says. says.items) c.apply_all.new.said.items ≡ sayings_by_slot (from first) (under ++ now.applied) c.args.entries.items =
+    λ first under was. done.said first under (stands first under was)
+    ∙ ap (λ l. map (λ says. says.items) l ++ sayings_by_slot (from first) (under ++ c.reserve.new.self.items) c.args.entries.items)
+    c.in-Ok.ensures.items
+    ∙ ap (λ l. sayings_by_slot (from first) (under ++ l) c.args.entries.items) before in
     record {
       applied = done.applied ∙ ap (λ l. l ++ c.args.entries.items) before;
       count = omega arith;
       ahead = stays_empty now _ c.self.view_is c.requires;
+      floor = floor_is now _ c.self.view_is;
       alive = c.if-self.false;
       failed = λ f. absurd (not_failed now _ c.self.view_is c.if-self.false f);
       memory = λ e. absurd (no_fault c.apply_all.new.said Memory e);
@@ -89,9 +114,9 @@ returns g c =
       no_other = tt;
       err = tt;
       front = tt;
-      follows = λ first follows. done.content first (state_inside now _ c.self.view_is (from first) content _ stood follows);
-      says = λ first follows. done.said first (state_inside now _ c.self.view_is (from first) content _ stood follows)
-          ∙ ap (λ l. map (λ says. says.items) l ++ sayings_by_slot (from first) c.reserve.new.self.items c.args.entries.items)
-          c.in-Ok.ensures.items
-          ∙ ap (λ l. sayings_by_slot (from first) l c.args.entries.items) before;
+      follows = λ first was. on first [] was;
+      says = λ first was. told first [] was;
+      rolled = λ under was. done.rolled under (rolled_inside now _ c.self.view_is under c.reserve.new.self.items stood was);
+      goes_on = on;
+      told = told;
     }

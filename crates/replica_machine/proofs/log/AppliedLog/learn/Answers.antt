@@ -7,7 +7,7 @@ pub returns-clause-ok : goal.returns-clause-ok
 returns-clause-ok g c =
     let free = c.in_default.ensures.value in
     let put = c.in_ok-insert.ensures.updates.0 in
-    learns c.args.slot c.args.entry c.args.self.now _ _ c.self.view_is c.learned.ensures.slot free put
+    λ above. learns c.args.slot c.args.entry c.args.self.now _ _ c.self.view_is c.learned.ensures.slot above free put
 
 pub returns-in-Some-clause-ok : goal.returns-in-Some-clause-ok
 returns-in-Some-clause-ok g c = grind (arith, common_steps)

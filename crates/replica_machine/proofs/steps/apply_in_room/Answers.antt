@@ -1,5 +1,5 @@
 use Rattle.std.proofs.Common.{rules}
-use Rattle.replica_machine.proofs.log.apply_in_room.Goals as goal
+use Rattle.replica_machine.proofs.steps.apply_in_room.Goals as goal
 
 pub returns-clause-content : goal.returns-clause-content
 returns-clause-content g c = search rules

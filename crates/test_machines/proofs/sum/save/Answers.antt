@@ -1,0 +1,9 @@
+use Rattle.std.proofs.Common.{rules, ◌≡◌, ap, ◌∙◌}
+use Rattle.test_machines.specs.Sum.{saved_sum, loaded_sum}
+use Rattle.test_machines.proofs.Sums.{sum_again}
+use Rattle.test_machines.proofs.sum.save.Goals as goal
+
+pub returns-clause-back : goal.returns-clause-back
+returns-clause-back c =
+    let written : c.extend_from_slice.new.self.items ≡ saved_sum c.args.sum = search rules in
+    ap loaded_sum written ∙ sum_again c.args.sum c.ranges.sum.fits
