@@ -45,7 +45,7 @@ same_accepted v w e = cc
 rows_up : {B : Type 0} {promised now : ℕ → Option Ballot} {sent later : List (Packet B)} → Grows promised now sent later
     → (n : ℕ) (rows : Rows B) (boot : ℕ) (mine : Option Ballot) → ((a : Ballot) → Reaches rows.promised a → Reaches mine a)
     → ((w : Vote B) → Sent later n (Accepted w) → Sent sent n (Accepted w)) → RowsOk sent n rows
-    → RowsOk later n (record { boot = boot; promised = mine; votes = rows.votes })
+    → RowsOk later n (record rows { boot = boot; promised = mine })
 rows_up g n rows boot mine up none ok =
     record {
       reached = λ w s. up w.ballot (ok.reached w (none w s));

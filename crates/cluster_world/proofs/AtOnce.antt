@@ -22,7 +22,7 @@ use Rattle.paxos_proposer.specs.Proposer.{slot_end, next_vote}
 use Rattle.paxos_learner.specs.declared.learned.LearnedEntry.{LearnedEntry}
 use Rattle.paxos_learner.specs.Tallies.{place_of, nodes_heard}
 use Rattle.paxos_learner.specs.Learner.{LearnerState, hears, has_most, learn, run_with, run_from}
-use Rattle.paxos_planning.specs.Node.{NodeState, Plan}
+use Rattle.paxos_planning.specs.Node.{NodeState, Plan, log_length}
 use Rattle.paxos_planning.specs.Plan.{send, vote as vote_at_end, count as count_at_end, cast as cast_at_end}
 use Rattle.paxos_planning.specs.Proposals.{offer, propose_as as propose_as_at_end, propose as propose_at_end, propose_all as propose_all_at_end}
 use Rattle.paxos_node.specs.Applying.{note, ends, go_down, apply_all, settle}
@@ -31,7 +31,7 @@ use Rattle.paxos_packets.specs.Body.{IsEquality}
 
 -- nothing that it learned waits to be applied
 abbrev pub AtRest : {B : Type 0} → NodeState B → Type 0
-AtRest x = run_from (suc (length x.applied)) x.learner.learned ≡ []
+AtRest x = run_from (suc (log_length x)) x.learner.learned ≡ []
 
 pub settle_rest : {B : Type 0} (n : ℕ) (t : Plan B) → AtRest t.node → settle n t ≡ t
 settle_rest n t r = ap (λ es. apply_all n es t) r
@@ -70,16 +70,16 @@ run_tail {B} (f ∷ fs) s e es h = go (λ k. run_tail fs s e es k) (eqb f.slot s
     go more false false p q k = absurd (nothing k)
 
 rest_applied : {B : Type 0} (n : ℕ) (es : List (Entry B)) (o : Plan B)
-    → run_from (suc (length o.node.applied)) o.node.learner.learned ≡ es → AtRest (apply_all n es o).node
+    → run_from (suc (log_length o.node)) o.node.learner.learned ≡ es → AtRest (apply_all n es o).node
 rest_applied n [] o h = h
 rest_applied n (e ∷ es) o h =
     cond_both (ends n o.node e) (go_down (note e o)) (apply_all n es (note e o)) (λ z. AtRest z.node) (λ t. refl)
     (λ t. rest_applied n es (note e o)
     (ap (λ k. run_from (suc k) o.node.learner.learned) (longer o.node.applied e)
-    ∙ run_tail o.node.learner.learned (suc (length o.node.applied)) e es h))
+    ∙ run_tail o.node.learner.learned (suc (log_length o.node)) e es h))
 
 pub rest_settled : {B : Type 0} (n : ℕ) (o : Plan B) → AtRest (settle n o).node
-rest_settled n o = rest_applied n (run_from (suc (length o.node.applied)) o.node.learner.learned) o refl
+rest_settled n o = rest_applied n (run_from (suc (log_length o.node)) o.node.learner.learned) o refl
 
 -- packets may be sent before or after it
 pub apply_send : {B : Type 0} (n : ℕ) (ps : List (Packet B)) (es : List (Entry B)) (o : Plan B)

@@ -16,7 +16,7 @@ use Rattle.paxos_node.specs.declared.event.Event.{Event}
 use Rattle.paxos_node.specs.Applying.{down, started}
 use Rattle.paxos_node.specs.Events.{owner, possible, outcome_of}
 use Rattle.paxos_node.specs.Plans.{is_planned}
-use Rattle.paxos_planning.specs.Node.{NodeState, Plan}
+use Rattle.paxos_planning.specs.Node.{NodeState, Plan, log_length}
 use Rattle.world_nodes.proofs.Planning.{plans_up}
 use Rattle.replica_machine.specs.Replay.{Machine}
 use Rattle.replica_follower.specs.Following.{Followed, Follows, Keeps, AgreesWith, handed_to}
@@ -68,29 +68,29 @@ gone {B} stood log es p a = ⊎_elim (λ h. inl (inside h, h)) (λ h. inr (past 
         rest_is = (λ i. drop (count i) (es_is i)) ∙ drop-append_seam p.0 h.0
 
 module _ {B M S Y : Type 0} (content : M → S) (m : Machine B S Y) where
-  keeps_up : (x : NodeState B) (f : Followed B M Y) → x.up ≡ true → Keeps m x.rows.boot (length x.applied) f
+  keeps_up : (x : NodeState B) (f : Followed B M Y) → x.up ≡ true → Keeps m x.rows.boot (log_length x) f
       → Keeps m (handing_boot x) (handing_from x) f
   keeps_up x f u k =
       subst (λ (z : ℕ × ℕ). Keeps m z.0 z.1 f)
-      (λ i. (sym (cond-true x.up x.rows.boot (suc x.rows.boot) u) i, sym (cond-true x.up (length x.applied) 0 u) i)) k
+      (λ i. (sym (cond-true x.up x.rows.boot (suc x.rows.boot) u) i, sym (cond-true x.up (log_length x) 0 u) i)) k
 
   keeps_down : (x : NodeState B) (f : Followed B M Y) → x.up ≡ false → Keeps m (suc x.rows.boot) 0 f → Keeps m (handing_boot x) (handing_from x) f
   keeps_down x f u k =
       subst (λ (z : ℕ × ℕ). Keeps m z.0 z.1 f)
-      (λ i. (sym (cond-false x.up x.rows.boot (suc x.rows.boot) u) i, sym (cond-false x.up (length x.applied) 0 u) i)) k
+      (λ i. (sym (cond-false x.up x.rows.boot (suc x.rows.boot) u) i, sym (cond-false x.up (log_length x) 0 u) i)) k
 
   pub keeps_while_up : (x : NodeState B) (f : Followed B M Y) → x.up ≡ true → Attends content m x f
-      → Follows content m f × Keeps m x.rows.boot (length x.applied) f
+      → Follows content m f × Keeps m x.rows.boot (log_length x) f
   keeps_while_up x f u a = (
     a.follows,
     subst (λ (z : ℕ × ℕ). Keeps m z.0 z.1 f)
-        (λ i. (cond-true x.up x.rows.boot (suc x.rows.boot) u i, cond-true x.up (length x.applied) 0 u i)) a.keeps,
+        (λ i. (cond-true x.up x.rows.boot (suc x.rows.boot) u i, cond-true x.up (log_length x) 0 u i)) a.keeps,
   )
 
   keeps_while_down : (x : NodeState B) (f : Followed B M Y) → x.up ≡ false → Attends content m x f → Keeps m (suc x.rows.boot) 0 f
   keeps_while_down x f u a =
       subst (λ (z : ℕ × ℕ). Keeps m z.0 z.1 f)
-      (λ i. (cond-false x.up x.rows.boot (suc x.rows.boot) u i, cond-false x.up (length x.applied) 0 u i)) a.keeps
+      (λ i. (cond-false x.up x.rows.boot (suc x.rows.boot) u i, cond-false x.up (log_length x) 0 u i)) a.keeps
 
   module _ (same : B → B → Bool) (members : ℕ) (e : Event B) (x : NodeState B) where
     abbrev pub o : Plan B
@@ -124,7 +124,7 @@ module _ {B M S Y : Type 0} (content : M → S) (m : Machine B S Y) where
               follows = d.follows;
               keeps = keeps_down o.node g c.0
                   (subst (λ n. Keeps m (suc n) 0 g) (sym r.from.boot_is)
-                  (later_boots m x.rows.boot (length x.applied + length o.applied) (suc x.rows.boot) g (omega arith) d.keeps));
+                  (later_boots m x.rows.boot (log_length x + length o.applied) (suc x.rows.boot) g (omega arith) d.keeps));
             }
 
     -- a restart
@@ -243,7 +243,7 @@ module _ {B M S Y : Type 0} (same : B → B → Bool) (content : M → S) (m : M
       (record {
         front = (old.machine.log, refl);
         follows = a.follows;
-        keeps = later_boots m old.node.rows.boot (length old.node.applied) (suc old.node.rows.boot) old.machine (omega arith) k.1;
+        keeps = later_boots m old.node.rows.boot (log_length old.node) (suc old.node.rows.boot) old.machine (omega arith) k.1;
       })))
 
   pub restart_happens : {R E : Type 0} (r : Result R E) (e : Event B) (n : ℕ) (old new : MemberState B M Y) → e ≡ Restart n → possible e old.node ≡ true

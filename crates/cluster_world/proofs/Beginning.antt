@@ -38,7 +38,7 @@ use Rattle.paxos_proposer.specs.Role.{Role}
 use Rattle.paxos_node.specs.Events.{most_pending}
 use Rattle.paxos_node.specs.declared.event.Event.{Event}
 use Rattle.paxos_node.specs.declared.event.Event.TheVariants.{Start, Deliver}
-use Rattle.paxos_planning.specs.Node.{NodeState}
+use Rattle.paxos_planning.specs.Node.{NodeState, log_length}
 use Rattle.cluster_world.specs.World.{World, node_at, first_world, next, play, played}
 use Rattle.cluster_world.specs.Rescue.{Apart, round_held, last_rescue_round, last_rescue_slot}
 use Rattle.world_rescue.specs.Course.{Seat, Crew, Act, refused_round, look, lead, led, pass, seen_then, first_role, first_votes}
@@ -133,7 +133,7 @@ module _ {B : Type 0} (same : B → B → Bool) (equal : IsEquality same) (membe
   seen = seen_then b0 seats
 
   abbrev first : ℕ
-  first = suc (length x0.applied)
+  first = suc (log_length x0)
 
   abbrev lk : List (Event B)
   lk = look b0 first seats
@@ -284,7 +284,7 @@ module _ {B : Type 0} (same : B → B → Bool) (equal : IsEquality same) (membe
       more a l = omega arith
 
   -- the log ends before the last slot in which the crew voted
-  log_fits : length x0.applied ≤ last_rescue_slot
+  log_fits : log_length x0 ≤ last_rescue_slot
   log_fits =
       log_low same members events equal three last_rescue_slot (λ k. eqb n k || list_any (λ (s : Seat B). eqb s.number k) seats)
       (ltb-true _ _ enough) slots n
@@ -321,10 +321,10 @@ module _ {B : Type 0} (same : B → B → Bool) (equal : IsEquality same) (membe
 
   -- the pass, by the node as its ballot begins
   abbrev role_of : NodeState B → Role B
-  role_of a = led same members (length a.applied) a.pending ballot (suc (length a.applied)) [] own seats
+  role_of a = led same members (log_length a) a.pending ballot (suc (log_length a)) [] own seats
 
   abbrev votes_of : NodeState B → List (Vote B)
-  votes_of a = behind (length a.applied) (proposals_of (role_of a))
+  votes_of a = behind (log_length a) (proposals_of (role_of a))
 
   abbrev pub had : Seat B → List (Vote B)
   had s = (now s).rows.votes
@@ -335,7 +335,7 @@ module _ {B : Type 0} (same : B → B → Bool) (equal : IsEquality same) (membe
   abbrev DoneAs : NodeState B → Type 0
   DoneAs a =
       PassDone same equal members two n member (suc seen) seats (kept_of a) had first_most (role_of a) (votes_of a)
-      (play same members (pass n seats (votes_of a)) (play same members (lead ballot (suc (length a.applied)) [] seats) u))
+      (play same members (pass n seats (votes_of a)) (play same members (lead ballot (suc (log_length a)) [] seats) u))
 
   pending_is : (node_at (next same members u (Start n)).nodes n).pending ≡ x0.pending
   pending_is =
@@ -364,7 +364,7 @@ module _ {B : Type 0} (same : B → B → Bool) (equal : IsEquality same) (membe
   abbrev StillAs : NodeState B → Type 0
   StillAs a =
       (j : ℕ) → (j ≡ n → ⊥) → (node_at u.nodes j).up ≡ true
-      → (node_at (play same members (pass n seats (votes_of a)) (play same members (lead ballot (suc (length a.applied)) [] seats) u)).nodes
+      → (node_at (play same members (pass n seats (votes_of a)) (play same members (lead ballot (suc (log_length a)) [] seats) u)).nodes
       j).up ≡ true
 
   whole_u : DoneAs (node_at u.nodes n) × StillAs (node_at u.nodes n)
@@ -375,12 +375,12 @@ module _ {B : Type 0} (same : B → B → Bool) (equal : IsEquality same) (membe
       (ap (λ (x : NodeState B). x.proposer.seen) x_is)
       (subst (λ (x : NodeState B). round_of x.rows.promised ≤ seen) (sym x_is) least) (rounds_fit seen seen_low).0 []
       (suc last_rescue_slot) first_most
-      (subst (λ (x : NodeState B). suc (length x.applied) ≤ suc last_rescue_slot) (sym x_is) (up_one (length x0.applied) log_fits))
+      (subst (λ (x : NodeState B). suc (log_length x) ≤ suc last_rescue_slot) (sym x_is) (up_one (log_length x0) log_fits))
       (subst (λ (l : List _). suc last_rescue_slot + length l ≤ first_most) (sym pending_is)
       (room_left (length x0.pending) (pending_is_few same members events n)))
       first_slots_fit mays (λ s h. (asked s h).votes) (ap (λ (x : NodeState B). x.rows.votes) x_is)
-      (λ s h. below_past (suc (length (node_at u.nodes n).applied)) s.node (rooms s h))
-      (below_past (suc (length (node_at u.nodes n).applied)) x0 room) (heard_none same members (events ++ lk) equal three ballot may_own n)
+      (λ s h. below_past (suc (log_length (node_at u.nodes n))) s.node (rooms s h))
+      (below_past (suc (log_length (node_at u.nodes n))) x0 room) (heard_none same members (events ++ lk) equal three ballot may_own n)
       (all_eights same members (events ++ lk) n) heards enough_first enough_then
     where
       up_one : (a : ℕ) → a ≤ last_rescue_slot → suc a ≤ suc last_rescue_slot
@@ -400,7 +400,7 @@ module _ {B : Type 0} (same : B → B → Bool) (equal : IsEquality same) (membe
   before = events ++ first_pass same crew act
 
   world_is : played same members before
-      ≡ play same members (pass n seats votes1) (play same members (lead ballot (suc (length x0.applied)) [] seats) u)
+      ≡ play same members (pass n seats votes1) (play same members (lead ballot (suc (log_length x0)) [] seats) u)
   world_is =
       play_on same members events (first_pass same crew act) (first_world members)
       ∙ (play_on same members (lk ++ lead ballot first [] seats) (pass n seats votes1) w

@@ -23,7 +23,7 @@ use Rattle.paxos_acceptor.specs.Acceptor.{may_promise}
 use Rattle.paxos_proposer.specs.Proposer.{round_of, round_end, slot_end, new_ballot, asking, is_leading}
 use Rattle.paxos_proposer.specs.Role.{Role}
 use Rattle.paxos_node.specs.declared.event.Event.TheVariants.{Start}
-use Rattle.paxos_planning.specs.Node.{NodeState}
+use Rattle.paxos_planning.specs.Node.{NodeState, log_length}
 use Rattle.cluster_world.specs.World.{World, node_at, next, play}
 use Rattle.world_rescue.specs.Course.{Seat, votes_then, promises, lead, led}
 use Rattle.cluster_world.specs.Rescue.{Apart}
@@ -40,7 +40,7 @@ module _ {B : Type 0} (same : B → B → Bool) (equal : IsEquality same) (membe
   x = node_at u.nodes n
 
   abbrev pub first : ℕ
-  first = suc (length x.applied)
+  first = suc (log_length x)
 
   abbrev pub ballot : Ballot
   ballot = record { round = suc seen; node = n }
@@ -113,7 +113,7 @@ module _ {B : Type 0} (same : B → B → Bool) (equal : IsEquality same) (membe
         (promises ballot first cast)
         (promise_turn same equal members many n low (suc seen) x.rows.votes y rest_y first past most from room slots cast now)
         (Due same equal members many n low (suc seen) x.rows.votes y rest_y first past most from room slots cast now) seats
-        (led same members (length y.applied) y.pending ballot first cast own seats) v (play same members (lead ballot first cast seats) u)
+        (led same members (log_length y) y.pending ballot first cast own seats) v (play same members (lead ballot first cast seats) u)
     bid =
         promise_all same equal members many n low (suc seen) x.rows.votes y rest_y first past most from room slots cast now seats v
         (asking own.number ballot first (votes_then first cast own)) apart
@@ -129,9 +129,9 @@ module _ {B : Type 0} (same : B → B → Bool) (equal : IsEquality same) (membe
         (subst (λ r. KnowsIt v r) first_role knows)
 
     -- the node leads
-    pub leads : is_leading (led same members (length y.applied) y.pending ballot first cast own seats) ≡ true
+    pub leads : is_leading (led same members (log_length y) y.pending ballot first cast own seats) ≡ true
     leads =
-        elected same members (length y.applied) y.pending ballot first own.number (votes_then first cast own)
+        elected same members (log_length y) y.pending ballot first own.number (votes_then first cast own)
         (λ s. votes_then first cast s) seats
         (alone_is_few members many (λ j. eqb own.number j || false) own.number alone)
         (subst (λ k. is_majority members (among (fold (λ ks s. s.number ∷ ks) (k ∷ []) seats)) ≡ true) (sym number) enough)

@@ -7,15 +7,16 @@ use Rattle.cluster_world.proofs.Lists.{has_nil, has_one, has_cases}
 use Rattle.cluster_world.proofs.EveryWorld.{within, node_same, node_other}
 use Rattle.cluster_world.proofs.Handing.{Ran, Began, event_cases}
 use Rattle.cluster_world.proofs.Taking.{founded_length, log_was_made}
+use Rattle.paxos_packets.specs.Rows.{first_rows}
 use Rattle.paxos_packets.specs.Members.{IsMember}
 use Rattle.cluster_world.specs.Has.{Has}
 use Rattle.paxos_packets.specs.declared.entry.Entry.{Entry}
 use Rattle.paxos_packets.specs.declared.entry.Entry.TheVariants.{Noop, Boot, Lost}
 use Rattle.replica_machine.specs.Roll.{standing, live_in}
 use Rattle.paxos_node.specs.declared.event.Event.{Event}
-use Rattle.paxos_node.specs.declared.event.Event.TheVariants.{Take, Tick, Start, Suspect, Deliver, Crash, Restart}
+use Rattle.paxos_node.specs.declared.event.Event.TheVariants.{Take, Suspect, Restart}
 use Rattle.paxos_planning.specs.Node.{NodeState, Plan}
-use Rattle.paxos_node.specs.Applying.{started, first_rows}
+use Rattle.paxos_node.specs.Applying.{standing_of, started}
 use Rattle.paxos_node.specs.Events.{takes, new_item, has_room, is_pending, new_lost_of, new_lost, owner, possible, outcome_of, taken_by}
 use Rattle.paxos_node.specs.Events.{suspected_by, made_by}
 use Rattle.cluster_world.specs.World.{World, absent, node_at, put_node, founded, first_boots, first_world, was_sent, done, next, play}
@@ -35,7 +36,7 @@ record MadeBoot {B : Type 0} (e : Event B) (x : NodeState B) (n b : ℕ) : Type 
 pub record MadeLost {B : Type 0} (e : Event B) (x : NodeState B) (n b : ℕ) : Type 0 where
   pub by : ℕ
   pub is : e ≡ Suspect by n
-  pub live : live_in (standing n x.applied) ≡ Some b
+  pub live : live_in (standing_of x n) ≡ Some b
 
 abbrev NoBoot : {B : Type 0} → List (Entry B) → Type 0
 NoBoot es = (n b : ℕ) → Has es (Boot n b) → ⊥
@@ -59,13 +60,13 @@ taken_no_lost n t body x =
 
 -- what a suspicion makes
 pub record Suspects {B : Type 0} (other : ℕ) (x : NodeState B) (o : Option (Entry B)) : Type 0 where
-  pub is : (l : Entry B) → o ≡ Some l → (b : ℕ) × (l ≡ Lost other b) × (live_in (standing other x.applied) ≡ Some b)
+  pub is : (l : Entry B) → o ≡ Some l → (b : ℕ) × (l ≡ Lost other b) × (live_in (standing_of x other) ≡ Some b)
 
 pub new_lost_suspects : {B : Type 0} (same : B → B → Bool) (me other : ℕ) (x : NodeState B) → Suspects other x (new_lost same me other x)
 new_lost_suspects {B} same me other x =
-    cond_both (eqb other me) None (new_lost_of same other (live_in (standing other x.applied)) x.pending) (λ o. Suspects other x o)
+    cond_both (eqb other me) None (new_lost_of same other (live_in (standing_of x other)) x.pending) (λ o. Suspects other x o)
     (λ t. nothing)
-    (λ t. of (live_in (standing other x.applied)) refl)
+    (λ t. of (live_in (standing_of x other)) refl)
   where
     nothing : Suspects other x None
     nothing = record { is = λ l e. absurd (never l e) }
@@ -73,7 +74,7 @@ new_lost_suspects {B} same me other x =
         never : (l : Entry B) → None ≡ Some l → ⊥
         never l e = cc
 
-    of : (o : Option ℕ) → live_in (standing other x.applied) ≡ o → Suspects other x (new_lost_of same other o x.pending)
+    of : (o : Option ℕ) → live_in (standing_of x other) ≡ o → Suspects other x (new_lost_of same other o x.pending)
     of None e = nothing
     of (Some b) e =
         cond_both (is_pending same x.pending (Lost other b)) None (Some (Lost other b)) (λ o. Suspects other x o) (λ t. nothing)
@@ -83,10 +84,10 @@ new_lost_suspects {B} same me other x =
         inside l d = cc
 
 pub suspected_has : {B : Type 0} (other : ℕ) (x : NodeState B) (o : Option (Entry B)) → Suspects other x o → (e : Entry B)
-    → Has (suspected_by o x) e → (b : ℕ) × (e ≡ Lost other b) × (live_in (standing other x.applied) ≡ Some b)
+    → Has (suspected_by o x) e → (b : ℕ) × (e ≡ Lost other b) × (live_in (standing_of x other) ≡ Some b)
 suspected_has other x None s e h = absurd (has_nil h)
 suspected_has other x (Some l) s e h =
-    cond_both (has_room x) (l ∷ []) [] (λ z. Has z e → (b : ℕ) × (e ≡ Lost other b) × (live_in (standing other x.applied) ≡ Some b))
+    cond_both (has_room x) (l ∷ []) [] (λ z. Has z e → (b : ℕ) × (e ≡ Lost other b) × (live_in (standing_of x other) ≡ Some b))
     (λ t g. let r = s.is l refl in (r.0, sym (has_one g) ∙ r.1, r.2))
     (λ t g. absurd (has_nil g))
     h
@@ -94,15 +95,11 @@ suspected_has other x (Some l) s e h =
 module _ {B : Type 0} (same : B → B → Bool) where
   made_boot : (e : Event B) (x : NodeState B) → possible e x ≡ true → (n b : ℕ) → Has (made_by same e x) (Boot n b) → MadeBoot e x n b
   made_boot (Take m t body) x p n b h = absurd (taken_no_boot m t body x n b h)
-  made_boot (Tick m) x p n b h = absurd (has_nil h)
-  made_boot (Start m) x p n b h = absurd (has_nil h)
   made_boot (Suspect m other) x p n b h =
       absurd (let r = suspected_has other x (new_lost same m other x) (new_lost_suspects same m other x) (Boot n b) h in differ r.0 r.1)
     where
       differ : (c : ℕ) → ◌≡◌ {A = Entry B} (Boot n b) (Lost other c) → ⊥
       differ c e = cc
-  made_boot (Deliver q) x p n b h = absurd (has_nil h)
-  made_boot (Crash m) x p n b h = absurd (has_nil h)
   made_boot (Restart m) x p n b h =
       record {
         node = sym (names (has_one h));
@@ -122,11 +119,10 @@ module _ {B : Type 0} (same : B → B → Bool) where
       down : (z : Bool) → not z ≡ true → z ≡ false
       down true e = absurd (off e)
       down false e = refl
+  made_boot _ x p n b h = absurd (has_nil h)
 
   pub made_lost : (e : Event B) (x : NodeState B) (n b : ℕ) → Has (made_by same e x) (Lost n b) → MadeLost e x n b
   made_lost (Take m t body) x n b h = absurd (taken_no_lost m t body x n b h)
-  made_lost (Tick m) x n b h = absurd (has_nil h)
-  made_lost (Start m) x n b h = absurd (has_nil h)
   made_lost (Suspect m other) x n b h =
       let r = suspected_has other x (new_lost same m other x) (new_lost_suspects same m other x) (Lost n b) h in
       record {
@@ -140,12 +136,11 @@ module _ {B : Type 0} (same : B → B → Bool) where
 
       boots : (c : ℕ) → ◌≡◌ {A = Entry B} (Lost n b) (Lost other c) → b ≡ c
       boots c e = cc
-  made_lost (Deliver q) x n b h = absurd (has_nil h)
-  made_lost (Crash m) x n b h = absurd (has_nil h)
   made_lost (Restart m) x n b h = absurd (differ (has_one h))
     where
       differ : ◌≡◌ {A = Entry B} (Boot m (suc x.rows.boot)) (Lost n b) → ⊥
       differ e = cc
+  made_lost _ x n b h = absurd (has_nil h)
 
   module _ (members : ℕ) where
     abbrev at' : World B → Event B → NodeState B

@@ -20,10 +20,10 @@ use Rattle.paxos_packets.specs.declared.ballot.Ballot.{Ballot}
 use Rattle.paxos_packets.specs.declared.entry.Entry.{Entry}
 use Rattle.paxos_packets.specs.declared.vote.Vote.{Vote}
 use Rattle.paxos_learner.specs.Learned.{is_learned}
-use Rattle.paxos_node.specs.Applying.{down, has_end}
+use Rattle.paxos_node.specs.Applying.{standing_of, down, has_end}
 use Rattle.paxos_node.specs.declared.event.Event.{Event}
-use Rattle.paxos_planning.specs.Node.{NodeState}
-use Rattle.replica_machine.specs.Roll.{standing, standing_from}
+use Rattle.paxos_planning.specs.Node.{NodeState, log_length}
+use Rattle.replica_machine.specs.Roll.{standing_from}
 use Rattle.cluster_world.specs.Chosen.{Chosen}
 use Rattle.cluster_world.specs.World.{World, node_at, first_world, play, played}
 use Rattle.world_rescue.specs.Course.{Seat, entries_of}
@@ -105,15 +105,15 @@ module _ {B : Type 0} (same : B → B → Bool) (equal : IsEquality same) (membe
   -- how a pass of these votes ends
   pub data Ending (vs : List (Vote B)) (z : NodeState B) : Type 0 where
     Rode_on : Rides same equal members two n x z (entries_of vs) → Ending vs z
-    Went_down : z ≡ down x.rows → has_end n x.rows.boot (standing n x.applied) (entries_of vs) ≡ true → Ending vs z
+    Went_down : z ≡ down x.rows → has_end n x.rows.boot (standing_of x n) (entries_of vs) ≡ true → Ending vs z
 
   module _ (seats : List (Seat B)) (vs table votes : List (Vote B)) (start : ℕ)
       (passed : Passed same equal members two n member round x seats (λ k. (node_at p.nodes k).rows.votes) vs [] p q)
-      (after : AreAfter (length x.applied) vs) (ordered : AreAfter start table) (among_table : (v : Vote B) → Has vs v → Has table v)
+      (after : AreAfter (log_length x) vs) (ordered : AreAfter start table) (among_table : (v : Vote B) → Has vs v → Has table v)
       (own_votes : x.rows.votes ≡ put_votes table votes) (own_promise : x.rows.promised ≡ Some ballot)
       (mine : (v : Vote B) → Has vs v → v.ballot ≡ ballot) (crew : ℕ → Bool) (most : IsMajority members crew)
       (in_crew : (k : ℕ) → crew k ≡ true → (k ≡ n) ⊎ ((s : Seat B) × Has seats s × (s.number ≡ k)))
-      (short : (k : ℕ) (v : Vote B) → crew k ≡ true → Has (node_at p.nodes k).rows.votes v → v.slot ≤ length x.applied + length vs) where
+      (short : (k : ℕ) (v : Vote B) → crew k ≡ true → Has (node_at p.nodes k).rows.votes v → v.slot ≤ log_length x + length vs) where
     abbrev z : NodeState B
     z = node_at q.nodes n
 
@@ -128,7 +128,7 @@ module _ {B : Type 0} (same : B → B → Bool) (equal : IsEquality same) (membe
           (ap (λ r. r.promised) rows ∙ own_promise))
           (λ s. subst (λ j. (node_at q.nodes j).rows.promised ≡ Some ballot) s.2 (passed.helpers s.0 s.1).promised) (in_crew k c)
 
-      short_then : (k : ℕ) (v : Vote B) → crew k ≡ true → Has (node_at q.nodes k).rows.votes v → v.slot ≤ length x.applied + length vs
+      short_then : (k : ℕ) (v : Vote B) → crew k ≡ true → Has (node_at q.nodes k).rows.votes v → v.slot ≤ log_length x + length vs
       short_then k v c h =
           ⊎_elim
           (λ (e : k ≡ n). short k v c
@@ -136,9 +136,9 @@ module _ {B : Type 0} (same : B → B → Bool) (equal : IsEquality same) (membe
           (subst (λ r. Has r.votes v) rows (subst (λ j. Has (node_at q.nodes j).rows.votes v) e h))))
           (λ s. helper s.0 s.1 s.2) (in_crew k c)
         where
-          helper : (s : Seat B) → Has seats s → s.number ≡ k → v.slot ≤ length x.applied + length vs
+          helper : (s : Seat B) → Has seats s → s.number ≡ k → v.slot ≤ log_length x + length vs
           helper s i e =
-              ⊎_elim (λ g. slots_within (length x.applied) vs v after g)
+              ⊎_elim (λ g. slots_within (log_length x) vs v after g)
               (λ g. short k v c (subst (λ j. Has (node_at p.nodes j).rows.votes v) e g))
               (put_all_cases vs (node_at p.nodes s.number).rows.votes v
               (subst (λ l. Has l v) (passed.helpers s i).votes_are (subst (λ j. Has (node_at q.nodes j).rows.votes v) (sym e) h)))
@@ -164,11 +164,11 @@ module _ {B : Type 0} (same : B → B → Bool) (equal : IsEquality same) (membe
             r.ride)
           where
             chosen : (i : ℕ) (e : Entry B) → slice_get r.es i ≡ Some e
-                → Chosen members (played same members (early ++ later)).sent (suc (length x.applied + i)) e
+                → Chosen members (played same members (early ++ later)).sent (suc (log_length x + i)) e
             chosen i e h =
-                log_is_chosen same equal members many (early ++ later) n (length x.applied + i) e
-                (ap (λ w. slice_get (node_at w.nodes n).applied (length x.applied + i)) q_is
-                ∙ (ap (λ l. slice_get l (length x.applied + i)) r.ride.log ∙ (get_right x.applied r.es i ∙ h)))
+                log_is_chosen same equal members many (early ++ later) n (log_length x + i) e
+                (ap (λ w. slice_get (node_at w.nodes n).applied (log_length x + i)) q_is
+                ∙ (ap (λ l. slice_get l (log_length x + i)) r.ride.log ∙ (get_right x.applied r.es i ∙ h)))
 
         fell : (es : List (Entry B)) × Fell same equal members two n x z q.sent es → Ending vs z
         fell f =
@@ -179,14 +179,14 @@ module _ {B : Type 0} (same : B → B → Bool) (equal : IsEquality same) (membe
             (λ k c. at_q (λ w. (node_at w.nodes k).rows.promised ≡ Some ballot) (promised rows k c))
             (λ k v c h. short_then rows k v c (subst (λ w. Has (node_at w.nodes k).rows.votes v) q_is h)) in
             Went_down f.1.down_is
-            (ap (λ l. has_end n x.rows.boot (standing n x.applied) l) (sym first.1)
-            ∙ (has_end_both n x.rows.boot (standing n x.applied) f.0 first.0
-            ∙ or_left (has_end n x.rows.boot (standing n x.applied) f.0)
-            (has_end n x.rows.boot (standing_from n (standing n x.applied) f.0) first.0) f.1.ends))
+            (ap (λ l. has_end n x.rows.boot (standing_of x n) l) (sym first.1)
+            ∙ (has_end_both n x.rows.boot (standing_of x n) f.0 first.0
+            ∙ or_left (has_end n x.rows.boot (standing_of x n) f.0)
+            (has_end n x.rows.boot (standing_from n (standing_of x n) f.0) first.0) f.1.ends))
           where
             chosen : (i : ℕ) (e : Entry B) → slice_get f.0 i ≡ Some e
-                → Chosen members (played same members (early ++ later)).sent (suc (length x.applied + i)) e
+                → Chosen members (played same members (early ++ later)).sent (suc (log_length x + i)) e
             chosen i e h =
-                at_q (λ w. Chosen members w.sent (suc (length x.applied + i)) e)
-                (chosen_out members q.sent (suc (length x.applied + i)) e
-                (f.1.logged.at (length x.applied + i) e (get_right x.applied f.0 i ∙ h)))
+                at_q (λ w. Chosen members w.sent (suc (log_length x + i)) e)
+                (chosen_out members q.sent (suc (log_length x + i)) e
+                (f.1.logged.at (log_length x + i) e (get_right x.applied f.0 i ∙ h)))

@@ -1,12 +1,12 @@
 -- The end of a boot among entries in two parts, and what is pending after both.
 use Rattle.std.proofs.Common.{◌≡◌, ℕ, suc, Bool, true, false, ◌||◌, List, [], ◌∷◌, ◌++◌, take}
-use Rattle.std.proofs.Common.{refl, ap, sym, ◌∙◌, append_assoc, append-nil}
+use Rattle.std.proofs.Common.{refl, sym, ◌∙◌}
 use Rattle.std.specs.Prelude.{filter, if◌then◌else◌}
 use Rattle.std.proofs.lemmas.List.Sums.{fold-append}
 use Rattle.paxos_packets.specs.declared.entry.Entry.{Entry}
 use Rattle.replica_machine.specs.declared.roll.Standing.{Standing}
 use Rattle.replica_machine.specs.declared.roll.Standing.TheVariants.{Unknown}
-use Rattle.replica_machine.specs.Roll.{standing, standing_from, standing_after, is_wanted}
+use Rattle.replica_machine.specs.Roll.{standing, standing_from, standing_after, standings_from, standings_after, is_wanted_by}
 use Rattle.paxos_node.specs.Adopting.{pending_behind}
 use Rattle.paxos_node.specs.Applying.{ends_boot, count_to_end, has_end}
 
@@ -38,12 +38,11 @@ end_within {B} me boot s (e ∷ es) = go (ends_boot me boot s e) refl (end_withi
     go true q h = λ i. q i || has_end {B = B} me boot (standing_after me s e) []
     go false q h = (λ i. q i || has_end me boot (standing_after me s e) (take (count_to_end me boot (standing_after me s e) es) es)) ∙ h
 
-pub pending_both : {B : Type 0} (log es fs pending : List (Entry B))
-    → pending_behind (log ++ es) fs (pending_behind log es pending) ≡ pending_behind log (es ++ fs) pending
-pending_both log [] fs pending = ap (λ l. pending_behind l fs pending) (append-nil log)
-pending_both log (e ∷ es) fs pending =
-    ap (λ l. pending_behind l fs (pending_behind log (e ∷ es) pending)) (sym (append_assoc log (e ∷ []) es))
-    ∙ pending_both (log ++ e ∷ []) es fs (filter (is_wanted (log ++ e ∷ [])) pending)
+pub pending_both : {B : Type 0} (stands : ℕ → Standing) (es fs pending : List (Entry B))
+    → pending_behind (standings_from stands es) fs (pending_behind stands es pending) ≡ pending_behind stands (es ++ fs) pending
+pending_both stands [] fs pending = refl
+pending_both stands (e ∷ es) fs pending =
+    pending_both (standings_after stands e) es fs (filter (is_wanted_by (standings_after stands e)) pending)
 
 pub standing_both : {B : Type 0} (me : ℕ) (log es : List (Entry B)) → standing me (log ++ es) ≡ standing_from me (standing me log) es
 standing_both me log es = fold-append (standing_after me) Unknown log es

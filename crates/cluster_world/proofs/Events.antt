@@ -1,6 +1,6 @@
 -- The node's part of each event keeps the invariant.
 use Rattle.std.proofs.Common.{◌≡◌, ⊎_elim, ℕ, suc, ◌+◌, ◌-◌, ◌≤◌, Bool, true, false, not, ◌&&◌, ◌||◌, eqb, ltb, refl, sym, ap, ◌∙◌, subst, arith, List, []}
-use Rattle.std.proofs.Common.{◌∷◌, ◌++◌, length, append_assoc, Option, Some, None}
+use Rattle.std.proofs.Common.{◌∷◌, ◌++◌, append_assoc, Option, Some, None}
 use Rattle.std.specs.Prelude.{filter, if◌then◌else◌, nat_lt, nat_le, max, take}
 use Rattle.std.proofs.lemmas.Bool.{cond_both, and_parts, lt-ltb}
 use Rattle.cluster_world.proofs.Lists.{has_one, has_cases}
@@ -34,7 +34,7 @@ use Rattle.paxos_proposer.specs.Proposer.{round_of, new_ballot, step_down, nacke
 use Rattle.paxos_proposer.specs.Reports.{is_counted, reports, past_reports, called_for}
 use Rattle.paxos_learner.specs.declared.learned.LearnedEntry.{LearnedEntry}
 use Rattle.paxos_learner.specs.Learner.{is_learned, learn, disagrees, vote_disagrees}
-use Rattle.paxos_planning.specs.Node.{NodeState, Plan}
+use Rattle.paxos_planning.specs.Node.{NodeState, Plan, log_length}
 use Rattle.paxos_planning.specs.Plan.{with_role, with_pending, with_learner, promised_at, counted_at, send, promise, count, hear_learned, cast}
 use Rattle.paxos_planning.specs.Proposals.{propose, lead, stands, propose_new, propose_each, forwarded, push}
 use Rattle.paxos_planning.specs.Replies.{saw, refuse, on_prepare, on_accept, count_promise, on_promise_as, on_nack, on_forward, told_from, on_packet}
@@ -193,7 +193,7 @@ module _ {B : Type 0} (same : B → B → Bool) (equal : IsEquality same) (membe
 
   pub propose_new_step : (e : Entry B) (t : Plan B) → St t → Fr t → To t (propose_new same members n e t)
   propose_new_step e t inv free =
-      cond_both (stands same (length t.node.applied) t.node.proposer.role e) t (propose same members n e t) (λ z. To t z)
+      cond_both (stands same (log_length t.node) t.node.proposer.role e) t (propose same members n e t) (λ z. To t z)
       (λ d. stood t inv free)
       (λ d. propose_step same equal members many at n before t e inv free)
 
@@ -430,7 +430,7 @@ module _ {B : Type 0} (same : B → B → Bool) (equal : IsEquality same) (membe
       b = new_ballot n t.node.rows.promised t.node.proposer
 
       floor : ℕ
-      floor = suc (length t.node.applied)
+      floor = suc (log_length t.node)
 
   -- Tick
 
@@ -462,7 +462,7 @@ module _ {B : Type 0} (same : B → B → Bool) (equal : IsEquality same) (membe
       (λ k kind s. let o = sent_to_others members n (Ask slot) k kind s in (o.0, subst (λ y. QuietKind members (all t) n y) o.1 tt))
     where
       slot : ℕ
-      slot = suc (length t.node.applied)
+      slot = suc (log_length t.node)
 
   pub tick_step : (t : Plan B) → St t → Fr t → To t (on_tick same members n t)
   tick_step t inv free =

@@ -33,7 +33,7 @@ use Rattle.paxos_proposer.specs.Reports.{is_counted, reports, past_reports, call
 use Rattle.paxos_learner.specs.Learner.{run_from}
 use Rattle.paxos_node.specs.declared.event.Event.{Event}
 use Rattle.paxos_node.specs.declared.event.Event.TheVariants.{Take, Tick, Start, Suspect, Deliver, Crash, Restart}
-use Rattle.paxos_planning.specs.Node.{NodeState, Plan}
+use Rattle.paxos_planning.specs.Node.{NodeState, Plan, log_length}
 use Rattle.paxos_planning.specs.Plan.{with_role, with_pending, begun, send, promise, vote as vote_at_end, count as count_at_end, cast as cast_at_end}
 use Rattle.paxos_planning.specs.Proposals.{stands, forwarded, propose as propose_at_end, propose_new as propose_new_at_end, lead as lead_at_end}
 use Rattle.paxos_planning.specs.Proposals.{propose_each as propose_each_at_end, push as push_at_end}
@@ -66,8 +66,8 @@ module _ {B : Type 0} (same : B → B → Bool) (equal : IsEquality same) (membe
   proposes_new e t inv rest =
       let a = proposes same equal members many at n before e t inv rest in
       record {
-        is = ap (λ u. if stands same (length t.node.applied) t.node.proposer.role e then t else u) a.is;
-        calm = cond_both (stands same (length t.node.applied) t.node.proposer.role e) t (propose_at_end same members n e t) (λ u. Calm t u)
+        is = ap (λ u. if stands same (log_length t.node) t.node.proposer.role e then t else u) a.is;
+        calm = cond_both (stands same (log_length t.node) t.node.proposer.role e) t (propose_at_end same members n e t) (λ u. Calm t u)
             (λ d. calm_here t) (λ d. a.calm);
       }
 
@@ -176,7 +176,7 @@ module _ {B : Type 0} (same : B → B → Bool) (equal : IsEquality same) (membe
       go : (m : Bool) → Ends (if m then now.cast same members n v t else refuse n from v.ballot t)
           (if m then cast_at_end same members n v t else refuse n from v.ballot t)
       go true =
-          apply_send n (to_others members n (Accepted v)) (run_from (suc (length counted.node.applied)) counted.node.learner.learned) counted
+          apply_send n (to_others members n (Accepted v)) (run_from (suc (log_length counted.node)) counted.node.learner.learned) counted
       go false = refuses t from v.ballot rest
   ends_packet t from (Accepted v) inv free s rest = refl
   ends_packet t from (Nack b p) inv free s rest = settle_rest n (on_nack b p t) rest
@@ -212,7 +212,7 @@ module _ {B : Type 0} (same : B → B → Bool) (equal : IsEquality same) (membe
       b = new_ballot n t.node.rows.promised t.node.proposer
 
       floor : ℕ
-      floor = suc (length t.node.applied)
+      floor = suc (log_length t.node)
 
   pub ends_tick : (t : Plan B) → St t → Fr t → AtRest t.node
       → Ends (now.on_tick same members n t) (on_tick_at_end same members n t)

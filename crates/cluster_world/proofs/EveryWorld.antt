@@ -24,8 +24,8 @@ use Rattle.paxos_node.specs.declared.event.Event.{Event}
 use Rattle.paxos_node.specs.declared.event.Event.TheVariants.{Take, Tick, Start, Suspect, Deliver, Crash, Restart}
 use Rattle.paxos_planning.specs.Node.{NodeState, Plan}
 use Rattle.paxos_planning.specs.Plan.{begun}
-use Rattle.paxos_node.specs.Applying.{started, first_rows, settle}
-use Rattle.paxos_packets.specs.Rows.{last_boot}
+use Rattle.paxos_node.specs.Applying.{started, settle}
+use Rattle.paxos_packets.specs.Rows.{last_boot, first_rows}
 use Rattle.paxos_node.specs.Events.{owner, possible, outcome_of, new_lost}
 use Rattle.cluster_world.specs.World.{World, absent, node_at, put_node, founded, first_world, is_among, was_sent, done, next, play, played}
 
@@ -157,13 +157,8 @@ off : false ≡ true → ⊥
 off e = cc
 
 absent_cannot : {B : Type 0} (e : Event B) → possible e absent ≡ true → ⊥
-absent_cannot (Take n t body) h = off h
-absent_cannot (Tick n) h = off h
-absent_cannot (Start n) h = off h
-absent_cannot (Suspect n other) h = off h
-absent_cannot (Deliver p) h = off h
-absent_cannot (Crash n) h = off h
 absent_cannot (Restart n) h = let l = ltb-true last_boot last_boot h in omega arith
+absent_cannot _ h = off h
 
 pub within : {B : Type 0} (nodes : List (NodeState B)) (e : Event B) (k : ℕ) → possible e (node_at nodes k) ≡ true → Within nodes k
 within nodes e zero h = absurd (absent_cannot e h)

@@ -10,7 +10,8 @@ use Rattle.paxos_packets.specs.declared.entry.Entry.TheVariants.{Noop, Boot, Los
 use Rattle.paxos_node.specs.Adopting.{pending_behind}
 use Rattle.replica_machine.specs.declared.roll.Standing.{Standing}
 use Rattle.replica_machine.specs.declared.roll.Standing.TheVariants.{Unknown, Live, Gone}
-use Rattle.replica_machine.specs.Roll.{is_new_boot, is_live, is_next, gone, standing_after, standing_from, is_wanted}
+use Rattle.replica_machine.specs.Roll.{is_new_boot, is_live, is_next, gone, standing_after, standing_from, standings, is_wanted}
+use Rattle.paxos_node.proofs.Rolling.{one_behind}
 
 off : true ≡ false → ⊥
 off e = cc
@@ -132,14 +133,15 @@ abbrev pub Fades : {B : Type 0} → List (Entry B) → List (Entry B) → Entry 
 Fades {B} log es x = (fs gs : List (Entry B)) → es ≡ fs ++ gs → is_wanted (log ++ fs) x ≡ false → is_wanted (log ++ es) x ≡ false
 
 pub left_pending : {B : Type 0} (es log pending : List (Entry B)) → ((x : Entry B) → Has pending x → is_wanted log x ≡ true)
-    → ((x : Entry B) → Has pending x → Fades log es x) → pending_behind log es pending ≡ filter (is_wanted (log ++ es)) pending
+    → ((x : Entry B) → Has pending x → Fades log es x) → pending_behind (standings log) es pending ≡ filter (is_wanted (log ++ es)) pending
 left_pending [] log pending all fades =
     sym (filter_all (is_wanted (log ++ [])) pending (λ x h. ap (λ l. is_wanted l x) (append-nil log) ∙ all x h))
 left_pending {B} (e ∷ es) log pending all fades =
-    left_pending es (log ++ e ∷ []) (filter (is_wanted (log ++ e ∷ [])) pending)
+    one_behind log e es pending
+    ∙ (left_pending es (log ++ e ∷ []) (filter (is_wanted (log ++ e ∷ [])) pending)
     (λ x h. (passes_both (is_wanted (log ++ e ∷ [])) pending x h).0)
     (λ x h fs gs is over. ap (λ l. is_wanted l x) (append_assoc log (e ∷ []) es)
     ∙ fades x (passes_both (is_wanted (log ++ e ∷ [])) pending x h).1 (e ∷ fs) gs (ap (λ (l : List (Entry B)). e ∷ l) is)
     (ap (λ l. is_wanted l x) (sym (append_assoc log (e ∷ []) fs)) ∙ over))
-    ∙ (ap (λ l. filter (is_wanted l) (filter (is_wanted (log ++ e ∷ [])) pending)) (append_assoc log (e ∷ []) es)
+    ∙ ap (λ l. filter (is_wanted l) (filter (is_wanted (log ++ e ∷ [])) pending)) (append_assoc log (e ∷ []) es)
     ∙ filter_both (is_wanted (log ++ e ∷ es)) (is_wanted (log ++ e ∷ [])) pending (λ x h over. fades x h (e ∷ []) es refl over))

@@ -1,6 +1,6 @@
 -- What becomes of a node as votes for its proposals come back: it applies what it learns, or goes down with a loss of its own boot.
 use Rattle.std.proofs.Common.{◌≡◌, ◌⊎◌, inl, inr, ⊎_elim, ℕ, suc, ◌≤◌, Bool, true, false, ◌||◌, eqb, refl, sym, ap, ◌∙◌, subst, List, []}
-use Rattle.std.proofs.Common.{◌∷◌, ◌++◌, length, take}
+use Rattle.std.proofs.Common.{◌∷◌, ◌++◌, take}
 use Rattle.std.proofs.Common.{append_assoc}
 use Rattle.std.specs.Prelude.{nat_lt}
 use Rattle.std.proofs.lemmas.Bool.{cond_both, cond-true, cases_Bool, or_left, or_right, or_cases, eq-eqb}
@@ -24,12 +24,13 @@ use Rattle.paxos_learner.specs.Learned.{is_learned}
 use Rattle.paxos_learner.specs.Learner.{LearnerState, hears, has_most, put_learned, learn, count_vote, run_from}
 use Rattle.paxos_learner.specs.Tallies.{place_of, nodes_heard}
 use Rattle.replica_machine.specs.declared.roll.Standing.{Standing}
-use Rattle.replica_machine.specs.Roll.{standing, standing_from}
+use Rattle.replica_machine.specs.Roll.{standing, standings, standing_from}
 use Rattle.paxos_node.specs.Adopting.{pending_behind}
-use Rattle.paxos_node.specs.Applying.{down, count_to_end, has_end}
+use Rattle.paxos_node.specs.Applying.{standing_of, down, count_to_end, has_end}
+use Rattle.paxos_node.proofs.Rolling.{some_longer}
 use Rattle.paxos_node.specs.Events.{outcome_of}
 use Rattle.paxos_node.specs.declared.event.Event.TheVariants.{Deliver}
-use Rattle.paxos_planning.specs.Node.{NodeState, Plan}
+use Rattle.paxos_planning.specs.Node.{NodeState, Plan, log_length}
 use Rattle.paxos_planning.specs.Plan.{begun, count}
 use Rattle.paxos_planning.specs.Replies.{saw}
 use Rattle.cluster_world.specs.World.{World, node_at, was_sent}
@@ -95,8 +96,8 @@ module _ {B : Type 0} (same : B → B → Bool) (equal : IsEquality same) (membe
     pub role : x.proposer.role ≡ y.proposer.role
     pub taken : x.taken ≡ y.taken
     pub log : x.applied ≡ y.applied ++ es
-    pub pending : x.pending ≡ pending_behind y.applied es y.pending
-    pub stands : has_end n y.rows.boot (standing n y.applied) es ≡ false
+    pub pending : x.pending ≡ pending_behind (standing_of y) es y.pending
+    pub stands : has_end n y.rows.boot (standing_of y n) es ≡ false
     pub eights : AreEights x.learner.heard
     pub heard : (p : SlotBallot) (j : ℕ) → is_in (nodes_heard p y.learner.heard) j ≡ true → is_in (nodes_heard p x.learner.heard) j ≡ true
     pub learned : (slot : ℕ) → is_learned slot y.learner.learned ≡ true → is_learned slot x.learner.learned ≡ true
@@ -104,7 +105,7 @@ module _ {B : Type 0} (same : B → B → Bool) (equal : IsEquality same) (membe
   -- the node went down: it applied these entries, which are chosen, and the last of them ended its boot
   pub record Fell (x : NodeState B) (all : List (Packet B)) (es : List (Entry B)) : Type 0 where
     pub down_is : x ≡ down y.rows
-    pub ends : has_end n y.rows.boot (standing n y.applied) es ≡ true
+    pub ends : has_end n y.rows.boot (standing_of y n) es ≡ true
     pub logged : Logged members all (y.applied ++ es)
 
   -- a vote of node k comes back
@@ -124,10 +125,10 @@ module _ {B : Type 0} (same : B → B → Bool) (equal : IsEquality same) (membe
     boot = x.rows.boot
 
     abbrev s : Standing
-    s = standing n x.applied
+    s = standing_of x n
 
     abbrev run : List (Entry B)
-    run = run_from (suc (length x.applied)) t.node.learner.learned
+    run = run_from (suc (log_length x)) t.node.learner.learned
 
     abbrev fs : List (Entry B)
     fs = take (count_to_end n boot s run) run
@@ -142,10 +143,10 @@ module _ {B : Type 0} (same : B → B → Bool) (equal : IsEquality same) (membe
     x'_is = up_stepped same members back x ride.up ∙ ap (λ (z : Plan B). z.node) o_is
 
     -- whether the boot ends goes along
-    ends_is : has_end n y.rows.boot (standing n y.applied) (es ++ fs) ≡ has_end n boot s run
+    ends_is : has_end n y.rows.boot (standing_of y n) (es ++ fs) ≡ has_end n boot s run
     ends_is =
-        has_end_both n y.rows.boot (standing n y.applied) es fs
-        ∙ ((λ i. ride.stands i || has_end n y.rows.boot (standing_from n (standing n y.applied) es) fs)
+        has_end_both n y.rows.boot (standing_of y n) es fs
+        ∙ ((λ i. ride.stands i || has_end n y.rows.boot (standing_from n (standing_of y n) es) fs)
         ∙ ((λ i. has_end n y.rows.boot (sym (standing_both n y.applied es) i) fs)
         ∙ ((λ i. has_end n (sym (ap (λ r. r.boot) ride.rows) i) (standing n (sym ride.log i)) fs)
         ∙ end_within n boot s run)))
@@ -165,7 +166,10 @@ module _ {B : Type 0} (same : B → B → Bool) (equal : IsEquality same) (membe
                 role = ride.role;
                 taken = ride.taken;
                 log = log_is;
-                pending = (λ i. pending_behind (ride.log i) fs (ride.pending i)) ∙ pending_both y.applied es fs y.pending;
+                pending =
+                    (λ i. pending_behind (standings (ride.log i)) fs (ride.pending i))
+                    ∙ ((λ i. pending_behind (sym (some_longer y.applied es) i) fs (pending_behind (standing_of y) es y.pending))
+                    ∙ pending_both (standing_of y) es fs y.pending);
                 stands = ends_is ∙ e;
                 eights = subst (λ h. AreEights h) (sym (count_heard members k v x.learner)) (eights_more k v x.learner ride.eights);
                 heard = λ p j h. subst (λ l. is_in (nodes_heard p l) j ≡ true) (sym (count_heard members k v x.learner))

@@ -3,10 +3,11 @@ use Rattle.std.proofs.Common.{◌≡◌, ◌⊎◌, inl, inr, ⊎_elim, ℕ, zer
 use Rattle.std.proofs.Common.{List, [], ◌∷◌, ◌++◌, length, Option, Some, None}
 use Rattle.std.specs.Prelude.{slice_get}
 use Rattle.std.proofs.lemmas.List.{map-append, length-append}
+use Rattle.paxos_packets.specs.Rows.{first_rows}
 use Rattle.paxos_packets.specs.declared.entry.Entry.{Entry}
 use Rattle.paxos_packets.specs.declared.entry.Entry.TheVariants.{Boot}
 use Rattle.paxos_packets.specs.declared.transport.Transport.{Transport}
-use Rattle.paxos_node.specs.Applying.{started, first_rows}
+use Rattle.paxos_node.specs.Applying.{started}
 use Rattle.paxos_planning.specs.Node.{NodeState}
 use Rattle.replica_machine.specs.Replay.{Machine}
 use Rattle.replica_follower.specs.Following.{Followed}

@@ -34,11 +34,11 @@ use Rattle.paxos_proposer.specs.Proposals.{behind}
 use Rattle.paxos_proposer.specs.Proposer.{slot_end, next_vote}
 use Rattle.paxos_proposer.specs.Proposing.{proposals_of}
 use Rattle.paxos_proposer.specs.Role.{Role, Leading}
-use Rattle.paxos_node.specs.Applying.{settle, has_end}
+use Rattle.paxos_node.specs.Applying.{standing_of, settle, has_end}
 use Rattle.paxos_node.specs.Events.{takes, with_item, last_number, most_pending, possible, outcome_of}
 use Rattle.paxos_node.specs.declared.event.Event.{Event}
 use Rattle.paxos_node.specs.declared.event.Event.TheVariants.{Take}
-use Rattle.paxos_planning.specs.Node.{NodeState, Plan}
+use Rattle.paxos_planning.specs.Node.{NodeState, Plan, log_length}
 use Rattle.paxos_planning.specs.Plan.{begun}
 use Rattle.paxos_planning.specs.Proposals.{push}
 use Rattle.replica_machine.proofs.Places.{effective_is}
@@ -133,7 +133,7 @@ module _ {B : Type 0} (same : B → B → Bool) (equal : IsEquality same) (membe
       }
 
   abbrev pub role2 : Role B
-  role2 = propose_new same (length z.applied) (z.pending ++ item ∷ []) (Leading ballot d.next vs)
+  role2 = propose_new same (log_length z) (z.pending ++ item ∷ []) (Leading ballot d.next vs)
 
   abbrev pushed : Plan B
   pushed = push same members n t
@@ -212,14 +212,14 @@ module _ {B : Type 0} (same : B → B → Bool) (equal : IsEquality same) (membe
       }
 
   abbrev pub vs2 : List (Vote B)
-  vs2 = behind (length z.applied) (proposals_of role2)
+  vs2 = behind (log_length z) (proposals_of role2)
 
   passed : Passed same equal members two n member round x2 seats (λ j. (node_at p.nodes j).rows.votes) vs2 [] p
       (play same members (pass n seats vs2) p)
   passed =
       carries same equal members two n member low round p (world_ok same equal members two taken_events) k.votes y role2 bids seats apart
       others lows
-      enough (length z.applied) ready
+      enough (log_length z) ready
 
   -- whoever else was up stays up
   still : (j : ℕ) → (j ≡ n → ⊥) → (node_at q.nodes j).up ≡ true → (node_at (play same members (pass n seats vs2) p).nodes j).up ≡ true
@@ -231,23 +231,23 @@ module _ {B : Type 0} (same : B → B → Bool) (equal : IsEquality same) (membe
 
   -- what is proposed: what is pending, in order, and the act
 
-  z_length : length z.applied ≡ length k.log + length vs
+  z_length : log_length z ≡ length k.log + length vs
   z_length =
       ap (λ (l : List (Entry B)). length l) ride.log
       ∙ (length-append k.log (entries_of vs) ∙ ap (λ c. length k.log + c) (length_map (λ (u : Vote B). u.entry) vs))
 
-  old : (u : Vote B) → Has vs u → u.slot ≤ length z.applied
+  old : (u : Vote B) → Has vs u → u.slot ≤ log_length z
   old u h = subst (λ c. u.slot ≤ c) (sym z_length) (slots_within (length k.log) vs u d.after h)
 
-  module _ (chain : Chain n z.rows.boot z.taken (standing n z.applied) z.pending) where
+  module _ (chain : Chain n z.rows.boot z.taken (standing_of z n) z.pending) where
     abbrev Ended : Role B → Type 0
-    Ended r = Finished same equal (length z.applied) n z.rows.boot z.taken ballot vs old (standing n z.applied) transport body r
+    Ended r = Finished same equal (log_length z) n z.rows.boot z.taken ballot vs old (standing_of z n) transport body r
 
     f : Ended role2
     f =
-        subst (λ l. Ended (propose_new same (length z.applied) (z.pending ++ item ∷ []) (Leading ballot d.next l))) (append-nil vs)
-        (finishes same equal (length z.applied) n z.rows.boot z.taken ballot vs old (standing n z.applied) transport body z.pending
-        (standing n z.applied) d.next [] chain
+        subst (λ l. Ended (propose_new same (log_length z) (z.pending ++ item ∷ []) (Leading ballot d.next l))) (append-nil vs)
+        (finishes same equal (log_length z) n z.rows.boot z.taken ballot vs old (standing_of z n) transport body z.pending
+        (standing_of z n) d.next [] chain
         (record {
           stands_is = refl;
           settles = record { boots = λ h. absurd (has_nil h); items = λ a b c h. absurd (has_nil h) };
@@ -260,14 +260,14 @@ module _ {B : Type 0} (same : B → B → Bool) (equal : IsEquality same) (membe
     after_all : AreAfter (length k.log) (vs ++ new)
     after_all =
         (subst (λ r. Ordered (length k.log) r) f.is
-        (new_ordered same (length z.applied) (length k.log) (z.pending ++ item ∷ []) (Leading ballot d.next vs) (d.next_is, d.after))).1
+        (new_ordered same (log_length z) (length k.log) (z.pending ++ item ∷ []) (Leading ballot d.next vs) (d.next_is, d.after))).1
 
-    rest_is : (behind (length z.applied) (vs ++ new) ≡ new) × AreAfter (length z.applied) new
+    rest_is : (behind (log_length z) (vs ++ new) ≡ new) × AreAfter (log_length z) new
     rest_is =
         subst (λ c. (behind c (vs ++ new) ≡ new) × AreAfter c new) (sym z_length) (behind_rest (length k.log) vs new after_all)
 
     vs2_is : vs2 ≡ new
-    vs2_is = ap (λ (r : Role B). behind (length z.applied) (proposals_of r)) f.is ∙ rest_is.0
+    vs2_is = ap (λ (r : Role B). behind (log_length z) (proposals_of r)) f.is ∙ rest_is.0
 
     table_is : proposals_of role2 ≡ vs ++ new
     table_is = ap (λ (r : Role B). proposals_of r) f.is
@@ -278,25 +278,25 @@ module _ {B : Type 0} (same : B → B → Bool) (equal : IsEquality same) (membe
         ∙ (ap (λ l. put_votes l k.votes) table_is ∙ (fold-append (λ us u. put_vote u us) k.votes vs new ∙ ap (λ l. put_votes new l)
         (sym d.votes)))
 
-    short : (j : ℕ) (u : Vote B) → d.crew j ≡ true → Has (node_at p.nodes j).rows.votes u → u.slot ≤ length x2.applied + length vs2
+    short : (j : ℕ) (u : Vote B) → d.crew j ≡ true → Has (node_at p.nodes j).rows.votes u → u.slot ≤ log_length x2 + length vs2
     short j u c h =
         subst (λ a. u.slot ≤ a + length vs2) (sym (ap (λ (l : List (Entry B)). length l) bids.log))
-        (subst (λ l. u.slot ≤ length z.applied + length l) (sym vs2_is)
+        (subst (λ l. u.slot ≤ log_length z + length l) (sym vs2_is)
         (⊎_elim (λ (e : j ≡ n). mine (subst (λ i. Has (node_at p.nodes i).rows.votes u) e h) e) (λ s. helper s.0 s.1 s.2) (d.in_crew j c)))
       where
-        further : (a : ℕ) → a ≤ length k.log + length vs → a ≤ length z.applied + length new
-        further a l = go a (length k.log + length vs) (length z.applied) (length new) z_length l
+        further : (a : ℕ) → a ≤ length k.log + length vs → a ≤ log_length z + length new
+        further a l = go a (length k.log + length vs) (log_length z) (length new) z_length l
           where
             go : (a b c e : ℕ) → c ≡ b → a ≤ b → a ≤ c + e
             go a b c e i l = omega arith
 
-        mine : Has x2.rows.votes u → j ≡ n → u.slot ≤ length z.applied + length new
+        mine : Has x2.rows.votes u → j ≡ n → u.slot ≤ log_length z + length new
         mine g e =
-            ⊎_elim (λ i. slots_within (length z.applied) new u rest_is.1 i)
+            ⊎_elim (λ i. slots_within (log_length z) new u rest_is.1 i)
             (λ i. further u.slot (d.short j u c (subst (λ i. Has (node_at q.nodes i).rows.votes u) (sym e) i)))
             (put_all_cases new z.rows.votes u (subst (λ l. Has l u) votes_is g))
 
-        helper : (s : Seat B) → Has seats s → s.number ≡ j → u.slot ≤ length z.applied + length new
+        helper : (s : Seat B) → Has seats s → s.number ≡ j → u.slot ≤ log_length z + length new
         helper s i e =
             further u.slot
             (d.short j u c
@@ -311,16 +311,16 @@ module _ {B : Type 0} (same : B → B → Bool) (equal : IsEquality same) (membe
         (length k.log)
         passed
         (subst (λ a. AreAfter a vs2) (sym (ap (λ (l : List (Entry B)). length l) bids.log))
-        (subst (λ l. AreAfter (length z.applied) l) (sym vs2_is) rest_is.1))
+        (subst (λ l. AreAfter (log_length z) l) (sym vs2_is) rest_is.1))
         (subst (λ l. AreAfter (length k.log) l) (sym table_is) after_all)
-        (λ u h. has_filter (λ (w : Vote B). nat_lt (length z.applied) w.slot) (proposals_of role2) h) bids.cast bids.promised
-        (λ u h. bids.mine u (has_filter (λ (w : Vote B). nat_lt (length z.applied) w.slot) (proposals_of role2) h)) d.crew d.enough
+        (λ u h. has_filter (λ (w : Vote B). nat_lt (log_length z) w.slot) (proposals_of role2) h) bids.cast bids.promised
+        (λ u h. bids.mine u (has_filter (λ (w : Vote B). nat_lt (log_length z) w.slot) (proposals_of role2) h)) d.crew d.enough
         d.in_crew short
 
     abbrev final : World B
     final = play same members (pass n seats vs2) p
 
-    no_end_is : has_end n x2.rows.boot (standing n x2.applied) (entries_of vs2) ≡ false
+    no_end_is : has_end n x2.rows.boot (standing_of x2 n) (entries_of vs2) ≡ false
     no_end_is = (λ i. has_end n (bids.boot i) (standing n (bids.log i)) (entries_of (vs2_is i))) ∙ f.ends
 
     ends_with : EndsWithAct final n transport body

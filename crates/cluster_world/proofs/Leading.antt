@@ -27,7 +27,7 @@ use Rattle.paxos_proposer.specs.Proposer.{slot_end, next_vote, submitted, is_lea
 use Rattle.paxos_proposer.specs.Proposing.{proposals_of}
 use Rattle.paxos_proposer.specs.Reports.{is_counted, reports, past_reports, called_in, called_for}
 use Rattle.paxos_proposer.specs.Role.{Role, Idle, Preparing, Leading}
-use Rattle.paxos_planning.specs.Node.{NodeState, Plan}
+use Rattle.paxos_planning.specs.Node.{NodeState, Plan, log_length}
 use Rattle.paxos_planning.specs.Plan.{with_role, send, cast}
 use Rattle.paxos_planning.specs.Proposals.{offer, propose_as, propose, propose_all, lead, stands, propose_new, propose_each, forwarded}
 use Rattle.paxos_planning.specs.Proposals.{push}
@@ -187,9 +187,9 @@ module _ {B : Type 0} (same : B → B → Bool) (members : ℕ) (many : 2 ≤ me
     -- and those that do not stand
     pub proposes_each : (es : List (Entry B)) (next most : ℕ) (table : List (Vote B)) (t : Plan B) → At t (Leading b next table)
         → next + length es ≤ most → most ≤ slot_end
-        → Goes most (propose_each same members n es t) (course.propose_new same (length y.applied) es (Leading b next table))
+        → Goes most (propose_each same members n es t) (course.propose_new same (log_length y) es (Leading b next table))
     proposes_each [] next most table t ok l m = (ok, (refl, omega arith))
-    proposes_each (e ∷ es) next most table t ok l m = go (stands same (length y.applied) (Leading b next table) e) refl
+    proposes_each (e ∷ es) next most table t ok l m = go (stands same (log_length y) (Leading b next table) e) refl
         (proposes_each es next most table t ok (less l) m)
         (proposes_each es (suc next) most (table ++ next_vote b next e ∷ []) (propose same members n e t)
         (one_more next table e t ok f.0) f.1 m)
@@ -197,34 +197,34 @@ module _ {B : Type 0} (same : B → B → Bool) (members : ℕ) (many : 2 ≤ me
         f : (next < slot_end) × (suc next + length es ≤ most)
         f = less_one next (length es) most l m
 
-        same_test : stands same (length t.node.applied) t.node.proposer.role e ≡ stands same (length y.applied) (Leading b next table) e
+        same_test : stands same (log_length t.node) t.node.proposer.role e ≡ stands same (log_length y) (Leading b next table) e
         same_test = λ i. stands same (length (ok.log i)) (ok.role i) e
 
         less : next + suc (length es) ≤ most → next + length es ≤ most
         less h = omega arith
 
-        go : (g : Bool) → stands same (length y.applied) (Leading b next table) e ≡ g
-            → Goes most (propose_each same members n es t) (course.propose_new same (length y.applied) es (Leading b next table))
+        go : (g : Bool) → stands same (log_length y) (Leading b next table) e ≡ g
+            → Goes most (propose_each same members n es t) (course.propose_new same (log_length y) es (Leading b next table))
             → Goes most (propose_each same members n es (propose same members n e t))
-            (course.propose_new same (length y.applied) es (Leading b (suc next) (table ++ next_vote b next e ∷ [])))
+            (course.propose_new same (log_length y) es (Leading b (suc next) (table ++ next_vote b next e ∷ [])))
             → Goes most (propose_each same members n es (propose_new same members n e t))
-            (course.propose_new same (length y.applied) es (if g then Leading b next table else submitted e (Leading b next table)))
+            (course.propose_new same (log_length y) es (if g then Leading b next table else submitted e (Leading b next table)))
         go true h old new =
-            subst (λ u. Goes most (propose_each same members n es u) (course.propose_new same (length y.applied) es (Leading b next table)))
-            (sym (cond-true (stands same (length t.node.applied) t.node.proposer.role e) t (propose same members n e t) (same_test ∙ h)))
+            subst (λ u. Goes most (propose_each same members n es u) (course.propose_new same (log_length y) es (Leading b next table)))
+            (sym (cond-true (stands same (log_length t.node) t.node.proposer.role e) t (propose same members n e t) (same_test ∙ h)))
             old
         go false h old new =
             subst
             (λ u. Goes most (propose_each same members n es u)
-            (course.propose_new same (length y.applied) es (Leading b (suc next) (table ++ next_vote b next e ∷ []))))
-            (sym (cond-false (stands same (length t.node.applied) t.node.proposer.role e) t (propose same members n e t) (same_test ∙ h)))
+            (course.propose_new same (log_length y) es (Leading b (suc next) (table ++ next_vote b next e ∷ []))))
+            (sym (cond-false (stands same (log_length t.node) t.node.proposer.role e) t (propose same members n e t) (same_test ∙ h)))
             new
 
     -- a leader pushes what is pending
     pub pushes : (next most : ℕ) (table : List (Vote B)) (t : Plan B) → At t (Leading b next table) → next + length y.pending ≤ most
-        → most ≤ slot_end → Goes most (push same members n t) (course.propose_new same (length y.applied) y.pending (Leading b next table))
+        → most ≤ slot_end → Goes most (push same members n t) (course.propose_new same (log_length y) y.pending (Leading b next table))
     pushes next most table t ok l m =
-        subst (λ u. Goes most u (course.propose_new same (length y.applied) y.pending (Leading b next table)))
+        subst (λ u. Goes most u (course.propose_new same (log_length y) y.pending (Leading b next table)))
         (sym
         (cond-true (is_leading t.node.proposer.role) (propose_each same members n t.node.pending t)
         (send (forwarded n t.node.rows.promised t.node.pending) t) (ap (λ r. is_leading r) ok.role)
@@ -235,19 +235,19 @@ module _ {B : Type 0} (same : B → B → Bool) (members : ℕ) (many : 2 ≤ me
     pub leads : (first past most : ℕ) (es : List (Entry B)) (t : Plan B) → At t (Leading b first []) → first + length es ≤ past
         → past + length y.pending ≤ most → most ≤ slot_end
         → Goes most (push same members n (propose_all same members n es t))
-        (course.propose_new same (length y.applied) y.pending (course.propose_all es (Leading b first [])))
+        (course.propose_new same (log_length y) y.pending (course.propose_all es (Leading b first [])))
     leads first past most es t ok l m h =
         let g = proposes_all es first past [] t ok l (omega arith) in go (course.propose_all es (Leading b first [])) g.0 g.1
       where
         go : (r : Role B) → At (propose_all same members n es t) r → LeadsBy b past r
-            → Goes most (push same members n (propose_all same members n es t)) (course.propose_new same (length y.applied) y.pending r)
+            → Goes most (push same members n (propose_all same members n es t)) (course.propose_new same (log_length y) y.pending r)
         go Idle k d = absurd d
         go (Preparing c floor cs) k d = absurd d
         go (Leading c next table) k d =
             let fits : next + length y.pending ≤ most = fits_in d.1 in
             subst
             (λ z. Goes most (push same members n (propose_all same members n es t))
-            (course.propose_new same (length y.applied) y.pending (Leading z next table))) (sym d.0)
+            (course.propose_new same (log_length y) y.pending (Leading z next table))) (sym d.0)
             (pushes next most table (propose_all same members n es t)
             (subst (λ z. At (propose_all same members n es t) (Leading z next table)) d.0 k) fits h)
           where
@@ -257,8 +257,8 @@ module _ {B : Type 0} (same : B → B → Bool) (members : ℕ) (many : 2 ≤ me
     -- a promise is counted: as the role says
     pub hears_promise : (from first past most : ℕ) (vs : List (Vote B)) (r : Role B) (t : Plan B) → At t r → IsIn b first past most r
         → first ≤ past → AreBelow past vs → past + length y.pending ≤ most → most ≤ slot_end
-        → At (on_promise_as same members n from b vs r t) (course.hears same members (length y.applied) y.pending b from vs r)
-        × IsIn b first past most (course.hears same members (length y.applied) y.pending b from vs r)
+        → At (on_promise_as same members n from b vs r t) (course.hears same members (log_length y) y.pending b from vs r)
+        × IsIn b first past most (course.hears same members (log_length y) y.pending b from vs r)
     hears_promise from first past most vs Idle t ok e low' below' room h = absurd e
     hears_promise from first past most vs (Leading c next table) t ok e low' below' room h = (ok, e)
     hears_promise from first past most vs (Preparing c f cs) t ok e low' below' room h = go (same_ballot b c && not (is_counted cs from))
@@ -303,7 +303,7 @@ module _ {B : Type 0} (same : B → B → Bool) (members : ℕ) (many : 2 ≤ me
             }
 
         led : Both (push same members n (lead same members n c f (reports more) t))
-            (course.propose_new same (length y.applied) y.pending (course.propose_all es (Leading c f [])))
+            (course.propose_new same (log_length y) y.pending (course.propose_all es (Leading c f [])))
         led =
             let g =
             leads f past most es (record t { node = with_role (Leading b f []) t.node }) (bare (Leading b f []) refl)
@@ -311,7 +311,7 @@ module _ {B : Type 0} (same : B → B → Bool) (members : ℕ) (many : 2 ≤ me
             room h in
             subst
             (λ z. Both (push same members n (lead same members n z f (reports more) t))
-            (course.propose_new same (length y.applied) y.pending (course.propose_all es (Leading z f [])))) (sym e.0)
+            (course.propose_new same (log_length y) y.pending (course.propose_all es (Leading z f [])))) (sym e.0)
             (g.0, known _ g.1)
 
         waits : Both (record t { node = with_role (Preparing c f more) t.node }) (Preparing c f more)
@@ -320,14 +320,14 @@ module _ {B : Type 0} (same : B → B → Bool) (members : ℕ) (many : 2 ≤ me
         counted : (m : Bool)
             → Both (if m then push same members n (lead same members n c f (reports more) t)
             else record t { node = with_role (Preparing c f more) t.node })
-            (course.proposes same (length y.applied) y.pending (if m then Some es else None)
+            (course.proposes same (log_length y) y.pending (if m then Some es else None)
             (if m then Leading c f [] else Preparing c f more))
         counted true = led
         counted false = waits
 
         go : (m : Bool)
             → Both (if m then count_promise same members n c f more t else t)
-            (course.proposes same (length y.applied) y.pending (if m then calls members f more else None)
+            (course.proposes same (log_length y) y.pending (if m then calls members f more else None)
             (if m then with_promises members c f more else Preparing c f cs))
         go true = counted (is_majority members (is_counted more))
         go false = (ok, e)

@@ -1,6 +1,6 @@
 -- What each learner keeps, and that nothing which a node has learned waits.
 use Rattle.std.proofs.Common.{◌≡◌, ⊎_elim, ℕ, suc, ◌<◌, ◌≤◌, Bool, true, false, not, ◌&&◌, ◌||◌, eqb, refl, sym, ◌∙◌, subst, arith}
-use Rattle.std.proofs.Common.{List, [], ◌∷◌, ◌++◌, length, Option, Some, None}
+use Rattle.std.proofs.Common.{List, [], ◌∷◌, ◌++◌, Option, Some, None}
 use Rattle.std.specs.Prelude.{nat_lt, if◌then◌else◌}
 use Rattle.std.proofs.lemmas.Bool.{cond_both, cases_eq, ltb-true, ltb-false, eq-eqb, ne_eqb, or_from}
 use Rattle.cluster_world.proofs.Applied.{in_every}
@@ -26,7 +26,7 @@ use Rattle.paxos_learner.specs.Learned.{is_learned}
 use Rattle.paxos_learner.specs.Learner.{LearnerState, unheard, hears, has_most, put_learned, learn, count_vote, run_with, run_from}
 use Rattle.paxos_node.specs.declared.event.Event.{Event}
 use Rattle.paxos_node.specs.declared.event.Event.TheVariants.{Take, Tick, Start, Suspect, Deliver, Crash, Restart}
-use Rattle.paxos_planning.specs.Node.{NodeState, Plan}
+use Rattle.paxos_planning.specs.Node.{NodeState, Plan, log_length}
 use Rattle.paxos_planning.specs.Plan.{with_role, with_pending, begun, send, promise, cast}
 use Rattle.paxos_planning.specs.Proposals.{offer, propose_as, propose, propose_all, lead, stands, propose_new, propose_each, forwarded, push}
 use Rattle.paxos_planning.specs.Replies.{saw, refuse, count_promise, on_promise_as, on_packet}
@@ -61,7 +61,7 @@ module _ {B : Type 0} (same : B → B → Bool) (members : ℕ) (Q : LearnerStat
 
     proposes_new : (e : Entry B) (t : Plan B) → Ok t → Ok (propose_new same members n e t)
     proposes_new e t ok =
-        cond_both (stands same (length t.node.applied) t.node.proposer.role e) t (propose same members n e t) (λ u. Ok u) (λ d. ok)
+        cond_both (stands same (log_length t.node) t.node.proposer.role e) t (propose same members n e t) (λ u. Ok u) (λ d. ok)
         (λ d. proposes e t ok)
 
     proposes_each : (es : List (Entry B)) (t : Plan B) → Ok t → Ok (propose_each same members n es t)
@@ -107,7 +107,7 @@ module _ {B : Type 0} (same : B → B → Bool) (members : ℕ) (Q : LearnerStat
     begins : (t : Plan B) → Ok t → Ok (on_start members n t)
     begins t ok =
         cond_both (starts n t.node)
-        (begin members n (new_ballot n t.node.rows.promised t.node.proposer) (suc (length t.node.applied)) t) t (λ u. Ok u) (λ e. ok) (λ e. ok)
+        (begin members n (new_ballot n t.node.rows.promised t.node.proposer) (suc (log_length t.node)) t) t (λ u. Ok u) (λ e. ok) (λ e. ok)
 
     suspects : (lost : Option (Entry B)) (t : Plan B) → Ok t → Ok (suspected same members n lost t)
     suspects None t ok = ok
@@ -126,7 +126,7 @@ module _ {B : Type 0} (same : B → B → Bool) (members : ℕ) (Q : LearnerStat
         cond_both (ends n t.node e) (go_down (note e t)) (apply_all n es (note e t)) (λ u. Ok u) (λ d. none) (λ d. applies es (note e t) ok)
 
     settles : (t : Plan B) → Ok t → Ok (settle n t)
-    settles t ok = applies (run_from (suc (length t.node.applied)) t.node.learner.learned) t ok
+    settles t ok = applies (run_from (suc (log_length t.node)) t.node.learner.learned) t ok
 
   outcome_keeps : (e : Event B) (x : NodeState B) → Q x.learner → Q (outcome_of same members e x).node.learner
   outcome_keeps (Take n t body) x ok = settles n _ (takes_act n t body (begun x) ok)

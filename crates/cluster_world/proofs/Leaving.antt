@@ -18,7 +18,7 @@ use Rattle.paxos_proposer.specs.Role.{Role, Leading}
 use Rattle.paxos_node.specs.Adopting.{pending_behind}
 use Rattle.paxos_node.specs.Applying.{down, has_end}
 use Rattle.paxos_planning.specs.Node.{NodeState}
-use Rattle.replica_machine.specs.Roll.{standing}
+use Rattle.replica_machine.specs.Roll.{standing, standings}
 use Rattle.cluster_world.specs.World.{World, node_at}
 use Rattle.world_rescue.specs.Course.{Seat, entries_of, propose_all, propose_new}
 
@@ -53,7 +53,7 @@ module _ {B : Type 0} (same : B → B → Bool) (equal : IsEquality same) (membe
     pub role_is : z.proposer.role ≡ role
     pub taken : z.taken ≡ k.taken
     pub log : z.applied ≡ k.log ++ entries_of vs
-    pub pending : z.pending ≡ pending_behind k.log (entries_of vs) k.pending
+    pub pending : z.pending ≡ pending_behind (standings k.log) (entries_of vs) k.pending
     pub ends : has_end n k.boot (standing n k.log) (entries_of vs) ≡ false
     pub eights : AreEights z.learner.heard
     pub heard : (v : Vote B) → Has vs v → is_in (nodes_heard (place_of v) z.learner.heard) n ≡ true

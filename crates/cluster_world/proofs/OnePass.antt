@@ -31,9 +31,9 @@ use Rattle.paxos_packets.specs.declared.ballot.Ballot.{Ballot}
 use Rattle.paxos_packets.specs.declared.entry.Entry.{Entry}
 use Rattle.paxos_packets.specs.declared.packet.Kind.TheVariants.{Accept}
 use Rattle.paxos_learner.specs.Tallies.{place_of}
-use Rattle.replica_machine.specs.Roll.{standing}
+use Rattle.replica_machine.specs.Roll.{standing, standings}
 use Rattle.paxos_node.specs.Adopting.{pending_behind}
-use Rattle.paxos_node.specs.Applying.{down, has_end}
+use Rattle.paxos_node.specs.Applying.{standing_of, down, has_end}
 use Rattle.paxos_packets.specs.declared.vote.Vote.{Vote}
 use Rattle.paxos_acceptor.specs.Acceptor.{may_promise}
 use Rattle.paxos_proposer.specs.declared.promises.CountedPromise.{CountedPromise}
@@ -44,7 +44,7 @@ use Rattle.paxos_proposer.specs.Reports.{is_counted, reports, past_reports, call
 use Rattle.paxos_proposer.specs.Role.{Role, Idle, Preparing, Leading}
 use Rattle.paxos_node.specs.declared.event.Event.{Event}
 use Rattle.paxos_node.specs.declared.event.Event.TheVariants.{Start}
-use Rattle.paxos_planning.specs.Node.{NodeState}
+use Rattle.paxos_planning.specs.Node.{NodeState, log_length}
 use Rattle.cluster_world.specs.World.{World, node_at, first_world, next, play, played}
 use Rattle.world_rescue.specs.Course.{Seat, votes_then, lead, led, pass, entries_of, propose_all, propose_new}
 use Rattle.cluster_world.specs.Rescue.{Apart}
@@ -84,7 +84,7 @@ module _ {B : Type 0} (same : B → B → Bool) (equal : IsEquality same) (membe
   x = node_at u.nodes n
 
   abbrev first : ℕ
-  first = suc (length x.applied)
+  first = suc (log_length x)
 
   abbrev ballot : Ballot
   ballot = record { round = suc seen; node = n }
@@ -93,10 +93,10 @@ module _ {B : Type 0} (same : B → B → Bool) (equal : IsEquality same) (membe
   y = node_at (next same members u (Start n)).nodes n
 
   abbrev role : Role B
-  role = led same members (length y.applied) y.pending ballot first cast own seats
+  role = led same members (log_length y) y.pending ballot first cast own seats
 
   abbrev vs : List (Vote B)
-  vs = behind (length y.applied) (proposals_of role)
+  vs = behind (log_length y) (proposals_of role)
 
   abbrev leading : List (Event B)
   leading = lead ballot first cast seats
@@ -169,7 +169,7 @@ module _ {B : Type 0} (same : B → B → Bool) (equal : IsEquality same) (membe
         (play same members (pass n seats vs) p)
     one_pass =
         carries same equal members two n member low (suc seen) p ok x.rows.votes y role bid.bids seats apart others lows enough_too
-        (length y.applied) ready
+        (log_length y) ready
 
     -- it leads with a majority behind it, and its proposals follow its log
     log_is : y.applied ≡ x.applied
@@ -179,20 +179,20 @@ module _ {B : Type 0} (same : B → B → Bool) (equal : IsEquality same) (membe
         rounds cast past
         most).own
 
-    ordered : Ordered (length y.applied) role
+    ordered : Ordered (log_length y) role
     ordered =
-        led_ordered same members (length y.applied) y.pending ballot (length y.applied) (λ s. votes_then first cast s) seats
+        led_ordered same members (log_length y) y.pending ballot (log_length y) (λ s. votes_then first cast s) seats
         (asking own.number ballot first (votes_then first cast own)) (ap (λ (l : List _). suc (length l)) (sym log_is))
 
     abbrev Promised : CountedPromise B → Type 0
     Promised c = IsPromise first cast own seats c
 
-    backed : Backed same members (length y.applied) y.pending ballot first Promised role
+    backed : Backed same members (log_length y) y.pending ballot first Promised role
     backed =
         ⊎_elim (λ b. b)
-        (λ (a : Asks same members (length y.applied) y.pending ballot first Promised role). absurd (off
+        (λ (a : Asks same members (log_length y) y.pending ballot first Promised role). absurd (off
         (sym (ap (λ r. is_leading r) a.role) ∙ leads)))
-        (hears_all same members (length y.applied) y.pending ballot first Promised (λ s. votes_then first cast s) seats
+        (hears_all same members (log_length y) y.pending ballot first Promised (λ s. votes_then first cast s) seats
         (asking own.number ballot first (votes_then first cast own)) (λ s h. Seated s h refl)
         (inr (record {
           cs = record { node = own.number; votes = votes_then first cast own } ∷ [];
@@ -221,60 +221,60 @@ module _ {B : Type 0} (same : B → B → Bool) (equal : IsEquality same) (membe
     abbrev table : List (Vote B)
     table = proposals_of role
 
-    reach : (r : Role B) → r ≡ Leading ballot shape.0 shape.1 → Ordered (length y.applied) r → IsPast
+    reach : (r : Role B) → r ≡ Leading ballot shape.0 shape.1 → Ordered (log_length y) r → IsPast
         (past_reports first (reports backed.cs)) r
-        → AreAfter (length y.applied) (proposals_of r)
-        × (past_reports first (reports backed.cs) ≤ suc (length y.applied + length (proposals_of r)))
+        → AreAfter (log_length y) (proposals_of r)
+        × (past_reports first (reports backed.cs) ≤ suc (log_length y + length (proposals_of r)))
     reach Idle e o i = absurd i
     reach (Preparing b f cs) e o i = absurd i
     reach (Leading b next ws) e o i = (o.1, subst (λ k. past_reports first (reports backed.cs) ≤ k) o.0 i)
 
-    after_table : AreAfter (length y.applied) table
+    after_table : AreAfter (log_length y) table
     after_table = (reach role shape.2 ordered backed.past).0
 
-    past_table : past_reports first (reports backed.cs) ≤ suc (length y.applied + length table)
+    past_table : past_reports first (reports backed.cs) ≤ suc (log_length y + length table)
     past_table = (reach role shape.2 ordered backed.past).1
 
     vs_is : vs ≡ table
-    vs_is = behind_whole (length y.applied) (length y.applied) table (omega arith) after_table
+    vs_is = behind_whole (log_length y) (log_length y) table (omega arith) after_table
 
     -- votes that a promise reports
-    reported : (c : CountedPromise B) → Has backed.cs c → (v : Vote B) → Has c.votes v → v.slot ≤ length y.applied + length table
+    reported : (c : CountedPromise B) → Has backed.cs c → (v : Vote B) → Has c.votes v → v.slot ≤ log_length y + length table
     reported c h v i = go v.slot (past_reports first (reports backed.cs))
         (past_has first (reports backed.cs) v (reports_has h i)) past_table
       where
-        go : (s m : ℕ) → s < m → m ≤ suc (length y.applied + length table) → s ≤ length y.applied + length table
+        go : (s m : ℕ) → s < m → m ≤ suc (log_length y + length table) → s ≤ log_length y + length table
         go s m l k = omega arith
 
     -- votes in slots of the log, or reported
     held : (c : CountedPromise B) → Has backed.cs c → (ws : List (Vote B)) → c.votes ≡ votes_from first ws → (v : Vote B) → Has ws v
-        → v.slot ≤ length y.applied + length table
+        → v.slot ≤ log_length y + length table
     held c h ws e v i =
-        ⊎_elim (λ (l : v.slot < first). below v.slot (length x.applied) (length y.applied) (ap length log_is) l)
+        ⊎_elim (λ (l : v.slot < first). below v.slot (log_length x) (log_length y) (ap length log_is) l)
         (λ (l : first ≤ v.slot). reported c h v (subst (λ l. Has l v) (sym e) (from_has first ws v i l)))
         (cases_lt v.slot first)
       where
         below : (s a c : ℕ) → c ≡ a → s < suc a → s ≤ c + length table
         below s a c e l = omega arith
 
-    short : (k : ℕ) (v : Vote B) → crew k ≡ true → Has (node_at p.nodes k).rows.votes v → v.slot ≤ length y.applied + length table
+    short : (k : ℕ) (v : Vote B) → crew k ≡ true → Has (node_at p.nodes k).rows.votes v → v.slot ≤ log_length y + length table
     short k v t h = let c = counted_is backed.cs k t in go c.0 c.1 (backed.from c.0 c.1) c.2
       where
         own_case : (c : CountedPromise B) → Has backed.cs c → c ≡ record { node = own.number; votes = votes_then first cast own } → k ≡ n
-            → v.slot ≤ length y.applied + length table
+            → v.slot ≤ log_length y + length table
         own_case c i e at_n =
-            ⊎_elim (λ g. slots_within (length y.applied) table v after_table g)
+            ⊎_elim (λ g. slots_within (log_length y) table v after_table g)
             (λ g. held c i x.rows.votes (ap (λ (d : CountedPromise B). d.votes) e ∙ ap (λ l. votes_from first l) (sym own_votes)) v g)
             (put_all_cases table x.rows.votes v (subst (λ l. Has l v) bid.bids.cast
             (subst (λ j. Has (node_at p.nodes j).rows.votes v) at_n h)))
 
         seat_case : (c : CountedPromise B) → Has backed.cs c → (s : Seat B) → Has seats s
-            → c ≡ record { node = s.number; votes = votes_then first cast s } → s.number ≡ k → v.slot ≤ length y.applied + length table
+            → c ≡ record { node = s.number; votes = votes_then first cast s } → s.number ≡ k → v.slot ≤ log_length y + length table
         seat_case c i s g e at_s =
             held c i (now s).rows.votes (ap (λ (d : CountedPromise B). d.votes) e ∙ ap (λ l. votes_from first l) (sym (votes_are s g))) v
             (subst (λ l. Has l v) (helper_is s g).votes_are (subst (λ j. Has (node_at p.nodes j).rows.votes v) (sym at_s) h))
 
-        go : (c : CountedPromise B) → Has backed.cs c → Promised c → c.node ≡ k → v.slot ≤ length y.applied + length table
+        go : (c : CountedPromise B) → Has backed.cs c → Promised c → c.node ≡ k → v.slot ≤ log_length y + length table
         go c i (Own e) j = own_case c i e (sym j ∙ (ap (λ (d : CountedPromise B). d.node) e ∙ number))
         go c i (Seated s g e) j = seat_case c i s g e (sym (ap (λ (d : CountedPromise B). d.node) e) ∙ j)
 
@@ -283,19 +283,19 @@ module _ {B : Type 0} (same : B → B → Bool) (equal : IsEquality same) (membe
         (node_at (play same members (pass n seats vs) (played same members (before ++ leading))).nodes n)
     ends =
         concludes same equal members three two n member (suc seen) (before ++ leading) (pass n seats vs) seats vs table x.rows.votes
-        (length y.applied)
+        (log_length y)
         (at_p (λ w. Passed same equal members two n member (suc seen) (node_at w.nodes n) seats
         (λ k. (node_at w.nodes k).rows.votes) vs [] w
         (play same members (pass n seats vs) w)) one_pass)
-        (at_p (λ w. AreAfter (length (node_at w.nodes n).applied) vs)
-        (subst (λ l. AreAfter l vs) (sym (ap length bid.bids.log)) (subst (λ l. AreAfter (length y.applied) l) (sym vs_is) after_table)))
+        (at_p (λ w. AreAfter (log_length (node_at w.nodes n)) vs)
+        (subst (λ l. AreAfter l vs) (sym (ap length bid.bids.log)) (subst (λ l. AreAfter (log_length y) l) (sym vs_is) after_table)))
         after_table (λ v h. subst (λ l. Has l v) vs_is h) (at_p (λ w. (node_at w.nodes n).rows.votes ≡ put_votes table x.rows.votes)
         bid.bids.cast)
         (at_p (λ w. (node_at w.nodes n).rows.promised ≡ Some ballot) bid.bids.promised)
         (λ v h. bid.bids.mine v (subst (λ l. Has l v) vs_is h)) crew (ltb-true _ _ backed.most) in_crew
-        (λ k v t h. subst (λ w. v.slot ≤ length (node_at w.nodes n).applied + length vs) (sym p_is)
+        (λ k v t h. subst (λ w. v.slot ≤ log_length (node_at w.nodes n) + length vs) (sym p_is)
         (subst (λ a. v.slot ≤ a + length vs) (sym (ap length bid.bids.log))
-        (subst (λ l. v.slot ≤ length y.applied + length l) (sym vs_is) (short k v t
+        (subst (λ l. v.slot ≤ log_length y + length l) (sym vs_is) (short k v t
         (subst (λ w. Has (node_at w.nodes k).rows.votes v) p_is h)))))
       where
         at_p : (P : World B → Type 0) → P p → P (played same members (before ++ leading))
@@ -312,7 +312,7 @@ module _ {B : Type 0} (same : B → B → Bool) (equal : IsEquality same) (membe
     EndsAt w =
         Rides same equal members two n (node_at w.nodes n) (node_at (play same members (pass n seats vs) w).nodes n) (entries_of vs)
         ⊎ ((node_at (play same members (pass n seats vs) w).nodes n ≡ down (node_at w.nodes n).rows)
-        × (has_end n (node_at w.nodes n).rows.boot (standing n (node_at w.nodes n).applied) (entries_of vs) ≡ true))
+        × (has_end n (node_at w.nodes n).rows.boot (standing_of (node_at w.nodes n) n) (entries_of vs) ≡ true))
 
     ends_at : EndsAt p
     ends_at = subst (λ w. EndsAt w) p_is (go ends)
@@ -344,18 +344,18 @@ module _ {B : Type 0} (same : B → B → Bool) (equal : IsEquality same) (membe
           rests = r.rests;
         }
 
-    short_then : (j : ℕ) (v : Vote B) → crew j ≡ true → Has (node_at q.nodes j).rows.votes v → v.slot ≤ length y.applied + length vs
+    short_then : (j : ℕ) (v : Vote B) → crew j ≡ true → Has (node_at q.nodes j).rows.votes v → v.slot ≤ log_length y + length vs
     short_then j v t h =
-        subst (λ l. v.slot ≤ length y.applied + length l) (sym vs_is)
+        subst (λ l. v.slot ≤ log_length y + length l) (sym vs_is)
         (⊎_elim
         (λ (e : j ≡ n). short j v t
         (subst (λ i. Has (node_at p.nodes i).rows.votes v) (sym e)
         (subst (λ r. Has r.votes v) rows_are (subst (λ i. Has (node_at q.nodes i).rows.votes v) e h))))
         (λ s. helper s.0 s.1 s.2) (in_crew j t))
       where
-        helper : (s : Seat B) → Has seats s → s.number ≡ j → v.slot ≤ length y.applied + length table
+        helper : (s : Seat B) → Has seats s → s.number ≡ j → v.slot ≤ log_length y + length table
         helper s i e =
-            ⊎_elim (λ g. slots_within (length y.applied) table v after_table (subst (λ l. Has l v) vs_is g))
+            ⊎_elim (λ g. slots_within (log_length y) table v after_table (subst (λ l. Has l v) vs_is g))
             (λ g. short j v t (subst (λ k. Has (node_at p.nodes k).rows.votes v) e g))
             (put_all_cases vs (node_at p.nodes s.number).rows.votes v
             (subst (λ l. Has l v) (one_pass.helpers s i).votes_are (subst (λ k. Has (node_at q.nodes k).rows.votes v) (sym e) h)))
@@ -398,14 +398,14 @@ module _ {B : Type 0} (same : B → B → Bool) (equal : IsEquality same) (membe
               role_is = r.role ∙ b.role;
               taken = r.taken ∙ b.taken;
               log = r.log ∙ ap (λ l. l ++ entries_of vs) b.log;
-              pending = r.pending ∙ (λ i. pending_behind (b.log i) (entries_of vs) (b.pending i));
+              pending = r.pending ∙ (λ i. pending_behind (standings (b.log i)) (entries_of vs) (b.pending i));
               ends = (λ i. has_end n (sym b.boot i) (standing n (sym b.log i)) (entries_of vs)) ∙ r.stands;
               eights = r.eights;
               heard = λ v h. r.heard (place_of v) n (b.heard v (subst (λ l. Has l v) vs_is h));
             }
 
         fell : z ≡ down (node_at p.nodes n).rows
-            → has_end n (node_at p.nodes n).rows.boot (standing n (node_at p.nodes n).applied) (entries_of vs) ≡ true
+            → has_end n (node_at p.nodes n).rows.boot (standing_of (node_at p.nodes n) n) (entries_of vs) ≡ true
             → WentDown same equal members two n member (suc seen) seats (kept_of y) vs z
         fell d h =
             record {
@@ -416,11 +416,11 @@ module _ {B : Type 0} (same : B → B → Bool) (equal : IsEquality same) (membe
     abbrev DoneAs : NodeState B → Type 0
     DoneAs a =
         PassDone same equal members two n member (suc seen) seats (kept_of a) had most
-        (led same members (length a.applied) a.pending ballot first cast own seats)
-        (behind (length a.applied) (proposals_of (led same members (length a.applied) a.pending ballot first cast own seats)))
+        (led same members (log_length a) a.pending ballot first cast own seats)
+        (behind (log_length a) (proposals_of (led same members (log_length a) a.pending ballot first cast own seats)))
         (play same members
-        (pass n seats (behind (length a.applied) (proposals_of (led same members
-        (length a.applied) a.pending ballot first cast own seats)))) p)
+        (pass n seats (behind (log_length a) (proposals_of (led same members
+        (log_length a) a.pending ballot first cast own seats)))) p)
 
     votes_y : y.rows.votes ≡ x.rows.votes
     votes_y = ap (λ (a : NodeState B). a.rows.votes) y_is
@@ -433,9 +433,9 @@ module _ {B : Type 0} (same : B → B → Bool) (equal : IsEquality same) (membe
           role_is = role_at;
           next_is = at_next role role_at ordered;
           bound = (subst (λ r. IsIn ballot first past most r) shape.2 bid.is_in).1;
-          after = subst (λ l. AreAfter (length y.applied) l) (sym vs_is) after_table;
+          after = subst (λ l. AreAfter (log_length y) l) (sym vs_is) after_table;
           called = called_for first (reports backed.cs);
-          made = backed.made ∙ ap (λ (l : List (Entry B)). propose_new same (length y.applied) y.pending
+          made = backed.made ∙ ap (λ (l : List (Entry B)). propose_new same (log_length y) y.pending
               (propose_all (called_for first (reports backed.cs)) (Leading ballot (suc (length l)) []))) (sym log_is);
           reported = λ e h. subst (λ l. WasReported (record {
             log = x.applied;
@@ -458,16 +458,16 @@ module _ {B : Type 0} (same : B → B → Bool) (equal : IsEquality same) (membe
           fate = fate_is;
         }
       where
-        at_next : (r : Role B) → r ≡ Leading ballot shape.0 vs → Ordered (length y.applied) r → shape.0 ≡ suc (length y.applied + length vs)
-        at_next r e o = (subst (λ a. Ordered (length y.applied) a) e o).0
+        at_next : (r : Role B) → r ≡ Leading ballot shape.0 vs → Ordered (log_length y) r → shape.0 ≡ suc (log_length y + length vs)
+        at_next r e o = (subst (λ a. Ordered (log_length y) a) e o).0
 
     -- whoever else was up stays up
     abbrev StillAs : NodeState B → Type 0
     StillAs a =
         (j : ℕ) → (j ≡ n → ⊥) → (node_at u.nodes j).up ≡ true
         → (node_at (play same members
-        (pass n seats (behind (length a.applied) (proposals_of (led same members
-        (length a.applied) a.pending ballot first cast own seats)))) p).nodes
+        (pass n seats (behind (log_length a) (proposals_of (led same members
+        (log_length a) a.pending ballot first cast own seats)))) p).nodes
         j).up ≡ true
 
     still_seat : (s : Seat B) → Has seats s → (j : ℕ) → s.number ≡ j → (node_at q.nodes j).up ≡ true

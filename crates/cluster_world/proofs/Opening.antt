@@ -1,5 +1,5 @@
 -- How a rescue begins: a ballot of the node, in which it sees what the helpers promised.
-use Rattle.std.proofs.Common.{◌≡◌, ℕ, suc, ◌<◌, ◌≤◌, Bool, true, not, refl, sym, ap, ◌∙◌, subst, arith, List, ◌++◌, length}
+use Rattle.std.proofs.Common.{◌≡◌, ℕ, suc, ◌<◌, ◌≤◌, Bool, true, not, refl, sym, ap, ◌∙◌, subst, arith, List, ◌++◌}
 use Rattle.std.specs.Prelude.{max, nat_lt}
 use Rattle.std.proofs.lemmas.Bool.{cond-true, lt-ltb}
 use Rattle.cluster_world.proofs.AtOnce.{AtRest, settle_rest}
@@ -19,7 +19,7 @@ use Rattle.paxos_proposer.specs.Proposer.{round_of, round_end, new_ballot, askin
 use Rattle.paxos_node.specs.declared.event.Event.TheVariants.{Start, Deliver}
 use Rattle.paxos_node.specs.Applying.{settle}
 use Rattle.paxos_node.specs.Events.{outcome_of}
-use Rattle.paxos_planning.specs.Node.{NodeState, Plan}
+use Rattle.paxos_planning.specs.Node.{NodeState, Plan, log_length}
 use Rattle.paxos_planning.specs.Plan.{begun}
 use Rattle.paxos_planning.specs.Starting.{begin, starts}
 use Rattle.cluster_world.specs.World.{World, node_at, next, play}
@@ -32,7 +32,7 @@ in_ballot n b x =
     record x {
       rows = with_promise b x.rows;
       proposer = record {
-        role = asking n b (suc (length x.applied)) (votes_from (suc (length x.applied)) x.rows.votes);
+        role = asking n b (suc (log_length x)) (votes_from (suc (log_length x)) x.rows.votes);
         seen = max x.proposer.seen b.round;
       };
     }
@@ -43,7 +43,7 @@ module _ {B : Type 0} (same : B → B → Bool) (equal : IsEquality same) (membe
     pub own : node_at v.nodes n ≡ in_ballot n b (node_at w.nodes n)
     pub others : (j : ℕ) → (j ≡ n → ⊥) → node_at v.nodes j ≡ node_at w.nodes j
     pub asked : (k : ℕ) → IsMember members k → (k ≡ n → ⊥)
-        → Has v.sent (packet n (Prepare b (suc (length (node_at w.nodes n).applied))) k)
+        → Has v.sent (packet n (Prepare b (suc (log_length (node_at w.nodes n)))) k)
 
   pub started_in : (w : World B) (b : Ballot) → (node_at w.nodes n).up ≡ true → AtRest (node_at w.nodes n)
       → new_ballot n (node_at w.nodes n).rows.promised (node_at w.nodes n).proposer ≡ b → b.round < round_end
@@ -61,7 +61,7 @@ module _ {B : Type 0} (same : B → B → Bool) (equal : IsEquality same) (membe
       x = node_at w.nodes n
 
       first : ℕ
-      first = suc (length x.applied)
+      first = suc (log_length x)
 
       o : Plan B
       o = outcome_of same members (Start n) x
@@ -92,7 +92,7 @@ module _ {B : Type 0} (same : B → B → Bool) (equal : IsEquality same) (membe
     ballot = record { round = suc (node_at w.nodes n).proposer.seen; node = n }
 
     abbrev pub first : ℕ
-    first = suc (length (node_at w.nodes n).applied)
+    first = suc (log_length (node_at w.nodes n))
 
     abbrev pub y : NodeState B
     y = in_ballot n ballot (node_at w.nodes n)

@@ -13,7 +13,7 @@ use Rattle.replica_machine.specs.Effects.{is_the}
 use Rattle.replica_machine.specs.Roll.{is_new_boot, is_live, is_next, gone, standing_after, standing, was_taken, is_wanted, live_in, taken_in}
 use Rattle.replica_machine.proofs.Places.{standing_last, live_boot_is, items_taken_is}
 use Rattle.paxos_planning.specs.Node.{NodeState, Plan}
-use Rattle.paxos_node.specs.Applying.{note, ends, go_down, apply_all}
+use Rattle.paxos_node.specs.Applying.{standing_of, note, ends, go_down, apply_all}
 use Rattle.cluster_world.specs.Has.{Has, here, there}
 use Rattle.cluster_world.specs.Origins.{Act}
 use Rattle.cluster_world.specs.Owed.{is_any_lost, items_after, owed}
@@ -235,8 +235,8 @@ module _ {B : Type 0} (n b : ℕ) where
 
 -- what is pending is what is owed
 pub record Owes {B : Type 0} (n : ℕ) (acts : List (Act B)) (x : NodeState B) : Type 0 where
-  pub may : MayStand x.rows.boot (standing n x.applied) (length acts)
-  pub is : filter kept x.pending ≡ owed_by n x.rows.boot (standing n x.applied) acts
+  pub may : MayStand x.rows.boot (standing_of x n) (length acts)
+  pub is : filter kept x.pending ≡ owed_by n x.rows.boot (standing_of x n) acts
 
 module _ {B : Type 0} (n : ℕ) (acts : List (Act B)) where
   -- of the entries that a node applies, each Boot of it is of its boot or an earlier one, and each Item of its boot is an act
@@ -255,20 +255,20 @@ module _ {B : Type 0} (n : ℕ) (acts : List (Act B)) where
             ∙ ap (λ s. owed_by n o.node.rows.boot s acts) (sym last);
       }
     where
-      last : standing n (o.node.applied ++ e ∷ []) ≡ standing_after n (standing n o.node.applied) e
+      last : standing n (o.node.applied ++ e ∷ []) ≡ standing_after n (standing_of o.node n) e
       last = standing_last n Unknown o.node.applied e
 
-      lost : e ≡ Lost n o.node.rows.boot → is_live (standing n o.node.applied) o.node.rows.boot ≡ true → ⊥
+      lost : e ≡ Lost n o.node.rows.boot → is_live (standing_of o.node n) o.node.rows.boot ≡ true → ⊥
       lost i l =
           off
           (sym stays_up
           ∙ ap (λ f. ends n o.node f) i
-          ∙ and_from (eqb n n && eqb o.node.rows.boot o.node.rows.boot) (is_live (standing n o.node.applied) o.node.rows.boot)
+          ∙ and_from (eqb n n && eqb o.node.rows.boot o.node.rows.boot) (is_live (standing_of o.node n) o.node.rows.boot)
           (and_from (eqb n n) (eqb o.node.rows.boot o.node.rows.boot) (eq-eqb n n refl) (eq-eqb o.node.rows.boot o.node.rows.boot refl)) l)
 
-      goes : Goes n o.node.rows.boot (o.node.applied ++ e ∷ []) (standing n o.node.applied) acts
-          (standing_after n (standing n o.node.applied) e)
-      goes = step n o.node.rows.boot (o.node.applied ++ e ∷ []) (standing n o.node.applied) acts e ok.may last boots items lost
+      goes : Goes n o.node.rows.boot (o.node.applied ++ e ∷ []) (standing_of o.node n) acts
+          (standing_after n (standing_of o.node n) e)
+      goes = step n o.node.rows.boot (o.node.applied ++ e ∷ []) (standing_of o.node n) acts e ok.may last boots items lost
 
   first_is : {x y : Entry B} (es : List (Entry B)) → y ≡ x → Has (y ∷ es) x
   first_is {x} {y} es e = subst (λ z. Has (y ∷ es) z) e here
@@ -324,9 +324,9 @@ module _ {B : Type 0} (n : ℕ) (acts : List (Act B)) where
       back k l h = omega arith
 
 -- by places in the log
-pub owed_is : {B : Type 0} (n : ℕ) (x : NodeState B) (acts : List (Act B)) → owed_by n x.rows.boot (standing n x.applied) acts ≡ owed n x acts
+pub owed_is : {B : Type 0} (n : ℕ) (x : NodeState B) (acts : List (Act B)) → owed_by n x.rows.boot (standing_of x n) acts ≡ owed n x acts
 owed_is n x acts i =
-    if (the_live (standing n x.applied) x.rows.boot ∙ ap (λ o. is_the o x.rows.boot) (sym (live_boot_is n x.applied))) i
+    if (the_live (standing_of x n) x.rows.boot ∙ ap (λ o. is_the o x.rows.boot) (sym (live_boot_is n x.applied))) i
     then items_after n x.rows.boot (sym (items_taken_is n x.applied) i) (drop (sym (items_taken_is n x.applied) i) acts)
     else Boot n x.rows.boot ∷ items_after n x.rows.boot 0 acts
   where

@@ -1,7 +1,7 @@
 -- Each helper casts the votes that a leader asks for, and the leader learns them or goes down.
 use Rattle.std.proofs.Common.{◌≡◌, ◌⊎◌, inl, inr, ⊎_elim, ℕ, zero, suc, ◌+◌, ◌*◌, ◌<◌, ◌≤◌, Bool, true, false, not, eqb, refl, sym, ap, ◌∙◌}
 use Rattle.std.proofs.Common.{subst, arith}
-use Rattle.std.proofs.Common.{List, [], ◌∷◌, ◌++◌, length, Some}
+use Rattle.std.proofs.Common.{List, [], ◌∷◌, ◌++◌, Some}
 use Rattle.std.specs.Prelude.{fold, if◌then◌else◌}
 use Rattle.std.specs.List.{flat_map, list_any}
 use Rattle.std.proofs.lemmas.List.{append-nil, append_assoc}
@@ -35,7 +35,7 @@ use Rattle.paxos_node.specs.Applying.{down, settle}
 use Rattle.paxos_node.specs.Events.{outcome_of}
 use Rattle.paxos_node.specs.declared.event.Event.{Event}
 use Rattle.paxos_node.specs.declared.event.Event.TheVariants.{Deliver}
-use Rattle.paxos_planning.specs.Node.{NodeState, Plan}
+use Rattle.paxos_planning.specs.Node.{NodeState, Plan, log_length}
 use Rattle.paxos_planning.specs.Plan.{begun, cast}
 use Rattle.paxos_planning.specs.Replies.{saw, refuse}
 use Rattle.cluster_world.specs.World.{World, node_at, next, play}
@@ -136,7 +136,7 @@ module _ {B : Type 0} (same : B → B → Bool) (equal : IsEquality same) (membe
 
         rests : AtRest (cast same members k v t).node
         rests =
-            (λ i. run_from (suc (length x.applied)) (counts_own members many ballot 0 k v x.learner mine
+            (λ i. run_from (suc (log_length x)) (counts_own members many ballot 0 k v x.learner mine
             (least v.slot) ready.own i).learned) ∙ ready.rests
 
     after_cast : (k : ℕ) (votes : List (Vote B)) (x : NodeState B) → Ready k votes x
@@ -149,7 +149,7 @@ module _ {B : Type 0} (same : B → B → Bool) (equal : IsEquality same) (membe
           promised = ap (λ c. Some c) mine;
           votes_are = ap (put_vote v) ready.votes_are;
           own = subst (λ l. HeardOwn ballot k l) (sym quiet) (hears_own ballot 0 k v x.learner ready.own);
-          rests = (λ i. run_from (suc (length x.applied)) (quiet i).learned) ∙ ready.rests;
+          rests = (λ i. run_from (suc (log_length x)) (quiet i).learned) ∙ ready.rests;
         })
       where
         quiet : count_vote members k v x.learner ≡ hears k v x.learner

@@ -18,7 +18,7 @@ use Rattle.cluster_world.specs.Has.{Has, here, there}
 use Rattle.paxos_packets.specs.declared.entry.Entry.{Entry}
 use Rattle.paxos_packets.specs.declared.entry.Entry.TheVariants.{Boot, Lost}
 use Rattle.paxos_packets.specs.declared.rows.Rows.{Rows}
-use Rattle.paxos_packets.specs.Rows.{raised, last_boot}
+use Rattle.paxos_packets.specs.Rows.{raised, last_boot, first_rows}
 use Rattle.paxos_learner.specs.Learner.{run_from}
 use Rattle.replica_machine.specs.declared.roll.Standing.{Standing}
 use Rattle.replica_machine.specs.declared.roll.Standing.TheVariants.{Unknown, Live, Gone}
@@ -27,9 +27,9 @@ use Rattle.replica_machine.specs.Roll.{is_live, standing, is_wanted, live_in}
 use Rattle.replica_machine.proofs.Places.{live_boot_is}
 use Rattle.paxos_node.specs.declared.event.Event.{Event}
 use Rattle.paxos_node.specs.declared.event.Event.TheVariants.{Take, Tick, Start, Suspect, Deliver, Crash, Restart}
-use Rattle.paxos_planning.specs.Node.{NodeState, Plan}
+use Rattle.paxos_planning.specs.Node.{NodeState, Plan, log_length}
 use Rattle.paxos_planning.specs.Plan.{begun}
-use Rattle.paxos_node.specs.Applying.{down, started, first_rows, note, ends, go_down, apply_all}
+use Rattle.paxos_node.specs.Applying.{standing_of, down, started, note, ends, go_down, apply_all}
 use Rattle.paxos_node.specs.Events.{takes, new_item, has_room, most_pending, new_lost, last_number, suspected_by, owner, possible, on_event, outcome_of, made_by}
 use Rattle.cluster_world.specs.World.{World, absent, node_at, put_node, founded, first_world, done, next, played, log_of}
 use Rattle.cluster_world.specs.Owed.{TakenAreCounted, PendingLostsAreLive, PendingIsFew, DownIsRows}
@@ -91,7 +91,7 @@ founded_each {B} P s a n (suc k) = each n k
 -- what needs no other node
 
 record Modest {B : Type 0} (n : ℕ) (x : NodeState B) : Type 0 where
-  losts : (k b : ℕ) → Has x.pending (Lost k b) → (k ≡ n → ⊥) × (is_live (standing k x.applied) b ≡ true)
+  losts : (k b : ℕ) → Has x.pending (Lost k b) → (k ≡ n → ⊥) × (is_live (standing_of x k) b ≡ true)
   few : length x.pending ≤ most_pending
   down : (x.up ≡ true) ⊎ (x ≡ down x.rows)
 
@@ -177,12 +177,12 @@ module _ {B : Type 0} (same : B → B → Bool) (members : ℕ) where
 
   -- a Lost that an event makes is of another node's live boot
   made_live : (e : Event B) (x : NodeState B) (k b : ℕ) → Has (made_by same e x) (Lost k b)
-      → (k ≡ owner e → ⊥) × (is_live (standing k x.applied) b ≡ true)
+      → (k ≡ owner e → ⊥) × (is_live (standing_of x k) b ≡ true)
   made_live e x k b h =
       let m = made_lost same e x k b h in
       let s = suspected_is x (new_lost same m.by k x) (Lost k b) (subst (λ (z : Event B). Has (made_by same z x) (Lost k b)) m.is h) in (
         λ i. not_itself same m.by k x (Lost k b) s.0 (sym (ap owner m.is) ∙ sym i),
-        live (standing k x.applied) m.live,
+        live (standing_of x k) m.live,
       )
     where
       live : (s : Standing) → live_in s ≡ Some b → is_live s b ≡ true
@@ -200,13 +200,8 @@ module _ {B : Type 0} (same : B → B → Bool) (members : ℕ) where
           never e = cc
 
   pub by_crash : (e : Event B) → ((n : ℕ) × (e ≡ Crash n)) ⊎ ((n : ℕ) → e ≡ Crash n → ⊥)
-  by_crash (Take n t body) = inr (λ m e. cc)
-  by_crash (Tick n) = inr (λ m e. cc)
-  by_crash (Start n) = inr (λ m e. cc)
-  by_crash (Suspect n other) = inr (λ m e. cc)
-  by_crash (Deliver q) = inr (λ m e. cc)
   by_crash (Crash n) = inl (n, refl)
-  by_crash (Restart n) = inr (λ m e. cc)
+  by_crash _ = inr (λ m e. cc)
 
   event_modest : (e : Event B) (x : NodeState B) → possible e x ≡ true → Modest (owner e) x → Modest (owner e) (outcome_of same members e x).node
   event_modest e x p ok = ⊎_elim ran began (event_cases same members e x p)
@@ -219,7 +214,7 @@ module _ {B : Type 0} (same : B → B → Bool) (members : ℕ) where
           ⊎_elim
           (λ (c : (n : ℕ) × (e ≡ Crash n)). subst (λ f. Modest (owner f) (outcome_of same members f x).node) (sym c.1) (modest_down c.0 x.rows))
           (λ d. let l = event_leaves same members e x r.was p d in
-          applies (owner e) (run_from (suc (length v.node.applied)) v.node.learner.learned) v (stays l) (l.stays.up ∙ r.was))
+          applies (owner e) (run_from (suc (log_length v.node)) v.node.learner.learned) v (stays l) (l.stays.up ∙ r.was))
           (by_crash e)
         where
           v : Plan B

@@ -17,7 +17,7 @@ use Rattle.cluster_world.proofs.Pending.{has_place, none_kept, no_length, founde
 use Rattle.cluster_world.specs.Has.{Has, here}
 use Rattle.paxos_packets.specs.declared.entry.Entry.{Entry}
 use Rattle.paxos_packets.specs.declared.entry.Entry.TheVariants.{Boot, Item}
-use Rattle.paxos_packets.specs.Rows.{raised, last_boot}
+use Rattle.paxos_packets.specs.Rows.{raised, last_boot, first_rows}
 use Rattle.paxos_packets.specs.Body.{IsEquality}
 use Rattle.paxos_learner.specs.Learner.{run_from}
 use Rattle.replica_machine.specs.declared.roll.Standing.{Standing}
@@ -25,9 +25,9 @@ use Rattle.replica_machine.specs.declared.roll.Standing.TheVariants.{Live}
 use Rattle.replica_machine.specs.Roll.{standing}
 use Rattle.paxos_node.specs.declared.event.Event.{Event}
 use Rattle.paxos_node.specs.declared.event.Event.TheVariants.{Take, Tick, Start, Suspect, Deliver, Crash, Restart}
-use Rattle.paxos_planning.specs.Node.{NodeState, Plan}
+use Rattle.paxos_planning.specs.Node.{NodeState, Plan, log_length}
 use Rattle.paxos_planning.specs.Plan.{begun}
-use Rattle.paxos_node.specs.Applying.{started, first_rows}
+use Rattle.paxos_node.specs.Applying.{standing_of, started}
 use Rattle.paxos_node.specs.Events.{takes, new_item, new_lost, owner, possible, on_event, outcome_of, made_by}
 use Rattle.cluster_world.specs.World.{World, node_at, first_boots, first_world, done, next, played}
 use Rattle.cluster_world.specs.Origins.{Act, acts_of}
@@ -153,7 +153,7 @@ module _ {B : Type 0} (same : B → B → Bool) (members : ℕ) where
           l = event_leaves same members e x r.was p not_down
 
           es : List (Entry B)
-          es = run_from (suc (length v.node.applied)) v.node.learner.learned
+          es = run_from (suc (log_length v.node)) v.node.learner.learned
 
           log_is : o.node.applied ≡ v.node.applied ++ es
           log_is = applied_all (owner e) es v up
@@ -168,10 +168,10 @@ module _ {B : Type 0} (same : B → B → Bool) (members : ℕ) where
               (subst (λ (z : List (Entry B) × ℕ). Has z.0 (Item (owner e) z.1 q t y)) (λ i. (sym log_is i, (l.stays.boot ∙ sym r.from.boot_is) i))
               (has_right v.node.applied h)))
 
-          stands : MayStand x.rows.boot (standing (owner e) x.applied) (length later)
+          stands : MayStand x.rows.boot (standing_of x (owner e)) (length later)
           stands =
               ⊎_elim (λ a. inl a)
-              (λ (m : (q : ℕ) × (standing (owner e) x.applied ≡ Live x.rows.boot q) × (q ≤ length (acts_at w (owner e)))).
+              (λ (m : (q : ℕ) × (standing_of x (owner e) ≡ Live x.rows.boot q) × (q ≤ length (acts_at w (owner e)))).
               inr (m.0, m.1, grown m.0 m.2))
               ok.may
             where
@@ -192,9 +192,9 @@ module _ {B : Type 0} (same : B → B → Bool) (members : ℕ) where
                 is = ap (λ es. filter kept es) l.pending
                     ∙ filter-append kept x.pending (made_by same e x)
                     ∙ ap (λ z. z ++ filter kept (made_by same e x)) ok.is
-                    ∙ owes_made e x (acts_at w (owner e)) (standing (owner e) x.applied) ok.may count
+                    ∙ owes_made e x (acts_at w (owner e)) (standing_of x (owner e)) ok.may count
                     (makes e x r.was p (event_adds same members e x p))
-                    ∙ ap (λ z. owed_by (owner e) x.rows.boot (standing (owner e) x.applied) z) now
+                    ∙ ap (λ z. owed_by (owner e) x.rows.boot (standing_of x (owner e)) z) now
                     ∙ (λ i. owed_by (owner e) (sym l.stays.boot i) (standing (owner e) (sym l.stays.log i)) later);
               }
 

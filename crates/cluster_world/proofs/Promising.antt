@@ -25,7 +25,7 @@ use Rattle.paxos_node.specs.declared.event.Event.TheVariants.{Deliver}
 use Rattle.paxos_learner.specs.Learner.{run_from}
 use Rattle.paxos_node.specs.Applying.{settle}
 use Rattle.paxos_node.specs.Events.{outcome_of}
-use Rattle.paxos_planning.specs.Node.{NodeState, Plan}
+use Rattle.paxos_planning.specs.Node.{NodeState, Plan, log_length}
 use Rattle.paxos_planning.specs.Plan.{begun}
 use Rattle.paxos_planning.specs.Replies.{saw, on_promise_as}
 use Rattle.cluster_world.specs.World.{World, node_at, next, play}
@@ -54,7 +54,7 @@ module _ {B : Type 0} (same : B → B → Bool) (equal : IsEquality same) (membe
   promise_then s = stepped same members (Deliver (question s)) (now s)
 
   abbrev pub promise_turn : Seat B → Role B → Role B
-  promise_turn s r = course.hears same members (length y.applied) y.pending ballot s.number (votes_then first cast s) r
+  promise_turn s r = course.hears same members (log_length y) y.pending ballot s.number (votes_then first cast s) r
 
   -- what is known of a helper before it is asked
   pub record Due (w : World B) (s : Seat B) : Type 0 where

@@ -15,7 +15,7 @@ use Rattle.paxos_packets.specs.Ballot.{same_ballot, below}
 use Rattle.paxos_packets.specs.Body.{IsEquality}
 use Rattle.paxos_packets.specs.Members.{is_majority}
 use Rattle.paxos_packets.specs.Packet.{packet, to_others}
-use Rattle.paxos_packets.specs.Rows.{raised}
+use Rattle.paxos_packets.specs.Rows.{raised, first_rows}
 use Rattle.paxos_packets.specs.Vote.{votes_from}
 use Rattle.paxos_packets.specs.declared.ballot.Ballot.{Ballot}
 use Rattle.paxos_packets.specs.declared.entry.Entry.{Entry}
@@ -32,14 +32,14 @@ use Rattle.paxos_proposer.specs.Proposer.{round_of, slot_end, next_vote, new_bal
 use Rattle.paxos_proposer.specs.Reports.{is_counted, reports, called_for}
 use Rattle.paxos_node.specs.declared.event.Event.{Event}
 use Rattle.paxos_node.specs.declared.event.Event.TheVariants.{Take, Tick, Start, Suspect, Deliver, Crash, Restart}
-use Rattle.paxos_planning.specs.Node.{NodeState, Plan}
+use Rattle.paxos_planning.specs.Node.{NodeState, Plan, log_length}
 use Rattle.paxos_planning.specs.Plan.{with_role, with_pending, begun, send, promise, cast}
 use Rattle.paxos_planning.specs.Proposals.{offer, propose_as, propose, propose_all, lead, stands, propose_new, propose_each, forwarded, push}
 use Rattle.paxos_planning.specs.Replies.{round_in, saw, refuse, count_promise, on_promise_as, on_packet}
 use Rattle.paxos_planning.specs.Starting.{begin, starts, on_start}
 use Rattle.paxos_planning.specs.Ticking.{again, on_tick}
 use Rattle.paxos_learner.specs.Learner.{run_from}
-use Rattle.paxos_node.specs.Applying.{started, first_rows, note, ends, go_down, apply_all, settle}
+use Rattle.paxos_node.specs.Applying.{started, note, ends, go_down, apply_all, settle}
 use Rattle.paxos_node.specs.Events.{takes, with_item, on_take, has_room, suspected, new_lost, owner, outcome_of}
 use Rattle.cluster_world.specs.World.{World, node_at, put_node, first_world, was_sent, done, next, played}
 use Rattle.cluster_world.specs.Proposers.{WasSentRound, IsRoundOfRole, RoundsWereSent, FollowOneAnother, ProposalsFollow}
@@ -112,7 +112,7 @@ module _ {B : Type 0} (R : ℕ → Type 0) where
 
     proposes_new : (e : Entry B) (t : Plan B) → Ok t → Ok (propose_new same members n e t)
     proposes_new e t ok =
-        cond_both (stands same (length t.node.applied) t.node.proposer.role e) t (propose same members n e t) (λ u. Ok u) (λ d. ok)
+        cond_both (stands same (log_length t.node) t.node.proposer.role e) t (propose same members n e t) (λ u. Ok u) (λ d. ok)
         (λ d. proposes e t ok)
 
     proposes_each : (es : List (Entry B)) (t : Plan B) → Ok t → Ok (propose_each same members n es t)
@@ -173,7 +173,7 @@ module _ {B : Type 0} (R : ℕ → Type 0) where
 
     begins : (t : Plan B) → Ok t → (starts n t.node ≡ true → R (new_ballot n t.node.rows.promised t.node.proposer).round) → Ok (on_start members n t)
     begins t ok r =
-        cond_both (starts n t.node) (begin members n b (suc (length t.node.applied)) t) t (λ u. Ok u)
+        cond_both (starts n t.node) (begin members n b (suc (log_length t.node)) t) t (λ u. Ok u)
         (λ e. record { seen = greatest t.node.proposer.seen b.round ok.seen (r e); promised = r e; role = (r e, omega arith) })
         (λ e. ok)
       where
@@ -209,20 +209,16 @@ module _ {B : Type 0} (R : ℕ → Type 0) where
       (λ d. applies n r es (note e t) (record { seen = ok.seen; promised = ok.promised; role = ok.role }))
 
   settles : (n : ℕ) → R 0 → (t : Plan B) → Ok t → Ok (settle n t)
-  settles n r t ok = applies n r (run_from (suc (length t.node.applied)) t.node.learner.learned) t ok
+  settles n r t ok = applies n r (run_from (suc (log_length t.node)) t.node.learner.learned) t ok
 
   starts_proper : (n : ℕ) (rows : Rows B) → R (round_of rows.promised) → Proper (started n rows)
   starts_proper n rows r = record { seen = r; promised = r; role = tt }
 
   -- what an event brings: the round of its packet, or of the ballot that it begins
   abbrev pub Brings : Event B → NodeState B → Type 0
-  Brings (Take n t body) x = Unit {0}
-  Brings (Tick n) x = Unit {0}
   Brings (Start n) x = starts n x ≡ true → R (new_ballot n x.rows.promised x.proposer).round
-  Brings (Suspect n other) x = Unit {0}
   Brings (Deliver p) x = R (round_in p.kind)
-  Brings (Crash n) x = Unit {0}
-  Brings (Restart n) x = Unit {0}
+  Brings _ x = Unit {0}
 
   pub outcome_proper : (same : B → B → Bool) (members : ℕ) → R 0 → (e : Event B) (x : NodeState B) → Proper x → Brings e x
       → Proper (outcome_of same members e x).node
@@ -306,8 +302,6 @@ rounds_were_sent {B} same equal members many events n =
 
     brings : (w : World B) (e : Event B) → was_sent same e w.sent ≡ true
         → Brings (WasSentRound (w.sent ++ (outcome_of same members e (node_at w.nodes (owner e))).packets)) e (node_at w.nodes (owner e))
-    brings w (Take k t body) s = tt
-    brings w (Tick k) s = tt
     brings w (Start k) s = λ h.
         inr (
           record { sender = k; addressee = (asked h).to; kind = Prepare b floor },
@@ -323,20 +317,18 @@ rounds_were_sent {B} same equal members many events n =
         b = new_ballot k x.rows.promised x.proposer
 
         floor : ℕ
-        floor = suc (length x.applied)
+        floor = suc (log_length x)
 
         asked : starts k x ≡ true → Sent {B = B} (to_others members k (Prepare b floor)) k (Prepare b floor)
         asked h = others_sent members k (omega arith) (Prepare b floor)
 
         packets : starts k x ≡ true → (outcome_of same members (Start k) x).packets ≡ to_others members k (Prepare b floor)
         packets h =
-            packets_stay k (run_from (suc (length (on_start members k (begun x)).node.applied)) (on_start members k (begun x)).node.learner.learned)
+            packets_stay k (run_from (suc (log_length (on_start members k (begun x)).node)) (on_start members k (begun x)).node.learner.learned)
             (on_start members k (begun x))
             ∙ ap (λ (t : Plan B). t.packets) (cond-true (starts k x) (begin members k b floor (begun x)) (begun x) h)
-    brings w (Suspect k other) s = tt
     brings w (Deliver p) s = inr (p, has_left _ (among_has same equal p w.sent s), refl)
-    brings w (Crash k) s = tt
-    brings w (Restart k) s = tt
+    brings w _ s = tt
 
 pub proposals_follow : {B : Type 0} (same : B → B → Bool) → ProposalsFollow B same
 proposals_follow {B} same members events n =
@@ -349,10 +341,5 @@ proposals_follow {B} same members events n =
     role (Leading b slot table) p = p.2
 
     brings : (w : World B) (e : Event B) → was_sent same e w.sent ≡ true → Brings (λ r. Unit {0}) e (node_at w.nodes (owner e))
-    brings w (Take k t body) s = tt
-    brings w (Tick k) s = tt
     brings w (Start k) s = λ h. tt
-    brings w (Suspect k other) s = tt
-    brings w (Deliver p) s = tt
-    brings w (Crash k) s = tt
-    brings w (Restart k) s = tt
+    brings w _ s = tt

@@ -1,7 +1,7 @@
 -- No dead end: the events of a rescue bring the act to be applied.
 use Rattle.std.proofs.Common.{◌≡◌, ⊎_elim, ℕ, zero, suc, ◌<◌, ◌≤◌, Bool, true, false, not, ◌&&◌, ◌||◌, eqb, refl, sym, ap, ◌∙◌, subst}
 use Rattle.std.proofs.Common.{arith}
-use Rattle.std.proofs.Common.{List, [], ◌∷◌, ◌++◌, length, Some, None}
+use Rattle.std.proofs.Common.{List, [], ◌∷◌, ◌++◌, ◌+◌, length, length-append, Some, None}
 use Rattle.std.specs.Prelude.{filter, nat_lt, if◌then◌else◌}
 use Rattle.std.specs.List.{list_any}
 use Rattle.std.proofs.lemmas.Bool.{cond-true, cond-false, or_parts, ltb-false, cases_eq}
@@ -11,6 +11,7 @@ use Rattle.cluster_world.proofs.Beginning.{first_done}
 use Rattle.cluster_world.proofs.Booting.{boot_was_had}
 use Rattle.cluster_world.proofs.Chaining.{Chain, all_shape, all_in, chain_owed}
 use Rattle.cluster_world.proofs.EveryWorld.{play_on}
+use Rattle.cluster_world.proofs.Filling.{length_map}
 use Rattle.cluster_world.proofs.Going as going
 use Rattle.cluster_world.proofs.Limits.{rounds_fit, first_most, slots_fit, room_for_two}
 use Rattle.cluster_world.proofs.Lists.{has_nil, has_cons, has_right, map_has}
@@ -36,15 +37,17 @@ use Rattle.paxos_proposer.specs.Role.{Role, Leading}
 use Rattle.paxos_node.specs.Events.{last_number, most_pending}
 use Rattle.paxos_node.specs.declared.event.Event.{Event}
 use Rattle.paxos_node.specs.declared.event.Event.TheVariants.{Take, Restart}
-use Rattle.paxos_planning.specs.Node.{NodeState}
-use Rattle.replica_machine.specs.Roll.{standing, is_wanted}
+use Rattle.paxos_planning.specs.Node.{NodeState, log_length}
+use Rattle.replica_machine.specs.Roll.{is_wanted, is_wanted_by}
+use Rattle.paxos_node.proofs.Rolling.{some_longer}
+use Rattle.paxos_node.specs.Applying.{standing_of}
 use Rattle.cluster_world.specs.World.{World, node_at, first_world, next, play, played}
 use Rattle.cluster_world.specs.Rescue.{Apart, IsCrew, EndsWithAct, MayBeRescued, RestartsOnce, Rescues, is_up_at, has_majority_up}
 use Rattle.cluster_world.specs.Rescue.{round_held, last_rescue_round, last_rescue_slot, is_crowded, any_member, rescue_refused}
 use Rattle.cluster_world.specs.declared.fault.RescueFault.{RescueFault}
 use Rattle.cluster_world.specs.declared.fault.RescueFault.TheVariants.{NoMajority, NodeDown, NoRoom}
 use Rattle.world_rescue.specs.Course.{Seat, Crew, Act, lead, led, pass, entries_of, propose_new, first_role, first_votes, first_pass}
-use Rattle.world_rescue.specs.Course.{falls, second_votes, goes_on, again_votes, comes_back, ballot_after, course}
+use Rattle.world_rescue.specs.Course.{falls, length_then, standings_then, second_votes, goes_on, again_votes, comes_back, ballot_after, course}
 
 module _ {B : Type 0} (same : B → B → Bool) (equal : IsEquality same) (members : ℕ) (three : 3 ≤ members) (few : members ≤ 7)
     (events : List (Event B))
@@ -135,13 +138,13 @@ module _ {B : Type 0} (same : B → B → Bool) (equal : IsEquality same) (membe
     -- all that was pending is there
     all : (e : Entry B) → Has x.pending e → Has (entries_of vs) e
     all e h =
-        let s = all_shape same equal (length x.applied) d.called (ballot_of same equal members both n mem (suc sees) seats)
-        (suc (length x.applied)) [] in
-        let r = all_in same equal (length x.applied) x.pending (ballot_of same equal members both n mem (suc sees) seats) s.0
+        let s = all_shape same equal (log_length x) d.called (ballot_of same equal members both n mem (suc sees) seats)
+        (suc (log_length x)) [] in
+        let r = all_in same equal (log_length x) x.pending (ballot_of same equal members both n mem (suc sees) seats) s.0
         ([] ++ s.1) e h in
         subst (λ f. Has (entries_of vs) f) r.2
         (map_has (λ (v : Vote B). v.entry)
-        (subst (λ (a : Role B). Has (proposals_of a) r.0) (sym (ap (λ (a : Role B). propose_new same (length x.applied) x.pending a) s.2)
+        (subst (λ (a : Role B). Has (proposals_of a) r.0) (sym (ap (λ (a : Role B). propose_new same (log_length x) x.pending a) s.2)
         ∙ (sym d.made ∙ d.role_is)) r.1))
 
     has_room : length z.pending < most_pending
@@ -154,17 +157,17 @@ module _ {B : Type 0} (same : B → B → Bool) (equal : IsEquality same) (membe
         some : (a : ℕ) → 2 ≤ a → 0 < a
         some a l = omega arith
 
-    chain : Chain n z.rows.boot z.taken (standing n z.applied) z.pending
+    chain : Chain n z.rows.boot z.taken (standing_of z n) z.pending
     chain =
         let o = owes_all same members equal after n ride.up in
-        subst (λ a. Chain n z.rows.boot a (standing n z.applied) z.pending) (taken_are_counted same members after n ride.up)
-        (chain_owed n z.rows.boot (standing n z.applied) z.pending (acts_of n z.rows.boot q.made) o.may o.is
+        subst (λ a. Chain n z.rows.boot a (standing_of z n) z.pending) (taken_are_counted same members after n ride.up)
+        (chain_owed n z.rows.boot (standing_of z n) z.pending (acts_of n z.rows.boot q.made) o.may o.is
         (λ k b h. (losts_live same members after n k b h).0))
 
     -- the events that are left, in the terms of the node
     abbrev rest : List (Vote B)
     rest =
-        behind (length z.applied) (proposals_of (propose_new same (length z.applied)
+        behind (log_length z) (proposals_of (propose_new same (log_length z)
         (z.pending ++ Item n z.rows.boot (suc z.taken) act.transport act.body ∷ [])
         (Leading (record { round = suc sees; node = n }) d.next vs)))
 
@@ -186,10 +189,18 @@ module _ {B : Type 0} (same : B → B → Bool) (equal : IsEquality same) (membe
             (kept_of x) have first_most slots_fit role vs d ride act.transport act.body may.number_is
             (subst (λ a. a < last_number) (sym ride.taken) may.acts) has_room chain
 
+    length_is : log_length z ≡ length_then same c act
+    length_is =
+        ap (λ l. length l) ride.log
+        ∙ (length-append x.applied (entries_of vs) ∙ ap (λ a. log_length x + a) (length_map (λ (v : Vote B). v.entry) vs))
+
+    kept_then : z.pending ≡ filter (is_wanted_by (standings_then same c act)) x.pending
+    kept_then = pending_is ∙ (λ i. filter (is_wanted_by (sym (some_longer x.applied (entries_of vs)) i)) x.pending)
+
     votes_are : rest ≡ second_votes same c act
     votes_are i =
-        behind (length (ride.log i)) (proposals_of (propose_new same (length (ride.log i))
-        (pending_is i ++ Item n (d.boot i) (suc (ride.taken i)) act.transport act.body ∷ []) (sym d.role_is i)))
+        behind (length_is i) (proposals_of (propose_new same (length_is i)
+        (kept_then i ++ Item n (d.boot i) (suc (ride.taken i)) act.transport act.body ∷ []) (sym d.role_is i)))
 
     went_on : Achieved (play same members (course same c act) w)
     went_on =

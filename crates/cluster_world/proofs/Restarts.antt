@@ -9,7 +9,7 @@ use Rattle.paxos_packets.specs.declared.ballot.Ballot.{Ballot}
 use Rattle.paxos_packets.specs.declared.packet.Kind.TheVariants.{Nack}
 use Rattle.paxos_packets.specs.declared.vote.Vote.{Vote}
 use Rattle.paxos_node.specs.declared.event.Event.{Event}
-use Rattle.paxos_node.specs.declared.event.Event.TheVariants.{Take, Tick, Start, Suspect, Deliver, Crash, Restart}
+use Rattle.paxos_node.specs.declared.event.Event.TheVariants.{Start, Crash, Restart}
 use Rattle.cluster_world.specs.Rescue.{RestartsOnce}
 use Rattle.world_rescue.specs.Course.{Seat, Crew, Act, delivered, refusal, asked_in_vain, look, promises, lead, cast_by, pass, take}
 use Rattle.world_rescue.specs.Course.{first_votes, second_votes, again_votes, seen, ballot_after, first_pass, goes_on, comes_back, falls}
@@ -20,13 +20,9 @@ off e = cc
 
 -- it takes a node down or up
 abbrev is_turn : {B : Type 0} → Event B → Bool
-is_turn (Take n t body) = false
-is_turn (Tick n) = false
-is_turn (Start n) = false
-is_turn (Suspect n other) = false
-is_turn (Deliver p) = false
 is_turn (Crash n) = true
 is_turn (Restart n) = true
+is_turn _ = false
 
 abbrev Quiet : {B : Type 0} → List (Event B) → Type 0
 Quiet {B} es = (e : Event B) → Has es e → is_turn e ≡ false

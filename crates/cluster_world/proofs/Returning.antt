@@ -42,7 +42,7 @@ use Rattle.paxos_node.specs.Applying.{started, settle, has_end}
 use Rattle.paxos_node.specs.Events.{takes, with_item, last_number, most_pending, possible, outcome_of}
 use Rattle.paxos_node.specs.declared.event.Event.{Event}
 use Rattle.paxos_node.specs.declared.event.Event.TheVariants.{Take, Restart, Start}
-use Rattle.paxos_planning.specs.Node.{NodeState, Plan}
+use Rattle.paxos_planning.specs.Node.{NodeState, Plan, log_length}
 use Rattle.paxos_planning.specs.Plan.{begun}
 use Rattle.paxos_planning.specs.Proposals.{push}
 use Rattle.replica_machine.specs.Effects.{is_effective}
@@ -229,10 +229,10 @@ module _ {B : Type 0} (same : B → B → Bool) (equal : IsEquality same) (membe
           go s a p l = omega arith
 
   abbrev first : ℕ
-  first = suc (length (node_at u.nodes n).applied)
+  first = suc (log_length (node_at u.nodes n))
 
   first_is : first ≡ 1
-  first_is = ap (λ (x : NodeState B). suc (length x.applied)) x_is
+  first_is = ap (λ (x : NodeState B). suc (log_length x)) x_is
 
   seen_is : (node_at u.nodes n).proposer.seen ≡ suc seen
   seen_is = ap (λ (x : NodeState B). x.proposer.seen) x_is ∙ ap (λ p. round_of p) d.promised
@@ -254,16 +254,16 @@ module _ {B : Type 0} (same : B → B → Bool) (equal : IsEquality same) (membe
       ∙ ap (λ (x : NodeState B). x.pending) x_is
 
   abbrev role_of : NodeState B → Role B
-  role_of a = led same members (length a.applied) a.pending ballot (suc (length a.applied)) vs own seats
+  role_of a = led same members (log_length a) a.pending ballot (suc (log_length a)) vs own seats
 
   abbrev votes_of : NodeState B → List (Vote B)
-  votes_of a = behind (length a.applied) (proposals_of (role_of a))
+  votes_of a = behind (log_length a) (proposals_of (role_of a))
 
   abbrev had2 : Seat B → List (Vote B)
   had2 s = (now s).rows.votes
 
   abbrev final_of : NodeState B → World B
-  final_of a = play same members (pass n seats (votes_of a)) (play same members (lead ballot (suc (length a.applied)) vs seats) u)
+  final_of a = play same members (pass n seats (votes_of a)) (play same members (lead ballot (suc (log_length a)) vs seats) u)
 
   abbrev DoneAs : NodeState B → Type 0
   DoneAs a =

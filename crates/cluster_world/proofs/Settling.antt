@@ -14,7 +14,7 @@ use Rattle.paxos_packets.specs.declared.entry.Entry.{Entry}
 use Rattle.paxos_packets.specs.declared.packet.Packet.{Packet}
 use Rattle.paxos_learner.specs.declared.learned.LearnedEntry.{LearnedEntry}
 use Rattle.paxos_learner.specs.Learner.{run_with, run_from}
-use Rattle.paxos_planning.specs.Node.{NodeState, Plan}
+use Rattle.paxos_planning.specs.Node.{NodeState, Plan, log_length}
 use Rattle.paxos_packets.specs.Rows.{raised}
 use Rattle.paxos_node.specs.Applying.{down, started, note, ends, go_down, apply_all, settle}
 use Rattle.paxos_packets.specs.Body.{IsEquality}
@@ -143,7 +143,7 @@ module _ {B : Type 0} (same : B → B → Bool) (equal : IsEquality same) (membe
         agrees = λ e. e;
       }
 
-  note_goes : (e : Entry B) (o : Plan B) → Good o → IsChosen members (before ++ o.packets) (suc (length o.node.applied)) e
+  note_goes : (e : Entry B) (o : Plan B) → Good o → IsChosen members (before ++ o.packets) (suc (log_length o.node)) e
       → Goes o (note e o)
   note_goes e o ok c =
       let m = mine o ok in
@@ -157,7 +157,7 @@ module _ {B : Type 0} (same : B → B → Bool) (equal : IsEquality same) (membe
         agrees = λ d. d;
       }
 
-  apply_goes : (es : List (Entry B)) (o : Plan B) → Good o → RunOk members (before ++ o.packets) (suc (length o.node.applied)) es
+  apply_goes : (es : List (Entry B)) (o : Plan B) → Good o → RunOk members (before ++ o.packets) (suc (log_length o.node)) es
       → Goes o (apply_all n es o)
   apply_goes [] o ok r = keep o ok
   apply_goes (e ∷ es) o ok r =
@@ -169,8 +169,8 @@ module _ {B : Type 0} (same : B → B → Bool) (equal : IsEquality same) (membe
 
   settle_goes : (o : Plan B) → Good o → Goes o (settle n o)
   settle_goes o ok =
-      apply_goes (run_from (suc (length o.node.applied)) o.node.learner.learned) o ok
-      (run_ok members (before ++ o.packets) o.node.learner.learned (suc (length o.node.applied)) (mine o ok).learned)
+      apply_goes (run_from (suc (log_length o.node)) o.node.learner.learned) o ok
+      (run_ok members (before ++ o.packets) o.node.learner.learned (suc (log_length o.node)) (mine o ok).learned)
 
   -- a step
   arrives : {k : ℕ} (t u : Plan B) → Good t → ToBy same equal members many at n before k t u → Goes t u
@@ -190,7 +190,7 @@ module _ {B : Type 0} (same : B → B → Bool) (equal : IsEquality same) (membe
 
   -- what was applied is chosen, in a node that it took down too
   apply_logged : (log es : List (Entry B)) (o : Plan B) → o.node.applied ≡ log ++ o.applied
-      → Logged members (before ++ o.packets) o.node.applied → RunOk members (before ++ o.packets) (suc (length o.node.applied)) es
+      → Logged members (before ++ o.packets) o.node.applied → RunOk members (before ++ o.packets) (suc (log_length o.node)) es
       → Logged members (before ++ (apply_all n es o).packets) (log ++ (apply_all n es o).applied)
   apply_logged log [] o is ok r = subst (λ l. Logged members (before ++ o.packets) l) is ok
   apply_logged log (e ∷ es) o is ok r =
@@ -210,13 +210,13 @@ module _ {B : Type 0} (same : B → B → Bool) (equal : IsEquality same) (membe
       → Logged members (before ++ (settle n u).packets) (t.node.applied ++ (settle n u).applied)
   step_logged t u ok none s =
       let a = arrives t u ok s in
-      apply_logged t.node.applied (run_from (suc (length u.node.applied)) u.node.learner.learned) u
+      apply_logged t.node.applied (run_from (suc (log_length u.node)) u.node.learner.learned) u
       (s.path.stays.log ∙ sym (ap (λ l. t.node.applied ++ l) (s.path.stays.news ∙ none) ∙ append-nil t.node.applied)) a.log
-      (run_ok members (before ++ u.packets) u.node.learner.learned (suc (length u.node.applied)) (mine u (good_of a)).learned)
+      (run_ok members (before ++ u.packets) u.node.learner.learned (suc (log_length u.node)) (mine u (good_of a)).learned)
 
 -- from the log and boot of the node whose event it was
 pub step_from : {B : Type 0} (n : ℕ) {k : ℕ} (t u : Plan B) → t.node.up ≡ true → t.applied ≡ [] → Stays k t u
     → From t.node.applied t.node.rows.boot k (settle n u)
 step_from n {k} t u up none s =
-    applies_from n t.node.applied t.node.rows.boot k (run_from (suc (length u.node.applied)) u.node.learner.learned) u s.boot
+    applies_from n t.node.applied t.node.rows.boot k (run_from (suc (log_length u.node)) u.node.learner.learned) u s.boot
     (s.up ∙ up, s.log ∙ sym (ap (λ l. t.node.applied ++ l) (s.news ∙ none) ∙ append-nil t.node.applied), s.acts)

@@ -1,7 +1,7 @@
 -- Every entry of a node and of its packets comes from what it was given: of any property of entries, kept through an event.
-use Rattle.std.proofs.Common.{◌≡◌, ⊎_elim, ℕ, zero, suc, ◌+◌, ◌-◌, Bool, true, false, not, ◌&&◌, eqb, refl, sym, subst, List, [], ◌∷◌, ◌++◌, length}
+use Rattle.std.proofs.Common.{◌≡◌, ⊎_elim, ℕ, zero, suc, ◌+◌, ◌-◌, Bool, true, false, not, ◌&&◌, eqb, refl, sym, subst, List, [], ◌∷◌, ◌++◌}
 use Rattle.std.proofs.Common.{map, Option, Some, None}
-use Rattle.std.specs.Prelude.{filter, if◌then◌else◌, nat_lt, nat_le, take}
+use Rattle.std.specs.Prelude.{filter, if◌then◌else◌, nat_lt, nat_le, take, MatchOption}
 use Rattle.std.proofs.lemmas.Bool.{cond_both, cond-true}
 use Rattle.cluster_world.proofs.Lists.{has_cons, has_nil, has_one, has_cases, has_map, has_filter}
 use Rattle.cluster_world.proofs.AcceptorTests.{put_cases, has_from}
@@ -31,12 +31,12 @@ use Rattle.paxos_learner.specs.Learner.{is_learned, put_learned, learn, hears, h
 use Rattle.replica_machine.specs.Roll.{is_wanted}
 use Rattle.paxos_node.specs.declared.event.Event.{Event}
 use Rattle.paxos_node.specs.declared.event.Event.TheVariants.{Take, Tick, Start, Suspect, Deliver, Crash, Restart}
-use Rattle.paxos_planning.specs.Node.{NodeState, Plan}
+use Rattle.paxos_planning.specs.Node.{NodeState, Plan, log_length}
 use Rattle.paxos_planning.specs.Plan.{with_role, with_pending, begun, voted_at, counted_at, send, promise, cast}
 use Rattle.paxos_planning.specs.Proposals.{offer, propose_as, propose, propose_all, lead, stands, propose_new, propose_each, forwarded, push}
 use Rattle.paxos_planning.specs.Replies.{saw, refuse, on_prepare, on_accept, count_promise, on_promise_as, told_from, on_packet}
 use Rattle.paxos_node.specs.Applying.{note, ends, go_down, apply_all, settle}
-use Rattle.paxos_node.specs.Events.{takes, new_item, with_item, on_take, has_room, new_lost}
+use Rattle.paxos_node.specs.Events.{takes, new_item, with_item, on_take, has_room, new_lost, packet_in}
 use Rattle.paxos_planning.specs.Ticking.{accepts_again, again, on_tick}
 use Rattle.paxos_planning.specs.Starting.{begin, starts, on_start}
 use Rattle.paxos_node.specs.Events.{suspected, outcome_of, taken_by, suspected_by, made_by}
@@ -222,7 +222,7 @@ module _ {B : Type 0} (G : Entry B → Type 0) where
 
     propose_new_good : (e : Entry B) (t : Plan B) → PlanGood t → G e → PlanGood (propose_new same members n e t)
     propose_new_good e t ok g =
-        cond_both (stands same (length t.node.applied) t.node.proposer.role e) t (propose same members n e t) (λ u. PlanGood u) (λ d. ok)
+        cond_both (stands same (log_length t.node) t.node.proposer.role e) t (propose same members n e t) (λ u. PlanGood u) (λ d. ok)
         (λ d. propose_good e t ok g)
 
     propose_each_good : (es : List (Entry B)) (t : Plan B) → PlanGood t → Each es → PlanGood (propose_each same members n es t)
@@ -358,7 +358,7 @@ module _ {B : Type 0} (G : Entry B → Type 0) where
         b = new_ballot n t.node.rows.promised t.node.proposer
 
         floor : ℕ
-        floor = suc (length t.node.applied)
+        floor = suc (log_length t.node)
 
     accepts_good : (learned : List (LearnedEntry B)) (vs : List (Vote B)) → VotesGood vs → SentGood (accepts_again members n learned vs)
     accepts_good learned [] g p h = absurd (has_nil h)
@@ -380,9 +380,9 @@ module _ {B : Type 0} (G : Entry B → Type 0) where
         send_good (again members n t.node.proposer.role t.node.learner.learned) t ok
         (again_good t.node.proposer.role t.node.learner.learned ok.node.role) in
         let pushed = push same members n (send (again members n t.node.proposer.role t.node.learner.learned) t) in
-        send_good (to_others members n (Ask (suc (length pushed.node.applied)))) pushed
+        send_good (to_others members n (Ask (suc (log_length pushed.node)))) pushed
         (push_good (send (again members n t.node.proposer.role t.node.learner.learned) t) a)
-        (others_good members n (Ask (suc (length pushed.node.applied))) tt)
+        (others_good members n (Ask (suc (log_length pushed.node))) tt)
 
     take_good : (transport : ℕ) (body : B) (t : Plan B) → PlanGood t → Each (taken_by n transport body t.node)
         → PlanGood (on_take same members n transport body t)
@@ -452,18 +452,12 @@ module _ {B : Type 0} (G : Entry B → Type 0) where
 
   settle_good : (n : ℕ) (t : Plan B) → PlanGood t → PlanGood (settle n t)
   settle_good n t ok =
-      apply_good n (run_from (suc (length t.node.applied)) t.node.learner.learned) t ok
-      (run_good t.node.learner.learned (suc (length t.node.applied)) ok.node.learned)
+      apply_good n (run_from (suc (log_length t.node)) t.node.learner.learned) t ok
+      (run_good t.node.learner.learned (suc (log_length t.node)) ok.node.learned)
 
   -- what a packet brings
   abbrev pub EventGood : Event B → Type 0
-  EventGood (Take n t body) = Unit {0}
-  EventGood (Tick n) = Unit {0}
-  EventGood (Start n) = Unit {0}
-  EventGood (Suspect n other) = Unit {0}
-  EventGood (Deliver p) = KindGood p.kind
-  EventGood (Crash n) = Unit {0}
-  EventGood (Restart n) = Unit {0}
+  EventGood e = MatchOption (packet_in e) (Unit {0}) (λ p. KindGood p.kind)
 
   pub outcome_good : (same : B → B → Bool) (members : ℕ) → G Noop → (e : Event B) (x : NodeState B) → NodeGood x → EventGood e
       → Each (made_by same e x) → PlanGood (outcome_of same members e x)

@@ -1,5 +1,5 @@
 -- The boot of a node, whether it is up, its log and what is pending through an event.
-use Rattle.std.proofs.Common.{◌≡◌, inr, ℕ, suc, Bool, true, false, not, ◌&&◌, refl, sym, ap, ◌∙◌, List, [], ◌∷◌, ◌++◌, length, Option, Some}
+use Rattle.std.proofs.Common.{◌≡◌, inr, ℕ, suc, Bool, true, false, not, ◌&&◌, refl, sym, ap, ◌∙◌, List, [], ◌∷◌, ◌++◌, Option, Some}
 use Rattle.std.proofs.Common.{None}
 use Rattle.std.specs.Prelude.{if◌then◌else◌, nat_lt}
 use Rattle.std.proofs.lemmas.List.{append-nil}
@@ -22,7 +22,7 @@ use Rattle.paxos_proposer.specs.Proposer.{slot_end, next_vote, new_ballot, is_le
 use Rattle.paxos_proposer.specs.Reports.{is_counted, reports, called_for}
 use Rattle.paxos_node.specs.declared.event.Event.{Event}
 use Rattle.paxos_node.specs.declared.event.Event.TheVariants.{Take, Tick, Start, Suspect, Deliver, Crash, Restart}
-use Rattle.paxos_planning.specs.Node.{NodeState, Plan}
+use Rattle.paxos_planning.specs.Node.{NodeState, Plan, log_length}
 use Rattle.paxos_planning.specs.Plan.{with_role, with_pending, begun, send, promise, cast}
 use Rattle.paxos_planning.specs.Proposals.{offer, propose_as, propose, propose_all, lead, stands, propose_new, propose_each, forwarded, push}
 use Rattle.paxos_planning.specs.Replies.{saw, refuse, count_promise, on_promise_as, on_packet}
@@ -62,7 +62,7 @@ module _ {B : Type 0} (same : B → B → Bool) (members n : ℕ) where
 
   proposes_new : (e : Entry B) (t : Plan B) → Same t (propose_new same members n e t)
   proposes_new e t =
-      cond_both (stands same (length t.node.applied) t.node.proposer.role e) t (propose same members n e t) (λ u. Same t u)
+      cond_both (stands same (log_length t.node) t.node.proposer.role e) t (propose same members n e t) (λ u. Same t u)
       (λ d. same_here t) (λ d. proposes e t)
 
   proposes_each : (es : List (Entry B)) (t : Plan B) → Same t (propose_each same members n es t)
@@ -128,7 +128,7 @@ module _ {B : Type 0} (same : B → B → Bool) (members n : ℕ) where
 
   pub begins : (t : Plan B) → Same t (on_start members n t)
   begins t =
-      cond_both (starts n t.node) (begin members n (new_ballot n t.node.rows.promised t.node.proposer) (suc (length t.node.applied)) t) t
+      cond_both (starts n t.node) (begin members n (new_ballot n t.node.rows.promised t.node.proposer) (suc (log_length t.node)) t) t
       (λ u. Same t u)
       (λ e. record { stays = record { boot = refl; up = refl; log = refl; news = refl; acts = refl }; pending = refl }) (λ e. same_here t)
 
@@ -181,12 +181,7 @@ module _ {B : Type 0} (same : B → B → Bool) (members n : ℕ) where
 -- how many acts a node has taken after an event
 abbrev pub acts_after : {B : Type 0} → Event B → NodeState B → ℕ
 acts_after (Take n t body) x = if takes x then suc x.taken else x.taken
-acts_after (Tick n) x = x.taken
-acts_after (Start n) x = x.taken
-acts_after (Suspect n other) x = x.taken
-acts_after (Deliver p) x = x.taken
-acts_after (Crash n) x = x.taken
-acts_after (Restart n) x = x.taken
+acts_after _ x = x.taken
 
 -- an event at a node that is up leaves its boot; either it stays up, with what it applied at the end of its log, or it goes down
 pub up_from : {B : Type 0} (same : B → B → Bool) (members : ℕ) (e : Event B) (x : NodeState B) → x.up ≡ true → possible e x ≡ true

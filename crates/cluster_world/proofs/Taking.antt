@@ -11,13 +11,14 @@ use Rattle.cluster_world.proofs.Standing.{acts_after}
 use Rattle.cluster_world.proofs.Handing.{Ran, Began, event_cases}
 use Rattle.cluster_world.proofs.Sources.{Each, VotesGood, SentGood, NodeGood, EventGood, sent_good, outcome_good}
 use Rattle.cluster_world.specs.Has.{Has, here}
+use Rattle.paxos_packets.specs.Rows.{first_rows}
 use Rattle.paxos_packets.specs.declared.entry.Entry.{Entry}
 use Rattle.paxos_packets.specs.declared.entry.Entry.TheVariants.{Noop, Boot, Lost, Item}
-use Rattle.replica_machine.specs.Roll.{standing, live_in}
+use Rattle.replica_machine.specs.Roll.{live_in}
 use Rattle.paxos_node.specs.declared.event.Event.{Event}
 use Rattle.paxos_node.specs.declared.event.Event.TheVariants.{Take, Tick, Start, Suspect, Deliver, Crash, Restart}
 use Rattle.paxos_planning.specs.Node.{NodeState, Plan}
-use Rattle.paxos_node.specs.Applying.{started, first_rows}
+use Rattle.paxos_node.specs.Applying.{standing_of, started}
 use Rattle.paxos_node.specs.Events.{takes, new_item, has_room, is_pending, new_lost_of, new_lost, owner, possible, outcome_of, suspected_by, made_by}
 use Rattle.cluster_world.specs.World.{World, absent, node_at, put_node, founded, first_boots, first_world, was_sent, done, next, play, played, log_of}
 use Rattle.cluster_world.specs.Origins.{Act, act_in, acts_of, ItemsWereTaken}
@@ -72,13 +73,8 @@ module _ {B : Type 0} (same : B → B → Bool) (members : ℕ) where
       sent : SentGood G w.sent
 
     event_good : (w : World B) (e : Event B) → AllGood w → was_sent same e w.sent ≡ true → EventGood G e
-    event_good w (Take n t body) ok s = tt
-    event_good w (Tick n) ok s = tt
-    event_good w (Start n) ok s = tt
-    event_good w (Suspect n other) ok s = tt
     event_good w (Deliver p) ok s = ok.sent p (among_has same equal p w.sent s)
-    event_good w (Crash n) ok s = tt
-    event_good w (Restart n) ok s = tt
+    event_good w _ ok s = tt
 
     next_good : (w : World B) (e : Event B) → AllGood w → Each G (next same members w e).made → AllGood (next same members w e)
     next_good w e ok = by_next (λ z. Each G z.made → AllGood z) w e (λ g. ok) go
@@ -287,18 +283,18 @@ module _ {B : Type 0} (same : B → B → Bool) (members : ℕ) where
           adds_none e x (ap (λ o. suspected_by o x) (is ∙ cond-true (is_pending same x.pending (Lost other b)) None (Some (Lost other b)) p)) refl
       by_pending b is false p = by_room b (is ∙ cond-false (is_pending same x.pending (Lost other b)) None (Some (Lost other b)) p) (has_room x) refl
 
-      by_live : new_lost same n other x ≡ new_lost_of same other (live_in (standing other x.applied)) x.pending → (o : Option ℕ)
-          → live_in (standing other x.applied) ≡ o → Adds e x
+      by_live : new_lost same n other x ≡ new_lost_of same other (live_in (standing_of x other)) x.pending → (o : Option ℕ)
+          → live_in (standing_of x other) ≡ o → Adds e x
       by_live is None l = adds_none e x (ap (λ o. suspected_by o x) (is ∙ ap (λ o. new_lost_of same other o x.pending) l)) refl
       by_live is (Some b) l = by_pending b (is ∙ ap (λ o. new_lost_of same other o x.pending) l) (is_pending same x.pending (Lost other b)) refl
 
       by_other : (z : Bool) → eqb other n ≡ z → Adds e x
       by_other true t =
           adds_none e x
-          (ap (λ o. suspected_by o x) (cond-true (eqb other n) None (new_lost_of same other (live_in (standing other x.applied)) x.pending) t)) refl
+          (ap (λ o. suspected_by o x) (cond-true (eqb other n) None (new_lost_of same other (live_in (standing_of x other)) x.pending) t)) refl
       by_other false t =
-          by_live (cond-false (eqb other n) None (new_lost_of same other (live_in (standing other x.applied)) x.pending) t)
-          (live_in (standing other x.applied)) refl
+          by_live (cond-false (eqb other n) None (new_lost_of same other (live_in (standing_of x other)) x.pending) t)
+          (live_in (standing_of x other)) refl
 
   pub event_adds : (e : Event B) (x : NodeState B) → possible e x ≡ true → Adds e x
   event_adds (Take n t body) x p = take_adds n t body x (and_parts x.up (nat_lt 0 t) p).0

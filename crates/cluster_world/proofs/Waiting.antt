@@ -18,7 +18,7 @@ use Rattle.paxos_node.specs.declared.event.Event.{Event}
 use Rattle.paxos_node.specs.declared.event.Event.TheVariants.{Suspect}
 use Rattle.paxos_planning.specs.Node.{NodeState, Plan}
 use Rattle.paxos_planning.specs.Plan.{with_pending, begun}
-use Rattle.paxos_node.specs.Applying.{settle}
+use Rattle.paxos_node.specs.Applying.{standing_of, settle}
 use Rattle.paxos_planning.specs.Proposals.{push}
 use Rattle.paxos_node.specs.Events.{has_room, new_lost, new_lost_of, suspected, suspected_by, owner, outcome_of, made_by}
 use Rattle.replica_machine.specs.Effects.{boots_of, greatest, lost_since, live_boot}
@@ -41,7 +41,7 @@ module _ {B : Type 0} (same : B → B → Bool) where
     where
       nothing : new_lost same by n x ≡ None
       nothing =
-          cond-true (eqb n by) None (new_lost_of same n (live_in (standing n x.applied)) x.pending) (eq-eqb n by (sym e))
+          cond-true (eqb n by) None (new_lost_of same n (live_in (standing_of x n)) x.pending) (eq-eqb n by (sym e))
 
       never : ◌≡◌ {A = Option (Entry B)} None (Some l) → ⊥
       never e = cc
@@ -194,7 +194,7 @@ module _ {B : Type 0} (same : B → B → Bool) where
         Goal f n b =
             May same members w f → done same w f (node_at w.nodes (owner f)) (outcome_of same members f (node_at w.nodes (owner f)))
             ≡ played same members (early ++ f ∷ []) → Has (made_by same f (node_at w.nodes (owner f))) (Lost n b)
-            → live_in (standing n (node_at w.nodes (owner f)).applied) ≡ Some b → Suspected same members (early ++ f ∷ []) n b
+            → live_in (standing_of (node_at w.nodes (owner f)) n) ≡ Some b → Suspected same members (early ++ f ∷ []) n b
 
         new : May same members w e → done same w e (node_at w.nodes (owner e)) (outcome_of same members e (node_at w.nodes (owner e)))
             ≡ played same members (early ++ e ∷ []) → (n b : ℕ) → MadeLost e (node_at w.nodes (owner e)) n b

@@ -17,7 +17,7 @@ use Rattle.paxos_node.specs.Adopting.{pending_behind}
 use Rattle.paxos_node.specs.Applying.{has_end}
 use Rattle.replica_machine.specs.declared.roll.Standing.{Standing}
 use Rattle.replica_machine.specs.declared.roll.Standing.TheVariants.{Live}
-use Rattle.replica_machine.specs.Roll.{standing, standing_from, is_new_boot, is_live, is_wanted, was_taken, taken_in}
+use Rattle.replica_machine.specs.Roll.{standing, standings, standing_from, is_new_boot, is_live, is_wanted, was_taken, taken_in}
 
 off : false ≡ true → ⊥
 off e = cc
@@ -148,7 +148,7 @@ module _ {B : Type 0} (n b : ℕ) (acts : List (Act B)) (log pending : List (Ent
                 (subst (λ (z : ℕ × ℕ). was_taken (standing z.0 (log ++ fs)) z.1 q ≡ true) (λ a. (i a, j a))
                 (back (was_taken (standing k (log ++ fs)) c q) o)) ends_rest boots_rest)
 
-    pub left : pending_behind log es pending ≡ filter (is_wanted (log ++ es)) pending
+    pub left : pending_behind (standings log) es pending ≡ filter (is_wanted (log ++ es)) pending
     left = left_pending es log pending wants fades
 
     -- if they have all that is pending, one is no longer wanted

@@ -1,6 +1,6 @@
 -- An event in which what a node learns is applied at once, wherever in the event it learns it (docs/CONSENSUS.md, "Events": Learn). It is
 -- written as the node's own event is, with what is learned applied after each vote that is counted and each entry that is reported to it.
-use Rattle.std.specs.Prelude.{◌≡◌, ◌≤◌, ℕ, Bool, true, not, ◌&&◌, nat_lt, Option, Some, None, List, [], ◌∷◌, ◌++◌, length, fold, if◌then◌else◌}
+use Rattle.std.specs.Prelude.{◌≡◌, ◌≤◌, ℕ, Bool, true, not, ◌&&◌, nat_lt, Option, Some, None, List, [], ◌∷◌, ◌++◌, fold, if◌then◌else◌}
 use Rattle.paxos_packets.specs.Ballot.{same_ballot}
 use Rattle.paxos_packets.specs.Members.{is_majority}
 use Rattle.paxos_packets.specs.Packet.{to_others}
@@ -17,7 +17,7 @@ use Rattle.paxos_proposer.specs.Proposer.{slot_end, next_vote, is_leading}
 use Rattle.paxos_proposer.specs.Reports.{is_counted, reports, called_for}
 use Rattle.paxos_node.specs.declared.event.Event.{Event}
 use Rattle.paxos_node.specs.declared.event.Event.TheVariants.{Take, Tick, Start, Suspect, Deliver, Crash, Restart}
-use Rattle.paxos_planning.specs.Node.{NodeState, Plan}
+use Rattle.paxos_planning.specs.Node.{NodeState, Plan, log_length}
 use Rattle.paxos_planning.specs.Plan.{with_role, with_pending, begun, send, vote, count as count_at_end, hear_learned}
 use Rattle.paxos_planning.specs.Proposals.{offer, stands, forwarded}
 use Rattle.paxos_planning.specs.Replies.{saw, refuse, on_prepare, on_nack, told_from}
@@ -57,7 +57,7 @@ lead same members me b first votes o =
 
 abbrev pub propose_new : {B : Type 0} → (B → B → Bool) → ℕ → ℕ → Entry B → Plan B → Plan B
 propose_new same members me e o =
-    if stands same (length o.node.applied) o.node.proposer.role e then o
+    if stands same (log_length o.node) o.node.proposer.role e then o
     else propose same members me e o
 
 abbrev pub propose_each : {B : Type 0} → (B → B → Bool) → ℕ → ℕ → List (Entry B) → Plan B → Plan B

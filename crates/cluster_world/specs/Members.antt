@@ -5,7 +5,7 @@ use Rattle.paxos_packets.specs.declared.packet.Packet.{Packet}
 use Rattle.paxos_packets.specs.declared.transport.Transport.{Transport}
 use Rattle.paxos_node.specs.declared.event.Event.{Event}
 use Rattle.paxos_node.specs.Events.{outcome_of, made_by}
-use Rattle.paxos_planning.specs.Node.{NodeState}
+use Rattle.paxos_planning.specs.Node.{NodeState, log_length}
 use Rattle.replica_machine.specs.Replay.{Machine}
 use Rattle.replica_follower.specs.Following.{Followed, Follows, Keeps, handed_to}
 use Rattle.replica_follower.specs.Handed.{said_in}
@@ -52,7 +52,7 @@ pub record StaysBehind {B M S Y : Type 0} (content : M → S) (m : Machine B S Y
 
 -- what was so before the node's event, at which it was up
 abbrev pub FollowedSo : {B M S Y : Type 0} → (M → S) → Machine B S Y → NodeState B → Followed B M Y → Type 0
-FollowedSo content m x f = Follows content m f × Keeps m x.rows.boot (length x.applied) f
+FollowedSo content m x f = Follows content m f × Keeps m x.rows.boot (log_length x) f
 
 -- what an event makes of a member: what was handed out goes on, and the machine attends the node then
 pub record Happens {B M S Y : Type 0} (same : B → B → Bool) (content : M → S) (m : Machine B S Y) (e : Event B) (old new : MemberState B M Y) : Type 0 where

@@ -1,10 +1,10 @@
 -- What callers see of a world in code, and when it is the world that events lead to (docs/CONSENSUS.md, "The world").
-use Rattle.std.specs.Prelude.{◌≡◌, ◌⊎◌, ℕ, zero, suc, Bool, Option, Some, None, List, [], slice_get, length, if◌then◌else◌}
+use Rattle.std.specs.Prelude.{◌≡◌, ◌⊎◌, ℕ, zero, suc, Bool, Option, Some, None, List, [], slice_get, if◌then◌else◌}
 use Rattle.paxos_packets.specs.declared.entry.Entry.{Entry}
 use Rattle.paxos_packets.specs.declared.packet.Packet.{Packet}
 use Rattle.paxos_packets.specs.declared.transport.Transport.{Transport}
 use Rattle.paxos_node.specs.declared.event.Event.{Event}
-use Rattle.paxos_planning.specs.Node.{NodeState}
+use Rattle.paxos_planning.specs.Node.{NodeState, log_length}
 use Rattle.replica_machine.specs.Replay.{Machine}
 use Rattle.replica_follower.specs.Following.{Followed, Follows, Keeps}
 use Rattle.replica_follower.specs.Handed.{said_in}
@@ -38,7 +38,7 @@ abbrev pub handing_boot : {B : Type 0} → NodeState B → ℕ
 handing_boot x = if x.up then x.rows.boot else suc x.rows.boot
 
 abbrev pub handing_from : {B : Type 0} → NodeState B → ℕ
-handing_from x = if x.up then length x.applied else 0
+handing_from x = if x.up then log_length x else 0
 
 -- the machine attends the node: the node's log is a prefix of the one that the machine followed; unless it is given up, it has the content
 -- to which that leads; and what was said too early is deferred for what the node's present boot has not passed, and for later boots

@@ -1,5 +1,5 @@
 -- All nodes, all packets ever sent, and what an event makes of them (docs/CONSENSUS.md, "The world").
-use Rattle.std.specs.Prelude.{ℕ, zero, suc, Bool, true, ◌&&◌, ◌==◌, None, List, [], ◌∷◌, ◌++◌, filter, fold, slice_index_or}
+use Rattle.std.specs.Prelude.{ℕ, zero, suc, Bool, true, ◌&&◌, ◌==◌, Option, Some, None, List, [], ◌∷◌, ◌++◌, filter, fold, slice_index_or}
 use Rattle.std.specs.Prelude.{slice_set, if◌then◌else◌}
 use Rattle.std.specs.List.{list_any, flat_map}
 use Rattle.paxos_packets.specs.Packet.{same_packet}
@@ -10,11 +10,10 @@ use Rattle.paxos_packets.specs.declared.transport.Transport.{Transport}
 use Rattle.replica_machine.specs.Replay.{Machine, sayings_behind}
 use Rattle.paxos_packets.specs.Transport.{same_transport}
 use Rattle.paxos_node.specs.declared.event.Event.{Event}
-use Rattle.paxos_node.specs.declared.event.Event.TheVariants.{Take, Tick, Start, Suspect, Deliver, Crash, Restart}
 use Rattle.paxos_planning.specs.Node.{NodeState, Plan}
-use Rattle.paxos_node.specs.Applying.{down, started, first_rows}
-use Rattle.paxos_packets.specs.Rows.{last_boot}
-use Rattle.paxos_node.specs.Events.{owner, possible, outcome_of, made_by}
+use Rattle.paxos_node.specs.Applying.{down, started}
+use Rattle.paxos_packets.specs.Rows.{last_boot, bare_rows, first_rows}
+use Rattle.paxos_node.specs.Events.{owner, packet_in, possible, outcome_of, made_by}
 
 -- the entries that a node applied in one event: in which boot, after which log
 pub record Applied (B : Type 0) : Type 0 where
@@ -33,7 +32,7 @@ pub record World (B : Type 0) : Type 0 where
 
 -- what is no member: down for ever, since no boot is left
 abbrev pub absent : {B : Type 0} → NodeState B
-absent = down (record { boot = last_boot; promised = None; votes = [] })
+absent = down (bare_rows last_boot)
 
 abbrev pub node_at : {B : Type 0} → List (NodeState B) → ℕ → NodeState B
 node_at nodes zero = absent
@@ -61,14 +60,12 @@ first_world members = record { nodes = founded members; sent = []; made = first_
 abbrev pub is_among : {B : Type 0} → (B → B → Bool) → Packet B → List (Packet B) → Bool
 is_among same p sent = list_any (λ q. same_packet same q p) sent
 
+abbrev pub is_none_or_among : {B : Type 0} → (B → B → Bool) → Option (Packet B) → List (Packet B) → Bool
+is_none_or_among same None sent = true
+is_none_or_among same (Some p) sent = is_among same p sent
+
 abbrev pub was_sent : {B : Type 0} → (B → B → Bool) → Event B → List (Packet B) → Bool
-was_sent same (Take n t body) sent = true
-was_sent same (Tick n) sent = true
-was_sent same (Start n) sent = true
-was_sent same (Suspect n other) sent = true
-was_sent same (Deliver p) sent = is_among same p sent
-was_sent same (Crash n) sent = true
-was_sent same (Restart n) sent = true
+was_sent same e sent = is_none_or_among same (packet_in e) sent
 
 -- one node changes, and packets are sent
 abbrev pub done : {B : Type 0} → (B → B → Bool) → World B → Event B → NodeState B → Plan B → World B

@@ -4,11 +4,12 @@ ghost use Rattle.std.specs.Prelude.{◌≡◌, suc, ◌≤◌, ◌<◌, ◌+◌,
 ghost use Rattle.paxos_packets.specs.declared.entry.Entry as log_entries;
 ghost use Rattle.paxos_packets.specs.declared.entry.Entry.TheVariants.{Boot};
 ghost use Rattle.paxos_packets.specs.declared.transport.Transport as transports;
-ghost use Rattle.paxos_packets.specs.Rows.{last_boot, raised};
+ghost use Rattle.paxos_packets.specs.Rows.{last_boot, raised, first_rows};
 ghost use Rattle.paxos_node.specs.Adopting.{adopted, Fits, Planned};
-ghost use Rattle.paxos_node.specs.Applying.{down, started, first_rows};
+ghost use Rattle.paxos_node.specs.Applying.{down, started};
 ghost use Rattle.paxos_node.specs.Events.{owner, possible, outcome_of, made_by};
 ghost use Rattle.paxos_node.specs.Plans.{is_planned, plans};
+ghost use Rattle.paxos_planning.specs.Node.{log_length};
 ghost use Rattle.paxos_planning.specs.Drafting.{listed};
 ghost use Rattle.replica_machine.specs.Log.{machine_from};
 ghost use Rattle.replica_follower.specs.Following.{handed_to, Follows, Keeps, AgreesWith};
@@ -349,8 +350,8 @@ fn carry_out<M: Machine>(
 ) -> Result<(), Memory>
     requires up { (node_of node.old).up ≡ true }
     requires fits { Fits node.old.me node.old.members outcome (node_of node.old) }
-    requires front { (node_of node.old).applied ≡ take (length (node_of node.old).applied) follower.old.log }
-    requires within { length (node_of node.old).applied ≤ length follower.old.log }
+    requires front { (node_of node.old).applied ≡ take (log_length (node_of node.old)) follower.old.log }
+    requires within { log_length (node_of node.old) ≤ length follower.old.log }
     requires logs { AgreesWith ((node_of node.old).applied ++ outcome.applied) follower.old.log }
     ensures me { node.new.me ≡ node.old.me }
     ensures members { node.new.members ≡ node.old.members }
@@ -365,7 +366,7 @@ fn carry_out<M: Machine>(
     ensures err_log { OnErr result (follower.new.log ≡ follower.old.log) }
     ensures given_up { follower.old.given_up ≡ true → follower.new.given_up ≡ true }
     ensures refuses { follower.old.given_up ≡ true →
-        OnOk result (length (node_of node.old).applied + length outcome.applied ≤ length follower.old.log) }
+        OnOk result (log_length (node_of node.old) + length outcome.applied ≤ length follower.old.log) }
     ensures ok { (first : M.Content) → FollowedSo M.content (machine_from M.next M.says M.to first) (node_of node.old) follower.old →
         OnOk result (FollowsOn M.content (machine_from M.next M.says M.to first) (node_of node.old).rows.boot (node_of node.old).applied outcome.applied
         follower.old follower.new) }
@@ -391,8 +392,8 @@ fn do_event_at<M: Machine>(
     requires plans { plans node.old.me event.now (node_of node.old) ≡ true }
     requires rests { IsAtRest (node_of node.old) }
     requires agrees { (outcome_of M.Body.same node.old.members event.now (node_of node.old)).disagrees ≡ false }
-    requires front { (node_of node.old).applied ≡ take (length (node_of node.old).applied) follower.old.log }
-    requires within { length (node_of node.old).applied ≤ length follower.old.log }
+    requires front { (node_of node.old).applied ≡ take (log_length (node_of node.old)) follower.old.log }
+    requires within { log_length (node_of node.old) ≤ length follower.old.log }
     requires logs { AgreesWith (log_after M.Body.same node.old.members event.now (node_of node.old)) follower.old.log }
     ensures me { node.new.me ≡ node.old.me }
     ensures members { node.new.members ≡ node.old.members }
@@ -408,7 +409,7 @@ fn do_event_at<M: Machine>(
     ensures err_made { OnErr result (made.new.items ≡ made.old.items) }
     ensures err_log { OnErr result (follower.new.log ≡ follower.old.log) }
     ensures given_up { follower.old.given_up ≡ true → follower.new.given_up ≡ true }
-    ensures refuses { follower.old.given_up ≡ true → OnOk result (length (node_of node.old).applied
+    ensures refuses { follower.old.given_up ≡ true → OnOk result (log_length (node_of node.old)
         + length (outcome_of M.Body.same node.old.members event.now (node_of node.old)).applied ≤ length follower.old.log) }
     ensures ok { (first : M.Content) → FollowedSo M.content (machine_from M.next M.says M.to first) (node_of node.old) follower.old →
         OnOk result (FollowsOn M.content (machine_from M.next M.says M.to first) (node_of node.old).rows.boot (node_of node.old).applied

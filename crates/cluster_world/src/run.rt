@@ -110,14 +110,9 @@ impl<M: Machine> World<M> {
 fn was_sent<B: Body>(event: &Event<B>, sent: &SentPackets<B>) -> bool
     ensures { result ≡ was_sent B.same event.now sent.now.packets }
 {
-    match event {
-        Event::Take { .. } => true,
-        Event::Tick { .. } => true,
-        Event::Start { .. } => true,
-        Event::Suspect { .. } => true,
-        Event::Deliver { packet } => sent.was_sent(packet),
-        Event::Crash { .. } => true,
-        Event::Restart { .. } => true,
+    match event.packet() {
+        Some(packet) => sent.was_sent(packet),
+        None => true,
     }
 }
 

@@ -8,16 +8,16 @@ use Rattle.cluster_world.proofs.Stepping.{sent_is_among, one_event_more, event_g
 use Rattle.cluster_world.specs.Has.{Has}
 use Rattle.cluster_world.specs.Steps.{may, Goes}
 use Rattle.cluster_world.specs.World.{World, node_at, was_sent, next, played}
-use Rattle.paxos_node.specs.Applying.{down, started, first_rows}
+use Rattle.paxos_node.specs.Applying.{down, started}
 use Rattle.paxos_node.specs.Events.{owner, possible, outcome_of}
 use Rattle.paxos_node.specs.View.{Viewed, moved}
 use Rattle.paxos_node.specs.declared.event.Event.{Event}
-use Rattle.paxos_node.specs.declared.event.Event.TheVariants.{Take, Tick, Start, Suspect, Deliver, Crash, Restart}
+use Rattle.paxos_node.specs.declared.event.Event.TheVariants.{Deliver, Crash, Restart}
 use Rattle.paxos_node.specs.declared.view.Opened.{Opened}
 use Rattle.paxos_node.specs.declared.view.Opened.TheVariants.{Never, With}
 use Rattle.paxos_packets.specs.Body.{IsEquality}
 use Rattle.paxos_packets.specs.Members.{IsMember}
-use Rattle.paxos_packets.specs.Rows.{last_boot, raised}
+use Rattle.paxos_packets.specs.Rows.{last_boot, raised, first_rows}
 use Rattle.paxos_packets.specs.declared.packet.Packet.{Packet}
 use Rattle.paxos_packets.specs.declared.rows.Rows.{Rows}
 use Rattle.paxos_planning.specs.Node.{NodeState}
@@ -169,13 +169,8 @@ module _ {B : Type 0} (same : B → B → Bool) (equal : IsEquality same) (n : �
   -- a packet that some view sent was sent in the world
   fed_sent : (seen : ℕ → Viewed B) (rows : ℕ → Rows B) (c : Covers same n seen rows) (e : Event B) → Fed n seen e
       → was_sent same e (played same n c.events).sent ≡ true
-  fed_sent seen rows c (Take k t body) f = refl
-  fed_sent seen rows c (Tick k) f = refl
-  fed_sent seen rows c (Start k) f = refl
-  fed_sent seen rows c (Suspect k j) f = refl
   fed_sent seen rows c (Deliver p) f = (sent_is_among same equal p (played same n c.events).sent).1 (c.sent f.0 p f.1 f.2)
-  fed_sent seen rows c (Crash k) f = refl
-  fed_sent seen rows c (Restart k) f = refl
+  fed_sent seen rows c _ f = refl
 
   pub covered_advance : (seen : ℕ → Viewed B) (k : ℕ) (e : Event B) (q : Rows B) → Covered same n seen → IsMember n k
       → (seen k).opened ≡ With q

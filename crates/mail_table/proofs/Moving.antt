@@ -13,7 +13,7 @@ use Rattle.paxos_node.specs.Adopting.{adopted}
 use Rattle.paxos_node.specs.Events.{owner, possible, outcome_of}
 use Rattle.paxos_node.specs.View.{Viewed, moved}
 use Rattle.paxos_node.specs.declared.event.Event.{Event}
-use Rattle.paxos_node.specs.declared.event.Event.TheVariants.{Take, Tick, Start, Suspect, Deliver, Crash, Restart}
+use Rattle.paxos_node.specs.declared.event.Event.TheVariants.{Deliver}
 use Rattle.paxos_node.specs.declared.outcome.Outcome.{Outcome}
 use Rattle.paxos_node.specs.declared.view.Opened.TheVariants.{With}
 use Rattle.paxos_packets.specs.Body.{IsEquality}
@@ -74,10 +74,6 @@ module _ {B : Type 0} (same : B → B → Bool) (n : ℕ) (x : Part B) (id i : �
   -- a packet that this node received is one that its sender's view has sent
   fed : (s : State (Option (Packet B)) (List (Part B))) (kept : Kept same n s) → get_elem? s.views id ≡ some (x ∷ []) → (e : Event B)
       → Received n x e → Fed n (λ k. (kept.part k).seen) e
-  fed s kept at (Take k t body) r = tt
-  fed s kept at (Tick k) r = tt
-  fed s kept at (Start k) r = tt
-  fed s kept at (Suspect k j) r = tt
   fed s kept at (Deliver p) r =
       let b = box_ahead s.homes (box_of n r.0 x.me) _ _ _ _ _ (box_taken same n s kept id x x at refl r.0 (box_of n r.0 x.me) r.1
       member refl) in (
@@ -86,8 +82,7 @@ module _ {B : Type 0} (same : B → B → Bool) (n : ℕ) (x : Part B) (id i : �
         (kept.posted r.0 r.1 x.me p member (behind_has (through (box_of n r.0 x.me) (kept.part r.0).posted) (through (box_of n
             r.0 x.me) x.received) p b r.2)).0,
       )
-  fed s kept at (Crash k) r = tt
-  fed s kept at (Restart k) r = tt
+  fed s kept at _ r = tt
 
   module _ (equal : IsEquality same) where
     moved_covered : (s : State (Option (Packet B)) (List (Part B))) (kept : Kept same n s) → get_elem? s.views id ≡ some (x ∷ [])

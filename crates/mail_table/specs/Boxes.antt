@@ -1,7 +1,7 @@
 -- The rule of the table: its words, its slots and what each seat knows, between any two steps; and what each step means
 -- (docs/ARCHITECTURE.md, "Threads").
 use Rattle.std.specs.Prelude.{◌≡◌, ◌⊎◌, ◌<◌, ℕ, zero, suc, ◌+◌, ◌*◌, ◌==◌, ◌^◌, Bool, true, false, Option, Some, None, MatchBool}
-use Rattle.std.specs.Prelude.{List, [], ◌∷◌, ◌++◌, length, slice_index}
+use Rattle.std.specs.Prelude.{List, [], ◌∷◌, ◌++◌, length, slice_index, MatchOption}
 use mathlib.Core.Option.{some}
 use mathlib.Core.Option as core
 use lib.ListN.{get_elem?}
@@ -11,9 +11,8 @@ use Rattle.paxos_packets.specs.declared.packet.Packet.{Packet}
 use Rattle.paxos_packets.specs.declared.rows.Rows.{Rows}
 use Rattle.paxos_planning.specs.Node.{NodeState}
 use Rattle.paxos_node.specs.Adopting.{Planned, adopted}
-use Rattle.paxos_node.specs.Events.{owner, possible}
+use Rattle.paxos_node.specs.Events.{owner, possible, packet_in}
 use Rattle.paxos_node.specs.declared.event.Event.{Event}
-use Rattle.paxos_node.specs.declared.event.Event.TheVariants.{Take, Tick, Start, Suspect, Deliver, Crash, Restart}
 use Rattle.paxos_node.specs.declared.outcome.Outcome.{Outcome}
 use Rattle.paxos_node.specs.declared.view.Opened.TheVariants.{With}
 use Rattle.cluster_world.specs.Has.{Has}
@@ -144,13 +143,8 @@ pub record MayFetch {B : Type 0} (n : ℕ) (x : Part B) (at : ℕ) : Type 0 wher
 
 -- a delivered packet is one that this node received
 abbrev pub Received : {B : Type 0} → ℕ → Part B → Event B → Type 0
-Received n x (Take k t body) = Unit {0}
-Received n x (Tick k) = Unit {0}
-Received n x (Start k) = Unit {0}
-Received n x (Suspect k other) = Unit {0}
-Received n x (Deliver p) = (a : ℕ) × IsMember n a × Has (through (box_of n a x.me) x.received) p
-Received n x (Crash k) = Unit {0}
-Received n x (Restart k) = Unit {0}
+Received n x e =
+    MatchOption (packet_in e) (Unit {0}) (λ p. (a : ℕ) × IsMember n a × Has (through (box_of n a x.me) x.received) p)
 
 -- an outcome of a possible event of the node that the view shows
 pub record Follows {B : Type 0} (same : B → B → Bool) (n : ℕ) (x : Part B) (o : Outcome B) : Type 0 where

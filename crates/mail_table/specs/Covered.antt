@@ -1,16 +1,16 @@
 -- What all views together say: some world that events lead to has just the nodes that they show (docs/ARCHITECTURE.md, "Threads").
-use Rattle.std.specs.Prelude.{◌≡◌, ◌⊎◌, ◌<◌, ◌≤◌, ℕ, Bool, ◌==◌, List, if◌then◌else◌}
+use Rattle.std.specs.Prelude.{◌≡◌, ◌⊎◌, ◌<◌, ◌≤◌, ℕ, Bool, ◌==◌, List, if◌then◌else◌, MatchOption}
 use Rattle.paxos_packets.specs.Members.{IsMember}
-use Rattle.paxos_packets.specs.Rows.{last_boot, raised}
+use Rattle.paxos_packets.specs.Rows.{last_boot, raised, first_rows}
 use Rattle.paxos_packets.specs.declared.packet.Packet.{Packet}
 use Rattle.paxos_packets.specs.declared.rows.Rows.{Rows}
 use Rattle.paxos_planning.specs.Node.{NodeState}
-use Rattle.paxos_node.specs.Applying.{down, started, first_rows}
+use Rattle.paxos_node.specs.Applying.{down, started}
 use Rattle.paxos_node.specs.View.{Viewed}
 use Rattle.paxos_node.specs.declared.event.Event.{Event}
-use Rattle.paxos_node.specs.declared.event.Event.TheVariants.{Take, Tick, Start, Suspect, Deliver, Crash, Restart}
 use Rattle.paxos_node.specs.declared.view.Opened.{Opened}
 use Rattle.paxos_node.specs.declared.view.Opened.TheVariants.{Never, With}
+use Rattle.paxos_node.specs.Events.{packet_in}
 use Rattle.cluster_world.specs.Has.{Has}
 use Rattle.cluster_world.specs.World.{node_at, played}
 
@@ -47,17 +47,11 @@ Covered {B} same n seen =
 
 -- what an event asks of the other views: a packet is delivered that one of them sent
 abbrev pub Fed : {B : Type 0} → ℕ → (ℕ → Viewed B) → Event B → Type 0
-Fed n seen (Take k t body) = Unit {0}
-Fed n seen (Tick k) = Unit {0}
-Fed n seen (Start k) = Unit {0}
-Fed n seen (Suspect k other) = Unit {0}
-Fed n seen (Deliver p) = (a : ℕ) × IsMember n a × Has (seen a).sent p
-Fed n seen (Crash k) = Unit {0}
-Fed n seen (Restart k) = Unit {0}
+Fed n seen e = MatchOption (packet_in e) (Unit {0}) (λ p. (a : ℕ) × IsMember n a × Has (seen a).sent p)
 
 -- the rows that a node may begin with anew: any if it was never opened, otherwise those of the view in a later boot
 abbrev pub with_boot : {B : Type 0} → ℕ → Rows B → Rows B
-with_boot boot rows = record { boot = boot; promised = rows.promised; votes = rows.votes }
+with_boot boot rows = record rows { boot = boot }
 
 abbrev pub MayRenew : {B : Type 0} → Opened B → NodeState B → Rows B → Type 0
 MayRenew Never v r = Unit {0}

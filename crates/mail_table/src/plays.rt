@@ -89,7 +89,7 @@ pub(crate) trait Beginning<B> {
 }
 
 impl<B> Beginning<B> for Brand {
-    ghost use Rattle.paxos_node.specs.Applying.{first_rows};
+    ghost use Rattle.paxos_packets.specs.Rows.{first_rows};
 
     ghost rows = { first_rows };
 }

@@ -6,15 +6,16 @@ use Rattle.paxos_packets.specs.declared.entry.Entry.{Entry}
 use Rattle.paxos_packets.specs.declared.entry.Entry.TheVariants.{Lost}
 use Rattle.paxos_packets.specs.declared.packet.Packet.{Packet}
 use Rattle.paxos_learner.specs.Learned.{Begins}
-use Rattle.replica_machine.specs.Roll.{standing, live_in}
+use Rattle.replica_machine.specs.Roll.{live_in}
 use Rattle.paxos_node.specs.declared.event.Event.{Event}
 use Rattle.paxos_node.specs.declared.event.Event.TheVariants.{Take, Tick, Start, Suspect, Deliver, Crash, Restart}
 use Rattle.paxos_node.specs.declared.fault.NodeFault.{NodeFault}
 use Rattle.paxos_node.specs.declared.outcome.Outcome.{Outcome}
-use Rattle.paxos_planning.specs.Node.{NodeState, Plan}
+use Rattle.paxos_planning.specs.Node.{NodeState, Plan, log_length}
 use Rattle.paxos_planning.specs.Plan.{begun, with_pending}
 use Rattle.paxos_planning.specs.Parts.{taken_with}
 use Rattle.paxos_planning.proofs.Standing.{no_front}
+use Rattle.paxos_node.specs.Applying.{standing_of}
 use Rattle.paxos_node.specs.Adopting.{pending_behind, Fits, Settled}
 use Rattle.paxos_planning.specs.Drafting.{with_pending_entry, seeing}
 use Rattle.paxos_node.specs.Events.{last_number, owner, possible, on_event, takes, new_item, with_item, on_take, has_room}
@@ -51,11 +52,11 @@ module _ {B : Type 0} (same : B → B → Bool) (me members : ℕ) (x : NodeStat
   -- a ballot
 
   pub start_answered : starts me x ≡ true
-      → Answered me members x false false (begin members me (new_ballot me x.rows.promised x.proposer) (suc (length x.applied)) (begun x)) r
+      → Answered me members x false false (begin members me (new_ballot me x.rows.promised x.proposer) (suc (log_length x)) (begun x)) r
       → Answered me members x (not (starts me x)) false (on_start members me (begun x)) r
   start_answered t a =
       subst (λ (b : Bool). Answered me members x (not b) false
-      (cond b (begin members me (new_ballot me x.rows.promised x.proposer) (suc (length x.applied)) (begun x)) (begun x)) r) (sym t) a
+      (cond b (begin members me (new_ballot me x.rows.promised x.proposer) (suc (log_length x)) (begun x)) (begun x)) r) (sym t) a
 
   -- a suspicion
 
@@ -70,10 +71,10 @@ module _ {B : Type 0} (same : B → B → Bool) (me members : ℕ) (x : NodeStat
       live None q = absurd (cc)
       live (Some b) q = of_live b (is_pending same x.pending (Lost other b)) q
 
-      go : (t : Bool) → ◌≡◌ {A = Option (Entry B)} (cond t None (new_lost_of same other (live_in (standing other x.applied)) x.pending)) (Some lost)
+      go : (t : Bool) → ◌≡◌ {A = Option (Entry B)} (cond t None (new_lost_of same other (live_in (standing_of x other)) x.pending)) (Some lost)
           → taken_with lost n ≡ n
       go true q = absurd (cc)
-      go false q = live (live_in (standing other x.applied)) q
+      go false q = live (live_in (standing_of x other)) q
 
   pub none_answered : (other : ℕ) → ◌≡◌ {A = Option (Entry B)} None (new_lost same me other x) → Answered me members x false false (begun x) r
       → Answered me members x false (is_some (new_lost same me other x) && not (has_room x)) (on_suspect same members me other (begun x)) r
@@ -160,12 +161,9 @@ is_then_up {B} me e x p = of e (may_be_planned me e x p)
 
     of : (f : Event B) → is_planned f && possible f x ≡ true → x.up ≡ true
     of (Take n t body) q = first x.up (nat_lt 0 t) q
-    of (Tick n) q = q
-    of (Start n) q = q
-    of (Suspect n other) q = q
-    of (Deliver packet) q = q
     of (Crash n) q = absurd (cc)
     of (Restart n) q = absurd (cc)
+    of _ q = q
 
 -- what the node returns is what its event's owner does
 
@@ -177,14 +175,14 @@ owner_answers {B} same me members e x r q a =
 
 -- what changes nothing fits
 
-pub nothing_fits : {B : Type 0} (me members n : ℕ) (x : NodeState B) → n ≡ length x.applied → n < 2 ^ 40 → Begins x.applied x.learner.learned
+pub nothing_fits : {B : Type 0} (me members n : ℕ) (x : NodeState B) → n ≡ log_length x → n < 2 ^ 40 → Begins x.applied x.learner.learned
     → Fits me members (unchanged n) x
 nothing_fits {B} me members n x p l b =
     record {
       moves = tt;
       applied = subst (λ (es : List (Entry B)). Begins es x.learner.learned) (sym (append-nil x.applied)) b;
       within = omega arith;
-      front = no_front (length (x.applied ++ [])) x.proposer.role (pending_behind x.applied [] x.pending);
+      front = no_front (length (x.applied ++ [])) x.proposer.role (pending_behind (standing_of x) [] x.pending);
     }
 
 pub planned_fits : {B : Type 0} (me members : ℕ) (x : NodeState B) (rounds full other : Bool) (t : Plan B) (r : Result (Outcome B) NodeFault)

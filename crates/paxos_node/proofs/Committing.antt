@@ -1,6 +1,6 @@
 -- What a node commits in an event is all that changes its rows.
 use Rattle.std.proofs.Common.{◌≡◌, ℕ, suc, Bool, true, false, not, ◌&&◌, refl, sym, ap, ◌∙◌, List, [], ◌∷◌}
-use Rattle.std.proofs.Common.{◌++◌, length, Option, Some, None}
+use Rattle.std.proofs.Common.{◌++◌, Option, Some, None}
 use Rattle.std.specs.Prelude.{nat_lt}
 use Rattle.std.proofs.lemmas.Bool.{cond_both, and_parts}
 use Rattle.paxos_packets.specs.Members.{is_majority}
@@ -22,7 +22,7 @@ use Rattle.paxos_proposer.specs.Proposer.{slot_end, next_vote, new_ballot, is_le
 use Rattle.paxos_proposer.specs.Reports.{is_counted, reports, called_for}
 use Rattle.paxos_node.specs.declared.event.Event.{Event}
 use Rattle.paxos_node.specs.declared.event.Event.TheVariants.{Take, Tick, Start, Suspect, Deliver, Crash, Restart}
-use Rattle.paxos_planning.specs.Node.{Plan}
+use Rattle.paxos_planning.specs.Node.{Plan, log_length}
 use Rattle.paxos_planning.specs.Plan.{with_role, with_pending, begun, send, promise, vote, cast}
 use Rattle.paxos_planning.specs.Proposals.{offer, propose_as, propose, propose_all, lead, stands, propose_new, propose_each, forwarded, push}
 use Rattle.paxos_planning.specs.Replies.{saw, refuse, count_promise, on_promise_as, on_packet}
@@ -53,7 +53,7 @@ module _ {B : Type 0} (same : B → B → Bool) (members n : ℕ) (rows : Rows B
       record {
         is =
             ap (λ r. with_vote v r) c.is
-            ∙ (λ i. record { boot = rows.boot; promised = Some v.ballot; votes = sym (votes_put v t.change.votes rows.votes c.ascends) i });
+            ∙ (λ i. record rows { promised = Some v.ballot; votes = sym (votes_put v t.change.votes rows.votes c.ascends) i });
         ascends = put_ascending v t.change.votes c.ascends;
       }
 
@@ -81,7 +81,7 @@ module _ {B : Type 0} (same : B → B → Bool) (members n : ℕ) (rows : Rows B
   proposes_each [] t c = c
   proposes_each (e ∷ es) t c =
       proposes_each es (propose_new same members n e t)
-      (cond_both (stands same (length t.node.applied) t.node.proposer.role e) t (propose same members n e t) (λ u. C u) (λ d. c)
+      (cond_both (stands same (log_length t.node) t.node.proposer.role e) t (propose same members n e t) (λ u. C u) (λ d. c)
       (λ d. proposes e t c))
 
   pushes : (t : Plan B) → C t → C (push same members n t)
@@ -128,7 +128,7 @@ module _ {B : Type 0} (same : B → B → Bool) (members n : ℕ) (rows : Rows B
 
   starting : (t : Plan B) → C t → C (on_start members n t)
   starting t c =
-      cond_both (starts n t.node) (begin members n (new_ballot n t.node.rows.promised t.node.proposer) (suc (length t.node.applied)) t) t
+      cond_both (starts n t.node) (begin members n (new_ballot n t.node.rows.promised t.node.proposer) (suc (log_length t.node)) t) t
       (λ u. C u)
       (λ e. record { is = ap (λ r. with_promise (new_ballot n t.node.rows.promised t.node.proposer) r) c.is; ascends = c.ascends }) (λ e. c)
 
@@ -156,7 +156,7 @@ module _ {B : Type 0} (same : B → B → Bool) (members n : ℕ) (rows : Rows B
       (λ d. record { is = c.is; ascends = c.ascends }) (λ d. applying es (note e t) (record { is = c.is; ascends = c.ascends }))
 
   settling : (t : Plan B) → C t → C (settle n t)
-  settling t c = applying (run_from (suc (length t.node.applied)) t.node.learner.learned) t c
+  settling t c = applying (run_from (suc (log_length t.node)) t.node.learner.learned) t c
 
 pub commits_its_change : {B : Type 0} → CommitsItsChange B
 commits_its_change {B} same members e x up p = (of e p).is

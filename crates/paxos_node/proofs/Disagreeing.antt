@@ -1,5 +1,5 @@
 -- Whether an event disagrees with what was learned: by what its packet brings, or by what the node votes for in it.
-use Rattle.std.proofs.Common.{◌≡◌, ℕ, suc, Bool, true, false, cond, ◌&&◌, Result, Ok, Err, Option, Some, None, [], ◌∷◌, ◌++◌, length, refl, ap, ◌∙◌}
+use Rattle.std.proofs.Common.{◌≡◌, ℕ, suc, Bool, true, false, cond, ◌&&◌, Result, Ok, Err, Option, Some, None, [], ◌∷◌, ◌++◌, refl, ap, ◌∙◌}
 use Rattle.std.specs.Prelude.{IfOk}
 use Rattle.paxos_packets.specs.Body.{IsEquality}
 use Rattle.paxos_packets.specs.declared.entry.Entry.{Entry}
@@ -11,7 +11,7 @@ use Rattle.paxos_learner.specs.Learner.{vote_disagrees}
 use Rattle.paxos_planning.specs.Ticking.{again}
 use Rattle.paxos_acceptor.specs.Acceptor.{may_promise, may_accept}
 use Rattle.paxos_proposer.specs.Proposer.{new_ballot}
-use Rattle.paxos_planning.specs.Node.{NodeState, Plan}
+use Rattle.paxos_planning.specs.Node.{NodeState, Plan, log_length}
 use Rattle.paxos_planning.specs.Plan.{begun, send, with_pending, promise, cast}
 use Rattle.paxos_planning.specs.Proposals.{push}
 use Rattle.paxos_planning.specs.Walking.{proposes_other}
@@ -60,20 +60,20 @@ module _ {B : Type 0} (same : B → B → Bool) (ok : IsEquality same) (members 
       o = record (begun x) { node = with_item n t body x }
 
       go : (b : Bool) → (cond b (push same members n o) (begun x)).disagrees
-          ≡ cond b (proposes_other same members n (length x.applied) x.learner x.proposer.role (x.pending ++ new_item n t body x ∷ [])) false
+          ≡ cond b (proposes_other same members n (log_length x) x.learner x.proposer.role (x.pending ++ new_item n t body x ∷ [])) false
       go true = push_is same ok members n o refl
       go false = refl
   event_is (Tick n) x = push_is same ok members n (send (again members n x.proposer.role x.learner.learned) (begun x)) refl
   event_is (Start n) x = go (starts n x)
     where
-      go : (b : Bool) → (cond b (begin members n (new_ballot n x.rows.promised x.proposer) (suc (length x.applied)) (begun x)) (begun x)).disagrees ≡ false
+      go : (b : Bool) → (cond b (begin members n (new_ballot n x.rows.promised x.proposer) (suc (log_length x)) (begun x)) (begun x)).disagrees ≡ false
       go true = refl
       go false = refl
   event_is (Suspect n other) x = go (new_lost same n other x)
     where
       room : (lost : Entry B) (b : Bool)
           → (cond b (push same members n (record (begun x) { node = with_pending (x.pending ++ lost ∷ []) x })) (begun x)).disagrees
-          ≡ cond b (proposes_other same members n (length x.applied) x.learner x.proposer.role (x.pending ++ lost ∷ [])) false
+          ≡ cond b (proposes_other same members n (log_length x) x.learner x.proposer.role (x.pending ++ lost ∷ [])) false
       room lost true = push_is same ok members n (record (begun x) { node = with_pending (x.pending ++ lost ∷ []) x }) refl
       room lost false = refl
 

@@ -2,7 +2,7 @@
 use Rattle.std.proofs.Common.{◌≡◌, ◌<◌, ◌≤◌, ◌+◌, ◌^◌, ℕ, suc, Bool, true, false, cond, not, ◌&&◌, ◌||◌, Result, Ok, Err, Option, Some, None, List, [], ◌∷◌, ◌++◌, take, length}
 use Rattle.std.proofs.Common.{refl, ap, sym, ◌∙◌, subst, append_assoc, append-nil, arith, eqb}
 use Rattle.std.proofs.lemmas.Bool.{eqb-true}
-use Rattle.std.specs.Prelude.{IfOk}
+use Rattle.std.specs.Prelude.{IfOk, filter}
 use Rattle.paxos_packets.specs.declared.entry.Entry.{Entry}
 use Rattle.paxos_packets.specs.declared.entry.Entry.TheVariants.{Noop, Boot, Lost, Item}
 use Rattle.paxos_proposer.specs.Moves.{after_moves, ArePossible}
@@ -12,15 +12,14 @@ use Rattle.paxos_learner.specs.Learned.{numbered, Rises, Begins}
 use Rattle.paxos_learner.specs.Learner.{run_from}
 use Rattle.paxos_learner.proofs.Beginning.{goes_on}
 use Rattle.replica_machine.specs.declared.roll.Standing.{Standing}
-use Rattle.replica_machine.specs.declared.roll.Standing.TheVariants.{Unknown}
-use Rattle.replica_machine.specs.Roll.{standing, standing_after, is_live}
+use Rattle.replica_machine.specs.Roll.{standing_after, standings_after, is_live, is_wanted_by}
 use Rattle.paxos_node.specs.declared.fault.NodeFault.{NodeFault}
 use Rattle.paxos_node.specs.declared.fault.NodeFault.TheVariants.{Rounds, Full, Disagree, Memory}
 use Rattle.paxos_node.specs.declared.outcome.Outcome.{Outcome}
-use Rattle.paxos_planning.specs.Node.{NodeState, Plan}
+use Rattle.paxos_planning.specs.Node.{NodeState, Plan, log_length}
 use Rattle.paxos_planning.specs.Parts.{proposer_of, learner_of, pending_with}
 use Rattle.paxos_node.specs.Adopting.{pending_behind, front_behind, Settled}
-use Rattle.paxos_node.specs.Applying.{note, ends, down, go_down, apply_all, settle, ends_boot, count_to_end, has_end}
+use Rattle.paxos_node.specs.Applying.{standing_of, note, ends, down, go_down, apply_all, settle, ends_boot, count_to_end, has_end}
 use Rattle.paxos_planning.specs.Front.{AllStand, IsFront}
 use Rattle.paxos_planning.proofs.Planning.{first_full}
 use Rattle.paxos_planning.proofs.Standing.{no_front}
@@ -30,28 +29,33 @@ use Rattle.paxos_planning.specs.declared.effects.Effects.{Effects}
 use Rattle.paxos_node.specs.Outcome.{outcome_with, with_added, added_in}
 use Rattle.paxos_node.specs.Plans.{Answers}
 use Rattle.paxos_node.proofs.Adoption.{length_both}
-use Rattle.paxos_node.proofs.Rolling.{from_last}
+use Rattle.paxos_node.proofs.Rolling.{one_longer}
 
--- an entry ends a boot by what the log says, or by the node's standing
+-- an entry ends a boot by where all nodes stand, or by the node's own standing
 
-ends_alike : {B : Type 0} (me : ℕ) (x : NodeState B) (e : Entry B) → ends me x e ≡ ends_boot me x.rows.boot (standing me x.applied) e
+ends_alike : {B : Type 0} (me : ℕ) (x : NodeState B) (e : Entry B) → ends me x e ≡ ends_boot me x.rows.boot (standing_of x me) e
 ends_alike me x Noop = refl
 ends_alike me x (Boot n b) = refl
 ends_alike me x (Item n b q t y) = refl
 ends_alike me x (Lost n b) = go (eqb n me) (eqb b x.rows.boot) (eqb-true n me) (eqb-true b x.rows.boot)
   where
     go : (t u : Bool) → (t ≡ true → n ≡ me) → (u ≡ true → b ≡ x.rows.boot)
-        → (t && u) && is_live (standing n x.applied) b ≡ (t && u) && is_live (standing me x.applied) x.rows.boot
-    go true true p q = λ i. is_live (standing (p refl i) x.applied) (q refl i)
+        → (t && u) && is_live (standing_of x n) b ≡ (t && u) && is_live (standing_of x me) x.rows.boot
+    go true true p q = λ i. is_live (standing_of x (p refl i)) (q refl i)
     go true false p q = refl
     go false u p q = refl
+
+-- where the nodes stand after one more entry
+
+stands_on : {B : Type 0} (e : Entry B) (t : Plan B) → standings_after (standing_of t.node) e ≡ standing_of (note e t).node
+stands_on e t = one_longer t.node.applied e
 
 -- many entries at once
 
 abbrev pub noted : {B : Type 0} → List (Entry B) → Plan B → Plan B
 noted es t =
     record t {
-      node = record t.node { applied = t.node.applied ++ es; pending = pending_behind t.node.applied es t.node.pending };
+      node = record t.node { applied = t.node.applied ++ es; pending = pending_behind (standing_of t.node) es t.node.pending };
       applied = t.applied ++ es;
     }
 
@@ -66,12 +70,12 @@ noted_more e es t = λ i.
     record t {
       node = record t.node {
         applied = append_assoc t.node.applied (e ∷ []) es i;
-        pending = pending_behind t.node.applied (e ∷ es) t.node.pending;
+        pending = pending_behind (sym (stands_on e t) i) es (filter (is_wanted_by (sym (stands_on e t) i)) t.node.pending);
       };
       applied = append_assoc t.applied (e ∷ []) es i;
     }
 
-pub applied_at_once : {B : Type 0} (me boot : ℕ) (es : List (Entry B)) (s : Standing) (t : Plan B) → standing me t.node.applied ≡ s → t.node.rows.boot ≡ boot
+pub applied_at_once : {B : Type 0} (me boot : ℕ) (es : List (Entry B)) (s : Standing) (t : Plan B) → standing_of t.node me ≡ s → t.node.rows.boot ≡ boot
     → apply_all me es t ≡ ended (has_end me boot s es) (noted (take (count_to_end me boot s es) es) t)
 applied_at_once me boot [] s t p q = sym (noted_none t)
 applied_at_once {B} me boot (e ∷ es) s t p q =
@@ -81,8 +85,8 @@ applied_at_once {B} me boot (e ∷ es) s t p q =
     test : ends me t.node e ≡ ends_boot me boot s e
     test = ends_alike me t.node e ∙ (λ i. ends_boot me (q i) (p i) e)
 
-    stands : standing me (t.node.applied ++ e ∷ []) ≡ standing_after me s e
-    stands = from_last me Unknown t.node.applied e ∙ ap (λ (x : Standing). standing_after me x e) p
+    stands : standing_of (note e t).node me ≡ standing_after me s e
+    stands = (λ i. sym (stands_on e t) i me) ∙ ap (λ (x : Standing). standing_after me x e) p
 
     go : (x : Bool)
         → apply_all me es (note e t)
@@ -135,7 +139,7 @@ ended_up : {B : Type 0} (b : Bool) (t : Plan B) → t.node.up ≡ true → b ≡
 ended_up true t p = refl
 ended_up false t p = sym (ap not p)
 
-ended_log : {B : Type 0} (b : Bool) (t : Plan B) (n : ℕ) → n ≡ length t.node.applied → cond b 0 n ≡ length (ended b t).node.applied
+ended_log : {B : Type 0} (b : Bool) (t : Plan B) (n : ℕ) → n ≡ log_length t.node → cond b 0 n ≡ log_length (ended b t).node
 ended_log true t n p = refl
 ended_log false t n p = p
 
@@ -145,24 +149,25 @@ ended_node false t = refl
 
 -- what stood at the front stands if nothing is applied
 
-still_front : {B : Type 0} (n : ℕ) (role : Role B) (log applied pending : List (Entry B)) (added : Option (Entry B)) → IsFront n (length log) role pending
-    → n ≤ length pending → IsFront (front_behind n applied) (length (log ++ applied)) role (pending_behind log applied (pending_with added pending))
-still_front {B} n role log [] pending added front most = λ same ok leads.
+still_front : {B : Type 0} (n : ℕ) (role : Role B) (log : List (Entry B)) (stands : ℕ → Standing) (applied pending : List (Entry B)) (added : Option (Entry B))
+    → IsFront n (length log) role pending → n ≤ length pending
+    → IsFront (front_behind n applied) (length (log ++ applied)) role (pending_behind stands applied (pending_with added pending))
+still_front {B} n role log stands [] pending added front most = λ same ok leads.
     subst (λ (es : List (Entry B)). AllStand same (length (log ++ [])) role es) (sym (first_full n added pending most))
     (subst (λ (l : List (Entry B)). AllStand same (length l) role (take n pending)) (sym (append-nil log)) (front same ok leads))
-still_front n role log (e ∷ es) pending added front most =
-    no_front (length (log ++ e ∷ es)) role (pending_behind log (e ∷ es) (pending_with added pending))
+still_front n role log stands (e ∷ es) pending added front most =
+    no_front (length (log ++ e ∷ es)) role (pending_behind stands (e ∷ es) (pending_with added pending))
 
 pub settled : {B : Type 0} (k : Known B) (other : Bool) (e : Effects B) (run applied : List (Entry B)) (is_down : Bool) (log front : ℕ)
     → other ≡ false → k.state.up ≡ true
-    → run ≡ run_from (suc (length k.state.applied)) (hear_all e.news.items (learner_of k.members k.state)).learner.learned
-    → applied ≡ take (count_to_end k.me k.state.rows.boot (standing k.me k.state.applied) run) run
-    → is_down ≡ has_end k.me k.state.rows.boot (standing k.me k.state.applied) run
-    → log ≡ cond is_down 0 (length k.state.applied + length applied)
+    → run ≡ run_from (suc (log_length k.state)) (hear_all e.news.items (learner_of k.members k.state)).learner.learned
+    → applied ≡ take (count_to_end k.me k.state.rows.boot (standing_of k.state k.me) run) run
+    → is_down ≡ has_end k.me k.state.rows.boot (standing_of k.state k.me) run
+    → log ≡ cond is_down 0 (log_length k.state + length applied)
     → ArePossible e.moves.items (proposer_of k.me k.members k.state)
     → Begins k.state.applied k.state.learner.learned
     → Rises 0 (hear_all e.news.items (learner_of k.members k.state)).learner.learned
-    → IsFront front (length k.state.applied) (after_moves e.moves.items (proposer_of k.me k.members k.state)).proposer.role k.state.pending
+    → IsFront front (log_length k.state) (after_moves e.moves.items (proposer_of k.me k.members k.state)).proposer.role k.state.pending
     → front ≤ length k.state.pending
     → Settled k.me k.members k.state (plan_with_effects k other e) (with_added k.added (outcome_with e applied is_down log (front_behind front applied)))
 settled {B} k other e run applied is_down log front agree up run_is applied_is down_is log_is moves begins rises stand most =
@@ -174,8 +179,8 @@ settled {B} k other e run applied is_down log front agree up run_is applied_is d
       is_down = ended_up is_down now up ∙ ap (λ (u : Plan B). not u.node.up) (sym whole);
       fits = record { moves = moves; applied = goes; within = within; front = fronts };
       node = ended_node is_down now ∙ ap (λ (u : Plan B). u.node) (sym whole);
-      log = log_is ∙ ended_log is_down now (length k.state.applied + length applied) (sym (length_both k.state.applied applied))
-          ∙ ap (λ (u : Plan B). length u.node.applied) (sym whole);
+      log = log_is ∙ ended_log is_down now (log_length k.state + length applied) (sym (length_both k.state.applied applied))
+          ∙ ap (λ (u : Plan B). log_length u.node) (sym whole);
     }
   where
     learned : List (LearnedEntry B)
@@ -185,7 +190,7 @@ settled {B} k other e run applied is_down log front agree up run_is applied_is d
     role = (after_moves e.moves.items (proposer_of k.me k.members k.state)).proposer.role
 
     s : Standing
-    s = standing k.me k.state.applied
+    s = standing_of k.state k.me
 
     boot : ℕ
     boot = k.state.rows.boot
@@ -195,7 +200,7 @@ settled {B} k other e run applied is_down log front agree up run_is applied_is d
 
     whole : settle k.me (plan_with_effects k other e) ≡ ended is_down now
     whole =
-        applied_at_once k.me boot (run_from (suc (length k.state.applied)) learned) s (plan_with_effects k other e) refl refl
+        applied_at_once k.me boot (run_from (suc (log_length k.state)) learned) s (plan_with_effects k other e) refl refl
         ∙ ap (λ (r : List (Entry B)). ended (has_end k.me boot s r) (noted (take (count_to_end k.me boot s r) r) (plan_with_effects k other e))) (sym run_is)
         ∙ (λ i. ended (sym down_is i) (noted (sym applied_is i) (plan_with_effects k other e)))
 
@@ -205,10 +210,10 @@ settled {B} k other e run applied is_down log front agree up run_is applied_is d
         (ap (λ (r : List (Entry B)). take (count_to_end k.me boot s run) r) (sym run_is) ∙ sym applied_is)
         (goes_on k.state.applied e.news.items (learner_of k.members k.state) (count_to_end k.me boot s run) begins rises)
 
-    fronts : IsFront (front_behind front applied) (length (k.state.applied ++ applied)) role (pending_behind k.state.applied applied (pending_with k.added k.state.pending))
-    fronts = still_front front role k.state.applied applied k.state.pending k.added stand most
+    fronts : IsFront (front_behind front applied) (length (k.state.applied ++ applied)) role (pending_behind (standing_of k.state) applied (pending_with k.added k.state.pending))
+    fronts = still_front front role k.state.applied (standing_of k.state) applied k.state.pending k.added stand most
 
-    within : length k.state.applied + length applied < 2 ^ 40
+    within : log_length k.state + length applied < 2 ^ 40
     within =
         let h = short 0 (k.state.applied ++ applied) learned goes rises in
         let l = length_both k.state.applied applied in
@@ -224,7 +229,7 @@ applied_disagrees {B} me (e ∷ es) t = go (ends me t.node e) (applied_disagrees
     go false h = h
 
 pub settled_disagrees : {B : Type 0} (me : ℕ) (t : Plan B) → (settle me t).disagrees ≡ t.disagrees
-settled_disagrees me t = applied_disagrees me (run_from (suc (length t.node.applied)) t.node.learner.learned) t
+settled_disagrees me t = applied_disagrees me (run_from (suc (log_length t.node)) t.node.learner.learned) t
 
 -- if no entry becomes pending
 

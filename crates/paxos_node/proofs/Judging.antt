@@ -1,5 +1,5 @@
 -- A node treats Prepare and Accept as its acceptor does: what is applied at the end changes no row, and sends nothing.
-use Rattle.std.proofs.Common.{◌≡◌, ℕ, suc, Bool, true, false, cond, refl, List, [], ◌∷◌, length}
+use Rattle.std.proofs.Common.{◌≡◌, ℕ, suc, Bool, true, false, cond, refl, List, [], ◌∷◌}
 use Rattle.std.proofs.lemmas.Bool.{cond_both}
 use Rattle.paxos_packets.specs.Packet.{packet}
 use Rattle.paxos_packets.specs.Vote.{votes_from}
@@ -11,9 +11,10 @@ use Rattle.paxos_packets.specs.declared.rows.Rows.{Rows}
 use Rattle.paxos_packets.specs.declared.vote.Vote.{Vote}
 use Rattle.paxos_acceptor.specs.declared.verdict.Verdict.{Verdict}
 use Rattle.paxos_acceptor.specs.declared.verdict.Answer.TheVariants.{ToSender, ToOthers}
-use Rattle.paxos_acceptor.specs.Acceptor.{may_promise, may_accept, adopted, answers, judged, refused, promise_change, vote_change}
+use Rattle.paxos_acceptor.specs.Acceptor.{may_promise, may_accept, adopted, answers, judged, refused}
+use Rattle.paxos_packets.specs.Rows.{promise_change, vote_change}
 use Rattle.paxos_learner.specs.Learner.{run_from}
-use Rattle.paxos_planning.specs.Node.{NodeState, Plan}
+use Rattle.paxos_planning.specs.Node.{NodeState, Plan, log_length}
 use Rattle.paxos_planning.specs.Plan.{begun, send, promise, cast}
 use Rattle.paxos_planning.specs.Replies.{saw, refuse}
 use Rattle.paxos_node.specs.Applying.{note, ends, go_down, apply_all, settle}
@@ -37,7 +38,7 @@ module _ {B : Type 0} (members me sender : ℕ) (rows : Rows B) (j : Verdict B) 
       (λ d. applying es (note e t) (record { change = g.change; packets = g.packets; now = g.now }))
 
   settling : (t : Plan B) → G t → G (settle me t)
-  settling t g = applying (run_from (suc (length t.node.applied)) t.node.learner.learned) t g
+  settling t g = applying (run_from (suc (log_length t.node)) t.node.learner.learned) t g
 
 abbrev at : {B : Type 0} (x : NodeState B) (p : Packet B) → Plan B
 at x p = record (begun x) { node = saw p.kind x }

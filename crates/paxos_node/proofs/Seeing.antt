@@ -1,5 +1,5 @@
 -- A node that is up has seen the rounds that it promised, and that of its own ballot.
-use Rattle.std.proofs.Common.{◌≡◌, ℕ, suc, ◌≤◌, Bool, true, false, cond, not, ◌&&◌, max, refl, arith, List, [], ◌∷◌, ◌++◌, length, Option, Some, None}
+use Rattle.std.proofs.Common.{◌≡◌, ℕ, suc, ◌≤◌, Bool, true, false, cond, not, ◌&&◌, max, refl, arith, List, [], ◌∷◌, ◌++◌, Option, Some, None}
 use Rattle.std.specs.Prelude.{nat_lt}
 use Rattle.std.proofs.lemmas.Bool.{cond_both}
 use Rattle.paxos_packets.specs.Members.{is_majority}
@@ -21,7 +21,7 @@ use Rattle.paxos_proposer.specs.Reports.{is_counted, reports, called_for}
 use Rattle.paxos_learner.specs.Learner.{run_from}
 use Rattle.paxos_node.specs.declared.event.Event.{Event}
 use Rattle.paxos_node.specs.declared.event.Event.TheVariants.{Take, Tick, Start, Suspect, Deliver, Crash, Restart}
-use Rattle.paxos_planning.specs.Node.{Plan}
+use Rattle.paxos_planning.specs.Node.{Plan, log_length}
 use Rattle.paxos_planning.specs.Plan.{with_role, with_pending, begun, send, promise, cast}
 use Rattle.paxos_planning.specs.Proposals.{offer, propose_as, propose, propose_all, lead, stands, propose_new, propose_each, forwarded, push}
 use Rattle.paxos_planning.specs.Replies.{round_in, saw, refuse, count_promise, on_promise_as, on_packet}
@@ -96,7 +96,7 @@ module _ {B : Type 0} (same : B → B → Bool) (members n : ℕ) where
   proposes_each [] t s = s
   proposes_each (e ∷ es) t s =
       proposes_each es (propose_new same members n e t)
-      (cond_both (stands same (length t.node.applied) t.node.proposer.role e) t (propose same members n e t) (λ u. S u) (λ d. s)
+      (cond_both (stands same (log_length t.node) t.node.proposer.role e) t (propose same members n e t) (λ u. S u) (λ d. s)
       (λ d. proposes e t s))
 
   pushes : (t : Plan B) → S t → S (push same members n t)
@@ -148,7 +148,7 @@ module _ {B : Type 0} (same : B → B → Bool) (members n : ℕ) where
 
   starting : (t : Plan B) → S t → S (on_start members n t)
   starting t s =
-      cond_both (starts n t.node) (begin members n b (suc (length t.node.applied)) t) t (λ u. S u)
+      cond_both (starts n t.node) (begin members n b (suc (log_length t.node)) t) t (λ u. S u)
       (λ e. record { promised = omega arith; under_way = omega arith }) (λ e. s)
     where
       b : Ballot
@@ -187,7 +187,7 @@ module _ {B : Type 0} (same : B → B → Bool) (members n : ℕ) where
       (λ d. applying es (note e t) (λ up. let k = s up in record { promised = k.promised; under_way = k.under_way }))
 
   settling : (t : Plan B) → U t → U (settle n t)
-  settling t s = applying (run_from (suc (length t.node.applied)) t.node.learner.learned) t s
+  settling t s = applying (run_from (suc (log_length t.node)) t.node.learner.learned) t s
 
 raised_seen : (a b c : ℕ) → a ≤ b → a ≤ max b c
 raised_seen a b c l = omega arith

@@ -1,14 +1,18 @@
 -- Learned entries are applied in the order of slots, none skipped; and a node that is down, or that has just begun
 -- (docs/CONSENSUS.md, "One node" and "Events").
-use Rattle.std.specs.Prelude.{ℕ, suc, Bool, true, false, ◌&&◌, ◌||◌, ◌==◌, None, List, [], ◌∷◌, ◌++◌, filter, length, if◌then◌else◌}
+use Rattle.std.specs.Prelude.{ℕ, suc, Bool, true, false, ◌&&◌, ◌||◌, ◌==◌, List, [], ◌∷◌, ◌++◌, filter, if◌then◌else◌}
 use Rattle.paxos_packets.specs.declared.entry.Entry.{Entry}
 use Rattle.paxos_packets.specs.declared.entry.Entry.TheVariants.{Noop, Boot, Lost, Item}
 use Rattle.paxos_packets.specs.declared.rows.Rows.{Rows}
 use Rattle.paxos_proposer.specs.Proposer.{round_of, resting}
 use Rattle.paxos_learner.specs.Learner.{unheard, run_from}
 use Rattle.replica_machine.specs.declared.roll.Standing.{Standing}
-use Rattle.replica_machine.specs.Roll.{takes_effect, is_wanted, is_live, standing_after}
-use Rattle.paxos_planning.specs.Node.{NodeState, Plan}
+use Rattle.replica_machine.specs.Roll.{takes_by, is_wanted_by, is_live, standings, standing_after}
+use Rattle.paxos_planning.specs.Node.{NodeState, Plan, log_length}
+
+-- where each node stands after the node's log
+abbrev pub standing_of : {B : Type 0} → NodeState B → ℕ → Standing
+standing_of x = standings x.applied
 
 -- a node that has only its rows
 abbrev pub down : {B : Type 0} → Rows B → NodeState B
@@ -27,15 +31,15 @@ started me rows =
       taken = 0;
     }
 
--- the rows of a node's first start
-abbrev pub first_rows : {B : Type 0} → Rows B
-first_rows = record { boot = 1; promised = None; votes = [] }
+-- what its log settles is no longer pending
+abbrev pub keep_wanted : {B : Type 0} → NodeState B → NodeState B
+keep_wanted x = record x { pending = filter (is_wanted_by (standing_of x)) x.pending }
 
 -- the entry is the next one of the log, and what it settles is no longer pending
 abbrev pub note : {B : Type 0} → Entry B → Plan B → Plan B
 note e o =
     record o {
-      node = record o.node { applied = o.node.applied ++ e ∷ []; pending = filter (is_wanted (o.node.applied ++ e ∷ [])) o.node.pending };
+      node = keep_wanted (record o.node { applied = o.node.applied ++ e ∷ [] });
       applied = o.applied ++ e ∷ [];
     }
 
@@ -47,7 +51,7 @@ is_own_lost me boot (Lost n b) = (n == me) && (b == boot)
 is_own_lost me boot (Item n b q t x) = false
 
 abbrev pub ends : {B : Type 0} → ℕ → NodeState B → Entry B → Bool
-ends me x e = is_own_lost me x.rows.boot e && takes_effect x.applied e
+ends me x e = is_own_lost me x.rows.boot e && takes_by (standing_of x) e
 
 abbrev pub go_down : {B : Type 0} → Plan B → Plan B
 go_down o = record o { node = down o.node.rows }
@@ -59,7 +63,7 @@ apply_all me (e ∷ es) o = if ends me o.node e then go_down (note e o) else app
 
 -- the learned entries of the next slots are applied
 abbrev pub settle : {B : Type 0} → ℕ → Plan B → Plan B
-settle me o = apply_all me (run_from (suc (length o.node.applied)) o.node.learner.learned) o
+settle me o = apply_all me (run_from (suc (log_length o.node)) o.node.learner.learned) o
 
 -- the same, stated by the node's standing: whether an entry is the loss of its boot, after how many of the entries that is so, and whether
 -- one of them is that loss

@@ -6,7 +6,8 @@ use Rattle.paxos_packets.specs.Entry.{same_entry}
 use Rattle.paxos_packets.specs.Rows.{last_boot, raised}
 use Rattle.paxos_packets.specs.declared.entry.Entry.{Entry}
 use Rattle.paxos_packets.specs.declared.entry.Entry.TheVariants.{Boot, Lost, Item}
-use Rattle.replica_machine.specs.Roll.{standing, live_in}
+use Rattle.paxos_packets.specs.declared.packet.Packet.{Packet}
+use Rattle.replica_machine.specs.Roll.{live_in}
 use Rattle.paxos_planning.specs.Node.{NodeState, Plan}
 use Rattle.paxos_planning.specs.Plan.{with_pending, begun}
 use Rattle.paxos_planning.specs.Proposals.{push}
@@ -15,7 +16,7 @@ use Rattle.paxos_planning.specs.Starting.{starts, on_start}
 use Rattle.paxos_planning.specs.Ticking.{on_tick}
 use Rattle.paxos_node.specs.declared.event.Event.{Event}
 use Rattle.paxos_node.specs.declared.event.Event.TheVariants.{Take, Tick, Start, Suspect, Deliver, Crash, Restart}
-use Rattle.paxos_node.specs.Applying.{started, go_down, settle}
+use Rattle.paxos_node.specs.Applying.{standing_of, started, go_down, settle}
 
 -- the greatest number of an act, and how many entries may be pending
 unfoldable pub last_number : ℕ
@@ -54,7 +55,7 @@ new_lost_of same other None pending = None
 new_lost_of same other (Some b) pending = if is_pending same pending (Lost other b) then None else Some (Lost other b)
 
 abbrev pub new_lost : {B : Type 0} → (B → B → Bool) → ℕ → ℕ → NodeState B → Option (Entry B)
-new_lost same me other x = if other == me then None else new_lost_of same other (live_in (standing other x.applied)) x.pending
+new_lost same me other x = if other == me then None else new_lost_of same other (live_in (standing_of x other)) x.pending
 
 abbrev pub suspected : {B : Type 0} → (B → B → Bool) → ℕ → ℕ → Option (Entry B) → Plan B → Plan B
 suspected same members me None o = o
@@ -75,15 +76,16 @@ owner (Deliver p) = p.addressee
 owner (Crash n) = n
 owner (Restart n) = n
 
+-- the packet that it delivers
+abbrev pub packet_in : {B : Type 0} → Event B → Option (Packet B)
+packet_in (Deliver p) = Some p
+packet_in _ = None
+
 -- whether it is possible at the node; what isn't changes nothing
 abbrev pub possible : {B : Type 0} → Event B → NodeState B → Bool
 possible (Take n t body) x = x.up && nat_lt 0 t
-possible (Tick n) x = x.up
-possible (Start n) x = x.up
-possible (Suspect n other) x = x.up
-possible (Deliver p) x = x.up
-possible (Crash n) x = x.up
 possible (Restart n) x = not x.up && nat_lt x.rows.boot last_boot
+possible _ x = x.up
 
 -- the node's part of an event, before what was learned is applied
 abbrev pub on_event : {B : Type 0} → (B → B → Bool) → ℕ → Event B → Plan B → Plan B
@@ -102,21 +104,12 @@ outcome_of same members e x = settle (owner e) (on_event same members e (begun x
 -- the refusals that an event may name: there is no round left; there is no room for the act or the suspicion
 abbrev pub is_round_refused : {B : Type 0} → Event B → NodeState B → Bool
 is_round_refused (Start n) x = not (starts n x)
-is_round_refused (Take n t body) x = false
-is_round_refused (Tick n) x = false
-is_round_refused (Suspect n other) x = false
-is_round_refused (Deliver p) x = false
-is_round_refused (Crash n) x = false
-is_round_refused (Restart n) x = false
+is_round_refused _ x = false
 
 abbrev pub is_full_refused : {B : Type 0} → (B → B → Bool) → Event B → NodeState B → Bool
 is_full_refused same (Take n t body) x = not (takes x)
 is_full_refused same (Suspect n other) x = is_some (new_lost same n other x) && not (has_room x)
-is_full_refused same (Tick n) x = false
-is_full_refused same (Start n) x = false
-is_full_refused same (Deliver p) x = false
-is_full_refused same (Crash n) x = false
-is_full_refused same (Restart n) x = false
+is_full_refused same _ x = false
 
 -- the acts, boots and suspicions that an event brings into the world
 abbrev pub taken_by : {B : Type 0} → ℕ → ℕ → B → NodeState B → List (Entry B)
@@ -128,9 +121,6 @@ suspected_by (Some lost) x = if has_room x then lost ∷ [] else []
 
 abbrev pub made_by : {B : Type 0} → (B → B → Bool) → Event B → NodeState B → List (Entry B)
 made_by same (Take n t body) x = taken_by n t body x
-made_by same (Tick n) x = []
-made_by same (Start n) x = []
 made_by same (Suspect n other) x = suspected_by (new_lost same n other x) x
-made_by same (Deliver p) x = []
-made_by same (Crash n) x = []
 made_by same (Restart n) x = Boot n (suc x.rows.boot) ∷ []
+made_by same _ x = []

@@ -11,7 +11,8 @@ use Rattle.paxos_node.specs.declared.event.Event.{Event}
 use Rattle.paxos_node.specs.declared.event.Event.TheVariants.{Take, Start, Deliver}
 use Rattle.paxos_planning.specs.Node.{NodeState, Plan}
 use Rattle.paxos_planning.specs.Plan.{with_role, with_pending}
-use Rattle.paxos_node.specs.Applying.{started, first_rows}
+use Rattle.paxos_packets.specs.Rows.{first_rows, no_change}
+use Rattle.paxos_node.specs.Applying.{started}
 use Rattle.paxos_node.specs.Events.{outcome_of, is_full_refused}
 
 abbrev pub same_number : ℕ → ℕ → Bool
@@ -27,7 +28,7 @@ abbrev pub boot_vote : Vote ℕ
 boot_vote = record { slot = 1; ballot = ballot 1 1; entry = Boot 1 1 }
 
 abbrev pub change : Option Ballot → List (Vote ℕ) → Change ℕ
-change promised votes = record { promised = promised; votes = votes }
+change promised votes = record (no_change {B = ℕ}) { promised = promised; votes = votes }
 
 -- node 1, in its first state, preparing, and leading
 abbrev pub first_node : NodeState ℕ
@@ -41,7 +42,7 @@ led = after (Deliver (packet 2 (Promise (ballot 1 1) []) 1)) asked.node
 
 -- node 1 with this promise
 abbrev pub promised_to : ℕ → ℕ → NodeState ℕ
-promised_to round node = started 1 (record { boot = 1; promised = Some (ballot round node); votes = [] })
+promised_to round node = started 1 (record (first_rows {B = ℕ}) { promised = Some (ballot round node) })
 
 -- node 1 with this many pending entries
 abbrev pub waiting : ℕ → NodeState ℕ

@@ -1,12 +1,12 @@
 -- What a node plans, and what it returns (docs/CONSENSUS.md, "One node").
-use Rattle.std.specs.Prelude.{◌≡◌, ℕ, Bool, true, false, ◌&&◌, ◌==◌, Option, Some, None, [], ◌∷◌, ◌++◌, length, Result, Ok, Err, if◌then◌else◌}
-use Rattle.paxos_acceptor.specs.Acceptor.{no_change}
+use Rattle.std.specs.Prelude.{◌≡◌, ℕ, Bool, true, false, ◌&&◌, ◌==◌, Option, Some, None, [], ◌∷◌, ◌++◌, Result, Ok, Err, if◌then◌else◌}
+use Rattle.paxos_packets.specs.Rows.{no_change}
 use Rattle.paxos_node.specs.declared.event.Event.{Event}
-use Rattle.paxos_node.specs.declared.event.Event.TheVariants.{Take, Tick, Start, Suspect, Deliver, Crash, Restart}
+use Rattle.paxos_node.specs.declared.event.Event.TheVariants.{Take, Tick, Suspect, Deliver, Crash, Restart}
 use Rattle.paxos_node.specs.declared.fault.NodeFault.{NodeFault}
 use Rattle.paxos_node.specs.declared.fault.NodeFault.TheVariants.{Rounds, Full, Disagree, Memory}
 use Rattle.paxos_node.specs.declared.outcome.Outcome.{Outcome}
-use Rattle.paxos_planning.specs.Node.{NodeState, Plan}
+use Rattle.paxos_planning.specs.Node.{NodeState, Plan, log_length}
 use Rattle.paxos_planning.specs.Replies.{brings_other}
 use Rattle.paxos_packets.specs.declared.entry.Entry.{Entry}
 use Rattle.paxos_planning.specs.Walking.{proposes_other}
@@ -16,13 +16,9 @@ use Rattle.paxos_node.specs.Events.{owner, possible, takes, has_room, new_item, 
 
 -- a crash and a restart are not planned: they lose what a node holds
 abbrev pub is_planned : {B : Type 0} → Event B → Bool
-is_planned (Take n t body) = true
-is_planned (Tick n) = true
-is_planned (Start n) = true
-is_planned (Suspect n other) = true
-is_planned (Deliver p) = true
 is_planned (Crash n) = false
 is_planned (Restart n) = false
+is_planned _ = true
 
 -- whether this node plans the event: its own, and possible
 abbrev pub plans : {B : Type 0} → ℕ → Event B → NodeState B → Bool
@@ -43,23 +39,21 @@ unchanged log =
 
 abbrev pub takes_other : {B : Type 0} → (B → B → Bool) → ℕ → ℕ → ℕ → B → NodeState B → Bool
 takes_other same members me t body x =
-    if takes x then proposes_other same members me (length x.applied) x.learner x.proposer.role (x.pending ++ new_item me t body x ∷ [])
+    if takes x then proposes_other same members me (log_length x) x.learner x.proposer.role (x.pending ++ new_item me t body x ∷ [])
     else false
 
 abbrev pub suspects_other : {B : Type 0} → (B → B → Bool) → ℕ → ℕ → Option (Entry B) → NodeState B → Bool
 suspects_other same members me None x = false
 suspects_other same members me (Some lost) x =
-    if has_room x then proposes_other same members me (length x.applied) x.learner x.proposer.role (x.pending ++ lost ∷ [])
+    if has_room x then proposes_other same members me (log_length x) x.learner x.proposer.role (x.pending ++ lost ∷ [])
     else false
 
 abbrev pub finds_other : {B : Type 0} → (B → B → Bool) → ℕ → ℕ → Event B → NodeState B → Bool
 finds_other same members me (Take n t body) x = takes_other same members me t body x
-finds_other same members me (Tick n) x = proposes_other same members me (length x.applied) x.learner x.proposer.role x.pending
-finds_other same members me (Start n) x = false
+finds_other same members me (Tick n) x = proposes_other same members me (log_length x) x.learner x.proposer.role x.pending
 finds_other same members me (Suspect n other) x = suspects_other same members me (new_lost same me other x) x
 finds_other same members me (Deliver p) x = brings_other same members me p.sender p.kind x
-finds_other same members me (Crash n) x = false
-finds_other same members me (Restart n) x = false
+finds_other same members me _ x = false
 
 -- it is the fault of memory
 abbrev pub is_memory : {A : Type 0} → Result A NodeFault → Bool

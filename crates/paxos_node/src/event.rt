@@ -1,5 +1,5 @@
-ghost use Rattle.std.specs.Prelude.{◌≡◌};
-ghost use Rattle.paxos_node.specs.Events.{owner};
+ghost use Rattle.std.specs.Prelude.{◌≡◌, option_map};
+ghost use Rattle.paxos_node.specs.Events.{owner, packet_in};
 
 use paxos_packets::Packet;
 
@@ -35,6 +35,21 @@ impl<B> Event<B> {
             Event::Deliver { packet } => packet.addressee,
             Event::Crash { node } => *node,
             Event::Restart { node } => *node,
+        }
+    }
+
+    /// Returns the packet that the event delivers, if it delivers one. Does not allocate.
+    pub fn packet(&self) -> Option<&Packet<B>>
+        ensures { option_map (λ packet. packet.now) result ≡ packet_in self.now }
+    {
+        match self {
+            Event::Deliver { packet } => Some(packet),
+            Event::Take { .. }
+            | Event::Tick { .. }
+            | Event::Start { .. }
+            | Event::Suspect { .. }
+            | Event::Crash { .. }
+            | Event::Restart { .. } => None,
         }
     }
 }

@@ -1,9 +1,10 @@
 //! What an event makes of a node.
 
-ghost use Rattle.std.specs.Prelude.{◌≡◌, true, false, not, ◌&&◌, is_some, length, Some, None, Ok, Err, IfOk, if◌then◌else◌};
+ghost use Rattle.std.specs.Prelude.{◌≡◌, true, false, not, ◌&&◌, is_some, Some, None, Ok, Err, IfOk, if◌then◌else◌};
 ghost use Rattle.paxos_node.specs.declared.fault.NodeFault.TheVariants.{Disagree as Other, Memory as NoMemory};
 ghost use Rattle.paxos_node.specs.Adopting.{Fits, Settled, Planned};
-ghost use Rattle.paxos_node.specs.Applying.{settle};
+ghost use Rattle.paxos_node.specs.Applying.{standing_of, settle};
+ghost use Rattle.paxos_planning.specs.Node.{log_length};
 ghost use Rattle.paxos_planning.specs.Drafting.{with_pending_entry, seeing, listed};
 ghost use Rattle.paxos_node.specs.Outcome.{with_added, added_in};
 ghost use Rattle.paxos_node.specs.Events.{owner, possible, on_event, on_take, on_suspect, outcome_of, has_room, takes, new_lost, is_pending};
@@ -14,7 +15,7 @@ ghost use Rattle.paxos_node.specs.Plans.{is_planned, plans, unchanged, finds_oth
 ghost use Rattle.paxos_planning.specs.Proposals.{push};
 ghost use Rattle.paxos_planning.specs.Replies.{on_packet, round_in};
 ghost use Rattle.paxos_planning.specs.Plan.{begun};
-ghost use Rattle.replica_machine.specs.Roll.{standing, live_in};
+ghost use Rattle.replica_machine.specs.Roll.{live_in};
 
 use crate::event::Event;
 use crate::fault::NodeFault;
@@ -39,7 +40,7 @@ impl<B: Body> Node<B> {
             Answers (is_round_refused event.now self.now.state) (is_full_refused B.same event.now self.now.state)
             (outcome_of B.same self.now.members event.now self.now.state).disagrees
             (λ outcome. Planned B.same self.now.members event.now self.now.state outcome) result }
-        ensures nothing { plans self.now.me event.now self.now.state ≡ false → result ≡ Ok (unchanged (length self.now.state.applied)) }
+        ensures nothing { plans self.now.me event.now self.now.state ≡ false → result ≡ Ok (unchanged (log_length self.now.state)) }
         ensures fits { IfOk result (λ outcome. Fits self.now.me self.now.members outcome self.now.state) }
         ensures made { plans self.now.me event.now self.now.state ≡ true →
             IfOk result (λ outcome. listed outcome.moves.added ≡ made_by B.same event.now self.now.state) }
@@ -162,7 +163,7 @@ impl<B: Body> Node<B> {
 
     // Returns the outcome that changes nothing.
     fn nothing(&self) -> Outcome<B>
-        ensures value { result ≡ unchanged (length self.now.state.applied) }
+        ensures value { result ≡ unchanged (log_length self.now.state) }
         ensures fits { Fits self.now.me self.now.members result self.now.state }
     {
         self.begins();
@@ -297,7 +298,7 @@ impl<B: Body> Node<B> {
 
     // Returns the other's live boot.
     fn live_boot(&self, other: u8) -> Option<u64>
-        ensures { result ≡ live_in (standing other self.now.state.applied) }
+        ensures { result ≡ live_in (standing_of self.now.state other) }
     {
         self.roll().live(other)
     }

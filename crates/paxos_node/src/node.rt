@@ -2,8 +2,9 @@ ghost use Rattle.std.specs.Prelude.{◌≡◌, ◌↔◌, ◌<◌, ◌≤◌, �
 ghost use Rattle.paxos_node.specs.declared.fault.NodeFault.TheVariants.{Memory, Rounds};
 ghost use Rattle.paxos_packets.specs.Vote.{votes_from};
 ghost use Rattle.paxos_node.specs.Adopting.{adopted, Fits};
+ghost use Rattle.paxos_planning.specs.Node.{log_length};
 ghost use Rattle.paxos_planning.specs.Parts.{proposer_of, learner_of};
-ghost use Rattle.paxos_node.specs.Applying.{down, started};
+ghost use Rattle.paxos_node.specs.Applying.{standing_of, down, started};
 ghost use Rattle.paxos_node.specs.Held.{HasRoom};
 ghost use Rattle.paxos_learner.specs.Learned.{Begins};
 ghost use Rattle.paxos_learner.specs.Hearing.{HasRoomFor};
@@ -13,7 +14,7 @@ ghost use Rattle.paxos_proposer.specs.Proposer.{round_of, is_leading, own_ballot
 ghost use Rattle.paxos_planning.specs.Drafting.{known, with_pending_entry};
 ghost use Rattle.paxos_planning.specs.Front.{IsFront};
 ghost use Rattle.paxos_planning.specs.Plan.{begun};
-ghost use Rattle.replica_machine.specs.Roll.{IsRollOf};
+ghost use Rattle.replica_machine.specs.Roll.{HasStandings};
 
 use crate::fault::NodeFault;
 use crate::moves::Moves;
@@ -124,7 +125,7 @@ impl<B> Node<B> {
 
     /// Returns the standing of each node after its log.
     pub fn roll(&self) -> &Roll
-        ensures { IsRollOf self.now.state.applied result.now }
+        ensures { HasStandings (standing_of self.now.state) result.now }
     {
         &self.roll
     }
@@ -152,7 +153,7 @@ impl<B> Node<B> {
 
     // Returns how many of the first pending entries are known to stand.
     pub(crate) fn front(&self) -> usize
-        ensures { IsFront result (length self.now.state.applied) self.now.state.proposer.role self.now.state.pending }
+        ensures { IsFront result (log_length self.now.state) self.now.state.proposer.role self.now.state.pending }
     {
         self.front
     }
@@ -194,7 +195,7 @@ impl<B> Node<B> {
 
     /// Returns how many entries it has applied.
     pub fn applied(&self) -> u64
-        ensures length { result ≡ length self.now.state.applied }
+        ensures length { result ≡ log_length self.now.state }
         ensures within { result < 2 ^ 40 }
     {
         self.applied as u64

@@ -4,7 +4,7 @@ ghost use Rattle.paxos_node.specs.Plans.{unchanged};
 
 use crate::moves::Moves;
 use crate::packets::Packets;
-use paxos_packets::{Change, Entries, Entry, Votes};
+use paxos_packets::{Change, Entries, Entry};
 use paxos_planning::Effects;
 use std::alloc::Global;
 
@@ -28,10 +28,7 @@ impl<B> Outcome<B> {
         ensures { result ≡ unchanged log }
     {
         Outcome {
-            change: Change {
-                promised: None,
-                votes: Votes::new(alloc),
-            },
+            change: Change::none(alloc),
             packets: Packets::of(Vec::new(alloc)),
             applied: Entries::new(alloc),
             is_down: false,

@@ -3,12 +3,13 @@
 ghost use Rattle.std.specs.Prelude.{◌≡◌, ◌<◌, ◌≤◌, ◌+◌, ◌^◌, suc, false, length, true, None, Err, IfOk, OnOk, OnErr, take, if◌then◌else◌};
 ghost use Rattle.paxos_learner.specs.Learner.{run_from};
 ghost use Rattle.paxos_node.specs.declared.fault.NodeFault.TheVariants.{Memory as NoMemory};
+ghost use Rattle.paxos_planning.specs.Node.{log_length};
 ghost use Rattle.paxos_planning.specs.Drafting.{known};
 ghost use Rattle.paxos_planning.specs.Front.{FrontOf};
-ghost use Rattle.replica_machine.specs.Roll.{IsRollOf, standing};
+ghost use Rattle.replica_machine.specs.Roll.{HasStandings};
 ghost use Rattle.paxos_node.specs.Adopting.{Settled, front_behind};
 ghost use Rattle.paxos_node.specs.Outcome.{with_added};
-ghost use Rattle.paxos_node.specs.Applying.{settle, is_own_lost, ends_boot, count_to_end, has_end};
+ghost use Rattle.paxos_node.specs.Applying.{standing_of, settle, is_own_lost, ends_boot, count_to_end, has_end};
 ghost use Rattle.paxos_node.specs.Plans.{Answers, Answered};
 
 use crate::fault::NodeFault;
@@ -66,7 +67,7 @@ impl<B: Body> Node<B> {
 // Returns what is to be applied at the event's end, once its own part is done.
 fn run_of<B: Body>(draft: &Draft<'_, B>, done: Result<(), Memory>) -> Result<Entries<B>, NodeFault>
     ensures run { OnOk done (Answers false false draft.now.plan.disagrees
-        (λ run. run ≡ run_from (suc (length draft.now.of.state.applied)) draft.now.plan.node.learner.learned) result) }
+        (λ run. run ≡ run_from (suc (log_length draft.now.of.state)) draft.now.plan.node.learner.learned) result) }
     ensures memory { OnErr done (result ≡ Err NoMemory) }
 {
     let Ok(()) = done else {
@@ -84,9 +85,9 @@ fn run_of<B: Body>(draft: &Draft<'_, B>, done: Result<(), Memory>) -> Result<Ent
 // Returns what the event makes of the node, given what is to be applied.
 fn ended<B: Body>(draft: Draft<'_, B>, run: Entries<B>, roll: &Roll, front: usize) -> Outcome<B>
     requires up { draft.of.state.up ≡ true }
-    requires roll { IsRollOf draft.of.state.applied roll.now }
+    requires roll { HasStandings (standing_of draft.of.state) roll.now }
     requires agrees { draft.plan.disagrees ≡ false }
-    requires run { run ≡ run_from (suc (length draft.of.state.applied)) draft.plan.node.learner.learned }
+    requires run { run ≡ run_from (suc (log_length draft.of.state)) draft.plan.node.learner.learned }
     requires front { FrontOf front draft }
     requires most { front ≤ length draft.of.state.pending }
     ensures settled { Settled draft.entry.of.me draft.entry.of.members draft.entry.of.state draft.entry.plan
@@ -114,8 +115,8 @@ fn front_behind<B>(front: usize, applied: &[Entry<B>]) -> usize
 
 // Returns the node's standing after its log.
 fn standing_in<B>(draft: &Draft<'_, B>, roll: &Roll) -> Standing
-    requires { IsRollOf draft.now.of.state.applied roll.now }
-    ensures { result ≡ standing draft.now.of.me draft.now.of.state.applied }
+    requires { HasStandings (standing_of draft.now.of.state) roll.now }
+    ensures { result ≡ standing_of draft.now.of.state draft.now.of.me }
 {
     roll.standing(draft.me())
 }

@@ -1,8 +1,8 @@
 //! The entries that wait for a slot, and the standing of each node, while learned entries are applied.
 
-ghost use Rattle.std.specs.Prelude.{◌≡◌, ◌≤◌, ◌-◌, [], ◌∷◌, ◌++◌, List, filter, vec_len, vec_capacity};
-ghost use Rattle.paxos_packets.specs.declared.entry.Entry.{Entry};
-ghost use Rattle.replica_machine.specs.Roll.{IsRollOf, is_wanted};
+ghost use Rattle.std.specs.Prelude.{◌≡◌, ◌≤◌, ◌-◌, ℕ, filter, vec_len, vec_capacity};
+ghost use Rattle.replica_machine.specs.declared.roll.Standing.{Standing};
+ghost use Rattle.replica_machine.specs.Roll.{HasStandings, is_wanted_by, standings_after, standings_from};
 ghost use Rattle.paxos_planning.specs.Parts.{pending_with, counted_with, taken_with};
 ghost use Rattle.paxos_node.specs.Adopting.{pending_behind};
 ghost use Rattle.paxos_node.specs.Held.{additions};
@@ -12,9 +12,9 @@ use replica_machine::Roll;
 
 // Applies the entries, one by one: what each settles is no longer pending.
 pub(crate) fn apply_all<B: Drop>(roll: &mut Roll, pending: &mut Vec<Entry<B>>, entries: &[Entry<B>])
-    ensures roll { (log : List (Entry B)) → IsRollOf log roll.old → IsRollOf (log ++ entries.now) roll.new }
-    ensures pending { (log : List (Entry B)) → IsRollOf log roll.old
-        → pending.new.items ≡ pending_behind log entries.now pending.old.items }
+    ensures roll { (stands : ℕ → Standing) → HasStandings stands roll.old → HasStandings (standings_from stands entries.now) roll.new }
+    ensures pending { (stands : ℕ → Standing) → HasStandings stands roll.old
+        → pending.new.items ≡ pending_behind stands entries.now pending.old.items }
 {
     for entry in entries {
         apply(roll, pending, entry);
@@ -23,22 +23,23 @@ pub(crate) fn apply_all<B: Drop>(roll: &mut Roll, pending: &mut Vec<Entry<B>>, e
 
 // Applies the entry.
 fn apply<B: Drop>(roll: &mut Roll, pending: &mut Vec<Entry<B>>, entry: &Entry<B>)
-    ensures roll { (log : List (Entry B)) → IsRollOf log roll.old → IsRollOf (log ++ entry.now ∷ []) roll.new }
-    ensures pending { (log : List (Entry B)) → IsRollOf log roll.old
-        → pending.new.items ≡ filter (is_wanted (log ++ entry.now ∷ [])) pending.old.items }
+    ensures roll { (stands : ℕ → Standing) → HasStandings stands roll.old → HasStandings (standings_after stands entry.now) roll.new }
+    ensures pending { (stands : ℕ → Standing) → HasStandings stands roll.old
+        → pending.new.items ≡ filter (is_wanted_by (standings_after stands entry.now)) pending.old.items }
 {
     advance(roll, entry);
     keep_wanted(roll, pending);
 }
 
 fn advance<B>(roll: &mut Roll, entry: &Entry<B>)
-    ensures { (log : List (Entry B)) → IsRollOf log roll.old → IsRollOf (log ++ entry.now ∷ []) roll.new }
+    ensures { (stands : ℕ → Standing) → HasStandings stands roll.old → HasStandings (standings_after stands entry.now) roll.new }
 {
     let _took = roll.take(entry);
 }
 
 fn keep_wanted<B: Drop>(roll: &Roll, pending: &mut Vec<Entry<B>>)
-    ensures { (log : List (Entry B)) → IsRollOf log roll.now → pending.new.items ≡ filter (is_wanted log) pending.old.items }
+    ensures { (stands : ℕ → Standing) → HasStandings stands roll.now
+        → pending.new.items ≡ filter (is_wanted_by stands) pending.old.items }
 {
     pending.retain(|entry| roll.wants(entry));
 }

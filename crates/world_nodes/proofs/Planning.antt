@@ -5,7 +5,7 @@ use Rattle.std.proofs.lemmas.Bool.{cond_both, cond-false, and_parts}
 use Rattle.paxos_packets.specs.declared.entry.Entry.{Entry}
 use Rattle.paxos_acceptor.specs.Acceptor as accepting
 use Rattle.paxos_node.specs.declared.event.Event.{Event}
-use Rattle.paxos_node.specs.declared.event.Event.TheVariants.{Take, Tick, Start, Suspect, Deliver, Crash, Restart}
+use Rattle.paxos_node.specs.declared.event.Event.TheVariants.{Take, Start, Suspect, Crash, Restart}
 use Rattle.paxos_node.specs.declared.outcome.Outcome.{Outcome}
 use Rattle.paxos_planning.specs.Node.{NodeState, Plan}
 use Rattle.paxos_planning.specs.Plan.{with_pending, begun}
@@ -37,12 +37,7 @@ settle_rest n t r = ap (λ es. apply_all n es t) r
 module _ {B : Type 0} (same : B → B → Bool) (members : ℕ) where
   pub round_refused : (e : Event B) (x : NodeState B) → IsAtRest x → is_round_refused e x ≡ true → outcome_of same members e x ≡ begun x
   round_refused (Start n) x rest r = ap (λ t. settle n t) (cond-false (starts n x) _ (begun x) (is_false (starts n x) r)) ∙ settle_rest n (begun x) rest
-  round_refused (Take n t body) x rest r = absurd (off r)
-  round_refused (Tick n) x rest r = absurd (off r)
-  round_refused (Suspect n other) x rest r = absurd (off r)
-  round_refused (Deliver p) x rest r = absurd (off r)
-  round_refused (Crash n) x rest r = absurd (off r)
-  round_refused (Restart n) x rest r = absurd (off r)
+  round_refused _ x rest r = absurd (off r)
 
   suspected_refused : (n : ℕ) (x : NodeState B) (lost : Option (Entry B)) → has_room x ≡ false → suspected same members n lost (begun x) ≡ begun x
   suspected_refused n x None f = refl
@@ -59,22 +54,15 @@ module _ {B : Type 0} (same : B → B → Bool) (members : ℕ) where
       (suspected_refused n x (new_lost same n other x)
       (is_false (has_room x) (and_parts (is_some (new_lost same n other x)) (not (has_room x)) r).1))
       ∙ settle_rest n (begun x) rest
-  full_refused (Tick n) x rest r = absurd (off r)
-  full_refused (Start n) x rest r = absurd (off r)
-  full_refused (Deliver p) x rest r = absurd (off r)
-  full_refused (Crash n) x rest r = absurd (off r)
-  full_refused (Restart n) x rest r = absurd (off r)
+  full_refused _ x rest r = absurd (off r)
 
 -- and makes nothing
 module _ {B : Type 0} (same : B → B → Bool) where
   pub round_makes : (e : Event B) (x : NodeState B) → is_round_refused e x ≡ true → [] ≡ made_by same e x
-  round_makes (Start n) x r = refl
   round_makes (Take n t body) x r = absurd (off r)
-  round_makes (Tick n) x r = refl
   round_makes (Suspect n other) x r = absurd (off r)
-  round_makes (Deliver p) x r = refl
-  round_makes (Crash n) x r = refl
   round_makes (Restart n) x r = absurd (off r)
+  round_makes _ x r = refl
 
   suspected_makes : (lost : Option (Entry B)) (x : NodeState B) → has_room x ≡ false → [] ≡ suspected_by lost x
   suspected_makes None x f = refl
@@ -85,21 +73,15 @@ module _ {B : Type 0} (same : B → B → Bool) where
   full_makes (Suspect n other) x r =
       suspected_makes (new_lost same n other x) x
       (is_false (has_room x) (and_parts (is_some (new_lost same n other x)) (not (has_room x)) r).1)
-  full_makes (Tick n) x r = refl
-  full_makes (Start n) x r = refl
-  full_makes (Deliver p) x r = refl
-  full_makes (Crash n) x r = refl
   full_makes (Restart n) x r = absurd (off r)
+  full_makes _ x r = refl
 
 -- what a node plans is possible at one that is up alone
 planned_up : {B : Type 0} (e : Event B) (x : NodeState B) → is_planned e ≡ true → possible e x ≡ true → x.up ≡ true
 planned_up (Take n t body) x p h = (and_parts x.up (nat_lt 0 t) h).0
-planned_up (Tick n) x p h = h
-planned_up (Start n) x p h = h
-planned_up (Suspect n other) x p h = h
-planned_up (Deliver q) x p h = h
 planned_up (Crash n) x p h = absurd (off p)
 planned_up (Restart n) x p h = absurd (off p)
+planned_up _ x p h = h
 
 pub plans_up : {B : Type 0} (me : ℕ) (e : Event B) (x : NodeState B) → plans me e x ≡ true → x.up ≡ true
 plans_up me e x h =

@@ -1,9 +1,9 @@
 -- What callers see of one member of a cluster: its number, the members, and its node, which runs or has only its rows.
-use Rattle.std.specs.Prelude.{◌≡◌, ℕ, suc, true, Option, Some, None, List, [], length}
+use Rattle.std.specs.Prelude.{◌≡◌, ℕ, suc, true, Option, Some, None, List, []}
 use Rattle.paxos_learner.specs.Learner.{run_from}
 use Rattle.paxos_packets.specs.declared.entry.Entry.{Entry}
 use Rattle.paxos_planning.specs.Drafting.{listed}
-use Rattle.paxos_planning.specs.Node.{NodeState}
+use Rattle.paxos_planning.specs.Node.{NodeState, log_length}
 use Rattle.paxos_node.specs.Applying.{down}
 use Rattle.paxos_node.specs.Held.{HasRoom}
 use Rattle.paxos_node.specs.declared.outcome.Outcome.{Outcome}
@@ -39,7 +39,7 @@ HasRoomIn o (Down rows) = ⊥
 
 -- nothing that it learned waits to be applied
 abbrev pub IsAtRest : {B : Type 0} → NodeState B → Type 0
-IsAtRest x = run_from (suc (length x.applied)) x.learner.learned ≡ []
+IsAtRest x = run_from (suc (log_length x)) x.learner.learned ≡ []
 
 -- what an event that is planned so brings into the world; nothing if it is refused
 abbrev pub made_in : {B : Type 0} → Option (Outcome B) → List (Entry B)

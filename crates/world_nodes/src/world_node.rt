@@ -1,15 +1,16 @@
 ghost use Rattle.std.specs.Prelude.{◌≡◌, ◌<◌, ◌^◌, length, true, false, IfOk, OnOk, OnErr, IfSome, IfNone, is_some, option_copied};
-ghost use Rattle.paxos_packets.specs.Rows.{last_boot, raised};
+ghost use Rattle.paxos_packets.specs.Rows.{last_boot, raised, first_rows};
 ghost use Rattle.paxos_node.specs.Adopting.{adopted, Fits, Planned};
-ghost use Rattle.paxos_node.specs.Applying.{down, started, first_rows};
+ghost use Rattle.paxos_node.specs.Applying.{down, started};
 ghost use Rattle.paxos_node.specs.Events.{outcome_of, made_by};
 ghost use Rattle.paxos_node.specs.Held.{HasRoom};
 ghost use Rattle.paxos_node.specs.Plans.{plans};
+ghost use Rattle.paxos_planning.specs.Node.{log_length};
 ghost use Rattle.paxos_planning.specs.Plan.{begun};
 ghost use Rattle.world_nodes.specs.Nodes.{node_in, node_of, went_down, made_in, IsOfMember, HasRoomIn, IsAtRest};
 
 use paxos_node::{Event, Node, NodeFault, Outcome, Packets};
-use paxos_packets::{Body, Entries, Members, Memory, Rows, Votes};
+use paxos_packets::{Body, Entries, Members, Memory, Rows};
 use std::alloc::Global;
 use std::marker::Model;
 use std::mem;
@@ -75,7 +76,7 @@ impl<B> WorldNode<B> {
 
     /// Returns how many entries its node has applied, or 0 if it is down. Does not allocate.
     pub fn applied(&self) -> u64
-        ensures length { result ≡ length (node_of self.now).applied }
+        ensures length { result ≡ log_length (node_of self.now) }
         ensures within { result < 2 ^ 40 }
     {
         match &self.status {
@@ -102,12 +103,7 @@ impl<B: Drop> WorldNode<B> {
         ensures members { IfOk result (λ node. node.members ≡ members) }
         ensures node { IfOk result (λ node. node_of node ≡ started me first_rows) }
     {
-        let rows = Rows {
-            boot: 1,
-            promised: None,
-            votes: Votes::new(alloc),
-        };
-        match Node::of(alloc, me, members, rows) {
+        match Node::of(alloc, me, members, Rows::first(alloc)) {
             Ok(node) => Ok(WorldNode {
                 alloc,
                 me,
@@ -231,12 +227,8 @@ fn make_room<B: Body>(node: &mut Node<B>, outcome: &Outcome<B>) -> Result<(), Me
 fn take_rows<B: Drop>(alloc: Global, status: &mut NodeStatus<B>) -> Rows<B>
     ensures { result ≡ (node_in status.old).rows }
 {
-    let nothing = Rows {
-        boot: 0,
-        promised: None,
-        votes: Votes::new(alloc),
-    };
-    match mem::replace(status, NodeStatus::Down(nothing)) {
+    let nothing = NodeStatus::Down(Rows::first(alloc));
+    match mem::replace(status, nothing) {
         NodeStatus::Up(node) => node.into_rows(),
         NodeStatus::Down(rows) => rows,
     }

@@ -1,5 +1,5 @@
 -- The parts of a course, one after the other, are the course.
-use Rattle.std.proofs.Common.{◌≡◌, ℕ, suc, ◌+◌, ◌<◌, ◌≤◌, ◌^◌, max, Bool, true, false, List, [], ◌∷◌, ◌++◌, length, refl, sym, ap, ◌∙◌, arith, append_assoc, length-append}
+use Rattle.std.proofs.Common.{◌≡◌, ℕ, suc, ◌+◌, ◌<◌, ◌≤◌, ◌^◌, max, Bool, true, false, List, [], ◌∷◌, ◌++◌, length, refl, sym, ap, ◌∙◌, arith, append_assoc}
 use Rattle.std.proofs.lemmas.Bool.{leb-true}
 use Rattle.std.specs.Prelude.{filter, if◌then◌else◌}
 use Rattle.paxos_packets.specs.Rows.{last_boot}
@@ -15,11 +15,14 @@ use Rattle.paxos_proposer.specs.State.{State, begun, saw}
 use Rattle.paxos_node.specs.Events.{last_number}
 use Rattle.paxos_node.specs.declared.event.Event.{Event}
 use Rattle.paxos_node.specs.declared.event.Event.TheVariants.{Restart}
-use Rattle.replica_machine.specs.Roll.{is_wanted}
+use Rattle.paxos_node.specs.Applying.{standing_of}
+use Rattle.replica_machine.specs.declared.roll.Standing.{Standing}
+use Rattle.replica_machine.specs.Roll.{standings_from, is_wanted_by}
 use Rattle.world_rescue.proofs.Listing.{joined}
 use Rattle.world_rescue.specs.Course.{Crew, Act, take, item_of, look, lead, led, pass, propose_new, entries_of, seen, ballot_after, first_role, first_votes}
-use Rattle.world_rescue.specs.Course.{first_pass, falls, log_then, goes_on, comes_back, course}
+use Rattle.world_rescue.specs.Course.{first_pass, falls, length_then, goes_on, comes_back, course}
 use Rattle.world_rescue.specs.Parts.{goes_on_from, role_again, comes_back_from}
+use Rattle.paxos_planning.specs.Node.{log_length}
 
 -- the limits
 
@@ -46,17 +49,17 @@ next_of {B} n members r s p =
 
 module _ {B : Type 0} (same : B → B → Bool) (c : Crew B) (a : Act B) where
   -- the node stays up
-  pub stays : (now : List (Entry B)) (log : ℕ) (r role : Role B) (e0 e1 e2 : List (Event B)) (kept own pending : List (Entry B)) (votes : List (Vote B))
-      → e1 ≡ e0 ++ take c.own.number a ∷ [] → own ≡ c.own.node.pending → kept ≡ filter (is_wanted now) own
+  pub stays : (stands : ℕ → Standing) (log : ℕ) (r role : Role B) (e0 e1 e2 : List (Event B)) (kept own pending : List (Entry B)) (votes : List (Vote B))
+      → e1 ≡ e0 ++ take c.own.number a ∷ [] → own ≡ c.own.node.pending → kept ≡ filter (is_wanted_by stands) own
       → pending ≡ kept ++ item_of c.own.number c.own.node.rows.boot c.own.node.taken a ∷ [] → role ≡ propose_new same log pending r
-      → votes ≡ behind log (proposals_of role) → e2 ≡ e1 ++ pass c.own.number c.helpers votes → e2 ≡ e0 ++ goes_on_from same c a now log r
-  stays now log r role e0 e1 e2 kept own pending votes p q k w h v e =
+      → votes ≡ behind log (proposals_of role) → e2 ≡ e1 ++ pass c.own.number c.helpers votes → e2 ≡ e0 ++ goes_on_from same c a stands log r
+  stays stands log r role e0 e1 e2 kept own pending votes p q k w h v e =
       joined e0 e1 e2 (take c.own.number a ∷ []) (pass c.own.number c.helpers votes) p e
       ∙ ap (λ (vs : List (Vote B)). e0 ++ take c.own.number a ∷ pass c.own.number c.helpers vs)
       (v ∙ ap (λ (x : Role B). behind log (proposals_of x))
       (h ∙ ap (λ (es : List (Entry B)). propose_new same log es r)
       (w ∙ ap (λ (es : List (Entry B)). es ++ item_of c.own.number c.own.node.rows.boot c.own.node.taken a ∷ [])
-      (k ∙ ap (λ (es : List (Entry B)). filter (is_wanted now) es) q))))
+      (k ∙ ap (λ (es : List (Entry B)). filter (is_wanted_by stands) es) q))))
 
   -- the node goes down, and comes back
   pub returns_to : (b : Ballot) (cast votes : List (Vote B)) (e0 e1 e2 e3 e4 : List (Event B)) (pending : List (Entry B)) (s : State B) (role : Role B)
@@ -83,7 +86,7 @@ module _ {B : Type 0} (same : B → B → Bool) (c : Crew B) (a : Act B) where
           (hr ∙ (λ i. led same (ap (λ (t : State B). t.members) hs i) 0 (hp i) (next i) 1 cast c.own c.helpers))
 
   -- the first pass
-  pub passes_first : (e0 e1 e2 : List (Event B)) (applied round : ℕ) (s : State B) (role : Role B) → applied ≡ length c.own.node.applied
+  pub passes_first : (e0 e1 e2 : List (Event B)) (applied round : ℕ) (s : State B) (role : Role B) → applied ≡ log_length c.own.node
       → e1 ≡ e0 ++ look (own_ballot c.own.number c.own.node.proposer) (suc applied) c.helpers → round ≡ seen same c a
       → s ≡ saw round (begun c.own.number c.members)
       → role ≡ led same c.members applied c.own.node.pending (own_ballot c.own.number s.proposer) (suc applied) [] c.own c.helpers
@@ -95,8 +98,8 @@ module _ {B : Type 0} (same : B → B → Bool) (c : Crew B) (a : Act B) where
     joined e0 e1 e2 (look fb (suc applied) c.helpers) (lead b0 (suc applied) [] c.helpers ++ pass c.own.number c.helpers votes) h1 h2
         ∙ (λ i. e0 ++ (look fb (suc (ha i)) c.helpers ++ (lead (next i) (suc (ha i)) [] c.helpers ++ pass c.own.number c.helpers (cast i))))
         ∙ ap (λ (es : List (Event B)). e0 ++ es)
-        (sym (append_assoc (look fb (suc (length c.own.node.applied)) c.helpers)
-        (lead (ballot_after same c a (seen same c a)) (suc (length c.own.node.applied)) [] c.helpers) (pass c.own.number c.helpers (first_votes same c a)))),
+        (sym (append_assoc (look fb (suc (log_length c.own.node)) c.helpers)
+        (lead (ballot_after same c a (seen same c a)) (suc (log_length c.own.node)) [] c.helpers) (pass c.own.number c.helpers (first_votes same c a)))),
     leads,
     next,
     cast,
@@ -130,19 +133,15 @@ module _ {B : Type 0} (same : B → B → Bool) (c : Crew B) (a : Act B) where
       ∙ (λ i. e0 ++ (first_pass same c a ++ comes_back_from same c a (hb i) (hc i)))
       ∙ ap (λ (t : Bool). e0 ++ (first_pass same c a ++ (if t then comes_back same c a else goes_on same c a))) hf
 
-  length_entries : (vs : List (Vote B)) → length (entries_of vs) ≡ length vs
-  length_entries [] = refl
-  length_entries (v ∷ vs) = ap suc (length_entries vs)
-
   pub goes_up : (e0 e2 e3 : List (Event B)) (applied log : ℕ) (cast : List (Vote B)) (r : Role B) → e2 ≡ e0 ++ first_pass same c a
-      → applied ≡ length c.own.node.applied → log ≡ applied + length cast → r ≡ first_role same c a → cast ≡ first_votes same c a
-      → false ≡ falls same c a → e3 ≡ e2 ++ goes_on_from same c a (c.own.node.applied ++ entries_of cast) log r → e3 ≡ e0 ++ course same c a
+      → applied ≡ log_length c.own.node → log ≡ applied + length cast → r ≡ first_role same c a → cast ≡ first_votes same c a
+      → false ≡ falls same c a → e3 ≡ e2 ++ goes_on_from same c a (standings_from (standing_of c.own.node) (entries_of cast)) log r
+      → e3 ≡ e0 ++ course same c a
   goes_up e0 e2 e3 applied log cast r p ha hl hr hc hf h =
-      joined e0 e2 e3 (first_pass same c a) (goes_on_from same c a (c.own.node.applied ++ entries_of cast) log r) p h
-      ∙ (λ i. e0 ++ (first_pass same c a ++ goes_on_from same c a (c.own.node.applied ++ entries_of (hc i)) (whole i) (hr i)))
+      joined e0 e2 e3 (first_pass same c a) (goes_on_from same c a (standings_from (standing_of c.own.node) (entries_of cast)) log r) p h
+      ∙ (λ i. e0 ++ (first_pass same c a
+      ++ goes_on_from same c a (standings_from (standing_of c.own.node) (entries_of (hc i))) (whole i) (hr i)))
       ∙ ap (λ (t : Bool). e0 ++ (first_pass same c a ++ (if t then comes_back same c a else goes_on same c a))) hf
     where
-      whole : log ≡ length (log_then same c a)
-      whole =
-          hl ∙ (λ i. ha i + length (hc i)) ∙ ap (λ (n : ℕ). length c.own.node.applied + n) (sym (length_entries (first_votes same c a)))
-          ∙ sym (length-append c.own.node.applied (entries_of (first_votes same c a)))
+      whole : log ≡ length_then same c a
+      whole = hl ∙ (λ i. ha i + length (hc i))

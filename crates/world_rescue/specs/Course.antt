@@ -1,5 +1,5 @@
 -- The events of a rescue, from what the nodes hold (docs/CONSENSUS.md, "No dead end").
-use Rattle.std.specs.Prelude.{ℕ, suc, max, Bool, Option, Some, None, List, [], ◌∷◌, ◌++◌, map, filter, fold, length, if◌then◌else◌}
+use Rattle.std.specs.Prelude.{ℕ, suc, max, Bool, Option, Some, None, List, [], ◌∷◌, ◌++◌, map, filter, fold, length, ◌+◌, if◌then◌else◌}
 use Rattle.std.specs.List.{flat_map}
 use Rattle.paxos_packets.specs.Ballot.{below}
 use Rattle.paxos_packets.specs.Packet.{packet}
@@ -15,12 +15,13 @@ use Rattle.paxos_proposer.specs.Proposals.{stands, behind}
 use Rattle.paxos_proposer.specs.Proposer.{own_ballot, asking, submitted}
 use Rattle.paxos_proposer.specs.Proposing.{proposals_of}
 use Rattle.paxos_proposer.specs.Role.{Role}
-use Rattle.paxos_planning.specs.Node.{NodeState}
-use Rattle.paxos_node.specs.Applying.{has_end}
+use Rattle.paxos_planning.specs.Node.{NodeState, log_length}
+use Rattle.paxos_node.specs.Applying.{standing_of, has_end}
 use Rattle.paxos_node.specs.Held.{Held}
 use Rattle.paxos_node.specs.declared.event.Event.{Event}
 use Rattle.paxos_node.specs.declared.event.Event.TheVariants.{Take, Start, Deliver, Restart}
-use Rattle.replica_machine.specs.Roll.{standing, is_wanted}
+use Rattle.replica_machine.specs.declared.roll.Standing.{Standing}
+use Rattle.replica_machine.specs.Roll.{standings_from, is_wanted_by}
 
 -- a node that takes part, as it is before the rescue
 pub record Seat (B : Type 0) : Type 0 where
@@ -128,7 +129,7 @@ item_of n boot taken act = Item n boot (suc taken) act.transport act.body
 module _ {B : Type 0} (same : B → B → Bool) (c : Crew B) (act : Act B) where
   -- the length of its log, and the ballots: the one that need not be promised, and the one in which it leads
   abbrev pub applied : ℕ
-  applied = length c.own.node.applied
+  applied = log_length c.own.node
 
   abbrev pub first_ballot : Ballot
   first_ballot = own_ballot c.own.number c.own.node.proposer
@@ -151,22 +152,27 @@ module _ {B : Type 0} (same : B → B → Bool) (c : Crew B) (act : Act B) where
       look first_ballot (suc applied) c.helpers ++ lead (ballot_after seen) (suc applied) [] c.helpers
       ++ pass c.own.number c.helpers first_votes
 
-  abbrev pub log_then : List (Entry B)
-  log_then = c.own.node.applied ++ entries_of first_votes
+  -- the length of its log then, and where each node stands after it
+  abbrev pub length_then : ℕ
+  length_then = log_length c.own.node + length first_votes
+
+  abbrev pub standings_then : ℕ → Standing
+  standings_then = standings_from (standing_of c.own.node) (entries_of first_votes)
 
   -- whether the loss of its boot is among what it applies then
   abbrev pub falls : Bool
-  falls = has_end c.own.number c.own.node.rows.boot (standing c.own.number c.own.node.applied) (entries_of first_votes)
+  falls = has_end c.own.number c.own.node.rows.boot (standing_of c.own.node c.own.number) (entries_of first_votes)
 
   -- the node is up: it takes the act, and proposes what is still pending, the act last
   abbrev pub pending_then : List (Entry B)
-  pending_then = filter (is_wanted log_then) c.own.node.pending ++ item_of c.own.number c.own.node.rows.boot c.own.node.taken act ∷ []
+  pending_then =
+      filter (is_wanted_by standings_then) c.own.node.pending ++ item_of c.own.number c.own.node.rows.boot c.own.node.taken act ∷ []
 
   abbrev pub second_role : Role B
-  second_role = propose_new same (length log_then) pending_then first_role
+  second_role = propose_new same length_then pending_then first_role
 
   abbrev pub second_votes : List (Vote B)
-  second_votes = behind (length log_then) (proposals_of second_role)
+  second_votes = behind length_then (proposals_of second_role)
 
   abbrev pub goes_on : List (Event B)
   goes_on = take c.own.number act ∷ pass c.own.number c.helpers second_votes

@@ -1,4 +1,4 @@
--- The crew by its parts, and how a course goes on after its first pass, by what is known then: the log, its length, the node's role as a proposer, and what was voted for.
+-- The crew by its parts, and how a course goes on after its first pass, by what is known then: where each node stands, the log's length, the node's role as a proposer, and what was voted for.
 use Rattle.std.specs.Prelude.{ℕ, suc, Bool, List, [], ◌∷◌, ◌++◌, filter}
 use Rattle.paxos_packets.specs.declared.ballot.Ballot.{Ballot}
 use Rattle.paxos_packets.specs.declared.entry.Entry.{Entry}
@@ -9,20 +9,21 @@ use Rattle.paxos_proposer.specs.Proposing.{proposals_of}
 use Rattle.paxos_proposer.specs.Role.{Role}
 use Rattle.paxos_node.specs.declared.event.Event.{Event}
 use Rattle.paxos_node.specs.declared.event.Event.TheVariants.{Restart}
-use Rattle.replica_machine.specs.Roll.{is_wanted}
+use Rattle.replica_machine.specs.declared.roll.Standing.{Standing}
+use Rattle.replica_machine.specs.Roll.{is_wanted_by}
 use Rattle.world_rescue.specs.Course.{Seat, Crew, Act, take, item_of, pass, lead, led, propose_new}
 
 abbrev pub crew_of : {B : Type 0} → ℕ → Seat B → List (Seat B) → Crew B
 crew_of members own helpers = record { members = members; own = own; helpers = helpers }
 
--- what is pending then: what is wanted after the log, and the act's Item
-abbrev pub pending_after : {B : Type 0} → Crew B → Act B → List (Entry B) → List (Entry B)
-pending_after c act log =
-    filter (is_wanted log) c.own.node.pending ++ item_of c.own.number c.own.node.rows.boot c.own.node.taken act ∷ []
+-- what is pending then: what is wanted where the nodes stand so, and the act's Item
+abbrev pub pending_after : {B : Type 0} → Crew B → Act B → (ℕ → Standing) → List (Entry B)
+pending_after c act stands =
+    filter (is_wanted_by stands) c.own.node.pending ++ item_of c.own.number c.own.node.rows.boot c.own.node.taken act ∷ []
 
-abbrev pub goes_on_from : {B : Type 0} → (B → B → Bool) → Crew B → Act B → List (Entry B) → ℕ → Role B → List (Event B)
-goes_on_from same c act log length r =
-    take c.own.number act ∷ pass c.own.number c.helpers (behind length (proposals_of (propose_new same length (pending_after c act log) r)))
+abbrev pub goes_on_from : {B : Type 0} → (B → B → Bool) → Crew B → Act B → (ℕ → Standing) → ℕ → Role B → List (Event B)
+goes_on_from same c act stands length r =
+    take c.own.number act ∷ pass c.own.number c.helpers (behind length (proposals_of (propose_new same length (pending_after c act stands) r)))
 
 -- a node that went down leads in the ballot after this one
 abbrev pub role_again : {B : Type 0} → (B → B → Bool) → Crew B → Act B → Ballot → List (Vote B) → Role B

@@ -1,14 +1,15 @@
-ghost use Rattle.std.specs.Prelude.{◌≡◌, ◌<◌, ◌^◌, ℕ, suc, ◌++◌, ◌∷◌, [], List, map, length, IfOk, OnOk};
+ghost use Rattle.std.specs.Prelude.{◌≡◌, ◌<◌, ◌^◌, ℕ, suc, ◌++◌, ◌∷◌, [], map, IfOk, OnOk};
 ghost use Rattle.paxos_node.specs.Events.{last_number};
 ghost use Rattle.paxos_packets.specs.Rows.{last_boot};
-ghost use Rattle.paxos_packets.specs.declared.entry.Entry as log_entries;
 ghost use Rattle.paxos_proposer.specs.Proposals.{behind};
 ghost use Rattle.paxos_proposer.specs.Proposer.{own_ballot};
 ghost use Rattle.paxos_proposer.specs.Proposing.{proposals_of};
 ghost use Rattle.paxos_proposer.specs.State.{begun, saw, role_in};
-ghost use Rattle.replica_machine.specs.Roll.{IsRollOf};
+ghost use Rattle.replica_machine.specs.declared.roll.Standing.{Standing};
+ghost use Rattle.replica_machine.specs.Roll.{HasStandings};
 ghost use Rattle.world_rescue.specs.Course.{act, seat_of, look, seen_then, lead, led, pass, take, item_of, course};
 ghost use Rattle.world_rescue.specs.Parts.{crew_of, goes_on_from, comes_back_from};
+ghost use Rattle.paxos_planning.specs.Node.{log_length};
 
 use crate::bid::{Bid, lead, propose_new};
 use crate::falling::{falls, wanted};
@@ -88,7 +89,7 @@ impl<'a, B: Body> Crew<'a, B> {
     ) -> Result<Ballot, Memory>
         requires me { proposer.old.state.me ≡ self.now.own.number }
         requires members { proposer.old.state.members ≡ self.now.members }
-        requires applied { applied ≡ length self.now.own.node.applied }
+        requires applied { applied ≡ log_length self.now.own.node }
         requires within { applied < 2 ^ 40 }
         ensures events { OnOk result (events.new.items ≡ events.old.items
             ++ (lead (own_ballot self.now.own.number proposer.old.state.proposer) (suc applied) [] self.now.helpers
@@ -144,8 +145,9 @@ impl<'a, B: Body> Crew<'a, B> {
         number: u32,
         body: &B,
     ) -> Result<(), Memory>
-        ensures { (now : List (log_entries.Entry B)) → IsRollOf now roll.now → self.now.own.node.taken < last_number →
-            OnOk result (events.new.items ≡ events.old.items ++ goes_on_from B.same self.now (act number body.now) now log (role_in proposer.old)) }
+        ensures { (stands : ℕ → Standing) → HasStandings stands roll.now → self.now.own.node.taken < last_number →
+            OnOk result (events.new.items ≡ events.old.items
+            ++ goes_on_from B.same self.now (act number body.now) stands log (role_in proposer.old)) }
     {
         self.take(events, number, body)?;
         let mut pending = wanted(self.alloc, roll, self.own.pending())?;

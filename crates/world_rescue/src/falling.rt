@@ -1,10 +1,10 @@
 //! What a node is to make of the entries that it applies next: whether it goes down, and what it still waits for.
 
 ghost use Rattle.std.specs.Bool.{OnFalse};
-ghost use Rattle.std.specs.Prelude.{◌≡◌, ◌++◌, ◌∷◌, [], List, filter, IfOk, OnOk};
+ghost use Rattle.std.specs.Prelude.{◌≡◌, ◌++◌, ◌∷◌, [], ℕ, filter, IfOk, OnOk};
 ghost use Rattle.paxos_node.specs.Applying.{is_own_lost, ends_boot, has_end};
-ghost use Rattle.paxos_packets.specs.declared.entry.Entry as log_entries;
-ghost use Rattle.replica_machine.specs.Roll.{IsRollOf, is_wanted, standing};
+ghost use Rattle.replica_machine.specs.declared.roll.Standing.{Standing};
+ghost use Rattle.replica_machine.specs.Roll.{HasStandings, is_wanted_by, standings_from};
 ghost use Rattle.world_rescue.specs.Course.{entries_of};
 
 use paxos_packets::{Body, Entries, Entry, Memory, Vote};
@@ -13,10 +13,10 @@ use std::alloc::Global;
 
 // Goes on over the entries of these votes, up to the loss of the node's boot. Returns whether that is among them.
 pub(crate) fn falls<B>(roll: &mut Roll, node: u8, boot: u64, votes: &[Vote<B>]) -> bool
-    ensures ended { (log : List (log_entries.Entry B)) → IsRollOf log roll.old →
-        result ≡ has_end node boot (standing node log) (entries_of votes.now) }
-    ensures roll { (log : List (log_entries.Entry B)) → IsRollOf log roll.old →
-        OnFalse result (IsRollOf (log ++ entries_of votes.now) roll.new) }
+    ensures ended { (stands : ℕ → Standing) → HasStandings stands roll.old →
+        result ≡ has_end node boot (stands node) (entries_of votes.now) }
+    ensures roll { (stands : ℕ → Standing) → HasStandings stands roll.old →
+        OnFalse result (HasStandings (standings_from stands (entries_of votes.now)) roll.new) }
 {
     for vote in votes {
         if ends(roll, node, boot, &vote.entry) {
@@ -29,7 +29,7 @@ pub(crate) fn falls<B>(roll: &mut Roll, node: u8, boot: u64, votes: &[Vote<B>]) 
 
 // Returns whether the entry is the loss of the node's boot, and takes effect.
 fn ends<B>(roll: &Roll, node: u8, boot: u64, entry: &Entry<B>) -> bool
-    ensures { (log : List (log_entries.Entry B)) → IsRollOf log roll.now → result ≡ ends_boot node boot (standing node log) entry.now }
+    ensures { (stands : ℕ → Standing) → HasStandings stands roll.now → result ≡ ends_boot node boot (stands node) entry.now }
 {
     is_own_lost(entry, node, boot) && roll.standing(node).is_live(boot)
 }
@@ -50,7 +50,8 @@ pub(crate) fn wanted<B: Body>(
     roll: &Roll,
     pending: &[Entry<B>],
 ) -> Result<Entries<B>, Memory>
-    ensures { (log : List (log_entries.Entry B)) → IsRollOf log roll.now → IfOk result (λ entries. entries ≡ filter (is_wanted log) pending.now) }
+    ensures { (stands : ℕ → Standing) → HasStandings stands roll.now →
+        IfOk result (λ entries. entries ≡ filter (is_wanted_by stands) pending.now) }
 {
     let mut entries = Entries::new(alloc);
     for entry in pending {
@@ -66,8 +67,8 @@ fn keep_wanted<B: Body>(
     entries: &mut Entries<B>,
     entry: &Entry<B>,
 ) -> Result<(), Memory>
-    ensures { (log : List (log_entries.Entry B)) → IsRollOf log roll.now →
-        OnOk result (entries.new ≡ entries.old ++ filter (is_wanted log) (entry.now ∷ [])) }
+    ensures { (stands : ℕ → Standing) → HasStandings stands roll.now →
+        OnOk result (entries.new ≡ entries.old ++ filter (is_wanted_by stands) (entry.now ∷ [])) }
 {
     if !roll.wants(entry) {
         return Ok(());

@@ -1,6 +1,6 @@
 -- The node as it was before room was made.
 use Rattle.std.proofs.Common.{◌≤◌, ◌<◌, ◌^◌, ℕ, ◌+◌, sym, ap, ◌∙◌, subst, length}
-use Rattle.paxos_planning.specs.Node.{NodeState}
+use Rattle.paxos_planning.specs.Node.{NodeState, log_length}
 use Rattle.paxos_node.specs.Adopting.{Fits}
 use Rattle.replica_machine.specs.Log.{machine_from}
 use Rattle.world_nodes.specs.Nodes.{node_of}
@@ -15,7 +15,7 @@ returns-in_err-added-clause-err g c = λ first h.
 pub attend-requires-clause-agrees : goal.attend-requires-clause-agrees
 attend-requires-clause-agrees g c =
     agrees_so c.applied-from.result (node_of c.args.node.now).applied c.args.follower.now.log c.as_slice.result.now c.args.outcome.applied
-    (c.applied-from.ensures.length ∙ ap (λ (x : NodeState _). length x.applied) c.prepare.ensures.node) c.as_slice.ensures c.requires.front
+    (c.applied-from.ensures.length ∙ ap (λ (x : NodeState _). log_length x) c.prepare.ensures.node) c.as_slice.ensures c.requires.front
     c.requires.logs
 
 pub returns-in_err-attend-clause-err : goal.returns-in_err-attend-clause-err
@@ -23,7 +23,7 @@ returns-in_err-attend-clause-err g c = λ first h.
     kept_back g.M.Machine.content (machine_from g.M.Machine.next g.M.Machine.says g.M.Machine.to first) c.from_residual-in_err-attend.result
     c.boot.result (node_of c.args.node.now).rows.boot c.applied-from.result (node_of c.args.node.now).applied c.args.follower.now
     c.attend.new.follower (c.boot.ensures ∙ ap (λ (x : NodeState _). x.rows.boot) c.prepare.ensures.node)
-    (c.applied-from.ensures.length ∙ ap (λ (x : NodeState _). length x.applied) c.prepare.ensures.node) h
+    (c.applied-from.ensures.length ∙ ap (λ (x : NodeState _). log_length x) c.prepare.ensures.node) h
     (λ n f k. c.in_err-attend.ensures.err first (node_of c.args.node.now).applied n f k)
 
 pub commit-requires-clause-fits : goal.commit-requires-clause-fits
@@ -34,7 +34,7 @@ commit-requires-clause-fits g c =
 pub returns-clause-refuses : goal.returns-clause-refuses
 returns-clause-refuses g c = λ h.
     subst (λ (z : ℕ × ℕ). z.0 + z.1 ≤ length c.args.follower.now.log)
-    (λ i. ((c.applied-from.ensures.length ∙ ap (λ (x : NodeState _). length x.applied) c.prepare.ensures.node) i, length (c.as_slice.ensures i)))
+    (λ i. ((c.applied-from.ensures.length ∙ ap (λ (x : NodeState _). log_length x) c.prepare.ensures.node) i, length (c.as_slice.ensures i)))
     (c.in_ok-attend.ensures.refuses h)
 
 pub returns-clause-ok : goal.returns-clause-ok
@@ -43,14 +43,14 @@ returns-clause-ok g c = λ first h.
     c.boot.result (node_of c.args.node.now).rows.boot c.applied-from.result (node_of c.args.node.now).applied c.as_slice.result.now
     c.args.outcome.applied c.args.follower.now
     c.attend.new.follower (c.boot.ensures ∙ ap (λ (x : NodeState _). x.rows.boot) c.prepare.ensures.node)
-    (c.applied-from.ensures.length ∙ ap (λ (x : NodeState _). length x.applied) c.prepare.ensures.node) c.as_slice.ensures c.requires.front h
+    (c.applied-from.ensures.length ∙ ap (λ (x : NodeState _). log_length x) c.prepare.ensures.node) c.as_slice.ensures c.requires.front h
     (λ l n f k. c.in_ok-attend.ensures.ok first (node_of c.args.node.now).applied l n f k)
 
 pub attend-requires-clause-slots : goal.attend-requires-clause-slots
 attend-requires-clause-slots g c =
     subst (λ (z : ℕ × ℕ). z.0 + z.1 < 2 ^ 40)
     (λ i. (
-      sym (c.applied-from.ensures.length ∙ ap (λ (x : NodeState _). length x.applied) c.prepare.ensures.node) i,
+      sym (c.applied-from.ensures.length ∙ ap (λ (x : NodeState _). log_length x) c.prepare.ensures.node) i,
       length (sym c.as_slice.ensures i),
     ))
     c.requires.fits.within

@@ -3,15 +3,14 @@ use Rattle.paxos_packets.specs.declared.entry.Entry.{Entry}
 use Rattle.paxos_proposer.specs.Moves.{after_moves}
 use Rattle.paxos_learner.specs.Hearing.{hear_all}
 use Rattle.paxos_learner.specs.Learner.{run_from}
-use Rattle.replica_machine.specs.Roll.{standing}
 use Rattle.paxos_planning.specs.declared.effects.Effects.{Effects}
 use Rattle.paxos_planning.specs.Drafting.{Known}
-use Rattle.paxos_planning.specs.Node.{Plan}
+use Rattle.paxos_planning.specs.Node.{Plan, log_length}
 use Rattle.paxos_planning.specs.Front.{IsFront}
 use Rattle.paxos_planning.specs.Parts.{proposer_of, learner_of}
 use Rattle.paxos_node.specs.declared.outcome.Outcome.{Outcome}
 use Rattle.paxos_node.specs.Adopting.{front_behind, Settled}
-use Rattle.paxos_node.specs.Applying.{count_to_end, has_end}
+use Rattle.paxos_node.specs.Applying.{standing_of, count_to_end, has_end}
 use Rattle.paxos_node.specs.Outcome.{outcome_with, with_added}
 use Rattle.paxos_node.proofs.Ending.{settled}
 use Rattle.paxos_node.proofs.settling.ended.Goals as goal
@@ -24,20 +23,20 @@ returns-clause-settled g c =
     let run : List (Entry g.row.B.Denot) = c.args.run in
     let o : Outcome g.row.B.Denot = outcome_with e c.first_of-applied.result c.until_lost-count.result.1 c.log_behind-log.result
     (front_behind c.args.front c.first_of-applied.result) in
-    let run_is : run ≡ run_from (suc (length k.state.applied)) (hear_all e.news.items (learner_of k.members k.state)).learner.learned =
-    c.requires.run ∙ ap (λ (u : Plan g.row.B.Denot). run_from (suc (length k.state.applied)) u.node.learner.learned) c.into_effects.ensures.plan in
-    let counted : c.until_lost-count.result.0 ≡ count_to_end k.me k.state.rows.boot (standing k.me k.state.applied) run =
+    let run_is : run ≡ run_from (suc (log_length k.state)) (hear_all e.news.items (learner_of k.members k.state)).learner.learned =
+    c.requires.run ∙ ap (λ (u : Plan g.row.B.Denot). run_from (suc (log_length k.state)) u.node.learner.learned) c.into_effects.ensures.plan in
+    let counted : c.until_lost-count.result.0 ≡ count_to_end k.me k.state.rows.boot (standing_of k.state k.me) run =
     c.until_lost-count.ensures.count
     ∙ (λ i. count_to_end (c.me.ensures i) (c.boot.ensures i) (c.standing_in-standing.ensures i) (c.as_slice.ensures i)) in
-    let down : c.until_lost-count.result.1 ≡ has_end k.me k.state.rows.boot (standing k.me k.state.applied) run =
+    let down : c.until_lost-count.result.1 ≡ has_end k.me k.state.rows.boot (standing_of k.state k.me) run =
     c.until_lost-count.ensures.is_down
     ∙ (λ i. has_end (c.me.ensures i) (c.boot.ensures i) (c.standing_in-standing.ensures i) (c.as_slice.ensures i)) in
-    let applied : c.first_of-applied.result ≡ take (count_to_end k.me k.state.rows.boot (standing k.me k.state.applied) run) run =
+    let applied : c.first_of-applied.result ≡ take (count_to_end k.me k.state.rows.boot (standing_of k.state k.me) run) run =
     c.first_of-applied.ensures ∙ ap (λ (n : ℕ). take n run) counted in
-    let log : c.log_behind-log.result ≡ cond c.until_lost-count.result.1 0 (length k.state.applied + length c.first_of-applied.result) =
+    let log : c.log_behind-log.result ≡ cond c.until_lost-count.result.1 0 (log_length k.state + length c.first_of-applied.result) =
     c.log_behind-log.ensures ∙ (λ i. cond c.until_lost-count.result.1 0 (c.applied.ensures.length i + length (c.as_slice-2.ensures i))) in
-    let front : IsFront c.args.front (length k.state.applied) (after_moves e.moves.items (proposer_of k.me k.members k.state)).proposer.role k.state.pending =
-    subst (λ (u : Plan g.row.B.Denot). IsFront c.args.front (length u.node.applied) u.node.proposer.role k.state.pending) c.into_effects.ensures.plan
+    let front : IsFront c.args.front (log_length k.state) (after_moves e.moves.items (proposer_of k.me k.members k.state)).proposer.role k.state.pending =
+    subst (λ (u : Plan g.row.B.Denot). IsFront c.args.front (log_length u.node) u.node.proposer.role k.state.pending) c.into_effects.ensures.plan
     c.requires.front in
     let stand : c.front_behind-stand.result ≡ front_behind c.args.front c.first_of-applied.result =
     c.front_behind-stand.ensures ∙ ap (λ (es : List (Entry g.row.B.Denot)). front_behind c.args.front es) c.as_slice-3.ensures in

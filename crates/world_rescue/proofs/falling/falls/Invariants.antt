@@ -1,10 +1,10 @@
-use Rattle.std.proofs.Common.{List, drop}
-use Rattle.paxos_packets.specs.declared.entry.Entry.{Entry}
-use Rattle.replica_machine.specs.Roll.{IsRollOf}
+use Rattle.std.proofs.Common.{ℕ, drop}
+use Rattle.replica_machine.specs.declared.roll.Standing.{Standing}
+use Rattle.replica_machine.specs.Roll.{HasStandings}
 use Rattle.world_rescue.proofs.Ending.{Falls}
 use Rattle.world_rescue.proofs.falling.falls.Given as goal
 
--- after the log so far, the rest gives what the whole gives
+-- where the nodes stand so far, the rest gives what the whole gives
 abbrev pub invariant-loop-vote : goal.invariant-loop-vote
 invariant-loop-vote g l =
-    (log : List (Entry g.row.B.Denot)) → IsRollOf log l.initial.roll → Falls l.node l.boot l.roll (drop l.vote-index l.votes) log l.votes
+    (stands : ℕ → Standing) → HasStandings stands l.initial.roll → Falls l.node l.boot l.roll (drop l.vote-index l.votes) stands l.votes

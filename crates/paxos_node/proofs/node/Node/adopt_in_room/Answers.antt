@@ -6,16 +6,18 @@ use Rattle.paxos_proposer.specs.State as proposing
 use Rattle.paxos_learner.specs.Hearing.{hear_all, HasRoomFor}
 use Rattle.paxos_learner.specs.Learned.{Begins}
 use Rattle.paxos_learner.specs.Learner as learning
-use Rattle.replica_machine.specs.Roll.{IsRollOf}
-use Rattle.paxos_planning.specs.Node.{NodeState}
+use Rattle.replica_machine.specs.Roll.{IsRollOf, HasStandings, standings, standings_from}
+use Rattle.paxos_planning.specs.Node.{NodeState, log_length}
 use Rattle.paxos_planning.specs.Front.{IsFront}
 use Rattle.paxos_node.specs.Steps.{Steps}
 use Rattle.paxos_node.specs.Held.{Held, learner_in}
 use Rattle.paxos_planning.specs.Parts.{proposer_of, learner_of, pending_with, counted_with, first_learned}
+use Rattle.paxos_node.specs.Applying.{standing_of}
 use Rattle.paxos_node.specs.Adopting.{pending_behind, adopted}
 use Rattle.paxos_node.proofs.Parts.{proposer_is, learner_is, held_is}
 use Rattle.paxos_planning.proofs.Staying.{me_stays, members_stay, heard_stay}
 use Rattle.paxos_node.proofs.Adoption.{length_both, first_both, goes_on}
+use Rattle.paxos_node.proofs.Rolling.{roll_of}
 use Rattle.paxos_node.proofs.node.Node.adopt_in_room.Goals as goal
 
 pub move_in_room-requires-clause-possible : goal.move_in_room-requires-clause-possible
@@ -48,7 +50,7 @@ invariant_of-self-2 g c =
     (hear_all m.news (learner_of c.args.self.now.members c.args.self.now.state)).learner.learned)
     (sym c.moves.view_is) c.requires.fits.applied) in
     let within : length log + length more < 2 ^ 40 =
-    subst (λ (h : Held g.row.B.Denot). length h.state.applied + length more < 2 ^ 40) (sym c.self.view_is) c.requires.fits.within in
+    subst (λ (h : Held g.row.B.Denot). log_length h.state + length more < 2 ^ 40) (sym c.self.view_is) c.requires.fits.within in
     let heard : c.hear_in_room.new.self.state ≡ hear_all c.moves.inside.news.items (record { members = c.self.inside.members; learner = c.self.inside.learner.state.learner }) =
     c.hear_in_room.ensures
     ∙ ap (λ (s : learning.State g.row.B.Denot). hear_all c.moves.inside.news.items s) (learner_is c.self.inside.learner.state c.self.inside.members c.self.invariant.2) in
@@ -69,28 +71,30 @@ invariant_of-self-2 g c =
     } in
     let of_steps : IsFront c.moves.inside.front (length (c.args.self.now.state.applied ++ more))
     (after_moves c.moves.inside.proposer.items (proposer_of c.args.self.now.me c.args.self.now.members c.args.self.now.state)).proposer.role
-    (pending_behind c.args.self.now.state.applied more (pending_with c.moves.inside.added c.args.self.now.state.pending)) =
+    (pending_behind (standing_of c.args.self.now.state) more (pending_with c.moves.inside.added c.args.self.now.state.pending)) =
     subst (λ (m : Steps g.row.B.Denot). IsFront m.front (length (c.args.self.now.state.applied ++ more))
     (after_moves m.proposer (proposer_of c.args.self.now.me c.args.self.now.members c.args.self.now.state)).proposer.role
-    (pending_behind c.args.self.now.state.applied more (pending_with m.added c.args.self.now.state.pending))) (sym c.moves.view_is) c.requires.fits.front in
+    (pending_behind (standing_of c.args.self.now.state) more (pending_with m.added c.args.self.now.state.pending))) (sym c.moves.view_is) c.requires.fits.front in
     let of_parts : IsFront c.moves.inside.front (length (log ++ more))
     (after_moves c.moves.inside.proposer.items (proposer_of c.self.inside.me c.self.inside.members x)).proposer.role
-    (pending_behind log more (pending_with c.moves.inside.added c.self.inside.pending.items)) =
+    (pending_behind (standings log) more (pending_with c.moves.inside.added c.self.inside.pending.items)) =
     subst (λ (h : Held g.row.B.Denot). IsFront c.moves.inside.front (length (h.state.applied ++ more))
     (after_moves c.moves.inside.proposer.items (proposer_of h.me h.members h.state)).proposer.role
-    (pending_behind h.state.applied more (pending_with c.moves.inside.added h.state.pending))) (sym c.self.view_is) of_steps in
+    (pending_behind (standing_of h.state) more (pending_with c.moves.inside.added h.state.pending))) (sym c.self.view_is) of_steps in
     let moved : c.move_in_room.new.self.state ≡ after_moves c.moves.inside.proposer.items (proposer_of c.self.inside.me c.self.inside.members x) =
     c.move_in_room.ensures
     ∙ ap (λ (s : proposing.State g.row.B.Denot). after_moves c.moves.inside.proposer.items s)
     (proposer_is c.self.inside.proposer.state c.self.inside.me c.self.inside.members c.self.invariant.0 c.self.invariant.1) in
-    let pending : c.apply_all.new.pending.items ≡ pending_behind log more (pending_with c.moves.inside.added c.self.inside.pending.items) =
-    c.apply_all.ensures.pending log c.self.invariant.4 ∙ (λ i. pending_behind log (first i) (c.wait.ensures.pending i)) in
+    let pending : c.apply_all.new.pending.items ≡ pending_behind (standings log) more (pending_with c.moves.inside.added c.self.inside.pending.items) =
+    c.apply_all.ensures.pending (standings log) c.self.invariant.4 ∙ (λ i. pending_behind (standings log) (first i) (c.wait.ensures.pending i)) in
     let front : IsFront c.moves.inside.front (length (log ++ more)) c.move_in_room.new.self.state.proposer.role c.apply_all.new.pending.items =
     subst (λ (s : proposing.State g.row.B.Denot). IsFront c.moves.inside.front (length (log ++ more)) s.proposer.role c.apply_all.new.pending.items) (sym moved)
     (subst (λ (es : List (Entry g.row.B.Denot)). IsFront c.moves.inside.front (length (log ++ more))
     (after_moves c.moves.inside.proposer.items (proposer_of c.self.inside.me c.self.inside.members x)).proposer.role es) (sym pending) of_parts) in
     let roll : IsRollOf (log ++ more) c.apply_all.new.roll =
-    subst (λ (l : List (Entry g.row.B.Denot)). IsRollOf (log ++ l) c.apply_all.new.roll) first (c.apply_all.ensures.roll log c.self.invariant.4) in (
+    roll_of log more c.apply_all.new.roll
+    (subst (λ (l : List (Entry g.row.B.Denot)). HasStandings (standings_from (standings log) l) c.apply_all.new.roll) first
+    (c.apply_all.ensures.roll (standings log) c.self.invariant.4)) in (
       ap (λ (s : proposing.State g.row.B.Denot). s.me) c.move_in_room.ensures ∙ me_stays c.moves.inside.proposer.items c.self.inside.proposer.state ∙ c.self.invariant.0,
       ap (λ (s : proposing.State g.row.B.Denot). s.members) c.move_in_room.ensures ∙ members_stay c.moves.inside.proposer.items c.self.inside.proposer.state
           ∙ c.self.invariant.1,
@@ -139,8 +143,8 @@ returns-clause-state g c =
     (λ i. first_learned (sym counted i + length (same i)) (heard i).learner.learned) ∙ learned in
     let waits : c.wait.new.pending.items ≡ pending_with c.args.outcome.moves.added c.self.inside.pending.items =
     c.wait.ensures.pending ∙ ap (λ (m : Steps g.row.B.Denot). pending_with m.added c.self.inside.pending.items) c.moves.view_is in
-    let pending : c.apply_all.new.pending.items ≡ pending_behind log more (pending_with c.args.outcome.moves.added c.self.inside.pending.items) =
-    c.apply_all.ensures.pending log c.self.invariant.4 ∙ (λ i. pending_behind log (first i) (waits i)) in
+    let pending : c.apply_all.new.pending.items ≡ pending_behind (standings log) more (pending_with c.args.outcome.moves.added c.self.inside.pending.items) =
+    c.apply_all.ensures.pending (standings log) c.self.invariant.4 ∙ (λ i. pending_behind (standings log) (first i) (waits i)) in
     let taken : c.wait.new.taken ≡ counted_with c.args.outcome.moves.added c.self.inside.taken =
     c.wait.ensures.taken ∙ ap (λ (m : Steps g.row.B.Denot). counted_with m.added c.self.inside.taken) c.moves.view_is in
     let rows : c.adopt_in_room.new.self.rows ≡ accepting.adopted c.self.inside.acceptor.rows c.args.outcome.change = c.adopt_in_room.ensures.rows in

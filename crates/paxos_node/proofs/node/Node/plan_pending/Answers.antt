@@ -1,7 +1,7 @@
 use Rattle.std.proofs.Common.{◌≡◌, ◌≤◌, ℕ, Some, length, sym, subst, ◌∙◌}
 use Rattle.std.proofs.lemmas.Result.{on_ok_weaker}
 use Rattle.std.specs.Prelude.{OnOk}
-use Rattle.paxos_planning.specs.Node.{NodeState, Plan}
+use Rattle.paxos_planning.specs.Node.{NodeState, Plan, log_length}
 use Rattle.paxos_planning.specs.Plan.{begun}
 use Rattle.paxos_planning.specs.Drafting.{Known, known, with_pending_entry}
 use Rattle.paxos_planning.specs.Front.{IsFront}
@@ -12,9 +12,9 @@ use Rattle.paxos_node.proofs.node.Node.plan_pending.Goals as goal
 pub front-front-requires : goal.front-front-requires
 front-front-requires g c =
     let x : NodeState g.row.B.Denot = c.args.self.now.state in
-    subst (λ (t : Plan g.row.B.Denot). IsFront c.front.result (length t.node.applied) t.node.proposer.role c.draft-draft.result.of.state.pending)
+    subst (λ (t : Plan g.row.B.Denot). IsFront c.front.result (log_length t.node) t.node.proposer.role c.draft-draft.result.of.state.pending)
     (sym c.draft-draft.ensures.plan)
-    (subst (λ (k : Known g.row.B.Denot). IsFront c.front.result (length x.applied) x.proposer.role k.state.pending) (sym c.draft-draft.ensures.of) c.front.ensures)
+    (subst (λ (k : Known g.row.B.Denot). IsFront c.front.result (log_length x) x.proposer.role k.state.pending) (sym c.draft-draft.ensures.of) c.front.ensures)
 
 pub push-done-requires : goal.push-done-requires
 push-done-requires g c = c.front-front.ensures.front

@@ -1,7 +1,7 @@
-use Rattle.std.proofs.Common.{◌≡◌, ℕ, suc, true, length, sym, ◌∙◌}
+use Rattle.std.proofs.Common.{◌≡◌, ℕ, suc, true, sym, ◌∙◌}
 use Rattle.std.proofs.lemmas.Result.{on_ok_weaker}
 use Rattle.std.specs.Prelude.{OnOk}
-use Rattle.paxos_planning.specs.Node.{NodeState, Plan}
+use Rattle.paxos_planning.specs.Node.{NodeState, Plan, log_length}
 use Rattle.paxos_planning.specs.Plan.{begun}
 use Rattle.paxos_proposer.specs.Proposer.{new_ballot}
 use Rattle.paxos_planning.specs.Drafting.{Known}
@@ -25,8 +25,8 @@ returns-clause-answered g c =
     let members : ℕ = c.args.self.now.members in
     let x : NodeState g.row.B.Denot = c.args.self.now.state in
     let begins : Known g.row.B.Denot → Plan g.row.B.Denot → Plan g.row.B.Denot = λ (k : Known g.row.B.Denot) (t : Plan g.row.B.Denot). begin k.members k.me
-    (new_ballot k.me t.node.rows.promised t.node.proposer) (suc (length t.node.applied)) t in
-    let t : Plan g.row.B.Denot = begin members me (new_ballot me x.rows.promised x.proposer) (suc (length x.applied)) (begun x) in
+    (new_ballot k.me t.node.rows.promised t.node.proposer) (suc (log_length t.node)) t in
+    let t : Plan g.row.B.Denot = begin members me (new_ballot me x.rows.promised x.proposer) (suc (log_length x)) (begun x) in
     let plan : OnOk c.start-done.result (c.start-done.new.self.plan ≡ t) =
     on_ok_weaker c.start-done.result (λ p. p ∙ (λ i. begins (c.draft-draft.ensures.of i) (c.draft-draft.ensures.plan i))) c.start-done.ensures.plan in
     let left : starts me x ≡ true =

@@ -1,13 +1,14 @@
 use Rattle.std.proofs.Common.{◌≡◌, suc, ◌+◌, true, false, List, ◌++◌, length, sym, refl, ◌∙◌, subst, rules}
 use Rattle.paxos_proposer.specs.Proposer.{own_ballot}
 use Rattle.paxos_proposer.specs.State.{role_in}
-use Rattle.replica_machine.specs.Roll.{IsRollOf, standing}
+use Rattle.replica_machine.specs.Roll.{HasStandings, standings_from}
 use Rattle.replica_machine.specs.declared.roll.Standing.{Standing}
-use Rattle.paxos_node.specs.Applying.{has_end}
+use Rattle.paxos_node.specs.Applying.{standing_of, has_end}
 use Rattle.world_rescue.proofs.Coursing.{passes_first, goes_down, goes_up}
 use Rattle.world_rescue.proofs.Listing.{on_ok}
 use Rattle.world_rescue.specs.Course.{Crew, Act, act, look, falls, entries_of}
 use Rattle.world_rescue.proofs.crew.Crew.course.Goals as goal
+use Rattle.paxos_planning.specs.Node.{log_length}
 
 pub returns-then-falls : goal.returns-then-falls
 returns-then-falls g c = λ boots acts.
@@ -15,20 +16,20 @@ returns-then-falls g c = λ boots acts.
     let a : Act g.row.B.Denot = act c.args.number c.args.body.now in
     let looks : c.look.new.events.items ≡ c.args.events.now.items ++ look (own_ballot crew.own.number crew.own.node.proposer) (suc c.applied-applied.result)
     crew.helpers = search rules in
-    let applied : c.applied-applied.result ≡ length crew.own.node.applied = search rules in
+    let applied : c.applied-applied.result ≡ log_length crew.own.node = search rules in
     let first = passes_first g.B.Body.same crew a c.args.events.now.items c.look.new.events.items c.first_pass.new.events.items c.applied-applied.result
     c.in_ok-seen.seen c.proposer-proposer.result.state (role_in c.first_pass.new.proposer) applied looks (search rules) c.proposer-proposer.ensures
     (search rules) (search rules) in
     let ballot : c.in_ok-ballot.ballot ≡ own_ballot crew.own.number c.proposer-proposer.result.state.proposer = search rules in
-    let roll : IsRollOf crew.own.node.applied c.copy-roll.result =
-    subst (λ (r : List Standing). IsRollOf crew.own.node.applied r) (sym c.copy-roll.ensures)
-    (subst (λ (v : Crew g.row.B.Denot). IsRollOf v.own.node.applied c.roll.result.now) c.self.view_is c.roll.ensures) in
+    let roll : HasStandings (standing_of crew.own.node) c.copy-roll.result =
+    subst (λ (r : List Standing). HasStandings (standing_of crew.own.node) r) (sym c.copy-roll.ensures)
+    (subst (λ (v : Crew g.row.B.Denot). HasStandings (standing_of v.own.node) c.roll.result.now) c.self.view_is c.roll.ensures) in
     let me : c.me.result ≡ crew.own.number = search rules in
     let boot : c.boot.result ≡ crew.own.node.rows.boot = search rules in
     let cast = c.proposed_after-cast.ensures.behind ∙ first.3 in
     let down : true ≡ falls g.B.Body.same crew a =
-    c.if-falls.ensures.ended crew.own.node.applied roll
-    ∙ (λ i. has_end (me i) (boot i) (standing (me i) crew.own.node.applied) (entries_of (cast i))) in
+    c.if-falls.ensures.ended (standing_of crew.own.node) roll
+    ∙ (λ i. has_end (me i) (boot i) (standing_of crew.own.node (me i)) (entries_of (cast i))) in
     on_ok c.comes_back.result
     (goes_down g.B.Body.same crew a c.args.events.now.items c.first_pass.new.events.items c.comes_back.new.events.items c.in_ok-ballot.ballot
     c.proposed_after-cast.result.now first.0 (ballot ∙ first.2) cast down)
@@ -40,23 +41,23 @@ returns g c = λ boots acts.
     let a : Act g.row.B.Denot = act c.args.number c.args.body.now in
     let looks : c.look.new.events.items ≡ c.args.events.now.items ++ look (own_ballot crew.own.number crew.own.node.proposer) (suc c.applied-applied.result)
     crew.helpers = search rules in
-    let applied : c.applied-applied.result ≡ length crew.own.node.applied = search rules in
+    let applied : c.applied-applied.result ≡ log_length crew.own.node = search rules in
     let first = passes_first g.B.Body.same crew a c.args.events.now.items c.look.new.events.items c.first_pass.new.events.items c.applied-applied.result
     c.in_ok-seen.seen c.proposer-proposer.result.state (role_in c.first_pass.new.proposer) applied looks (search rules) c.proposer-proposer.ensures
     (search rules) (search rules) in
-    let roll : IsRollOf crew.own.node.applied c.copy-roll.result =
-    subst (λ (r : List Standing). IsRollOf crew.own.node.applied r) (sym c.copy-roll.ensures)
-    (subst (λ (v : Crew g.row.B.Denot). IsRollOf v.own.node.applied c.roll.result.now) c.self.view_is c.roll.ensures) in
+    let roll : HasStandings (standing_of crew.own.node) c.copy-roll.result =
+    subst (λ (r : List Standing). HasStandings (standing_of crew.own.node) r) (sym c.copy-roll.ensures)
+    (subst (λ (v : Crew g.row.B.Denot). HasStandings (standing_of v.own.node) c.roll.result.now) c.self.view_is c.roll.ensures) in
     let me : c.me.result ≡ crew.own.number = search rules in
     let boot : c.boot.result ≡ crew.own.node.rows.boot = search rules in
     let cast = c.proposed_after-cast.ensures.behind ∙ first.3 in
     let up : false ≡ falls g.B.Body.same crew a =
-    c.if-falls.ensures.ended crew.own.node.applied roll
-    ∙ (λ i. has_end (me i) (boot i) (standing (me i) crew.own.node.applied) (entries_of (cast i))) in
-    let over : IsRollOf (crew.own.node.applied ++ entries_of c.proposed_after-cast.result.now) c.falls.new.roll =
-    c.if-falls.ensures.roll crew.own.node.applied roll in
+    c.if-falls.ensures.ended (standing_of crew.own.node) roll
+    ∙ (λ i. has_end (me i) (boot i) (standing_of crew.own.node (me i)) (entries_of (cast i))) in
+    let over : HasStandings (standings_from (standing_of crew.own.node) (entries_of c.proposed_after-cast.result.now)) c.falls.new.roll =
+    c.if-falls.ensures.roll (standing_of crew.own.node) roll in
     on_ok c.goes_on.result
     (goes_up g.B.Body.same crew a c.args.events.now.items c.first_pass.new.events.items c.goes_on.new.events.items c.applied-applied.result
     (c.applied-applied.result + length c.proposed_after-cast.result.now) c.proposed_after-cast.result.now (role_in c.first_pass.new.proposer) first.0
     applied refl first.1 cast up)
-    (c.goes_on.ensures (crew.own.node.applied ++ entries_of c.proposed_after-cast.result.now) over acts)
+    (c.goes_on.ensures (standings_from (standing_of crew.own.node) (entries_of c.proposed_after-cast.result.now)) over acts)
