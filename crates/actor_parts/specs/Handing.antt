@@ -1,5 +1,5 @@
 -- What one event says to the transports of its node in its present boot.
-use Rattle.std.specs.Prelude.{ℕ, Bool, ◌&&◌, ◌==◌, Option, Some, None, List, [], filter}
+use Rattle.std.specs.Prelude.{ℕ, Bool, ◌&&◌, ◌==◌, Option, Some, None, List, [], ◌++◌, filter}
 use Rattle.paxos_packets.specs.declared.entry.Entry.{Entry}
 use Rattle.paxos_packets.specs.declared.transport.Transport.{Transport}
 use Rattle.replica_machine.specs.Replay.{Machine, sayings_behind}
@@ -15,7 +15,8 @@ is_of node boot t = (t.node == node) && (t.boot == boot)
 abbrev pub handed_out : {B S Y : Type 0} → Machine B S Y → ℕ → ℕ → List (Entry B) → List (Entry B) → List Y
 handed_out m node boot log entries = filter (λ y. is_of node boot (m.to y)) (sayings_behind m log entries)
 
--- what an event says to the transports of its node in its present boot, of any slot that it applies
-abbrev pub handed_by : {B S Y : Type 0} → (B → B → Bool) → ℕ → Machine B S Y → Option (Event B) → NodeState B → List Y
-handed_by same members m None x = []
-handed_by same members m (Some e) x = handed_out m (owner e) x.rows.boot x.applied (outcome_of same members e x).applied
+-- what an event says to the transports of its node in its present boot, of any slot that it applies, where the node's log goes on from
+-- these entries
+abbrev pub handed_by : {B S Y : Type 0} → (B → B → Bool) → ℕ → Machine B S Y → List (Entry B) → Option (Event B) → NodeState B → List Y
+handed_by same members m under None x = []
+handed_by same members m under (Some e) x = handed_out m (owner e) x.rows.boot (under ++ x.applied) (outcome_of same members e x).applied

@@ -2,7 +2,7 @@
 use Rattle.std.specs.Prelude.{◌≡◌, ℕ, Bool, true, false, Option, Some, None, List, [], ◌++◌}
 use Rattle.paxos_packets.specs.Members.{IsMember}
 use Rattle.paxos_packets.specs.declared.rows.Rows.{Rows}
-use Rattle.replica_machine.specs.Log.{LogState}
+use Rattle.replica_machine.specs.Log.{LogState, first_log}
 use Rattle.paxos_node.specs.declared.event.Event.{Event}
 use Rattle.paxos_node.specs.declared.outcome.Outcome.{Outcome}
 use Rattle.paxos_planning.specs.Node.{NodeState}
@@ -29,7 +29,7 @@ first_parts h keeper w machine =
       node = h;
       keeper = keeper;
       waiting = w;
-      log = record { applied = []; ahead = []; machine = machine; failed = false };
+      log = first_log machine;
       failed = None;
       spoiled = false;
     }

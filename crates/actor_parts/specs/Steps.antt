@@ -8,7 +8,7 @@ use Rattle.paxos_packets.specs.declared.rows.Rows.{Rows}
 use Rattle.paxos_acceptor.specs.Acceptor as accepting
 use Rattle.store_keeper.specs.declared.fault.KeeperFault.{KeeperFault}
 use Rattle.store_keeper.specs.declared.fault.KeeperFault.TheVariants as store
-use Rattle.replica_machine.specs.Log.{LogState, Follows}
+use Rattle.replica_machine.specs.Log.{LogState, IsLogOf}
 use Rattle.replica_machine.specs.Replay.{Machine}
 use Rattle.actor_outboxes.specs.Outboxes.{WaitBehind}
 use Rattle.paxos_node.specs.declared.outcome.Outcome.{Outcome}
@@ -36,8 +36,9 @@ module _ {B S Y M : Type 0} (from : S → Machine B S Y) (content : M → S) whe
   pub record Applied (node boot : ℕ) (entries : List (Entry B)) (old new : LogState B M) (said : List Y) : Type 0 where
     pub applied : new.applied ≡ old.applied ++ entries
     pub alive : new.failed ≡ false
-    pub says : (first : S) → Follows from content first old → said ≡ handed_out (from first) node boot old.applied entries
-    pub follows : (first : S) → Follows from content first old → Follows from content first new
+    pub says : (first : S) (under : List (Entry B)) → IsLogOf from content first under old
+        → said ≡ handed_out (from first) node boot (under ++ old.applied) entries
+    pub follows : (first : S) (under : List (Entry B)) → IsLogOf from content first under old → IsLogOf from content first under new
 
 -- one part of an actor changes, and the others stay
 module _ {B M K : Type 0} where

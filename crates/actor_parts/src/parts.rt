@@ -13,6 +13,7 @@ ghost use Rattle.actor_outboxes.specs.Outboxes.{HasLimits, IsPeer, TakenFor, Wai
 ghost use Rattle.replica_machine.specs.Log.{machine_from, Follows};
 ghost use Rattle.actor_parts.specs.Parts.{Parted, IsPrefixOf, first_parts};
 ghost use Rattle.actor_parts.specs.Steps.{IsAtEnd, Applied, Falls, OnlyNode, OnlyKeeper, OnlyLog, OnlyWaiting, Adopts};
+ghost use Rattle.paxos_planning.specs.Node.{log_length};
 
 use crate::following::apply_all;
 use crate::storing::commit;
@@ -120,7 +121,7 @@ impl<M: Machine, K: Keeper<M::Body>> Parts<M, K> {
 
     /// Returns how many entries its node has applied.
     pub fn applied(&self) -> u64
-        ensures { result ≡ length self.now.node.state.applied }
+        ensures { result ≡ log_length self.now.node.state }
     {
         self.node.applied()
     }

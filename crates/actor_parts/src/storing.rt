@@ -1,7 +1,8 @@
 // Commits what an event changes.
 ghost use Rattle.std.specs.Prelude.{◌≡◌, true, false, OnOk, IfErr, is_err};
+ghost use Rattle.paxos_packets.specs.Rows.{no_change};
 ghost use Rattle.paxos_packets.specs.declared.rows.Rows.{Rows};
-ghost use Rattle.paxos_acceptor.specs.Acceptor.{adopted, no_change};
+ghost use Rattle.paxos_acceptor.specs.Acceptor.{adopted};
 ghost use Rattle.actor_parts.specs.Steps.{Falls};
 
 use paxos_packets::{Body, Change};

@@ -3,6 +3,7 @@ use Rattle.std.proofs.Common.{◌≡◌, ℕ, Bool, true, false, List, [], ◌�
 use Rattle.std.specs.Option.{option_to_list}
 use Rattle.std.proofs.lemmas.List.{append-nil, append_assoc}
 use Rattle.std.proofs.lemmas.Grind.{flat_map-append}
+use Rattle.paxos_packets.specs.declared.entry.Entry.{Entry}
 use Rattle.paxos_packets.specs.declared.rows.Rows.{Rows}
 use Rattle.paxos_node.specs.declared.event.Event.{Event}
 use Rattle.paxos_node.specs.View.{Viewed}
@@ -11,7 +12,7 @@ use Rattle.std.specs.Prelude.{Result}
 use Rattle.std.specs.declared.vec.Vec.{Vec}
 use Rattle.std.specs.declared.alloc.Global.{Global}
 use Rattle.actor_parts.specs.declared.fault.ActorFault.{ActorFault}
-use Rattle.replica_machine.specs.Log.{Follows}
+use Rattle.replica_machine.specs.Log.{IsLogOf}
 use Rattle.replica_machine.specs.Replay.{Machine}
 use Rattle.actor_parts.specs.Handing.{handed_by}
 use Rattle.node_actor.specs.Actor.{Acting}
@@ -48,16 +49,19 @@ module _ {B S Y M K : Type 0} (same : B → B → Bool) (from : S → Machine B 
         moved = g.moved ∙ (ap (λ k. moved_by same k e (seen w)) t.members ∙ (ap (moved_by same n_of e) t.moved ∙ sym (behind_more same n_of made e s_of)));
         acts = ap (λ a. a ++ rest) all ∙ (append_assoc (acts_in (gained_in same n_of made s_of)) (acts_in (gained_at e at)) rest
             ∙ (ap (λ l. acts_in (gained_in same n_of made s_of) ++ l) here ∙ t.acts));
-        says = λ first f. says_on first (t.says first f) (g.says first (t.follows first f));
-        follows = λ first f. g.follows first (t.follows first f);
+        says = λ first under l. says_on first under (t.says first under l) (g.says first under (t.follows first under l));
+        follows = λ first under l. g.follows first under (t.follows first under l);
       }
     where
-      says_on : (first : S) → said ≡ said_in same n_of (from first) made s_of → says ≡ handed_by same mid.node.members (from first) e (seen w).node
-          → said ++ says ≡ said_in same n_of (from first) (made ++ option_to_list e) s_of
-      says_on first before now_is =
-          let mine : says ≡ handed_by same n_of (from first) e (behind same n_of made s_of).node =
-          now_is ∙ (ap (λ k. handed_by same k (from first) e (seen w).node) t.members ∙ ap (λ z. handed_by same n_of (from first) e z.node) t.moved) in
-          ap (λ z. z ++ says) before ∙ (ap (λ z. said_in same n_of (from first) made s_of ++ z) mine ∙ sym (said_more same n_of (from first) made e s_of))
+      says_on : (first : S) (under : List (Entry B)) → said ≡ said_in same n_of (from first) under made s_of
+          → says ≡ handed_by same mid.node.members (from first) under e (seen w).node
+          → said ++ says ≡ said_in same n_of (from first) under (made ++ option_to_list e) s_of
+      says_on first under before now_is =
+          let mine : says ≡ handed_by same n_of (from first) under e (behind same n_of made s_of).node =
+          now_is ∙ (ap (λ k. handed_by same k (from first) under e (seen w).node) t.members
+          ∙ ap (λ z. handed_by same n_of (from first) under e z.node) t.moved) in
+          ap (λ z. z ++ says) before
+          ∙ (ap (λ z. said_in same n_of (from first) under made s_of ++ z) mine ∙ sym (said_more same n_of (from first) under made e s_of))
 
   -- what was due was posted: the view shows the same node
   pub posts_on : (late : List (ℕ × B)) (old now : Acting B M K) (w : View B) (made given : List (Event B)) (said : List Y)
@@ -72,7 +76,7 @@ module _ {B S Y M K : Type 0} (same : B → B → Bool) (from : S → Machine B 
         moved = t.posts.beside.seen ∙ went.moved;
         acts = went.acts;
         says = went.says;
-        follows = λ first f. subst (λ l. Follows from content first l) (sym only.log) (went.follows first f);
+        follows = λ first under l. subst (λ log. IsLogOf from content first under log) (sym only.log) (went.follows first under l);
       }
 
   -- an event that was held back is so still if no act was taken since

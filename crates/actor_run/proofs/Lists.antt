@@ -6,7 +6,7 @@ use Rattle.std.proofs.lemmas.List.{append-nil, append_assoc}
 use Rattle.paxos_packets.specs.declared.entry.Entry.{Entry}
 use Rattle.paxos_packets.specs.declared.packet.Packet.{Packet}
 use Rattle.paxos_node.specs.declared.event.Event.{Event}
-use Rattle.paxos_node.specs.declared.event.Event.TheVariants.{Take, Tick, Start, Suspect, Deliver, Crash, Restart}
+use Rattle.paxos_node.specs.declared.event.Event.TheVariants.{Take, Deliver}
 use Rattle.paxos_node.specs.Events.{takes, is_round_refused, is_full_refused}
 use Rattle.paxos_node.specs.View.{Viewed}
 use Rattle.paxos_planning.specs.Node.{NodeState}
@@ -37,35 +37,26 @@ module _ {B : Type 0} (same : B → B → Bool) (members : ℕ) where
       ∙ sym (append_assoc (gained_by x s.node) (gained_in same members xs t) (gained_at e (behind same members xs t).node))
 
   module _ {S Y : Type 0} (m : Machine B S Y) where
-    pub said_more : (made : List (Event B)) (e : Option (Event B)) (s : Viewed B)
-        → said_in same members m (made ++ option_to_list e) s ≡ said_in same members m made s ++ handed_by same members m e (behind same members made s).node
-    said_more [] None s = refl
-    said_more [] (Some e) s = append-nil (handed_by same members m (Some e) s.node)
-    said_more (x ∷ xs) e s =
+    pub said_more : (under : List (Entry B)) (made : List (Event B)) (e : Option (Event B)) (s : Viewed B)
+        → said_in same members m under (made ++ option_to_list e) s
+        ≡ said_in same members m under made s ++ handed_by same members m under e (behind same members made s).node
+    said_more under [] None s = refl
+    said_more under [] (Some e) s = append-nil (handed_by same members m under (Some e) s.node)
+    said_more under (x ∷ xs) e s =
         let t : Viewed B = moved_by same members (Some x) s in
-        ap (λ g. handed_by same members m (Some x) s.node ++ g) (said_more xs e t)
-        ∙ sym (append_assoc (handed_by same members m (Some x) s.node) (said_in same members m xs t)
-        (handed_by same members m e (behind same members xs t).node))
+        ap (λ g. handed_by same members m under (Some x) s.node ++ g) (said_more under xs e t)
+        ∙ sym (append_assoc (handed_by same members m under (Some x) s.node) (said_in same members m under xs t)
+        (handed_by same members m under e (behind same members xs t).node))
 
   -- what one event asks and gains
 
   pub not_asked : (me : ℕ) (e : Event B) → is_own me e ≡ false → asked_by me e ≡ []
   not_asked me (Take n t body) h = rw h refl
-  not_asked me (Tick n) h = refl
-  not_asked me (Start n) h = refl
-  not_asked me (Suspect n other) h = refl
-  not_asked me (Deliver p) h = refl
-  not_asked me (Crash n) h = refl
-  not_asked me (Restart n) h = refl
+  not_asked me _ h = refl
 
   pub none_asked : (me : ℕ) (e : Event B) (x : NodeState B) → is_round_refused e x ≡ true → asked_by me e ≡ []
   none_asked me (Take n t body) x h = absurd (let off : ◌≡◌ {A = Bool} false true = h in cc)
-  none_asked me (Tick n) x h = refl
-  none_asked me (Start n) x h = refl
-  none_asked me (Suspect n other) x h = refl
-  none_asked me (Deliver p) x h = refl
-  none_asked me (Crash n) x h = refl
-  none_asked me (Restart n) x h = refl
+  none_asked me _ x h = refl
 
   takes_it : (b : Bool) → not b ≡ false → b ≡ true
   takes_it true h = refl
@@ -74,12 +65,7 @@ module _ {B : Type 0} (same : B → B → Bool) (members : ℕ) where
   pub gains : (me : ℕ) (e : Event B) (x : NodeState B) → is_own me e ≡ true → is_full_refused same e x ≡ false
       → acts_in (gained_by e x) ≡ asked_by me e
   gains me (Take n t body) x own full = let room : takes x ≡ true = takes_it (takes x) full in rw (own, room) refl
-  gains me (Tick n) x own full = refl
-  gains me (Start n) x own full = refl
-  gains me (Suspect n other) x own full = refl
-  gains me (Deliver p) x own full = refl
-  gains me (Crash n) x own full = refl
-  gains me (Restart n) x own full = refl
+  gains me _ x own full = refl
 
   -- a turn's event gains nothing, and is not refused
 

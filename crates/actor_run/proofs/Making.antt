@@ -294,8 +294,8 @@ module _ {B S Y M K F : Type 0} (same : B → B → Bool) (from : S → Machine 
             members = refl;
             moved = refl;
             acts = refl;
-            says = λ first f. refl;
-            follows = λ first f. f;
+            says = λ first under l. refl;
+            follows = λ first under l. l;
           };
           told = subst (λ g. saw feed g (o.got ++ [])) (sym (append-nil o.gave)) (subst (saw feed o.gave) (sym (append-nil o.got)) told);
         };

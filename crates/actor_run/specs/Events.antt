@@ -4,7 +4,7 @@ use Rattle.std.specs.List.{flat_map}
 use Rattle.paxos_packets.specs.declared.entry.Entry.{Entry}
 use Rattle.paxos_packets.specs.declared.entry.Entry.TheVariants.{Noop, Boot, Lost, Item}
 use Rattle.paxos_node.specs.declared.event.Event.{Event}
-use Rattle.paxos_node.specs.declared.event.Event.TheVariants.{Take, Tick, Start, Suspect, Deliver, Crash, Restart}
+use Rattle.paxos_node.specs.declared.event.Event.TheVariants.{Take}
 use Rattle.paxos_node.specs.Events.{taken_by}
 use Rattle.paxos_node.specs.View.{Viewed}
 use Rattle.paxos_planning.specs.Node.{NodeState}
@@ -16,12 +16,7 @@ use Rattle.node_actor.specs.Views.{moved_by}
 
 abbrev pub asked_by : {B : Type 0} → ℕ → Event B → List (ℕ × B)
 asked_by me (Take n t body) = if (n == me) && nat_lt 0 t then (t, body) ∷ [] else []
-asked_by me (Tick n) = []
-asked_by me (Start n) = []
-asked_by me (Suspect n other) = []
-asked_by me (Deliver p) = []
-asked_by me (Crash n) = []
-asked_by me (Restart n) = []
+asked_by me _ = []
 
 abbrev pub asked_in : {B : Type 0} → ℕ → List (Event B) → List (ℕ × B)
 asked_in me events = flat_map (asked_by me) events
@@ -40,12 +35,7 @@ acts_in entries = flat_map act_in entries
 -- the act that an event adds to those that its node has taken
 abbrev pub gained_by : {B : Type 0} → Event B → NodeState B → List (Entry B)
 gained_by (Take n t body) x = taken_by n t body x
-gained_by (Tick n) x = []
-gained_by (Start n) x = []
-gained_by (Suspect n other) x = []
-gained_by (Deliver p) x = []
-gained_by (Crash n) x = []
-gained_by (Restart n) x = []
+gained_by _ x = []
 
 module _ {B : Type 0} (same : B → B → Bool) (members : ℕ) where
   -- the view after the events
@@ -58,7 +48,7 @@ module _ {B : Type 0} (same : B → B → Bool) (members : ℕ) where
   gained_in [] s = []
   gained_in (e ∷ es) s = gained_by e s.node ++ gained_in es (moved_by same members (Some e) s)
 
-  -- what the core hands out in them to the node's transports
-  abbrev pub said_in : {S Y : Type 0} → Machine B S Y → List (Event B) → Viewed B → List Y
-  said_in m [] s = []
-  said_in m (e ∷ es) s = handed_by same members m (Some e) s.node ++ said_in m es (moved_by same members (Some e) s)
+  -- what the core hands out in them to the node's transports, where the node's log goes on from these entries
+  abbrev pub said_in : {S Y : Type 0} → Machine B S Y → List (Entry B) → List (Event B) → Viewed B → List Y
+  said_in m under [] s = []
+  said_in m under (e ∷ es) s = handed_by same members m under (Some e) s.node ++ said_in m under es (moved_by same members (Some e) s)

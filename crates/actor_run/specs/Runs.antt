@@ -1,10 +1,11 @@
 -- A run of an actor: turns for as long as a gate allows, and before each the events that a feed gives (docs/ARCHITECTURE.md, "Threads").
 use Rattle.std.specs.Prelude.{◌≡◌, ◌⊎◌, ℕ, Bool, true, false, Option, Some, None, Result, Ok, Err, List, [], ◌∷◌, ◌++◌}
+use Rattle.paxos_packets.specs.declared.entry.Entry.{Entry}
 use Rattle.paxos_packets.specs.declared.rows.Rows.{Rows}
 use Rattle.paxos_node.specs.declared.event.Event.{Event}
 use Rattle.paxos_node.specs.Events.{is_full_refused}
 use Rattle.paxos_node.specs.View.{Viewed}
-use Rattle.replica_machine.specs.Log.{Follows}
+use Rattle.replica_machine.specs.Log.{IsLogOf}
 use Rattle.replica_machine.specs.Replay.{Machine}
 use Rattle.actor_parts.specs.declared.fault.ActorFault.{ActorFault}
 use Rattle.node_actor.specs.Actor.{Acting}
@@ -47,8 +48,10 @@ module _ {B S Y M K : Type 0} (same : B → B → Bool) (from : S → Machine B 
     pub members : now.node.members ≡ o.actor.node.members
     pub moved : seen view ≡ behind same o.actor.node.members made (seen o.view)
     pub acts : acts_in (gained_in same o.actor.node.members made (seen o.view)) ++ late ≡ asked_in o.actor.node.me given
-    pub says : (first : S) → Follows from content first o.actor.log → said ≡ said_in same o.actor.node.members (from first) made (seen o.view)
-    pub follows : (first : S) → Follows from content first o.actor.log → Follows from content first now.log
+    pub says : (first : S) (under : List (Entry B)) → IsLogOf from content first under o.actor.log
+        → said ≡ said_in same o.actor.node.members (from first) under made (seen o.view)
+    pub follows : (first : S) (under : List (Entry B)) → IsLogOf from content first under o.actor.log
+        → IsLogOf from content first under now.log
 
   module _ {F : Type 0} (saw : F → List (Event B) → List Y → Type 0) where
     -- the same, stated with what the feed gave and got

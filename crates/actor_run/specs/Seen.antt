@@ -4,6 +4,7 @@ use Rattle.paxos_proposer.specs.Proposer.{is_leading}
 use Rattle.actor_outboxes.specs.Outboxes.{Waiting, waiting}
 use Rattle.node_actor.specs.Actor.{Acting}
 use Rattle.actor_run.specs.declared.feed.Seen.{Seen}
+use Rattle.paxos_planning.specs.Node.{log_length}
 
 -- how many packets wait for a member, as far as 16 bits count them
 abbrev pub count_for : {B : Type 0} → ℕ → Waiting B → ℕ
@@ -15,7 +16,7 @@ counts w = count_for 1 w ∷ count_for 2 w ∷ count_for 3 w ∷ count_for 4 w �
 
 -- what is shown of an actor besides its last turn
 pub record Shows {B M K : Type 0} (a : Acting B M K) (s : Seen) : Type 0 where
-  pub applied : s.applied ≡ length a.node.state.applied
+  pub applied : s.applied ≡ log_length a.node.state
   pub pending : s.pending ≡ nat_lt 0 (length a.node.state.pending)
   pub waits : s.waiting ≡ counts a.waiting
   pub leads : s.leads ≡ is_leading a.node.state.proposer.role

@@ -5,13 +5,14 @@ use Rattle.std.specs.Prelude.{IfOk, IfErr, nat_lt}
 use Rattle.std.proofs.lemmas.Bool.{and_from, and_parts, false≢true, leb-true, lt-ltb, ltb-true, ltb-false}
 use Rattle.paxos_packets.specs.Ballot.{ballot_same, ballot_sound}
 use Rattle.paxos_packets.specs.Body.{IsEquality}
-use Rattle.paxos_packets.specs.Rows.{raised}
+use Rattle.paxos_packets.specs.Rows.{raised, rows_equal}
 use Rattle.paxos_packets.specs.Vote.{votes_equality}
 use Rattle.paxos_packets.specs.declared.ballot.Ballot.{Ballot}
 use Rattle.paxos_packets.specs.declared.rows.Rows.{Rows}
 use Rattle.paxos_acceptor.specs.Acceptor as accepting
 use Rattle.store_keeper.specs.Keeper.{FindsOr}
 use Rattle.store_keeper.specs.declared.fault.KeeperFault.TheVariants as store
+use Rattle.mail_table.specs.Covered.{with_boot}
 use Rattle.actor_outboxes.specs.Outboxes.{Waiting}
 use Rattle.paxos_node.specs.declared.outcome.Outcome.{Outcome}
 use Rattle.actor_parts.specs.declared.fault.ActorFault.{ActorFault}
@@ -53,7 +54,7 @@ module _ {B : Type 0} (same : B → B → Bool) (ok : IsEquality same) where
       let promises : x.promised ≡ k.promised = sym (promise_is k.promised r.promised b.0 ∙ promise_is r.promised x.promised d.0) in
       let votes : x.votes ≡ k.votes = sym ((votes_equality same ok).sound k.votes r.votes b.1
       ∙ (votes_equality same ok).sound r.votes x.votes d.1) in
-      record { rows = λ i. record { boot = x.boot; promised = promises i; votes = votes i }; later = omega (arith, low, high) }
+      record { rows = rows_equal x (with_boot x.boot k) refl promises votes; later = omega (arith, low, high) }
 
 module _ {B : Type 0} (same : B → B → Bool) (k r : Rows B) where
   fit_left : (f : Option (Outcome B)) → fit_of same f k r ≡ Left → is_ahead same k r ≡ true

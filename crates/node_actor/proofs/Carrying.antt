@@ -45,8 +45,8 @@ module _ {B S Y M K : Type 0} (from : S → Machine B S Y) (content : M → S) (
         waits = subst (λ (w : Waiting B). WaitBehind o.packets w new.waiting) r.waiting takes.waits;
         failed = takes.failed ∙ r.failed ∙ serving.committed;
         seat = is;
-        says = λ first h. p.says first h ∙ ap (λ log. handed_out (from first) old.node.me old.node.state.rows.boot log o.applied)
-            serving.followed;
+        says = λ first under l. p.says first under l
+            ∙ ap (λ log. handed_out (from first) old.node.me old.node.state.rows.boot (under ++ log) o.applied) serving.followed;
         follows = p.follows;
       }
 

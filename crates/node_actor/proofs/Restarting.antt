@@ -82,20 +82,18 @@ raises_raised : {B : Type 0} (d : ℕ) (r : Rows B) → raises d (raised r) ≡ 
 raises_raised zero r = refl
 raises_raised (suc d) r = ap raised (raises_raised d r)
 
-raises_are : {B : Type 0} (d : ℕ) (k : Rows B) → raises d k ≡ record { boot = k.boot + d; promised = k.promised; votes = k.votes }
-raises_are zero k = let z : k.boot ≡ k.boot + 0 = omega arith in λ i. record { boot = z i; promised = k.promised; votes = k.votes }
+raises_are : {B : Type 0} (d : ℕ) (k : Rows B) → raises d k ≡ record k { boot = k.boot + d }
+raises_are zero k = let z : k.boot ≡ k.boot + 0 = omega arith in λ i. record k { boot = z i }
 raises_are (suc d) k =
     let z : suc (k.boot + d) ≡ k.boot + suc d = omega arith in
-    ap raised (raises_are d k) ∙ (λ i. record { boot = z i; promised = k.promised; votes = k.votes })
+    ap raised (raises_are d k) ∙ (λ i. record k { boot = z i })
 
 -- rows whose next boot's are these in a later boot are these, some boots on
 later_raises : {B : Type 0} (k r : Rows B) → IsLater k (raised r) → (d : ℕ) × (r ≡ raises d k)
 later_raises k r l =
     let low : k.boot < suc r.boot = l.later in
     let boots : r.boot ≡ k.boot + (r.boot - k.boot) = omega (arith, low) in
-    let promises : r.promised ≡ k.promised = ap (λ x. x.promised) l.rows in
-    let votes : r.votes ≡ k.votes = ap (λ x. x.votes) l.rows in
-    (r.boot - k.boot, (λ i. record { boot = boots i; promised = promises i; votes = votes i }) ∙ sym (raises_are (r.boot - k.boot) k))
+    (r.boot - k.boot, (λ i. record (l.rows i) { boot = boots i }) ∙ sym (raises_are (r.boot - k.boot) k))
 
 below_last : {B : Type 0} (d : ℕ) (k r : Rows B) → r ≡ raises d k → (raised r).boot ≤ last_boot → k.boot + d < last_boot
 below_last d k r e h =

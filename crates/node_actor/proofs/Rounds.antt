@@ -1,7 +1,7 @@
 -- A packet is fetched, from one peer after another.
 use Rattle.std.proofs.Common.{◌≡◌, inl, inr, ℕ, suc, ◌<◌, ◌+◌, ◌-◌}
 use Rattle.std.proofs.Common.{eqb, Bool, true, false, Option, Some, None, List, [], ◌∷◌, ◌++◌}
-use Rattle.std.proofs.Common.{arith, length, sym, ap, subst, ◌∙◌, refl}
+use Rattle.std.proofs.Common.{arith, sym, ap, subst, ◌∙◌, refl}
 use Rattle.std.specs.Prelude.{◌==◌, filter, if◌then◌else◌}
 use Rattle.std.proofs.lemmas.Bool.{eq-eqb, ne_eqb, false≢true}
 use Rattle.std.proofs.lemmas.List.{append-nil}
@@ -11,6 +11,7 @@ use Rattle.paxos_packets.specs.Members.{IsMember}
 use Rattle.paxos_packets.specs.declared.packet.Packet.{Packet}
 use Rattle.paxos_node.specs.declared.event.Event.{Event}
 use Rattle.paxos_node.specs.declared.event.Event.TheVariants.{Deliver}
+use Rattle.paxos_node.specs.Events.{packet_in}
 use Rattle.actor_parts.proofs.Carrying.{some_same}
 use Rattle.mail_table.specs.Boxes.{Received}
 use Rattle.mail_table.specs.Seats.{Seated, knows}
@@ -19,7 +20,7 @@ use Rattle.mail_table.specs.declared.part.Part.{Part}
 use Rattle.mail_table.proofs.Parcels.{through_more}
 use Rattle.node_actor.specs.Calls.{turn_event}
 use Rattle.node_actor.specs.Turns.{after, others_from, passed_by, Fetches, packet_got, Reaches}
-use Rattle.node_actor.specs.Views.{is_for, packets_of, received_from, received_by, packet_in}
+use Rattle.node_actor.specs.Views.{is_for, packets_of, received_from, received_by}
 
 -- members
 
@@ -133,11 +134,11 @@ module _ {B : Type 0} where
       let rest = one_came n ks (lost (box_of n k x.me) x) y got h in
       (still_on x (lost (box_of n k x.me) x) y (record { me = refl; seen = refl; events = refl; posted = refl }) rest.0, rest.1, rest.2)
 
-  no_packet : (p : Packet B) → ◌≡◌ {A = List (Packet B)} (p ∷ []) [] → ⊥
-  no_packet p e = let n : 1 ≡ 0 = ap length e in omega (arith, n)
+  no_packet : (p : Packet B) → ◌≡◌ {A = Option (Packet B)} (Some p) None → ⊥
+  no_packet p e = cc
 
   -- an event that a turn makes has its packet
-  never_alone : (me members : ℕ) (p : Packet B) (x : Event B) → turn_event me members (Some p) ≡ Some x → packet_in x ≡ [] → ⊥
+  never_alone : (me members : ℕ) (p : Packet B) (x : Event B) → turn_event me members (Some p) ≡ Some x → packet_in x ≡ None → ⊥
   never_alone me members p x is none = by_test (is_for me members p) refl
     where
       by_test : (b : Bool) → is_for me members p ≡ b → ⊥

@@ -8,6 +8,7 @@ use Rattle.std.proofs.lemmas.List.{append-nil}
 use Rattle.std.specs.declared.vec.Vec.{Vec}
 use Rattle.std.specs.declared.alloc.Global.{Global}
 use Rattle.circular_buffer.specs.Buffer.{keep_last}
+use Rattle.paxos_packets.specs.declared.entry.Entry.{Entry}
 use Rattle.paxos_packets.specs.declared.packet.Packet.{Packet}
 use Rattle.paxos_packets.specs.declared.rows.Rows.{Rows}
 use Rattle.paxos_acceptor.specs.Acceptor as accepting
@@ -18,7 +19,7 @@ use Rattle.paxos_node.specs.declared.event.Event.TheVariants.{Take, Tick, Start,
 use Rattle.paxos_node.specs.declared.outcome.Outcome.{Outcome}
 use Rattle.paxos_planning.specs.Node.{NodeState, Plan}
 use Rattle.paxos_node.specs.Adopting.{adopted, Fits, Planned}
-use Rattle.paxos_node.specs.Events.{owner, possible, outcome_of, is_round_refused, is_full_refused}
+use Rattle.paxos_node.specs.Events.{owner, possible, outcome_of, is_round_refused, is_full_refused, packet_in}
 use Rattle.paxos_node.specs.Plans.{plans, is_planned, Answers}
 use Rattle.paxos_node.specs.View.{moved}
 use Rattle.paxos_node.specs.declared.fault.NodeFault.{NodeFault}
@@ -36,7 +37,7 @@ use Rattle.node_actor.specs.Actor.{Acting, acting, IsSeated}
 use Rattle.node_actor.specs.Posts.{advanced}
 use Rattle.node_actor.specs.Steps.{may_advance, TakesOver, StopsBefore, StopsBehind, CarriesOut}
 use Rattle.node_actor.specs.Turns.{Reaches}
-use Rattle.node_actor.specs.Views.{View, seen, is_for, posted_to, received_from, StandsFor, moved_by, packet_in, received_by, Queues}
+use Rattle.node_actor.specs.Views.{View, seen, is_for, posted_to, received_from, StandsFor, moved_by, received_by, Queues}
 use Rattle.node_actor.specs.Calls.{take_event, turn_event, is_own, is_worn, Goes, Stops, IsTaken, IsAgreed, Acts}
 use Rattle.node_actor.proofs.Seating.{peer_of, seated_stands}
 
@@ -166,17 +167,18 @@ module _ {B S Y M K : Type 0} (same : B → B → Bool) (from : S → Machine B 
                 ∙ ap (λ ps. keep_last most_waiting (waiting k old.waiting ++ to k ps)) packets;
           };
           held = subst (λ x. holds new.keeper x) (ap (λ x. x.rows) (next_is ∙ ap (λ x. x.node) (sym (moved_is h.seat)))) h.held;
-          says = λ first follows. h.says first follows ∙ told first;
+          says = λ first under l. h.says first under l ∙ told first under;
           follows = h.follows;
         }
       where
-        told : (first : S) → handed_out (from first) old.node.me old.node.state.rows.boot old.node.state.applied o.applied
-            ≡ handed_by same old.node.members (from first) (Some e) (seen v).node
-        told first =
-            ap (λ n. handed_out (from first) n old.node.state.rows.boot old.node.state.applied o.applied)
+        told : (first : S) (under : List (Entry B))
+            → handed_out (from first) old.node.me old.node.state.rows.boot (under ++ old.node.state.applied) o.applied
+            ≡ handed_by same old.node.members (from first) under (Some e) (seen v).node
+        told first under =
+            ap (λ n. handed_out (from first) n old.node.state.rows.boot (under ++ old.node.state.applied) o.applied)
             (sym (owner_is old.node.me e old.node.state mine))
-            ∙ ap (λ x. handed_out (from first) (owner e) x.rows.boot x.applied o.applied) is_node
-            ∙ ap (handed_out (from first) (owner e) (seen v).node.rows.boot (seen v).node.applied)
+            ∙ ap (λ x. handed_out (from first) (owner e) x.rows.boot (under ++ x.applied) o.applied) is_node
+            ∙ ap (handed_out (from first) (owner e) (seen v).node.rows.boot (under ++ (seen v).node.applied))
             (applied_is same old.node.me old.node.members e old.node.state (seen v).node o planned is_node)
 
     -- what is refused, and what is not
@@ -303,23 +305,13 @@ module _ {B S Y M K : Type 0} (same : B → B → Bool) (from : S → Machine B 
         stops_here serving (Some e) behind,
       )
 
-      round_alone : (x : Event B) → is_round_refused x p.node.state ≡ true → packet_in x ≡ []
-      round_alone (Take n t body) h = refl
-      round_alone (Tick n) h = refl
-      round_alone (Start n) h = refl
-      round_alone (Suspect n other) h = refl
+      round_alone : (x : Event B) → is_round_refused x p.node.state ≡ true → packet_in x ≡ None
       round_alone (Deliver q) h = absurd (false≢true h)
-      round_alone (Crash n) h = refl
-      round_alone (Restart n) h = refl
+      round_alone _ h = refl
 
-      full_alone : (x : Event B) → is_full_refused same x p.node.state ≡ true → packet_in x ≡ []
-      full_alone (Take n t body) h = refl
-      full_alone (Tick n) h = refl
-      full_alone (Start n) h = refl
-      full_alone (Suspect n other) h = refl
+      full_alone : (x : Event B) → is_full_refused same x p.node.state ≡ true → packet_in x ≡ None
       full_alone (Deliver q) h = absurd (false≢true h)
-      full_alone (Crash n) h = refl
-      full_alone (Restart n) h = refl
+      full_alone _ h = refl
 
       pub rounds_act : p.spoiled ≡ false → is_round_refused e p.node.state ≡ true
           → Acts same from content holds finds failures (Some e) (acting p v) (acting p s) v (Err Rounds)
@@ -351,14 +343,14 @@ module _ {B S Y M K : Type 0} (same : B → B → Bool) (from : S → Machine B 
       received = reach.received;
       queues = λ k peer. queues_still p p v s refl k (posted_same p.spoiled None v s reach k) (short k peer);
       held = subst (λ x. holds p.keeper x.rows) (sym seated.node) serving.held;
-      says = λ first h. silent;
-      follows = λ first h. h;
+      says = λ first under l. silent;
+      follows = λ first under l. l;
     },
   )
 
 -- events that a call may make
 
-pub owned_event : {B : Type 0} (me : ℕ) (e : Event B) → is_own me e ≡ true → (owner e ≡ me) × (is_planned e ≡ true) × (packet_in e ≡ [])
+pub owned_event : {B : Type 0} (me : ℕ) (e : Event B) → is_own me e ≡ true → (owner e ≡ me) × (is_planned e ≡ true) × (packet_in e ≡ None)
 owned_event me (Take n t body) h = (eqb-true n me (and_parts (eqb n me) _ h).0, refl, refl)
 owned_event me (Tick n) h = (eqb-true n me h, refl, refl)
 owned_event me (Start n) h = (eqb-true n me h, refl, refl)

@@ -4,11 +4,12 @@ use Rattle.std.specs.Prelude.{◌++◌, filter, not, ◌&&◌, nat_lt, ◌^◌}
 use Rattle.std.specs.Prelude.{if◌then◌else◌}
 use Rattle.std.specs.declared.vec.Vec.{Vec}
 use Rattle.std.specs.declared.alloc.Global.{Global}
+use Rattle.paxos_packets.specs.declared.entry.Entry.{Entry}
 use Rattle.paxos_packets.specs.declared.packet.Packet.{Packet}
 use Rattle.paxos_packets.specs.declared.rows.Rows.{Rows}
 use Rattle.store_keeper.specs.declared.fault.KeeperFault.{KeeperFault}
 use Rattle.store_keeper.specs.declared.fault.KeeperFault.TheVariants as store
-use Rattle.replica_machine.specs.Log.{Follows}
+use Rattle.replica_machine.specs.Log.{IsLogOf}
 use Rattle.replica_machine.specs.Replay.{Machine}
 use Rattle.actor_outboxes.specs.Outboxes.{IsPeer}
 use Rattle.paxos_node.specs.declared.event.Event.{Event}
@@ -77,8 +78,9 @@ module _ {B S Y M K : Type 0} (same : B → B → Bool) (from : S → Machine B 
     pub received : (k : ℕ) → received_from k next ≡ received_from k v ++ filter (λ p. p.sender == k) (received_by e)
     pub queues : (k : ℕ) → IsPeer old.node.me old.node.members k → Queues k (sent_by same old.node.members e (seen v).node) old new v next
     pub held : holds new.keeper (seen next).node.rows
-    pub says : (first : S) → Follows from content first old.log → said ≡ handed_by same old.node.members (from first) e (seen v).node
-    pub follows : (first : S) → Follows from content first old.log → Follows from content first new.log
+    pub says : (first : S) (under : List (Entry B)) → IsLogOf from content first under old.log
+        → said ≡ handed_by same old.node.members (from first) under e (seen v).node
+    pub follows : (first : S) (under : List (Entry B)) → IsLogOf from content first under old.log → IsLogOf from content first under new.log
 
   -- the view and what is held went on together, or neither did
   pub record Stops (e : Option (Event B)) (old new : Acting B M K) (v : View B) : Type 0 where

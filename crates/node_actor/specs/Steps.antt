@@ -4,7 +4,8 @@ use Rattle.std.specs.declared.vec.Vec.{Vec}
 use Rattle.std.specs.declared.alloc.Global.{Global}
 use Rattle.paxos_packets.specs.declared.rows.Rows.{Rows}
 use Rattle.store_keeper.specs.declared.fault.KeeperFault.{KeeperFault}
-use Rattle.replica_machine.specs.Log.{Follows}
+use Rattle.paxos_packets.specs.declared.entry.Entry.{Entry}
+use Rattle.replica_machine.specs.Log.{IsLogOf}
 use Rattle.replica_machine.specs.Replay.{Machine}
 use Rattle.actor_outboxes.specs.Outboxes.{WaitBehind}
 use Rattle.paxos_node.specs.declared.outcome.Outcome.{Outcome}
@@ -30,9 +31,9 @@ module _ {B S Y M K : Type 0} (from : S → Machine B S Y) (content : M → S) (
     pub waits : WaitBehind o.packets old.waiting new.waiting
     pub failed : new.failed ≡ None
     pub seat : new.seat ≡ advanced o old.seat
-    pub says : (first : S) → Follows from content first old.log
-        → said ≡ handed_out (from first) old.node.me old.node.state.rows.boot old.node.state.applied o.applied
-    pub follows : (first : S) → Follows from content first old.log → Follows from content first new.log
+    pub says : (first : S) (under : List (Entry B)) → IsLogOf from content first under old.log
+        → said ≡ handed_out (from first) old.node.me old.node.state.rows.boot (under ++ old.node.state.applied) o.applied
+    pub follows : (first : S) (under : List (Entry B)) → IsLogOf from content first under old.log → IsLogOf from content first under new.log
 
   -- there was no memory: the outcome is committed and adopted, or neither
   pub record StopsBefore (old new : Acting B M K) : Type 0 where

@@ -11,6 +11,7 @@ use Rattle.paxos_packets.specs.declared.packet.Packet.{Packet}
 use Rattle.paxos_packets.specs.declared.rows.Rows.{Rows}
 use Rattle.actor_outboxes.specs.Outboxes.{IsPeer, waiting}
 use Rattle.paxos_node.specs.declared.event.Event.{Event}
+use Rattle.paxos_node.specs.Events.{packet_in}
 use Rattle.replica_machine.specs.Replay.{Machine}
 use Rattle.actor_parts.specs.declared.fault.ActorFault.{ActorFault}
 use Rattle.actor_parts.specs.Steps.{OnlyWaiting}
@@ -20,7 +21,7 @@ use Rattle.mail_table.specs.declared.part.Part.{Part}
 use Rattle.mail_table.specs.declared.part.Try.{Try}
 use Rattle.node_actor.specs.Actor.{Acting, parts}
 use Rattle.node_actor.specs.Calls.{turn_event, Acts}
-use Rattle.node_actor.specs.Views.{View, posted_to, received_from, StandsFor, packet_in, received_by}
+use Rattle.node_actor.specs.Views.{View, posted_to, received_from, StandsFor, received_by}
 
 -- whether the tries at a box won, oldest first
 abbrev pub tries_at : ℕ → List Try → List Bool
@@ -138,4 +139,4 @@ pub record Reaches {B : Type 0} (spoiled : Bool) (e : Option (Event B)) (v s : V
   pub posted : s.part.posted ≡ v.part.posted
   pub received : (k : ℕ) → received_from k s ≡ received_from k v ++ filter (λ p. p.sender == k) (received_by e)
   pub ended : spoiled ≡ true → s ≡ v
-  pub alone : (x : Event B) → e ≡ Some x → packet_in x ≡ [] → s ≡ v
+  pub alone : (x : Event B) → e ≡ Some x → packet_in x ≡ None → s ≡ v

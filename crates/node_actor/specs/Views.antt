@@ -1,12 +1,11 @@
 -- Views of an actor: what is known of its node, and of the packets that it exchanged.
-use Rattle.std.specs.Prelude.{◌≡◌, ℕ, Bool, ◌==◌, ◌&&◌, not, Option, Some, None, List, [], ◌∷◌, ◌++◌, All, Contains, filter, map}
+use Rattle.std.specs.Prelude.{◌≡◌, ℕ, Bool, ◌==◌, ◌&&◌, not, Option, Some, None, List, [], ◌++◌, All, Contains, filter, map, option_to_list}
 use Rattle.circular_buffer.specs.Buffer.{keep_last}
 use Rattle.paxos_packets.specs.Members.{is_member}
 use Rattle.paxos_packets.specs.declared.packet.Packet.{Packet}
 use Rattle.actor_outboxes.specs.Outboxes.{most_waiting, waiting, to, IsPeer}
 use Rattle.paxos_node.specs.declared.event.Event.{Event}
-use Rattle.paxos_node.specs.declared.event.Event.TheVariants.{Take, Tick, Start, Suspect, Deliver, Crash, Restart}
-use Rattle.paxos_node.specs.Events.{outcome_of}
+use Rattle.paxos_node.specs.Events.{outcome_of, packet_in}
 use Rattle.paxos_planning.specs.Node.{NodeState}
 use Rattle.paxos_node.specs.View.{Viewed, moved}
 use Rattle.mail_table.specs.Seats.{Seated}
@@ -52,18 +51,9 @@ abbrev pub sent_by : {B : Type 0} → (B → B → Bool) → ℕ → Option (Eve
 sent_by same members None x = []
 sent_by same members (Some e) x = (outcome_of same members e x).packets
 
-abbrev pub packet_in : {B : Type 0} → Event B → List (Packet B)
-packet_in (Take n t body) = []
-packet_in (Tick n) = []
-packet_in (Start n) = []
-packet_in (Suspect n other) = []
-packet_in (Deliver p) = p ∷ []
-packet_in (Crash n) = []
-packet_in (Restart n) = []
-
 abbrev pub received_by : {B : Type 0} → Option (Event B) → List (Packet B)
 received_by None = []
-received_by (Some e) = packet_in e
+received_by (Some e) = option_to_list (packet_in e)
 
 -- of what waited for a peer the first ones were posted meanwhile, and these packets wait after the rest, in the last places
 pub record Queues {B M K : Type 0} (k : ℕ) (packets : List (Packet B)) (old new : Acting B M K) (v w : View B) : Type 0 where

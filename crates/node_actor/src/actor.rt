@@ -1,7 +1,8 @@
-ghost use Rattle.std.specs.Prelude.{◌≡◌, ℕ, [], length, nat_lt, true, false, Some, Err};
+ghost use Rattle.std.specs.Prelude.{◌≡◌, ℕ, List, [], length, nat_lt, true, false, Some, Err};
+ghost use Rattle.paxos_packets.specs.declared.entry.Entry.{Entry};
 ghost use Rattle.paxos_node.specs.declared.event.Event.TheVariants.{Take, Tick, Start, Suspect};
 ghost use Rattle.paxos_proposer.specs.Proposer.{is_leading};
-ghost use Rattle.replica_machine.specs.Log.{machine_from, Follows};
+ghost use Rattle.replica_machine.specs.Log.{machine_from, IsLogOf};
 ghost use Rattle.actor_parts.specs.declared.fault.ActorFault.TheVariants.{Failed};
 ghost use Rattle.actor_parts.specs.Parts.{IsPrefixOf, IsSound};
 ghost use Rattle.node_actor.specs.Posts.{LeftOf};
@@ -11,6 +12,7 @@ ghost use Rattle.node_actor.specs.Actor.{acting, IsSeated};
 ghost use Rattle.node_actor.specs.Calls.{Acts, Rests, is_own, take_event};
 ghost use Rattle.node_actor.specs.Turns.{Turns};
 ghost use Rattle.node_actor.specs.Views.{View, seen, StandsFor};
+ghost use Rattle.paxos_planning.specs.Node.{log_length};
 
 use crate::event::{make_event, pass};
 use crate::heard::Heard;
@@ -201,7 +203,7 @@ impl<M: Machine, K: Keeper<M::Body>> Actor<M, K> {
 
     /// Returns how many entries its node has applied.
     pub fn applied(&self) -> u64
-        ensures { result ≡ length self.now.node.state.applied }
+        ensures { result ≡ log_length self.now.node.state }
     {
         self.parts.applied()
     }
@@ -285,8 +287,9 @@ impl<M: Machine, K: Keeper<M::Body> + Drop> Actor<M, K> {
     pub fn leave(self) -> (NodeSeat<M::Body>, AppliedLog<M>)
         ensures seat { result.0 ≡ self.seat }
         ensures log { (view : View M.Body) → StandsFor self view → self.spoiled ≡ false → result.1.applied ≡ (seen view).node.applied }
-        ensures machine { (first : M.Content) → Follows (machine_from M.next M.says M.to) M.content first self.log
-            → Follows (machine_from M.next M.says M.to) M.content first result.1 }
+        ensures machine { (first : M.Content) (under : List (Entry M.Body))
+            → IsLogOf (machine_from M.next M.says M.to) M.content first under self.log
+            → IsLogOf (machine_from M.next M.says M.to) M.content first under result.1 }
     {
         let Actor {
             parts,

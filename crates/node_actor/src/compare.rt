@@ -47,20 +47,12 @@ fn is_meant<B: Body>(
 ) -> Result<bool, Memory>
     ensures { IfOk result (λ meant. meant ≡ is_ahead B.same (adopted kept.now outcome.now.change) rows.now) }
 {
-    let mut votes = kept.votes.copy(alloc)?;
-    votes.put_all(outcome.change.votes.copy(alloc)?)?;
-    let promised = match outcome.change.promised {
-        Some(ballot) => Some(ballot),
-        None => kept.promised,
-    };
-    Ok(is_ahead(
-        &Rows {
-            boot: kept.boot,
-            promised,
-            votes,
-        },
-        rows,
-    ))
+    let mut meant = kept.copy(alloc)?;
+    meant.votes.put_all(outcome.change.votes.copy(alloc)?)?;
+    if outcome.change.promised.is_some() {
+        meant.promised = outcome.change.promised;
+    }
+    Ok(is_ahead(&meant, rows))
 }
 
 // Returns whether the rows are these, apart from a boot number that is not lower.

@@ -17,9 +17,9 @@ returns-clause-ok g c =
     (λ says kept. record {
       applied = done.applied;
       alive = done.alive;
-      says = λ first follows. own_is (from first) node boot c.args.log.now.applied c.args.entries.items (map (λ more. more.items) c.in-Ok.said.items)
-          says.items kept (done.says first follows);
-      follows = done.follows;
+      says = λ first under l. own_is (from first) node boot (under ++ c.args.log.now.applied) c.args.entries.items
+          (map (λ more. more.items) c.in-Ok.said.items) says.items kept (done.told first under l);
+      follows = done.goes_on;
     })
     c.collect_own.ensures
 
