@@ -3,3 +3,4 @@ pub mod EndedCalls
 pub mod Ending
 pub mod Indexes
 pub mod Found
+pub mod PutCalls

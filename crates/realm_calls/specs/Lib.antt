@@ -1,3 +1,4 @@
 pub mod Calls
 pub mod Indexed
 pub mod Laws
+pub mod Restoring

@@ -81,6 +81,13 @@ impl Calls {
         }
     }
 
+    // Returns these calls, under this limit.
+    pub(crate) fn holding(limit: u32, held: OpenCalls) -> Calls
+        ensures { result ≡ record { limit = limit; list = held } }
+    {
+        Calls { limit, held }
+    }
+
     /// Opens a call as the last one; `progress` says whether its caller takes progressive results. Neither the caller's request nor the
     /// callee's invocation may be open. The faults are `Limit`, exactly if the caller has `limit` open calls, and `Memory`; nothing has
     /// changed then.

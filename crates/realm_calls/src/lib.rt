@@ -4,7 +4,8 @@
 mod calls;
 pub mod laws;
 mod open_calls;
+mod restoring;
 
 pub use calls::{Calls, Cancelled, Open};
-pub use realm_sessions::RealmFault;
+pub use realm_sessions::{RealmFault, RestoreFault};
 pub use wamp_ids::{Id, Mode};

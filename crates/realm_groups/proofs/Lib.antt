@@ -4,6 +4,8 @@ pub mod Joining
 pub mod Keeping
 pub mod Leaving
 pub mod Patterns
+pub mod PutGroups
+pub mod PutLists
 pub mod Rows
 pub mod Serving
 pub mod Sets

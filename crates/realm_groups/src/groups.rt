@@ -10,7 +10,7 @@ ghost use Rattle.std.specs.List.{All, list_any};
 use crate::group::{Group, Turning};
 use crate::id_sets::IdSets;
 use crate::kept::{join_in, leave_each, leave_in, put_in, turn_in};
-use crate::matching::{best_in, matching_in};
+use crate::matching::{best_in, listed, matching_in};
 use realm_sessions::RealmFault;
 use std::alloc::Global;
 use std::collections::BTreeMap;
@@ -74,6 +74,23 @@ impl<G: Group> Groups<G> {
         ensures within { result ≤ last_id }
     {
         self.last
+    }
+
+    /// Hands out the ids up to this one, so that the next one is after it. Does not allocate.
+    pub fn skip(&mut self, last: u64)
+        requires least { self.old.last ≤ last }
+        requires most { last ≤ last_id }
+        ensures { self.new ≡ record { list = self.old.list; last = last } }
+    {
+        self.last = last;
+    }
+
+    /// Returns the groups by ascending id. The only fault is `Memory`.
+    pub fn to_vec(&self) -> Result<Vec<&G>, RealmFault>
+        ensures list { IfOk result (λ list. map (λ group. group.now) list.items ≡ self.now.list) }
+        ensures fault { IsOkUnless result fault.Memory }
+    {
+        listed(self.alloc, &self.by_id)
     }
 
     /// Returns the group with this pattern. Does not allocate.
@@ -153,6 +170,28 @@ impl<G: Group> Groups<G> {
         self.by_session.add(self.alloc, session.get(), id)?;
         let Ok(()) = join_in(&mut self.by_id, id, session) else {
             self.by_session.remove(session.get(), id);
+            return Err(RealmFault::Memory);
+        };
+        Ok(())
+    }
+
+    /// Adds the session to the group of this id, in which it must not be; nothing changes if no group has the id. The only fault is
+    /// `Memory`; nothing has changed then.
+    pub fn join_at(&mut self, session: Id, id: Id) -> Result<(), RealmFault>
+        requires { found_session G.sessions_of session (find (has_id G.id_of id) self.old.list) ≡ false }
+        ensures ok { OnOk result (self.new ≡ with_list self.old
+            (change_first (has_id G.id_of id) (λ group. Some (G.with session group)) self.old.list)) }
+        ensures err { OnErr result (self.new ≡ self.old) }
+        ensures fault { IsOkUnless result fault.Memory }
+    {
+        let number = id.get();
+        let Some(_group) = self.by_id.get(&number) else {
+            return Ok(());
+        };
+        let joining = session.get();
+        self.by_session.add(self.alloc, joining, number)?;
+        let Ok(()) = join_in(&mut self.by_id, number, session) else {
+            self.by_session.remove(joining, number);
             return Err(RealmFault::Memory);
         };
         Ok(())

@@ -6,8 +6,9 @@ mod groups;
 mod id_sets;
 mod kept;
 mod matching;
+mod restoring;
 
 pub use group::{Group, Turning};
 pub use groups::Groups;
-pub use realm_sessions::RealmFault;
+pub use realm_sessions::{RealmFault, RestoreFault};
 pub use wamp_ids::{Id, Pattern, Uri};

@@ -118,3 +118,18 @@ fn values<'a, G: Group>(
     }
     Ok(list)
 }
+
+// Returns all groups in order.
+pub(crate) fn listed<G: Group>(
+    alloc: Global,
+    rows: &BTreeMap<u64, G>,
+) -> Result<Vec<&G>, RealmFault>
+    ensures list { IfOk result (λ list. map (λ group. group.now) list.items ≡ members rows.now.entries) }
+    ensures fault { IsOkUnless result fault.Memory }
+{
+    let mut list = Vec::new(alloc);
+    for group in rows.values() {
+        list.push(group)?;
+    }
+    Ok(list)
+}

@@ -4,3 +4,4 @@ pub mod Cursor
 pub mod Grouped
 pub mod Registering
 pub mod SoundRegistrations
+pub mod PutRegistrations

@@ -3,3 +3,4 @@ pub mod Registration
 pub mod Registrations
 pub mod Laws
 pub mod Turning
+pub mod Restoring

@@ -1,4 +1,4 @@
-ghost use Rattle.std.specs.Prelude.{◌≡◌, ◌-◌, [], ◌∷◌, length, slice_get, OnOk, OnErr, IsOkUnless};
+ghost use Rattle.std.specs.Prelude.{◌≡◌, ◌-◌, [], ◌∷◌, length, slice_get, OnOk, OnErr, IfOk, IsOkUnless};
 ghost use Rattle.realm_sessions.specs.declared.fault.RealmFault.TheVariants as fault;
 ghost use Rattle.realm_sessions.specs.Members.{has_member, has_members, joined, others, rotated};
 ghost use Rattle.realm_registrations.specs.Callees.{one};
@@ -47,6 +47,17 @@ impl Callees {
             alone: Some(session),
             rotation: Rotation::new(alloc),
         }
+    }
+
+    /// Returns their ids, in the order of their turns. The only fault is `Memory`.
+    pub fn to_vec(&self, alloc: Global) -> Result<Vec<Id>, RealmFault>
+        ensures list { IfOk result (λ list. list.items ≡ self.now) }
+        ensures fault { IsOkUnless result fault.Memory }
+    {
+        let Some(session) = self.alone else {
+            return self.rotation.to_vec(alloc);
+        };
+        Ok(vec![in alloc; session]?)
     }
 
     /// Returns the first in turn. Does not allocate.

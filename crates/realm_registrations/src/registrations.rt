@@ -1,4 +1,5 @@
-ghost use Rattle.std.specs.Prelude.{◌≡◌, true, false, OnOk, OnErr, IsOkUnless, None};
+ghost use Rattle.std.specs.Prelude.{◌≡◌, ◌≤◌, true, false, IfOk, OnOk, OnErr, IsOkUnless, None, map};
+ghost use Rattle.wamp_ids.specs.Id.{last_id};
 ghost use Rattle.realm_sessions.specs.declared.fault.RealmFault.TheVariants as fault;
 ghost use Rattle.realm_sessions.specs.Fault.{Answers};
 ghost use Rattle.realm_registrations.specs.Registrations.{no_registrations, is_full, register, register_at};
@@ -52,6 +53,33 @@ impl Registrations {
             alloc,
             groups: Groups::new(alloc),
         }
+    }
+
+    // Returns these registrations, under this limit.
+    pub(crate) fn holding(alloc: Global, limit: u32, groups: Groups<Registration>) -> Registrations
+        ensures { result ≡ record { limit = limit; list = groups.list; last = groups.last } }
+    {
+        Registrations {
+            limit,
+            alloc,
+            groups,
+        }
+    }
+
+    /// Returns the registrations by ascending id. The only fault is `Memory`.
+    pub fn to_vec(&self) -> Result<Vec<&Registration>, RealmFault>
+        ensures list { IfOk result (λ list. map (λ registration. registration.now) list.items ≡ self.now.list) }
+        ensures fault { IsOkUnless result fault.Memory }
+    {
+        self.groups.to_vec()
+    }
+
+    /// Returns the greatest id that was handed out, 0 before the first. Does not allocate.
+    pub fn last(&self) -> u64
+        ensures last { result ≡ self.now.last }
+        ensures within { result ≤ last_id }
+    {
+        self.groups.last()
     }
 
     /// Adds the session as the last callee of the registration of this text and match, and returns the registration's id; if there is none,

@@ -51,6 +51,14 @@ impl Rotation {
         Ok(Rotation { list, cursor: 0 })
     }
 
+    // Returns the sessions in turn. The only fault is `Memory`.
+    pub fn to_vec(&self, alloc: Global) -> Result<Vec<Id>, RealmFault>
+        ensures list { IfOk result (λ list. list.items ≡ self.now) }
+        ensures fault { IsOkUnless result fault.Memory }
+    {
+        in_turn(alloc, &self.list, self.cursor)
+    }
+
     // Returns the first in turn. Does not allocate.
     pub fn first(&self) -> Option<Id>
         ensures { result ≡ slice_get self.now 0 }
@@ -104,6 +112,17 @@ impl Rotation {
     {
         self.cursor = next_cursor(&self.list, self.cursor);
     }
+}
+
+// Returns the sessions from the cursor on, and then those before it.
+fn in_turn(alloc: Global, list: &[Id], cursor: usize) -> Result<Vec<Id>, RealmFault>
+    requires { cursor ≤ length list.now }
+    ensures list { IfOk result (λ found. found.items ≡ seen cursor list.now) }
+    ensures fault { IsOkUnless result fault.Memory }
+{
+    let mut found = Vec::from_slice(alloc, &list[cursor..])?;
+    found.extend_from_slice(&list[..cursor])?;
+    Ok(found)
 }
 
 // Returns the session at the cursor, or the first one if the cursor is at the end.

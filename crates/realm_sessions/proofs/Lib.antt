@@ -1,3 +1,5 @@
+pub mod Apart
+pub mod PutLinks
 pub mod Pairs
 pub mod SoundLinks
 pub mod FreeIds

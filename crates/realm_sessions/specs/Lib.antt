@@ -4,3 +4,5 @@ pub mod Members
 pub mod Sessions
 pub mod Connected
 pub mod Laws
+pub mod Apart
+pub mod Restoring

@@ -83,3 +83,43 @@ impl<T: Drop> From<AllocFailed<T>> for RealmFault {
         RealmFault::Memory
     }
 }
+
+/// Why a part of a realm is not made of a list of what it is to hold.
+#[derive(Clone, Copy, Debug, PartialEq, Eq, Hash, Error)]
+pub enum RestoreFault {
+    #[error("no realm holds this")]
+    Damaged,
+    #[error("out of memory")]
+    Memory,
+}
+
+// Only `RealmFault::Memory` gets here: what else a part refuses is looked at before.
+impl From<RealmFault> for RestoreFault {
+    ghost use Rattle.realm_sessions.specs.declared.fault.RestoreFault.TheVariants.{Memory};
+
+    ghost from_gives = { λ _ e. e ≡ Memory };
+
+    fn from(_error: RealmFault) -> RestoreFault {
+        RestoreFault::Memory
+    }
+}
+
+impl From<AllocError> for RestoreFault {
+    ghost use Rattle.realm_sessions.specs.declared.fault.RestoreFault.TheVariants.{Memory};
+
+    ghost from_gives = { λ _ e. e ≡ Memory };
+
+    fn from(_error: AllocError) -> RestoreFault {
+        RestoreFault::Memory
+    }
+}
+
+impl From<wamp_ids::Memory> for RestoreFault {
+    ghost use Rattle.realm_sessions.specs.declared.fault.RestoreFault.TheVariants.{Memory};
+
+    ghost from_gives = { λ _ e. e ≡ Memory };
+
+    fn from(_error: wamp_ids::Memory) -> RestoreFault {
+        RestoreFault::Memory
+    }
+}

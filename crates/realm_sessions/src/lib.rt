@@ -5,10 +5,11 @@ mod connected;
 mod fault;
 pub mod laws;
 mod links;
+mod restoring;
 mod session_index;
 mod sessions;
 
-pub use fault::RealmFault;
+pub use fault::{RealmFault, RestoreFault};
 pub use links::{Link, Session};
 pub use paxos_packets::Transport;
 pub use sessions::Sessions;

@@ -51,6 +51,13 @@ impl Sessions {
         }
     }
 
+    // Returns the sessions of these links, under this limit.
+    pub(crate) fn holding(limit: u32, held: Connected) -> Sessions
+        ensures { result ≡ record { limit = limit; list = held } }
+    {
+        Sessions { limit, held }
+    }
+
     /// Adds the transport as the last one, without a session, unless it is connected. The only fault is `Memory`; nothing has
     /// changed then.
     pub fn connect(&mut self, transport: Transport) -> Result<(), RealmFault>

@@ -1,3 +1,4 @@
 pub mod Grouped
 pub mod Joined
 pub mod Sound
+pub mod PutSubscriptions

@@ -5,3 +5,4 @@ pub mod Subscribing
 pub mod Leaving
 pub mod Receiving
 pub mod Laws
+pub mod Restoring

@@ -5,13 +5,15 @@ mod later;
 pub mod laws;
 mod leaving;
 mod receiving;
+mod restoring;
 mod subscribers;
 mod subscribing;
 mod subscription;
 mod subscriptions;
 
-pub use realm_sessions::RealmFault;
+pub use realm_sessions::{RealmFault, RestoreFault};
 pub use receiving::Receiver;
+pub use restoring::SubscriptionParts;
 pub use subscribers::Subscribers;
 pub use subscription::Subscription;
 pub use subscriptions::Subscriptions;

@@ -1,4 +1,5 @@
-ghost use Rattle.std.specs.Prelude.{◌≡◌, Ok, Err, length, true, OnOk, OnErr, IsOk, IfOk, IsOkUnless, MatchBool};
+ghost use Rattle.std.specs.Prelude.{◌≡◌, ◌≤◌, Ok, Err, length, map, true, OnOk, OnErr, IsOk, IfOk, IsOkUnless, MatchBool};
+ghost use Rattle.wamp_ids.specs.Id.{last_id};
 ghost use Rattle.realm_sessions.specs.declared.fault.RealmFault.TheVariants as fault;
 ghost use Rattle.realm_sessions.specs.Fault.{Answers};
 ghost use Rattle.realm_subscriptions.specs.Subscriptions.{no_subscriptions};
@@ -52,6 +53,33 @@ impl Subscriptions {
             alloc,
             groups: Groups::new(alloc),
         }
+    }
+
+    // Returns these subscriptions, under this limit.
+    pub(crate) fn holding(alloc: Global, limit: u32, groups: Groups<Subscription>) -> Subscriptions
+        ensures { result ≡ record { limit = limit; list = groups.list; last = groups.last } }
+    {
+        Subscriptions {
+            limit,
+            alloc,
+            groups,
+        }
+    }
+
+    /// Returns the subscriptions by ascending id. The only fault is `Memory`.
+    pub fn to_vec(&self) -> Result<Vec<&Subscription>, RealmFault>
+        ensures list { IfOk result (λ list. map (λ subscription. subscription.now) list.items ≡ self.now.list) }
+        ensures fault { IsOkUnless result fault.Memory }
+    {
+        self.groups.to_vec()
+    }
+
+    /// Returns the greatest id that was handed out, 0 before the first. Does not allocate.
+    pub fn last(&self) -> u64
+        ensures last { result ≡ self.now.last }
+        ensures within { result ≤ last_id }
+    {
+        self.groups.last()
     }
 
     /// Adds the session as the last member of the pattern's subscription, and returns the subscription's id; a pattern without one gets
