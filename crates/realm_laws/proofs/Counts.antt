@@ -1,9 +1,10 @@
 -- How many elements of a list pass a test.
 use Rattle.std.proofs.Common.{◌≡◌, ℕ, ◌+◌, ◌≤◌, Bool, true, false, refl, ap, List, [], ◌∷◌, ◌++◌}
 use Rattle.std.proofs.Common.{length, filter, arith}
-use Rattle.std.specs.List.{flat_map}
+use Rattle.std.specs.List.{AllPairs, flat_map}
 use Rattle.std.proofs.lemmas.Bool.{cond_both, both_ways, false_from_ne_true}
-use Rattle.realm_laws.proofs.Has.{Has, in_front, further}
+use Rattle.realm_sessions.proofs.Pairs.{AllPairs-head, AllPairs-tail}
+use Rattle.realm_laws.proofs.Has.{Has, in_front, further, All-has}
 
 abbrev pub bit : Bool → ℕ
 bit true = 1
@@ -54,6 +55,20 @@ count_none p (x ∷ xs) h =
     let first : bit (p x) ≡ 0 = ap bit (false_from_ne_true (p x) (h x in_front)) in
     let rest : count p xs ≡ 0 = count_none p xs (λ y g. h y (further g)) in
     omega (arith, first, rest)
+
+-- no two pass both
+pub count_once : {A : Type 0} (p : A → Bool) (R : A → A → Type 0) (xs : List A) → AllPairs R xs
+    → ((x y : A) → R x y → p x ≡ true → p y ≡ true → ⊥) → count p xs ≤ 1
+count_once p R [] pairs h = omega arith
+count_once p R (x ∷ xs) pairs h =
+    let rest : count p xs ≤ 1 = count_once p R xs (AllPairs-tail R x xs pairs) h in by (p x) refl rest
+  where
+    by : (b : Bool) → p x ≡ b → count p xs ≤ 1 → bit b + count p xs ≤ 1
+    by true e rest =
+        let none : count p xs ≡ 0 =
+        count_none p xs (λ y g passes. h x y (All-has (R x) (AllPairs-head R x xs pairs) g) e passes) in
+        omega (arith, none)
+    by false e rest = omega (arith, rest)
 
 pub count_filter : {A : Type 0} (p q : A → Bool) (xs : List A) → count p (filter q xs) ≤ count p xs
 count_filter p q [] = omega arith

@@ -2,7 +2,7 @@
 use Rattle.std.proofs.Common.{◌≡◌, ◌⊎◌, inl, inr, ⊎_elim, Bool, true, false, ◌||◌, refl, sym, ◌∙◌, ap, subst, List, []}
 use Rattle.std.proofs.Common.{◌∷◌}
 use Rattle.std.proofs.Common.{◌++◌, map, Some, None, find, filter}
-use Rattle.std.specs.List.{All, AllPairs, list_any}
+use Rattle.std.specs.List.{All, AllPairs, list_any, flat_map}
 use Rattle.std.proofs.lemmas.Bool.{cond_both, false≢true}
 use Rattle.std.proofs.lemmas.List.Elements.{All-nil, All-cons, All-head, All-tail}
 use Rattle.realm_sessions.proofs.Pairs.{AllPairs-head, AllPairs-tail}
@@ -47,6 +47,16 @@ has_last [] y h = ⊎_elim (λ e. inr e) (λ r. absurd (has_nil r)) (has_cons h)
 has_last (z ∷ xs) y h =
     ⊎_elim (λ e. inl (has_first xs e)) (λ r. ⊎_elim (λ a. inl (further a)) (λ b. inr b) (has_last xs y r)) (has_cons h)
 
+pub has_either : {A : Type 0} (xs ys : List A) {x : A} → Has (xs ++ ys) x → Has xs x ⊎ Has ys x
+has_either [] ys h = inr h
+has_either (y ∷ xs) ys h =
+    ⊎_elim (λ e. inl (has_first xs e)) (λ r. ⊎_elim (λ a. inl (further a)) (λ b. inr b) (has_either xs ys r)) (has_cons h)
+
+pub has_flat : {A B : Type 0} (f : A → List B) (xs : List A) {y : B} → Has (flat_map f xs) y → (x : A) × Has xs x × Has (f x) y
+has_flat f [] h = absurd (has_nil h)
+has_flat f (x ∷ xs) h =
+    ⊎_elim (λ a. (x, in_front, a)) (λ b. let z = has_flat f xs b in (z.0, further z.1, z.2)) (has_either (f x) (flat_map f xs) h)
+
 pub any_has : {A : Type 0} (p : A → Bool) {xs : List A} {x : A} → Has xs x → p x ≡ true → list_any p xs ≡ true
 any_has p (in_front {x = x} {xs = xs}) t = ap (λ b. b || list_any p xs) t
 any_has p (further {x = x} {y = y} {xs = xs} h) t = both (p y) (list_any p xs) (any_has p h t)
@@ -65,7 +75,7 @@ has_any p (x ∷ xs) h =
     ⊎_elim (λ t. (x, in_front, t)) (λ r. let z = has_any p xs r in (z.0, further z.1, z.2))
     (or_either (p x) (list_any p xs) h)
 
-some_is : {A : Type 0} {x y : A} → Some x ≡ Some y → x ≡ y
+pub some_is : {A : Type 0} {x y : A} → Some x ≡ Some y → x ≡ y
 some_is h = cc
 
 pub find_has : {A : Type 0} (p : A → Bool) (xs : List A) {x : A} → find p xs ≡ Some x → Has xs x × (p x ≡ true)

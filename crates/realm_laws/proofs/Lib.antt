@@ -9,6 +9,11 @@ pub mod Moves
 pub mod Arms
 pub mod CallArms
 pub mod Steps
+pub mod Known
+pub mod Minding
+pub mod Minded
+pub mod Kept
+pub mod Unbegun
 pub mod Order
 pub mod Reached
 pub mod LogLaws

@@ -1,7 +1,7 @@
 -- A callee that is chosen and a member that is to receive an event are open sessions, so they are sent what is due.
-use Rattle.std.proofs.Common.{◌≡◌, ◌⊎◌, inl, inr, ⊎_elim, ℕ, zero, suc, ◌-◌, true, false, refl, ap, subst, ◌∙◌}
-use Rattle.std.proofs.Common.{List, [], ◌∷◌, ◌++◌, length, filter, find, Option, None, Some, option_map}
-use Rattle.std.specs.List.{flat_map, slice_get}
+use Rattle.std.proofs.Common.{◌≡◌, ℕ, zero, suc, ◌-◌, true, false, refl, ap, subst, ◌∙◌}
+use Rattle.std.proofs.Common.{List, [], ◌∷◌, length, filter, find, Option, None, Some, option_map}
+use Rattle.std.specs.List.{slice_get}
 use Rattle.std.proofs.lemmas.Bool.{cond-false, both_ways, false≢true}
 use Rattle.paxos_packets.specs.declared.transport.Transport.{Transport}
 use Rattle.wamp_ids.specs.declared.policy.Invoke.{Invoke}
@@ -34,7 +34,7 @@ use Rattle.realm_machine.specs.Content.{Step}
 use Rattle.realm_machine.specs.Leaving.{violation}
 use Rattle.realm_machine.specs.Calling.{refuse_call, invoke, call_chosen, call_uri, on_call}
 use Rattle.realm_laws.specs.Reaching.{Invokes, InvokesTheCallee, IsSent, SendsEachEvent}
-use Rattle.realm_laws.proofs.Has.{Has, in_front, further, has_cons, has_first, has_nil, has_any, has_filter, has_map, find_has, All-has, all_of}
+use Rattle.realm_laws.proofs.Has.{Has, further, has_first, has_any, has_filter, has_map, find_has, All-has, all_of, has_flat}
 use Rattle.realm_laws.proofs.Holders.{callee_open, member_open}
 
 -- ---- an open session is at a transport
@@ -159,16 +159,6 @@ invokes_callee config c r call uri chosen ok new is_uri ours found few unspent =
         }
 
 -- ---- an event
-
-has_either : {A : Type 0} (xs ys : List A) {x : A} → Has (xs ++ ys) x → Has xs x ⊎ Has ys x
-has_either [] ys h = inr h
-has_either (y ∷ xs) ys h =
-    ⊎_elim (λ e. inl (has_first xs e)) (λ r. ⊎_elim (λ a. inl (further a)) (λ b. inr b) (has_either xs ys r)) (has_cons h)
-
-has_flat : {A B : Type 0} (f : A → List B) (xs : List A) {y : B} → Has (flat_map f xs) y → (x : A) × Has xs x × Has (f x) y
-has_flat f [] h = absurd (has_nil h)
-has_flat f (x ∷ xs) h =
-    ⊎_elim (λ a. (x, in_front, a)) (λ b. let z = has_flat f xs b in (z.0, further z.1, z.2)) (has_either (f x) (flat_map f xs) h)
 
 pub sends_each_event : SendsEachEvent
 sends_each_event config c topic publication args except ok =

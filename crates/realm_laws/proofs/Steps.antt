@@ -1,5 +1,5 @@
 -- Every input, and the traces of every list of inputs.
-use Rattle.std.proofs.Common.{◌≡◌, ℕ, zero, suc, ◌+◌, ◌≤◌, ◌==◌, Bool, true, false, ◌&&◌, refl, subst}
+use Rattle.std.proofs.Common.{◌≡◌, ℕ, zero, suc, ◌+◌, ◌≤◌, ◌==◌, Bool, true, false, ◌&&◌, refl, sym, ◌∙◌, subst}
 use Rattle.std.proofs.Common.{if◌then◌else◌}
 use Rattle.std.proofs.Common.{List, [], ◌∷◌, ◌++◌, length, filter, replicate, Option, Some, None, arith}
 use Rattle.std.proofs.lemmas.Bool.{cond_both, and_parts, and_from, eqb-true, eq-eqb, both_ways, false≢true}
@@ -38,11 +38,14 @@ use Rattle.realm_machine.specs.Step.{step, after_input, said_at}
 use Rattle.realm_laws.specs.Trace.{Letter, Asked, Answered, is_call_of, is_call_read, asks, is_final, asked, letters}
 use Rattle.realm_laws.specs.Trace.{trace}
 use Rattle.realm_laws.specs.Trace.{begins_with_answer, has_two_answers}
-use Rattle.realm_laws.specs.Laws.{RepliesAnswerCalls, after, EveryOpenCallIsSound}
-use Rattle.realm_laws.proofs.Has.{has_nil, all_of}
-use Rattle.realm_laws.proofs.Counts.{bit, count_length}
-use Rattle.realm_laws.proofs.Standing.{at, session_at}
-use Rattle.realm_laws.proofs.Moves.{opens, finals, Base, Moves, said_moves, quiet_moves, remove_moves, violation_moves}
+use Rattle.realm_laws.specs.Laws.{RepliesAnswerCalls, after, EveryOpenCallIsSound, AreSoundOpenCalls}
+use Rattle.realm_sessions.specs.Laws.{AreSoundLinks}
+use Rattle.realm_calls.specs.Calls.{is_call}
+use Rattle.realm_calls.specs.Laws.{AreOtherRequests}
+use Rattle.realm_laws.proofs.Has.{has_nil, All-has, all_of}
+use Rattle.realm_laws.proofs.Counts.{bit, count_length, count_once}
+use Rattle.realm_laws.proofs.Standing.{at, session_at, one_id}
+use Rattle.realm_laws.proofs.Moves.{holds, opens, finals, Base, Moves, said_moves, quiet_moves, remove_moves, violation_moves}
 use Rattle.realm_laws.proofs.Moves.{aborted_moves}
 use Rattle.realm_laws.proofs.Moves.{goodbye_moves, all_gone_moves}
 use Rattle.realm_laws.proofs.Arms.{connect_moves, open_moves, subscribe_moves, unsubscribe_moves, publish_moves}
@@ -321,4 +324,35 @@ open_calls_sound config inputs =
       calls = base.calls;
       callers = all_of (λ (call : Open). is_taken c.sessions.list call.caller ≡ true) c.calls.list base.known;
       callees = all_of (λ (call : Open). is_taken c.sessions.list call.callee ≡ true) c.calls.list base.served;
+    }
+
+-- ---- open calls, after one input
+
+-- of two calls at most one is under a request of a transport
+one_open : (c : Content) → Base c → Once c
+one_open c base t r =
+    count_once (holds c.sessions.list t r) AreOtherRequests c.calls.list base.calls.requests
+    (λ a b apart first second.
+    let p = and_parts (a.request == r) (at c.sessions.list t a.caller) first in
+    let q = and_parts (b.request == r) (at c.sessions.list t b.caller) second in
+    both_ways (is_call b.caller b.request a) apart
+    (and_from (a.caller == b.caller) (a.request == b.request)
+    (eq-eqb a.caller b.caller (one_id c.sessions.list t a.caller b.caller base.links p.1 q.1))
+    (eq-eqb a.request b.request (eqb-true a.request r p.0 ∙ sym (eqb-true b.request r q.0)))))
+
+pub calls_after : (config : Config) (c : Content) (input : Input Act) → AreSoundLinks c.sessions.list → AreSoundOpenCalls c
+    → AreSoundOpenCalls (after_input config c input)
+calls_after config c input links calls =
+    let base : Base c = record {
+      links = links;
+      known = λ call h. All-has (λ (it : Open). is_taken c.sessions.list it.caller ≡ true) calls.callers h;
+      served = λ call h. All-has (λ (it : Open). is_taken c.sessions.list it.callee ≡ true) calls.callees h;
+      calls = calls.calls;
+    } in
+    let d = after_input config c input in
+    let after = (step_goes config c input base (one_open c base)).base in
+    record {
+      calls = after.calls;
+      callers = all_of (λ (call : Open). is_taken d.sessions.list call.caller ≡ true) d.calls.list after.known;
+      callees = all_of (λ (call : Open). is_taken d.sessions.list call.callee ≡ true) d.calls.list after.served;
     }

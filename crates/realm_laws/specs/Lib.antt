@@ -3,3 +3,5 @@ pub mod Laws
 pub mod Logs
 pub mod Leaving
 pub mod Reaching
+pub mod Kept
+pub mod Unbegun

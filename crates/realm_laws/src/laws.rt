@@ -5,6 +5,9 @@ ghost use Rattle.realm_laws.specs.Leaving.{LeavesInOrder};
 ghost use Rattle.realm_laws.specs.Reaching.{InvokesTheCallee, SendsEachEvent};
 ghost use Rattle.realm_laws.specs.Logs.{RegistrationsAreSoundInLogs, RealmIsSoundInLogs, OpenCallsAreSoundInLogs};
 ghost use Rattle.realm_laws.specs.Logs.{RepliesAnswerCallsInLogs};
+ghost use Rattle.realm_laws.specs.Kept.{EmptyIsKept, EachInputKeepsCalls, EachInputKeepsNumbered, EachInputKeepsAll};
+ghost use Rattle.realm_laws.specs.Kept.{KeptComesBack};
+ghost use Rattle.realm_laws.specs.Unbegun.{UnbegunAreToldNothing};
 
 /// What every realm keeps, whatever acts come to it and whichever nodes begin or are lost: each transport is connected once; no two
 /// sessions have one id; the ids of subscriptions rise, and none is above the last one that was handed out; each text and match has one
@@ -60,4 +63,21 @@ pub fn realms_are_sound_in_logs()
 /// no two after the same one. Does not allocate.
 pub fn replies_answer_calls_in_logs()
     ensures { RepliesAnswerCallsInLogs }
+{}
+
+/// A realm that is told nothing but inputs whose nodes, boots and transports are ones comes back out of its lists: `Realm::of_parts` makes
+/// that realm of what `Realm::parts` shows of it. For this its transports are ones, and its ids begin with 1. Does not allocate.
+pub fn realms_come_back()
+    ensures empty { EmptyIsKept }
+    ensures calls { EachInputKeepsCalls }
+    ensures numbered { EachInputKeepsNumbered }
+    ensures each_input { EachInputKeepsAll }
+    ensures back { KeptComesBack }
+{}
+
+/// Over every log a new realm says nothing to a boot's transports before the first Boot of that boot: each connected transport is of a boot
+/// that has begun, an act takes effect in a live boot alone, and a step speaks to connected transports and to its act's own. Does not
+/// allocate.
+pub fn the_unbegun_are_told_nothing()
+    ensures { UnbegunAreToldNothing }
 {}

@@ -12,3 +12,4 @@ pub mod Step
 pub mod Realm
 pub mod Machine
 pub mod Laws
+pub mod Parts

@@ -1,9 +1,11 @@
 ghost use Rattle.std.specs.Prelude.{◌≡◌, Some, string_bytes};
 ghost use Rattle.realm_machine.specs.Content.{empty};
 ghost use Rattle.realm_machine.specs.Realm.{Acts, Goes};
+ghost use Rattle.realm_machine.specs.Parts.{Shows};
 
 use crate::config::{Config, Limits};
 use crate::content::Content;
+use crate::parts::Parts;
 use crate::sayings::Say;
 use paxos_packets::Transport;
 use realm_acts::Act;
@@ -50,6 +52,26 @@ impl Realm {
             },
             content: Some(Content::new(alloc, limits)),
         }
+    }
+
+    // Returns the realm of this configuration that holds this.
+    pub(crate) fn holding(config: Config, content: Content) -> Realm
+        ensures { result ≡ record { config = config; content = Some content } }
+    {
+        Realm {
+            config,
+            content: Some(content),
+        }
+    }
+
+    /// Returns the realm's name and limits, and what it holds. Fails if the realm has failed. Does not allocate.
+    pub fn parts(&self) -> Result<Parts<'_>, Failed>
+        ensures { Shows self.now result }
+    {
+        let Some(content) = &self.content else {
+            return Err(Failed);
+        };
+        Ok(Parts::of(&self.config, content))
     }
 
     /// Takes one act at a transport, and returns what the realm says to which transports, in order.
