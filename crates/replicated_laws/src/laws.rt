@@ -10,7 +10,7 @@ ghost use Rattle.cluster_world.specs.StandsAt.{StandsAt};
 ghost use Rattle.replicated_laws.specs.Replicated.{AreSoundAlongLogs, RepliesAnswerCallsAlongLogs, RealmsFollow, AnswersAreOfRealms};
 
 use cluster_world::World;
-use realm_machine::Realm;
+use realm_snapshot::KeptRealm;
 
 /// Along the log of each node the realm's laws hold: at each prefix there is at most one registration for each text and match, each has a
 /// callee, and one under `single` has exactly one; everything else that every realm keeps, and what its open calls keep, holds there, too.
@@ -19,7 +19,7 @@ use realm_machine::Realm;
 /// If all realms were made with one configuration, each realm that has not been given up has the content of the written realm after the log
 /// that it has applied, of which its node's log is a prefix; and each transport of the present boot of a node that is up was handed what
 /// the written realm says to it along that node's log. Does not allocate.
-pub fn replicated_realm(world: &World<Realm>)
+pub fn replicated_realm(world: &World<KeptRealm>)
     ensures sound { AreSoundAlongLogs world.now }
     ensures replies { RepliesAnswerCallsAlongLogs world.now }
     ensures realms { (config : Config) (es : List (Event Act)) →

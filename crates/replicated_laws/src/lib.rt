@@ -4,4 +4,4 @@
 pub mod laws;
 
 pub use cluster_world::World;
-pub use realm_machine::Realm;
+pub use realm_snapshot::KeptRealm;

@@ -15,5 +15,6 @@ pub use fault::ScriptFault;
 pub use lines::Line;
 pub use paxos_packets::Members;
 pub use player::play;
-pub use realm_machine::{Limits, Realm};
+pub use realm_machine::Limits;
+pub use realm_snapshot::KeptRealm;
 pub use run::script_run;

@@ -25,7 +25,8 @@ use cluster_world::{Memory, World};
 use paxos_node::Event;
 use paxos_packets::{Body, Members, NodeSet, Packet};
 use realm_acts::Act;
-use realm_machine::{Limits, Realm};
+use realm_machine::Limits;
+use realm_snapshot::KeptRealm;
 use std::alloc::Global;
 
 // How many packets one flush delivers at most.
@@ -42,7 +43,7 @@ pub fn play(
     realm: &str,
     limits: Limits,
     lines: &[Line],
-) -> Result<World<Realm>, Memory>
+) -> Result<World<KeptRealm>, Memory>
     ensures members { IfOk result (λ w. w.members ≡ members) }
     ensures stands { IfOk result (λ w. IsPlayed (record { name = realm.now; limits = limits }) members lines.now w) }
 {
@@ -60,7 +61,7 @@ pub fn play(
 #[derive(Drop)]
 pub(crate) struct Player {
     alloc: Global,
-    world: World<Realm>,
+    world: World<KeptRealm>,
     waiting: Waiting,
 }
 
@@ -80,7 +81,7 @@ impl Player {
         })
     }
 
-    fn into_world(self) -> World<Realm>
+    fn into_world(self) -> World<KeptRealm>
         ensures { result ≡ self.world }
     {
         self.world
@@ -205,7 +206,7 @@ fn first_world(
     members: Members,
     realm: &str,
     limits: Limits,
-) -> Result<World<Realm>, Memory>
+) -> Result<World<KeptRealm>, Memory>
     ensures members { IfOk result (λ w. w.members ≡ members) }
     ensures stands { IfOk result (λ w. StandsAt same_act live_of (live_realm (record { name = realm.now; limits = limits })) w []) }
 {
@@ -214,7 +215,7 @@ fn first_world(
 }
 
 // Adds the packets that the world has sent since the last call to those that wait.
-fn send_new(world: &World<Realm>, waiting: &mut Waiting) -> Result<(), Memory>
+fn send_new(world: &World<KeptRealm>, waiting: &mut Waiting) -> Result<(), Memory>
     ensures { (config : Config) (es : List (occurred.Event acted.Act)) →
         StandsAt same_act live_of (live_realm config) world.now es →
         OnOk result (waiting.new ≡ send_all (drop (length waiting.old.sent) (played same_act world.now.members es).sent) waiting.old) }
@@ -226,7 +227,7 @@ fn send_new(world: &World<Realm>, waiting: &mut Waiting) -> Result<(), Memory>
 }
 
 // Returns the packet at this place, counted from 0 over all that were ever sent, or `None`.
-fn packet_at(world: &World<Realm>, place: usize) -> Option<&Packet<Act>>
+fn packet_at(world: &World<KeptRealm>, place: usize) -> Option<&Packet<Act>>
     ensures { (config : Config) (es : List (occurred.Event acted.Act)) →
         StandsAt same_act live_of (live_realm config) world.now es →
         option_copied result ≡ slice_get (played same_act world.now.members es).sent place }

@@ -18,6 +18,7 @@ use crate::stores::{MemoryStore, Stores, open_node_store};
 use actor_run::{Feed, Gate, Seen};
 use node_actor::{Event, Keeper, KeeperFault, Mail, Members, NodeSeat};
 use realm_machine::{Act, Limits, Realm, Say};
+use realm_snapshot::KeptRealm;
 use rtrb::Consumer;
 use serve_connections::{Arrival, Lobby};
 use serve_feed::{ClientFeed, Home, Pace, Paced};
@@ -113,12 +114,12 @@ struct Realms<'a> {
     name: &'a str,
 }
 
-impl Source<Realm> for Realms<'_> {
-    fn make_machine(&self, alloc: Global) -> Result<Realm, AllocError>
+impl Source<KeptRealm> for Realms<'_> {
+    fn make_machine(&self, alloc: Global) -> Result<KeptRealm, AllocError>
         ensures { IfOk result (λ realm. has_failed realm ≡ false) }
     {
         match String::from_str(alloc, self.name) {
-            Ok(name) => Ok(Realm::new(alloc, name, Limits::SERVED)),
+            Ok(name) => Ok(KeptRealm::new(Realm::new(alloc, name, Limits::SERVED))),
             Err(_) => Err(AllocError),
         }
     }
@@ -316,7 +317,7 @@ fn run_fed<R: Eprint, T: Gate, K: Keeper<Act> + Drop>(
 {
     let source = Realms { name: realm };
     let mut served = served;
-    let done = run_lives::<Realm, _, _, _, _>(
+    let done = run_lives::<KeptRealm, _, _, _, _>(
         alloc,
         mail,
         members,

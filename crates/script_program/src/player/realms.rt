@@ -5,6 +5,7 @@ ghost use Rattle.script_program.specs.Player.{first_realm};
 use cluster_world::Memory;
 use paxos_packets::Members;
 use realm_machine::{Limits, Realm};
+use realm_snapshot::KeptRealm;
 use std::alloc::{AllocError, Global};
 
 // Returns a realm of this name for each member, without transports.
@@ -13,7 +14,7 @@ pub(crate) fn realms_of(
     members: Members,
     name: &str,
     limits: Limits,
-) -> Result<Vec<Realm>, Memory>
+) -> Result<Vec<KeptRealm>, Memory>
     ensures count { IfOk result (λ realms. vec_len realms ≡ members) }
     ensures each { IfOk result (λ realms. All (λ realm. realm ≡ first_realm (record { name = name.now; limits = limits })) realms.items) }
 {
@@ -31,7 +32,7 @@ fn put_realms(
     count: u8,
     name: &str,
     limits: Limits,
-    realms: &mut Vec<Realm>,
+    realms: &mut Vec<KeptRealm>,
 ) -> Result<(), AllocError>
     requires none { realms.old.items ≡ [] }
     ensures count { OnOk result (vec_len realms.new ≡ count) }
@@ -40,7 +41,8 @@ fn put_realms(
     realms.reserve(usize::from(count))?;
     for _member in 0..count {
         let name = String::from_str(alloc, name)?;
-        realms.push_reserved(Realm::new(alloc, name, limits));
+        let realm = Realm::new(alloc, name, limits);
+        realms.push_reserved(KeptRealm::new(realm));
     }
     Ok(())
 }

@@ -19,7 +19,7 @@ use crate::text::page::write_rest;
 use crate::text::print::{print_handed, print_node};
 use cluster_world::{Handings, World};
 use paxos_packets::Members;
-use realm_machine::Realm;
+use realm_snapshot::KeptRealm;
 use replica_machine::Machine;
 use std::alloc::Global;
 use std::io::Write;
@@ -29,7 +29,7 @@ pub(crate) fn write_world<W: Write>(
     alloc: Global,
     writer: &mut W,
     members: Members,
-    world: &World<Realm>,
+    world: &World<KeptRealm>,
 ) -> Result<(), ScriptFault>
     requires members { world.now.members ≡ members }
     ensures { (config : Config) (ls : List lines.Line) → IsPlayed config members ls world.now →
@@ -44,7 +44,7 @@ fn print_world<W: Write>(
     writer: &mut W,
     out: &mut Vec<u8>,
     members: Members,
-    world: &World<Realm>,
+    world: &World<KeptRealm>,
 ) -> Result<(), ScriptFault>
     requires members { world.now.members ≡ members }
     ensures { (config : Config) (ls : List lines.Line) → IsPlayed config members ls world.now →
@@ -80,7 +80,7 @@ fn print_nodes<M: Machine, W: Write>(
 fn print_told<'a, W: Write>(
     writer: &mut W,
     out: &mut Vec<u8>,
-    told: Handings<'a, Realm>,
+    told: Handings<'a, KeptRealm>,
 ) -> Result<(), ScriptFault>
     ensures { Prints result (W.contents writer.old) (W.contents writer.new) out.old.items out.new.items (told_text told.entry) }
 {

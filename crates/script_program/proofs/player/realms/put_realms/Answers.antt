@@ -1,4 +1,4 @@
-use Rattle.std.proofs.Common.{ℕ, List, ap, arith, rules}
+use Rattle.std.proofs.Common.{ℕ, List, ap, ◌∙◌, arith, rules}
 use Rattle.realm_machine.specs.Config.{Config}
 use Rattle.script_program.proofs.Turns.{put_realm}
 use Rattle.script_program.proofs.player.realms.put_realms.Goals as goal
@@ -9,6 +9,7 @@ loop-member-preserved c =
     let named : List ℕ → Config = λ name. record { name = name; limits = c.args.limits } in (
       omega (arith, c.push_reserved.ensures.len, c.loop-member.invariant.0),
       search rules,
-      put_realm config c.loop-member.realms.items c.push_reserved.new.self.items c.new.result _ c.push_reserved.ensures.items c.new.ensures.config
-          (ap named c.in_ok-name.ensures.ok) c.new.ensures.content c.loop-member.invariant.2,
+      put_realm config c.loop-member.realms.items c.push_reserved.new.self.items c.new.result _ c.push_reserved.ensures.items
+          (ap (λ r. r.config) c.new.ensures ∙ c.new-realm.ensures.config) (ap named c.in_ok-name.ensures.ok)
+          (ap (λ r. r.content) c.new.ensures ∙ c.new-realm.ensures.content) c.loop-member.invariant.2,
     )

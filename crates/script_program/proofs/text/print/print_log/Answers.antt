@@ -6,7 +6,7 @@ use Rattle.script_program.proofs.Pages.{begins, goes_on, goes_wrong}
 use Rattle.script_program.proofs.text.print.print_log.Goals as goal
 
 pub loop-entry-init : goal.loop-entry-init
-loop-entry-init g c = (refl, c.new-roll.ensures, begins _ _ _)
+loop-entry-init g c = (refl, c.new-roll.ensures.unknown, begins _ _ _)
 
 pub returns-in_err-print_entry : goal.returns-in_err-print_entry
 returns-in_err-print_entry g c =

@@ -1,0 +1,6 @@
+mod Taking
+pub mod RoundTrip
+pub mod PartsBack
+pub mod RealmBack
+pub mod Listing
+pub mod AsMachine
