@@ -49,6 +49,6 @@ told_all same from content saw holds finds failures old now view feed gave got (
       held = runs.0;
       back = runs.1.back;
       acts = under.went.acts ∙ ap (asked_in old.node.me) (sym all.0);
-      says = λ first follows. all.1 ∙ under.went.says first follows;
+      says = λ first follows. all.1 ∙ under.went.says first [] follows;
     }
 told_all same from content saw holds finds failures old now view feed gave got (Err fault) ok shows runs = absurd (false≢true ok)

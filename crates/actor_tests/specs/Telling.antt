@@ -1,5 +1,5 @@
 -- What a run makes of what its feed gave and got.
-use Rattle.std.specs.Prelude.{◌≡◌, ℕ, Bool, false, Option, List, ◌++◌}
+use Rattle.std.specs.Prelude.{◌≡◌, ℕ, Bool, false, Option, List, [], ◌++◌}
 use Rattle.paxos_node.specs.declared.event.Event.{Event}
 use Rattle.replica_machine.specs.Log.{Follows}
 use Rattle.replica_machine.specs.Replay.{Machine}
@@ -20,4 +20,4 @@ pub record TellsAll {B S Y M K : Type 0} (same : B → B → Bool) (from : S →
   pub held : Option (Event B)
   pub back : IsHeld same actor.node.members held made (seen view)
   pub acts : acts_in (gained_in same actor.node.members made (seen view)) ++ late_of actor.node.me held ≡ asked_in actor.node.me gave
-  pub says : (first : S) → Follows from content first actor.log → got ≡ said_in same actor.node.members (from first) made (seen view)
+  pub says : (first : S) → Follows from content first actor.log → got ≡ said_in same actor.node.members (from first) [] made (seen view)

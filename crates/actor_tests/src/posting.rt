@@ -10,7 +10,7 @@ ghost use Rattle.std.specs.Prelude.{◌≡◌, ◌≤◌, ℕ, eqb, All, IfOk, I
 use crate::check::Check;
 use mail_table::{Mail, NodeSeat, Office, found};
 use paxos_node::{Event, Node, Outcome, Packets};
-use paxos_packets::{Kind, Members, Packet, Rows, Votes};
+use paxos_packets::{Kind, Members, Packet, Rows};
 use std::alloc::Global;
 use std::process::Abort;
 use std::test::Fail;
@@ -29,11 +29,7 @@ pub(crate) fn opened(
     requires members { members ≡ mail.now.members }
     ensures { IfOk result (λ node. Knows mail.now seat.new node) }
 {
-    let rows = Rows {
-        boot: 1,
-        promised: None,
-        votes: Votes::new(alloc),
-    };
+    let rows = Rows::first(alloc);
     mail.renew(seat, &rows)?;
     Ok(Node::of(alloc, seat.node(), members, rows)?)
 }

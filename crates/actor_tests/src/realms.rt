@@ -4,6 +4,7 @@ ghost use Rattle.realm_machine.specs.Machine.{has_failed};
 
 use crate::check::Check;
 use realm_machine::{Act, Id, Limits, Out, Realm, Say, Shared, Transport};
+use realm_snapshot::KeptRealm;
 use std::alloc::Global;
 use std::panic::Expect;
 use std::process::Abort;
@@ -18,11 +19,11 @@ const LIMITS: Limits = Limits {
 };
 
 /// A new realm.
-pub fn realm(rt: &impl Abort, alloc: Global) -> Realm
+pub fn realm(rt: &impl Abort, alloc: Global) -> KeptRealm
     ensures { has_failed result ≡ false }
 {
     let name = String::from_str(alloc, "realm1").expect(rt, "memory for a name");
-    Realm::new(alloc, name, LIMITS)
+    KeptRealm::new(Realm::new(alloc, name, LIMITS))
 }
 
 /// A client says this; the draw for it is 1.

@@ -7,13 +7,14 @@ use crate::hearing::{Heard, Told, hear, is_log};
 use crate::realms::{are_said, realm, said};
 use mail_table::Mail;
 use node_actor::{Actor, Keeper, Machine};
-use realm_machine::{Act, Realm, Say};
+use realm_machine::{Act, Say};
+use realm_snapshot::KeptRealm;
 use std::alloc::Global;
 use std::process::Abort;
 use store_keeper::MemKeeper;
 use test_checks::check;
 
-type Serving = Actor<Realm, MemKeeper<Act>>;
+type Serving = Actor<KeptRealm, MemKeeper<Act>>;
 
 // What becomes of node 2.
 #[derive(Clone, Copy)]
@@ -274,8 +275,8 @@ struct Session<'a, R> {
     last: &'a [&'a str],
 }
 
-impl<R: Abort> Life<Realm, MemKeeper<Act>> for Session<'_, R> {
-    fn machine(&self) -> Realm {
+impl<R: Abort> Life<KeptRealm, MemKeeper<Act>> for Session<'_, R> {
+    fn machine(&self) -> KeptRealm {
         realm(self.rt, self.alloc)
     }
 
@@ -337,6 +338,6 @@ fn logs_are_gathered(rt: HostRuntime) {
             lengths,
             last,
         };
-        live::<Realm, MemKeeper<Act>, _>(&rt, rt.alloc(), &mut session);
+        live::<KeptRealm, MemKeeper<Act>, _>(&rt, rt.alloc(), &mut session);
     }
 }

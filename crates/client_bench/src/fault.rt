@@ -1,4 +1,5 @@
 use realm_machine::Failed;
+use realm_snapshot::{LoadFault, SaveFault};
 use std::alloc::{AllocError, AllocFailed};
 use std::io;
 use thiserror::Error;
@@ -9,6 +10,8 @@ use wamp_messages::Memory;
 pub enum BenchFault {
     #[error("the realm has failed")]
     Failed,
+    #[error("what was saved is not loaded")]
+    Damaged,
     #[error("a number is no id")]
     Number,
     #[error("out of memory")]
@@ -44,5 +47,23 @@ impl<T: Drop> From<AllocFailed<T>> for BenchFault {
 impl From<io::Error> for BenchFault {
     fn from(_error: io::Error) -> BenchFault {
         BenchFault::Output
+    }
+}
+
+impl From<SaveFault> for BenchFault {
+    fn from(fault: SaveFault) -> BenchFault {
+        match fault {
+            SaveFault::Failed => BenchFault::Failed,
+            SaveFault::Memory => BenchFault::Memory,
+        }
+    }
+}
+
+impl From<LoadFault> for BenchFault {
+    fn from(fault: LoadFault) -> BenchFault {
+        match fault {
+            LoadFault::Damaged => BenchFault::Damaged,
+            LoadFault::Memory => BenchFault::Memory,
+        }
     }
 }

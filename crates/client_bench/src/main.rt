@@ -3,6 +3,7 @@
 
 mod acts;
 mod fault;
+mod keeping;
 mod run;
 
 use crate::fault::BenchFault;
@@ -14,7 +15,8 @@ const USAGE: &str = "\
 usage: client_bench S N
   opens S sessions, each with 4 subscriptions (a topic, a prefix, a wildcard, and a topic of all) and 2 registrations,
   and then does each operation N times in each of 8 turns: a PUBLISH to a topic with one member, a CALL and its YIELD,
-  a SUBSCRIBE and its UNSUBSCRIBE, a REGISTER and its UNREGISTER, and to connect, say HELLO and hang up
+  a SUBSCRIBE and its UNSUBSCRIBE, a REGISTER and its UNREGISTER, and to connect, say HELLO and hang up; before these it
+  saves and loads the realm 8 times
   Counts are printed, and on standard error the nanoseconds of an operation in its fastest turn, its messages being read
   before. S is at most 1,000,000, and so is N";
 

@@ -1,6 +1,7 @@
 // A realm alone, with a number of sessions, and how long its operations take.
 use crate::acts::{Operation, Planned, opening_of, plan_of};
 use crate::fault::BenchFault;
+use crate::keeping;
 use realm_machine::{Limits, Realm};
 use std::alloc::Global;
 use std::time::Instant;
@@ -129,6 +130,7 @@ fn measure_all(
 ) -> Result<(), BenchFault> {
     let said = open_all(rt.alloc(), realm, sessions)?;
     println!(rt; "{sessions} sessions open, {said} said")?;
+    keeping::measure(rt, realm, sessions)?;
     for operation in OPERATIONS {
         measure(rt, realm, operation, sessions, times)?;
     }

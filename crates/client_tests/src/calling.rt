@@ -1,5 +1,5 @@
 use crate::check::Check;
-use crate::realm::{HELLO, Row, check, in_one_text, realm_of, replies};
+use crate::realm::{HELLO, Row, check, in_one_text, realm_of, reload, replies};
 use realm_machine::{Realm, Say, Transport};
 use std::alloc::Global;
 use std::process::Abort;
@@ -433,10 +433,20 @@ fn told_gone(rt: &impl Abort, alloc: Global, realm: &mut Realm, node: u8) -> Vec
 // What a transport does, by node and number.
 type Gone = (u8, u32, u64, &'static str);
 
+// Each transport does what its row says.
 fn say_all(rt: &impl Abort, alloc: Global, realm: &mut Realm, rows: &[Gone]) {
     for (node, number, draw, text) in rows {
         let _said = replies(rt, alloc, realm, at(*node, *number), *draw, text);
     }
+}
+
+// The same, with a realm that is saved and loaded before each row and after the last.
+fn say_all_reloaded(rt: &impl Abort, alloc: Global, realm: &mut Realm, rows: &[Gone]) {
+    for (node, number, draw, text) in rows {
+        reload(rt, alloc, realm);
+        let _said = replies(rt, alloc, realm, at(*node, *number), *draw, text);
+    }
+    reload(rt, alloc, realm);
 }
 
 // Whether the end of node 3 makes the realm say this.
@@ -451,10 +461,19 @@ fn is_gone(rt: &impl Abort, alloc: Global, realm: &mut Realm, rows: &[Gone], say
     check!(rt; is_told_gone(rt, alloc, realm, ""));
 }
 
-// Checks what the end of node 3 makes the realm say after these rows, once.
+fn is_gone_reloaded(rt: &impl Abort, alloc: Global, realm: &mut Realm, rows: &[Gone], says: &str) {
+    say_all_reloaded(rt, alloc, realm, rows);
+    check!(rt; is_told_gone(rt, alloc, realm, says));
+    reload(rt, alloc, realm);
+    check!(rt; is_told_gone(rt, alloc, realm, ""));
+}
+
+// Checks what the end of node 3 makes the realm say after these rows, once, and the same of a realm that is saved and loaded between them.
 fn check_gone(rt: &impl Abort, alloc: Global, rows: &[Gone], says: &str) {
     let mut realm = realm_of(rt, alloc, 4096);
     is_gone(rt, alloc, &mut realm, rows, says);
+    realm = realm_of(rt, alloc, 4096);
+    is_gone_reloaded(rt, alloc, &mut realm, rows, says);
 }
 
 const A_NODE_IS_GONE: &[Gone] = &[

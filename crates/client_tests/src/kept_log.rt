@@ -3,7 +3,7 @@
 // them what clients were told then. What WELCOME announces since comes after the octets that are compared.
 use crate::check::Check;
 use crate::entries::letter_again;
-use crate::realm::{realm_of, spelled};
+use crate::realm::{realm_of, reload, spelled};
 use command_codec::{Entry, take_entry};
 use realm_acts::Act;
 use realm_codec::ActCoder;
@@ -232,8 +232,22 @@ fn replays(rt: &impl Abort, alloc: Global, realm: &mut Realm, rows: &[Row]) {
     }
 }
 
+// The same, with a realm that is saved and loaded before each entry.
+fn replays_reloaded(rt: &impl Abort, alloc: Global, realm: &mut Realm, rows: &[Row]) {
+    for row in rows {
+        reload(rt, alloc, realm);
+        check!(rt; is_replayed(rt, alloc, realm, row), row.1);
+    }
+}
+
+fn replays_both_ways(rt: &impl Abort, alloc: Global, rows: &[Row]) {
+    let mut realm = realm_of(rt, alloc, 1024);
+    replays(rt, alloc, &mut realm, rows);
+    realm = realm_of(rt, alloc, 1024);
+    replays_reloaded(rt, alloc, &mut realm, rows);
+}
+
 #[test]
 fn a_log_of_before_is_replayed(rt: HostRuntime) {
-    let mut realm = realm_of(&rt, rt.alloc(), 1024);
-    replays(&rt, rt.alloc(), &mut realm, LOG);
+    replays_both_ways(&rt, rt.alloc(), LOG);
 }

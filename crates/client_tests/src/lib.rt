@@ -31,11 +31,15 @@ mod patterns;
 #[cfg(test)]
 mod progressing;
 #[cfg(test)]
+mod random_acts;
+#[cfg(test)]
 mod realm;
 #[cfg(test)]
 mod registrations;
 #[cfg(test)]
 mod sessions;
+#[cfg(test)]
+mod snapshots;
 #[cfg(test)]
 mod subscriptions;
 #[cfg(test)]

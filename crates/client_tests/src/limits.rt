@@ -1,6 +1,6 @@
-// The program's own limits: what is one more than they allow is refused for the limit.
+// The program's own limits: what is one more than they allow is refused for the limit, and again once the realm was saved and loaded.
 use crate::check::Check;
-use crate::realm::{HELLO, replies, transport};
+use crate::realm::{HELLO, reload, replies, transport};
 use realm_machine::{Limits, Realm};
 use std::alloc::Global;
 use std::process::Abort;
@@ -58,6 +58,8 @@ fn opens_sessions(rt: &impl Abort, alloc: Global, realm: &mut Realm, sessions: u
 fn sessions_end(rt: &impl Abort, alloc: Global, realm: &mut Realm) {
     opens_sessions(rt, alloc, realm, 4096);
     check!(rt; is_refused(rt, alloc, realm, 4097, "4097 [3,{},\"cluster.error.limit\"];4097 close;"));
+    reload(rt, alloc, realm);
+    check!(rt; is_refused(rt, alloc, realm, 4098, "4098 [3,{},\"cluster.error.limit\"];4098 close;"));
 }
 
 #[test]
@@ -113,6 +115,8 @@ fn goes_to_1024(rt: &impl Abort, alloc: Global, realm: &mut Realm, asked: Asked,
     for number in 1..=1024 {
         check!(rt; is_granted(rt, alloc, realm, asked, number), number);
     }
+    check!(rt; is_over(rt, alloc, realm, asked, wanted), wanted);
+    reload(rt, alloc, realm);
     check!(rt; is_over(rt, alloc, realm, asked, wanted), wanted);
 }
 

@@ -1,5 +1,6 @@
 use crate::check::Check;
 use realm_machine::{Act, Id, Limits, Out, Realm, Say, Shared, Transport};
+use realm_snapshot::{load, save};
 use std::alloc::Global;
 use std::process::Abort;
 use test_checks::check;
@@ -158,6 +159,21 @@ fn opens(rt: &impl Abort, alloc: Global, realm: &mut Realm, clients: &[Option<&'
     }
 }
 
+// Saves the realm, and goes on with the one that is loaded.
+pub fn reload(rt: &impl Abort, alloc: Global, realm: &mut Realm) {
+    let octets = save(alloc, realm).ok().expect(rt, "the realm's octets");
+    *realm = load(alloc, &octets).ok().expect(rt, "the realm again");
+}
+
+// The same, with a realm that is saved and loaded before each row and after the last.
+fn goes_reloaded(rt: &impl Abort, alloc: Global, realm: &mut Realm, rows: &[Row]) {
+    for row in rows {
+        reload(rt, alloc, realm);
+        check!(rt; is_said(rt, alloc, realm, row), (row.0, row.2));
+    }
+    reload(rt, alloc, realm);
+}
+
 fn opens_and_goes(
     rt: &impl Abort,
     alloc: Global,
@@ -170,7 +186,21 @@ fn opens_and_goes(
     goes(rt, alloc, realm, rows);
 }
 
-// Rows in a realm with this limit, in which clients are connected, each with a session by its HELLO, or with none.
+fn opens_and_goes_reloaded(
+    rt: &impl Abort,
+    alloc: Global,
+    realm: &mut Realm,
+    clients: &[Option<&'static str>],
+    rows: &[Row],
+) {
+    connects(rt, alloc, realm, clients.len());
+    reload(rt, alloc, realm);
+    opens(rt, alloc, realm, clients);
+    goes_reloaded(rt, alloc, realm, rows);
+}
+
+// Rows in a realm with this limit, in which clients are connected, each with a session by its HELLO, or with none; and the same rows in
+// a realm that is saved and loaded between each two of them.
 pub fn check(
     rt: &impl Abort,
     alloc: Global,
@@ -180,6 +210,8 @@ pub fn check(
 ) {
     let mut realm = realm_of(rt, alloc, limit);
     opens_and_goes(rt, alloc, &mut realm, clients, rows);
+    realm = realm_of(rt, alloc, limit);
+    opens_and_goes_reloaded(rt, alloc, &mut realm, clients, rows);
 }
 
 const TWO_CLIENTS_AND_ONE_TOPIC: &[Row] = &[

@@ -1,5 +1,6 @@
 use crate::check::Check;
-use replica_machine::{AppliedLog, Entry, LearnFault, Machine, Roll, Slot};
+use replica_machine::{AppliedLog, Entry, LearnFault, LoadFault, Machine, Roll, SaveFault, Slot};
+use std::alloc::Global;
 use std::process::Abort;
 use test_checks::{check, check_eq};
 use test_machines::{Count, Number, Refuses};
@@ -159,6 +160,158 @@ fn spoils(rt: &impl Abort, log: &mut AppliedLog<Refuses>) {
 fn a_machine_that_refuses_spoils_the_log(rt: HostRuntime) {
     let mut log = AppliedLog::new(rt.alloc(), Refuses::new(rt.alloc(), 3));
     spoils(&rt, &mut log);
+}
+
+// The log of the entries out of order goes on with the steps from one place to another.
+fn goes_between(rt: &impl Abort, log: &mut AppliedLog<Count>, from: usize, to: usize) {
+    for (place, told) in SKIPPED.iter().enumerate() {
+        if from <= place && place < to {
+            check_eq!(rt; step(rt, log), *told);
+        }
+    }
+}
+
+// The log of the entries out of order after this many steps, saved.
+fn saved(rt: &impl Abort, alloc: Global, taken: usize) -> Vec<u8> {
+    let mut log = AppliedLog::new(alloc, Count::new(alloc));
+    learn_after(rt, &mut log, &OUT_OF_ORDER, 0);
+    goes_between(rt, &mut log, 0, taken);
+    let octets = log.save().expect(rt, "the octets of a log");
+    drop(log);
+    octets
+}
+
+// A log that is loaded goes on as the one that was saved. It is told all entries again, and those up to its floor change nothing.
+fn goes_on_from(rt: &impl Abort, log: &mut AppliedLog<Count>, floor: usize) {
+    check_eq!(rt; (log.floor(), log.applied().len()), (floor as u64, 0));
+    learn_after(rt, log, &OUT_OF_ORDER, 0);
+    goes_between(rt, log, floor, 7);
+    check_eq!(rt; (log.machine().sum(), log.applied().len()), (60, 6usize.saturating_sub(floor)));
+}
+
+#[test]
+fn a_log_goes_on_as_it_was_saved(rt: HostRuntime) {
+    for floor in 0..7usize {
+        let octets = saved(&rt, rt.alloc(), floor);
+        let mut log = AppliedLog::load(rt.alloc(), &octets).expect(&rt, "a log that was saved");
+        drop(octets);
+        goes_on_from(&rt, &mut log, floor);
+        drop(log);
+    }
+}
+
+// The log of the entries out of order: 6 slots; node 1 live in boot 1, 3 of its Items taken; the sum 60.
+const SAVED: &[u8] = &[
+    0, 0, 0, 0, 0, 0, 0, 6, //
+    0, 0, 0, 0, 0, 0, 0, 1, 1, 0, 0, 0, 0, 0, 0, 0, 3, //
+    0, 0, 0, 0, 0, 0, 0, 0, 0, 0, 0, 0, 0, 0, 0, 0, 0, //
+    0, 0, 0, 0, 0, 0, 0, 0, 0, 0, 0, 0, 0, 0, 0, 0, 0, //
+    0, 0, 0, 0, 0, 0, 0, 0, 0, 0, 0, 0, 0, 0, 0, 0, 0, //
+    0, 0, 0, 0, 0, 0, 0, 0, 0, 0, 0, 0, 0, 0, 0, 0, 0, //
+    0, 0, 0, 0, 0, 0, 0, 0, 0, 0, 0, 0, 0, 0, 0, 0, 0, //
+    0, 0, 0, 0, 0, 0, 0, 0, 0, 0, 0, 0, 0, 0, 0, 0, 0, //
+    0, 0, 0, 0, 0, 0, 0, 60,
+];
+
+#[test]
+fn a_log_is_saved_as_its_layout_says(rt: HostRuntime) {
+    let octets = saved(&rt, rt.alloc(), 6);
+    check_eq!(&rt; octets.as_slice(), SAVED);
+    drop(octets);
+}
+
+// A place in these octets, and what stands there in octets that are no log: a floor, a boot and a count above the greatest, a flag that is
+// none, no flag at a boot that counts Items, and a boot that is live at 0.
+const DAMAGES: &[(usize, u8)] = &[(2, 1), (9, 1), (18, 1), (16, 2), (16, 0), (33, 1), (41, 1)];
+
+// Returns the number of the fault with which octets are not loaded; 0 if they are.
+fn refused(alloc: Global, octets: &[u8]) -> u8 {
+    match AppliedLog::<Count>::load(alloc, octets) {
+        Ok(log) => {
+            drop(log);
+            0
+        },
+        Err(fault) => fault.number(),
+    }
+}
+
+fn damaged(rt: &impl Abort, alloc: Global, place: usize, octet: u8) -> u8 {
+    let mut octets = Vec::new(alloc);
+    octets
+        .extend_from_slice(SAVED)
+        .expect(rt, "room for octets");
+    if let Some(there) = octets.get_mut(place) {
+        *there = octet;
+    }
+    let number = refused(alloc, &octets);
+    drop(octets);
+    number
+}
+
+#[test]
+fn damaged_octets_are_91(rt: HostRuntime) {
+    check_eq!(&rt; refused(rt.alloc(), SAVED), 0);
+    check_eq!(&rt; refused(rt.alloc(), &SAVED[..134]), 91);
+    check_eq!(&rt; refused(rt.alloc(), &[]), 91);
+    for (place, octet) in DAMAGES {
+        check_eq!(&rt; damaged(&rt, rt.alloc(), *place, *octet), 91);
+    }
+}
+
+#[test]
+fn one_octet_more_is_91(rt: HostRuntime) {
+    let mut octets = saved(&rt, rt.alloc(), 6);
+    octets.push(0).expect(&rt, "room for an octet");
+    check_eq!(&rt; refused(rt.alloc(), &octets), 91);
+    drop(octets);
+}
+
+// A log that is cut after three slots, and again at its end.
+fn is_cut(rt: &impl Abort, log: &mut AppliedLog<Count>) {
+    learn_after(rt, log, &OUT_OF_ORDER, 0);
+    log.cut();
+    check_eq!(rt; log.floor(), 0);
+    goes_between(rt, log, 0, 3);
+    log.cut();
+    check_eq!(rt; (log.floor(), log.applied().len(), log.machine().sum()), (3, 0, 10));
+    // another entry in a slot up to the floor, and in one above it
+    for (place, seq, number) in [(0, 1, 0), (2, 5, 0), (3, 5, 46), (3, 3, 0)] {
+        check_eq!(rt; refusal(rt, log, place, seq), number);
+    }
+    goes_between(rt, log, 3, 7);
+    log.cut();
+    check_eq!(rt; (log.floor(), log.applied().len(), log.machine().sum()), (6, 0, 60));
+}
+
+#[test]
+fn a_log_that_is_cut_goes_on(rt: HostRuntime) {
+    let mut log = AppliedLog::new(rt.alloc(), Count::new(rt.alloc()));
+    is_cut(&rt, &mut log);
+}
+
+// A log whose machine has failed is not saved.
+fn is_not_saved(rt: &impl Abort, log: &mut AppliedLog<Refuses>) {
+    learn_after(rt, log, &OUT_OF_ORDER, 0);
+    check_eq!(rt; steps(log, 6), 5);
+    match log.save() {
+        Ok(octets) => {
+            drop(octets);
+            check!(rt; false);
+        },
+        Err(fault) => check_eq!(rt; fault.number(), 48),
+    }
+}
+
+#[test]
+fn a_failed_log_is_not_saved(rt: HostRuntime) {
+    let mut log = AppliedLog::new(rt.alloc(), Refuses::new(rt.alloc(), 3));
+    is_not_saved(&rt, &mut log);
+}
+
+#[test]
+fn faults_of_saving_have_their_numbers(rt: HostRuntime) {
+    check_eq!(&rt; (SaveFault::Failed.number(), SaveFault::Memory.number()), (48, 92));
+    check_eq!(&rt; (LoadFault::Damaged.number(), LoadFault::Memory.number()), (91, 92));
 }
 
 // An entry without a body: of a node in its boot.

@@ -2,7 +2,7 @@
 use crate::closing::push;
 use crate::standing::NODES;
 use paxos_node::{Event, Node, NodeFault, Packets};
-use paxos_packets::{Body, Entries, Entry, Members, Packet, Rows, Votes};
+use paxos_packets::{Body, Entries, Entry, Members, Packet, Rows};
 use std::alloc::Global;
 use std::collections::VecDeque;
 
@@ -51,12 +51,7 @@ pub trait Passes<B: Body> {
 // The nodes begin.
 
 fn node_of<B: Drop>(alloc: Global, number: u8, members: Members) -> Result<Node<B>, NodeFault> {
-    let rows = Rows {
-        boot: 1,
-        promised: None,
-        votes: Votes::new(alloc),
-    };
-    Node::of(alloc, number, members, rows)
+    Node::of(alloc, number, members, Rows::first(alloc))
 }
 
 // Adds nodes 1 to `count`. Returns whether there was memory for them.

@@ -1,4 +1,4 @@
-use Rattle.std.proofs.Common.{◌≡◌, ◌∙◌, ap, sym, None}
+use Rattle.std.proofs.Common.{◌≡◌, ◌∙◌, ap, sym}
 use Rattle.mail_table.specs.Views.{opened_with}
 use Rattle.paxos_node.specs.Applying.{started}
 use Rattle.paxos_packets.specs.declared.rows.Rows.{Rows}
@@ -7,7 +7,7 @@ use Rattle.actor_tests.proofs.posting.opened.Goals as goal
 pub returns : goal.returns
 returns c =
     let r = c.in_ok-renew.ensures.renewed in
-    let rows : Rows _ = record { boot = 1; promised = None; votes = c.new.result } in
+    let rows : Rows _ = c.first-rows.result in
     let me = c.in_ok-of.ensures.me ∙ c.node.ensures in
     record {
       owned = c.in_ok-renew.ensures.still_owned;
