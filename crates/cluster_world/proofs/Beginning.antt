@@ -348,7 +348,7 @@ module _ {B : Type 0} (same : B → B → Bool) (equal : IsEquality same) (membe
       (suc last_rescue_slot) first_most)
       ∙ ap (λ (x : NodeState B). x.pending) x_is
 
-  -- whoever else was up is up
+  -- each other node that was up is up
   still_u : (j : ℕ) → (j ≡ n → ⊥) → (node_at w.nodes j).up ≡ true → (node_at u.nodes j).up ≡ true
   still_u j d h =
       ⊎_elim

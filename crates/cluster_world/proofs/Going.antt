@@ -221,7 +221,7 @@ module _ {B : Type 0} (same : B → B → Bool) (equal : IsEquality same) (membe
       others lows
       enough (log_length z) ready
 
-  -- whoever else was up stays up
+  -- each other node that was up stays up
   still : (j : ℕ) → (j ≡ n → ⊥) → (node_at q.nodes j).up ≡ true → (node_at (play same members (pass n seats vs2) p).nodes j).up ≡ true
   still j e h =
       ⊎_elim (λ s. subst (λ i. (node_at (play same members (pass n seats vs2) p).nodes i).up ≡ true) s.2 (passed.helpers s.0 s.1).up)

@@ -461,7 +461,7 @@ module _ {B : Type 0} (same : B → B → Bool) (equal : IsEquality same) (membe
         at_next : (r : Role B) → r ≡ Leading ballot shape.0 vs → Ordered (log_length y) r → shape.0 ≡ suc (log_length y + length vs)
         at_next r e o = (subst (λ a. Ordered (log_length y) a) e o).0
 
-    -- whoever else was up stays up
+    -- each other node that was up stays up
     abbrev StillAs : NodeState B → Type 0
     StillAs a =
         (j : ℕ) → (j ≡ n → ⊥) → (node_at u.nodes j).up ≡ true

@@ -102,7 +102,7 @@ module _ {B : Type 0} (same : B → B → Bool) (equal : IsEquality same) (membe
   q_is : q ≡ play same members (first_pass same c act) w
   q_is = play_on same members events (first_pass same c act) (first_world members)
 
-  -- the act is applied, and whoever else was up is up
+  -- the act is applied, and each other node that was up is up
   abbrev pub Achieved : World B → Type 0
   Achieved v =
       EndsWithAct v n act.transport act.body

@@ -301,7 +301,7 @@ module _ {B : Type 0} (same : B → B → Bool) (equal : IsEquality same) (membe
   abbrev d2 : DoneAs took
   d2 = whole_x.0
 
-  -- whoever else was up stays up
+  -- each other node that was up stays up
   still : (j : ℕ) → (j ≡ n → ⊥) → (node_at q.nodes j).up ≡ true → (node_at (final_of took).nodes j).up ≡ true
   still j e h = whole_x.1 j e (ap (λ (w : World B). (node_at w.nodes j).up) u_is
       ∙ (ap (λ (x : NodeState B). x.up) (mt.others j e ∙ mr.others j e) ∙ h))
