@@ -97,7 +97,7 @@ pub record RestartsOnce {B : Type 0} (events : List (Event B)) (n : ℕ) : Type 
   pub own : (k : ℕ) → Has events (Restart k) → k ≡ n
   pub once : (early later : List (Event B)) → events ≡ early ++ Restart n ∷ later → Has later (Restart n) → ⊥
 
--- what `World::rescue` promises; whoever else is up stays up
+-- what `World::rescue` promises; each other node that is up stays up
 pub record Rescues {B : Type 0} (same : B → B → Bool) (members : ℕ) (w : World B) (n number : ℕ) (body : B)
     (events : List (Event B)) : Type 0
   where
