@@ -265,6 +265,48 @@ fn is_copied<B: Body>(rt: &impl Abort, acceptor: &Acceptor<B>) {
     check_eq!(rt; copied(rt, acceptor, 2), 0);
 }
 
+// What a change promises, in which ballot it votes, if it does, and whether the acceptor that is left has all of it.
+type Had = (Option<Ballot>, Option<Ballot>, bool);
+
+// The acceptor has promised the higher ballot, and voted in the first.
+const HAD: &[Had] = &[
+    (None, None, true),
+    (Some(HIGH), None, true),
+    (Some(FIRST), None, false),
+    (None, Some(FIRST), true),
+    (None, Some(HIGH), false),
+    (Some(HIGH), Some(FIRST), true),
+    (Some(HIGH), Some(HIGH), false),
+];
+
+fn has<B: Body>(
+    rt: &impl Abort,
+    alloc: Global,
+    acceptor: &Acceptor<B>,
+    entry: &Entry<B>,
+    row: &Had,
+) -> bool {
+    let change = Change {
+        promised: row.0,
+        votes: votes_of(rt, alloc, entry, row.1),
+    };
+    let has_all = acceptor.has_all(&change);
+    drop(change);
+    has_all
+}
+
+// It has all of just the changes that its rows have.
+fn has_what_is_adopted<B: Body>(
+    rt: &impl Abort,
+    alloc: Global,
+    acceptor: &Acceptor<B>,
+    entry: &Entry<B>,
+) {
+    for row in HAD {
+        check_eq!(rt; has(rt, alloc, acceptor, entry, row), row.2, *row);
+    }
+}
+
 // The acceptor is asked and left with this vote.
 fn plays<B: Body>(
     rt: &impl Abort,
@@ -277,6 +319,7 @@ fn plays<B: Body>(
     acceptor.make_room(1).expect(rt, "room for a vote");
     is_copied(rt, acceptor);
     check!(rt; is_left(acceptor, vote));
+    has_what_is_adopted(rt, alloc, acceptor, entry);
 }
 
 fn acceptor<B>(alloc: Global) -> Acceptor<B> {

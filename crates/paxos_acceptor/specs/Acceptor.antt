@@ -1,9 +1,10 @@
 -- The acceptor, and its rules (Lamport 2001, section 2.2, phases 1 (b) and 2 (b)), on the rows of one member.
-use Rattle.std.specs.Prelude.{ℕ, Bool, true, not, Option, Some, None, List, [], ◌∷◌, if◌then◌else◌}
+use Rattle.std.specs.Prelude.{ℕ, Bool, true, false, not, ◌&&◌, Option, Some, None, List, [], ◌∷◌, if◌then◌else◌}
+use Rattle.std.specs.List.{list_all}
 use Rattle.std.specs.Option.{option_or, unwrap_or}
-use Rattle.paxos_packets.specs.Ballot.{below}
+use Rattle.paxos_packets.specs.Ballot.{below, same_ballot}
 use Rattle.paxos_packets.specs.Rows.{no_change, promise_change, vote_change}
-use Rattle.paxos_packets.specs.Vote.{put_vote, put_votes, votes_from}
+use Rattle.paxos_packets.specs.Vote.{put_vote, put_votes, votes_from, vote_in, same_vote}
 use Rattle.paxos_packets.specs.Packet.{packet, to_others}
 use Rattle.paxos_packets.specs.declared.ballot.Ballot.{Ballot}
 use Rattle.paxos_packets.specs.declared.vote.Vote.{Vote}
@@ -44,6 +45,24 @@ with_vote v rows = record rows { promised = Some v.ballot; votes = put_vote v ro
 -- the rows after a change
 abbrev pub adopted : {B : Type 0} → Rows B → Change B → Rows B
 adopted rows change = record rows { promised = option_or change.promised rows.promised; votes = put_votes change.votes rows.votes }
+
+-- whether the rows have all of a change, so that it changes nothing: it promises nothing or what is promised, and each of its votes is the
+-- one in its slot
+
+abbrev pub has_promise : Option Ballot → Option Ballot → Bool
+has_promise held None = true
+has_promise None (Some b) = false
+has_promise (Some p) (Some b) = same_ballot p b
+
+abbrev pub is_vote : {B : Type 0} → (B → B → Bool) → Vote B → Option (Vote B) → Bool
+is_vote same v None = false
+is_vote same v (Some w) = same_vote same w v
+
+abbrev pub has_vote : {B : Type 0} → (B → B → Bool) → List (Vote B) → Vote B → Bool
+has_vote same votes v = is_vote same v (vote_in v.slot votes)
+
+abbrev pub has_all : {B : Type 0} → (B → B → Bool) → Rows B → Change B → Bool
+has_all same rows change = has_promise rows.promised change.promised && list_all (has_vote same rows.votes) change.votes
 
 abbrev pub refused : {B : Type 0} → Rows B → Ballot → Verdict B
 refused rows b = record { change = no_change; answer = ToSender (Nack b (unwrap_or rows.promised b)) }

@@ -1,6 +1,8 @@
 ghost use Rattle.std.specs.Prelude.{◌≡◌, ◌≤◌, true, false, length, IfOk, IsErr, OnOk, OnErr};
 ghost use Rattle.paxos_packets.specs.Vote.{votes_from};
+ghost use Rattle.std.specs.List.{list_all};
 ghost use Rattle.paxos_acceptor.specs.Acceptor.{adopted, judged, may_promise, may_accept, refused, prepared, voted};
+ghost use Rattle.paxos_acceptor.specs.Acceptor.{has_all, has_promise, has_vote};
 
 use crate::fault::Memory;
 use crate::verdict::{Answer, Verdict};
@@ -147,6 +149,39 @@ impl<B: Body> Acceptor<B> {
         }
     }
 
+    /// Returns whether the rows have all of the change, so that adopting it leaves them as they are: it promises nothing or what is promised,
+    /// and each of its votes is the one in its slot. Does not allocate. Looks up each vote's slot, in a number of steps logarithmic in the
+    /// number of votes; compares entries only if slot and ballot are the same.
+    pub fn has_all(&self, change: &Change<B>) -> bool
+        ensures is { result ≡ has_all B.same self.now.rows change.now }
+        ensures same { result ≡ true → adopted self.now.rows change.now ≡ self.now.rows }
+    {
+        let _ = self.votes.as_slice(); // for the proof
+        has_promise(self.promised, change.promised) && self.has_votes(change.votes.as_slice())
+    }
+
+    // Returns whether each of these votes is the one in its slot.
+    fn has_votes(&self, votes: &[Vote<B>]) -> bool
+        ensures { result ≡ list_all (has_vote B.same self.now.rows.votes) votes.now }
+    {
+        for vote in votes {
+            if !self.has_vote(vote) {
+                return false;
+            }
+        }
+        true
+    }
+
+    // Returns whether the vote is the one in its slot.
+    fn has_vote(&self, vote: &Vote<B>) -> bool
+        ensures { result ≡ has_vote B.same self.now.rows.votes vote.now }
+    {
+        match self.votes.find(vote.slot) {
+            Some(held) => held.same(vote),
+            None => false,
+        }
+    }
+
     /// Copies the member's votes from the slot with this number on, and no other.
     pub fn votes_from(&self, first: u64) -> Result<Votes<B>, Memory>
         ensures { IfOk result (λ votes. votes ≡ votes_from first self.now.rows.votes) }
@@ -255,5 +290,16 @@ fn may_accept(promised: Option<Ballot>, ballot: Ballot) -> bool
     match promised {
         Some(promised) => !ballot.is_below(&promised),
         None => true,
+    }
+}
+
+// Returns whether a change promises nothing else: it promises nothing, or the ballot that is promised.
+fn has_promise(held: Option<Ballot>, new: Option<Ballot>) -> bool
+    ensures { result ≡ has_promise held new }
+{
+    match (held, new) {
+        (_, None) => true,
+        (Some(held), Some(new)) => held == new,
+        (None, Some(_)) => false,
     }
 }

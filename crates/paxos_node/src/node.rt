@@ -1,6 +1,7 @@
 ghost use Rattle.std.specs.Prelude.{◌≡◌, ◌↔◌, ◌<◌, ◌≤◌, ◌+◌, ◌^◌, vec_len, vec_capacity, true, false, nat_lt, length, IsOk, IfOk, IfErr, OnOk, OnErr, IsOkUnless, Err, option_copied};
 ghost use Rattle.paxos_node.specs.declared.fault.NodeFault.TheVariants.{Memory, Rounds};
 ghost use Rattle.paxos_packets.specs.Vote.{votes_from};
+ghost use Rattle.paxos_acceptor.specs.Acceptor as accepting;
 ghost use Rattle.paxos_node.specs.Adopting.{adopted, Fits};
 ghost use Rattle.paxos_planning.specs.Node.{log_length};
 ghost use Rattle.paxos_planning.specs.Parts.{proposer_of, learner_of};
@@ -23,7 +24,7 @@ use crate::packets::Packets;
 use crate::waiting::{apply_all, wait};
 use paxos_acceptor::Acceptor;
 use paxos_learner::Learner;
-use paxos_packets::{Ballot, Body, Entries, Entry, Members, Rows, Vote, Votes};
+use paxos_packets::{Ballot, Body, Change, Entries, Entry, Members, Rows, Vote, Votes};
 use paxos_planning::{Draft, Parts};
 use paxos_proposer::Proposer;
 use replica_machine::Roll;
@@ -322,6 +323,15 @@ impl<B: Drop> Node<B> {
 }
 
 impl<B: Body> Node<B> {
+    /// Returns whether the rows have all of the change, so that committing it leaves them as they are. Does not allocate. Looks up each vote's
+    /// slot, in a number of steps logarithmic in the number of votes; compares entries only if slot and ballot are the same.
+    pub fn has_all(&self, change: &Change<B>) -> bool
+        ensures is { result ≡ accepting.has_all B.same self.now.state.rows change.now }
+        ensures same { result ≡ true → accepting.adopted self.now.state.rows change.now ≡ self.now.state.rows }
+    {
+        self.acceptor.has_all(change)
+    }
+
     /// Returns copies of the votes that the node has cast from the slot with this number on, or `Memory`. It copies no other vote, and looks
     /// at only a logarithmic number of others.
     pub fn votes_from(&self, first: u64) -> Result<Votes<B>, paxos_packets::Memory>
