@@ -130,7 +130,8 @@ module _ {B M K : Type 0} where
 
   pub ready : (holds : K → Rows B → Type 0) (is_failed : K → Bool) (o : Outcome B) (old mid new : Parted B M K) → Roomed old mid → OnlyKeeper mid new
       → holds old.keeper old.node.state.rows → is_failed old.keeper ≡ false
-      → ((r : Rows B) → holds mid.keeper r → holds new.keeper (accepting.adopted r o.change)) → (is_failed mid.keeper ≡ false → is_failed new.keeper ≡ false)
+      → (holds mid.keeper mid.node.state.rows → holds new.keeper (accepting.adopted mid.node.state.rows o.change))
+      → (is_failed mid.keeper ≡ false → is_failed new.keeper ≡ false)
       → Ready holds is_failed o old new
   ready holds is_failed o old mid new r k held whole ok stays =
       record {
@@ -140,7 +141,9 @@ module _ {B M K : Type 0} where
         log = k.log ∙ r.rest.log;
         failed = k.failed ∙ r.rest.failed;
         spoiled = k.spoiled ∙ r.rest.spoiled;
-        held = ok old.node.state.rows (subst (λ s. holds s old.node.state.rows) (sym r.rest.keeper) held);
+        held = subst (λ (x : NodeState B). holds new.keeper (accepting.adopted x.rows o.change)) r.state (ok
+            (subst (λ s. holds s mid.node.state.rows) (sym r.rest.keeper)
+            (subst (λ (x : NodeState B). holds old.keeper x.rows) (sym r.state) held)));
         whole = stays (ap is_failed r.rest.keeper ∙ whole);
       }
 

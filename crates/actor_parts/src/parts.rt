@@ -1,7 +1,6 @@
 //! The parts of an actor, and what is done to each.
 ghost use Rattle.std.specs.Prelude.{◌≡◌, ◌<◌, ◌++◌, [], length, nat_lt, true, false, Some, Ok, Err, OnOk, OnErr, IfOk, IfErr, IfNone, IfSome, is_err};
 ghost use Rattle.std.specs.Prelude.{IsOkUnless, if◌then◌else◌};
-ghost use Rattle.paxos_packets.specs.declared.rows.Rows.{Rows};
 ghost use Rattle.paxos_acceptor.specs.Acceptor as accepting;
 ghost use Rattle.paxos_node.specs.declared.fault.NodeFault.TheVariants as node_fault;
 ghost use Rattle.paxos_node.specs.Adopting.{Planned, Fits};
@@ -31,6 +30,8 @@ pub struct Parts<M: Machine, K> {
     alloc: Global,
     node: Node<M::Body>,
     keeper: K,
+    // How many commits were made.
+    commits: u64,
     outboxes: Outboxes<M::Body>,
     log: AppliedLog<M>,
     // The outcome whose commit failed.
@@ -44,6 +45,7 @@ impl<M: Machine, K: Drop> Drop for Parts<M, K> {
             alloc: _,
             node: _node,
             keeper: _keeper,
+            commits: _,
             outboxes: _outboxes,
             log: _log,
             failed: _failed,
@@ -77,6 +79,7 @@ impl<M: Machine, K: Keeper<M::Body>> Parts<M, K> {
             alloc,
             node,
             keeper,
+            commits: 0,
             outboxes,
             log: AppliedLog::new(alloc, machine),
             failed: None,
@@ -147,6 +150,11 @@ impl<M: Machine, K: Keeper<M::Body>> Parts<M, K> {
         self.node.promised()
     }
 
+    /// Returns how many commits were made.
+    pub fn commits(&self) -> u64 {
+        self.commits
+    }
+
     /// Returns how many packets wait to be posted to this node.
     pub fn waiting_for(&self, peer: u8) -> usize
         ensures { result ≡ length (waiting peer self.now.waiting) }
@@ -207,16 +215,21 @@ impl<M: Machine, K: Keeper<M::Body>> Parts<M, K> {
         self.node.make_room(outcome)
     }
 
-    /// Commits what the outcome changes.
+    /// Commits what the outcome adds to the node's rows, given that the keeper holds these. Commits nothing if they have all of it.
     pub fn commit(&mut self, outcome: &Outcome<M::Body>) -> Result<(), KeeperFault>
-        ensures ok { OnOk result ((r : Rows M.Body) → K.holds self.old.keeper r
-            → K.holds self.new.keeper (accepting.adopted r outcome.now.change)) }
-        ensures falls { (r : Rows M.Body) → K.holds self.old.keeper r →
-            IfErr result (λ fault. Falls K.finds K.failures outcome.now.change r self.old.keeper self.new.keeper fault) }
+        ensures ok { OnOk result (K.holds self.old.keeper self.old.node.state.rows
+            → K.holds self.new.keeper (accepting.adopted self.old.node.state.rows outcome.now.change)) }
+        ensures falls { K.holds self.old.keeper self.old.node.state.rows → IfErr result (λ fault.
+            Falls K.finds K.failures outcome.now.change self.old.node.state.rows self.old.keeper self.new.keeper fault) }
         ensures whole { K.is_failed self.old.keeper ≡ false → K.is_failed self.new.keeper ≡ is_err result }
         ensures rest { OnlyKeeper self.old self.new }
     {
-        commit(&mut self.keeper, &outcome.change)
+        commit(
+            &mut self.keeper,
+            &mut self.commits,
+            &self.node,
+            &outcome.change,
+        )
     }
 
     // Makes the node adopt the outcome, whose packets wait then. Returns the entries that it applied.
@@ -294,6 +307,7 @@ impl<M: Machine, K: Keeper<M::Body>> Parts<M, K> {
             alloc: _,
             node,
             keeper,
+            commits: _,
             outboxes: _outboxes,
             log: _log,
             failed,
@@ -312,6 +326,7 @@ impl<M: Machine, K: Keeper<M::Body> + Drop> Parts<M, K> {
             alloc: _,
             node,
             keeper,
+            commits: _,
             outboxes,
             log,
             failed,

@@ -49,6 +49,7 @@ fn seen_by<M: Machine, K: Keeper<M::Body>>(actor: &Actor<M, K>) -> Seen
         pending: actor.has_pending(),
         posted: actor.posted(),
         waiting: waiting_of(actor),
+        commits: actor.commits(),
         leads: actor.is_leading(),
         promised: actor.promised(),
     }

@@ -21,6 +21,8 @@ pub struct Seen {
     pub posted: NodeSet,
     /// How many packets wait for each member, member 1 first.
     pub waiting: [u16; 7],
+    /// How many commits the node has made in this boot.
+    pub commits: u64,
     /// Whether the node leads.
     pub leads: bool,
     /// The greatest ballot that the node has promised, if any.

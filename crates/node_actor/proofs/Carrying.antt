@@ -11,6 +11,7 @@ use Rattle.replica_machine.specs.Log.{LogState}
 use Rattle.replica_machine.specs.Replay.{Machine}
 use Rattle.actor_outboxes.specs.Outboxes.{Waiting, WaitBehind}
 use Rattle.paxos_node.specs.declared.outcome.Outcome.{Outcome}
+use Rattle.paxos_planning.specs.Node.{NodeState}
 use Rattle.mail_table.specs.Seats.{Seated}
 use Rattle.actor_parts.specs.declared.fault.ActorFault.{ActorFault}
 use Rattle.actor_parts.specs.declared.fault.ActorFault.TheVariants.{Failed, Rounds, Full, Keeper, Disagree, LostHere, Worn, Memory}
@@ -165,11 +166,13 @@ module _ {B S Y M K : Type 0} (from : S → Machine B S Y) (content : M → S) (
   -- the commit failed
   pub fallen : (o : Outcome B) (old mid new : Parted B M K) (s : Seated B) (fault : KeeperFault) → may_advance s ≡ true
       → IsServing holds is_failed old → Roomed old mid → OnlyKeeper mid new
-      → ((r : Rows B) → holds mid.keeper r → Falls finds failures o.change r mid.keeper new.keeper fault)
+      → (holds mid.keeper mid.node.state.rows → Falls finds failures o.change mid.node.state.rows mid.keeper new.keeper fault)
       → CarriesOut from content holds finds failures o (acting old s) (acting (record new { failed = Some o; spoiled = true }) s)
       (Err (Keeper fault))
   fallen o old mid new s fault may serving r k falls =
-      let f = falls old.node.state.rows (subst (λ s. holds s old.node.state.rows) (sym r.rest.keeper) serving.held) in (
+      let h = subst (λ (x : NodeState B). holds old.keeper x.rows) (sym r.state) serving.held in
+      let f = subst (λ (x : NodeState B). Falls finds failures o.change x.rows mid.keeper new.keeper fault) r.state
+      (falls (subst (λ s. holds s mid.node.state.rows) (sym r.rest.keeper) h)) in (
         may,
         refl,
         record {

@@ -229,6 +229,11 @@ impl<M: Machine, K: Keeper<M::Body>> Actor<M, K> {
         self.parts.promised()
     }
 
+    /// Returns how many commits the node has made in its store in this boot.
+    pub fn commits(&self) -> u64 {
+        self.parts.commits()
+    }
+
     /// Returns how many packets wait to be posted to this node.
     pub fn waiting_for(&self, peer: u8) -> usize
         ensures { result ≡ length (waiting peer self.now.waiting) }
