@@ -379,6 +379,7 @@ fn home_of<'a>(
         lobby,
         lobbies,
         pace,
+        is_on_disk: false,
         began: None,
     }
 }

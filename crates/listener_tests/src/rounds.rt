@@ -20,6 +20,7 @@ pub fn quiet() -> Seen {
         pending: false,
         posted: NodeSet::new(),
         waiting: [0; 7],
+        commits: 0,
         leads: false,
         promised: None,
     }

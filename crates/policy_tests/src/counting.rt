@@ -46,7 +46,7 @@ fn beats_to_start(rt: &impl Abort, ticks: &mut Ticks, most: u64, turn: Turn) -> 
     for beat in 1..most {
         pass(rt, ticks, 1, turn);
         for _ in 0..2 {
-            if ticks.next(true) == Some(Due::Start) {
+            if ticks.next(true, 0) == Some(Due::Start) {
                 return Some(beat);
             }
         }
@@ -63,8 +63,8 @@ fn node_1_alone_begins_a_ballot_at_once(rt: HostRuntime) {
     let wanted = [Some(Due::Start), None, None];
     for (node, due) in (1..4).zip(wanted) {
         let mut ticks = Ticks::new(node, three(&rt), true);
-        check_eq!(&rt; ticks.next(true), due, node);
-        check_eq!(&rt; ticks.next(true), None, node);
+        check_eq!(&rt; ticks.next(true, 0), due, node);
+        check_eq!(&rt; ticks.next(true, 0), None, node);
     }
 }
 
@@ -87,7 +87,7 @@ fn a_tick_comes_each_five_beats_or_as_soon_as_it_may(rt: HostRuntime) {
     for row in TICKS {
         let (beats, may_tick, is_due) = *row;
         pass(&rt, &mut ticks, beats, rest_of(0, false));
-        check_eq!(&rt; ticks.next(may_tick) == Some(Due::Tick), is_due, *row);
+        check_eq!(&rt; ticks.next(may_tick, 0) == Some(Due::Tick), is_due, *row);
     }
     check_eq!(&rt; ticks.beats(), 35);
 }
@@ -126,7 +126,7 @@ fn sixty_four_entries_that_were_told_make_a_tick_due(rt: HostRuntime) {
     for row in TOLD {
         let (sign, applied, is_due) = *row;
         ticks.count(packet_of(1, sign, applied));
-        check_eq!(&rt; ticks.next(true) == Some(Due::Tick), is_due, *row);
+        check_eq!(&rt; ticks.next(true, 0) == Some(Due::Tick), is_due, *row);
     }
 }
 
@@ -151,7 +151,7 @@ fn patience_differs_by_node_and_doubles_three_times(rt: HostRuntime) {
 #[test]
 fn the_ballot_at_the_start_counts_and_an_applied_entry_resets_patience(rt: HostRuntime) {
     let mut ticks = Ticks::new(1, three(&rt), true);
-    check_eq!(&rt; ticks.next(true), Some(Due::Start));
+    check_eq!(&rt; ticks.next(true, 0), Some(Due::Start));
     let found = beats_to_start(&rt, &mut ticks, 10_000, rest_of(0, true));
     check_eq!(&rt; found, Some(1024));
     ticks.count(packet_of(2, Sign::Nothing, 1));
@@ -184,7 +184,7 @@ fn a_ballot_at_work_puts_patience_off(rt: HostRuntime) {
 // Whether a ballot is due as soon as one of this owner has refused the node's own.
 fn begins_again(ticks: &mut Ticks, owner: u8, applied: u64) -> bool {
     ticks.count(packet_of(3, Sign::Refused { owner }, applied));
-    ticks.next(true) == Some(Due::Start)
+    ticks.next(true, 0) == Some(Due::Start)
 }
 
 #[test]
@@ -208,7 +208,7 @@ fn a_ballot_that_an_old_promise_refused_is_begun_again_eight_times(rt: HostRunti
 #[test]
 fn node_1_begins_no_ballot_at_once_in_a_later_boot(rt: HostRuntime) {
     let mut ticks = Ticks::new(1, three(&rt), false);
-    check_eq!(&rt; ticks.next(true), None);
+    check_eq!(&rt; ticks.next(true, 0), None);
     check_eq!(&rt; beats_to_start(&rt, &mut ticks, 10_000, rest_of(0, true)), Some(512));
 }
 
@@ -217,14 +217,14 @@ fn a_tick_comes_each_fifty_beats_while_the_log_grows(rt: HostRuntime) {
     let mut ticks = Ticks::new(2, three(&rt), true);
     for beat in 1..101u64 {
         pass(&rt, &mut ticks, 1, rest_of(beat, true));
-        let is_due = ticks.next(true) == Some(Due::Tick);
+        let is_due = ticks.next(true, 0) == Some(Due::Tick);
         check_eq!(&rt; is_due, beat % 50 == 0, beat);
     }
     // It grew last in the turns of the beat that ended as the 100th.
     pass(&rt, &mut ticks, 3, rest_of(100, true));
-    check_eq!(&rt; ticks.next(true), None);
+    check_eq!(&rt; ticks.next(true, 0), None);
     pass(&rt, &mut ticks, 2, rest_of(100, true));
-    check_eq!(&rt; ticks.next(true), Some(Due::Tick));
+    check_eq!(&rt; ticks.next(true, 0), Some(Due::Tick));
 }
 
 // How many times five beats pass, each time with a packet of this node, if one is given; and the digits of those that are suspected.
@@ -241,7 +241,7 @@ const SUSPECTS: &[(u64, Option<u8>, u64)] = &[
 fn suspected(ticks: &mut Ticks) -> u64 {
     let mut digits: u64 = 0;
     for _ in 0..4 {
-        if let Some(Due::Suspect(node)) = ticks.next(true) {
+        if let Some(Due::Suspect(node)) = ticks.next(true, 0) {
             digits = digits.saturating_mul(10).saturating_add(u64::from(node));
         }
     }

@@ -43,7 +43,7 @@ fn ticks_wait_40_beats_after_the_last_packet_that_a_node_took(rt: HostRuntime) {
     let mut draining = Draining::new();
     for row in DRAINING {
         let (beat, waiting, is_posted, holds) = *row;
-        check_eq!(&rt; draining.holds(beat, waiting, is_posted), holds, *row);
+        check_eq!(&rt; draining.holds(beat, waiting, is_posted, 0), holds, *row);
     }
 }
 

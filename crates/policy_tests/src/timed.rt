@@ -145,7 +145,7 @@ impl Node {
             .zip(self.waits.iter())
             .zip(self.posted)
         {
-            drains = draining.holds(beat, waits.len().saturating_mul(weight), posted) || drains;
+            drains = draining.holds(beat, waits.len().saturating_mul(weight), posted, 0) || drains;
         }
         self.may_tick = !drains;
         self.posted = [false; 4];
@@ -161,7 +161,7 @@ impl Node {
         let mut cost = None;
         let mut starts = false;
         for _ in 0..64 {
-            match self.ticks.next(self.may_tick) {
+            match self.ticks.next(self.may_tick, 0) {
                 None => break,
                 Some(Due::Start) => {
                     starts = true;

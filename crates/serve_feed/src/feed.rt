@@ -20,7 +20,7 @@ use realm_acts::Act;
 use realm_machine::{Out, Say};
 use rtrb::Consumer;
 use serve_connections::{Arrival, Lobby};
-use serve_policy::{Admission, Draws, Due, Sign, Ticks};
+use serve_policy::{Admission, Commits, Draws, Due, Sign, Ticks};
 use std::alloc::Global;
 use std::sync::Arc;
 
@@ -53,6 +53,7 @@ struct Boot {
     draws: Draws,
     ticks: Ticks,
     admission: Admission,
+    commits: Commits,
     peers: Peers,
     // What the node had promised after the turn that was counted last.
     promised: Option<Ballot>,
@@ -66,6 +67,7 @@ impl Boot {
             draws: Draws::new(key, node, number),
             ticks: Ticks::new(node, members, is_first),
             admission: Admission::new(),
+            commits: Commits::new(),
             peers: Peers::new(members),
             promised: None,
         }
@@ -76,8 +78,11 @@ impl Boot {
 #[derive(Drop)]
 struct Round {
     number: u64,
-    // How many entries its turn had applied.
+    // How many entries its turn had applied, and how many commits the node had made.
     applied: u64,
+    commits: u64,
+    // How many acts were given since.
+    given: u64,
     // Whether something happened since.
     is_busy: bool,
     // Whether a tick while nothing moved was all that happened since.
@@ -135,6 +140,8 @@ impl<'a> ClientFeed<'a> {
             round: Round {
                 number: 0,
                 applied: 0,
+                commits: 0,
+                given: 0,
                 is_busy: true,
                 is_ticked: false,
                 may_be_due: true,
@@ -163,6 +170,7 @@ impl<'a> ClientFeed<'a> {
     {
         self.lanes.end_all(self.lobby);
         self.boot = Boot::new(self.key, self.node, self.members, boot, is_first);
+        self.round.commits = 0;
         self.round.may_be_due = true;
         self.round.is_busy = true;
         self.lanes.stir();
@@ -264,13 +272,26 @@ impl<'a> ClientFeed<'a> {
         is_woken
     }
 
-    // Notes how the other members get on, and says in the node's lobby for which of them its packets wait.
+    // Notes how long the commits of the last round took.
+    fn note_commits(&mut self, seen: &Seen)
+        ensures node { self.new.node ≡ self.old.node }
+        ensures sources { self.new.lanes.sources ≡ self.old.lanes.sources }
+    {
+        let commits = seen.commits.wrapping_sub(self.round.commits);
+        self.round.commits = seen.commits;
+        self.boot
+            .commits
+            .note(self.pace.took(), u32::try_from(commits).unwrap_or(0));
+    }
+
+    // Notes how long commits take and how the other members get on, and says in the node's lobby for which of them its packets wait.
     fn watch(&mut self, seen: &Seen)
         ensures node { self.new.node ≡ self.old.node }
         ensures sources { self.new.lanes.sources ≡ self.old.lanes.sources }
     {
+        self.note_commits(seen);
         let beat = self.boot.ticks.beats();
-        if self.boot.peers.watch(beat, seen) {
+        if self.boot.peers.watch(beat, self.boot.commits.beats(), seen) {
             say_waits(self.lobby, self.members, &seen.waiting);
         }
     }
@@ -294,6 +315,7 @@ impl<'a> ClientFeed<'a> {
         let round = self.pace.round();
         if round != self.round.number {
             self.round.number = round;
+            self.round.given = 0;
             self.count(seen);
         }
     }
@@ -319,7 +341,10 @@ impl<'a> ClientFeed<'a> {
 
     // Returns whether a client may do something next, and may have done it.
     fn may_act(&self) -> bool {
-        !self.boot.peers.holds_acts() && self.boot.admission.has_room() && self.lanes.is_on()
+        !self.boot.peers.holds_acts()
+            && self.boot.admission.has_room()
+            && self.round.given < self.boot.commits.acts_a_turn()
+            && self.lanes.is_on()
     }
 
     // Returns what a client does next.
@@ -334,6 +359,7 @@ impl<'a> ClientFeed<'a> {
         };
         self.stay();
         self.boot.admission.give();
+        self.round.given = self.round.given.saturating_add(1);
         Some(Event::Take {
             node: self.node,
             transport,
@@ -367,8 +393,9 @@ impl Feed<Act, Say> for ClientFeed<'_> {
             → Saw self.new.node self.new.lanes.sources (given ++ option_to_list result) }
     {
         self.see(&seen);
+        let commit = self.boot.commits.beats();
         if self.round.may_be_due
-            && let Some(due) = self.boot.ticks.next(!self.boot.peers.holds_ticks())
+            && let Some(due) = self.boot.ticks.next(!self.boot.peers.holds_ticks(), commit)
         {
             return Some(self.due(due));
         }

@@ -19,6 +19,8 @@ pub struct Home<'a> {
     pub lobbies: &'a [Arc<Lobby>],
     /// What the gate and the feed of the thread share.
     pub pace: &'a Pace,
+    /// Whether the node's store is files, so that its commits wait for a disk.
+    pub is_on_disk: bool,
     /// When the cluster began, if the clock could be read.
     pub began: Option<Instant>,
 }

@@ -30,6 +30,8 @@ pub struct Pace {
     stirs: Cell<u8>,
     // Whether the node has waited for slow clients in vain.
     has_waited: Cell<bool>,
+    // How many microseconds the last round took, 0 if rounds are not timed.
+    took: Cell<u32>,
 }
 
 impl Pace {
@@ -45,12 +47,18 @@ impl Pace {
             is_moving: Cell::new(false),
             stirs: Cell::new(0),
             has_waited: Cell::new(false),
+            took: Cell::new(0),
         }
     }
 
     // Begins a round.
     fn begin(&self) {
         self.round.set(self.round.get().wrapping_add(1));
+    }
+
+    // Returns how many microseconds the last round took, 0 if rounds are not timed.
+    pub(crate) fn took(&self) -> u32 {
+        self.took.get()
     }
 
     // Returns the number of the round that began last.
@@ -131,7 +139,8 @@ impl Pace {
 ///
 /// While a client of the node is slow the gate rests for at most 80 ms, so that the porter takes what waits for the client.
 ///
-/// A round costs some loads, and each 64th one a look at the clock. If the clock cannot be read a tick is always due.
+/// A round costs some loads, and each 64th one a look at the clock; where the node's store is files two looks, since the rounds with a commit
+/// are timed. If the clock cannot be read a tick is always due.
 #[derive(Drop)]
 pub struct Paced<'a, R: Wait + Clock, G: Gate> {
     rt: &'a R,
@@ -141,6 +150,9 @@ pub struct Paced<'a, R: Wait + Clock, G: Gate> {
     // When the last counted beat ended, and its number since the cluster began.
     last: Cell<Option<Instant>>,
     beat: Cell<u64>,
+    // Whether rounds are timed, and when the present one began.
+    is_timed: bool,
+    began: Cell<Option<Instant>>,
 }
 
 impl<'a, R: Wait + Clock, G: Gate> Paced<'a, R, G> {
@@ -154,6 +166,29 @@ impl<'a, R: Wait + Clock, G: Gate> Paced<'a, R, G> {
             gate,
             last: Cell::new(home.began.or(Instant::now(rt).ok())),
             beat: Cell::new(0),
+            is_timed: home.is_on_disk,
+            began: Cell::new(None),
+        }
+    }
+
+    // Notes how long the round took that ends, if rounds are timed.
+    fn end_round(&self) {
+        if !self.is_timed {
+            return;
+        }
+        let micros = match (self.began.get(), Instant::now(self.rt)) {
+            (Some(began), Ok(now)) => micros_of(now.saturating_duration_since(began)),
+            _ => 0,
+        };
+        self.pace
+            .took
+            .set(u32::try_from(micros).unwrap_or(u32::MAX));
+    }
+
+    // Notes when the next round begins, if rounds are timed.
+    fn begin_round(&self) {
+        if self.is_timed {
+            self.began.set(Instant::now(self.rt).ok());
         }
     }
 
@@ -239,6 +274,7 @@ fn time_of(beats: u64) -> Duration {
 
 impl<R: Wait + Clock, G: Gate> Gate for Paced<'_, R, G> {
     fn pass(&self, node: u8, turn: u64) -> bool {
+        self.end_round();
         self.pace.begin();
         if self.lobby.has_slow() {
             self.wait_for_slow();
@@ -250,6 +286,7 @@ impl<R: Wait + Clock, G: Gate> Gate for Paced<'_, R, G> {
                 self.left();
             }
         }
+        self.begin_round();
         self.gate.pass(node, turn)
     }
 }

@@ -72,8 +72,9 @@ impl Peers {
         self.holds_ticks
     }
 
-    // Judges each member by what a turn at this beat has shown. Returns whether the number of packets that wait for a member has changed.
-    pub fn watch(&mut self, beat: u64, seen: &Seen) -> bool {
+    // Judges each member by what a turn at this beat has shown, if a commit takes `commit` beats. Returns whether the number of packets that
+    // wait for a member has changed.
+    pub fn watch(&mut self, beat: u64, commit: u8, seen: &Seen) -> bool {
         if let (Some(from), Some(Heard::Ask(first))) = (seen.from, seen.heard) {
             self.hear_ask(beat, from, first, seen.applied);
         }
@@ -81,7 +82,7 @@ impl Peers {
         if has_changed || beat != self.judged {
             self.waiting = seen.waiting;
             self.judged = beat;
-            self.judge(beat, seen);
+            self.judge(beat, commit, seen);
         }
         has_changed
     }
@@ -95,7 +96,7 @@ impl Peers {
     }
 
     // Judges each member: acts are held back for one that falls behind or gains, and ticks for one that packets wait for.
-    fn judge(&mut self, beat: u64, seen: &Seen) {
+    fn judge(&mut self, beat: u64, commit: u8, seen: &Seen) {
         let mut holds_acts = false;
         let mut holds_ticks = false;
         for place in 0..self.count.min(7) {
@@ -104,7 +105,7 @@ impl Peers {
             let falls_behind = self.backpressure[at].holds(beat, waiting);
             let is_posted = seen.posted.contains(place + 1);
             holds_acts = falls_behind || self.gaining[at].holds(beat) || holds_acts;
-            holds_ticks = self.draining[at].holds(beat, waiting, is_posted) || holds_ticks;
+            holds_ticks = self.draining[at].holds(beat, waiting, is_posted, commit) || holds_ticks;
         }
         self.holds_acts = holds_acts;
         self.holds_ticks = holds_ticks;

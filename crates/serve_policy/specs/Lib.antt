@@ -1,6 +1,7 @@
 pub mod Admission
 pub mod Backpressure
 pub mod Clock
+pub mod Commits
 pub mod Draining
 pub mod Draws
 pub mod Gaining

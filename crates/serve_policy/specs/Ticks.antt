@@ -1,6 +1,6 @@
 -- When a node ticks, begins a ballot and suspects another. Time is counted in beats, and those in turns; the rules are this project's
 -- (docs/THREADS.md). Nothing that is claimed of a cluster rests on them.
-use Rattle.std.specs.Prelude.{ℕ, ◌+◌, ◌-◌, ◌*◌, ◌^◌, ◌==◌, ◌&&◌, ◌||◌, suc, nat_lt, nat_le, not, Bool, true, false, Option, Some, None, List}
+use Rattle.std.specs.Prelude.{ℕ, ◌+◌, ◌-◌, ◌*◌, ◌^◌, ◌==◌, ◌&&◌, ◌||◌, suc, nat_lt, nat_le, max, not, Bool, true, false, Option, Some, None, List}
 use Rattle.std.specs.Prelude.{replicate, slice_index_or, slice_set, if◌then◌else◌}
 use Rattle.std.specs.List.{find}
 use Rattle.paxos_packets.specs.Members.{others}
@@ -134,7 +134,8 @@ abbrev pub counting : Turn → Counts → Bool × Counts
 counting t c = treating t.from t.beats (showing t.from t.sign (moving t c))
 
 -- for how many beats a node with pending entries waits in which nothing moves: each node has its share, which doubles with each ballot of
--- its own that brought no entry, three times. It is as long as that while another prepares a ballot: to take over many votes takes time
+-- its own that brought no entry, three times. It is as long as that while another prepares a ballot: to take over many votes takes time.
+-- Where a commit takes many beats, it is 16 commits
 abbrev pub doubled : ℕ → ℕ → ℕ
 doubled tries share =
     if tries == 0 then share
@@ -142,8 +143,8 @@ doubled tries share =
     else if tries == 2 then 4 * share
     else 8 * share
 
-abbrev pub patience : Counts → ℕ
-patience c = doubled (if c.is_prepared then 3 else c.tries) (416 + 96 * c.me)
+abbrev pub patience : ℕ → Counts → ℕ
+patience commit c = doubled (if c.is_prepared then 3 else c.tries) (max 416 (16 * commit) + 96 * c.me)
 
 -- whether no packet came of the node in 20,480 beats; and the first such node
 abbrev pub is_silent : Counts → ℕ → Bool
@@ -162,12 +163,17 @@ starting c = record c {
   answered = replicate 8 false;
 }
 
--- a tick is due 5 beats after the last one, or 50 if the log grows; and at once if all 64 entries of an answer were applied
-abbrev pub is_time_over : Counts → Bool
-is_time_over c = nat_le 50 (c.beats - c.ticked) || (nat_le 5 (c.beats - c.ticked) && nat_le 5 (c.beats - c.grown))
+-- a tick is due 5 beats and 4 commits after the last one, or ten times that if the log grows; and at once if all 64 entries of an answer were
+-- applied
+abbrev pub between_ticks : ℕ → ℕ
+between_ticks commit = 5 + 4 * commit
 
-abbrev pub is_tick_due : Counts → Bool
-is_tick_due c = nat_le 64 c.gained || is_time_over c
+abbrev pub is_time_over : ℕ → Counts → Bool
+is_time_over commit c = nat_le (10 * between_ticks commit) (c.beats - c.ticked)
+    || (nat_le (between_ticks commit) (c.beats - c.ticked) && nat_le (between_ticks commit) (c.beats - c.grown))
+
+abbrev pub is_tick_due : ℕ → Counts → Bool
+is_tick_due commit c = nat_le 64 c.gained || is_time_over commit c
 
 abbrev pub ticking : Counts → Counts
 ticking c = record c { ticked = c.beats; gained = 0 }
@@ -178,10 +184,10 @@ suspecting (Some peer) c = (Some (Suspect peer), hearing peer c)
 suspecting None c = (None, c)
 
 -- what is due next, and what is counted then: a ballot that is due at once; a tick, if the node may tick; a ballot, if the node's patience
--- has ended; a suspicion
-abbrev pub next_due : Bool → Counts → Option Due × Counts
-next_due may_tick c =
+-- has ended; a suspicion. A commit takes this many beats
+abbrev pub next_due : Bool → ℕ → Counts → Option Due × Counts
+next_due may_tick commit c =
     if c.is_owed then (Some Start, starting c)
-    else if may_tick && is_tick_due c then (Some Tick, ticking c)
-    else if nat_le (patience c) (c.beats - c.moved) then (Some Start, starting c)
+    else if may_tick && is_tick_due commit c then (Some Tick, ticking c)
+    else if nat_le (patience commit c) (c.beats - c.moved) then (Some Start, starting c)
     else suspecting (silent_peer c) c

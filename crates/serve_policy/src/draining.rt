@@ -6,8 +6,10 @@ use std::marker::Model;
 /// The number of packets of earlier ticks that may wait.
 const MOST_WAITING: usize = 64;
 
-/// The number of beats for which ticks are held back for a node that takes no packet.
+/// The number of beats for which ticks are held back for a node that takes no packet, and how many commits more.
 const BEATS_HELD: u64 = 40;
+
+const COMMITS_HELD: u64 = 4;
 
 /// Whether the packets that wait for another node can arrive: at which beat it took some last. A clause sees that beat.
 ///
@@ -35,13 +37,14 @@ impl Draining {
     }
 
     /// Returns whether ticks are to be held back, if this many packets wait for it at this beat, and one was posted to it or none: more than
-    /// 64 wait, and fewer than 40 beats have ended since it took packets last. Takes constant time.
-    pub fn holds(&mut self, beat: u64, waiting: usize, is_posted: bool) -> bool
-        ensures { (result, self.new) ≡ draining beat waiting is_posted self.old }
+    /// 64 wait, and it took packets last within the last 40 beats and 4 commits, of which each takes `commit` beats. Takes constant time.
+    pub fn holds(&mut self, beat: u64, waiting: usize, is_posted: bool, commit: u8) -> bool
+        ensures { (result, self.new) ≡ draining beat waiting is_posted commit self.old }
     {
         if waiting <= MOST_WAITING || is_posted {
             self.last = beat;
         }
-        waiting > MOST_WAITING && beat.saturating_sub(self.last) < BEATS_HELD
+        let held = BEATS_HELD + COMMITS_HELD * u64::from(commit);
+        waiting > MOST_WAITING && beat.saturating_sub(self.last) < held
     }
 }

@@ -1,5 +1,5 @@
 //! The rules by which a node of a served cluster paces itself: when it ticks, begins a ballot and suspects another node, when it holds acts or
-//! ticks back, how many acts it gives, how long it waits for slow clients, and what it draws. Each rule is a definition in `specs/`.
+//! ticks back, how many acts it gives, how long its commits take, how long it waits for slow clients, and what it draws. Each rule is a definition in `specs/`.
 //!
 //! The rules see the node's turns and measured times alone: nothing here reads a clock, waits or allocates. Time is counted in *beats* of 2 ms.
 #![tactic(auto)]
@@ -7,6 +7,7 @@
 mod admission;
 mod backpressure;
 mod clock;
+mod commits;
 mod draining;
 mod draws;
 mod gaining;
@@ -17,6 +18,7 @@ mod turn;
 pub use admission::Admission;
 pub use backpressure::Backpressure;
 pub use clock::{BEAT_MICROS, BEATS_A_TICK, Passed, beats_due, left_to_wait};
+pub use commits::Commits;
 pub use draining::Draining;
 pub use draws::Draws;
 pub use gaining::Gaining;

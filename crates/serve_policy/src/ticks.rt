@@ -1,7 +1,7 @@
-ghost use Rattle.std.specs.Prelude.{◌≡◌};
+ghost use Rattle.std.specs.Prelude.{◌≡◌, ◌≤◌, ◌*◌, max};
 ghost use Rattle.serve_policy.specs.Ticks.{first_counts, counting, moving, showing, resting, hearing, treating, is_moving, gained_in};
 ghost use Rattle.serve_policy.specs.Ticks.{working, answering, refusing, has_answered};
-ghost use Rattle.serve_policy.specs.Ticks.{may_begin_again, has_worked, next_due, starting, ticking, is_tick_due, is_time_over, patience, doubled, capped};
+ghost use Rattle.serve_policy.specs.Ticks.{may_begin_again, has_worked, next_due, starting, ticking, is_tick_due, is_time_over, between_ticks, patience, doubled, capped};
 ghost use Rattle.serve_policy.specs.Ticks.{suspecting, silent_peer, is_silent};
 
 use crate::clock::BEATS_A_TICK;
@@ -13,14 +13,19 @@ use std::marker::Model;
 /// How many turns without a packet end the beats that are due.
 const TURNS_A_BEAT: u64 = 64;
 
-/// How many beats after a tick the next one is due while the log grows: what is not lost need not be sent again. Else it is due after
-/// [`BEATS_A_TICK`].
-const BEATS_A_TICK_GROWING: u64 = 50;
+/// How many commits the time from one tick to the next has, beside [`BEATS_A_TICK`]: what is sent again sooner is answered already.
+const COMMITS_A_TICK: u64 = 4;
+
+/// How many times as long it is to the next tick while the log grows: what is not lost need not be sent again.
+const TIMES_GROWING: u64 = 10;
 
 /// For how many beats without a move a node with pending entries waits: the first number, plus the second times the node's number.
 const BEATS_TO_START: u64 = 416;
 
 const BEATS_APART: u64 = 96;
+
+/// For how many commits it waits at the least, beside the second number.
+const COMMITS_TO_START: u64 = 16;
 
 /// How many ballots of its own without an applied entry a node counts.
 const MOST_TRIES: u64 = 8;
@@ -264,20 +269,21 @@ impl Ticks {
     }
 
     /// Returns what is due next, which is then no longer due: a ballot that is due at once, a tick if the node may tick, a ballot if nothing
-    /// moved for long while entries are pending, and the other nodes that were silent for long, by ascending number. Takes constant time.
-    pub fn next(&mut self, may_tick: bool) -> Option<Due>
-        ensures { (result, self.new) ≡ next_due may_tick self.old }
+    /// moved for long while entries are pending, and the other nodes that were silent for long, by ascending number. A commit takes `commit`
+    /// beats ([`Commits::beats`](crate::Commits::beats)): ticks, and the patience with another's ballot, go by it. Takes constant time.
+    pub fn next(&mut self, may_tick: bool, commit: u8) -> Option<Due>
+        ensures { (result, self.new) ≡ next_due may_tick commit self.old }
     {
         if self.is_owed {
             self.start();
             return Some(Due::Start);
         }
-        if may_tick && self.is_tick_due() {
+        if may_tick && self.is_tick_due(commit) {
             self.ticked = self.beats;
             self.gained = 0;
             return Some(Due::Tick);
         }
-        if self.beats.saturating_sub(self.moved) >= self.patience() {
+        if self.beats.saturating_sub(self.moved) >= self.patience(commit) {
             self.start();
             return Some(Due::Start);
         }
@@ -296,26 +302,27 @@ impl Ticks {
     }
 
     // Returns whether a tick is due.
-    fn is_tick_due(&self) -> bool
-        ensures { result ≡ is_tick_due self.now }
+    fn is_tick_due(&self, commit: u8) -> bool
+        ensures { result ≡ is_tick_due commit self.now }
     {
-        self.gained >= FULL_ANSWER || self.is_time_over()
+        self.gained >= FULL_ANSWER || self.is_time_over(commit)
     }
 
     // Returns whether the time from the last tick to the next one is over.
-    fn is_time_over(&self) -> bool
-        ensures { result ≡ is_time_over self.now }
+    fn is_time_over(&self, commit: u8) -> bool
+        ensures { result ≡ is_time_over commit self.now }
     {
         let since = self.beats.saturating_sub(self.ticked);
         let idle = self.beats.saturating_sub(self.grown);
-        since >= BEATS_A_TICK_GROWING || since >= BEATS_A_TICK && idle >= BEATS_A_TICK
+        let wanted = between_ticks(commit);
+        since >= TIMES_GROWING * wanted || since >= wanted && idle >= wanted
     }
 
     // Returns for how many beats in which nothing moves it waits.
-    fn patience(&self) -> u64
-        ensures { result ≡ patience self.now }
+    fn patience(&self, commit: u8) -> u64
+        ensures { result ≡ patience commit self.now }
     {
-        let share = BEATS_TO_START + BEATS_APART * u64::from(self.me);
+        let share = least_patience(commit) + BEATS_APART * u64::from(self.me);
         let doublings = if self.is_prepared { 3 } else { self.tries };
         match doublings {
             0 => share,
@@ -361,4 +368,20 @@ fn capped(most: u64, number: u64) -> u64
     ensures { result ≡ capped most number }
 {
     if number < most { number } else { most }
+}
+
+// Returns how many beats there are between two ticks of a node whose log does not grow.
+fn between_ticks(commit: u8) -> u64
+    ensures is { result ≡ between_ticks commit }
+    ensures few { result ≤ 1025 }
+{
+    BEATS_A_TICK + COMMITS_A_TICK * u64::from(commit)
+}
+
+// Returns what all nodes' shares of patience have in common.
+fn least_patience(commit: u8) -> u64
+    ensures is { result ≡ max 416 (16 * commit) }
+    ensures few { result ≤ 4080 }
+{
+    BEATS_TO_START.max(COMMITS_TO_START * u64::from(commit))
 }

@@ -294,6 +294,7 @@ fn home_of<'c, G>(
         lobby,
         lobbies: site.lobbies,
         pace,
+        is_on_disk: matches!(site.stores, Stores::Folder { .. }),
         began: site.began,
     }
 }
