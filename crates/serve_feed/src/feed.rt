@@ -81,8 +81,9 @@ struct Round {
     // How many entries its turn had applied, and how many commits the node had made.
     applied: u64,
     commits: u64,
-    // How many acts were given since.
+    // How many acts were given since, and how many may be: as many as are committed within a beat if the node leads.
     given: u64,
+    most: u64,
     // Whether something happened since.
     is_busy: bool,
     // Whether a tick while nothing moved was all that happened since.
@@ -142,6 +143,7 @@ impl<'a> ClientFeed<'a> {
                 applied: 0,
                 commits: 0,
                 given: 0,
+                most: u64::MAX,
                 is_busy: true,
                 is_ticked: false,
                 may_be_due: true,
@@ -316,6 +318,11 @@ impl<'a> ClientFeed<'a> {
         if round != self.round.number {
             self.round.number = round;
             self.round.given = 0;
+            self.round.most = if seen.leads {
+                self.boot.commits.acts_a_turn()
+            } else {
+                u64::MAX
+            };
             self.count(seen);
         }
     }
@@ -343,7 +350,7 @@ impl<'a> ClientFeed<'a> {
     fn may_act(&self) -> bool {
         !self.boot.peers.holds_acts()
             && self.boot.admission.has_room()
-            && self.round.given < self.boot.commits.acts_a_turn()
+            && self.round.given < self.round.most
             && self.lanes.is_on()
     }
 
