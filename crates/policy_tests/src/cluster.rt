@@ -1,8 +1,8 @@
-// Three nodes under a schedule that is drawn from a seed: how long each turn takes, when a node stands still or starts anew, which packets are
-// lost, and when clients act. Times are in microseconds.
+// Three nodes that play a schedule: how long each turn takes, when a node stands still or starts anew, which packets are lost, and when
+// clients act. Times are in microseconds.
 use crate::draws::Draws;
-use crate::timed::{Costs, Node};
-use crate::voter::{Log, NO_BALLOT, Role, Voter, bit, empty_log};
+use crate::timed::{Costs, EVENTS_A_TURN, Node};
+use crate::voter::{Accepts, Log, Role, Voter, empty_log};
 use paxos_packets::{Ballot, Members};
 use std::alloc::Global;
 
@@ -13,9 +13,6 @@ const STRETCH: u64 = 12_000_000;
 // How long before the end of that clients act last.
 const BEFORE_THE_END: u64 = 8_000_000;
 
-// How long a takeover takes at the most, in this schedule.
-const TAKEOVERS: [u64; 5] = [1_000, 50_000, 300_000, 1_000_000, 3_000_000];
-
 // What was found of a schedule.
 #[derive(Clone, Copy, Debug, PartialEq, Eq)]
 pub struct Found {
@@ -25,6 +22,36 @@ pub struct Found {
     pub leaders: u8,
     // Whether all entries are applied at each node.
     pub is_level: bool,
+    // How many ballots were begun.
+    pub ballots: u64,
+    // When the play ended, and what the nodes had sent then, each since its last start.
+    pub ended: u64,
+    pub accepts: Accepts,
+}
+
+// What stays the same in a schedule.
+#[derive(Clone, Copy)]
+pub struct Schedule {
+    pub costs: Costs,
+    // How many packets stand for one.
+    pub weight: usize,
+    // Each how many packets one is lost before it is calm; 0 for none.
+    pub loss: u64,
+    // From when on it is calm.
+    pub calm: u64,
+    // One turn of this many takes long.
+    pub turns_a_stall: u64,
+}
+
+// What clients do.
+#[derive(Clone, Copy)]
+pub struct Clients {
+    // How many acts are left.
+    pub acts: u8,
+    // In how many rounds of a million one acts.
+    pub load: u64,
+    // How many acts each node has under way, if clients act at it as fast as they can; else 0.
+    pub under_way: [u8; 3],
 }
 
 #[derive(Drop)]
@@ -33,146 +60,15 @@ pub struct Cluster {
     members: Members,
     log: Log,
     draws: Draws,
-    costs: Costs,
-    // How many packets stand for one, and how many wait at the most.
-    weight: usize,
+    schedule: Schedule,
+    clients: Clients,
+    // How many packets wait at the most.
     most: usize,
-    // Each how many packets one is lost before it is calm; 0 for none.
-    loss: u64,
     now: u64,
-    calm: u64,
     disturbed: u64,
-    // When a ballot was begun, or a node ceased to lead.
+    // When a ballot was begun, or a node ceased to lead; and how many ballots were begun.
     changed: u64,
-    acts: u8,
-    load: u64,
-}
-
-// A promise of an earlier boot, or none.
-fn draw_promise(draws: &mut Draws) -> Ballot {
-    if draws.is_one_in(3) {
-        return NO_BALLOT;
-    }
-    let rounds = if draws.is_one_in(2) { 4 } else { 1000 };
-    let nodes: [u8; 3] = [1, 2, 3];
-    let node = nodes.get(pick(draws)).copied().unwrap_or(1);
-    Ballot {
-        round: draws.below(rounds).saturating_add(1),
-        node,
-    }
-}
-
-// One of three.
-fn pick(draws: &mut Draws) -> usize {
-    match draws.below(3) {
-        0 => 0,
-        1 => 1,
-        _ => 2,
-    }
-}
-
-// What three nodes have promised: the owner of a ballot has promised it, or a greater one.
-fn draw_promises(draws: &mut Draws) -> [Ballot; 3] {
-    let drawn = [
-        draw_promise(draws),
-        draw_promise(draws),
-        draw_promise(draws),
-    ];
-    let mut promises = drawn;
-    for (node, promise) in (1u8..4).zip(promises.iter_mut()) {
-        for other in drawn {
-            if other.node == node {
-                *promise = (*promise).max(other);
-            }
-        }
-    }
-    promises
-}
-
-// Which slots each node has voted for, of this number: two nodes for each.
-fn draw_votes(draws: &mut Draws, slots: u8) -> [u64; 3] {
-    let mut votes: [u64; 3] = [0; 3];
-    for slot in 0..slots {
-        let left_out = pick(draws);
-        for (node, voted) in votes.iter_mut().enumerate() {
-            if node != left_out {
-                *voted |= bit(slot);
-            }
-        }
-    }
-    votes
-}
-
-fn draw_node(
-    alloc: Global,
-    draws: &mut Draws,
-    members: Members,
-    me: u8,
-    history: u8,
-    promised: Ballot,
-    votes: u64,
-) -> Node {
-    let at = draws.below(3).saturating_mul(draws.below(1_000_000));
-    let promised = if votes == 0 {
-        promised
-    } else {
-        promised.max(Ballot { round: 1, node: 1 })
-    };
-    Node::new(
-        alloc,
-        members,
-        Voter::new(me, history, promised, votes, 0, Vec::new(alloc)),
-        at,
-        true,
-    )
-}
-
-// How many packets stand for one: a power of two, up to 128.
-fn draw_weight(draws: &mut Draws) -> usize {
-    let weights: [usize; 8] = [1, 2, 4, 8, 16, 32, 64, 128];
-    let drawn = usize::try_from(draws.below(8)).unwrap_or(0);
-    weights.get(drawn).copied().unwrap_or(1)
-}
-
-// The schedule of a seed.
-pub fn draw_cluster(alloc: Global, members: Members, seed: u64) -> Cluster {
-    let mut draws = Draws::new(seed);
-    let [one, two, three] = draw_promises(&mut draws);
-    let slots = draws.below(8).saturating_add(1);
-    let history = u8::try_from(slots).unwrap_or(1);
-    let votes = draw_votes(&mut draws, history);
-    let nodes = [
-        draw_node(alloc, &mut draws, members, 1, history, one, votes[0]),
-        draw_node(alloc, &mut draws, members, 2, history, two, votes[1]),
-        draw_node(alloc, &mut draws, members, 3, history, three, votes[2]),
-    ];
-    let takeover = TAKEOVERS
-        .get(usize::try_from(draws.below(5)).unwrap_or(0))
-        .copied()
-        .unwrap_or(0);
-    let calm = draws.below(3).saturating_mul(draws.below(4_000_000));
-    let weight = draw_weight(&mut draws);
-    Cluster {
-        nodes,
-        members,
-        log: empty_log(),
-        costs: Costs {
-            takeover,
-            vote: takeover / slots.max(1),
-        },
-        weight,
-        most: 4096 / weight.max(1),
-        loss: draws
-            .below(2)
-            .saturating_mul(draws.below(40).saturating_add(2)),
-        now: 0,
-        calm,
-        disturbed: 0,
-        changed: 0,
-        acts: 30,
-        load: draws.below(3).saturating_mul(draws.below(1000)),
-        draws,
-    }
+    ballots: u64,
 }
 
 // The place of a node.
@@ -181,6 +77,29 @@ fn place(node: u8) -> usize {
 }
 
 impl Cluster {
+    // Three nodes before the first turn.
+    pub fn new(
+        nodes: [Node; 3],
+        members: Members,
+        draws: Draws,
+        schedule: Schedule,
+        clients: Clients,
+    ) -> Cluster {
+        Cluster {
+            nodes,
+            members,
+            log: empty_log(),
+            draws,
+            most: 4096 / schedule.weight.max(1),
+            schedule,
+            clients,
+            now: 0,
+            disturbed: 0,
+            changed: 0,
+            ballots: 0,
+        }
+    }
+
     // The node whose turn is next, and when it is.
     fn next(&self) -> (u8, u64) {
         let mut next = (1, u64::MAX);
@@ -227,7 +146,10 @@ impl Cluster {
         let Some(packet) = node.post(to) else {
             return false;
         };
-        if self.now < self.calm && self.loss > 0 && self.draws.is_one_in(self.loss) {
+        if self.now < self.schedule.calm
+            && self.schedule.loss > 0
+            && self.draws.is_one_in(self.schedule.loss)
+        {
             return true;
         }
         if let Some(node) = self.nodes.get_mut(place(to))
@@ -254,51 +176,113 @@ impl Cluster {
 
     // Since when nothing has changed.
     fn since(&self) -> u64 {
-        self.changed.max(self.calm)
+        self.changed.max(self.schedule.calm)
     }
 
     // When the schedule ends, if nothing changes until then.
     fn end(&self) -> u64 {
         self.since()
             .saturating_add(STRETCH)
-            .saturating_add(self.costs.takeover.saturating_mul(2))
+            .saturating_add(self.schedule.costs.takeover.saturating_mul(2))
     }
 
-    // Whether a client acts at a node now.
+    // Whether a client acts at a node now and then.
     fn draw_act(&mut self) -> bool {
-        if self.acts == 0 || self.now.saturating_add(BEFORE_THE_END) >= self.end() {
-            return false;
-        }
-        let acts = self.draws.below(1_000_000) < self.load;
-        if acts {
-            self.acts = self.acts.saturating_sub(1);
-        }
-        acts
+        self.clients.acts > 0
+            && self.clients.load > 0
+            && self.now.saturating_add(BEFORE_THE_END) < self.end()
+            && self.draws.below(1_000_000) < self.clients.load
     }
 
-    // What comes before a turn of a node: how long it takes, if anything comes.
-    fn make_events(&mut self, me: u8) -> Option<u64> {
-        let asks = self.asks();
-        let acts = self.draw_act();
+    // Whether a client acts at a node because fewer acts than may be are under way.
+    fn acts_at_once(&self, me: u8) -> bool {
+        let most = self.clients.under_way.get(place(me)).copied().unwrap_or(0);
+        self.clients.acts > 0
+            && self
+                .nodes
+                .get(place(me))
+                .is_some_and(|node| node.voter.pending() < most)
+    }
+
+    // A client acts at a node, if the node lets it. How long that took.
+    fn act(&mut self, me: u8) -> Option<u64> {
         let node = self.nodes.get_mut(place(me))?;
-        node.begin(self.now, self.weight);
-        let (mut cost, starts) = node.make_events(&mut self.draws, &mut self.log, asks);
-        if acts {
-            node.voter.take(&mut self.log);
-            cost = Some(cost.unwrap_or(100));
+        if !node.may_act() {
+            return None;
         }
-        if starts {
-            self.changed = self.now;
+        self.clients.acts = self.clients.acts.saturating_sub(1);
+        Some(node.act(&mut self.draws, &mut self.log))
+    }
+
+    // What clients do before a turn of a node: how long it takes, if they do anything.
+    fn make_acts(&mut self, me: u8) -> Option<u64> {
+        let mut cost = None;
+        if self.draw_act() {
+            cost = self.act(me);
+        }
+        for _ in 0..EVENTS_A_TURN {
+            if !self.acts_at_once(me) {
+                break;
+            }
+            let Some(micros) = self.act(me) else {
+                break;
+            };
+            cost = Some(cost.unwrap_or(0).saturating_add(micros));
         }
         cost
     }
 
-    // A round of a node: events, then a turn.
+    // What time brings before a turn of a node: how long it takes, if anything comes.
+    fn make_due(&mut self, me: u8) -> Option<u64> {
+        let asks = self.asks();
+        let node = self.nodes.get_mut(place(me))?;
+        node.begin(self.now, self.schedule.weight);
+        let (cost, starts) = node.make_events(&mut self.draws, &mut self.log, asks);
+        if starts {
+            self.changed = self.now;
+            self.ballots = self.ballots.saturating_add(1);
+        }
+        cost
+    }
+
+    // A round of a node: events, then a turn, which comes once the time is over that the events take.
     fn round(&mut self, me: u8) {
         let led = self.leads(me);
-        let events = self.make_events(me);
-        let mut is_idle = events.is_none();
-        let mut cost = events.unwrap_or(0).saturating_add(self.draw_turn());
+        if self.is_turn_left(me) {
+            self.turn(me, true);
+        } else {
+            let due = self.make_due(me);
+            let acts = self.make_acts(me);
+            if due.is_some() || acts.is_some() {
+                self.put_off(me, due.unwrap_or(0).saturating_add(acts.unwrap_or(0)));
+            } else {
+                self.turn(me, false);
+            }
+        }
+        if led && !self.leads(me) {
+            self.changed = self.now;
+        }
+    }
+
+    fn is_turn_left(&self, me: u8) -> bool {
+        self.nodes
+            .get(place(me))
+            .is_some_and(|node| node.is_turn_left)
+    }
+
+    // The turn of the node comes this much later.
+    fn put_off(&mut self, me: u8, micros: u64) {
+        if let Some(node) = self.nodes.get_mut(place(me)) {
+            node.is_turn_left = true;
+            node.is_resting = false;
+            node.at = self.now.saturating_add(micros);
+        }
+    }
+
+    // The turn of a round.
+    fn turn(&mut self, me: u8, had_events: bool) {
+        let mut is_idle = !had_events;
+        let mut cost = self.draw_turn();
         for to in 1..4 {
             is_idle = !self.post_of(me, to) && is_idle;
         }
@@ -308,14 +292,11 @@ impl Cluster {
             self.wake(from);
         }
         self.end_round(me, is_idle, cost);
-        if led && !self.leads(me) {
-            self.changed = self.now;
-        }
     }
 
     // How long a turn takes that treats nothing.
     fn draw_turn(&mut self) -> u64 {
-        if self.draws.is_one_in(64) {
+        if self.draws.is_one_in(self.schedule.turns_a_stall) {
             self.draws.micros_to(18)
         } else {
             self.draws.below(60).saturating_add(1)
@@ -331,7 +312,7 @@ impl Cluster {
 
     fn treat(&mut self, me: u8) -> Option<(u8, u64)> {
         let node = self.nodes.get_mut(place(me))?;
-        let treated = node.treat(&mut self.draws, &mut self.log, self.costs);
+        let treated = node.treat(&mut self.draws, &mut self.log, self.schedule.costs);
         node.sort(self.most);
         treated
     }
@@ -340,6 +321,7 @@ impl Cluster {
     fn end_round(&mut self, me: u8, is_idle: bool, cost: u64) {
         if let Some(node) = self.nodes.get_mut(place(me)) {
             node.is_resting = false;
+            node.is_turn_left = false;
             if is_idle {
                 node.rest(&mut self.draws, self.now, cost);
             } else {
@@ -350,7 +332,7 @@ impl Cluster {
 
     // A node stands still, or starts anew, before it is calm.
     fn disturb(&mut self, alloc: Global) {
-        let (now, calm, members) = (self.now, self.calm, self.members);
+        let (now, calm, members) = (self.now, self.schedule.calm, self.members);
         self.disturbed = now.saturating_add(self.draws.below(3_000_000).saturating_add(1));
         let anew = self.draws.is_one_in(6);
         let is_first = self.draws.is_one_in(2);
@@ -360,7 +342,7 @@ impl Cluster {
             1_500_000
         };
         let still = now.saturating_add(self.draws.below(most)).min(calm);
-        let at = pick(&mut self.draws);
+        let at = self.draws.pick();
         let Some(node) = self.nodes.get_mut(at) else {
             return;
         };
@@ -380,20 +362,39 @@ impl Cluster {
             voter.taken,
             Vec::new(alloc),
         );
-        *node = Node::new(alloc, members, voter, now, is_first);
+        *node = Node::new(alloc, members, voter, node.commit, now, is_first);
     }
 
     // Plays the schedule until nothing has changed for long, or until this long after the last disturbance.
     pub fn play(&mut self, alloc: Global, longest: u64) -> Found {
         for _ in 0..u64::MAX {
             let (node, at) = self.next();
-            if self.disturbed < at && self.disturbed < self.calm {
+            if self.disturbed < at && self.disturbed < self.schedule.calm {
                 self.now = self.now.max(self.disturbed);
                 self.disturb(alloc);
                 continue;
             }
             self.now = self.now.max(at);
-            if self.now > self.end() || self.now > self.calm.saturating_add(longest) {
+            if self.now > self.end() || self.now > self.schedule.calm.saturating_add(longest) {
+                break;
+            }
+            self.round(node);
+        }
+        self.found()
+    }
+
+    // From now on clients do this many acts more, this many at a time at each node.
+    pub fn act_on(&mut self, acts: u8, under_way: [u8; 3]) {
+        self.clients.acts = acts;
+        self.clients.under_way = under_way;
+    }
+
+    // Plays the schedule until all acts are done, and their entries applied at each node, or for this long.
+    pub fn play_acts(&mut self, longest: u64) -> Found {
+        for _ in 0..u64::MAX {
+            let (node, at) = self.next();
+            self.now = self.now.max(at);
+            if self.now > longest || self.clients.acts == 0 && self.found().is_level {
                 break;
             }
             self.round(node);
@@ -415,16 +416,22 @@ impl Cluster {
     fn found(&self) -> Found {
         let mut leaders: u8 = 0;
         let mut is_level = !self.asks();
+        let mut accepts = Accepts { sent: 0, again: 0 };
         for node in &self.nodes {
+            accepts.sent = accepts.sent.saturating_add(node.voter.accepts.sent);
+            accepts.again = accepts.again.saturating_add(node.voter.accepts.again);
             if node.voter.role == Role::Leading && self.is_promised(node.voter.ballot) {
                 leaders = leaders.saturating_add(1);
             }
             is_level = is_level && !node.voter.is_pending();
         }
         Found {
-            settled: self.changed.saturating_sub(self.calm),
+            settled: self.changed.saturating_sub(self.schedule.calm),
             leaders,
             is_level,
+            ballots: self.ballots,
+            ended: self.now,
+            accepts,
         }
     }
 }

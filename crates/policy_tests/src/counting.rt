@@ -41,12 +41,23 @@ fn pass(rt: &impl Abort, ticks: &mut Ticks, beats: u64, turn: Turn) {
     }
 }
 
-// After how many beats a ballot is due, at most this number; ticks are let pass.
+// After how many beats a ballot is due where commits are fast, at most this number; ticks are let pass.
 fn beats_to_start(rt: &impl Abort, ticks: &mut Ticks, most: u64, turn: Turn) -> Option<u64> {
+    slow_to_start(rt, ticks, most, turn, 0)
+}
+
+// The same where a commit takes this many beats.
+fn slow_to_start(
+    rt: &impl Abort,
+    ticks: &mut Ticks,
+    most: u64,
+    turn: Turn,
+    commit: u8,
+) -> Option<u64> {
     for beat in 1..most {
         pass(rt, ticks, 1, turn);
         for _ in 0..2 {
-            if ticks.next(true, 0) == Some(Due::Start) {
+            if ticks.next(true, commit) == Some(Due::Start) {
                 return Some(beat);
             }
         }
@@ -225,6 +236,71 @@ fn a_tick_comes_each_fifty_beats_while_the_log_grows(rt: HostRuntime) {
     check_eq!(&rt; ticks.next(true, 0), None);
     pass(&rt, &mut ticks, 2, rest_of(100, true));
     check_eq!(&rt; ticks.next(true, 0), Some(Due::Tick));
+}
+
+// How many beats a commit takes, and after how many beats a tick comes: while the log rests, and while it grows.
+const SLOW_TICKS: &[(u8, u64, u64)] = &[
+    (1, 9, 90),
+    (5, 25, 250),
+    (25, 105, 1050),
+    (100, 405, 4050),
+];
+
+#[test]
+fn ticks_are_four_commits_further_apart_where_commits_are_slow(rt: HostRuntime) {
+    for row in SLOW_TICKS {
+        let (commit, resting, growing) = *row;
+        let mut ticks = Ticks::new(2, three(&rt), true);
+        pass(
+            &rt,
+            &mut ticks,
+            resting.saturating_sub(1),
+            rest_of(0, false),
+        );
+        check_eq!(&rt; ticks.next(true, commit), None, *row);
+        pass(&rt, &mut ticks, 1, rest_of(0, false));
+        check_eq!(&rt; ticks.next(true, commit), Some(Due::Tick), *row);
+        for beat in 1..growing {
+            pass(&rt, &mut ticks, 1, rest_of(beat, true));
+            check_eq!(&rt; ticks.next(true, commit), None, (*row, beat));
+        }
+        pass(&rt, &mut ticks, 1, rest_of(growing, true));
+        check_eq!(&rt; ticks.next(true, commit), Some(Due::Tick), *row);
+        // The log rests from now on.
+        pass(
+            &rt,
+            &mut ticks,
+            resting.saturating_sub(1),
+            rest_of(growing, true),
+        );
+        check_eq!(&rt; ticks.next(true, commit), None, *row);
+        pass(&rt, &mut ticks, 1, rest_of(growing, true));
+        check_eq!(&rt; ticks.next(true, commit), Some(Due::Tick), *row);
+        // What another node has told in full is asked for at once.
+        ticks.count(packet_of(1, Sign::Told, growing.saturating_add(64)));
+        check_eq!(&rt; ticks.next(true, commit), Some(Due::Tick), *row);
+    }
+}
+
+// A node, how many beats a commit takes there, and after how many beats its ballots come while nothing moves: up to 26 beats a commit, as many
+// as where commits are fast.
+const SLOW_PATIENCE: &[(u8, u8, [u64; 3])] = &[
+    (2, 25, [608, 1216, 2432]),
+    (2, 26, [608, 1216, 2432]),
+    (2, 27, [624, 1248, 2496]),
+    (3, 27, [720, 1440, 2880]),
+    (2, 100, [1792, 3584, 7168]),
+];
+
+#[test]
+fn patience_has_16_commits_where_commits_are_slow(rt: HostRuntime) {
+    for (node, commit, waits) in SLOW_PATIENCE {
+        let mut ticks = Ticks::new(*node, three(&rt), true);
+        for wait in waits {
+            let found = slow_to_start(&rt, &mut ticks, 10_000, rest_of(0, true), *commit);
+            check_eq!(&rt; found, Some(*wait), (*node, *commit));
+        }
+    }
 }
 
 // How many times five beats pass, each time with a packet of this node, if one is given; and the digits of those that are suspected.

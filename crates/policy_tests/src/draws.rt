@@ -32,6 +32,15 @@ impl Draws {
         (self.word >> 32) % bound.max(1)
     }
 
+    // One of three, from 0.
+    pub fn pick(&mut self) -> usize {
+        match self.below(3) {
+            0 => 0,
+            1 => 1,
+            _ => 2,
+        }
+    }
+
     // True once in this number of draws.
     pub fn is_one_in(&mut self, times: u64) -> bool {
         self.below(times) == 0

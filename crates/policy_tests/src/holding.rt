@@ -1,6 +1,7 @@
 // For how many beats acts and ticks are held back for another node.
 use crate::check::Check;
 use serve_policy::{Backpressure, Draining, Gaining};
+use std::process::Abort;
 use test_checks::check_eq;
 
 // At which beat how many packets wait, and whether acts are held back.
@@ -38,13 +39,35 @@ const DRAINING: &[(u64, usize, bool, bool)] = &[
     (131, 65, false, false),
 ];
 
+// The same where a commit takes 25 beats: four commits more.
+const SLOW_DRAINING: &[(u64, usize, bool, bool)] = &[
+    (0, 64, false, false),
+    (40, 65, false, true),
+    (139, 65, false, true),
+    (140, 65, false, false),
+    (141, 65, true, true),
+    (280, 4096, false, true),
+    (281, 4096, false, false),
+    (282, 64, false, false),
+];
+
+// Whether ticks are held back goes by these rows where a commit takes this many beats.
+fn drains(rt: &impl Abort, rows: &[(u64, usize, bool, bool)], commit: u8) {
+    let mut draining = Draining::new();
+    for row in rows {
+        let (beat, waiting, is_posted, holds) = *row;
+        check_eq!(rt; draining.holds(beat, waiting, is_posted, commit), holds, *row);
+    }
+}
+
 #[test]
 fn ticks_wait_40_beats_after_the_last_packet_that_a_node_took(rt: HostRuntime) {
-    let mut draining = Draining::new();
-    for row in DRAINING {
-        let (beat, waiting, is_posted, holds) = *row;
-        check_eq!(&rt; draining.holds(beat, waiting, is_posted, 0), holds, *row);
-    }
+    drains(&rt, DRAINING, 0);
+}
+
+#[test]
+fn ticks_wait_four_commits_more_where_commits_are_slow(rt: HostRuntime) {
+    drains(&rt, SLOW_DRAINING, 25);
 }
 
 // From which slot on a node asks, of one whose log is how long, if it asks; at which beat; and whether acts are held back then.

@@ -3,9 +3,13 @@
 #![tactic(auto)]
 
 #[cfg(test)]
+mod acting;
+#[cfg(test)]
 mod check;
 #[cfg(test)]
 mod cluster;
+#[cfg(test)]
+mod commits;
 #[cfg(test)]
 mod counting;
 #[cfg(test)]
@@ -16,6 +20,8 @@ mod electing;
 mod holding;
 #[cfg(test)]
 mod pacing;
+#[cfg(test)]
+mod schedules;
 #[cfg(test)]
 mod timed;
 #[cfg(test)]

@@ -1,8 +1,8 @@
 // A node of a simulated cluster with its time: its ticks, when its beats are due, and the packets that wait. Times are in microseconds.
 use crate::draws::Draws;
-use crate::voter::{Cost, Log, Packet, Voter};
+use crate::voter::{Cost, Log, Packet, Role, Voter};
 use paxos_packets::Members;
-use serve_policy::{Draining, Due, Sign, Ticks, Turn};
+use serve_policy::{Admission, Commits, Draining, Due, Sign, Ticks, Turn};
 use std::alloc::Global;
 use std::collections::VecDeque;
 
@@ -13,6 +13,15 @@ const NEAR: u64 = 500;
 
 // How many beats are due at once at the most, and while nothing is pending.
 const BEATS_AT_ONCE: u64 = 5;
+
+// After how many rounds each a node that does not rest looks at the clock.
+const ROUNDS_A_LOOK: u64 = 64;
+
+// How many events come before a turn at the most.
+pub const EVENTS_A_TURN: u8 = 64;
+
+// One commit of this many takes ten times as long as the others.
+const COMMITS_A_STALL: u64 = 100;
 
 // How long the events of this schedule take that take long.
 #[derive(Clone, Copy)]
@@ -38,6 +47,16 @@ pub struct Node {
     pub posted: [bool; 4],
     draining: [Draining; 4],
     may_tick: bool,
+    admission: Admission,
+    // How long a commit takes here, 0 if rounds are not timed; and how long its rounds have shown that one takes.
+    pub commit: u64,
+    commits: Commits,
+    // How many rounds it has begun, when the last one, how many commits and acts that one had, and whether its turn alone is left.
+    rounds: u64,
+    began: u64,
+    made: u32,
+    given: u64,
+    pub is_turn_left: bool,
     // Since when no beat is counted, how many were by the clock, how many the ticks have counted since, and how many are due.
     last: u64,
     beat: u64,
@@ -51,7 +70,14 @@ pub struct Node {
 
 impl Node {
     // A node that starts at this time, in the first boot of its run or a later one.
-    pub fn new(alloc: Global, members: Members, voter: Voter, at: u64, is_first: bool) -> Node {
+    pub fn new(
+        alloc: Global,
+        members: Members,
+        voter: Voter,
+        commit: u64,
+        at: u64,
+        is_first: bool,
+    ) -> Node {
         Node {
             ticks: Ticks::new(voter.me, members, is_first),
             voter,
@@ -73,6 +99,14 @@ impl Node {
                 Draining::new(),
             ],
             may_tick: true,
+            admission: Admission::new(),
+            commit,
+            commits: Commits::new(),
+            rounds: 0,
+            began: at,
+            made: 0,
+            given: 0,
+            is_turn_left: false,
             last: 0,
             beat: 0,
             counted: 0,
@@ -128,9 +162,39 @@ impl Node {
         }
     }
 
+    // It notes how long the commits of the last round took, if rounds are timed.
+    fn note_commits(&mut self, now: u64) {
+        let took = if self.commit > 0 {
+            now.saturating_sub(self.began)
+        } else {
+            0
+        };
+        self.commits
+            .note(u32::try_from(took).unwrap_or(u32::MAX), self.made);
+        self.made = 0;
+        self.began = now;
+    }
+
+    // How long a commit takes that it makes now.
+    fn draw_commit(&mut self, draws: &mut Draws) -> u64 {
+        self.made = self.made.saturating_add(1);
+        if self.commit == 0 {
+            return draws.below(3000).saturating_add(200);
+        }
+        let micros = (self.commit / 2).saturating_add(draws.below(self.commit.saturating_add(1)));
+        if draws.is_one_in(COMMITS_A_STALL) {
+            micros.saturating_mul(10)
+        } else {
+            micros
+        }
+    }
+
     // A round begins: the last turn is counted.
     pub fn begin(&mut self, now: u64, weight: usize) {
-        if self.due == 0 {
+        self.note_commits(now);
+        self.given = 0;
+        self.rounds = self.rounds.saturating_add(1);
+        if self.due == 0 && self.rounds % ROUNDS_A_LOOK == 0 {
             self.look(now);
         }
         let turn = self.turn(self.from, self.sign);
@@ -138,6 +202,7 @@ impl Node {
         self.from = None;
         self.sign = Sign::Nothing;
         let beat = self.ticks.beats();
+        let commit = self.commits.beats();
         let mut drains = false;
         for ((draining, waits), posted) in self
             .draining
@@ -145,7 +210,8 @@ impl Node {
             .zip(self.waits.iter())
             .zip(self.posted)
         {
-            drains = draining.holds(beat, waits.len().saturating_mul(weight), posted, 0) || drains;
+            let waiting = waits.len().saturating_mul(weight);
+            drains = draining.holds(beat, waiting, posted, commit) || drains;
         }
         self.may_tick = !drains;
         self.posted = [false; 4];
@@ -160,23 +226,48 @@ impl Node {
     ) -> (Option<u64>, bool) {
         let mut cost = None;
         let mut starts = false;
-        for _ in 0..64 {
-            match self.ticks.next(self.may_tick, 0) {
+        for _ in 0..EVENTS_A_TURN {
+            match self.ticks.next(self.may_tick, self.commits.beats()) {
                 None => break,
                 Some(Due::Start) => {
                     starts = true;
                     self.voter.start();
-                    cost = Some(draws.below(3000).saturating_add(200));
+                    cost = Some(self.draw_commit(draws));
                 },
                 Some(Due::Tick) => {
                     self.voter.tick(asks);
-                    self.voter.push_to(log);
-                    cost = Some(cost.unwrap_or(draws.below(40).saturating_add(5)));
+                    let pushed = self.voter.push_to(log);
+                    let micros = self.draw_cost(draws, pushed, 40);
+                    cost = Some(cost.unwrap_or(0).saturating_add(micros));
                 },
                 Some(Due::Suspect(_)) => {},
             }
         }
         (cost, starts)
+    }
+
+    // Whether a client may act.
+    pub fn may_act(&mut self) -> bool {
+        self.admission
+            .see(self.voter.role == Role::Leading, self.voter.is_pending());
+        self.given < self.commits.acts_a_turn() && self.admission.has_room()
+    }
+
+    // A client acts. How long it took.
+    pub fn act(&mut self, draws: &mut Draws, log: &mut Log) -> u64 {
+        self.given = self.given.saturating_add(1);
+        self.admission.give();
+        let cost = self.voter.take(log);
+        self.draw_cost(draws, cost, 95)
+    }
+
+    // How long an event takes that made at most one commit, and if it made none not much more than this.
+    fn draw_cost(&mut self, draws: &mut Draws, cost: Cost, little: u64) -> u64 {
+        if cost == Cost::Little {
+            draws.below(little).saturating_add(5)
+        } else {
+            self.draw_commit(draws)
+        }
     }
 
     // What the node sent waits for the others, at most a limited number of packets for each.
@@ -231,16 +322,22 @@ impl Node {
         self.from = Some(from);
         self.sign = self.voter.sign_of(packet, cost);
         let micros = match cost {
-            Cost::Little => draws.below(60).saturating_add(5),
-            Cost::Commit => draws.below(3000).saturating_add(200),
-            Cost::Vote => (costs.vote / 2).saturating_add(draws.below(
-                (costs.vote / 2).saturating_add(1),
-            )),
-            Cost::Takeover => (costs.takeover / 2).saturating_add(draws.below(
-                (costs.takeover / 2).saturating_add(1),
+            Cost::Little | Cost::Commit => self.draw_cost(draws, cost, 60),
+            Cost::Vote => self.draw_votes(draws, costs.vote),
+            Cost::Takeover => draw_half(draws, costs.takeover).saturating_add(self.draw_commit(
+                draws,
             )),
         };
         Some((from, micros))
+    }
+
+    // How long the votes take for which a slot of the history stands: each of them is committed.
+    fn draw_votes(&mut self, draws: &mut Draws, vote: u64) -> u64 {
+        let micros = draw_half(draws, vote);
+        let first = self.draw_commit(draws);
+        let more = micros / self.commit.max(1);
+        self.made = self.made.max(u32::try_from(more).unwrap_or(u32::MAX));
+        micros.max(first)
     }
 
     // Turns without a packet, while beats are due: mostly as many as end them. Otherwise it rests until some are.
@@ -279,4 +376,9 @@ impl Node {
             self.count(turn);
         }
     }
+}
+
+// A time up to this one, and at least half of it.
+fn draw_half(draws: &mut Draws, micros: u64) -> u64 {
+    (micros / 2).saturating_add(draws.below((micros / 2).saturating_add(1)))
 }

@@ -32,7 +32,8 @@ pub enum Says {
     Accept { slot: u8 },
     Accepted { slot: u8 },
     Nack { promised: Ballot },
-    Forward { node: u8, number: u8 },
+    // A node's entries with these numbers are pending there.
+    Forward { node: u8, first: u8, last: u8 },
     Learned { slot: u8 },
     Ask { slot: u8 },
 }
@@ -55,7 +56,7 @@ pub enum Role {
 #[derive(Clone, Copy, PartialEq, Eq)]
 pub enum Cost {
     Little,
-    // A promise or a vote was committed.
+    // A promise was committed, or a vote that the node did not have.
     Commit,
     // It voted for an old entry.
     Vote,
@@ -65,6 +66,13 @@ pub enum Cost {
 
 // To whom a packet goes: a node, or 0 for both others.
 pub type Post = (u8, Packet);
+
+// How many Accepts a node has sent to both others, and how many of these it had sent before.
+#[derive(Clone, Copy, Debug, PartialEq, Eq)]
+pub struct Accepts {
+    pub sent: u64,
+    pub again: u64,
+}
 
 // A node. Of the votes that it heard it keeps those of each node's greatest ballot.
 #[derive(Drop)]
@@ -87,6 +95,7 @@ pub struct Voter {
     pub applied: u8,
     pub taken: u8,
     done: u8,
+    pub accepts: Accepts,
     pub posts: Vec<Post>,
 }
 
@@ -123,6 +132,7 @@ impl Voter {
             applied: 0,
             taken: taken.saturating_add(1),
             done: taken,
+            accepts: Accepts { sent: 0, again: 0 },
             posts,
         }
     }
@@ -130,6 +140,11 @@ impl Voter {
     // Whether its own entries are pending.
     pub fn is_pending(&self) -> bool {
         self.done < self.taken
+    }
+
+    // How many are.
+    pub fn pending(&self) -> u8 {
+        self.taken.saturating_sub(self.done)
     }
 
     // Sends a packet. Room for it is lacking only if memory runs out.
@@ -179,15 +194,22 @@ impl Voter {
     fn accept_again(&mut self) {
         for slot in self.applied..self.next {
             if self.proposed & !self.learned & bit(slot) != 0 {
-                self.send(0, self.ballot, Says::Accept { slot });
+                self.accepts.again = self.accepts.again.saturating_add(1);
+                self.accept(slot);
             }
         }
     }
 
+    // It asks for votes.
+    fn accept(&mut self, slot: u8) {
+        self.accepts.sent = self.accepts.sent.saturating_add(1);
+        self.send(0, self.ballot, Says::Accept { slot });
+    }
+
     // A client acts.
-    pub fn take(&mut self, log: &mut Log) {
+    pub fn take(&mut self, log: &mut Log) -> Cost {
         self.taken = self.taken.saturating_add(1);
-        self.push_to(log);
+        self.push_to(log)
     }
 
     // Its pending entries go to the node that it takes for the leader.
@@ -196,32 +218,39 @@ impl Voter {
         if self.is_pending() && leader != 0 && leader != self.me {
             let says = Says::Forward {
                 node: self.me,
-                number: self.taken,
+                first: self.done.saturating_add(1),
+                last: self.taken,
             };
             self.send(leader, NO_BALLOT, says);
         }
     }
 
     // The same, or a leader proposes them.
-    pub fn push_to(&mut self, log: &mut Log) {
-        if self.role == Role::Leading {
-            if self.is_pending() {
-                self.propose_entry(log, self.me, self.taken);
-            }
-        } else {
+    pub fn push_to(&mut self, log: &mut Log) -> Cost {
+        if self.role != Role::Leading {
             self.push();
+            return Cost::Little;
         }
+        self.propose_each(log, self.me, self.done.saturating_add(1), self.taken)
     }
 
-    // A leader proposes what it has not proposed yet.
-    fn propose_entry(&mut self, log: &mut Log, node: u8, number: u8) {
-        let Some(covered) = self.covered.get_mut(usize::from(node)) else {
-            return;
-        };
-        if *covered >= number || self.next >= 64 {
-            return;
+    // A leader proposes those of these entries that it has not proposed yet, and commits its votes for them at once.
+    fn propose_each(&mut self, log: &mut Log, node: u8, first: u8, last: u8) -> Cost {
+        let covered = self.covered.get(usize::from(node)).copied().unwrap_or(last);
+        let mut cost = Cost::Little;
+        for number in first.max(covered.saturating_add(1))..last.saturating_add(1) {
+            if self.next < 64 {
+                self.propose_entry(log, node, number);
+                cost = Cost::Commit;
+            }
         }
-        *covered = number;
+        cost
+    }
+
+    fn propose_entry(&mut self, log: &mut Log, node: u8, number: u8) {
+        if let Some(covered) = self.covered.get_mut(usize::from(node)) {
+            *covered = number;
+        }
         let slot = self.next;
         if let Some(place) = log.get_mut(usize::from(slot))
             && !self.ballot.is_below(&place.ballot)
@@ -239,7 +268,7 @@ impl Voter {
     fn propose(&mut self, slot: u8) {
         self.proposed |= bit(slot);
         self.votes |= bit(slot);
-        self.send(0, self.ballot, Says::Accept { slot });
+        self.accept(slot);
         self.hear(self.me, self.ballot, bit(slot));
         self.send(0, self.ballot, Says::Accepted { slot });
     }
@@ -327,12 +356,7 @@ impl Voter {
                 Cost::Little
             },
             Says::Nack { promised } => self.on_nack(ballot, promised),
-            Says::Forward { node, number } => {
-                if self.role == Role::Leading {
-                    self.propose_entry(log, node, number);
-                }
-                Cost::Little
-            },
+            Says::Forward { node, first, last } => self.on_forward(log, node, first, last),
             Says::Learned { slot } => {
                 self.learned |= bit(slot);
                 Cost::Little
@@ -402,6 +426,13 @@ impl Voter {
             self.role = Role::Idle;
         }
         Cost::Little
+    }
+
+    fn on_forward(&mut self, log: &mut Log, node: u8, first: u8, last: u8) -> Cost {
+        if self.role != Role::Leading {
+            return Cost::Little;
+        }
+        self.propose_each(log, node, first, last)
     }
 
     fn on_ask(&mut self, from: u8, slot: u8) -> Cost {

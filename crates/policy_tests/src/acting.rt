@@ -1,0 +1,193 @@
+// Clients act as fast as they can at three nodes that go by the real rules of time, and nothing disturbs them: what commits cost is all that
+// slows them down, few packets are sent again, and one node leads throughout.
+use crate::check::Check;
+use crate::cluster::Found;
+use crate::schedules::{commits_of, draw_calm};
+use paxos_packets::Members;
+use std::alloc::Global;
+use std::panic::Expect;
+use std::process::Abort;
+use test_checks::check;
+
+// How many acts come first, one at a time at each node: they show how long a commit takes.
+const FIRST: u8 = 8;
+
+// How many acts come then.
+const ACTS: u8 = 50;
+
+// How many microseconds either may take at the most.
+const LONGEST: u64 = 60_000_000;
+
+// How many acts each node has under way, and how many commits an act takes over many schedules. Of one act at a time it is two, one after the
+// other: the leader's, and that of the node that votes first. Of many it is one, the leader's. A commit takes 1.09 times as long as it mostly
+// does, and now and then a packet waits for one that is under way.
+const LOADS: &[([u8; 3], u64)] = &[
+    ([1, 0, 0], 3),
+    ([0, 1, 0], 3),
+    ([1, 1, 1], 3),
+    ([40, 0, 0], 2),
+    ([12, 12, 12], 2),
+    ([24, 4, 4], 2),
+];
+
+// How long the turns of an act take that commit nothing.
+const TURNS: u64 = 1_000;
+
+// How long a node may stand still.
+const STILL: u64 = 500_000;
+
+// What the acts of a schedule took.
+#[derive(Clone, Copy, Debug, PartialEq, Eq)]
+struct Took {
+    micros: u64,
+    // How many Accepts were sent, and how many of these again.
+    sent: u64,
+    again: u64,
+}
+
+const NOTHING: Took = Took {
+    micros: 0,
+    sent: 0,
+    again: 0,
+};
+
+impl Took {
+    // What it took beside what it had taken before.
+    fn since(self, before: Took) -> Took {
+        Took {
+            micros: self.micros.saturating_sub(before.micros),
+            sent: self.sent.saturating_sub(before.sent),
+            again: self.again.saturating_sub(before.again),
+        }
+    }
+
+    // What both took.
+    fn and(self, other: Took) -> Took {
+        Took {
+            micros: self.micros.saturating_add(other.micros),
+            sent: self.sent.saturating_add(other.sent),
+            again: self.again.saturating_add(other.again),
+        }
+    }
+
+    // Whether at most this many of these Accepts were sent again.
+    fn repeats_at_most(self, some: u64, of: u64) -> bool {
+        self.again.saturating_mul(of) <= self.sent.saturating_mul(some)
+    }
+}
+
+fn took_of(found: Found) -> Took {
+    Took {
+        micros: found.ended,
+        sent: found.accepts.sent,
+        again: found.accepts.again,
+    }
+}
+
+// Plays a schedule: what was found after the first acts, and after all.
+fn play(
+    alloc: Global,
+    members: Members,
+    seed: u64,
+    commits: [u64; 3],
+    under_way: [u8; 3],
+) -> [Found; 2] {
+    let mut cluster = draw_calm(alloc, members, seed, commits, FIRST);
+    let first = cluster.play_acts(LONGEST);
+    cluster.act_on(ACTS, under_way);
+    let last = cluster.play_acts(first.ended.saturating_add(LONGEST));
+    drop(cluster);
+    [first, last]
+}
+
+// How many microseconds the acts take at the most, if each takes this many commits.
+fn bound_of(commit: u64, count: u64) -> u64 {
+    commit
+        .saturating_mul(count)
+        .saturating_add(TURNS)
+        .saturating_mul(u64::from(ACTS))
+}
+
+// Node 1 leads throughout, and all acts are done in time. Returns what those after the first took.
+fn acts(
+    rt: &impl Abort,
+    alloc: Global,
+    seed: u64,
+    commits: [u64; 3],
+    under_way: [u8; 3],
+    bound: u64,
+) -> Took {
+    let members = Members::new(3).expect(rt, "three members");
+    let found = play(alloc, members, seed, commits, under_way);
+    for found in found {
+        check!(rt; found.is_level && found.leaders == 1 && found.ballots == 1, (seed, found));
+    }
+    let took = took_of(found[1]).since(took_of(found[0]));
+    check!(rt; took.micros <= bound, (seed, took));
+    took
+}
+
+// Clients act in each of these schedules, where a commit takes this long at each node.
+fn acts_at(rt: &impl Abort, alloc: Global, commit: u64, seeds: u64) {
+    for load in LOADS {
+        let (under_way, count) = *load;
+        let bound = bound_of(commit, count);
+        let mut all = NOTHING;
+        for seed in 0..seeds {
+            let most = bound.saturating_mul(2).saturating_add(STILL);
+            let took = acts(rt, alloc, seed, [commit; 3], under_way, most);
+            check!(rt; took.repeats_at_most(2, 3), (seed, took));
+            all = all.and(took);
+        }
+        check!(rt; all.micros <= bound.saturating_mul(seeds), (*load, all));
+        check!(rt; all.repeats_at_most(1, 4), (*load, all));
+    }
+}
+
+#[test]
+fn clients_act_where_a_commit_takes_a_tenth_of_a_millisecond(rt: HostRuntime) {
+    acts_at(&rt, rt.alloc(), 100, 100);
+}
+
+#[test]
+fn clients_act_where_a_commit_takes_3_milliseconds(rt: HostRuntime) {
+    acts_at(&rt, rt.alloc(), 3_000, 100);
+}
+
+#[test]
+fn clients_act_where_a_commit_takes_10_milliseconds(rt: HostRuntime) {
+    acts_at(&rt, rt.alloc(), 10_000, 100);
+}
+
+#[test]
+fn clients_act_where_a_commit_takes_50_milliseconds(rt: HostRuntime) {
+    acts_at(&rt, rt.alloc(), 50_000, 100);
+}
+
+// Clients act in each of these schedules, where commits take longer at one node than at another: the slowest sets the pace. A leader goes by
+// its own commits, so it sends more again if both others are slower than it is.
+fn acts_at_each(rt: &impl Abort, alloc: Global, first: u64, last: u64) {
+    for seed in first..last {
+        let commits = commits_of(seed);
+        let [own, second, third] = commits;
+        for load in LOADS {
+            let (under_way, count) = *load;
+            let bound = bound_of(own.max(second).max(third), count);
+            let most = bound.saturating_mul(2).saturating_add(STILL);
+            let took = acts(rt, alloc, seed, commits, under_way, most);
+            if own >= second.min(third) {
+                check!(rt; took.repeats_at_most(2, 3), (seed, took));
+            }
+        }
+    }
+}
+
+#[test]
+fn clients_act_where_commits_take_longer_at_some_nodes(rt: HostRuntime) {
+    acts_at_each(&rt, rt.alloc(), 0, 50);
+}
+
+#[test]
+fn clients_act_where_commits_take_longer_at_some_nodes_under_50_schedules_more(rt: HostRuntime) {
+    acts_at_each(&rt, rt.alloc(), 50, 100);
+}
