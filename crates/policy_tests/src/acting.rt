@@ -12,6 +12,13 @@ use test_checks::check;
 // How many acts come first, one at a time at each node: they show how long a commit takes.
 const FIRST: u8 = 8;
 
+// How many commits the start and these acts take over many schedules. The ballot takes three, and eleven entries at most two each, one after the
+// other; what is sent again before it is known how long a commit takes costs a few more.
+const COMMITS_FIRST: u64 = 30;
+
+// How long the nodes take to start, and the turns of the first acts.
+const STARTING: u64 = 50_000;
+
 // How many acts come then.
 const ACTS: u8 = 50;
 
@@ -108,7 +115,7 @@ fn bound_of(commit: u64, count: u64) -> u64 {
         .saturating_mul(u64::from(ACTS))
 }
 
-// Node 1 leads throughout, and all acts are done in time. Returns what those after the first took.
+// Node 1 leads throughout, and all acts are done in time. Returns what the first took, and what those after them did.
 fn acts(
     rt: &impl Abort,
     alloc: Global,
@@ -116,15 +123,16 @@ fn acts(
     commits: [u64; 3],
     under_way: [u8; 3],
     bound: u64,
-) -> Took {
+) -> [Took; 2] {
     let members = Members::new(3).expect(rt, "three members");
     let found = play(alloc, members, seed, commits, under_way);
     for found in found {
         check!(rt; found.is_level && found.leaders == 1 && found.ballots == 1, (seed, found));
     }
-    let took = took_of(found[1]).since(took_of(found[0]));
+    let first = took_of(found[0]);
+    let took = took_of(found[1]).since(first);
     check!(rt; took.micros <= bound, (seed, took));
-    took
+    [first, took]
 }
 
 // Clients act in each of these schedules, where a commit takes this long at each node.
@@ -132,13 +140,19 @@ fn acts_at(rt: &impl Abort, alloc: Global, commit: u64, seeds: u64) {
     for load in LOADS {
         let (under_way, count) = *load;
         let bound = bound_of(commit, count);
+        let mut first = NOTHING;
         let mut all = NOTHING;
         for seed in 0..seeds {
             let most = bound.saturating_mul(2).saturating_add(STILL);
-            let took = acts(rt, alloc, seed, [commit; 3], under_way, most);
+            let [began, took] = acts(rt, alloc, seed, [commit; 3], under_way, most);
             check!(rt; took.repeats_at_most(2, 3), (seed, took));
+            first = first.and(began);
             all = all.and(took);
         }
+        let start = commit
+            .saturating_mul(COMMITS_FIRST)
+            .saturating_add(STARTING);
+        check!(rt; first.micros <= start.saturating_mul(seeds), (*load, first));
         check!(rt; all.micros <= bound.saturating_mul(seeds), (*load, all));
         check!(rt; all.repeats_at_most(1, 4), (*load, all));
     }
@@ -174,7 +188,7 @@ fn acts_at_each(rt: &impl Abort, alloc: Global, first: u64, last: u64) {
             let (under_way, count) = *load;
             let bound = bound_of(own.max(second).max(third), count);
             let most = bound.saturating_mul(2).saturating_add(STILL);
-            let took = acts(rt, alloc, seed, commits, under_way, most);
+            let [_, took] = acts(rt, alloc, seed, commits, under_way, most);
             if own >= second.min(third) {
                 check!(rt; took.repeats_at_most(2, 3), (seed, took));
             }

@@ -7,18 +7,14 @@ use test_checks::check_eq;
 type Row = (u32, u32, u8, u64);
 
 // A round without a commit shows nothing.
-const FIRST: &[Row] = &[
-    (5_000_000, 0, 0, 2000),
-    (99, 1, 0, 20),
-    (5_000_000, 0, 0, 20),
-];
+const FIRST: &[Row] = &[(5_000_000, 0, 0, 64), (99, 1, 0, 64), (5_000_000, 0, 0, 64)];
 
 // Commits of 10 milliseconds: the time is 500 microseconds, then 1,500, 3,500, 7,500 and 10,000. Of what it is too long after that an eighth
 // goes with each commit: 9,000, 8,125, 7,360, 6,440 and 5,640 are left.
 const RISING: &[Row] = &[
-    (10_000, 1, 0, 3),
-    (10_000, 1, 0, 1),
-    (10_000, 1, 1, 1),
+    (10_000, 1, 0, 64),
+    (10_000, 1, 0, 6),
+    (10_000, 1, 1, 2),
     (10_000, 1, 3, 1),
     (10_000, 1, 5, 1),
     (10_000, 1, 5, 1),
@@ -32,37 +28,43 @@ const RISING: &[Row] = &[
 // Of several commits each takes its part of the round: 60, 500, 1,500, 1,995, 4,000 and 3,999 after them. An eighth of less than eight
 // microseconds is none.
 const MANY: &[Row] = &[
-    (480, 8, 0, 32),
-    (1_000, 2, 0, 3),
-    (30_000, 20, 0, 1),
-    (19_959, 10, 0, 1),
-    (40_000, 10, 2, 1),
-    (39_999, 10, 2, 1),
-    (39_920, 10, 1, 1),
+    (480, 8, 0, 64),
+    (1_000, 2, 0, 64),
+    (30_000, 20, 0, 6),
+    (19_959, 10, 0, 5),
+    (40_000, 10, 2, 2),
+    (39_999, 10, 2, 2),
+    (39_920, 10, 1, 2),
 ];
 
 // One commit that takes five seconds among others of 200 microseconds: 900, and then 813 and 737.
 const STALL: &[Row] = &[
-    (200, 1, 0, 9),
-    (1_600, 8, 0, 9),
-    (5_000_000, 1, 0, 2),
-    (200, 1, 0, 2),
-    (200, 1, 0, 2),
+    (200, 1, 0, 64),
+    (1_600, 8, 0, 64),
+    (5_000_000, 1, 0, 64),
+    (200, 1, 0, 64),
+    (200, 1, 0, 64),
 ];
 
-// The bounds of a beat, and of a hundred: 8,500, 17,500, 35,500, 71,500 and 143,500 lie between.
+// The bounds of half a beat, of a beat, and of a hundred: 10,250, 21,000, 42,500, 85,500 and 171,500 lie between.
 const BEATS: &[Row] = &[
-    (500, 1, 0, 3),
-    (1_500, 1, 0, 1),
-    (1_999, 1, 0, 1),
-    (2_000, 1, 1, 1),
-    (3_999, 1, 1, 1),
-    (4_000, 1, 2, 1),
-    (5_000_000, 1, 4, 1),
-    (5_000_000, 1, 8, 1),
-    (5_000_000, 1, 17, 1),
-    (5_000_000, 1, 35, 1),
-    (5_000_000, 1, 71, 1),
+    (500, 1, 0, 64),
+    (999, 1, 0, 64),
+    (1_000, 1, 0, 9),
+    (1_110, 1, 0, 9),
+    (1_111, 1, 0, 8),
+    (1_999, 1, 0, 5),
+    (2_000, 1, 1, 4),
+    (3_999, 1, 1, 2),
+    (4_000, 1, 2, 2),
+    (4_999, 1, 2, 2),
+    (5_000, 1, 2, 1),
+    (4_000, 1, 2, 2),
+    (5_000_000, 1, 5, 1),
+    (5_000_000, 1, 10, 1),
+    (5_000_000, 1, 21, 1),
+    (5_000_000, 1, 42, 1),
+    (5_000_000, 1, 85, 1),
     (199_999, 1, 99, 1),
     (200_000, 1, 100, 1),
     (202_000, 1, 100, 1),
@@ -76,7 +78,7 @@ fn a_commit_takes_what_rounds_with_commits_show(rt: HostRuntime) {
     for rows in RUNS {
         let mut commits = Commits::new();
         check_eq!(&rt; commits.beats(), 0);
-        check_eq!(&rt; commits.acts_a_turn(), 2000);
+        check_eq!(&rt; commits.acts_a_turn(), 64);
         for row in *rows {
             let (micros, count, beats, acts) = *row;
             commits.note(micros, count);

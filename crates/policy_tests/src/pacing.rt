@@ -85,19 +85,29 @@ fn waits_for_slow_clients_for_80_milliseconds(rt: HostRuntime) {
     check_eq!(&rt; left_to_wait(u64::MAX), 0);
 }
 
+// Whether the node leads, how many beats a commit takes, and how many acts may be under way.
+const ACTS: &[(bool, u8, u32)] = &[
+    (true, 0, 1000),
+    (true, 100, 1000),
+    (false, 0, 4),
+    (false, 1, 2),
+    (false, 100, 2),
+];
+
 #[test]
-fn gives_1000_acts_if_it_leads_and_else_4(rt: HostRuntime) {
-    for (leads, most) in [(true, 1000), (false, 4)] {
+fn gives_1000_acts_if_it_leads_and_else_4_or_2(rt: HostRuntime) {
+    for row in ACTS {
+        let (leads, commit, most) = *row;
         let mut admission = Admission::new();
         for _ in 0..2 {
             for _ in 0..most {
-                admission.see(leads, true);
-                check!(&rt; admission.has_room());
+                admission.see(leads, true, commit);
+                check!(&rt; admission.has_room(), *row);
                 admission.give();
             }
-            check!(&rt; !admission.has_room());
+            check!(&rt; !admission.has_room(), *row);
             // Nothing is pending, so all that was given is done.
-            admission.see(leads, false);
+            admission.see(leads, false, commit);
         }
     }
 }

@@ -246,11 +246,13 @@ impl Node {
         (cost, starts)
     }
 
-    // Whether a client may act.
+    // Whether a client may act: the rules have room for an act, and if it leads, fewer were given in this round than may come before a turn.
     pub fn may_act(&mut self) -> bool {
-        self.admission
-            .see(self.voter.role == Role::Leading, self.voter.is_pending());
-        self.given < self.commits.acts_a_turn() && self.admission.has_room()
+        let leads = self.voter.role == Role::Leading;
+        let commit = self.commits.beats();
+        self.admission.see(leads, self.voter.is_pending(), commit);
+        let is_one_more = !leads || self.given < self.commits.acts_a_turn();
+        is_one_more && self.admission.has_room()
     }
 
     // A client acts. How long it took.

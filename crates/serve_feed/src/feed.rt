@@ -81,7 +81,7 @@ struct Round {
     // How many entries its turn had applied, and how many commits the node had made.
     applied: u64,
     commits: u64,
-    // How many acts were given since, and how many may be: as many as are committed within a beat if the node leads.
+    // How many acts were given since, and how many may be before the turn.
     given: u64,
     most: u64,
     // Whether something happened since.
@@ -313,7 +313,8 @@ impl<'a> ClientFeed<'a> {
         ensures node { self.new.node ≡ self.old.node }
         ensures tells { (given : List (ℕ × Act)) → Tells self.old.lanes.sources given → Tells self.new.lanes.sources given }
     {
-        self.boot.admission.see(seen.leads, seen.pending);
+        let commit = self.boot.commits.beats();
+        self.boot.admission.see(seen.leads, seen.pending, commit);
         let round = self.pace.round();
         if round != self.round.number {
             self.round.number = round;

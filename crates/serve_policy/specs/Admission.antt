@@ -1,5 +1,5 @@
 -- How many acts of its clients a node has under way (docs/THREADS.md). Nothing that is claimed of a cluster rests on it.
-use Rattle.std.specs.Prelude.{ℕ, ◌^◌, ◌-◌, suc, nat_lt, Bool, if◌then◌else◌}
+use Rattle.std.specs.Prelude.{ℕ, ◌^◌, ◌-◌, ◌==◌, suc, nat_lt, Bool, if◌then◌else◌}
 use Rattle.serve_policy.specs.Ticks.{capped}
 
 -- how many acts were given since nothing was pending, and how many may be under way
@@ -10,11 +10,11 @@ pub record Acts : Type 0 where
 abbrev pub no_acts : Acts
 no_acts = record { under_way = 0; most = 4 }
 
--- whether the node leads, and whether entries of it are pending
-abbrev pub seeing : Bool → Bool → Acts → Acts
-seeing leads is_pending a = record {
+-- whether the node leads, whether entries of it are pending, and how many beats a commit takes
+abbrev pub seeing : Bool → Bool → ℕ → Acts → Acts
+seeing leads is_pending commit a = record {
   under_way = if is_pending then a.under_way else 0;
-  most = if leads then 1000 else 4;
+  most = if leads then 1000 else (if commit == 0 then 4 else 2);
 }
 
 -- whether one more may be given

@@ -6,7 +6,7 @@ use Rattle.std.specs.Prelude.{ℕ, ◌+◌, ◌-◌, ◌*◌, ◌/◌, ◌==◌,
 abbrev pub taking : ℕ → ℕ → ℕ
 taking micros known = if nat_lt known micros then min micros (2 * known + 500) else known - (known - micros) / 8
 
--- so many commits took this long together
+-- this many commits took this long together
 abbrev pub noting : ℕ → ℕ → ℕ → ℕ
 noting micros commits known = if commits == 0 then known else taking (micros / commits) known
 
@@ -14,6 +14,7 @@ noting micros commits known = if commits == 0 then known else taking (micros / c
 abbrev pub beats_of : ℕ → ℕ
 beats_of known = min (known / 2000) 100
 
--- how many acts a node gives before a turn: as many as it commits within a beat, and at least one
+-- how many acts a node gives before a turn: 64 if a commit takes less than half a beat, and else as many as it commits within five beats, at
+-- least one
 abbrev pub acts_a_turn : ℕ → ℕ
-acts_a_turn known = max (2000 / suc known) 1
+acts_a_turn known = if nat_lt known 1000 then 64 else max (10000 / suc known) 1

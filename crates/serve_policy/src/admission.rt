@@ -10,6 +10,9 @@ const MOST_UNDER_WAY: u32 = 1000;
 /// applied one by then proposes it again in vain. With many under way most slots would go to such repeats; with four, one in a hundred does.
 const MOST_FORWARDED: u32 = 4;
 
+/// How many may be under way at such a node if a commit takes a beat or more: a packet then takes as long as several acts.
+const MOST_FORWARDED_SLOWLY: u32 = 2;
+
 /// How many acts a node has given since nothing was pending, and how many it may give. A clause sees both numbers.
 #[derive(Drop)]
 pub struct Admission {
@@ -36,21 +39,25 @@ impl Admission {
         }
     }
 
-    /// Notes whether the node leads, and whether entries of it are pending: if none is, none of its acts is under way. Takes constant time.
-    pub fn see(&mut self, leads: bool, is_pending: bool)
-        ensures { self.new ≡ seeing leads is_pending self.old }
+    /// Notes whether the node leads, whether entries of it are pending, and how many beats a commit takes: if no entry is pending, none of its
+    /// acts is under way. Takes constant time.
+    pub fn see(&mut self, leads: bool, is_pending: bool, commit: u8)
+        ensures { self.new ≡ seeing leads is_pending commit self.old }
     {
         self.most = if leads {
             MOST_UNDER_WAY
-        } else {
+        } else if commit == 0 {
             MOST_FORWARDED
+        } else {
+            MOST_FORWARDED_SLOWLY
         };
         if !is_pending {
             self.under_way = 0;
         }
     }
 
-    /// Returns whether the node may give one more act: fewer than 1,000 are under way if it leads, and fewer than 4 if it does not.
+    /// Returns whether the node may give one more act: fewer than 1,000 are under way if it leads, and else fewer than 4, or fewer than 2 if a
+    /// commit takes a beat or more.
     pub fn has_room(&self) -> bool
         ensures { result ≡ has_room self.now }
     {
