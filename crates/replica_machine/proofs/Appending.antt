@@ -1,5 +1,5 @@
 -- What is left when one of many entries is applied.
-use Rattle.std.proofs.Common.{◌≡◌, ◌≢◌, true, false, Ok, Err, sym, ap, ◌∙◌, subst, List, [], ◌∷◌, ◌++◌}
+use Rattle.std.proofs.Common.{◌≡◌, ◌≢◌, Bool, true, false, Ok, Err, sym, ap, ◌∙◌, subst, List, [], ◌∷◌, ◌++◌}
 use Rattle.std.specs.Prelude.{Result, OnOk, IsErrOf}
 use Rattle.std.specs.Result.{is_err}
 use Rattle.std.proofs.lemmas.Bool.{false≢true}
@@ -80,6 +80,9 @@ module _ {B M : Type 0} (now inside : LogState B M) (same : inside ≡ now) wher
 
   pub floor_is : inside.floor ≡ now.floor
   floor_is = ap (λ (v : LogState B M). v.floor) same
+
+  pub alive_inside : (has_failed : M → Bool) → has_failed now.machine ≡ false → has_failed inside.machine ≡ false
+  alive_inside has_failed h = ap (λ (v : LogState B M). has_failed v.machine) same ∙ h
 
   pub rolled_inside : (under applied : List (Entry B)) → applied ≡ inside.applied → IsRollOf (under ++ now.applied) now.roll
       → IsRollOf (under ++ applied) inside.roll

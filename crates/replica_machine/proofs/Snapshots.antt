@@ -17,7 +17,7 @@ use Rattle.replica_machine.specs.declared.input.Input.{Input}
 use Rattle.replica_machine.specs.declared.input.Input.TheVariants as Given
 use Rattle.replica_machine.specs.declared.roll.Standing.{Standing}
 use Rattle.replica_machine.specs.declared.roll.Standing.TheVariants.{Unknown, Live, Gone}
-use Rattle.replica_machine.specs.Roll.{is_new_boot, is_live, is_next, gone, standing_after, standing_from, standing, standing_in, takes_effect, IsRollOf}
+use Rattle.replica_machine.specs.Roll.{is_new_boot, is_live, is_next, gone, live_in, standing_after, standing_from, standing, standing_in, takes_effect, IsRollOf}
 use Rattle.replica_machine.specs.Given.{is_node, is_number, is_given_entry, IsGiven, AreGiven}
 use Rattle.replica_machine.specs.Log.{LogState, length_in, IsAt, IsLogOf, machine_from, next_by}
 use Rattle.replica_machine.specs.Replay.{Machine, input_of, state}
@@ -123,6 +123,13 @@ other n k b s none one = elim (cases_Bool (eqb k n)) [
   | inr h ↦ ap (λ t. cond (t && b) s Unknown) h
 ]
 
+live_kept : (s : Standing) (b : ℕ) → is_kept s ≡ true → live_in s ≡ Some b → is_number b ≡ true
+live_kept Unknown b kept is = absurd (cc)
+live_kept (Live c taken) b kept is =
+    let same : c ≡ b = cc in
+    subst (λ k. is_number k ≡ true) same (and_parts (is_number c) (leb taken 281474976710655) kept).0
+live_kept (Gone c) b kept is = absurd (cc)
+
 module _ {B : Type 0} where
   first_given : (e : Entry B) (log : List (Entry B)) → AreGiven (e ∷ log) → is_given_entry e ≡ true
   first_given e log given = All-head (λ (x : Entry B). is_given_entry x ≡ true) e log given
@@ -165,6 +172,16 @@ module _ {B : Type 0} where
   unknown_from n [] none given = refl
   unknown_from n (e ∷ log) none given =
       ap (λ s. standing_from n s log) (unknown_after n e none (first_given e log given)) ∙ unknown_from n log none (rest_given e log given)
+
+  -- a boot that is live after entries that are ones is one, and so is its node
+  pub live_given : (n : ℕ) (log : List (Entry B)) (b : ℕ) → AreGiven log → live_in (standing n log) ≡ Some b → (is_node n && is_number b) ≡ true
+  live_given n log b given is = elim (cases_Bool (is_node n)) [
+    | inl t ↦ and_from (is_node n) (is_number b) t (live_kept (standing n log) b (kept_from n Unknown log refl given) is)
+    | inr f ↦ absurd (none (sym is ∙ ap live_in (unknown_from n log f given)))
+  ]
+    where
+      none : ◌≡◌ {A = Option ℕ} (Some b) None → ⊥
+      none e = cc
 
 -- ---- the standings of nodes 1 to 7 in a roll
 

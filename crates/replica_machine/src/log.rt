@@ -10,7 +10,7 @@ ghost use Rattle.replica_machine.specs.Log.{IsLogOf, Follows, Begins, machine_fr
 ghost use Rattle.replica_machine.specs.Given.{AreGiven};
 ghost use Rattle.replica_machine.specs.Replay.{sayings_by_slot};
 ghost use Rattle.replica_machine.specs.Roll.{IsRollOf};
-ghost use Rattle.replica_machine.specs.Snapshot.{kept_of, kept_octets, loaded_log, IsLoaded};
+ghost use Rattle.replica_machine.specs.Snapshot.{kept_of, kept_octets, head_reading, loaded_log, IsLoaded};
 
 use crate::fault::{LoadFault, SaveFault};
 use crate::head::{Head, put_kept, take_head};
@@ -192,8 +192,8 @@ impl<M: Machine> AppliedLog<M> {
     /// Applies the next slot if its entry is learned, and returns what came of it; `None` if it is not learned.
     ///
     /// After `Failed`, which comes if memory runs out or the machine fails, the log has failed: `learn` and `advance` return it from then
-    /// on, and `applied` still returns what it returned before. Takes constant time on average besides the machine's own, whatever the
-    /// log's length.
+    /// on, and `applied` and `floor` still return what they returned before. Otherwise the machine has not failed, unless it had before.
+    /// Takes constant time on average besides the machine's own, whatever the log's length.
     pub fn advance(&mut self) -> Result<Option<Step<M::Say>>, Failed>
         ensures failed { self.old.failed ≡ true → IsErr result }
         ensures waits { self.old.failed ≡ false → learned_in (next_slot self.old) self.old ≡ None → IsOk result }
@@ -201,6 +201,8 @@ impl<M: Machine> AppliedLog<M> {
         ensures applies { IfOk result (λ step. IfSome step (λ s.
             Applies (machine_from M.next M.says M.to) M.content self.old self.new s.slot s.took s.says.items)) }
         ensures err { OnErr result ((self.new.failed ≡ true) × (self.new.applied ≡ self.old.applied)) }
+        ensures floor { self.new.floor ≡ self.old.floor }
+        ensures machine { M.has_failed self.old.machine ≡ false → OnOk result (M.has_failed self.new.machine ≡ false) }
     {
         if self.failed {
             return Err(Failed);
@@ -227,7 +229,8 @@ impl<M: Machine> AppliedLog<M> {
     /// Applies the entries in the next slots, given that nothing is learned there, and returns what the machine said at each.
     ///
     /// On `Memory` the machine was given nothing, and the log is as it was. After `Failed` the log has failed, as after `advance`; the first
-    /// of the entries may be applied then, in order. Takes constant time for each entry besides the machine's own, whatever the log's length.
+    /// of the entries may be applied then, in order. Otherwise the machine has not failed, unless it had before. Takes constant time for
+    /// each entry besides the machine's own, whatever the log's length.
     pub fn append(&mut self, entries: Vec<Entry<M::Body>>) -> Result<Vec<Vec<M::Say>>, LearnFault>
         requires { self.old.ahead ≡ [] }
         ensures applied { OnOk result (self.new.applied ≡ self.old.applied ++ entries.items) }
@@ -235,6 +238,7 @@ impl<M: Machine> AppliedLog<M> {
         ensures ahead { self.new.ahead ≡ [] }
         ensures floor { self.new.floor ≡ self.old.floor }
         ensures alive { OnOk result (self.new.failed ≡ false) }
+        ensures machine { M.has_failed self.old.machine ≡ false → OnOk result (M.has_failed self.new.machine ≡ false) }
         ensures failed { self.old.failed ≡ true → result ≡ Err LearnFault.Failed }
         ensures memory { IsErrOf result LearnFault.Memory → self.new ≡ self.old }
         ensures refused { IsErrOf result LearnFault.Failed → self.new.failed ≡ true }
@@ -328,13 +332,16 @@ impl<M: Machine> AppliedLog<M> {
         done.and(Ok(octets))
     }
 
-    /// Returns a log of the length that these octets say, in which no entry is left, and nothing is learned ahead.
+    /// Returns a log of the length that these octets say, in which no entry is left, and nothing is learned ahead. Its machine has not
+    /// failed.
     ///
     /// Fails with `Damaged` if they are none that a log is saved as: if octets are missing or left, or a number is out of its range; and
-    /// with `Memory`.
+    /// with `Memory`. Where the length and the standings at their head are damaged it fails with `Damaged`, whatever memory there is.
     pub fn load(alloc: Global, octets: &[u8]) -> Result<AppliedLog<M>, LoadFault>
         ensures loaded { IfOk result (λ log. IsSomeAnd (loaded_log M.loaded octets.now) (λ kept. IsLoaded M.content kept log)) }
+        ensures machine { IfOk result (λ log. M.has_failed log.machine ≡ false) }
         ensures damaged { IsErrOf result LoadFault.Damaged → loaded_log M.loaded octets.now ≡ None }
+        ensures head { IsErr (head_reading octets.now) → IsErrOf result LoadFault.Damaged }
     {
         let Ok((head, rest)) = take_head(octets) else {
             return Err(LoadFault::Damaged);

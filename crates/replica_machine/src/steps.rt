@@ -1,5 +1,6 @@
 //! One slot after the other: what the log, the roll and the machine make of an entry.
-ghost use Rattle.std.specs.Prelude.{◌≡◌, ◌<◌, ◌++◌, [], ◌∷◌, IfOk, OnOk, OnErr, List, ◌+◌, ◌≤◌, length, map, vec_len, vec_capacity, true};
+ghost use Rattle.std.specs.Prelude.{◌≡◌, ◌<◌, ◌++◌, [], ◌∷◌, IfOk, OnOk, OnErr, List, ◌+◌, ◌≤◌, length, map, vec_len, vec_capacity};
+ghost use Rattle.std.specs.Prelude.{true, false};
 ghost use Rattle.paxos_packets.specs.declared.entry.Entry.{Entry};
 ghost use Rattle.replica_machine.specs.Log.{IsAt, Begins, machine_from, next_by, says_by};
 ghost use Rattle.replica_machine.specs.Replay.{input_of, sayings_by_slot};
@@ -28,6 +29,7 @@ pub(crate) fn apply<M: Machine>(
     ensures content { IfOk result (λ step. M.content machine.new
         ≡ next_by M.next step.took (M.content machine.old) (input_of entry)) }
     ensures says { IfOk result (λ step. step.says.items ≡ says_by M.says step.took (M.content machine.old) (input_of entry)) }
+    ensures alive { M.has_failed machine.old ≡ false → OnOk result (M.has_failed machine.new ≡ false) }
 {
     applied.reserve(1)?;
     let (took, says) = apply_in_room(applied, roll, machine, entry)?;
@@ -50,6 +52,7 @@ fn apply_in_room<M: Machine>(
     ensures took { (log : List (Entry M.Body)) → IsRollOf log roll.old → IfOk result (λ did. did.0 ≡ takes_effect log entry) }
     ensures content { IfOk result (λ did. M.content machine.new ≡ next_by M.next did.0 (M.content machine.old) (input_of entry)) }
     ensures says { IfOk result (λ did. did.1.items ≡ says_by M.says did.0 (M.content machine.old) (input_of entry)) }
+    ensures alive { M.has_failed machine.old ≡ false → OnOk result (M.has_failed machine.new ≡ false) }
 {
     let took = roll.take(&entry);
     let (entry, said) = follow(machine, *applied.allocator(), took, entry);
@@ -82,6 +85,7 @@ pub(crate) fn apply_all<M: Machine>(
         → IsAt (machine_from M.next M.says M.to) M.content first (under ++ applied.old.items) roll.old machine.old
         → OnOk result (map (λ says. says.items) said.new.items ≡ map (λ says. says.items) said.old.items
         ++ sayings_by_slot (machine_from M.next M.says M.to first) (under ++ applied.old.items) entries.items) }
+    ensures alive { M.has_failed machine.old ≡ false → OnOk result (M.has_failed machine.new ≡ false) }
 {
     for entry in entries {
         let (_took, says) = apply_in_room(applied, roll, machine, entry)?;
@@ -100,6 +104,7 @@ fn follow<M: Machine>(
     ensures entry { result.0 ≡ entry }
     ensures content { OnOk result.1 (M.content machine.new ≡ next_by M.next took (M.content machine.old) (input_of entry)) }
     ensures says { IfOk result.1 (λ says. says.items ≡ says_by M.says took (M.content machine.old) (input_of entry)) }
+    ensures alive { M.has_failed machine.old ≡ false → OnOk result.1 (M.has_failed machine.new ≡ false) }
 {
     if took {
         lend(machine, alloc, entry)
@@ -117,6 +122,7 @@ fn lend<M: Machine>(
     ensures entry { result.0 ≡ entry }
     ensures content { OnOk result.1 (M.content machine.new ≡ next_by M.next true (M.content machine.old) (input_of entry)) }
     ensures says { IfOk result.1 (λ says. says.items ≡ says_by M.says true (M.content machine.old) (input_of entry)) }
+    ensures alive { M.has_failed machine.old ≡ false → OnOk result.1 (M.has_failed machine.new ≡ false) }
 {
     match entry {
         Entry::Noop => (Entry::Noop, Ok(Vec::new(alloc))),
@@ -167,6 +173,7 @@ fn lend_body<M: Machine>(
     ensures body { result.0 ≡ body }
     ensures content { OnOk result.1 (M.content machine.new ≡ M.next (M.content machine.old) (Input.Item transport body)) }
     ensures says { IfOk result.1 (λ says. says.items ≡ M.says (M.content machine.old) (Input.Item transport body)) }
+    ensures alive { OnOk result.1 (M.has_failed machine.new ≡ false) }
 {
     let input = Input::Item { transport, body };
     let said = machine.apply(&input);

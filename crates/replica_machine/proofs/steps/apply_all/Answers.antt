@@ -23,6 +23,7 @@ loop-entry-init g c =
       λ first under stands.
           let m = machine_from g.M.Machine.next g.M.Machine.says g.M.Machine.to first in
           (stands, ap (λ l. map (λ says. says.items) c.args.said.now.items ++ sayings_by_slot m (under ++ applied) l) rest),
+      λ alive. alive,
     )
 
 pub loop-entry-preserved : goal.loop-entry-preserved
@@ -56,6 +57,7 @@ loop-entry-preserved g c =
                 ∙ map-append (λ says. says.items) c.loop-entry.said.items (c.in_ok-_took.says ∷ []))
                 was.1,
           ),
+      λ alive. did.alive (so_far.7 alive),
     )
 
 pub returns-clause-stands : goal.returns-clause-stands
@@ -63,3 +65,6 @@ returns-clause-stands g c = λ first under stands. (c.loop-entry.invariant.6 fir
 
 pub returns-clause-rolled : goal.returns-clause-rolled
 returns-clause-rolled g c = λ under rolled. c.loop-entry.invariant.5 under rolled
+
+pub returns-clause-alive : goal.returns-clause-alive
+returns-clause-alive g c = λ alive. c.loop-entry.invariant.7 alive

@@ -1,4 +1,4 @@
-use Rattle.std.proofs.Common.{◌≡◌, ◌+◌, ◌≤◌, ◌++◌, map, length, vec_len, vec_capacity, List}
+use Rattle.std.proofs.Common.{◌≡◌, false, ◌+◌, ◌≤◌, ◌++◌, map, length, vec_len, vec_capacity, List}
 use Rattle.std.specs.Vec.Iter.{into_iter_items}
 use Rattle.paxos_packets.specs.declared.entry.Entry.{Entry}
 use Rattle.replica_machine.specs.Log.{Begins, IsAt, machine_from}
@@ -24,3 +24,4 @@ invariant-loop-entry g l =
     × (map (λ says. says.items) l.said.items ++ sayings_by_slot (from first) (under ++ l.applied.items) (into_iter_items l.entry-iterator)
     ≡ map (λ says. says.items) l.initial.said.items
     ++ sayings_by_slot (from first) (under ++ l.initial.applied.items) l.fn.entries.items))
+    × (g.M.Machine.has_failed l.initial.machine ≡ false → g.M.Machine.has_failed l.machine ≡ false)

@@ -5,7 +5,7 @@ use Rattle.replica_machine.specs.Log.{IsAt, IsLogOf, machine_from}
 use Rattle.replica_machine.specs.Replay.{sayings_by_slot}
 use Rattle.replica_machine.proofs.Appending.{memory_failed, memory_disagree, failed_disagree, other_fault, no_fault}
 use Rattle.replica_machine.proofs.Appending.{if_not_err, log_stays, stays_empty, not_failed, applied_is, begins_with, begins_same, begins_to}
-use Rattle.replica_machine.proofs.Appending.{floor_is, rolled_inside, stands_inside, log_on}
+use Rattle.replica_machine.proofs.Appending.{floor_is, alive_inside, rolled_inside, stands_inside, log_on}
 use Rattle.replica_machine.proofs.log.AppliedLog.append.Goals as goal
 
 pub apply_all-requires : goal.apply_all-requires
@@ -27,6 +27,7 @@ returns-in_default g c = record {
   ahead = c.requires;
   floor = refl;
   alive = tt;
+  machine = λ _. tt;
   failed = λ f. absurd (not_failed c.args.self.now _ c.self.view_is c.if-self.false f);
   memory = λ _. refl;
   refused = λ e. absurd (other_fault Memory Failed memory_failed e);
@@ -47,6 +48,7 @@ returns-then-is_err g c = record {
   ahead = stays_empty c.args.self.now _ c.self.view_is c.requires;
   floor = floor_is c.args.self.now _ c.self.view_is;
   alive = tt;
+  machine = λ _. tt;
   failed = λ f. absurd (not_failed c.args.self.now _ c.self.view_is c.if-self.false f);
   memory = λ _. log_stays c.args.self.now _ c.self.view_is _ c.reserve.ensures.items;
   refused = λ e. absurd (other_fault Memory Failed memory_failed e);
@@ -67,6 +69,7 @@ returns-in_default-apply_all g c = record {
   ahead = stays_empty c.args.self.now _ c.self.view_is c.requires;
   floor = floor_is c.args.self.now _ c.self.view_is;
   alive = tt;
+  machine = λ _. tt;
   failed = λ _. refl;
   memory = λ e. absurd (other_fault Failed Memory (λ f. memory_failed (sym f)) e);
   refused = λ _. refl;
@@ -108,6 +111,7 @@ returns g c =
       ahead = stays_empty now _ c.self.view_is c.requires;
       floor = floor_is now _ c.self.view_is;
       alive = c.if-self.false;
+      machine = λ was. done.alive (alive_inside now _ c.self.view_is g.M.Machine.has_failed was);
       failed = λ f. absurd (not_failed now _ c.self.view_is c.if-self.false f);
       memory = λ e. absurd (no_fault c.apply_all.new.said Memory e);
       refused = λ e. absurd (no_fault c.apply_all.new.said Failed e);
