@@ -19,6 +19,7 @@ mod reading;
 mod turns;
 mod writing;
 
+pub use bytes::Bytes;
 pub use draining::drain;
 pub use fault::ListenFault;
 pub use handshake::{answer_handshake, greet, read_handshake};
@@ -26,5 +27,6 @@ pub use inlet::Inlet;
 pub use items::{FromClient, ToClient};
 pub use outbox::Outbox;
 pub use reading::{put_transport, read_transport};
-pub use wamp_messages::Parser;
+pub use wamp_messages::{Message, Parser, Read};
+pub use wamp_rawsocket::FrameKind;
 pub use writing::{take_transport, write_transport};

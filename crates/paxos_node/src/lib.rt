@@ -19,5 +19,6 @@ pub use fault::NodeFault;
 pub use node::Node;
 pub use outcome::Outcome;
 pub use packets::Packets;
-pub use paxos_packets::{Ballot, Body, Change, Entries, Entry, Members, Packet, Rows, Vote};
+pub use paxos_packets::{Ballot, Body, Change, Entries, Entry, Members, Packet, Rows, Vote, Votes};
+pub use replica_machine::Roll;
 pub use view::{NodeView, Opened};

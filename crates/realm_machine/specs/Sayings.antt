@@ -12,6 +12,8 @@ use Rattle.realm_machine.specs.declared.sayings.say.Out.TheVariants.{Send, Close
 use Rattle.realm_machine.specs.declared.sayings.say.Say.{Say}
 use Rattle.realm_sessions.specs.declared.links.Link.{Link}
 use Rattle.realm_sessions.specs.Links.{transport_of}
+-- the URIs of errors that are faults of a realm's parts, too
+pub use Rattle.realm_sessions.specs.Fault.{invalid_uri, invalid_argument, no_such_subscription, no_such_procedure, limit}
 
 abbrev pub say : Transport → Message → Say
 say t message = record { transport = t; out = Send message }
@@ -28,24 +30,9 @@ say_to (Some t) message = say t message ∷ []
 abbrev pub to_session : List Link → ℕ → Message → List Say
 to_session links session message = say_to (transport_of links session) message
 
--- the URIs of errors (WAMP specification, "Predefined URIs"; the limit's is this profile's)
-abbrev pub invalid_uri : List ℕ
-invalid_uri = codes "wamp.error.invalid_uri"
-
-abbrev pub invalid_argument : List ℕ
-invalid_argument = codes "wamp.error.invalid_argument"
-
-abbrev pub no_such_subscription : List ℕ
-no_such_subscription = codes "wamp.error.no_such_subscription"
-
-abbrev pub limit : List ℕ
-limit = codes "cluster.error.limit"
-
+-- the other URIs of errors and reasons (WAMP specification, "Predefined URIs")
 abbrev pub no_such_realm : List ℕ
 no_such_realm = codes "wamp.error.no_such_realm"
-
-abbrev pub no_such_procedure : List ℕ
-no_such_procedure = codes "wamp.error.no_such_procedure"
 
 abbrev pub canceled : List ℕ
 canceled = codes "wamp.error.canceled"

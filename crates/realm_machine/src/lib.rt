@@ -1,7 +1,7 @@
 //! One realm of a WAMP router as a machine: sessions, registrations, subscriptions, publications and calls (WAMP specification, basic
-//! profile; canceling, patterns, shared registrations). What a client does goes in as an act; what is said to transports comes out as
-//! sayings. docs/PROTOCOL.md, "The realm", has the rules. The laws on sessions, registrations, subscriptions and calls are in the crate
-//! `realm_laws`.
+//! profile; canceling, patterns, shared registrations, progressive results, caller identification). What a client does goes in as an act; what
+//! is said to transports comes out as sayings. docs/PROTOCOL.md, "The realm", has the rules. The laws on sessions, registrations,
+//! subscriptions and calls are in the crate `realm_laws`.
 #![tactic(auto)]
 
 mod calling;
@@ -27,10 +27,10 @@ pub use parts::{Lists, Parts};
 pub use paxos_packets::{Shared, Transport};
 pub use realm::Realm;
 pub use realm_acts::Act;
-pub use realm_calls::Open;
-pub use realm_registrations::RegistrationParts;
-pub use realm_sessions::{Link, RestoreFault};
-pub use realm_subscriptions::SubscriptionParts;
+pub use realm_calls::{Calls, Open};
+pub use realm_registrations::{RegistrationParts, Registrations};
+pub use realm_sessions::{Link, RestoreFault, Sessions};
+pub use realm_subscriptions::{SubscriptionParts, Subscriptions};
 pub use replica_machine::Failed;
 pub use sayings::{Out, Say};
 pub use wamp_ids::Id;

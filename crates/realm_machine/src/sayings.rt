@@ -14,24 +14,17 @@ pub use endings::{add_end, add_farewell, end_for_callees, end_for_callers};
 pub use events::{add_events_to, open_topic};
 pub use invocations::{add_interrupt, add_told_canceled, failure, invocation, result_of};
 use paxos_packets::Transport;
+pub use realm_sessions::{
+    INVALID_ARGUMENT, INVALID_URI, LIMIT, NO_SUCH_PROCEDURE, NO_SUCH_SUBSCRIPTION,
+};
 pub use say::{Out, Say};
 use std::alloc::Global;
 use wamp_ids::{Id, Text};
 use wamp_message_types::{Abort, Error, Goodbye, Message, RequestKind};
 use wamp_values::Args;
 
-// The URIs of errors (WAMP specification, "Predefined URIs"; the limit's is this profile's).
-pub const INVALID_URI: &str = "wamp.error.invalid_uri";
-
-pub const INVALID_ARGUMENT: &str = "wamp.error.invalid_argument";
-
-pub const NO_SUCH_SUBSCRIPTION: &str = "wamp.error.no_such_subscription";
-
-pub const LIMIT: &str = "cluster.error.limit";
-
+// The URIs of errors and reasons that are no fault of a part (WAMP specification, "Predefined URIs").
 pub const NO_SUCH_REALM: &str = "wamp.error.no_such_realm";
-
-pub const NO_SUCH_PROCEDURE: &str = "wamp.error.no_such_procedure";
 
 pub const CANCELED: &str = "wamp.error.canceled";
 

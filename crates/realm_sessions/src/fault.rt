@@ -4,6 +4,27 @@ ghost use Rattle.realm_sessions.specs.Fault.{number_of, uri_of};
 use std::alloc::{AllocError, AllocFailed};
 use thiserror::Error;
 
+/// The URI of an ERROR: a URI is none, or is the router's own (WAMP specification, "Predefined URIs").
+pub const INVALID_URI: &str = "wamp.error.invalid_uri";
+
+/// The URI of an ERROR: an argument is invalid (WAMP specification, "Predefined URIs").
+pub const INVALID_ARGUMENT: &str = "wamp.error.invalid_argument";
+
+/// The URI of an ERROR: no more are allowed (docs/PROTOCOL.md, "The realm").
+pub const LIMIT: &str = "cluster.error.limit";
+
+/// The URI of an ERROR: the procedure is registered already (WAMP specification, "Predefined URIs").
+pub const ALREADY_EXISTS: &str = "wamp.error.procedure_already_exists";
+
+/// The URI of an ERROR: there is no such registration (WAMP specification, "Predefined URIs").
+pub const NO_SUCH_REGISTRATION: &str = "wamp.error.no_such_registration";
+
+/// The URI of an ERROR: there is no such subscription (WAMP specification, "Predefined URIs").
+pub const NO_SUCH_SUBSCRIPTION: &str = "wamp.error.no_such_subscription";
+
+/// The URI of an ERROR: there is no such procedure (WAMP specification, "Predefined URIs").
+pub const NO_SUCH_PROCEDURE: &str = "wamp.error.no_such_procedure";
+
 /// Why a part of a realm refuses a call.
 #[derive(Clone, Copy, Debug, PartialEq, Eq, Hash, Error)]
 pub enum RealmFault {
@@ -51,13 +72,13 @@ impl RealmFault {
         ensures { option_map (λ text. text.now) result ≡ uri_of self }
     {
         match self {
-            RealmFault::InvalidUri => Some("wamp.error.invalid_uri"),
-            RealmFault::InvalidArgument => Some("wamp.error.invalid_argument"),
-            RealmFault::Limit => Some("cluster.error.limit"),
-            RealmFault::AlreadyExists => Some("wamp.error.procedure_already_exists"),
-            RealmFault::NoSuchRegistration => Some("wamp.error.no_such_registration"),
-            RealmFault::NoSuchSubscription => Some("wamp.error.no_such_subscription"),
-            RealmFault::NoSuchProcedure => Some("wamp.error.no_such_procedure"),
+            RealmFault::InvalidUri => Some(INVALID_URI),
+            RealmFault::InvalidArgument => Some(INVALID_ARGUMENT),
+            RealmFault::Limit => Some(LIMIT),
+            RealmFault::AlreadyExists => Some(ALREADY_EXISTS),
+            RealmFault::NoSuchRegistration => Some(NO_SUCH_REGISTRATION),
+            RealmFault::NoSuchSubscription => Some(NO_SUCH_SUBSCRIPTION),
+            RealmFault::NoSuchProcedure => Some(NO_SUCH_PROCEDURE),
             RealmFault::NotOpen => None,
             RealmFault::Memory => None,
         }

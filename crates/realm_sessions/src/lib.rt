@@ -9,7 +9,10 @@ mod restoring;
 mod session_index;
 mod sessions;
 
-pub use fault::{RealmFault, RestoreFault};
+pub use fault::{
+    ALREADY_EXISTS, INVALID_ARGUMENT, INVALID_URI, LIMIT, NO_SUCH_PROCEDURE, NO_SUCH_REGISTRATION,
+    NO_SUCH_SUBSCRIPTION, RealmFault, RestoreFault,
+};
 pub use links::{Link, Session};
 pub use paxos_packets::Transport;
 pub use sessions::Sessions;
