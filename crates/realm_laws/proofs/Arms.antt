@@ -46,10 +46,10 @@ use Rattle.realm_machine.specs.Unsubscribing.{unsubscribe}
 use Rattle.realm_machine.specs.Publishing.{events, published, publish}
 use Rattle.realm_machine.specs.Registering.{registered, register_for, register, unregistered, unregister}
 use Rattle.realm_machine.specs.Calling.{invoke}
-use Rattle.realm_laws.specs.Trace.{is_final}
+use Rattle.realm_laws.specs.Trace.{is_said}
 use Rattle.realm_laws.proofs.Counts.{count_flat_none}
 use Rattle.realm_laws.proofs.Standing.{empty_at, set_at, set_taken, connected_at, connected_taken}
-use Rattle.realm_laws.proofs.Moves.{Base, Moves, IsSilent, silent_to, silent_both, still_moves, said_moves, quiet_moves}
+use Rattle.realm_laws.proofs.Moves.{is_reply, Base, Moves, IsSilent, silent_to, silent_both, still_moves, said_moves, quiet_moves}
 use Rattle.realm_laws.proofs.Moves.{stop_moves}
 
 -- ---- connecting, and opening a session
@@ -116,7 +116,7 @@ open_moves config c t draw hello base here =
     (λ _. opened_moves c t canceling id base here (λ n h. found_free (suc (length links)) (is_taken links) draw n h))
     (λ _. stop_moves c t limit base))
 
--- ---- requests that are no CALL: what is said is no final reply, and neither sessions nor calls change
+-- ---- requests that are no CALL: what is said is no reply to a call, and neither sessions nor calls change
 
 subscriptions_moves : (c : Content) (subscriptions : Subscriptions) (said : List Say) → Base c → IsSilent said
     → Moves c (record { content = with_subscriptions c subscriptions; says = said })
@@ -165,7 +165,7 @@ unsubscribe_moves c requester it base =
 silent_events : (c : Content) (topic : List ℕ) (publication : ℕ) (args : Args) (except : Option ℕ)
     → IsSilent (events c topic publication args except)
 silent_events c topic publication args except t r =
-    count_flat_none (is_final t r) (event_to c.sessions.list topic publication args) (receivers c.subscriptions topic except)
+    count_flat_none (is_said is_reply t r) (event_to c.sessions.list topic publication args) (receivers c.subscriptions topic except)
     (λ receiver. silent_to c.sessions.list receiver.member (message.Event (event_of topic publication args receiver))
     (λ q. refl) t r)
 

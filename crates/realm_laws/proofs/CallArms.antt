@@ -1,8 +1,8 @@
 -- What the requests of calls do to the open calls: a CALL opens one or is answered, the others pay for their final
--- replies.
+-- replies, and a progressive result is said to a call that stays open.
 use Rattle.std.proofs.Common.{◌≡◌, ⊎_elim, ℕ, ◌+◌, ◌≤◌, ◌==◌, Bool, true, false, not, ◌&&◌, refl, sym, ap, subst}
 use Rattle.std.proofs.Common.{if◌then◌else◌}
-use Rattle.std.proofs.Common.{List, [], ◌∷◌, ◌++◌, find, Option, Some, None, Result, Ok, Err, arith}
+use Rattle.std.proofs.Common.{List, [], ◌∷◌, ◌++◌, find, filter, Option, Some, None, Result, Ok, Err, arith}
 use Rattle.std.proofs.lemmas.Bool.{cond_both, and_parts, and_from, eqb-true, eq-eqb, both_ways, false_from_ne_true}
 use Rattle.paxos_packets.specs.declared.transport.Transport.{Transport}
 use Rattle.paxos_packets.specs.Transport.{same_transport}
@@ -18,7 +18,7 @@ use Rattle.wamp_message_types.specs.declared.call.Cancel.{Cancel}
 use Rattle.wamp_message_types.specs.declared.call.Yield.{Yield}
 use Rattle.realm_sessions.specs.declared.links.Session.{Session}
 use Rattle.realm_sessions.specs.declared.links.Link.{Link}
-use Rattle.realm_sessions.specs.Links.{is_taken, announces}
+use Rattle.realm_sessions.specs.Links.{is_taken, transport_of, announces}
 use Rattle.realm_sessions.specs.Links.{has_id, has_number, found_session, invocation_of, session_with, set_invocation}
 use Rattle.realm_sessions.specs.Sessions.{with_list, invoked_with, next_invocation}
 use Rattle.realm_sessions.proofs.SoundLinks.{same_is}
@@ -41,14 +41,14 @@ use Rattle.realm_machine.specs.Calling.{refuse_call, invoke, call_chosen, call_u
 use Rattle.realm_machine.specs.Calling.{on_call}
 use Rattle.realm_machine.specs.Calling.{canceled_as, cancel_found, on_cancel, replied, reply_to, progressed, on_yield}
 use Rattle.realm_machine.specs.Calling.{on_failure, unfit_call}
-use Rattle.realm_laws.specs.Trace.{is_final_message, is_final}
+use Rattle.realm_laws.specs.Trace.{is_final_message, is_progress_message, is_final}
 use Rattle.realm_laws.proofs.Has.{Has, any_has, find_has, has_last}
 use Rattle.realm_laws.proofs.Counts.{bit, count, bit_le, bit_one, bit_false, count_append, count_le, count_none}
 use Rattle.realm_laws.proofs.Counts.{count_less}
 use Rattle.realm_laws.proofs.Standing.{at, one_transport, one_id, at_taken}
 use Rattle.realm_laws.proofs.Standing.{invoked_at, invoked_taken}
-use Rattle.realm_laws.proofs.Moves.{holds, opens, finals, Base, Moves, IsSilent, silent_to, silent_both, said_moves}
-use Rattle.realm_laws.proofs.Moves.{quiet_moves, kept_base}
+use Rattle.realm_laws.proofs.Moves.{holds, opens, finals, partials, is_reply, IsPlain, Base, Moves, IsSilent, no_finals, no_partials}
+use Rattle.realm_laws.proofs.Moves.{none_at, silent_to, plain_to, silent_both, plain_both, said_moves, quiet_moves, kept_base}
 use Rattle.realm_laws.proofs.Moves.{violation_moves, told_pays}
 
 -- ---- calls end
@@ -63,9 +63,9 @@ ended_base c call base = kept_base c (λ it. not (is_call call.caller call.reque
 
 -- a call ends, and what is said pays for no more than it
 end_moves : (c : Content) (call : Open) (said : List Say) → Base c → Has c.calls.list call
-    → ((t : Transport) (r : ℕ) → finals t r said ≤ bit (holds c.sessions.list t r call))
+    → ((t : Transport) (r : ℕ) → finals t r said ≤ bit (holds c.sessions.list t r call)) → IsPlain said
     → Moves c (record { content = with_calls c (end c.calls.list call); says = said })
-end_moves c call said base there_is paid = record {
+end_moves c call said base there_is paid plain_said = record {
   base = ended_base c call base;
   pays = λ t r.
       let links = c.sessions.list in
@@ -75,47 +75,85 @@ end_moves c call said base there_is paid = record {
       count_less (holds links t r) (λ other. not (is_call call.caller call.request other)) c.calls.list call there_is
       (ap not (same_call call)) in
       omega (arith, one, less);
+  plain = plain_said;
 }
 
 replied_moves : (c : Content) (callee request : ℕ) (answer : ℕ → Message) (o : Option Open)
-    → ((r q : ℕ) → is_final_message q (answer r) ≡ (r == q)) → find (is_invocation callee request) c.calls.list ≡ o
-    → Base c
+    → ((r q : ℕ) → is_final_message q (answer r) ≡ (r == q)) → ((r q : ℕ) → is_progress_message q (answer r) ≡ false)
+    → find (is_invocation callee request) c.calls.list ≡ o → Base c
     → Moves c (replied c answer o)
-replied_moves c callee request answer None is e base = quiet_moves c base
-replied_moves c callee request answer (Some call) is e base =
+replied_moves c callee request answer None is off e base = quiet_moves c base
+replied_moves c callee request answer (Some call) is off e base =
     end_moves c call (to_session c.sessions.list call.caller (answer call.request)) base
     (find_has (is_invocation callee request) c.calls.list e).0
-    (λ t r. told_pays c.sessions.list call (answer call.request) (is call.request) t r)
+    (λ t r. told_pays is_final_message c.sessions.list call (answer call.request) (is call.request) t r)
+    (plain_to c.sessions.list call.caller (answer call.request) (off call.request))
 
 pub reply_moves : (c : Content) (callee request : ℕ) (answer : ℕ → Message)
-    → ((r q : ℕ) → is_final_message q (answer r) ≡ (r == q)) → Base c → Moves c (reply_to c callee request answer)
-reply_moves c callee request answer is base =
-    replied_moves c callee request answer (find (is_invocation callee request) c.calls.list) is refl base
+    → ((r q : ℕ) → is_final_message q (answer r) ≡ (r == q)) → ((r q : ℕ) → is_progress_message q (answer r) ≡ false)
+    → Base c → Moves c (reply_to c callee request answer)
+reply_moves c callee request answer is off base =
+    replied_moves c callee request answer (find (is_invocation callee request) c.calls.list) is off refl base
+
+-- a step that may say a progressive result, to a caller whose call is open afterwards
+pub record Continues (c : Content) (s : Step) : Type 0 where
+  pub base : Base s.content
+  pub pays : (t : Transport) (r : ℕ) → opens s.content t r + finals t r s.says ≤ opens c t r
+  pub stays : (t : Transport) (r : ℕ) → partials t r s.says ≤ opens s.content t r
+
+pub moves_continues : (c : Content) (s : Step) → Moves c s → Continues c s
+moves_continues c s moves = record {
+  base = moves.base;
+  pays = moves.pays;
+  stays = λ t r. let none : partials t r s.says ≡ 0 = moves.plain t r in omega (arith, none);
+}
 
 -- a progressive result is no final reply, and the call stays open
-progressed_moves : (c : Content) (args : Args) (o : Option Open) → Base c → Moves c (progressed c args o)
-progressed_moves c args None base = quiet_moves c base
-progressed_moves c args (Some call) base =
-    let told = result_of true args call.request in
-    let said = to_session c.sessions.list call.caller told in
-    cond_both call.progress (record { content = c; says = said }) (quiet c) (λ (s : Step). Moves c s)
-    (λ _. said_moves c said base (silent_to c.sessions.list call.caller told (λ q. refl)))
-    (λ _. quiet_moves c base)
+progressed_moves : (c : Content) (args : Args) (call : Open) → Base c → Has c.calls.list call
+    → Continues c (record { content = c; says = to_session c.sessions.list call.caller (result_of true args call.request) })
+progressed_moves c args call base there_is =
+    let links = c.sessions.list in
+    let result = result_of true args call.request in
+    record {
+      base = base;
+      pays = λ t r.
+          let none : finals t r (to_session links call.caller result) ≡ 0 =
+          none_at is_final_message (transport_of links call.caller) result (λ q. refl) t r in
+          omega (arith, none);
+      stays = λ t r.
+          let one : partials t r (to_session links call.caller result) ≤ bit (holds links t r call) =
+          told_pays is_progress_message links call result (λ q. refl) t r in
+          let less : bit (holds links t r call) + count (holds links t r) (filter (λ other. false) c.calls.list)
+          ≤ count (holds links t r) c.calls.list =
+          count_less (holds links t r) (λ other. false) c.calls.list call there_is refl in
+          omega (arith, one, less);
+    }
 
-pub yield_moves : (c : Content) (requester : Requester) (it : Yield) → Base c → Moves c (on_yield c requester it)
+progressed_with : (c : Content) (callee request : ℕ) (args : Args) (o : Option Open)
+    → find (is_invocation callee request) c.calls.list ≡ o → Base c
+    → Continues c (progressed c args o)
+progressed_with c callee request args None e base = moves_continues c (quiet c) (quiet_moves c base)
+progressed_with c callee request args (Some call) e base =
+    let said = to_session c.sessions.list call.caller (result_of true args call.request) in
+    cond_both call.progress (record { content = c; says = said }) (quiet c) (λ (s : Step). Continues c s)
+    (λ _. progressed_moves c args call base (find_has (is_invocation callee request) c.calls.list e).0)
+    (λ _. moves_continues c (quiet c) (quiet_moves c base))
+
+pub yield_moves : (c : Content) (requester : Requester) (it : Yield) → Base c → Continues c (on_yield c requester it)
 yield_moves c requester it base =
     let found = peek c.calls.list requester.session it.request in
-    cond_both it.progress (progressed c it.args found) (reply_to c requester.session it.request (result_of false it.args))
-    (λ (s : Step). Moves c s)
-    (λ _. progressed_moves c it.args found base)
-    (λ _. reply_moves c requester.session it.request (result_of false it.args) (λ r q. refl) base)
+    let replying = reply_to c requester.session it.request (result_of false it.args) in
+    cond_both it.progress (progressed c it.args found) replying (λ (s : Step). Continues c s)
+    (λ _. progressed_with c requester.session it.request it.args found refl base)
+    (λ _. moves_continues c replying
+    (reply_moves c requester.session it.request (result_of false it.args) (λ r q. refl) (λ r q. refl) base))
 
 pub failure_moves : (c : Content) (requester : Requester) (request : ℕ) (error : List ℕ) (args : Args) → Base c
     → Moves c (on_failure c requester request error args)
 failure_moves c requester request error args base =
-    reply_moves c requester.session request (failure error args) (λ r q. refl) base
+    reply_moves c requester.session request (failure error args) (λ r q. refl) (λ r q. refl) base
 
--- the caller gets the ERROR for its canceled call, after something that is no final reply
+-- the caller gets the ERROR for its canceled call, after something that is no reply
 canceled_pays : (c : Content) (t : Transport) (call : Open) (front : List Say)
     → at c.sessions.list t call.caller ≡ true → IsSilent front
     → (u : Transport) (r : ℕ)
@@ -125,7 +163,7 @@ canceled_pays c t call front here silent u r =
     let last = say t (refusal kind.Call call.request canceled) ∷ [] in
     let both : finals u r (front ++ last) ≡ finals u r front + finals u r last =
     count_append (is_final u r) front last in
-    let none : finals u r front ≡ 0 = silent u r in
+    let none : finals u r front ≡ 0 = no_finals front silent u r in
     let one : bit (call.request == r && same_transport t u) ≤ bit (holds links u r call) =
     bit_le (call.request == r && same_transport t u) (holds links u r call)
     (λ h. let parts = and_parts (call.request == r) (same_transport t u) h in
@@ -133,14 +171,21 @@ canceled_pays c t call front here silent u r =
     (subst (λ (v : Transport). at links v call.caller ≡ true) (same_is t u parts.1) here)) in
     omega (arith, both, none, one)
 
+canceled_plain : (t : Transport) (call : Open) (front : List Say) → IsSilent front
+    → IsPlain (front ++ say t (refusal kind.Call call.request canceled) ∷ [])
+canceled_plain t call front silent =
+    plain_both front (say t (refusal kind.Call call.request canceled) ∷ []) (no_partials front silent) (λ u r. refl)
+
 cancel_moves : (c : Content) (requester : Requester) (call : Open) (mode : Mode) (announced : Bool) → Base c
     → Has c.calls.list call
     → at c.sessions.list requester.transport call.caller ≡ true
     → Moves c (canceled_as c requester (cancel_one call mode announced))
 cancel_moves c requester call mode false base there_is here =
     end_moves c call _ base there_is (canceled_pays c requester.transport call [] here (λ t r. refl))
+    (canceled_plain requester.transport call [] (λ t r. refl))
 cancel_moves c requester call Skip true base there_is here =
     end_moves c call _ base there_is (canceled_pays c requester.transport call [] here (λ t r. refl))
+    (canceled_plain requester.transport call [] (λ t r. refl))
 cancel_moves c requester call Kill true base there_is here =
     let links = c.sessions.list in
     let front = to_session links call.callee (interrupt call Kill) in
@@ -148,9 +193,10 @@ cancel_moves c requester call Kill true base there_is here =
     (silent_both front [] (silent_to links call.callee (interrupt call Kill) (λ q. refl)) (λ t r. refl))
 cancel_moves c requester call KillNoWait true base there_is here =
     let links = c.sessions.list in
-    end_moves c call _ base there_is
-    (canceled_pays c requester.transport call (to_session links call.callee (interrupt call KillNoWait)) here
-    (silent_to links call.callee (interrupt call KillNoWait) (λ q. refl)))
+    let front = to_session links call.callee (interrupt call KillNoWait) in
+    let silent = silent_to links call.callee (interrupt call KillNoWait) (λ q. refl) in
+    end_moves c call _ base there_is (canceled_pays c requester.transport call front here silent)
+    (canceled_plain requester.transport call front silent)
 
 cancel_found_moves : (c : Content) (requester : Requester) (request : ℕ) (mode : Mode) (o : Option Open)
     → call_of c.calls.list requester.session request ≡ o → Base c
@@ -176,12 +222,14 @@ pub record Owes (c : Content) (t : Transport) (r : ℕ) (s : Step) : Type 0 wher
   pub base : Base s.content
   pub owed : opens s.content t r + finals t r s.says ≤ 1
   pub paid : (u : Transport) (q : ℕ) → (t ≡ u → r ≡ q → ⊥) → opens s.content u q + finals u q s.says ≤ opens c u q
+  pub plain : IsPlain s.says
 
 pub moves_owes : (c : Content) (t : Transport) (r : ℕ) (s : Step) → Moves c s → opens c t r ≤ 1 → Owes c t r s
 moves_owes c t r s moves once = record {
   base = moves.base;
   owed = let one : opens s.content t r + finals t r s.says ≤ opens c t r = moves.pays t r in omega (arith, one, once);
   paid = λ u q _. moves.pays u q;
+  plain = moves.plain;
 }
 
 -- a request that is not open holds no call
@@ -214,6 +262,7 @@ refused_owes c t request error base none = record {
       let said : finals u q (refuse c t kind.Call request error).says ≡ bit (request == q && same_transport t u) + 0 =
       refl in
       omega (arith, off, said);
+  plain = λ u q. refl;
 }
 
 -- a session that has a next invocation is there, and the invocation is not open
@@ -293,7 +342,7 @@ opening_owes : (c : Content) (t : Transport) (new : Open) (registrations : Regis
     → has c.calls.list new.caller new.request ≡ false
     → is_taken c.sessions.list new.callee ≡ true
     → has_number (open_of c.calls.list new.callee) new.invocation ≡ false
-    → ((q : ℕ) → is_final_message q m ≡ false) → Owes c t new.request (opening c new registrations m)
+    → ((q : ℕ) → is_reply q m ≡ false) → Owes c t new.request (opening c new registrations m)
 opening_owes c t new registrations m base here none off there_is free silent = record {
   base = opening_base c t new registrations m base here off there_is free;
   owed =
@@ -304,7 +353,7 @@ opening_owes c t new registrations m base here none off there_is free silent = r
       ≤ opens c t new.request + bit (new.request == new.request && at links' t new.caller) =
       opening_opens c new registrations m t new.request in
       let said : finals t new.request (opening c new registrations m).says ≡ 0 =
-      silent_to links' new.callee m silent t new.request in
+      no_finals (to_session links' new.callee m) (silent_to links' new.callee m silent) t new.request in
       omega (arith, last, more, said, none);
   paid = λ u q other.
       let links' = set_invocation c.sessions.list new.callee new.invocation in
@@ -317,8 +366,12 @@ opening_owes c t new registrations m base here none off there_is free silent = r
       let more : opens (opening c new registrations m).content u q
       ≤ opens c u q + bit (new.request == q && at links' u new.caller) =
       opening_opens c new registrations m u q in
-      let said : finals u q (opening c new registrations m).says ≡ 0 = silent_to links' new.callee m silent u q in
+      let said : finals u q (opening c new registrations m).says ≡ 0 =
+      no_finals (to_session links' new.callee m) (silent_to links' new.callee m silent) u q in
       omega (arith, off, more, said);
+  plain =
+      let links' = set_invocation c.sessions.list new.callee new.invocation in
+      no_partials (to_session links' new.callee m) (silent_to links' new.callee m silent);
 }
 
 invoked_owes : (c : Content) (requester : Requester) (call : Call) (chosen : Chosen) (o : Option ℕ) → Base c

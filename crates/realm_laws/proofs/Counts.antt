@@ -1,6 +1,6 @@
 -- How many elements of a list pass a test.
 use Rattle.std.proofs.Common.{◌≡◌, ℕ, ◌+◌, ◌≤◌, Bool, true, false, refl, ap, List, [], ◌∷◌, ◌++◌}
-use Rattle.std.proofs.Common.{length, filter, arith}
+use Rattle.std.proofs.Common.{filter, arith}
 use Rattle.std.specs.List.{AllPairs, flat_map}
 use Rattle.std.proofs.lemmas.Bool.{cond_both, both_ways, false_from_ne_true}
 use Rattle.realm_sessions.proofs.Pairs.{AllPairs-head, AllPairs-tail}
@@ -27,14 +27,6 @@ bit_true e = ap bit e
 
 pub bit_false : {a : Bool} → a ≡ false → bit a ≡ 0
 bit_false e = ap bit e
-
-pub count_length : {A : Type 0} (p : A → Bool) (xs : List A) → length (filter p xs) ≡ count p xs
-count_length p [] = refl
-count_length p (x ∷ xs) =
-    let rest : length (filter p xs) ≡ count p xs = count_length p xs in
-    cond_both (p x) (x ∷ filter p xs) (filter p xs) (λ kept. length kept ≡ bit (p x) + count p xs)
-    (λ t. let e : bit (p x) ≡ 1 = ap bit t in omega (arith, e, rest))
-    (λ f. let e : bit (p x) ≡ 0 = ap bit f in omega (arith, e, rest))
 
 pub count_append : {A : Type 0} (p : A → Bool) (xs ys : List A) → count p (xs ++ ys) ≡ count p xs + count p ys
 count_append p [] ys = omega arith

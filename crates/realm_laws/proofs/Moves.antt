@@ -1,6 +1,6 @@
 -- An open call is paid for by its final reply: no step makes the open calls under a request of a transport more, and each final reply that
--- it says leaves one call fewer open.
-use Rattle.std.proofs.Common.{◌≡◌, inl, inr, ℕ, ◌+◌, ◌≤◌, ◌==◌, Bool, true, false, not, ◌&&◌, refl, sym, ◌∙◌}
+-- it says leaves one call fewer open. No such step says a progressive result.
+use Rattle.std.proofs.Common.{◌≡◌, inl, inr, ℕ, ◌+◌, ◌≤◌, ◌==◌, Bool, true, false, not, ◌&&◌, ◌||◌, refl, sym, ◌∙◌}
 use Rattle.std.proofs.Common.{ap, subst, List, []}
 use Rattle.std.proofs.Common.{◌∷◌, ◌++◌, filter, Option, Some, None, arith}
 use Rattle.std.specs.List.{flat_map}
@@ -18,6 +18,8 @@ use Rattle.realm_calls.specs.declared.calls.Open.{Open}
 use Rattle.realm_calls.specs.Calls.{is_to, calls_to, calls_by, without_callee, without_caller}
 use Rattle.realm_calls.specs.Laws.{AreSoundCalls}
 use Rattle.realm_calls.proofs.SoundCalls.{kept_sound}
+use Rattle.realm_machine.specs.declared.sayings.say.Out.{Out}
+use Rattle.realm_machine.specs.declared.sayings.say.Out.TheVariants.{Send, Close}
 use Rattle.realm_machine.specs.declared.sayings.say.Say.{Say}
 use Rattle.realm_machine.specs.Sayings.{say, shut, say_to, to_session, refusal, abort, goodbye as goodbye_for, canceled}
 use Rattle.realm_machine.specs.Sayings.{protocol_violation, goodbye_and_out}
@@ -26,7 +28,7 @@ use Rattle.realm_machine.specs.Sayings.Invocations.{interrupt}
 use Rattle.realm_machine.specs.Content.{Content, Step, quiet, and_then, with_links, with_calls}
 use Rattle.realm_machine.specs.Leaving.{leave_session, leave}
 use Rattle.realm_machine.specs.Leaving.{remove, stop, violation, aborted, goodbye, one_gone, all_gone}
-use Rattle.realm_laws.specs.Trace.{is_final_message, is_final}
+use Rattle.realm_laws.specs.Trace.{is_final_message, is_progress_message, is_sent, is_said, is_final, is_progress}
 use Rattle.realm_laws.proofs.Has.{Has, has_filter, filter_test}
 use Rattle.realm_laws.proofs.Counts.{bit, count, bit_le, count_append, count_le, count_filter, count_split, count_flat}
 use Rattle.realm_laws.proofs.Counts.{count_flat_none}
@@ -41,8 +43,23 @@ holds links t r call = call.request == r && at links t call.caller
 abbrev pub opens : Content → Transport → ℕ → ℕ
 opens c t r = count (holds c.sessions.list t r) c.calls.list
 
+-- how many messages that pass the test are said to the transport
+abbrev pub tells : (ℕ → Message → Bool) → Transport → ℕ → List Say → ℕ
+tells test t r said = count (is_said test t r) said
+
 abbrev pub finals : Transport → ℕ → List Say → ℕ
-finals t r said = count (is_final t r) said
+finals t r said = tells is_final_message t r said
+
+abbrev pub partials : Transport → ℕ → List Say → ℕ
+partials t r said = tells is_progress_message t r said
+
+-- a final reply or a progressive result
+abbrev pub is_reply : ℕ → Message → Bool
+is_reply r m = is_final_message r m || is_progress_message r m
+
+-- no progressive result is said
+abbrev pub IsPlain : List Say → Type 0
+IsPlain said = (t : Transport) (r : ℕ) → partials t r said ≡ 0
 
 pub record Base (c : Content) : Type 0 where
   pub links : AreSoundLinks c.sessions.list
@@ -56,27 +73,73 @@ pub record Base (c : Content) : Type 0 where
 pub record Moves (c : Content) (s : Step) : Type 0 where
   pub base : Base s.content
   pub pays : (t : Transport) (r : ℕ) → opens s.content t r + finals t r s.says ≤ opens c t r
+  pub plain : IsPlain s.says
 
--- ---- sayings that are no final reply
+-- ---- sayings that are no reply
 
 abbrev pub IsSilent : List Say → Type 0
-IsSilent said = (t : Transport) (r : ℕ) → finals t r said ≡ 0
+IsSilent said = (t : Transport) (r : ℕ) → tells is_reply t r said ≡ 0
 
-silent_at : (o : Option Transport) (m : Message) → ((q : ℕ) → is_final_message q m ≡ false) → IsSilent (say_to o m)
-silent_at None m off t r = refl
-silent_at (Some u) m off t r =
-    let none : finals t r (say_to (Some u) m) ≡ 0 = ap (λ b. bit (b && same_transport u t) + 0) (off r) in none
+-- a test that another one implies
+fewer_tells : (test wide : ℕ → Message → Bool) (t : Transport) (r : ℕ) (said : List Say)
+    → ((m : Message) → test r m ≡ true → wide r m ≡ true) → tells test t r said ≤ tells wide t r said
+fewer_tells test wide t r said wider =
+    count_le (is_said test t r) (is_said wide t r) said
+    (λ it h passes. let parts = and_parts (is_sent test r it.out) (same_transport it.transport t) passes in
+    and_from (is_sent wide r it.out) (same_transport it.transport t) (sent it.out parts.0) parts.1)
+  where
+    sent : (out : Out) → is_sent test r out ≡ true → is_sent wide r out ≡ true
+    sent (Send m) e = wider m e
+    sent Close e = absurd (false≢true e)
 
-pub silent_to : (links : List Link) (s : ℕ) (m : Message) → ((q : ℕ) → is_final_message q m ≡ false)
+or_first : (a b : Bool) → a ≡ true → (a || b) ≡ true
+or_first true b e = refl
+or_first false b e = absurd (false≢true e)
+
+or_second : (a b : Bool) → b ≡ true → (a || b) ≡ true
+or_second true b e = refl
+or_second false b e = e
+
+pub no_finals : (said : List Say) → IsSilent said → (t : Transport) (r : ℕ) → finals t r said ≡ 0
+no_finals said silent t r =
+    let none : tells is_reply t r said ≡ 0 = silent t r in
+    let fewer : finals t r said ≤ tells is_reply t r said =
+    fewer_tells is_final_message is_reply t r said (λ m e. or_first (is_final_message r m) (is_progress_message r m) e) in
+    omega (arith, none, fewer)
+
+pub no_partials : (said : List Say) → IsSilent said → IsPlain said
+no_partials said silent t r =
+    let none : tells is_reply t r said ≡ 0 = silent t r in
+    let fewer : partials t r said ≤ tells is_reply t r said =
+    fewer_tells is_progress_message is_reply t r said
+    (λ m e. or_second (is_final_message r m) (is_progress_message r m) e) in
+    omega (arith, none, fewer)
+
+pub none_at : (test : ℕ → Message → Bool) (o : Option Transport) (m : Message) → ((q : ℕ) → test q m ≡ false)
+    → (t : Transport) (r : ℕ) → tells test t r (say_to o m) ≡ 0
+none_at test None m off t r = refl
+none_at test (Some u) m off t r =
+    let none : tells test t r (say_to (Some u) m) ≡ 0 = ap (λ b. bit (b && same_transport u t) + 0) (off r) in none
+
+pub silent_to : (links : List Link) (s : ℕ) (m : Message) → ((q : ℕ) → is_reply q m ≡ false)
     → IsSilent (to_session links s m)
-silent_to links s m off = silent_at (transport_of links s) m off
+silent_to links s m off = none_at is_reply (transport_of links s) m off
+
+pub plain_to : (links : List Link) (s : ℕ) (m : Message) → ((q : ℕ) → is_progress_message q m ≡ false)
+    → IsPlain (to_session links s m)
+plain_to links s m off = none_at is_progress_message (transport_of links s) m off
+
+none_both : (test : ℕ → Message → Bool) (t : Transport) (r : ℕ) (a b : List Say) → tells test t r a ≡ 0 → tells test t r b ≡ 0
+    → tells test t r (a ++ b) ≡ 0
+none_both test t r a b one two =
+    let both : tells test t r (a ++ b) ≡ tells test t r a + tells test t r b = count_append (is_said test t r) a b in
+    omega (arith, both, one, two)
 
 pub silent_both : (a b : List Say) → IsSilent a → IsSilent b → IsSilent (a ++ b)
-silent_both a b first second t r =
-    let both : finals t r (a ++ b) ≡ finals t r a + finals t r b = count_append (is_final t r) a b in
-    let one : finals t r a ≡ 0 = first t r in
-    let two : finals t r b ≡ 0 = second t r in
-    omega (arith, both, one, two)
+silent_both a b first second t r = none_both is_reply t r a b (first t r) (second t r)
+
+pub plain_both : (a b : List Say) → IsPlain a → IsPlain b → IsPlain (a ++ b)
+plain_both a b first second t r = none_both is_progress_message t r a b (first t r) (second t r)
 
 -- ---- moves
 
@@ -87,7 +150,7 @@ pub still_moves : (c d : Content) (said : List Say) → Base d → d.calls.list 
 still_moves c d said base same fewer silent = record {
   base = base;
   pays = λ t r.
-      let none : finals t r said ≡ 0 = silent t r in
+      let none : finals t r said ≡ 0 = no_finals said silent t r in
       let all : opens d t r ≡ count (holds d.sessions.list t r) c.calls.list =
       ap (count (holds d.sessions.list t r)) same in
       let less : count (holds d.sessions.list t r) c.calls.list ≤ opens c t r =
@@ -95,9 +158,10 @@ still_moves c d said base same fewer silent = record {
       (λ call h holds'. let parts = and_parts (call.request == r) (at d.sessions.list t call.caller) holds' in
       and_from (call.request == r) (at c.sessions.list t call.caller) parts.0 (fewer t call h parts.1)) in
       omega (arith, none, all, less);
+  plain = no_partials said silent;
 }
 
--- the content stays, and nothing final is said
+-- the content stays, and no reply is said
 pub said_moves : (c : Content) (said : List Say) → Base c → IsSilent said
     → Moves c (record { content = c; says = said })
 said_moves c said base silent = still_moves c c said base refl (λ t call h stands. stands) silent
@@ -116,26 +180,28 @@ moves_then c a f first second = record {
       let two : opens (f a.content).content t r + finals t r (f a.content).says ≤ opens a.content t r =
       second.pays t r in
       omega (arith, both, one, two);
+  plain = plain_both a.says (f a.content).says first.plain second.plain;
 }
 
 -- ---- calls end with a session
 
 -- a reply to the caller's transport is one for that call
-pub told_pays : (links : List Link) (call : Open) (m : Message) → ((q : ℕ) → is_final_message q m ≡ (call.request == q))
-    → (t : Transport) (r : ℕ) → finals t r (to_session links call.caller m) ≤ bit (holds links t r call)
-told_pays links call m is t r = told (transport_of links call.caller) refl
+pub told_pays : (test : ℕ → Message → Bool) (links : List Link) (call : Open) (m : Message)
+    → ((q : ℕ) → test q m ≡ (call.request == q))
+    → (t : Transport) (r : ℕ) → tells test t r (to_session links call.caller m) ≤ bit (holds links t r call)
+told_pays test links call m is t r = by_place (transport_of links call.caller) refl
   where
-    told : (o : Option Transport) → transport_of links call.caller ≡ o
-        → finals t r (say_to o m) ≤ bit (holds links t r call)
-    told None e = omega arith
-    told (Some u) e =
-        let less : bit (is_final_message r m && same_transport u t) ≤ bit (holds links t r call) =
-        bit_le (is_final_message r m && same_transport u t) (holds links t r call)
-        (λ h. let parts = and_parts (is_final_message r m) (same_transport u t) h in
+    by_place : (o : Option Transport) → transport_of links call.caller ≡ o
+        → tells test t r (say_to o m) ≤ bit (holds links t r call)
+    by_place None e = omega arith
+    by_place (Some u) e =
+        let less : bit (test r m && same_transport u t) ≤ bit (holds links t r call) =
+        bit_le (test r m && same_transport u t) (holds links t r call)
+        (λ h. let parts = and_parts (test r m) (same_transport u t) h in
         and_from (call.request == r) (at links t call.caller) (sym (is r) ∙ parts.0)
         (subst (λ (v : Transport). at links v call.caller ≡ true) (same_is u t parts.1)
         (place_at links call.caller u e))) in
-        let is_one : finals t r (say_to (Some u) m) ≡ bit (is_final_message r m && same_transport u t) + 0 = refl in
+        let is_one : tells test t r (say_to (Some u) m) ≡ bit (test r m && same_transport u t) + 0 = refl in
         omega (arith, is_one, less)
 
 pub kept_base : (c : Content) (test : Open → Bool) → Base c → Base (with_calls c (filter test c.calls.list))
@@ -176,7 +242,7 @@ others_left list session call h =
 -- its calls end, and each caller gets the ERROR for its own
 left_moves : (c : Content) (t : Transport) (session : ℕ) → Base c → by_transport c.sessions.list t ≡ Some (Some session)
     → Moves c (leave_session c t (Some (Some session)))
-left_moves c t session base found = record { base = left_base; pays = left_pays }
+left_moves c t session base found = record { base = left_base; pays = left_pays; plain = left_plain }
   where
     links : List Link
     links = c.sessions.list
@@ -221,10 +287,10 @@ left_moves c t session base found = record { base = left_base; pays = left_pays 
         let by = flat_map (end_for_callee cleared) (calls_by others session) in
         let paid : finals u r to ≤ count (holds cleared u r) (calls_to list session) =
         count_flat (is_final u r) (holds cleared u r) (end_for_caller cleared) (calls_to list session)
-        (λ call. told_pays cleared call (refusal kind.Call call.request canceled) (λ q. refl) u r) in
+        (λ call. told_pays is_final_message cleared call (refusal kind.Call call.request canceled) (λ q. refl) u r) in
         let none : finals u r by ≡ 0 =
         count_flat_none (is_final u r) (end_for_callee cleared) (calls_by others session)
-        (λ call. silent_end cleared call u r) in
+        (λ call. no_finals (end_for_callee cleared call) (silent_end cleared call) u r) in
         let first : finals u r (to ++ (by ++ [])) ≡ finals u r to + finals u r (by ++ []) =
         count_append (is_final u r) to (by ++ []) in
         let second : finals u r (by ++ []) ≡ finals u r by + 0 = count_append (is_final u r) by [] in
@@ -239,6 +305,18 @@ left_moves c t session base found = record { base = left_base; pays = left_pays 
         (λ call h stands. let parts = and_parts (call.request == r) (at cleared u call.caller) stands in
         and_from (call.request == r) (at links u call.caller) parts.0 (cleared_at links t u call.caller parts.1)) in
         omega (arith, paid, none, first, second, fewer, split, less)
+
+    left_plain : IsPlain (leave_session c t (Some (Some session))).says
+    left_plain =
+        let to = flat_map (end_for_caller cleared) (calls_to list session) in
+        let by = flat_map (end_for_callee cleared) (calls_by others session) in
+        plain_both to (by ++ [])
+        (λ u r. count_flat_none (is_progress u r) (end_for_caller cleared) (calls_to list session)
+        (λ call. plain_to cleared call.caller (refusal kind.Call call.request canceled) (λ q. refl) u r))
+        (plain_both by []
+        (λ u r. count_flat_none (is_progress u r) (end_for_callee cleared) (calls_by others session)
+        (λ call. no_partials (end_for_callee cleared call) (silent_end cleared call) u r))
+        (λ u r. refl))
 
 leave_with : (c : Content) (t : Transport) (o : Option (Option ℕ)) → by_transport c.sessions.list t ≡ o → Base c
     → Moves c (leave_session c t o)
@@ -277,7 +355,7 @@ remove_moves c t base =
     moves_then c (leave c t) (λ d. quiet (with_links d (without_transport d.sessions.list t))) left
     (go_moves (leave c t).content t left.base (leave_empty c t base))
 
--- something that is no final reply is said after it
+-- something that is no reply is said after it
 behind_moves : (c : Content) (a : Step) (said : List Say) → Moves c a → IsSilent said
     → Moves c (and_then a (λ d. record { content = d; says = said }))
 behind_moves c a said moves silent =

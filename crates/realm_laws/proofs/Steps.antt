@@ -1,7 +1,8 @@
 -- Every input, and the traces of every list of inputs.
-use Rattle.std.proofs.Common.{◌≡◌, ℕ, zero, suc, ◌+◌, ◌≤◌, ◌==◌, Bool, true, false, ◌&&◌, refl, sym, ◌∙◌, subst}
+use Rattle.std.proofs.Common.{◌≡◌, ℕ, ◌+◌, ◌≤◌, ◌==◌, Bool, true, false, ◌&&◌, refl, sym, ◌∙◌, subst}
 use Rattle.std.proofs.Common.{if◌then◌else◌}
-use Rattle.std.proofs.Common.{List, [], ◌∷◌, ◌++◌, length, filter, replicate, Option, Some, None, arith}
+use Rattle.std.proofs.Common.{List, [], ◌∷◌, ◌++◌, Option, Some, None, arith}
+use Rattle.std.specs.List.{flat_map}
 use Rattle.std.proofs.lemmas.Bool.{cond_both, and_parts, and_from, eqb-true, eq-eqb, both_ways, false≢true}
 use Rattle.paxos_packets.specs.declared.transport.Transport.{Transport}
 use Rattle.paxos_packets.specs.Transport.{same_transport}
@@ -29,46 +30,53 @@ use Rattle.realm_calls.proofs.SoundCalls.{nothing_sound as no_calls}
 use Rattle.realm_sessions.specs.Links.{is_taken}
 use Rattle.realm_acts.specs.declared.act.Act.{Act}
 use Rattle.realm_acts.specs.declared.act.Act.TheVariants.{Connect, Said, Hung}
+use Rattle.realm_machine.specs.declared.sayings.say.Say.{Say}
 use Rattle.realm_machine.specs.Sayings.{invalid_argument}
 use Rattle.realm_machine.specs.declared.requester.Requester.{Requester}
 use Rattle.realm_machine.specs.Config.{Config}
 use Rattle.realm_machine.specs.Content.{Content, Step, empty, quiet, refuse}
 use Rattle.realm_machine.specs.Step.{on_unfit, on_error, on_request, on_opening, on_read, on_transport}
 use Rattle.realm_machine.specs.Step.{step, after_input, said_at}
-use Rattle.realm_laws.specs.Trace.{Letter, Asked, Answered, is_call_of, is_call_read, asks, is_final, asked, letters}
-use Rattle.realm_laws.specs.Trace.{trace}
-use Rattle.realm_laws.specs.Trace.{begins_with_answer, has_two_answers}
+use Rattle.realm_laws.specs.Trace.{Letter, Asked, Progressed, Answered, is_call_of, is_call_read, asks, is_final, is_progress, asked, told}
+use Rattle.realm_laws.specs.Trace.{letters, trace}
+use Rattle.realm_laws.specs.Trace.{begins_with_reply, replies_after_answer}
 use Rattle.realm_laws.specs.Laws.{RepliesAnswerCalls, after, EveryOpenCallIsSound, AreSoundOpenCalls}
 use Rattle.realm_sessions.specs.Laws.{AreSoundLinks}
 use Rattle.realm_calls.specs.Calls.{is_call}
 use Rattle.realm_calls.specs.Laws.{AreOtherRequests}
 use Rattle.realm_laws.proofs.Has.{has_nil, All-has, all_of}
-use Rattle.realm_laws.proofs.Counts.{bit, count_length, count_once}
+use Rattle.realm_laws.proofs.Counts.{bit, count_once}
 use Rattle.realm_laws.proofs.Standing.{at, session_at, one_id}
-use Rattle.realm_laws.proofs.Moves.{holds, opens, finals, Base, Moves, said_moves, quiet_moves, remove_moves, violation_moves}
+use Rattle.realm_laws.proofs.Moves.{holds, opens, finals, partials, IsSilent, Base, Moves, said_moves, quiet_moves, remove_moves, violation_moves}
 use Rattle.realm_laws.proofs.Moves.{aborted_moves}
 use Rattle.realm_laws.proofs.Moves.{goodbye_moves, all_gone_moves}
 use Rattle.realm_laws.proofs.Arms.{connect_moves, open_moves, subscribe_moves, unsubscribe_moves, publish_moves}
 use Rattle.realm_laws.proofs.Arms.{register_moves}
 use Rattle.realm_laws.proofs.Arms.{unregister_moves}
-use Rattle.realm_laws.proofs.CallArms.{yield_moves, failure_moves, on_cancel_moves, Owes, call_owes, unfit_call_owes}
+use Rattle.realm_laws.proofs.CallArms.{Continues, moves_continues, yield_moves, failure_moves, on_cancel_moves, Owes, call_owes, unfit_call_owes}
 
 -- what a step owes, if its input asks as this test says
 record Steps (c : Content) (asking : Transport → ℕ → Bool) (s : Step) : Type 0 where
   base : Base s.content
   owed : (t : Transport) (r : ℕ) → asking t r ≡ true → opens s.content t r + finals t r s.says ≤ 1
   paid : (t : Transport) (r : ℕ) → asking t r ≡ false → opens s.content t r + finals t r s.says ≤ opens c t r
+  -- whoever is told a progressive result has an open call afterwards
+  stays : (t : Transport) (r : ℕ) → partials t r s.says ≤ opens s.content t r
 
 abbrev Once : Content → Type 0
 Once c = (t : Transport) (r : ℕ) → opens c t r ≤ 1
 
-moves_step : (c : Content) (asking : Transport → ℕ → Bool) (s : Step) → Once c → Moves c s → Steps c asking s
-moves_step c asking s once moves = record {
+continues_step : (c : Content) (asking : Transport → ℕ → Bool) (s : Step) → Once c → Continues c s → Steps c asking s
+continues_step c asking s once moves = record {
   base = moves.base;
   owed = λ t r _. let one : opens s.content t r + finals t r s.says ≤ opens c t r = moves.pays t r in
       let most : opens c t r ≤ 1 = once t r in omega (arith, one, most);
   paid = λ t r _. moves.pays t r;
+  stays = moves.stays;
 }
+
+moves_step : (c : Content) (asking : Transport → ℕ → Bool) (s : Step) → Once c → Moves c s → Steps c asking s
+moves_step c asking s once moves = continues_step c asking s once (moves_continues c s moves)
 
 -- if the input asks only at this transport under this request
 owes_step : (c : Content) (t : Transport) (r : ℕ) (s : Step) → Owes c t r s
@@ -83,6 +91,7 @@ owes_step c t r s owes = record {
       owes.paid u q
       (λ same_t same_r. both_ways (r == q && same_transport t u) off
       (and_from (r == q) (same_transport t u) (eq-eqb r q same_r) (is_same t u same_t)));
+  stays = λ u q. let none : partials u q s.says ≡ 0 = owes.plain u q in omega (arith, none);
 }
 
 -- ---- each case of the table
@@ -127,7 +136,7 @@ request_step config c t session draw (Call it) base once here =
 request_step config c t session draw (Cancel it) base once here =
     moves_step c _ _ once (on_cancel_moves c (requester_of t session draw) it base here)
 request_step config c t session draw (Yield it) base once here =
-    moves_step c _ _ once (yield_moves c (requester_of t session draw) it base)
+    continues_step c _ _ once (yield_moves c (requester_of t session draw) it base)
 request_step config c t session draw (Welcome it) base once here = moves_step c _ _ once (violation_moves c t base)
 request_step config c t session draw (Published it) base once here = moves_step c _ _ once (violation_moves c t base)
 request_step config c t session draw (Subscribed it) base once here = moves_step c _ _ once (violation_moves c t base)
@@ -165,7 +174,7 @@ opening_moves config c t draw (Interrupt it) base here = violation_moves c t bas
 opening_moves config c t draw (Yield it) base here = violation_moves c t base
 
 refused_moves : (c : Content) (t : Transport) (k : RequestKind) (request : ℕ) (is_quiet : Bool)
-    → ((u : Transport) (q : ℕ) → finals u q (refuse c t k request invalid_argument).says ≡ 0) → Base c
+    → IsSilent (refuse c t k request invalid_argument).says → Base c
     → Moves c (if is_quiet then quiet c else refuse c t k request invalid_argument)
 refused_moves c t k request is_quiet silent base =
     cond_both is_quiet (quiet c) (refuse c t k request invalid_argument) (λ (s : Step). Moves c s)
@@ -242,25 +251,46 @@ once_after config c input base once t r =
 
 -- ---- traces
 
--- each answer comes directly after what asks
+-- each reply comes after what asks, with no final one between
 abbrev answers_calls : Bool → List Letter → Bool
 answers_calls pending [] = true
 answers_calls pending (Asked ∷ letters) = answers_calls true letters
+answers_calls pending (Progressed ∷ letters) = pending && answers_calls pending letters
 answers_calls pending (Answered ∷ letters) = pending && answers_calls false letters
 
-answered : (n k : ℕ) (p : Bool) (rest : List Letter) → k + n ≤ bit p
-    → ((q : Bool) → k ≤ bit q → answers_calls q rest ≡ true)
-    → answers_calls p (replicate n Answered ++ rest) ≡ true
-answered zero k p rest few go = go p (omega (arith, few))
-answered (suc zero) k true rest few go = let none : k + 1 ≤ 1 = few in go false (omega (arith, none))
-answered (suc (suc n)) k true rest few go = let none : k + suc (suc n) ≤ 1 = few in absurd (omega (arith, none))
-answered (suc n) k false rest few go = let none : k + suc n ≤ 0 = few in absurd (omega (arith, none))
+-- one thing that is said, before n final replies and m progressive results, with k calls open after all of them
+one_told : (final progress : Bool) (k n m : ℕ) (p : Bool) (more rest : List Letter) → k + (bit final + n) ≤ bit p
+    → bit progress + m ≤ k
+    → ((q : Bool) → k + n ≤ bit q → answers_calls q (more ++ rest) ≡ true)
+    → answers_calls p ((told final progress ++ more) ++ rest) ≡ true
+one_told true progress k n m true more rest few stays go =
+    let most : k + (1 + n) ≤ 1 = few in go false (omega (arith, most))
+one_told true progress k n m false more rest few stays go =
+    let none : k + (1 + n) ≤ 0 = few in absurd (omega (arith, none))
+one_told false true k n m true more rest few stays go =
+    let most : k + (0 + n) ≤ 1 = few in go true (omega (arith, most))
+one_told false true k n m false more rest few stays go =
+    let none : k + (0 + n) ≤ 0 = few in let one : 1 + m ≤ k = stays in absurd (omega (arith, none, one))
+one_told false false k n m p more rest few stays go =
+    let most : k + (0 + n) ≤ bit p = few in go p (omega (arith, most))
 
-behind : (a : Bool) (n k : ℕ) (p : Bool) (rest : List Letter) → (a ≡ true → k + n ≤ 1) → (a ≡ false → k + n ≤ bit p)
+all_told : (t : Transport) (r : ℕ) (said : List Say) (k : ℕ) (p : Bool) (rest : List Letter) → k + finals t r said ≤ bit p
+    → partials t r said ≤ k
     → ((q : Bool) → k ≤ bit q → answers_calls q rest ≡ true)
-    → answers_calls p ((asked a ++ replicate n Answered) ++ rest) ≡ true
-behind true n k p rest owed paid go = answered n k true rest (owed refl) go
-behind false n k p rest owed paid go = answered n k p rest (paid refl) go
+    → answers_calls p (flat_map (λ it. told (is_final t r it) (is_progress t r it)) said ++ rest) ≡ true
+all_told t r [] k p rest few stays go = go p (omega (arith, few))
+all_told t r (it ∷ said) k p rest few stays go =
+    let here : bit (is_progress t r it) + partials t r said ≤ k = stays in
+    one_told (is_final t r it) (is_progress t r it) k (finals t r said) (partials t r said) p
+    (flat_map (λ it. told (is_final t r it) (is_progress t r it)) said) rest few stays
+    (λ q fewer. all_told t r said k q rest fewer (omega (arith, here)) go)
+
+behind : (a : Bool) (t : Transport) (r : ℕ) (said : List Say) (k : ℕ) (p : Bool) (rest : List Letter)
+    → (a ≡ true → k + finals t r said ≤ 1) → (a ≡ false → k + finals t r said ≤ bit p) → partials t r said ≤ k
+    → ((q : Bool) → k ≤ bit q → answers_calls q rest ≡ true)
+    → answers_calls p ((asked a ++ flat_map (λ it. told (is_final t r it) (is_progress t r it)) said) ++ rest) ≡ true
+behind true t r said k p rest owed paid stays go = all_told t r said k true rest (owed refl) stays go
+behind false t r said k p rest owed paid stays go = all_told t r said k p rest (paid refl) stays go
 
 trace_from : (config : Config) (t : Transport) (r : ℕ) (inputs : List (Input Act)) (c : Content) (pending : Bool)
     → Once c → Base c
@@ -269,26 +299,29 @@ trace_from config t r [] c pending once base most = refl
 trace_from config t r (input ∷ inputs) c pending once base most =
     let s = step_goes config c input base once in
     let said = said_at config c input in
-    let n : length (filter (is_final t r) said) ≡ finals t r said = count_length (is_final t r) said in
-    behind (asks t r input) (length (filter (is_final t r) said)) (opens (after_input config c input) t r) pending
+    behind (asks t r input) t r said (opens (after_input config c input) t r) pending
     (trace config t r (after_input config c input) inputs)
-    (λ e. let h : opens (after_input config c input) t r + finals t r said ≤ 1 = s.owed t r e in omega (arith, n, h))
+    (s.owed t r)
     (λ e. let h : opens (after_input config c input) t r + finals t r said ≤ opens c t r = s.paid t r e in
-    omega (arith, n, h, most))
+    omega (arith, h, most))
+    (s.stays t r)
     (λ q few. trace_from config t r inputs (after_input config c input) q
     (once_after config c input base once) s.base few)
 
-begins_not : (letters : List Letter) → answers_calls false letters ≡ true → begins_with_answer letters ≡ false
+begins_not : (letters : List Letter) → answers_calls false letters ≡ true → begins_with_reply letters ≡ false
 begins_not [] h = refl
 begins_not (Asked ∷ letters) h = refl
+begins_not (Progressed ∷ letters) h = absurd (false≢true h)
 begins_not (Answered ∷ letters) h = absurd (false≢true h)
 
-no_two : (p : Bool) (letters : List Letter) → answers_calls p letters ≡ true → has_two_answers letters ≡ false
-no_two p [] h = refl
-no_two p (Asked ∷ letters) h = no_two true letters h
-no_two true (Answered ∷ letters) h =
-    rw (begins_not letters h) (no_two false letters h)
-no_two false (Answered ∷ letters) h = absurd (false≢true h)
+none_after : (p : Bool) (letters : List Letter) → answers_calls p letters ≡ true → replies_after_answer letters ≡ false
+none_after p [] h = refl
+none_after p (Asked ∷ letters) h = none_after true letters h
+none_after true (Progressed ∷ letters) h = none_after true letters h
+none_after false (Progressed ∷ letters) h = absurd (false≢true h)
+none_after true (Answered ∷ letters) h =
+    rw (begins_not letters h) (none_after false letters h)
+none_after false (Answered ∷ letters) h = absurd (false≢true h)
 
 empty_base : (config : Config) → Base (empty config.limits)
 empty_base config = record {
@@ -304,7 +337,7 @@ replies_answer config inputs t r =
     trace_from config t r inputs (empty config.limits) false (λ u q. omega arith) (empty_base config) (omega arith) in
     record {
       begins = begins_not (trace config t r (empty config.limits) inputs) all;
-      one = no_two false (trace config t r (empty config.limits) inputs) all;
+      one = none_after false (trace config t r (empty config.limits) inputs) all;
     }
 
 -- ---- open calls

@@ -18,7 +18,7 @@ use Rattle.realm_machine.specs.Config.{Config}
 use Rattle.realm_machine.specs.Content.{Content, empty}
 use Rattle.realm_machine.specs.Opening.{open_at, welcomed}
 use Rattle.realm_machine.specs.Step.{after_input}
-use Rattle.realm_laws.specs.Trace.{Letter, trace, begins_with_answer, has_two_answers}
+use Rattle.realm_laws.specs.Trace.{Letter, trace, begins_with_reply, replies_after_answer}
 
 -- ---- what every realm keeps
 
@@ -62,10 +62,10 @@ EveryRealmIsSound = (config : Config) (inputs : List (Input Act))
 
 -- ---- calls
 
--- final replies answer calls: a trace does not begin with one, and has no two side by side
+-- replies answer calls: a trace does not begin with a progressive result or a final reply, and neither comes right after a final one
 pub record IsTrace (letters : List Letter) : Type 0 where
-  pub begins : begins_with_answer letters ≡ false
-  pub one : has_two_answers letters ≡ false
+  pub begins : begins_with_reply letters ≡ false
+  pub one : replies_after_answer letters ≡ false
 
 abbrev pub RepliesAnswerCalls : Type 0
 RepliesAnswerCalls = (config : Config) (inputs : List (Input Act)) (t : Transport) (request : ℕ)

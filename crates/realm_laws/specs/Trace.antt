@@ -1,6 +1,7 @@
--- Calls and their final replies, entry by entry (WAMP specification, "Remote Procedure Calls",
+-- Calls, their progressive results and their final replies, entry by entry (WAMP specification, "Remote Procedure Calls",
 -- "Progressive Call Results").
-use Rattle.std.specs.Prelude.{ℕ, ◌==◌, Bool, true, false, not, ◌&&◌, ◌||◌, List, [], ◌∷◌, ◌++◌, length, filter, replicate}
+use Rattle.std.specs.Prelude.{ℕ, ◌==◌, Bool, true, false, not, ◌&&◌, ◌||◌, List, [], ◌∷◌, ◌++◌}
+use Rattle.std.specs.List.{flat_map}
 use Rattle.paxos_packets.specs.declared.transport.Transport.{Transport}
 use Rattle.paxos_packets.specs.Transport.{same_transport}
 use Rattle.replica_machine.specs.declared.input.Input.{Input}
@@ -22,9 +23,10 @@ use Rattle.realm_machine.specs.Config.{Config}
 use Rattle.realm_machine.specs.Content.{Content}
 use Rattle.realm_machine.specs.Step.{after_input, said_at}
 
--- a call is made, or gets its final reply
+-- a call is made, gets a progressive result, or gets its final reply
 pub data Letter : Type 0 where
   Asked : Letter
+  Progressed : Letter
   Answered : Letter
 
 -- ---- what asks
@@ -66,13 +68,24 @@ is_final_message request (CallResult reply) = not reply.progress && reply.reques
 is_final_message request (Error error) = is_call_kind error.kind && error.request == request
 is_final_message request message = false
 
-abbrev pub is_final_out : ℕ → Out → Bool
-is_final_out request (Send message) = is_final_message request message
-is_final_out request Close = false
+-- a RESULT that is progressive
+abbrev pub is_progress_message : ℕ → Message → Bool
+is_progress_message request (CallResult reply) = reply.progress && reply.request == request
+is_progress_message request message = false
 
--- said to the transport under this request
+abbrev pub is_sent : (ℕ → Message → Bool) → ℕ → Out → Bool
+is_sent test request (Send message) = test request message
+is_sent test request Close = false
+
+-- a message that passes the test under this request is said to the transport
+abbrev pub is_said : (ℕ → Message → Bool) → Transport → ℕ → Say → Bool
+is_said test t request it = is_sent test request it.out && same_transport it.transport t
+
 abbrev pub is_final : Transport → ℕ → Say → Bool
-is_final t request it = is_final_out request it.out && same_transport it.transport t
+is_final t request it = is_said is_final_message t request it
+
+abbrev pub is_progress : Transport → ℕ → Say → Bool
+is_progress t request it = is_said is_progress_message t request it
 
 -- ---- the trace
 
@@ -80,22 +93,32 @@ abbrev pub asked : Bool → List Letter
 asked true = Asked ∷ []
 asked false = []
 
--- what an input brings: whether it asks, then a letter for each final reply
+-- what is said is a final reply, or a progressive result
+abbrev pub told : Bool → Bool → List Letter
+told true progress = Answered ∷ []
+told false true = Progressed ∷ []
+told false false = []
+
+-- what an input brings: whether it asks, then a letter for each reply, in order
 abbrev pub letters : Transport → ℕ → Input Act → List Say → List Letter
 letters t request input said =
-    asked (asks t request input) ++ replicate (length (filter (is_final t request) said)) Answered
+    asked (asks t request input) ++ flat_map (λ it. told (is_final t request it) (is_progress t request it)) said
 
 abbrev pub trace : Config → Transport → ℕ → Content → List (Input Act) → List Letter
 trace config t request c [] = []
 trace config t request c (input ∷ inputs) =
     letters t request input (said_at config c input) ++ trace config t request (after_input config c input) inputs
 
-abbrev pub begins_with_answer : List Letter → Bool
-begins_with_answer [] = false
-begins_with_answer (Asked ∷ letters) = false
-begins_with_answer (Answered ∷ letters) = true
+-- a progressive result or a final reply comes first
+abbrev pub begins_with_reply : List Letter → Bool
+begins_with_reply [] = false
+begins_with_reply (Asked ∷ letters) = false
+begins_with_reply (Progressed ∷ letters) = true
+begins_with_reply (Answered ∷ letters) = true
 
-abbrev pub has_two_answers : List Letter → Bool
-has_two_answers [] = false
-has_two_answers (Asked ∷ letters) = has_two_answers letters
-has_two_answers (Answered ∷ letters) = begins_with_answer letters || has_two_answers letters
+-- one comes right after a final reply
+abbrev pub replies_after_answer : List Letter → Bool
+replies_after_answer [] = false
+replies_after_answer (Asked ∷ letters) = replies_after_answer letters
+replies_after_answer (Progressed ∷ letters) = replies_after_answer letters
+replies_after_answer (Answered ∷ letters) = begins_with_reply letters || replies_after_answer letters

@@ -25,8 +25,8 @@ pub fn session_ids_are_found()
     ensures { OpensWhereRoom }
 {}
 
-/// Final replies answer calls: for each transport and request, every final reply comes after a CALL, and no two after the same one. Does
-/// not allocate.
+/// Replies answer calls: for each transport and request, every progressive result and every final reply comes after a CALL, and none of them
+/// between a final reply and the next CALL. Does not allocate.
 pub fn replies_answer_calls()
     ensures { RepliesAnswerCalls }
 {}
@@ -59,8 +59,8 @@ pub fn realms_are_sound_in_logs()
     ensures calls { OpenCallsAreSoundInLogs }
 {}
 
-/// Final replies answer calls along every log: for each transport and request, every final reply comes after a CALL that took effect, and
-/// no two after the same one. Does not allocate.
+/// Replies answer calls along every log: for each transport and request, every progressive result and every final reply comes after a CALL
+/// that took effect, and none of them between a final reply and the next such CALL. Does not allocate.
 pub fn replies_answer_calls_in_logs()
     ensures { RepliesAnswerCallsInLogs }
 {}
