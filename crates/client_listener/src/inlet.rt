@@ -81,7 +81,8 @@ impl Inlet {
         Ok(())
     }
 
-    /// Puts the items of all whole frames into a ring, as far as it has room. Returns whether all are put; the ring is full if not.
+    /// Puts the items of all whole frames into a ring, as far as it has room. Returns whether all are put; if not, the producer knows of no
+    /// free slot.
     ///
     /// `Frame` for what is no frame: the items of all frames before it are put. `Memory` if memory ran out: what was put is a prefix of what
     /// is due. An inlet that failed before returns its fault, and puts nothing. It costs what its items cost, and allocates for one message
@@ -119,7 +120,7 @@ impl Inlet {
     }
 
     /// Puts `Hung`, for a client from which nothing more comes. All that is due is put then, if [`Inlet::put`] returned `Ok(true)` or `Frame`
-    /// before. Returns whether the ring had room; it is full if not.
+    /// before. Returns whether it is put; if not, the producer knows of no free slot.
     pub fn hang(&self, producer: &mut Producer<FromClient>) -> bool
         ensures puts { OnTrue result (sent producer.new ≡ sent producer.old ++ Hung ∷ []) }
         ensures full { result ≡ false → (sent producer.new ≡ sent producer.old) × (known_free producer.new ≡ 0) }

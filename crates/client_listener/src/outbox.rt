@@ -111,8 +111,8 @@ impl Outbox {
         )
     }
 
-    /// Takes items out of a ring and puts their frames after the others, until the ring is empty or more than 64 KiB wait. Returns whether the
-    /// transport stays open; it does not once a `Close` is taken.
+    /// Takes items out of a ring and puts their frames after the others, until the consumer knows of no item or more than 64 KiB wait. Returns
+    /// whether the transport stays open; it does not once a `Close` is taken.
     ///
     /// `Wide` at a message or PONG that is longer than the client takes, and `Memory`: what was taken before waits. It waits for nothing,
     /// and takes an item only while at most 64 KiB wait. (WAMP specification, "RawSocket Transport", "Framing".)

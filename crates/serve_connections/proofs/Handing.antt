@@ -1,6 +1,7 @@
 -- What was said of a ring's ends holds of them after a look, and of what was handed over once more is.
-use Rattle.std.specs.Prelude.{◌≡◌, ◌++◌, ◌∷◌, [], List, Some, length}
-use Rattle.std.proofs.Common.{◌∙◌, ap, subst, sym}
+use Rattle.std.specs.Prelude.{◌≡◌, ◌<◌, ◌++◌, ◌∷◌, [], List, Some, length, true, false}
+use Rattle.std.proofs.Common.{arith, ◌∙◌, ap, refl, subst, sym}
+use Rattle.std.proofs.lemmas.Bool.{false≢true}
 use Rattle.std.proofs.lemmas.List.{append-nil, nil_from_length}
 use Rattle.std.proofs.lemmas.Option.{same_Some}
 use Rattle.std.specs.Option.{ForSome}
@@ -61,6 +62,11 @@ of_first ring handed is finished may = may ring ([], is)
 pub is_handed_still : (ring : Consumer FromClient Global AnyItems) (old new : Consumer Handed Global OneRing)
     → received new ≡ received old → IsHanded ring old → IsHanded ring new
 is_handed_still ring old new are is finished may = is finished (subst (λ handed. MayCome handed (Last finished)) are may)
+
+-- a ring that gave nothing had no known item
+pub none_known : {T : Type 0} (known : List T) → (0 < length known → false ≡ true) → known ≡ []
+none_known [] none = refl
+none_known (item ∷ known) none = absurd (false≢true (none (omega arith)))
 
 -- if no item is left in the ring, all that was put was taken
 pub none_left : {T : Type 0} (taken known put put' : List T) → length known ≡ 0 → taken ++ known ≡ put → put' ≡ put → put' ≡ taken

@@ -2,7 +2,7 @@
 use Rattle.std.specs.Prelude.{◌≡◌, ◌<◌, ◌++◌, ◌∷◌, [], List, Option, Some}
 use Rattle.std.specs.declared.alloc.Global.{Global}
 use Rattle.rtrb.specs.Ends.{SameRing}
-use Rattle.rtrb.specs.Ring.{sent, received, known_free, all_sent, IsFinishedOf}
+use Rattle.rtrb.specs.Ring.{sent, received, known_free, known_items, all_sent, IsFinishedOf}
 use Rattle.rtrb.specs.declared.producer.Producer.{Producer}
 use Rattle.rtrb.specs.declared.consumer.Consumer.{Consumer}
 use Rattle.rtrb.specs.declared.finished.Finished.{Finished}
@@ -29,10 +29,10 @@ IsHanded ring handed = (finished : Finished FromClient Global AnyItems)
 abbrev pub IsAllOf : Consumer FromClient Global AnyItems → Finished FromClient Global AnyItems → Type 0
 IsAllOf ring finished = IsFinishedOf finished ring × (all_sent finished ≡ received ring)
 
--- a request is the next that was put; at the end all that was put has been taken
+-- nothing is found only if no item was known; a request is the next that was put; at the end all that was put has been taken
 abbrev pub Finds : Found → Consumer FromClient Global AnyItems → Consumer FromClient Global AnyItems
     → Option (Finished FromClient Global AnyItems) → Type 0
-Finds Nothing old new last = received new ≡ received old
+Finds Nothing old new last = (received new ≡ received old) × (known_items old ≡ [])
 Finds (Request request) old new last = received new ≡ received old ++ request ∷ []
 Finds End old new last = (received new ≡ received old)
     × ((finished : Finished FromClient Global AnyItems) × (last ≡ Some finished) × IsAllOf new finished)

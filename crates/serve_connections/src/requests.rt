@@ -130,7 +130,8 @@ impl RequestReceiver {
         self.ring.slots()
     }
 
-    /// Takes the next request. At the end all requests that the porter put have been taken, in order, each once.
+    /// Takes the next request. At the end all requests that the porter put have been taken, in order, each once. Nothing is found only if this
+    /// end knew of no request.
     pub fn next(&mut self) -> Found
         ensures finds { Finds result self.old.ring self.new.ring self.new.last }
         ensures ring { SameConsumer self.old.ring self.new.ring }

@@ -1,9 +1,12 @@
 -- What is told stays told: a client comes, one goes, a request is taken and its act is given.
-use Rattle.std.proofs.Common.{arith, ◌≡◌, ◌⊎◌, inl, inr, ℕ, suc, ◌+◌, List, [], ◌∷◌, ◌++◌, refl, sym, ap, subst, ◌∙◌, length, take, drop, set, get_or}
+use Rattle.std.proofs.Common.{arith, ◌≡◌, ◌⊎◌, inl, inr, ℕ, zero, suc, ◌+◌, Bool, true, false, ◌||◌, List, [], ◌∷◌, ◌++◌, Some, refl, sym, ap, subst}
+use Rattle.std.proofs.Common.{◌∙◌, length, take, drop, set, get_or}
 use Rattle.std.specs.Prelude.{◌<◌, ◌≤◌}
-use Rattle.std.specs.List.{All, AllPairs, remove}
+use Rattle.std.specs.List.{All, AllPairs, list_any, remove}
 use Rattle.std.proofs.lemmas.Bool.{cases_eq, cases_lt, cases_order, ne_eqb, eq-eqb, lt-ltb}
-use Rattle.std.proofs.lemmas.List.{append-nil, nil_from_length, get_or-set_same, get_or-set_other, length-set, take-set, drop-set-lt}
+use Rattle.std.proofs.lemmas.List.{append-nil, nil_from_length, length-append, get_or_append_left, get_or-set_same, get_or-set_other, length-set, take-set, drop-set-lt}
+use Rattle.std.proofs.lemmas.List.Folds.{list_any-append}
+use Rattle.std.proofs.lemmas.Option.{slice_get-get_or}
 use Rattle.std.proofs.lemmas.List.Edits.{length-remove, get_or-remove_below, get_or-remove_above}
 use Rattle.std.proofs.lemmas.List.Elements.{All-push, All-append, All-take, All-drop, All-weaker}
 use Rattle.std.proofs.lemmas.List.Quantifiers.{all_pairs_push, all_pairs_remove}
@@ -20,7 +23,8 @@ use Rattle.serve_feed.specs.declared.sources.Source.{Source}
 use Rattle.serve_feed.specs.declared.sources.Sources.{Sources}
 use Rattle.serve_feed.specs.declared.sources.Next.{Next}
 use Rattle.serve_feed.specs.declared.sources.Next.TheVariants as next
-use Rattle.serve_feed.specs.Tells.{request_of, act_of, acts_of, is_under, under, IsTold, AreNumbered, TellsOf, Tells, TellsWithout, Owes, Finds, Takes}
+use Rattle.serve_feed.specs.Tells.{request_of, act_of, acts_of, is_under, under, is_connect, is_hung, known_with, IsTold, AreEnded, HungUp, NeverCame}
+use Rattle.serve_feed.specs.Tells.{AreNumbered, IsGone, TellsOf, Tells, knows, known_at, Closes, TellsWithout, Owes, Finds, known_after, Takes}
 use Rattle.serve_feed.specs.Steps.{Adds}
 use Rattle.serve_feed.specs.Saw.{Saw}
 
@@ -39,14 +43,50 @@ under_same n given act = under_more n given (n, act) ∙ rw (eq-eqb n n refl) re
 acts_more : (requests : List FromClient) (request : FromClient) → acts_of (requests ++ request ∷ []) ≡ acts_of requests ++ act_of request
 acts_more requests request = flat_map-append act_of requests (request ∷ []) ∙ ap (λ l. acts_of requests ++ l) (append-nil (act_of request))
 
+or_true : (b : Bool) → (b || true) ≡ true
+or_true true = refl
+or_true false = refl
+
+or_false : (b : Bool) → (b || false) ≡ b
+or_false true = refl
+or_false false = refl
+
+-- whether a Connect is among more acts, and a Hung
+connect_more : (acts : List FromClient) (act : FromClient) → list_any is_connect (acts ++ act ∷ []) ≡ known_with act (list_any is_connect acts)
+connect_more acts put.Connect = list_any-append is_connect acts (put.Connect ∷ []) ∙ or_true (list_any is_connect acts)
+connect_more acts (put.Read read) = list_any-append is_connect acts (put.Read read ∷ []) ∙ or_false (list_any is_connect acts)
+connect_more acts (put.Ping payload) = list_any-append is_connect acts (put.Ping payload ∷ []) ∙ or_false (list_any is_connect acts)
+connect_more acts put.Hung = list_any-append is_connect acts (put.Hung ∷ []) ∙ or_false (list_any is_connect acts)
+
+hung_more : (acts : List FromClient) (act : FromClient) → is_hung act ≡ false → list_any is_hung (acts ++ act ∷ []) ≡ list_any is_hung acts
+hung_more acts act off =
+    list_any-append is_hung acts (act ∷ []) ∙ ap (λ b. list_any is_hung acts || (b || false)) off ∙ or_false (list_any is_hung acts)
+
 -- a request is taken, and its act is given
-told_more : (given : List (ℕ × Act)) (old new : Source) (request : FromClient) (act : Act) → new.number ≡ old.number
-    → taken_by new.requests ≡ taken_by old.requests ++ request ∷ [] → act_of request ≡ request_of act ∷ []
+told_more : (given : List (ℕ × Act)) (old new : Source) (act : Act) → new.number ≡ old.number
+    → taken_by new.requests ≡ taken_by old.requests ++ request_of act ∷ [] → act_of (request_of act) ≡ request_of act ∷ []
+    → new.is_known ≡ known_with (request_of act) old.is_known → is_hung (request_of act) ≡ false
     → IsTold given old → IsTold (given ++ (old.number, act) ∷ []) new
-told_more given old new request act number taken same told =
-    ap (λ n. under n (given ++ (old.number, act) ∷ [])) number ∙ under_same old.number given act
-    ∙ ap (λ l. l ++ request_of act ∷ []) told ∙ ap (λ l. acts_of (taken_by old.requests) ++ l) (sym same)
-    ∙ sym (acts_more (taken_by old.requests) request) ∙ ap acts_of (sym taken)
+told_more given old new act number taken same known off told =
+    let request = request_of act in
+    let before = under old.number given in
+    let more : under new.number (given ++ (old.number, act) ∷ []) ≡ before ++ request ∷ [] =
+    ap (λ n. under n (given ++ (old.number, act) ∷ [])) number ∙ under_same old.number given act in
+    record {
+      acts = more ∙ ap (λ l. l ++ request ∷ []) told.acts ∙ ap (λ l. acts_of (taken_by old.requests) ++ l) (sym same)
+          ∙ sym (acts_more (taken_by old.requests) request) ∙ ap acts_of (sym taken);
+      known = known ∙ ap (known_with request) told.known ∙ sym (connect_more before request) ∙ ap (list_any is_connect) (sym more);
+      none = ap (list_any is_hung) more ∙ hung_more before request off ∙ told.none;
+    }
+
+-- the acts under its number are the same
+told_still : (given given' : List (ℕ × Act)) (source : Source) → under source.number given' ≡ under source.number given
+    → IsTold given source → IsTold given' source
+told_still given given' source same told = record {
+  acts = same ∙ told.acts;
+  known = told.known ∙ ap (list_any is_connect) (sym same);
+  none = ap (list_any is_hung) same ∙ told.none;
+}
 
 -- ---- lists of sources
 
@@ -108,36 +148,77 @@ set_numbered list last place new within same are = record {
       omega (arith, are.up_to k d m, number_kept list place k new d within (same d));
 }
 
--- an act under a number that none of these has
-add_off : (list : List Source) (last n : ℕ) (given : List (ℕ × Act)) (act : Act)
-    → ((k : ℕ) (d : Source) → k < length list → (get_or list k d).number ≡ n → ⊥) → n ≤ last → TellsOf list last given
-    → TellsOf list last (given ++ (n, act) ∷ [])
-add_off list last n given act off within tells = record {
-  numbers = tells.numbers;
-  told = λ k d l. under_other (get_or list k d).number n given act (λ e. off k d l (sym e)) ∙ tells.told k d l;
-  none = λ m above. under_other m n given act (λ e. omega (arith, e, above, within)) ∙ tells.none m above;
-}
+-- a number that none of the others has is that of the source at this place, or no source has it
+gone_from_rest : (list : List Source) (place m : ℕ) (old : Source) → place < length list → ((d : Source) → get_or list place d ≡ old)
+    → (m ≡ old.number → ⊥) → IsGone m (remove list place) → IsGone m list
+gone_from_rest list place m old within at off rest k d l same = go (cases_order k place)
+  where
+    above : (k : ℕ) → place < k → k < length list → (get_or list k d).number ≡ m → ⊥
+    above (suc j) more l same =
+        rest j d (omega (arith, l, length-remove list place within))
+        (ap (λ (s : Source). s.number) (get_or-remove_above list place d j (omega (arith, more)) within)
+        ∙ subst (λ i. (get_or list i d).number ≡ m) (omega (arith)) same)
+    above zero more l same = absurd (omega (arith, more))
 
-rest_tells : (list : List Source) (last place : ℕ) (given : List (ℕ × Act)) → place < length list → TellsOf list last given
-    → TellsOf (remove list place) last given
-rest_tells list last place given within tells = record {
-  numbers = rest_numbered list last place within tells.numbers;
-  told = rest_all (IsTold given) list place tells.told;
-  none = tells.none;
-}
+    go : ((k ≡ place) ⊎ ((k < place) ⊎ (place < k))) → ⊥
+    go (inl e) = off (sym same ∙ ap (λ (s : Source). s.number) (subst (λ i. get_or list i d ≡ old) (sym e) (at d)))
+    go (inr (inl below)) =
+        rest k d (omega (arith, below, within, length-remove list place within))
+        (ap (λ (s : Source). s.number) (get_or-remove_below list place d k below within) ∙ same)
+    go (inr (inr more)) = above k more l same
 
--- the source at a place goes, whatever act may come under its number
+-- the source at a place goes, after a Hung if it is known
 gone : (list : List Source) (last place : ℕ) (given : List (ℕ × Act)) (old : Source) → place < length list
     → ((d : Source) → get_or list place d ≡ old) → TellsOf list last given
-    → (0 < old.number) × TellsOf (remove list place) last given × ((act : Act) → TellsOf (remove list place) last (given ++ (old.number, act) ∷ []))
+    → (0 < old.number) × Closes old.is_known old.number (remove list place) last given
 gone list last place given old within at tells =
-    let rest = rest_tells list last place given within tells in (
-      subst (λ (s : Source). 0 < s.number) (at old) (tells.numbers.first place old within),
-      rest,
-      λ act. add_off (remove list place) last old.number given act
-          (λ k d l same. rest_off list last place k d tells.numbers within l (same ∙ ap (λ (s : Source). s.number) (sym (at d))))
-          (subst (λ (s : Source). s.number ≤ last) (at old) (tells.numbers.up_to place old within)) rest,
-    )
+    (subst (λ (s : Source). 0 < s.number) (at old) (tells.numbers.first place old within), go old.is_known refl)
+  where
+    n : ℕ
+    n = old.number
+
+    before : List FromClient
+    before = under old.number given
+
+    told : IsTold given old
+    told = subst (IsTold given) (at old) (tells.told place old within)
+
+    after : List (ℕ × Act)
+    after = given ++ (old.number, done.Hung) ∷ []
+
+    most : old.number ≤ last
+    most = subst (λ (s : Source). s.number ≤ last) (at old) (tells.numbers.up_to place old within)
+
+    hung : old.is_known ≡ true → (m : ℕ) → IsGone m (remove list place) → ((m ≡ old.number) ⊎ (m ≡ old.number → ⊥)) → AreEnded (under m after)
+    hung known m rest (inl e) =
+        subst (λ k. AreEnded (under k after)) (sym e)
+        (subst AreEnded (sym (under_same old.number given done.Hung)) (HungUp before (sym told.known ∙ known) told.none))
+    hung known m rest (inr ne) =
+        subst AreEnded (sym (under_other m old.number given done.Hung (λ e. ne (sym e))))
+        (tells.gone m (gone_from_rest list place m old within at ne rest))
+
+    quiet : old.is_known ≡ false → (m : ℕ) → IsGone m (remove list place) → ((m ≡ old.number) ⊎ (m ≡ old.number → ⊥)) → AreEnded (under m given)
+    quiet known m rest (inl e) =
+        subst (λ k. AreEnded (under k given)) (sym e) (NeverCame before (sym told.known ∙ known) told.none)
+    quiet known m rest (inr ne) = tells.gone m (gone_from_rest list place m old within at ne rest)
+
+    go : (known : Bool) → old.is_known ≡ known → Closes known old.number (remove list place) last given
+    go true known = record {
+      numbers = rest_numbered list last place within tells.numbers;
+      told = λ k d l.
+          told_still given after (get_or (remove list place) k d)
+          (under_other (get_or (remove list place) k d).number old.number given done.Hung
+          (λ e. rest_off list last place k d tells.numbers within l (sym e ∙ ap (λ (s : Source). s.number) (sym (at d)))))
+          (rest_all (IsTold given) list place tells.told k d l);
+      gone = λ m rest. hung known m rest (cases_eq m old.number);
+      none = λ m above. under_other m old.number given done.Hung (λ e. omega (arith, e, above, most)) ∙ tells.none m above;
+    }
+    go false known = record {
+      numbers = rest_numbered list last place within tells.numbers;
+      told = rest_all (IsTold given) list place tells.told;
+      gone = λ m rest. quiet known m rest (cases_eq m old.number);
+      none = tells.none;
+    }
 
 -- what is left is the same, whatever the one at the place became
 rest_same : (list : List Source) (place : ℕ) (new : Source) → remove (set list place new) place ≡ remove list place
@@ -151,6 +232,12 @@ set_tells : (list : List Source) (last place : ℕ) (old_given given : List (ℕ
 set_tells list last place old_given given old new within at number others own tells = record {
   numbers = set_numbered list last place new within (λ d. number ∙ ap (λ (s : Source). s.number) (sym (at d))) tells.numbers;
   told = λ k d l. go k d (subst (λ n. k < n) (length-set list place new) l) (cases_eq k place);
+  gone = λ m is.
+      subst AreEnded
+      (sym (others m (λ e. is place new (subst (λ n. place < n) (sym (length-set list place new)) within)
+      (ap (λ (s : Source). s.number) (get_or-set_same list place new new within) ∙ number ∙ sym e))))
+      (tells.gone m (λ k d l same. is k d (subst (λ n. k < n) (sym (length-set list place new)) l)
+      (number_kept list place k new d within (number ∙ ap (λ (s : Source). s.number) (sym (at d))) ∙ same)));
   none = λ n above. others n (λ e. off n above e) ∙ tells.none n above;
 }
   where
@@ -160,8 +247,10 @@ set_tells list last place old_given given old new within at number others own te
         (subst (IsTold given) (sym (get_or-set_same list place new d within)) own)
     go k d l (inr ne) =
         subst (IsTold given) (sym (get_or-set_other list place k new d ne))
+        (told_still old_given given (get_or list k d)
         (others (get_or list k d).number
-        (λ e. other_number list place k d tells.numbers.rise within l ne (e ∙ ap (λ (s : Source). s.number) (sym (at d)))) ∙ tells.told k d l)
+        (λ e. other_number list place k d tells.numbers.rise within l ne (e ∙ ap (λ (s : Source). s.number) (sym (at d)))))
+        (tells.told k d l))
 
     off : (n : ℕ) → last < n → n ≡ old.number → ⊥
     off n above e = omega (arith, e, above, subst (λ (s : Source). s.number ≤ last) (at old) (tells.numbers.up_to place old within))
@@ -176,6 +265,7 @@ none_tells sources empty = record {
     up_to = λ k d l. absurd (none_below k l);
   };
   told = λ k d l. absurd (none_below k l);
+  gone = λ n is. NeverCame [] refl refl;
   none = λ n above. refl;
 }
   where
@@ -183,8 +273,9 @@ none_tells sources empty = record {
     none_below k l = omega (arith, l, ap length empty)
 
 pub came : (old new : Sources) (source : Source) (given : List (ℕ × Act)) → new.list.items ≡ old.list.items ++ source ∷ []
-    → new.last ≡ old.last + 1 → source.number ≡ old.last + 1 → length (taken_by source.requests) ≡ 0 → Tells old given → Tells new given
-came old new source given list last number untouched tells =
+    → new.last ≡ old.last + 1 → source.number ≡ old.last + 1 → source.is_known ≡ false → length (taken_by source.requests) ≡ 0
+    → Tells old given → Tells new given
+came old new source given list last number known untouched tells =
     subst (λ l. TellsOf l new.last given) (sym list) (subst (λ n. TellsOf (old.list.items ++ source ∷ []) n given) (sym last)
     (record {
       numbers = record {
@@ -196,7 +287,15 @@ came old new source given list last number untouched tells =
             old.list.items tells.numbers.up_to) (omega (arith, number));
       };
       told = All-push (IsTold given) old.list.items source tells.told
-          (tells.none source.number (omega (arith, number)) ∙ sym (ap acts_of (nil_from_length (taken_by source.requests) untouched)));
+          (let none : under source.number given ≡ [] = tells.none source.number (omega (arith, number)) in
+          record {
+            acts = none ∙ sym (ap acts_of (nil_from_length (taken_by source.requests) untouched));
+            known = known ∙ sym (ap (list_any is_connect) none);
+            none = ap (list_any is_hung) none;
+          });
+      gone = λ m is. tells.gone m
+          (λ k d l same. is k d (omega (arith, l, length-append old.list.items (source ∷ [])))
+          (ap (λ (s : Source). s.number) (get_or_append_left old.list.items (source ∷ []) d k l) ∙ same));
       none = λ n above. tells.none n (omega (arith, above));
     }))
 
@@ -212,62 +311,89 @@ passed old new given list last tells =
             old.list.items tells.numbers.up_to;
       };
       told = tells.told;
+      gone = tells.gone;
       none = λ n above. tells.none n (omega (arith, above));
     }))
 
 -- what is found at a place where a source is
 pub found : (result : Next) (before now : Sources) (place : ℕ) (given : List (ℕ × Act)) (old new : Source) → place < length before.list.items
     → ((d : Source) → get_or before.list.items place d ≡ old) → now.list.items ≡ set before.list.items place new → now.last ≡ before.last
-    → new.number ≡ old.number → Takes result old.number (taken_by old.requests) (taken_by new.requests) → Tells before given
+    → new.number ≡ old.number → Takes result old.number (taken_by old.requests) (taken_by new.requests)
+    → new.is_known ≡ known_after result old.is_known → Tells before given
     → Finds place result now given
-found result before now place given old new within at list last number takes tells =
+found result before now place given old new within at list last number takes known tells =
     let told_old : IsTold given old = subst (IsTold given) (at old) (tells.told place old within) in
-    let without = without_it (gone before.list.items before.last place given old within at tells) in
-    go result takes told_old without
+    let closes = gone before.list.items before.last place given old within at tells in
+    go result takes known told_old (λ same. without_it same closes)
   where
     put_in : (after : List (ℕ × Act)) → ((n : ℕ) → (n ≡ old.number → ⊥) → under n after ≡ under n given) → IsTold after new → Tells now after
     put_in after others own =
         subst (λ l. TellsOf l now.last after) (sym list) (subst (λ n. TellsOf (set before.list.items place new) n after) (sym last)
         (set_tells before.list.items before.last place given after old new within at number others own tells))
 
-    give : (request : FromClient) (act : Act) → taken_by new.requests ≡ taken_by old.requests ++ request ∷ []
-        → act_of request ≡ request_of act ∷ [] → IsTold given old → Tells now (given ++ (old.number, act) ∷ [])
-    give request act taken same told =
+    give : (act : Act) → taken_by new.requests ≡ taken_by old.requests ++ request_of act ∷ []
+        → act_of (request_of act) ≡ request_of act ∷ [] → new.is_known ≡ known_with (request_of act) old.is_known
+        → is_hung (request_of act) ≡ false → IsTold given old → Tells now (given ++ (old.number, act) ∷ [])
+    give act taken same known off told =
         put_in (given ++ (old.number, act) ∷ []) (λ n off. under_other n old.number given act (λ e. off (sym e)))
-        (told_more given old new request act number taken same told)
+        (told_more given old new act number taken same known off told)
 
-    keep : acts_of (taken_by new.requests) ≡ acts_of (taken_by old.requests) → IsTold given old → Tells now given
-    keep same told = put_in given (λ n off. refl) (ap (λ n. under n given) number ∙ told ∙ sym same)
+    keep : acts_of (taken_by new.requests) ≡ acts_of (taken_by old.requests) → new.is_known ≡ old.is_known → IsTold given old
+        → Tells now given
+    keep same known told =
+        put_in given (λ n off. refl)
+        (let here : under new.number given ≡ under old.number given = ap (λ n. under n given) number in
+        record {
+          acts = here ∙ told.acts ∙ sym same;
+          known = known ∙ told.known ∙ ap (list_any is_connect) (sym here);
+          none = ap (list_any is_hung) here ∙ told.none;
+        })
 
     rest : remove now.list.items place ≡ remove before.list.items place
     rest = ap (λ l. remove l place) list ∙ rest_same before.list.items place new
 
-    without_it : (0 < old.number) × TellsOf (remove before.list.items place) before.last given
-        × ((act : Act) → TellsOf (remove before.list.items place) before.last (given ++ (old.number, act) ∷ []))
+    here : known_at now.list.items place ≡ new.is_known
+    here =
+        ap (λ l. known_at l place) list
+        ∙ ap knows (slice_get-get_or (set before.list.items place new) place new
+        (subst (λ n. place < n) (sym (length-set before.list.items place new)) within)
+        ∙ ap (λ s. Some s) (get_or-set_same before.list.items place new new within))
+
+    without_it : new.is_known ≡ old.is_known → (0 < old.number) × Closes old.is_known old.number (remove before.list.items place) before.last given
         → TellsWithout place old.number now given
-    without_it it =
-        subst (λ l. (0 < old.number) × TellsOf l now.last given × ((act : Act) → TellsOf l now.last (given ++ (old.number, act) ∷ []))) (sym rest)
-        (subst (λ n. (0 < old.number) × TellsOf (remove before.list.items place) n given
-        × ((act : Act) → TellsOf (remove before.list.items place) n (given ++ (old.number, act) ∷ []))) (sym last) it)
+    without_it same it = (
+      it.0,
+      subst (λ b. Closes b old.number (remove now.list.items place) now.last given) (sym (here ∙ same))
+          (subst (λ l. Closes old.is_known old.number l now.last given) (sym rest)
+          (subst (λ n. Closes old.is_known old.number (remove before.list.items place) n given) (sym last) it.1)),
+    )
 
-    go : (r : Next) → Takes r old.number (taken_by old.requests) (taken_by new.requests) → IsTold given old
-        → TellsWithout place old.number now given → Finds place r now given
-    go next.Nothing same told without = keep (ap acts_of same) told
-    go (next.End other) both told without = subst (λ n. TellsWithout place n now given) (sym both.0) without
-    go (next.Request other put.Connect) both told without =
-        subst (λ n. Owes place n put.Connect now given) (sym both.0) (without.0, give put.Connect done.Connect both.1 refl told)
-    go (next.Request other (put.Read read)) both told without =
+    first : 0 < old.number
+    first = subst (λ (s : Source). 0 < s.number) (at old) (tells.numbers.first place old within)
+
+    go : (r : Next) → Takes r old.number (taken_by old.requests) (taken_by new.requests) → new.is_known ≡ known_after r old.is_known
+        → IsTold given old
+        → (new.is_known ≡ old.is_known → TellsWithout place old.number now given) → Finds place r now given
+    go next.Nothing same known told without = keep (ap acts_of same) known told
+    go (next.End other) both known told without = subst (λ n. TellsWithout place n now given) (sym both.0) (without known)
+    go (next.Request other put.Connect) both known told without =
+        subst (λ n. Owes place n put.Connect now given) (sym both.0) (first, give done.Connect both.1 refl known refl told)
+    go (next.Request other (put.Read read)) both known told without =
         subst (λ n. Owes place n (put.Read read) now given) (sym both.0)
-        (without, λ draw. give (put.Read read) (done.Said draw read) both.1 refl told)
-    go (next.Request other (put.Ping payload)) both told without =
-        keep (ap acts_of both.1 ∙ acts_more (taken_by old.requests) (put.Ping payload) ∙ append-nil (acts_of (taken_by old.requests))) told
-    go (next.Request other put.Hung) both told without = subst (λ n. TellsWithout place n now given) (sym both.0) without
+        (without known, λ draw. give (done.Said draw read) both.1 refl known refl told)
+    go (next.Request other (put.Ping payload)) both known told without =
+        keep (ap acts_of both.1 ∙ acts_more (taken_by old.requests) (put.Ping payload) ∙ append-nil (acts_of (taken_by old.requests))) known told
+    go (next.Request other put.Hung) both known told without =
+        subst (λ n. TellsWithout place n now given) (sym both.0) (without known)
 
--- what was said of this list is said of a value that has it
-pub moved : (old new : Sources) (list : List Source) (given : List (ℕ × Act)) → new.list.items ≡ list → new.last ≡ old.last
-    → TellsOf list old.last given → Tells new given
-moved old new list given same last tells =
-    subst (λ l. TellsOf l new.last given) (sym same) (subst (λ n. TellsOf list n given) (sym last) tells)
+-- the connection at a place went
+pub closed : (known : Bool) (old new : Sources) (place number : ℕ) (given : List (ℕ × Act)) → known ≡ known_at old.list.items place
+    → new.list.items ≡ remove old.list.items place → new.last ≡ old.last → TellsWithout place number old given
+    → Closes known number new.list.items new.last given
+closed known old new place number given is list last without =
+    subst (λ b. Closes b number new.list.items new.last given) (sym is)
+    (subst (λ l. Closes (known_at old.list.items place) number l new.last given) (sym list)
+    (subst (λ n. Closes (known_at old.list.items place) number (remove old.list.items place) n given) (sym last) without.1))
 
 -- ---- events
 

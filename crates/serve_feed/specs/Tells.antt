@@ -1,7 +1,7 @@
 -- What the feed of a node has given of its clients: the acts under the number of each connection that is there are the requests that were
--- taken from it, in order.
-use Rattle.std.specs.Prelude.{◌≡◌, ◌<◌, ◌≤◌, ◌==◌, ℕ, List, [], ◌∷◌, ◌++◌, if◌then◌else◌}
-use Rattle.std.specs.List.{All, AllPairs, flat_map, remove}
+-- taken from it, in order; a connection that is gone has ended with a Hung exactly if its Connect was taken.
+use Rattle.std.specs.Prelude.{◌≡◌, ◌<◌, ◌≤◌, ◌==◌, ℕ, Bool, true, false, List, [], ◌∷◌, ◌++◌, Option, None, Some, slice_get, if◌then◌else◌}
+use Rattle.std.specs.List.{All, AllPairs, flat_map, list_any, remove}
 use Rattle.wamp_message_types.specs.declared.read_result.Read.{Read}
 use Rattle.realm_acts.specs.declared.act.Act.{Act}
 use Rattle.realm_acts.specs.declared.act.Act.TheVariants as done
@@ -37,9 +37,36 @@ is_under number given = if given.0 == number then request_of given.1 ∷ [] else
 abbrev pub under : ℕ → List (ℕ × Act) → List FromClient
 under number given = flat_map (is_under number) given
 
--- the acts under the number of this connection are the requests that were taken from it, in order
-abbrev pub IsTold : List (ℕ × Act) → Source → Type 0
-IsTold given source = under source.number given ≡ acts_of (taken_by source.requests)
+abbrev pub is_connect : FromClient → Bool
+is_connect put.Connect = true
+is_connect (put.Read read) = false
+is_connect (put.Ping payload) = false
+is_connect put.Hung = false
+
+abbrev pub is_hung : FromClient → Bool
+is_hung put.Connect = false
+is_hung (put.Read read) = false
+is_hung (put.Ping payload) = false
+is_hung put.Hung = true
+
+-- whether a Connect was taken, once this was
+abbrev pub known_with : FromClient → Bool → Bool
+known_with put.Connect known = true
+known_with (put.Read read) known = known
+known_with (put.Ping payload) known = known
+known_with put.Hung known = known
+
+-- the acts under the number of this connection are the requests that were taken from it, in order; it is known if a Connect is among them,
+-- and no Hung is
+pub record IsTold (given : List (ℕ × Act)) (source : Source) : Type 0 where
+  pub acts : under source.number given ≡ acts_of (taken_by source.requests)
+  pub known : source.is_known ≡ list_any is_connect (under source.number given)
+  pub none : list_any is_hung (under source.number given) ≡ false
+
+-- the acts of a connection that is gone: a Hung is the last one, and there is no other, exactly if a Connect is among them
+pub data AreEnded : List FromClient → Type 0 where
+  HungUp : (acts : List FromClient) → list_any is_connect acts ≡ true → list_any is_hung acts ≡ false → AreEnded (acts ++ put.Hung ∷ [])
+  NeverCame : (acts : List FromClient) → list_any is_connect acts ≡ false → list_any is_hung acts ≡ false → AreEnded acts
 
 -- the numbers of connections rise, from 1 on; none is above the last that was given
 pub record AreNumbered (sources : List Source) (last : ℕ) : Type 0 where
@@ -47,20 +74,37 @@ pub record AreNumbered (sources : List Source) (last : ℕ) : Type 0 where
   pub first : All (λ (source : Source). 0 < source.number) sources
   pub up_to : All (λ (source : Source). source.number ≤ last) sources
 
--- each connection that is there is told, and no act is under a number that none has had
+-- no connection has this number
+abbrev pub IsGone : ℕ → List Source → Type 0
+IsGone number sources = All (λ (source : Source). source.number ≡ number → ⊥) sources
+
+-- each connection that is there is told, each that is gone has ended, and no act is under a number that none has had
 pub record TellsOf (sources : List Source) (last : ℕ) (given : List (ℕ × Act)) : Type 0 where
   pub numbers : AreNumbered sources last
   pub told : All (IsTold given) sources
+  pub gone : (number : ℕ) → IsGone number sources → AreEnded (under number given)
   pub none : (number : ℕ) → last < number → under number given ≡ []
 
 abbrev pub Tells : Sources → List (ℕ × Act) → Type 0
 Tells sources given = TellsOf sources.list.items sources.last given
 
--- without the connection at a place, whatever act may come under its number
+abbrev pub knows : Option Source → Bool
+knows None = false
+knows (Some source) = source.is_known
+
+-- whether a Connect was taken of the connection at a place
+abbrev pub known_at : List Source → ℕ → Bool
+known_at sources place = knows (slice_get sources place)
+
+-- the others are told once the connection of this number is gone: after a Hung if it is known
+abbrev pub Closes : Bool → ℕ → List Source → ℕ → List (ℕ × Act) → Type 0
+Closes true number others last given = TellsOf others last (given ++ (number, done.Hung) ∷ [])
+Closes false number others last given = TellsOf others last given
+
+-- the connection at a place may go
 abbrev pub TellsWithout : ℕ → ℕ → Sources → List (ℕ × Act) → Type 0
 TellsWithout place number sources given = (0 < number)
-    × TellsOf (remove sources.list.items place) sources.last given
-    × ((act : Act) → TellsOf (remove sources.list.items place) sources.last (given ++ (number, act) ∷ []))
+    × Closes (known_at sources.list.items place) number (remove sources.list.items place) sources.last given
 
 -- a request was taken: it is told once its act is given, or its connection is gone
 abbrev pub Owes : ℕ → ℕ → FromClient → Sources → List (ℕ × Act) → Type 0
@@ -75,6 +119,12 @@ abbrev pub Finds : ℕ → Next → Sources → List (ℕ × Act) → Type 0
 Finds place next.Nothing sources given = Tells sources given
 Finds place (next.End number) sources given = TellsWithout place number sources given
 Finds place (next.Request number request) sources given = Owes place number request sources given
+
+-- whether a Connect was taken, after this was found
+abbrev pub known_after : Next → Bool → Bool
+known_after next.Nothing known = known
+known_after (next.End number) known = known
+known_after (next.Request number request) known = known_with request known
 
 -- a connection's next request, or that there is none
 abbrev pub Takes : Next → ℕ → List FromClient → List FromClient → Type 0

@@ -3,20 +3,13 @@ use rtrb::Producer;
 use serve_connections::{Lobby, NodeConnection};
 use serve_policy::Reader;
 
-// How far a connection is: its client has not been greeted yet, it is open, or the node has ended it.
-#[derive(Clone, Copy, PartialEq, Eq, Drop)]
-pub(crate) enum Stage {
-    New,
-    Open,
-    Ended,
-}
-
 // A connection at its node, but for the requests that come of it.
 #[derive(Drop)]
 pub(crate) struct Lane {
     // The number of its transport.
     number: u32,
-    stage: Stage,
+    // Whether the node has ended it.
+    is_ended: bool,
     // Whether its porter is to be told of sayings.
     is_told: bool,
     reader: Reader,
@@ -29,7 +22,7 @@ impl Lane {
     pub fn new(number: u32, sayings: Producer<ToClient>, connection: NodeConnection) -> Lane {
         Lane {
             number,
-            stage: Stage::New,
+            is_ended: false,
             is_told: false,
             reader: Reader::new(),
             sayings,
@@ -42,24 +35,14 @@ impl Lane {
         self.number
     }
 
-    // Returns whether a Connect of it was taken, so that a Hung is due at its end.
-    pub fn is_known(&self) -> bool {
-        self.stage != Stage::New
-    }
-
-    // Notes that a Connect of it was taken.
-    pub fn open(&mut self) {
-        self.stage = Stage::Open;
-    }
-
     // Returns whether the node has ended it.
     pub fn is_ended(&self) -> bool {
-        self.stage == Stage::Ended
+        self.is_ended
     }
 
     // Puts a saying after the others. If there is no room the connection ends, and the result is false.
     pub fn say(&mut self, lobby: &Lobby, saying: ToClient) -> bool {
-        if self.stage == Stage::Ended {
+        if self.is_ended {
             drop(saying);
             return true;
         }
@@ -105,7 +88,7 @@ impl Lane {
 
     // Ends the connection at once.
     pub fn end(&mut self, lobby: &Lobby) {
-        self.stage = Stage::Ended;
+        self.is_ended = true;
         self.forget_slow(lobby);
         self.connection.hang_up();
     }

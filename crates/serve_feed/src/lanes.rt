@@ -137,23 +137,28 @@ impl Lanes {
         }
     }
 
-    // Removes the lane, and takes its client out of the slow ones. A Hung is due if a Connect was taken.
+    // Removes the lane. A Hung is due if a Connect was taken.
     fn remove(&mut self, lobby: &Lobby, place: usize, number: u32) -> Step
         ensures removes { (given : List (ℕ × Act)) → TellsWithout place number self.old.sources given → Steps result self.new.sources given }
     {
-        self.sources.remove(place);
-        if place >= self.lanes.len() {
-            return Step::On;
-        }
-        self.look.removed();
-        let lane = self.lanes.remove(place);
-        lane.forget_slow(lobby);
-        let known = lane.is_known();
-        drop(lane);
+        let known = self.sources.remove(place);
+        self.drop_lane(lobby, place);
         if known {
             Step::Act(number, Act::Hung)
         } else {
             Step::On
+        }
+    }
+
+    // Drops what goes to the client of the lane, and takes it out of the slow ones.
+    fn drop_lane(&mut self, lobby: &Lobby, place: usize)
+        ensures sources { self.new.sources ≡ self.old.sources }
+    {
+        if place < self.lanes.len() {
+            self.look.removed();
+            let lane = self.lanes.remove(place);
+            lane.forget_slow(lobby);
+            drop(lane);
         }
     }
 
@@ -170,7 +175,7 @@ impl Lanes {
     {
         match request {
             FromClient::Connect => {
-                self.connect(place);
+                self.took(place);
                 Step::Act(number, Act::Connect)
             },
             FromClient::Read(read) => match share(self.alloc, read) {
@@ -186,16 +191,6 @@ impl Lanes {
             },
             FromClient::Hung => self.remove(lobby, place, number),
         }
-    }
-
-    // Notes that the client of the lane has connected.
-    fn connect(&mut self, place: usize)
-        ensures sources { self.new.sources ≡ self.old.sources }
-    {
-        if let Some(lane) = self.lanes.get_mut(place) {
-            lane.open();
-        }
-        self.took(place);
     }
 
     // Ends the connection, and removes the lane: there is no memory for what its client sent.

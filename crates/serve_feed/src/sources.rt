@@ -3,16 +3,17 @@ ghost use Rattle.std.specs.Prelude.{◌≡◌, ℕ, List, [], length};
 ghost use Rattle.std.specs.List.{remove};
 ghost use Rattle.realm_acts.specs.declared.act.Act.{Act};
 ghost use Rattle.serve_connections.specs.Taken.{taken_by};
-ghost use Rattle.serve_feed.specs.Tells.{Tells, Finds, Takes};
+ghost use Rattle.serve_feed.specs.Tells.{known_with, known_at, known_after, Tells, Finds, Takes};
 
 use client_listener::FromClient;
 use serve_connections::{Found, RequestReceiver};
 use std::alloc::Global;
 
-// The requests of a client, and the number of its transport.
+// The requests of a client, the number of its transport, and whether a Connect was taken, so that a Hung is due at the end.
 #[derive(Drop)]
 pub(crate) struct Source {
     number: u32,
+    is_known: bool,
     requests: RequestReceiver,
 }
 
@@ -29,6 +30,7 @@ impl Source {
     fn next(&mut self, is_ended: bool) -> Next
         ensures number { self.new.number ≡ self.old.number }
         ensures takes { Takes result self.old.number (taken_by self.old.requests) (taken_by self.new.requests) }
+        ensures known { self.new.is_known ≡ known_after result self.old.is_known }
     {
         if is_ended {
             return Next::End(self.number);
@@ -36,8 +38,23 @@ impl Source {
         match self.requests.next() {
             Found::Nothing => Next::Nothing,
             Found::End => Next::End(self.number),
-            Found::Request(request) => Next::Request(self.number, request),
+            Found::Request(request) => {
+                self.is_known = is_known_with(self.is_known, &request);
+                Next::Request(self.number, request)
+            },
         }
+    }
+}
+
+// Returns whether a Connect was taken, once this request was.
+fn is_known_with(is_known: bool, request: &FromClient) -> bool
+    ensures { result ≡ known_with request.now is_known }
+{
+    match request {
+        FromClient::Connect => true,
+        FromClient::Read(_) => is_known,
+        FromClient::Ping(_) => is_known,
+        FromClient::Hung => is_known,
     }
 }
 
@@ -70,7 +87,11 @@ impl Sources {
             return None;
         };
         self.last = number;
-        let pushed = self.list.push(Source { number, requests });
+        let pushed = self.list.push(Source {
+            number,
+            is_known: false,
+            requests,
+        });
         let is_there = pushed.is_ok();
         drop(pushed);
         if is_there { Some(number) } else { None }
@@ -86,14 +107,19 @@ impl Sources {
         }
     }
 
-    // Removes the client at a place, if one is there.
-    pub fn remove(&mut self, place: usize)
+    // Removes the client at a place, if one is there. Returns whether a Connect of it was taken.
+    pub fn remove(&mut self, place: usize) -> bool
+        ensures known { result ≡ known_at self.old.list.items place }
         ensures list { self.new.list.items ≡ remove self.old.list.items place }
         ensures last { self.new.last ≡ self.old.last }
     {
-        if place < self.list.len() {
-            drop(self.list.remove(place));
+        if place >= self.list.len() {
+            return false;
         }
+        let source = self.list.remove(place);
+        let known = source.is_known;
+        drop(source);
+        known
     }
 
     // Removes all. Numbers begin at 1 again.

@@ -1,7 +1,13 @@
 use Rattle.std.proofs.Common.{refl, ap, sym, ◌∙◌}
 use Rattle.rtrb.specs.Ring.{received, known_items, all_sent}
-use Rattle.serve_connections.proofs.Handing.{none_left}
+use Rattle.serve_connections.proofs.Handing.{none_known, none_left}
 use Rattle.serve_connections.proofs.requests.RequestReceiver.next.Goals as goal
+
+pub returns-then-not-is_abandoned-clause-finds : goal.returns-then-not-is_abandoned-clause-finds
+returns-then-not-is_abandoned-clause-finds c = (
+  c.is_abandoned.ensures.1 ∙ c.in_default.ensures.empty.0,
+  none_known (known_items c.args.self.now.ring) c.in_default.ensures.succeeds,
+)
 
 pub returns-then-slots_after-eq0-clause-finds : goal.returns-then-slots_after-eq0-clause-finds
 returns-then-slots_after-eq0-clause-finds c =

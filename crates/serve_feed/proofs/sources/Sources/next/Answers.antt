@@ -10,5 +10,5 @@ returns-in-Some c =
     let read : c.in-Some.source.now ≡ get_or items c.args.place c.in-Some.source.now = c.in-Some.ensures.value in
     record {
       finds = λ given. found c.next.result c.args.self.now _ c.args.place given c.in-Some.source.now c.next.new.self within
-          (λ d. sym (get_or_read items c.args.place c.in-Some.source.now within read d)) refl refl c.next.ensures.number c.next.ensures.takes;
+          (λ d. sym (get_or_read items c.args.place c.in-Some.source.now within read d)) refl refl c.next.ensures.number c.next.ensures.takes c.next.ensures.known;
     }
