@@ -34,7 +34,7 @@ Exit status:
   0  the client ended, or was told goodbye; the script was played; the cluster's standard input ended
   2  the command line is wrong
   3  a line of the script is not an event
-  4  a node of the cluster failed
+  4  a node of the cluster failed, or its store
   5  no memory is left
   6  the transport failed, or nothing can be written
 

@@ -203,7 +203,10 @@ const TEXTS: &[(&str, &str)] = &[
         "wampd serve --nodes 3 --port 9000 --key 7 --dir data",
     ),
     ("--help", "\n  serve "),
-    ("--help", "\n  4  a node of the cluster failed\n"),
+    (
+        "--help",
+        "\n  4  a node of the cluster failed, or its store\n",
+    ),
     ("--help", "\ndocs/OPERATING.md explains each status"),
 ];
 
