@@ -1,5 +1,5 @@
 //! Measures of the consensus core, each over a run of this program: `core_bench log N W`, `core_bench codec N`,
-//! `core_bench nodes N W number|act`, `core_bench actors N W`, `core_bench threads N W` and `core_bench rescue N`.
+//! `core_bench nodes N W number|act`, `core_bench actors N W`, `core_bench threads N W`, `core_bench rescue N` and `core_bench all N W`.
 #![tactic(auto)]
 
 mod actors;
