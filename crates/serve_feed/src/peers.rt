@@ -3,14 +3,36 @@ use node_actor::Heard;
 use paxos_packets::Members;
 use serve_policy::{Backpressure, Draining, Gaining};
 
+// What a node knows of another member's progress.
+#[derive(Clone, Copy)]
+struct Peer {
+    backpressure: Backpressure,
+    draining: Draining,
+    gaining: Gaining,
+}
+
+impl Peer {
+    // Returns a member that keeps up.
+    const fn new() -> Peer {
+        Peer {
+            backpressure: Backpressure::new(),
+            draining: Draining::new(),
+            gaining: Gaining::new(),
+        }
+    }
+
+    // Returns whether acts are held back for the member, since it falls behind or gains.
+    fn holds_acts(&mut self, beat: u64, waiting: usize) -> bool {
+        self.backpressure.holds(beat, waiting) || self.gaining.holds(beat)
+    }
+}
+
 // What a node knows of the other members' progress, and whether it holds back acts or ticks for one of them.
 #[derive(Drop)]
 pub(crate) struct Peers {
     // How many members there are; member 1 comes first in each list.
     count: u8,
-    backpressure: [Backpressure; 7],
-    draining: [Draining; 7],
-    gaining: [Gaining; 7],
+    peers: [Peer; 7],
     // How many packets waited for each member after the last turn, and at which beat that was judged.
     waiting: [u16; 7],
     judged: u64,
@@ -23,33 +45,7 @@ impl Peers {
     pub fn new(members: Members) -> Peers {
         Peers {
             count: members.count().min(7),
-            backpressure: [
-                Backpressure::new(),
-                Backpressure::new(),
-                Backpressure::new(),
-                Backpressure::new(),
-                Backpressure::new(),
-                Backpressure::new(),
-                Backpressure::new(),
-            ],
-            draining: [
-                Draining::new(),
-                Draining::new(),
-                Draining::new(),
-                Draining::new(),
-                Draining::new(),
-                Draining::new(),
-                Draining::new(),
-            ],
-            gaining: [
-                Gaining::new(),
-                Gaining::new(),
-                Gaining::new(),
-                Gaining::new(),
-                Gaining::new(),
-                Gaining::new(),
-                Gaining::new(),
-            ],
+            peers: [Peer::new(); 7],
             waiting: [0; 7],
             judged: u64::MAX,
             holds_acts: false,
@@ -91,7 +87,8 @@ impl Peers {
     fn hear_ask(&mut self, beat: u64, from: u8, first: u64, applied: u64) {
         let place = usize::from(from).wrapping_sub(1);
         if place < 7 {
-            self.gaining[place].asks(beat, first, applied);
+            let peer = &mut self.peers[place];
+            peer.gaining.asks(beat, first, applied);
         }
     }
 
@@ -102,10 +99,10 @@ impl Peers {
         for place in 0..self.count.min(7) {
             let at = usize::from(place);
             let waiting = usize::from(self.waiting[at]);
-            let falls_behind = self.backpressure[at].holds(beat, waiting);
             let is_posted = seen.posted.contains(place + 1);
-            holds_acts = falls_behind || self.gaining[at].holds(beat) || holds_acts;
-            holds_ticks = self.draining[at].holds(beat, waiting, is_posted, commit) || holds_ticks;
+            let peer = &mut self.peers[at];
+            holds_acts = peer.holds_acts(beat, waiting) || holds_acts;
+            holds_ticks = peer.draining.holds(beat, waiting, is_posted, commit) || holds_ticks;
         }
         self.holds_acts = holds_acts;
         self.holds_ticks = holds_ticks;

@@ -14,7 +14,6 @@ noting micros commits known = if commits == 0 then known else taking (micros / c
 abbrev pub beats_of : ℕ → ℕ
 beats_of known = min (known / 2000) 100
 
--- how many acts a node gives before a turn: 64 if a commit takes less than half a beat, and else as many as it commits within five beats, at
--- least one
+-- how many acts a node gives before a turn: as many as it commits within a beat, but at least one, and 64 at the most
 abbrev pub acts_a_turn : ℕ → ℕ
-acts_a_turn known = if nat_lt known 1000 then 64 else max (10000 / suc known) 1
+acts_a_turn known = max (min (2000 / suc known) 64) 1

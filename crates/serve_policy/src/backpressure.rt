@@ -13,7 +13,7 @@ const BEATS_HELD: u64 = 40;
 ///
 /// If a node falls behind, more and more packets wait for it, until the oldest are lost; it gets what was lost tick by tick, and its clients
 /// wait. So acts are held back for a while, but no longer for a node that does not run.
-#[derive(Drop)]
+#[derive(Clone, Copy)]
 pub struct Backpressure {
     last: u64,
 }
@@ -24,6 +24,8 @@ impl Model for Backpressure {
     ghost Value = { ℕ };
 
     ghost view = { λ backpressure. backpressure.last };
+
+    ghost inverse = { λ last. record { last = last } };
 }
 
 impl Backpressure {

@@ -6,14 +6,8 @@ use std::marker::Model;
 /// The length of a beat in microseconds.
 const BEAT_MICROS: u32 = 2_000;
 
-/// A commit is quick if it takes less than half a beat.
-const QUICK_MICROS: u32 = BEAT_MICROS / 2;
-
-/// How many acts a node gives before it posts, if its commits are quick.
+/// How many acts a node gives before it posts, at the most.
 const MOST_ACTS: u64 = 64;
-
-/// For how long a node commits acts before it posts, if they are not: five beats.
-const ACTS_MICROS: u64 = 10_000;
 
 /// By how many microseconds more than twofold the time rises at a longer commit.
 const MICROS_MORE: u32 = 500;
@@ -64,16 +58,13 @@ impl Commits {
         (self.micros / BEAT_MICROS).min(MOST_BEATS) as u8
     }
 
-    /// Returns how many acts a node gives before a turn: 64 if a commit takes less than half a beat, and else as many as it commits within
-    /// five beats, at least one.
+    /// Returns how many acts a node gives before a turn: as many as it commits within a beat, but at least one, and 64 at the most.
     pub fn acts_a_turn(&self) -> u64
         ensures { result ≡ acts_a_turn self.now }
     {
-        if self.micros < QUICK_MICROS {
-            MOST_ACTS
-        } else {
-            (ACTS_MICROS / (u64::from(self.micros) + 1)).max(1)
-        }
+        (u64::from(BEAT_MICROS) / (u64::from(self.micros) + 1))
+            .min(MOST_ACTS)
+            .max(1)
     }
 }
 

@@ -15,7 +15,7 @@ const COMMITS_HELD: u64 = 4;
 ///
 /// A tick sends again what is not answered yet. If the packets of the tick before still wait, it only takes the place of packets that would
 /// arrive. So ticks are held back while many wait for a node that takes them; a node that takes none holds up nobody.
-#[derive(Drop)]
+#[derive(Clone, Copy)]
 pub struct Draining {
     last: u64,
 }
@@ -26,6 +26,8 @@ impl Model for Draining {
     ghost Value = { ℕ };
 
     ghost view = { λ draining. draining.last };
+
+    ghost inverse = { λ last. record { last = last } };
 }
 
 impl Draining {

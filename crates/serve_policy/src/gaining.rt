@@ -17,7 +17,7 @@ const BEATS_A_TURN: u64 = 4;
 ///
 /// A node that did not run for long lacks more entries than it can get while the others go on at full speed. So they hold acts back until it
 /// has come level, as long as it gains: each time that it lacks an eighth less.
-#[derive(Drop)]
+#[derive(Clone, Copy)]
 pub struct Gaining {
     log: u64,
     mark: u64,
@@ -30,6 +30,8 @@ impl Model for Gaining {
     ghost Value = { Lack };
 
     ghost view = { λ g. record { log = g.log; mark = g.mark; since = g.since } };
+
+    ghost inverse = { λ lack. record { log = lack.log; mark = lack.mark; since = lack.since } };
 }
 
 impl Gaining {
