@@ -3,3 +3,5 @@ pub mod Tells
 pub mod Steps
 pub mod Saw
 pub mod Feeds
+pub mod Hears
+pub mod Says

@@ -6,6 +6,8 @@ ghost use Rattle.realm_acts.specs.declared.act.Act.{Act};
 ghost use Rattle.realm_machine.specs.declared.sayings.say.Say.{Say};
 ghost use Rattle.serve_feed.specs.Tells.{Tells};
 ghost use Rattle.serve_feed.specs.Saw.{Saw};
+ghost use Rattle.serve_feed.specs.Hears.{Hear};
+ghost use Rattle.serve_feed.specs.Says.{item_of, said_one, said_to};
 
 use crate::home::Home;
 use crate::lanes::Lanes;
@@ -301,7 +303,8 @@ impl<'a> ClientFeed<'a> {
     // Notes that something happens in this round: no rest comes before the turn that follows is counted.
     fn stay(&mut self)
         ensures node { self.new.node ≡ self.old.node }
-        ensures sources { self.new.lanes.sources ≡ self.old.lanes.sources }
+        ensures boot { self.new.boot.number ≡ self.old.boot.number }
+        ensures lanes { self.new.lanes ≡ self.old.lanes }
     {
         self.round.is_busy = true;
         self.round.is_ticked = false;
@@ -379,6 +382,8 @@ impl<'a> ClientFeed<'a> {
     fn tell(&mut self, say: Say)
         ensures node { self.new.node ≡ self.old.node }
         ensures sources { self.new.lanes.sources ≡ self.old.lanes.sources }
+        ensures boot { self.new.boot.number ≡ self.old.boot.number }
+        ensures hears { Hear (said_one self.old.node self.old.boot.number say) self.old.lanes.lanes.items self.new.lanes.lanes.items }
     {
         let Say { transport, out } = say;
         let saying = saying_of(out);
@@ -393,7 +398,7 @@ impl<'a> ClientFeed<'a> {
 impl Feed<Act, Say> for ClientFeed<'_> {
     ghost use Rattle.serve_feed.specs.Saw.{Saw};
 
-    // Of its sayings it says nothing: one for a transport that is gone is dropped.
+    // What it did with its sayings is a clause of `hand`: one for a transport that is gone is dropped.
     ghost saw = { λ feed given got. Saw feed.node feed.lanes.sources given };
 
     fn next(&mut self, seen: Seen) -> Option<Event<Act>>
@@ -415,8 +420,9 @@ impl Feed<Act, Say> for ClientFeed<'_> {
     }
 
     fn hand(&mut self, says: Vec<Say>)
-        ensures { (given : List (Event Act)) (got : List Say) → Saw self.old.node self.old.lanes.sources given
+        ensures saw { (given : List (Event Act)) (got : List Say) → Saw self.old.node self.old.lanes.sources given
             → Saw self.new.node self.new.lanes.sources given }
+        ensures hears { Hear (said_to self.old.node self.old.boot.number says.items) self.old.lanes.lanes.items self.new.lanes.lanes.items }
     {
         if says.is_empty() {
             return;
@@ -464,7 +470,9 @@ fn wake_peers(
 }
 
 // Returns a saying in the form in which a porter takes it.
-fn saying_of(out: Out) -> ToClient {
+fn saying_of(out: Out) -> ToClient
+    ensures { result ≡ item_of out }
+{
     match out {
         Out::Send(message) => ToClient::Send(message),
         Out::Close => ToClient::Close,

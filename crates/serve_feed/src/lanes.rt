@@ -1,8 +1,9 @@
-ghost use Rattle.std.specs.Prelude.{◌≡◌, ℕ, List, [], IfSome};
+ghost use Rattle.std.specs.Prelude.{◌≡◌, ◌∷◌, ℕ, List, [], IfSome, MatchOption};
 ghost use Rattle.realm_acts.specs.declared.act.Act.{Act};
 ghost use Rattle.realm_acts.specs.declared.act.Act.TheVariants.{Said};
 ghost use Rattle.serve_feed.specs.Tells.{Tells, TellsWithout, Owes};
 ghost use Rattle.serve_feed.specs.Steps.{Steps, Looks};
+ghost use Rattle.serve_feed.specs.Hears.{AreLined, Hears, Hear, nothing, one, IsAt, IsNowhere, Stays};
 
 use crate::lane::Lane;
 use crate::look::Look;
@@ -28,6 +29,7 @@ pub(crate) struct Lanes {
     look: Look,
     // The lanes whose porter is to be told of sayings.
     told: Vec<u32>,
+    ghost lined: { AreLined lanes.items sources.last },
 }
 
 // What a look at one lane gives.
@@ -197,22 +199,37 @@ impl Lanes {
     fn refuse(&mut self, lobby: &Lobby, place: usize, number: u32) -> Step
         ensures removes { (given : List (ℕ × Act)) → TellsWithout place number self.old.sources given → Steps result self.new.sources given }
     {
+        self.end(lobby, place);
+        self.remove(lobby, place, number)
+    }
+
+    // Ends the connection of the lane.
+    fn end(&mut self, lobby: &Lobby, place: usize)
+        ensures sources { self.new.sources ≡ self.old.sources }
+    {
         if let Some(lane) = self.lanes.get_mut(place) {
             lane.end(lobby);
         }
-        self.remove(lobby, place, number)
     }
 
     // Answers the client of the lane without the log.
     fn answer(&mut self, lobby: &Lobby, place: usize, saying: ToClient)
         ensures sources { self.new.sources ≡ self.old.sources }
     {
-        if let Some(lane) = self.lanes.get_mut(place) {
-            put(lobby, lane, &mut self.told, &mut self.look, saying);
-        } else {
-            drop(saying);
-        }
+        self.put_at(lobby, place, saying);
         self.took(place);
+    }
+
+    // Puts a saying after the others for the lane.
+    fn put_at(&mut self, lobby: &Lobby, place: usize, saying: ToClient)
+        ensures sources { self.new.sources ≡ self.old.sources }
+        ensures hears { (number : ℕ) → IsAt self.old.lanes.items number place
+            → Hear (one number saying) self.old.lanes.items self.new.lanes.items }
+    {
+        match self.lanes.get_mut(place) {
+            Some(lane) => put(lobby, lane, &mut self.told, &mut self.look, saying),
+            None => drop(saying),
+        }
     }
 
     // Notes that a request of the lane was taken. The lane is left after some requests.
@@ -229,9 +246,10 @@ impl Lanes {
     // Puts a saying after the others for the transport with this number, if it is there.
     pub fn say(&mut self, lobby: &Lobby, number: u32, saying: ToClient)
         ensures sources { self.new.sources ≡ self.old.sources }
+        ensures hears { Hear (one number saying) self.old.lanes.items self.new.lanes.items }
     {
-        match lane_of(&mut self.lanes, number) {
-            Some(lane) => put(lobby, lane, &mut self.told, &mut self.look, saying),
+        match place_of(self.lanes.as_slice(), number) {
+            Some(place) => self.put_at(lobby, place, saying),
             None => drop(saying),
         }
     }
@@ -239,12 +257,9 @@ impl Lanes {
     // Tells the porter of all lanes that got a saying since the last call.
     pub fn wake_told(&mut self)
         ensures sources { self.new.sources ≡ self.old.sources }
+        ensures hears { Hear nothing self.old.lanes.items self.new.lanes.items }
     {
-        for number in &self.told {
-            if let Some(lane) = lane_of(&mut self.lanes, *number) {
-                lane.announce_sayings();
-            }
-        }
+        announce_all(&mut self.lanes, self.told.as_slice());
         self.told.clear();
     }
 
@@ -252,9 +267,7 @@ impl Lanes {
     pub fn ignore_slow(&mut self, lobby: &Lobby)
         ensures sources { self.new.sources ≡ self.old.sources }
     {
-        for lane in &mut self.lanes {
-            lane.ignore_slow(lobby);
-        }
+        ignore_all(&mut self.lanes, lobby);
     }
 
     // Ends every connection. Numbers begin at 1 again.
@@ -294,22 +307,70 @@ fn said(read: Shared<Read>, draws: &mut Draws) -> Act
     }
 }
 
-// Returns the lane of the transport with this number, if it is there.
-fn lane_of(lanes: &mut Vec<Lane>, number: u32) -> Option<&mut Lane> {
-    let place = lanes
+// Returns the place of the lane of the transport with this number, if it is there.
+fn place_of(lanes: &[Lane], number: u32) -> Option<usize>
+    ensures { MatchOption result ((last : ℕ) → AreLined lanes.now last → IsNowhere lanes.now number) (IsAt lanes.now number) }
+{
+    lanes
         .binary_search_by_key(&number, |lane| lane.number())
-        .ok()?;
-    lanes.get_mut(place)
+        .ok()
+}
+
+// Tells the porters of the lanes with these numbers, of those that are there, that there are sayings to write.
+fn announce_all(lanes: &mut Vec<Lane>, numbers: &[u32])
+    ensures { Hear nothing lanes.old.items lanes.new.items }
+{
+    for number in numbers {
+        announce(lanes, *number);
+    }
+}
+
+// Tells the porter of the lane with this number, if it is there, that there are sayings to write.
+fn announce(lanes: &mut Vec<Lane>, number: u32)
+    ensures { Hear nothing lanes.old.items lanes.new.items }
+{
+    let Some(place) = place_of(lanes.as_slice(), number) else {
+        return;
+    };
+    let Some(lane) = lanes.get_mut(place) else {
+        return;
+    };
+    lane.announce_sayings();
+}
+
+// Ignores the slow clients, for which the node has waited in vain.
+fn ignore_all(lanes: &mut Vec<Lane>, lobby: &Lobby)
+    ensures { Hear nothing lanes.old.items lanes.new.items }
+{
+    for place in 0..lanes.len() {
+        ignore(lanes, lobby, place);
+    }
+}
+
+// Ignores the client of the lane, if it is there, for which the node has waited in vain.
+fn ignore(lanes: &mut Vec<Lane>, lobby: &Lobby, place: usize)
+    ensures { Hear nothing lanes.old.items lanes.new.items }
+{
+    let Some(lane) = lanes.get_mut(place) else {
+        return;
+    };
+    lane.ignore_slow(lobby);
 }
 
 // Puts a saying after the others for the lane, and notes that its porter is to be told. If there is no room the lane ends, which the next look
 // finds.
-fn put(lobby: &Lobby, lane: &mut Lane, told: &mut Vec<u32>, look: &mut Look, saying: ToClient) {
+fn put(lobby: &Lobby, lane: &mut Lane, told: &mut Vec<u32>, look: &mut Look, saying: ToClient)
+    ensures hears { Hears (saying ∷ []) lane.old lane.new }
+{
     if !lane.say(lobby, saying) {
         look.stir();
         return;
     }
-    if !lane.tell() && told.push(lane.number()).is_err() {
-        lane.announce_sayings();
+    if lane.tell() {
+        return;
     }
+    if told.push(lane.number()).is_ok() {
+        return;
+    }
+    lane.announce_sayings();
 }

@@ -1,5 +1,5 @@
 // The requests of a node's clients, each client's under the number of its transport.
-ghost use Rattle.std.specs.Prelude.{◌≡◌, ℕ, List, [], length};
+ghost use Rattle.std.specs.Prelude.{◌≡◌, ◌<◌, ◌≤◌, ℕ, List, [], length, IfSome};
 ghost use Rattle.std.specs.List.{remove};
 ghost use Rattle.realm_acts.specs.declared.act.Act.{Act};
 ghost use Rattle.serve_connections.specs.Taken.{taken_by};
@@ -81,6 +81,8 @@ impl Sources {
     pub fn add(&mut self, requests: RequestReceiver) -> Option<u32>
         requires untouched { length (taken_by requests) ≡ 0 }
         ensures tells { (given : List (ℕ × Act)) → Tells self.old given → Tells self.new given }
+        ensures last { self.old.last ≤ self.new.last }
+        ensures number { IfSome result (λ number. (self.old.last < number) × (number ≡ self.new.last)) }
     {
         let Some(number) = self.last.checked_add(1) else {
             drop(requests);
@@ -100,6 +102,7 @@ impl Sources {
     // Takes the next request at a place; finds the end if the node has ended that connection.
     pub fn next(&mut self, place: usize, is_ended: bool) -> Next
         ensures finds { (given : List (ℕ × Act)) → Tells self.old given → Finds place result self.new given }
+        ensures last { self.new.last ≡ self.old.last }
     {
         match self.list.get_mut(place) {
             Some(source) => source.next(is_ended),

@@ -1,4 +1,4 @@
-use Rattle.std.proofs.Common.{◌∷◌, [], ◌++◌, ◌∙◌, sym, subst}
+use Rattle.std.proofs.Common.{◌∷◌, [], ◌++◌, ◌∙◌, ap, sym, subst}
 use Rattle.paxos_node.specs.declared.event.Event.TheVariants.{Take}
 use Rattle.actor_run.specs.Events.{asked_in}
 use Rattle.serve_feed.specs.Tells.{Tells}
@@ -22,7 +22,7 @@ returns c =
     record {
       saw = λ given saw.
           let gave = gives_act node number body c.next-next.new.self.sources given (c.in-Some.ensures.looks (asked_in node given) saw) in
-          let here = subst (λ s. Saw node s (given ++ Take node number body ∷ [])) (sym (c.stay.ensures.sources ∙ c.wake_told.ensures.sources))
+          let here = subst (λ s. Saw node s (given ++ Take node number body ∷ [])) (sym (ap (λ l. l.sources) c.stay.ensures.lanes ∙ c.wake_told.ensures.sources))
           gave in
           subst (λ n. Saw n c.stay.new.self.lanes.sources (given ++ Take n number body ∷ [])) (sym c.stay.ensures.node) here;
     }

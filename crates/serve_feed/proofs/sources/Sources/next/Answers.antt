@@ -11,4 +11,5 @@ returns-in-Some c =
     record {
       finds = λ given. found c.next.result c.args.self.now _ c.args.place given c.in-Some.source.now c.next.new.self within
           (λ d. sym (get_or_read items c.args.place c.in-Some.source.now within read d)) refl refl c.next.ensures.number c.next.ensures.takes c.next.ensures.known;
+      last = refl;
     }
