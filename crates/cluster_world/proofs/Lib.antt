@@ -28,6 +28,7 @@ pub mod Learning
 pub mod Waiting
 pub mod Owing
 pub mod Pending
+pub mod Giving
 pub mod PendingOwed
 pub mod Proposing
 pub mod Stepping
@@ -61,6 +62,7 @@ pub mod Going
 pub mod Returning
 pub mod Restarts
 pub mod Rescuing
+pub mod Rooming
 pub mod Attending
 pub mod Attends
 pub mod Replacing

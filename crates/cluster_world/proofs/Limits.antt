@@ -6,7 +6,7 @@ use Rattle.paxos_proposer.specs.Proposer.{round_end, slot_end}
 use Rattle.paxos_node.specs.Events.{last_number, most_pending}
 use Rattle.cluster_world.specs.Rescue.{last_rescue_round, last_rescue_slot}
 
-last_round : suc (suc (suc last_rescue_round)) < round_end
+pub last_round : suc (suc (suc last_rescue_round)) < round_end
 unfolding last_rescue_round round_end
 last_round = ltb-true 281474976710651 281474976710656 refl
 
@@ -16,6 +16,11 @@ rounds_fit r l = go last_rescue_round round_end l last_round
   where
     go : (a e : ℕ) → r ≤ suc a → suc (suc (suc a)) < e → (suc r < e) × (suc (suc r) < e)
     go a e h g = (omega arith, omega arith)
+
+-- the slots of a course
+pub last_slot : last_rescue_slot + (most_pending + most_pending + 3) ≤ slot_end
+unfolding last_rescue_slot most_pending slot_end
+last_slot = leb-true 1099511625730 1099511627776 refl
 
 -- the slots of a first pass, and those of a second
 abbrev pub first_most : ℕ

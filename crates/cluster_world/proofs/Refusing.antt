@@ -1,6 +1,7 @@
 -- Why there is no rescue, by the first cause, and what a rescue is otherwise.
 use Rattle.std.proofs.Common.{◌≡◌, ℕ, ◌<◌, ◌≤◌, Bool, true, false, not, Result, Ok, Err, Option, Some, None, refl, sym, ap, ◌∙◌, subst, arith, List, [], ◌++◌, ◌+◌, suc, ◌||◌}
-use Rattle.std.specs.Prelude.{IfOk, OnOk, if◌then◌else◌}
+use Rattle.std.specs.Prelude.{IfOk, IsErrAnd, IsOkUnless, OnOk, if◌then◌else◌}
+use Rattle.std.proofs.lemmas.Result.{err_from_is_err_and}
 use Rattle.paxos_node.specs.declared.event.Event.{Event}
 use Rattle.paxos_node.specs.Events.{last_number}
 use Rattle.paxos_node.specs.Held.{Held}
@@ -11,10 +12,12 @@ use Rattle.cluster_world.proofs.Crewing.{is_crew}
 use Rattle.cluster_world.specs.declared.fault.RescueFault.{RescueFault}
 use Rattle.cluster_world.specs.declared.fault.RescueFault.TheVariants.{NoMajority, NodeDown, NoRoom, Memory}
 use Rattle.cluster_world.specs.Helpers.{helpers_of, seat_at}
-use Rattle.cluster_world.specs.Rescue.{Refuses, Rescues, MayBeRescued, NoDeadEnd, rescue_refused, has_majority_up, is_up_at, any_member, is_crowded}
+use Rattle.cluster_world.specs.Rescue.{HasRoom, Refuses, Rescues, MayBeRescued, NoDeadEnd, RescuesHaveRoom, rescue_refused, of_course, has_majority_up, is_up_at, any_member, is_crowded}
 use Rattle.cluster_world.specs.World.{World, node_at, played}
 use Rattle.world_rescue.specs.Course.{Crew, Act, act, seat_of, course}
 use Rattle.world_rescue.specs.Parts.{crew_of}
+use Rattle.world_rescue.specs.declared.fault.CourseFault.{CourseFault}
+use Rattle.world_rescue.specs.declared.fault.CourseFault.TheVariants as course_fault
 
 -- the first cause
 abbrev pub first_cause : Bool → Bool → Bool → Option RescueFault
@@ -42,11 +45,12 @@ module _ (A : Type 0) where
   no_memory true false c e f g = absurd (cc)
   no_memory false u c e f g = absurd (cc)
 
-  pub given : (x : A) (m u c : Bool) → m ≡ true → u ≡ true → c ≡ false → Refuses {A = A} (first_cause m u c) (Ok x)
-  given x true true false e f g = tt
-  given x true true true e f g = absurd (cc)
-  given x true false c e f g = absurd (cc)
-  given x false u c e f g = absurd (cc)
+  pub last : (r : Result A RescueFault) (m u c : Bool) → m ≡ true → u ≡ true → c ≡ false → (first_cause m u c ≡ None → IsOkUnless r Memory)
+      → Refuses {A = A} (first_cause m u c) r
+  last r true true false e f g h = h refl
+  last r true true true e f g h = absurd (cc)
+  last r true false c e f g h = absurd (cc)
+  last r false u c e f g h = absurd (cc)
 
 none_refused : {A : Type 0} (o : Option RescueFault) (x : A) → Refuses o (Ok x) → o ≡ None
 none_refused None x h = refl
@@ -72,6 +76,24 @@ is_rescue {A} {B} same members es n number body items (Ok x) law many few refuse
     (law members many few es n number body (crew_of members (seat_at w.nodes n) (helpers_of w.nodes n members))
     (is_crew same members es n (seat_at w.nodes n) refl refl
     (majority (has_majority_up members w) (is_up_at w n) (any_member members (λ k. is_crowded (node_at w.nodes k))) free)) free may)
+
+-- and where none is refused its crew has room
+pub has_room : {B : Type 0} (same : B → B → Bool) (members : ℕ) (es : List (Event B)) (n : ℕ) (nodes : List (NodeState B))
+    → nodes ≡ (played same members es).nodes → RescuesHaveRoom B same → 3 ≤ members → members ≤ 7
+    → rescue_refused members (played same members es) n ≡ None → HasRoom (crew_of members (seat_at nodes n) (helpers_of nodes n members))
+has_room {B} same members es n nodes p law many few free =
+    let w : World B = played same members es in
+    subst (λ (ns : List (NodeState B)). HasRoom (crew_of members (seat_at ns n) (helpers_of ns n members))) (sym p)
+    (law members many few es n (crew_of members (seat_at w.nodes n) (helpers_of w.nodes n members))
+    (is_crew same members es n (seat_at w.nodes n) refl refl
+    (majority (has_majority_up members w) (is_up_at w n) (any_member members (λ k. is_crowded (node_at w.nodes k))) free)) free)
+
+-- a course that is not listed for lack of memory
+pub course_memory : {A : Type 0} (r : Result A RescueFault) (f : CourseFault) → IsErrAnd r (λ g. g ≡ of_course f) → f ≡ course_fault.Memory
+    → IsOkUnless r Memory
+course_memory {A} r f h m =
+    let told = err_from_is_err_and r h in
+    subst (λ (s : Result A RescueFault). IsOkUnless s Memory) (sym told.1) (told.2 ∙ ap of_course m)
 
 -- by what the code tests
 module _ (A : Type 0) {B : Type 0} (members n : ℕ) (nodes : List (NodeState B)) (w : World B) (p : nodes ≡ w.nodes) where
@@ -106,11 +128,13 @@ module _ (A : Type 0) {B : Type 0} (members n : ℕ) (nodes : List (NodeState B)
       no_memory A (has_majority_up members w) (is_up_at w n) (any_member members (λ k. is_crowded (node_at w.nodes k))) (majority_is b true e f) (up_is true u)
       (crowd_is d false h i)
 
-  pub exit_given : (x : A) (b d : Bool) → b ≡ is_majority members (λ k. (node_at nodes k).up) → b ≡ true → (node_at nodes n).up ≡ true
-      → d ≡ any_member members (λ k. is_crowded (node_at nodes k)) → d ≡ false → Refuses {A = A} (rescue_refused members w n) (Ok x)
-  exit_given x b d e f u h i =
-      given A x (has_majority_up members w) (is_up_at w n) (any_member members (λ k. is_crowded (node_at w.nodes k))) (majority_is b true e f) (up_is true u)
-      (crowd_is d false h i)
+  -- what the last call returns
+  pub exit_last : (r : Result A RescueFault) (b d : Bool) → b ≡ is_majority members (λ k. (node_at nodes k).up) → b ≡ true → (node_at nodes n).up ≡ true
+      → d ≡ any_member members (λ k. is_crowded (node_at nodes k)) → d ≡ false → (rescue_refused members w n ≡ None → IsOkUnless r Memory)
+      → Refuses {A = A} (rescue_refused members w n) r
+  exit_last r b d e f u h i memory =
+      last A r (has_majority_up members w) (is_up_at w n) (any_member members (λ k. is_crowded (node_at w.nodes k))) (majority_is b true e f) (up_is true u)
+      (crowd_is d false h i) memory
 
 -- what a call gives
 

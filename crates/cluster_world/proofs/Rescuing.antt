@@ -276,11 +276,11 @@ module _ {B : Type 0} (same : B → B → Bool) (equal : IsEquality same) (membe
 -- ---- in the terms of a world and its crew
 
 -- what no refusal means
-record Unrefused {B : Type 0} (members : ℕ) (w : World B) (n : ℕ) : Type 0 where
-  up : (node_at w.nodes n).up ≡ true
-  rooms : (k : ℕ) → IsMember members k → is_crowded (node_at w.nodes k) ≡ false
+pub record Unrefused {B : Type 0} (members : ℕ) (w : World B) (n : ℕ) : Type 0 where
+  pub up : (node_at w.nodes n).up ≡ true
+  pub rooms : (k : ℕ) → IsMember members k → is_crowded (node_at w.nodes k) ≡ false
 
-unrefused : {B : Type 0} (members : ℕ) (w : World B) (n : ℕ) → rescue_refused members w n ≡ None → Unrefused members w n
+pub unrefused : {B : Type 0} (members : ℕ) (w : World B) (n : ℕ) → rescue_refused members w n ≡ None → Unrefused members w n
 unrefused {B} members w n h =
     go (not (has_majority_up members w)) (not (is_up_at w n)) (any_member members (λ k. is_crowded (node_at w.nodes k))) refl refl h
   where
@@ -312,7 +312,7 @@ unrefused {B} members w n h =
     go false false true e f g = absurd (some NoRoom g)
     go false false false e f g = record { up = back (is_up_at w n) e; rooms = each members f }
 
-has_room_of : {B : Type 0} (x : NodeState B) → x.up ≡ true → is_crowded x ≡ false → HasRoom x
+pub has_room_of : {B : Type 0} (x : NodeState B) → x.up ≡ true → is_crowded x ≡ false → HasRoom x
 has_room_of {B} x up h =
     record {
       rounds = ltb-false last_rescue_round (round_held x) parts.0;

@@ -7,6 +7,7 @@ use Rattle.cluster_world.specs.Has.{Has}
 use Rattle.paxos_packets.specs.declared.entry.Entry.{Entry}
 use Rattle.paxos_packets.specs.declared.entry.Entry.TheVariants.{Noop, Boot, Lost, Item}
 use Rattle.replica_machine.specs.Effects.{live_boot}
+use Rattle.replica_machine.specs.Given.{AreGiven}
 use Rattle.paxos_node.specs.declared.event.Event.{Event}
 use Rattle.paxos_node.specs.declared.event.Event.TheVariants.{Suspect}
 use Rattle.paxos_node.specs.Events.{has_room, made_by}
@@ -58,3 +59,9 @@ abbrev pub LostsWereSuspected : (B : Type 0) → (B → B → Bool) → Type 0
 LostsWereSuspected B same =
     (members : ℕ) (events : List (Event B)) (node n b : ℕ) → Has (log_of (played same members events) node) (Lost n b)
     → Suspected same members events n b
+
+-- each entry of a log names a node from 1 to 7 and a boot from 1 on, and an Item a number and a transport from 1 on; so what a log is saved as
+-- is read again as that log (`LoadedStands` of `replica_machine`)
+abbrev pub LogsAreGiven : (B : Type 0) → (B → B → Bool) → Type 0
+LogsAreGiven B same =
+    (members : ℕ) → members ≤ 7 → (events : List (Event B)) (node : ℕ) → AreGiven (log_of (played same members events) node)

@@ -10,11 +10,14 @@ use Rattle.paxos_proposer.specs.Proposer.{round_of}
 use Rattle.paxos_planning.specs.Node.{NodeState}
 use Rattle.paxos_node.specs.declared.event.Event.{Event}
 use Rattle.paxos_node.specs.declared.event.Event.TheVariants.{Crash, Restart}
-use Rattle.paxos_node.specs.Events.{last_number}
+use Rattle.paxos_node.specs.Events.{last_number, most_pending}
 use Rattle.replica_machine.specs.Effects.{is_effective}
 use Rattle.cluster_world.specs.Has.{Has}
 use Rattle.cluster_world.specs.World.{World, node_at, play, played, log_of}
 use Rattle.world_rescue.specs.Course.{Seat, Crew, course}
+use Rattle.world_rescue.specs.Room.{IsUpTo, LeavesRoom}
+use Rattle.world_rescue.specs.declared.fault.CourseFault.{CourseFault}
+use Rattle.world_rescue.specs.declared.fault.CourseFault.TheVariants as crew
 use Rattle.cluster_world.specs.declared.fault.RescueFault.{RescueFault}
 use Rattle.cluster_world.specs.declared.fault.RescueFault.TheVariants.{NoMajority, NodeDown, NoRoom, Memory}
 
@@ -24,6 +27,11 @@ rescue_fault_number NoMajority = 57
 rescue_fault_number NodeDown = 58
 rescue_fault_number NoRoom = 59
 rescue_fault_number Memory = 60
+
+-- the fault of a rescue whose course was not listed
+abbrev pub of_course : CourseFault → RescueFault
+of_course crew.NoRoom = NoRoom
+of_course crew.Memory = Memory
 
 abbrev pub is_up_at : {B : Type 0} → World B → ℕ → Bool
 is_up_at w k = (node_at w.nodes k).up
@@ -112,3 +120,13 @@ NoDeadEnd B same =
     IsCrew members (played same members events) n c → rescue_refused members (played same members events) n ≡ None →
     MayBeRescued (node_at (played same members events).nodes n) number →
     Rescues same members (played same members events) n number body (course same c (record { transport = number; body = body }))
+
+-- the rounds and slots that a crew holds leave room for a course
+abbrev pub HasRoom : {B : Type 0} → Crew B → Type 0
+HasRoom c = IsUpTo last_rescue_round last_rescue_slot most_pending c × LeavesRoom last_rescue_round last_rescue_slot most_pending
+
+-- and so it is where a rescue is not refused
+abbrev pub RescuesHaveRoom : (B : Type 0) → (B → B → Bool) → Type 0
+RescuesHaveRoom B same =
+    (members : ℕ) → 3 ≤ members → members ≤ 7 → (events : List (Event B)) (n : ℕ) (c : Crew B) →
+    IsCrew members (played same members events) n c → rescue_refused members (played same members events) n ≡ None → HasRoom c

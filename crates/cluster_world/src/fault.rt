@@ -2,6 +2,7 @@ ghost use Rattle.std.specs.Prelude.{◌≡◌};
 ghost use Rattle.cluster_world.specs.Rescue.{rescue_fault_number};
 
 use thiserror::Error;
+use world_rescue::CourseFault;
 
 /// Memory ran out for a world, or for an event in it.
 #[derive(Clone, Copy, Debug, PartialEq, Eq, Drop, Error)]
@@ -45,5 +46,28 @@ impl RescueFault {
             RescueFault::NoRoom => 59,
             RescueFault::Memory => 60,
         }
+    }
+}
+
+impl From<CourseFault> for RescueFault {
+    ghost use Rattle.cluster_world.specs.Rescue.{of_course};
+
+    ghost from_gives = { λ fault given. given ≡ of_course fault };
+
+    fn from(fault: CourseFault) -> RescueFault {
+        match fault {
+            CourseFault::NoRoom => RescueFault::NoRoom,
+            CourseFault::Memory => RescueFault::Memory,
+        }
+    }
+}
+
+impl From<paxos_packets::Memory> for RescueFault {
+    ghost use Rattle.cluster_world.specs.declared.fault.RescueFault.TheVariants as rescue;
+
+    ghost from_gives = { λ _ given. given ≡ rescue.Memory };
+
+    fn from(_: paxos_packets::Memory) -> RescueFault {
+        RescueFault::Memory
     }
 }

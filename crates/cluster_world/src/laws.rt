@@ -1,7 +1,7 @@
 //! Laws over every list of events, each the contract of a function that does nothing.
 ghost use Rattle.cluster_world.specs.Answers.{HandedIsSaid, HandedStays};
 ghost use Rattle.cluster_world.specs.AtOnce.{AppliesAsAtOnce};
-ghost use Rattle.cluster_world.specs.Origins.{ItemsWereTaken, BootsWereHad, LostsWereSuspected};
+ghost use Rattle.cluster_world.specs.Origins.{ItemsWereTaken, BootsWereHad, LostsWereSuspected, LogsAreGiven};
 ghost use Rattle.replica_machine.specs.Laws.{ItemsAreNumbered};
 ghost use Rattle.std.specs.Prelude.{◌≡◌, true, false, [], ◌∷◌};
 ghost use Rattle.paxos_packets.specs.declared.entry.Entry.TheVariants.{Boot};
@@ -12,7 +12,7 @@ ghost use Rattle.cluster_world.specs.Examples.{lost_log, duel_log, crash_packets
 ghost use Rattle.cluster_world.specs.Owed.{PendingIsOwed, TakenAreCounted, PendingLostsAreLive, PendingIsFew, DownIsRows};
 ghost use Rattle.cluster_world.specs.Proposers.{RoundsWereSent, ProposalsFollow};
 ghost use Rattle.cluster_world.specs.Majorities.{MajoritiesHold, NewBallotsAreFresh};
-ghost use Rattle.cluster_world.specs.Rescue.{NoDeadEnd};
+ghost use Rattle.cluster_world.specs.Rescue.{NoDeadEnd, RescuesHaveRoom};
 ghost use Rattle.cluster_world.specs.Scripts.{ScriptsArePlayed};
 ghost use Rattle.cluster_world.specs.Steps.{SentIsAmong, NodesAreMembers, OneEventMore, EventGoes, EventStays};
 ghost use Rattle.cluster_world.specs.Told.{HandedIsOne};
@@ -95,6 +95,12 @@ pub fn at_most_once<B: Body>()
     ensures losses { LostsWereSuspected B B.same }
 {}
 
+/// Each entry of a log names a node from 1 to 7 and a boot from 1 to 2^48 - 1, and an Item a number of that range and a transport from 1. So
+/// what a log is saved as is read again as a log that stands for it (`laws::snapshots` of `replica_machine`).
+pub fn logs_are_given<B: Body>()
+    ensures { LogsAreGiven B B.same }
+{}
+
 /// What is pending at a node that is up is what it owes and Losts: its own Boot until its boot is live by its log, and the Items of the acts
 /// that it took in this boot and that did not take effect yet, in their order. Each of those Losts names another node's live boot. No more
 /// than 1,024 entries are pending. A node that is down has its rows alone.
@@ -133,6 +139,12 @@ pub fn new_ballots_are_fresh<B: Body>()
 /// up bring an act to be applied there. They restart the node at most once, and take no other node down.
 pub fn no_dead_end<B: Body>()
     ensures { NoDeadEnd B B.same }
+{}
+
+/// Where no refusal stands, a rescue has room: after the rounds and slots that its crew holds there are those that its course needs, so the
+/// course is listed unless memory runs out (`Crew::course` of `world_rescue`, clause `room`).
+pub fn rescues_have_room<B: Body>()
+    ensures { RescuesHaveRoom B B.same }
 {}
 
 /// A script, line by line, leads to the world of its events, with each flush written out as its deliveries.

@@ -1,6 +1,7 @@
 //! Which nodes take part in a rescue, and whether there is one (docs/CONSENSUS.md, "No dead end").
 
-ghost use Rattle.std.specs.Prelude.{◌≡◌, ◌<◌, ◌≤◌, ◌+◌, if◌then◌else◌, List, ◌++◌, map, IfOk, IfSome, OnOk, is_some, option_copied, nat_lt};
+ghost use Rattle.std.specs.Prelude.{◌≡◌, ◌<◌, ◌≤◌, ◌+◌, if◌then◌else◌, List, None, ◌++◌, map, IfOk, IfSome, IsOkUnless, OnOk, is_some};
+ghost use Rattle.std.specs.Prelude.{option_copied, nat_lt};
 ghost use Rattle.std.specs.List.{list_any};
 ghost use Rattle.paxos_node.specs.declared.event.Event as occurred;
 ghost use Rattle.paxos_node.specs.Events.{last_number};
@@ -11,7 +12,8 @@ ghost use Rattle.paxos_proposer.specs.Proposer.{round_of};
 ghost use Rattle.replica_machine.specs.Log.{machine_from};
 ghost use Rattle.cluster_world.specs.Helpers.{helper_at, helpers_of, seat_at};
 ghost use Rattle.cluster_world.specs.Rescue.{any_member, is_crowded, round_held, last_rescue_round, last_rescue_slot};
-ghost use Rattle.cluster_world.specs.Rescue.{rescue_refused, Refuses, MayBeRescued, Rescues};
+ghost use Rattle.cluster_world.specs.Rescue.{rescue_refused, HasRoom, Refuses, MayBeRescued, Rescues};
+ghost use Rattle.cluster_world.specs.declared.fault.RescueFault.TheVariants as fault;
 ghost use Rattle.cluster_world.specs.StandsAt.{StandsAt};
 ghost use Rattle.cluster_world.specs.World as worlds;
 ghost use Rattle.cluster_world.specs.World.{node_at, played};
@@ -39,8 +41,9 @@ impl<M: Machine> World<M> {
     /// has taken fewer than 2^48 - 1 acts in its boot, and its boot is below 2^48 - 1; no other premise is made.
     ///
     /// Returns `NoMajority` if no majority is up, `NodeDown` if the node is down or not a member, `NoRoom` if a node that is up holds a round
-    /// above 2^48 - 8 or a vote in a slot above 2^40 - 4,097, in this order, and `Memory` last. Looks at what the nodes that are up have
-    /// beyond this node's log; only if the node has to restart the log is in the events.
+    /// above 2^48 - 8 or a vote in a slot above 2^40 - 4,097, in this order, and `Memory` last, only if memory runs out: the events lack no
+    /// round and no slot then. Looks at what the nodes that are up have beyond this node's log; only if the node has to restart the log is
+    /// in the events.
     pub fn rescue(
         &self,
         node: u8,
@@ -56,6 +59,7 @@ impl<M: Machine> World<M> {
             IfOk result (λ events. Rescues M.Body.same self.now.members (played M.Body.same self.now.members es) node number body events.items) }
     {
         laws::no_dead_end::<M::Body>();
+        laws::rescues_have_room::<M::Body>();
         self.count();
         let done = self.rescue_by(node, number, &body);
         drop(body);
@@ -69,7 +73,9 @@ impl<M: Machine> World<M> {
         number: u32,
         body: &M::Body,
     ) -> Result<Vec<Event<M::Body>>, RescueFault>
-        ensures refused { (w : worlds.World M.Body) → self.now.nodes ≡ w.nodes → Refuses (rescue_refused self.now.members w node) result }
+        ensures refused { (w : worlds.World M.Body) → self.now.nodes ≡ w.nodes →
+            (rescue_refused self.now.members w node ≡ None → HasRoom (crew_of self.now.members (seat_at self.now.nodes node)
+            (helpers_of self.now.nodes node self.now.members))) → Refuses (rescue_refused self.now.members w node) result }
         ensures course { (node_at self.now.nodes node).rows.boot < last_boot → (node_at self.now.nodes node).taken < last_number →
             IfOk result (λ events. events.items ≡ course M.Body.same (crew_of self.now.members (seat_at self.now.nodes node)
             (helpers_of self.now.nodes node self.now.members)) (act number body.now)) }
@@ -83,10 +89,7 @@ impl<M: Machine> World<M> {
         if self.is_crowded() {
             return Err(RescueFault::NoRoom);
         }
-        let Ok(events) = self.events_for(own, node, number, body) else {
-            return Err(RescueFault::Memory);
-        };
-        Ok(events)
+        self.events_for(own, node, number, body)
     }
 
     // Returns how many members there are.
@@ -214,9 +217,11 @@ impl<M: Machine> World<M> {
         node: u8,
         number: u32,
         body: &M::Body,
-    ) -> Result<Vec<Event<M::Body>>, Memory>
-        ensures { own.now.state.rows.boot < last_boot → own.now.state.taken < last_number → IfOk result (λ events. events.items
+    ) -> Result<Vec<Event<M::Body>>, RescueFault>
+        ensures course { own.now.state.rows.boot < last_boot → own.now.state.taken < last_number → IfOk result (λ events. events.items
             ≡ course M.Body.same (crew_of self.now.members (seat_of own.now) (helpers_of self.now.nodes node self.now.members)) (act number body.now)) }
+        ensures room { HasRoom (crew_of self.now.members (seat_of own.now) (helpers_of self.now.nodes node self.now.members)) →
+            IsOkUnless result fault.Memory }
     {
         let helpers = self.helpers(node)?;
         let mut events = Vec::new(self.alloc());

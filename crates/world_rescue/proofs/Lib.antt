@@ -1,4 +1,6 @@
 pub mod Casting
 pub mod Coursing
 pub mod Ending
+pub mod Fitting
+pub mod Lacking
 pub mod Listing

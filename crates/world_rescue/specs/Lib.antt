@@ -1,3 +1,4 @@
 pub mod Casting
 pub mod Course
 pub mod Parts
+pub mod Room

@@ -1,18 +1,24 @@
-ghost use Rattle.std.specs.Prelude.{◌≡◌, ◌<◌, ◌^◌, ℕ, suc, ◌++◌, ◌∷◌, [], map, IfOk, OnOk};
+ghost use Rattle.std.specs.Prelude.{◌≡◌, ◌<◌, ◌^◌, ℕ, suc, true, ◌++◌, ◌∷◌, [], filter, map, IfOk, OnOk, IsOkUnless};
 ghost use Rattle.paxos_node.specs.Events.{last_number};
 ghost use Rattle.paxos_packets.specs.Rows.{last_boot};
+ghost use Rattle.paxos_packets.specs.declared.ballot.Ballot as ballots;
+ghost use Rattle.paxos_packets.specs.declared.entry.Entry as entries;
+ghost use Rattle.paxos_packets.specs.declared.entry.Entry.TheVariants.{Item};
 ghost use Rattle.paxos_proposer.specs.Proposals.{behind};
-ghost use Rattle.paxos_proposer.specs.Proposer.{own_ballot};
+ghost use Rattle.paxos_proposer.specs.Proposer.{own_ballot, round_end};
 ghost use Rattle.paxos_proposer.specs.Proposing.{proposals_of};
 ghost use Rattle.paxos_proposer.specs.State.{begun, saw, role_in};
 ghost use Rattle.replica_machine.specs.declared.roll.Standing.{Standing};
-ghost use Rattle.replica_machine.specs.Roll.{HasStandings};
-ghost use Rattle.world_rescue.specs.Course.{act, seat_of, look, seen_then, lead, led, pass, take, item_of, course};
+ghost use Rattle.replica_machine.specs.Roll.{HasStandings, is_wanted_by};
+ghost use Rattle.world_rescue.specs.Course.{act, seat_of, look, seen_then, lead, led, pass, propose_new, take, course};
 ghost use Rattle.world_rescue.specs.Parts.{crew_of, goes_on_from, comes_back_from};
+ghost use Rattle.world_rescue.specs.Room.{has_slots, IsUpTo, LeavesRoom};
+ghost use Rattle.world_rescue.specs.declared.fault.CourseFault.TheVariants as fault;
 ghost use Rattle.paxos_planning.specs.Node.{log_length};
 
 use crate::bid::{Bid, lead, propose_new};
 use crate::falling::{falls, wanted};
+use crate::fault::CourseFault;
 use crate::visits::{ask_all_in_vain, happen, pass};
 use paxos_node::{Event, Node};
 use paxos_packets::{Ballot, Body, Entries, Entry, Members, Memory, Vote};
@@ -61,11 +67,20 @@ impl<'a, B: Body> Crew<'a, B> {
         }
     }
 
-    /// Appends the events by which the node applies the act `body` of its transport with this number, if a boot and an act are left to it. On
-    /// `Memory` some of them may be appended. It copies nothing of the node's log, unless the node has to go down.
-    pub fn course(&self, events: &mut Vec<Event<B>>, number: u32, body: &B) -> Result<(), Memory>
-        ensures { self.now.own.node.rows.boot < last_boot → self.now.own.node.taken < last_number →
+    /// Appends the events by which the node applies the act `body` of its transport with this number, if a boot and an act are left to it.
+    ///
+    /// Fails with `NoRoom` if no round is left for one of its ballots, or no slot for an entry, which does not happen where the rounds and
+    /// slots that the crew holds leave room, and with `Memory`. After a fault some of the events may be appended. It copies nothing of the
+    /// node's log, unless the node has to go down.
+    pub fn course(
+        &self,
+        events: &mut Vec<Event<B>>,
+        number: u32,
+        body: &B,
+    ) -> Result<(), CourseFault>
+        ensures course { self.now.own.node.rows.boot < last_boot → self.now.own.node.taken < last_number →
             OnOk result (events.new.items ≡ events.old.items ++ course B.same self.now (act number body.now)) }
+        ensures room { (round slot most : ℕ) → IsUpTo round slot most self.now → LeavesRoom round slot most → IsOkUnless result fault.Memory }
     {
         let applied = self.own.applied();
         let seen = self.look(events, applied + 1)?;
@@ -86,7 +101,7 @@ impl<'a, B: Body> Crew<'a, B> {
         events: &mut Vec<Event<B>>,
         proposer: &mut Proposer<B>,
         applied: u64,
-    ) -> Result<Ballot, Memory>
+    ) -> Result<Ballot, CourseFault>
         requires me { proposer.old.state.me ≡ self.now.own.number }
         requires members { proposer.old.state.members ≡ self.now.members }
         requires applied { applied ≡ log_length self.now.own.node }
@@ -97,6 +112,9 @@ impl<'a, B: Body> Crew<'a, B> {
         ensures role { OnOk result (role_in proposer.new ≡ led B.same self.now.members applied self.now.own.node.pending
             (own_ballot self.now.own.number proposer.old.state.proposer) (suc applied) [] self.now.own self.now.helpers) }
         ensures ballot { IfOk result (λ ballot. ballot ≡ own_ballot self.now.own.number proposer.old.state.proposer) }
+        ensures room { suc proposer.old.state.proposer.seen < round_end →
+            has_slots (led B.same self.now.members applied self.now.own.node.pending (own_ballot self.now.own.number proposer.old.state.proposer)
+            (suc applied) [] self.now.own self.now.helpers) ≡ true → IsOkUnless result fault.Memory }
     {
         let bid = Bid {
             applied,
@@ -111,13 +129,14 @@ impl<'a, B: Body> Crew<'a, B> {
 
     // Begins a ballot that need not be promised, so that the node sees the rounds that the helpers promised. Returns the greatest round that
     // it saw then.
-    fn look(&self, events: &mut Vec<Event<B>>, first: u64) -> Result<u64, Memory>
+    fn look(&self, events: &mut Vec<Event<B>>, first: u64) -> Result<u64, CourseFault>
         ensures events { OnOk result (events.new.items
             ≡ events.old.items ++ look (own_ballot self.now.own.number self.now.own.node.proposer) first self.now.helpers) }
         ensures seen { IfOk result (λ round. round ≡ seen_then (own_ballot self.now.own.number self.now.own.node.proposer) self.now.helpers) }
+        ensures room { suc self.now.own.node.proposer.seen < round_end → IsOkUnless result fault.Memory }
     {
         let Ok(ballot) = self.own.next_ballot() else {
-            return Err(Memory);
+            return Err(CourseFault::NoRoom);
         };
         happen(
             events,
@@ -125,14 +144,15 @@ impl<'a, B: Body> Crew<'a, B> {
                 node: self.own.me(),
             },
         )?;
-        ask_all_in_vain(events, self.helpers, ballot, first)
+        Ok(ask_all_in_vain(events, self.helpers, ballot, first)?)
     }
 
     // Has each helper cast each of these votes, and brings them to the node.
-    fn pass(&self, events: &mut Vec<Event<B>>, votes: &[Vote<B>]) -> Result<(), Memory>
-        ensures { OnOk result (events.new.items ≡ events.old.items ++ pass self.now.own.number self.now.helpers votes.now) }
+    fn pass(&self, events: &mut Vec<Event<B>>, votes: &[Vote<B>]) -> Result<(), CourseFault>
+        ensures events { OnOk result (events.new.items ≡ events.old.items ++ pass self.now.own.number self.now.helpers votes.now) }
+        ensures memory { IsOkUnless result fault.Memory }
     {
-        pass(self.alloc, events, self.own.me(), votes, self.helpers)
+        Ok(pass(self.alloc, events, self.own.me(), votes, self.helpers)?)
     }
 
     // The rest if the node stays up: it takes the act, and proposes what is still pending, the act last, after this many entries.
@@ -144,10 +164,12 @@ impl<'a, B: Body> Crew<'a, B> {
         log: u64,
         number: u32,
         body: &B,
-    ) -> Result<(), Memory>
-        ensures { (stands : ℕ → Standing) → HasStandings stands roll.now → self.now.own.node.taken < last_number →
+    ) -> Result<(), CourseFault>
+        ensures course { (stands : ℕ → Standing) → HasStandings stands roll.now → self.now.own.node.taken < last_number →
             OnOk result (events.new.items ≡ events.old.items
             ++ goes_on_from B.same self.now (act number body.now) stands log (role_in proposer.old)) }
+        ensures room { (stands : ℕ → Standing) → HasStandings stands roll.now → ((e : entries.Entry B) → has_slots (propose_new B.same log
+            (filter (is_wanted_by stands) self.now.own.node.pending ++ e ∷ []) (role_in proposer.old)) ≡ true) → IsOkUnless result fault.Memory }
     {
         self.take(events, number, body)?;
         let mut pending = wanted(self.alloc, roll, self.own.pending())?;
@@ -170,16 +192,20 @@ impl<'a, B: Body> Crew<'a, B> {
         cast: &[Vote<B>],
         number: u32,
         body: &B,
-    ) -> Result<(), Memory>
-        ensures { self.now.own.node.rows.boot < last_boot →
+    ) -> Result<(), CourseFault>
+        ensures course { self.now.own.node.rows.boot < last_boot →
             OnOk result (events.new.items ≡ events.old.items ++ comes_back_from B.same self.now (act number body.now) ballot cast.now) }
+        ensures room { suc ballot.round < round_end → ((b : ballots.Ballot) (d e : entries.Entry B) →
+            has_slots (led B.same self.now.members 0 (d ∷ e ∷ []) b 1 cast.now self.now.own self.now.helpers) ≡ true) → IsOkUnless result fault.Memory }
     {
         let node = self.own.me();
         happen(events, Event::Restart { node })?;
         self.take(events, number, body)?;
         let boot = next(self.own.boot());
         let mut pending = Entries::new(self.alloc);
-        pending.push(Entry::Boot { node, boot })?;
+        let Ok(()) = pending.push(Entry::Boot { node, boot }) else {
+            return Err(CourseFault::Memory);
+        };
         self.wait(&mut pending, boot, 1, number, body)?;
         let mut proposer = self.proposer(ballot.round);
         let bid = Bid {
@@ -232,8 +258,7 @@ impl<'a, B: Body> Crew<'a, B> {
         number: u32,
         body: &B,
     ) -> Result<(), Memory>
-        ensures { (taken : ℕ) → seq ≡ suc taken →
-            OnOk result (pending.new ≡ pending.old ++ item_of self.now.own.number boot taken (act number body.now) ∷ []) }
+        ensures { OnOk result (pending.new ≡ pending.old ++ Item self.now.own.number boot seq number body.now ∷ []) }
     {
         let body = body.copy(self.alloc)?;
         let item = Entry::Item {

@@ -5,8 +5,10 @@
 mod bid;
 mod crew;
 mod falling;
+mod fault;
 mod visits;
 
 pub use crew::Crew;
+pub use fault::CourseFault;
 pub use paxos_node::{Event, Node};
-pub use paxos_packets::{Body, Members, Memory};
+pub use paxos_packets::{Body, Members};

@@ -1,0 +1,104 @@
+-- Where what a caller proposes to its end had rounds and slots, so had what it calls: the premise of a caller's clause gives that of the call's.
+use Rattle.std.proofs.Common.{◌≡◌, inl, inr, ℕ, suc, ◌+◌, ◌<◌, max, Bool, true, false, sym, ap, ◌∙◌, subst, arith}
+use Rattle.std.proofs.Common.{List, [], ◌∷◌, drop, length, get_or, Option, Some, None, Result, Ok, Err}
+use Rattle.std.specs.Prelude.{IsErrAnd, IsOkUnless, fold, map, if◌then◌else◌}
+use Rattle.std.proofs.lemmas.Bool.{cases_Bool}
+use Rattle.std.proofs.lemmas.Result.{err_from_is_err_and}
+use Rattle.paxos_packets.specs.declared.ballot.Ballot.{Ballot}
+use Rattle.paxos_packets.specs.declared.entry.Entry.{Entry}
+use Rattle.paxos_packets.specs.declared.vote.Vote.{Vote}
+use Rattle.paxos_proposer.specs.Promises.{called_by}
+use Rattle.paxos_proposer.specs.Proposals.{stands}
+use Rattle.paxos_proposer.specs.Proposer.{own_ballot, is_leading, slots_spent, asking, submitted}
+use Rattle.paxos_proposer.specs.Role.{Role}
+use Rattle.paxos_proposer.specs.State.{State, begun, saw, started, after_promise, with_role}
+use Rattle.world_rescue.proofs.Fitting.{none_left, new_back, hears_now}
+use Rattle.world_rescue.proofs.Listing.{rest}
+use Rattle.world_rescue.specs.Course.{Seat, votes_then, propose_all, propose_new, proposes, hears, led}
+use Rattle.world_rescue.specs.Room.{has_slots}
+use Rattle.world_rescue.specs.declared.fault.CourseFault.{CourseFault}
+use Rattle.world_rescue.specs.declared.fault.CourseFault.TheVariants as fault
+
+-- the fault of a call is handed on
+pub handed : {A : Type 0} (r : Result A CourseFault) (e : CourseFault) → IsErrAnd r (λ y. y ≡ e) → e ≡ fault.Memory → IsOkUnless r fault.Memory
+handed {A} r e h m =
+    let told = err_from_is_err_and r h in
+    subst (λ (s : Result A CourseFault). IsOkUnless s fault.Memory) (sym told.1) (told.2 ∙ m)
+
+-- a call that had to succeed did not
+pub is_no : false ≡ true → ⊥
+is_no e = cc
+
+module _ {B : Type 0} where
+  -- a leader has a slot for what it proposes
+  pub no_slot : (e : Entry B) (r : Role B) → is_leading r ≡ true → (slots_spent r ≡ false → ⊥) → has_slots (submitted e r) ≡ true → ⊥
+  no_slot e r l free h = elim (cases_Bool (slots_spent r)) [
+    | inl t ↦ none_left e r l t h
+    | inr f ↦ free f
+  ]
+
+  module _ (same : B → B → Bool) where
+    pub unless_new : (applied : ℕ) (e copy : Entry B) (r : Role B) → stands same applied r e ≡ false → copy ≡ e
+        → has_slots (propose_new same applied (e ∷ []) r) ≡ true → has_slots (submitted copy r) ≡ true
+    unless_new applied e copy r stays is h =
+        ap (λ (x : Entry B). has_slots (submitted x r)) is ∙ (ap (λ (t : Bool). has_slots (if t then r else submitted e r)) (sym stays) ∙ h)
+
+    pub proposes_first : (applied : ℕ) (pending : List (Entry B)) (called : Option (List (Entry B))) (es : List (Entry B)) (r : Role B) → called ≡ Some es
+        → has_slots (proposes same applied pending called r) ≡ true → has_slots (propose_all es r) ≡ true
+    proposes_first applied pending called es r is h =
+        new_back same applied pending (propose_all es r)
+        (ap (λ (o : Option (List (Entry B))). has_slots (proposes same applied pending o r)) (sym is) ∙ h)
+
+    pub proposes_then : (applied : ℕ) (pending : List (Entry B)) (called : Option (List (Entry B))) (es : List (Entry B)) (r : Role B) (old new : State B)
+        → called ≡ Some es → new ≡ with_role (propose_all es r) old → has_slots (proposes same applied pending called r) ≡ true
+        → has_slots (propose_new same applied pending new.proposer.role) ≡ true
+    proposes_then applied pending called es r old new is at h =
+        ap (λ (s : State B). has_slots (propose_new same applied pending s.proposer.role)) at
+        ∙ (ap (λ (o : Option (List (Entry B))). has_slots (proposes same applied pending o r)) (sym is) ∙ h)
+
+    pub hears_then : (applied : ℕ) (pending : List (Entry B)) (b : Ballot) (k me : ℕ) (votes told : List (Vote B)) (called : Option (List (Entry B)))
+        (old new : State B) → k ≡ me → votes ≡ told → called ≡ called_by old.members k b votes old.proposer.role → new ≡ after_promise k b votes old
+        → has_slots (hears same old.members applied pending b me told old.proposer.role) ≡ true
+        → has_slots (proposes same applied pending called new.proposer.role) ≡ true
+    hears_then applied pending b k me votes told called old new p q is at h =
+        (λ i. has_slots (proposes same applied pending (is i) (at i).proposer.role))
+        ∙ ((λ i. has_slots (hears same old.members applied pending b (p i) (q i) old.proposer.role)) ∙ h)
+
+    -- at one of the helpers
+    pub hears_at : {X : Type 0} (xs : List X) (seat : X → Seat B) (index : ℕ) (x : X) (applied : ℕ) (pending : List (Entry B)) (b : Ballot)
+        (votes : Seat B → List (Vote B)) (members0 members : ℕ) (r0 r : Role B) (s0 s : State B) → index < length xs → x ≡ get_or xs index x
+        → with_role (fold (λ r s. hears same members applied pending b s.number (votes s) r) r (map seat (drop index xs))) s
+        ≡ with_role (fold (λ r s. hears same members0 applied pending b s.number (votes s) r) r0 (map seat xs)) s0
+        → has_slots (fold (λ r s. hears same members0 applied pending b s.number (votes s) r) r0 (map seat xs)) ≡ true
+        → has_slots (hears same members applied pending b (seat x).number (votes (seat x)) r) ≡ true
+    hears_at {X} xs seat index x applied pending b votes members0 members r0 r s0 s l is so_far h =
+        hears_now same applied pending b votes members0 members (map seat xs) (map seat (drop index xs)) (map seat (drop (index + 1) xs)) (seat x) r0 r s0 s
+        so_far (ap (λ (ys : List X). map seat ys) (rest xs index x l is)) h
+
+    pub led_then : (applied : ℕ) (pending : List (Entry B)) (b : Ballot) (first : ℕ) (cast : List (Vote B)) (own : Seat B) (helpers : List (Seat B))
+        (votes : List (Vote B)) (old new : State B) → old.me ≡ own.number → b ≡ own_ballot old.me old.proposer → votes ≡ votes_then first cast own
+        → new ≡ started first votes old
+        → has_slots (led same old.members applied pending (own_ballot own.number old.proposer) first cast own helpers) ≡ true
+        → has_slots (fold (λ r s. hears same new.members applied pending b s.number (votes_then first cast s) r) new.proposer.role helpers) ≡ true
+    led_then applied pending b first cast own helpers votes old new me is told at h =
+        (λ i. has_slots (fold (λ r s. hears same (at i).members applied pending (is i) s.number (votes_then first cast s) r) (at i).proposer.role helpers))
+        ∙ ((λ i. has_slots (fold
+        (λ r s. hears same old.members applied pending (own_ballot (me i) old.proposer) s.number (votes_then first cast s) r)
+        (asking (me i) (own_ballot (me i) old.proposer) first (told i)) helpers))
+        ∙ h)
+
+    -- what the node leads by, as its caller knows it
+    pub led_same : (members m : ℕ) (applied : ℕ) (pending ps : List (Entry B)) (b c : Ballot) (first f : ℕ) (cast vs : List (Vote B)) (own o : Seat B)
+        (helpers hs : List (Seat B)) → members ≡ m → pending ≡ ps → b ≡ c → first ≡ f → cast ≡ vs → own ≡ o → helpers ≡ hs
+        → has_slots (led same m applied ps c f vs o hs) ≡ true → has_slots (led same members applied pending b first cast own helpers) ≡ true
+    led_same members m applied pending ps b c first f cast vs own o helpers hs p q r s t u v h =
+        (λ i. has_slots (led same (p i) applied (q i) (r i) (s i) (t i) (u i) (v i))) ∙ h
+
+-- a round that was seen
+pub saw_below : {B : Type 0} (n members round low end : ℕ) (s : State B) → s ≡ saw round (begun n members) → round ≡ low → suc low < end
+    → suc s.proposer.seen < end
+saw_below {B} n members round low end s is same l =
+    subst (λ (t : State B). suc t.proposer.seen < end) (sym is) (go round low same l)
+  where
+    go : (r k : ℕ) → r ≡ k → suc k < end → suc (max 0 r) < end
+    go r k e g = omega arith
