@@ -14,8 +14,11 @@ count_for k w = min (length (waiting k w)) 65535
 abbrev pub counts : {B : Type 0} → Waiting B → List ℕ
 counts w = count_for 1 w ∷ count_for 2 w ∷ count_for 3 w ∷ count_for 4 w ∷ count_for 5 w ∷ count_for 6 w ∷ count_for 7 w ∷ []
 
--- what is shown of an actor besides its last turn
+-- what is shown of an actor and its last turn, beside how many commits it has made
 pub record Shows {B M K : Type 0} (a : Acting B M K) (s : Seen) : Type 0 where
+  pub peer : s.from ≡ a.last.from
+  pub heard : s.heard ≡ a.last.heard
+  pub posted : s.posted ≡ a.last.posted
   pub applied : s.applied ≡ log_length a.node.state
   pub pending : s.pending ≡ nat_lt 0 (length a.node.state.pending)
   pub waits : s.waiting ≡ counts a.waiting

@@ -9,7 +9,7 @@ use paxos_packets::{Ballot, NodeSet};
 /// What a feed is given when it is asked for an event.
 #[derive(Clone, Copy)]
 pub struct Seen {
-    /// Whose packet the last turn treated, if it treated one.
+    /// The peer from which the last turn fetched a packet, if it fetched one.
     pub from: Option<u8>,
     /// What that packet showed.
     pub heard: Option<Heard>,

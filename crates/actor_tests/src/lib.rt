@@ -32,6 +32,8 @@ mod rotating;
 #[cfg(test)]
 mod sessions;
 #[cfg(test)]
+mod signs;
+#[cfg(test)]
 mod telling;
 #[cfg(test)]
 mod threads;

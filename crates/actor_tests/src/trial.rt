@@ -3,6 +3,7 @@ use crate::counting::{Counting, Failing, fails, serve_and_leave};
 use crate::crashing::outlives;
 use crate::refusing::{begins_again, first_does, refuses};
 use crate::rotating::rotates;
+use crate::signs::shows;
 use std::alloc::Global;
 use std::process::Abort;
 use store_keeper::MemKeeper;
@@ -18,6 +19,7 @@ pub enum Trial {
     Fills,
     Rests,
     Rotates,
+    Shows,
     Restarts,
     Refuses,
 }
@@ -51,6 +53,7 @@ impl<R: Abort> Plays<Count, MemKeeper<Number>> for Trying<&R> {
             Trial::Fills => first_does(rt, actors.as_mut_slice(), true),
             Trial::Rests => first_does(rt, actors.as_mut_slice(), false),
             Trial::Rotates => rotates(rt, actors.as_mut_slice()),
+            Trial::Shows => shows(rt, actors.as_mut_slice()),
             Trial::Restarts => try_first(rt, alloc, actors, true),
             Trial::Refuses => try_first(rt, alloc, actors, false),
         }

@@ -22,7 +22,7 @@ use Rattle.node_actor.specs.declared.compare.Fit.{Fit}
 use Rattle.node_actor.specs.declared.compare.Fit.TheVariants.{Left, Meant, Others}
 use Rattle.node_actor.specs.Posts.{Posted}
 use Rattle.node_actor.specs.Beginning.{IsLater, MayBegin, from_left, from_meant, IsEmpty, Boots}
-use Rattle.node_actor.specs.Preparing.{judge_of, Loads, Fits, again, Found, found_left, found_meant, IsWorn, worn_left, worn_meant}
+use Rattle.node_actor.specs.Preparing.{judge_of, Loads, again, Found, found_left, found_meant, IsWorn, worn_left, worn_meant}
 use Rattle.node_actor.specs.Preparing.{Refuses, others, worn, strayed, Readied}
 
 -- rows beside others
@@ -144,12 +144,7 @@ module _ {B Y K : Type 0} (same : B → B → Bool) (holds finds : K → Rows B 
 
 module _ {B K : Type 0} (same : B → B → Bool) (holds finds : K → Rows B → Type 0) (is_faithful : K → Type 0) (failures : K → ℕ)
     (p : Posted B) (old mid : K) where
-  pub fits_of : (r : Rows B) (m : Bool) → Found same holds finds is_faithful failures p old mid r m
-      → Fits same holds finds is_faithful failures p old mid
-  fits_of r m (found_left k some loads fits is counts) = again k r some loads (λ e. let both : Left ≡ Others = sym fits ∙ e in absurd cc)
-  fits_of r m (found_meant k some loads fits is counts) = again k r some loads (λ e. let both : Meant ≡ Others = sym fits ∙ e in absurd cc)
-
-  loads_of : (r : Rows B) (m : Bool) → Found same holds finds is_faithful failures p old mid r m
+  pub loads_of : (r : Rows B) (m : Bool) → Found same holds finds is_faithful failures p old mid r m
       → Loads same holds finds is_faithful failures old mid r
   loads_of r m (found_left k some loads fits is counts) = loads
   loads_of r m (found_meant k some loads fits is counts) = loads
@@ -167,7 +162,7 @@ module _ {B K : Type 0} (same : B → B → Bool) (holds finds : K → Rows B �
       → Boots holds is_faithful mid new x → ((y : Rows B) → holds mid y → FindsOr finds mid new (raised y)) → is_later same r x ≡ false
       → Refuses same holds finds is_faithful failures {Y = Y} p old new (Keeper store.Damaged)
   strayed_of new ok r x m found boots finds_or later =
-      strayed mid (fits_of r m found)
+      strayed mid (again r m found)
       (λ f. false≢true (sym later ∙ subst (λ y. is_later same r y ≡ true) (sym (boots.booted f r (loads_of r m found).held))
       (later_raised same ok r)))
       (record { may = λ e. absurd cc; found = finds_or })
@@ -180,7 +175,7 @@ module _ {B K : Type 0} (same : B → B → Bool) (holds finds : K → Rows B �
   readied_again is_failed new ok r x w m found boots finds_or faithful whole empty later =
       record {
         mid = mid;
-        fits = fits_of r m found;
+        fits = again r m found;
         found = finds_or;
         faithful = faithful;
         boots = record {

@@ -8,16 +8,18 @@ use Rattle.mail_table.specs.Boxes.{Follows}
 use Rattle.mail_table.specs.Seats.{Seated}
 use Rattle.actor_parts.specs.Parts.{Parted, IsPrefixOf, IsPlan, IsSound}
 use Rattle.actor_parts.proofs.Carrying.{prefix_to}
-use Rattle.node_actor.specs.Actor.{acting, IsSeated}
+use Rattle.node_actor.specs.Actor.{acting, acting_since, IsSeated}
+use Rattle.node_actor.specs.declared.turning.LastTurn.{LastTurn}
 use Rattle.node_actor.specs.Views.{View, seen, StandsFor}
 
 module _ {B M K : Type 0} where
   -- what is left of an actor is what is left of its view
-  pub left_of : (same : B → B → Bool) (holds : K → Rows B → Type 0) (is_failed : K → Bool) (p : Parted B M K) (s : Seated B) (v : View B)
-      → IsSound same holds is_failed p → IsSeated same (acting p s) → StandsFor (acting p s) v
+  pub left_of : (same : B → B → Bool) (holds : K → Rows B → Type 0) (is_failed : K → Bool) (l : LastTurn) (p : Parted B M K) (s : Seated B)
+      (v : View B)
+      → IsSound same holds is_failed p → IsSeated same (acting p s) → StandsFor (acting_since l p s) v
       → LeftOf same (record { me = p.waiting.me; members = p.waiting.members; rows = Some p.node.state.rows; failed = p.failed; seat = s })
       v
-  left_of same holds is_failed p s v sound seated stands =
+  left_of same holds is_failed l p s v sound seated stands =
       record {
         seat = stands.seat;
         rows = ap (λ x. Some x.rows) stands.node;
@@ -42,10 +44,10 @@ module _ {B M K : Type 0} where
 
   -- what an actor shows of its log is a beginning of the view's
   pub shown_front : (same : B → B → Bool) (holds : K → Rows B → Type 0) (is_failed : K
-      → Bool) (p : Parted B M K) (s : Seated B) (v : View B)
-      → IsSound same holds is_failed p → StandsFor (acting p s) v → IsPrefixOf (if p.node.state.up then p.log.applied else [])
+      → Bool) (l : LastTurn) (p : Parted B M K) (s : Seated B) (v : View B)
+      → IsSound same holds is_failed p → StandsFor (acting_since l p s) v → IsPrefixOf (if p.node.state.up then p.log.applied else [])
       (seen v).node.applied
-  shown_front same holds is_failed p s v sound stands = by_up p.node.state.up refl
+  shown_front same holds is_failed l p s v sound stands = by_up p.node.state.up refl
     where
       by_up : (b : Bool) → p.node.state.up ≡ b → IsPrefixOf (if b then p.log.applied else []) (seen v).node.applied
       by_up true e = prefix_to p.log.applied p.node.state.applied (seen v).node.applied (sound.front e) (ap (λ x. x.applied) stands.node)

@@ -4,6 +4,7 @@ mod Restarting
 mod Sound
 mod Carrying
 mod Seating
+mod Since
 mod Viewing
 mod Leaving
 mod Tries

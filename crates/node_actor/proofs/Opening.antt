@@ -62,6 +62,7 @@ module _ {B M K : Type 0} (same : B → B → Bool) (holds : K → Rows B → Ty
         node = b.node.state;
         who = (b.node.me, b.node.members);
         waits = b.empty.waits;
+        last = refl;
         fresh = refl;
         follows = follows;
       }

@@ -41,6 +41,7 @@ use Rattle.std.proofs.Common.{eqb}
 use Rattle.paxos_node.specs.Plans.{plans}
 use Rattle.paxos_node.specs.Adopting.{Planned}
 use Rattle.node_actor.specs.Posts.{advanced}
+use Rattle.node_actor.proofs.Booting.{loads_of}
 use Rattle.node_actor.proofs.Renewing.{rows_behind, rows_of_some}
 
 -- what is there once a boot has begun
@@ -50,7 +51,7 @@ module _ {B K : Type 0} (same : B → B → Bool) (holds finds : K → Rows B �
     (r : Readied same holds finds is_faithful is_failed failures p old new ready) where
   pub refused_late : {Y : Type 0} → Refuses same holds finds is_faithful failures {Y = Y} p old new Memory
   refused_late {Y} =
-      unbooted Memory r.mid r.fits (record { may = tt; found = r.found })
+      unbooted Memory r.mid (λ e. absurd cc) r.fits (record { may = tt; found = r.found })
       (record { faithful = r.faithful; sound = λ f x held e. absurd cc })
 
   abbrev renews_of : (s : Seated B) → s ≡ renewed ready.rows (seat_before ready.meant p.failed p.seat)
@@ -248,17 +249,18 @@ module _ {B K : Type 0} (same : B → B → Bool) (holds finds : K → Rows B �
   pub exact_of : {Y : Type 0} (old new : K) (f : ActorFault Y) (r : Rows B) → Refuses same holds finds is_faithful failures p old new f
       → holds old r → is_faithful new
       → f ≡ Keeper store.Damaged → HasOthers same p r
-  exact_of old new (Keeper x) r (unread f stays counted sound) held true_to is = absurd (sound true_to r held
+  exact_of old new (Keeper x) r (unread k f some stays counted sound) held true_to is = absurd (sound true_to r held
       (keeper_is x store.Damaged is))
   exact_of old new (Keeper store.Damaged) r (others k x some loads fit) held true_to is =
       (k, some, subst (λ y. fit_of same p.failed k y ≡ Others) (loads.right true_to r held) fit)
-  exact_of old new Memory r (unjudged x loads) held true_to is = absurd cc
+  exact_of old new Memory r (unjudged k x some loads other failed) held true_to is = absurd cc
   exact_of old new Worn r (worn w) held true_to is = absurd cc
-  exact_of old new f r (unbooted g mid fits starts whole) held true_to is = go fits
+  exact_of old new f r (unbooted g mid unworn fits starts whole) held true_to is = go fits
     where
       go : Fits same holds finds is_faithful failures p old mid → HasOthers same p r
-      go (anew none same_keeper) = absurd (whole.sound true_to r (subst (λ k. holds k r) (sym same_keeper) held) is)
-      go (again k x some loads fit) = absurd (whole.sound true_to x loads.held is)
+      go (anew none same_keeper counts) = absurd (whole.sound true_to r (subst (λ k. holds k r) (sym same_keeper) held) is)
+      go (again x meant found) =
+          absurd (whole.sound true_to x (loads_of same holds finds is_faithful failures p old mid x meant found).held is)
   exact_of old new (Keeper store.Damaged) r (strayed mid fits none starts) held true_to is = absurd (none true_to)
 
   may_before : {Y : Type 0} (f : ActorFault Y) (a b c : ℕ) → a ≤ b → MayKeepFrom b c f → MayKeepFrom a c f
@@ -270,8 +272,9 @@ module _ {B K : Type 0} (same : B → B → Bool) (holds finds : K → Rows B �
   starts_behind : {Y : Type 0} (old mid new : K) (f : ActorFault Y) → Fits same holds finds is_faithful failures p old mid
       → Starts holds finds failures mid new f
       → Starts holds finds failures old new f
-  starts_behind old mid new f (anew none is) starts = subst (λ k. Starts holds finds failures k new f) is starts
-  starts_behind old mid new f (again k x some loads fit) starts =
+  starts_behind old mid new f (anew none is counts) starts = subst (λ k. Starts holds finds failures k new f) is starts
+  starts_behind old mid new f (again x meant found_there) starts =
+      let loads = loads_of same holds finds is_faithful failures p old mid x meant found_there in
       record {
         may = may_before f (failures old) (failures mid) (failures new) loads.stays.counted starts.may;
         found = λ r held y found. ⊎_elim (λ was. inl (loads.stays.found y was)) (λ next. inr next) (starts.found r
@@ -289,13 +292,13 @@ module _ {B K : Type 0} (same : B → B → Bool) (holds finds : K → Rows B �
   -- what is found then
   pub starts_of : {Y : Type 0} (old new : K) (f : ActorFault Y) → Refuses same holds finds is_faithful failures p old new f
       → Starts holds finds failures old new f
-  starts_of old new (Keeper f) (unread g stays counted sound) = record { may = counted; found = λ r held. stays_found old new r stays }
+  starts_of old new (Keeper f) (unread k g some stays counted sound) = record { may = counted; found = λ r held. stays_found old new r stays }
   starts_of old new (Keeper store.Damaged) (others k x some loads fit) = record {
     may = λ e. absurd cc;
     found = λ r held. stays_found old
         new r loads.stays;
   }
-  starts_of old new Memory (unjudged x loads) = record { may = tt; found = λ r held. stays_found old new r loads.stays }
+  starts_of old new Memory (unjudged k x some loads other failed) = record { may = tt; found = λ r held. stays_found old new r loads.stays }
   starts_of old new Worn (worn w) = record { may = tt; found = λ r held. worn_found old new r w }
-  starts_of old new f (unbooted g mid fits starts whole) = starts_behind old mid new f fits starts
+  starts_of old new f (unbooted g mid unworn fits starts whole) = starts_behind old mid new f fits starts
   starts_of old new (Keeper store.Damaged) (strayed mid fits none starts) = starts_behind old mid new (Keeper store.Damaged) fits starts

@@ -1,11 +1,11 @@
 -- What waits is posted, peer after peer.
 use Rattle.std.proofs.Common.{◌≡◌, ◌⊎◌, inl, inr, ℕ, zero, suc, ◌<◌, ◌≤◌, eqb, Bool, true, false, None, List, [], ◌∷◌, ◌++◌}
-use Rattle.std.proofs.Common.{arith, sym, ap, subst, ◌∙◌, refl, ⊎_elim}
-use Rattle.std.specs.Prelude.{All, Contains, if◌then◌else◌}
+use Rattle.std.proofs.Common.{arith, sym, ap, subst, ◌∙◌, refl, ⊎_elim, lt-ltb}
+use Rattle.std.specs.Prelude.{All, Contains, ◌||◌, ◌&&◌, ◌==◌, nat_lt, if◌then◌else◌}
 use Rattle.std.proofs.lemmas.Bool.{eq-eqb, ne_eqb, cond-true, cond-false, cases_eq, cases_lt}
 use Rattle.std.proofs.lemmas.List.Elements.{All-head, All-tail}
 use Rattle.cluster_world.specs.Has.{Has, here, there}
-use Rattle.paxos_packets.specs.Members.{IsMember}
+use Rattle.paxos_packets.specs.Members.{IsMember, is_in}
 use Rattle.paxos_packets.specs.declared.packet.Packet.{Packet}
 use Rattle.paxos_packets.specs.declared.rows.Rows.{Rows}
 use Rattle.actor_outboxes.specs.Outboxes.{IsPeer, waiting, TakenFor, WaitsFirst}
@@ -82,11 +82,13 @@ module _ {B M K : Type 0} where
       d (box_tells s.members s.part.me j s.part.me k here_me j_in here_me k_in e).1
 
   -- none waited
-  pub posts_none : (k : ℕ) (p q : Parted B M K) (s : Seated B) → q ≡ p → waiting k p.waiting ≡ [] → PostsOne k (acting p s) (acting q s) s s
+  pub posts_none : (k : ℕ) (p q : Parted B M K) (s : Seated B) → q ≡ p → waiting k p.waiting ≡ []
+      → PostsOne k false (acting p s) (acting q s) s s
   posts_none k p q s is none =
       record {
         beside = record { only = only_none p q is; table = refl; me = refl; seen = refl; events = refl; received = refl };
-        there = λ peer. none_due none (ap (λ (x : Parted B M K). waiting k x.waiting) is ∙ none) refl refl;
+        there = λ peer. none_due refl none (ap (λ (x : Parted B M K). waiting k x.waiting) is ∙ none) refl refl;
+        peer = λ won. absurd cc;
         others = λ j peer d. record { waits = ap (λ (x : Parted B M K). waiting j x.waiting) is; posted = refl; tries = refl };
       }
 
@@ -94,11 +96,13 @@ module _ {B M K : Type 0} where
       (member : IsMember p.node.members p.node.me) (to : IsMember p.node.members k) (only : OnlyWaiting p q)
       (taken : TakenFor k packet p.waiting q.waiting) where
     -- the try won
-    pub posts_won : (t : Seated B) → t ≡ knows (posting (post_box s k) packet s.part) s → PostsOne k (acting p s) (acting q t) s t
-    posts_won t is = subst (λ z. PostsOne k (acting p s) (acting q z) s z) (sym is) (record {
+    pub posts_won : (t : Seated B) → IsPeer p.node.me p.node.members k → t ≡ knows (posting (post_box s k) packet s.part) s
+        → PostsOne k true (acting p s) (acting q t) s t
+    posts_won t is_peer is = subst (λ z. PostsOne k true (acting p s) (acting q z) s z) (sym is) (record {
       beside = record { only = only; table = refl; me = refl; seen = refl; events = refl; received = refl };
-      there = λ peer. post_won packet (waiting k q.waiting) taken.first refl (through_more (post_box s k) s.part.posted packet)
+      there = λ peer. post_won packet (waiting k q.waiting) refl taken.first refl (through_more (post_box s k) s.part.posted packet)
           (tries_more (post_box s k) true s.part.tried);
+      peer = λ won. is_peer;
       others = λ j peer d. record {
         waits = taken.others j d;
         posted = through_else (post_box s j) (post_box s k) s.part.posted packet (boxes_apart same p s seated member j k peer.0 to d);
@@ -125,10 +129,12 @@ module _ {B M K : Type 0} where
           ∙ sym taken.first)) (λ d. others_again j d)
           (cases_eq j k)
 
-      pub posts_lost : (t : Seated B) → t ≡ knows (lost (post_box s k) s.part) s → PostsOne k (acting p s) (acting r t) s t
-      posts_lost t is = subst (λ z. PostsOne k (acting p s) (acting r z) s z) (sym is) (record {
+      pub posts_lost : (t : Seated B) → t ≡ knows (lost (post_box s k) s.part) s → PostsOne k false (acting p s) (acting r t) s t
+      posts_lost t is = subst (λ z. PostsOne k false (acting p s) (acting r z) s z) (sym is) (record {
         beside = record { only = only_on p q r only back; table = refl; me = refl; seen = refl; events = refl; received = refl };
-        there = λ peer. post_lost packet (waiting k q.waiting) taken.first waits_again refl (tries_more (post_box s k) false s.part.tried);
+        there = λ peer. post_lost packet (waiting k q.waiting) refl taken.first waits_again refl
+            (tries_more (post_box s k) false s.part.tried);
+        peer = λ won. absurd cc;
         others = λ j peer d. record {
           waits = others_again j d;
           posted = refl;
@@ -184,20 +190,54 @@ module _ {B M K : Type 0} (same : B → B → Bool) where
   first_sent k packet sent p q taken mine =
       has_in sent packet (All-head (Contains sent) packet (waiting k q.waiting) (subst (All (Contains sent)) taken.first mine))
 
+-- the set of those to which one was posted, with this node if one was posted to it
+
+pub record Notes (n : ℕ) (won : Bool) (set next : List Bool) : Type 0 where
+  pub here : is_in next n ≡ won
+  pub others : (k : ℕ) → (k ≡ n → ⊥) → is_in next k ≡ is_in set k
+
+notes_won : (n : ℕ) (set next : List Bool) → n < 8 → ((k : ℕ) → is_in next k ≡ (is_in set k || ((k == n) && nat_lt k 8)))
+    → Notes n true set next
+notes_won n set next small is =
+    record {
+      here = is n ∙ ap (λ b. is_in set n || (b && nat_lt n 8)) (eq-eqb n n refl) ∙ ap (λ b. is_in set n || b) (lt-ltb n 8 small)
+          ∙ or_true (is_in set n);
+      others = λ k d. is k ∙ ap (λ b. is_in set k || (b && nat_lt k 8)) (ne_eqb k n d) ∙ or_false (is_in set k);
+    }
+  where
+    or_true : (b : Bool) → (b || true) ≡ true
+    or_true true = refl
+    or_true false = refl
+
+    or_false : (b : Bool) → (b || false) ≡ b
+    or_false true = refl
+    or_false false = refl
+
+pub notes_of : (n : ℕ) (won : Bool) (set next : List Bool) → n < 8 → is_in set n ≡ false
+    → (won ≡ true → (k : ℕ) → is_in next k ≡ (is_in set k || ((k == n) && nat_lt k 8))) → (won ≡ false → next ≡ set) → Notes n won set next
+notes_of n true set next small none won stays = notes_won n set next small (won refl)
+notes_of n false set next small none won stays =
+    record { here = ap (λ s. is_in s n) (stays refl) ∙ none; others = λ k d. ap (λ s. is_in s k) (stays refl) }
+
 -- one peer after another
 
 module _ {B M K : Type 0} where
-  pub record PostsBelow (n : ℕ) (old new : Acting B M K) (v w : View B) : Type 0 where
+  pub record PostsBelow (n : ℕ) (set : List Bool) (old new : Acting B M K) (v w : View B) : Type 0 where
     pub beside : Beside old new v w
-    pub tried : (k : ℕ) → IsPeer old.node.me old.node.members k → k < n → PostsTo k old new v w
+    pub tried : (k : ℕ) → IsPeer old.node.me old.node.members k → k < n → PostsTo k (is_in set k) old new v w
     pub rest : (k : ℕ) → IsPeer old.node.me old.node.members k → n ≤ k → StaysTo k old new v w
+    pub above : (k : ℕ) → n ≤ k → is_in set k ≡ false
+    pub others : (k : ℕ) → (IsPeer old.node.me old.node.members k → ⊥) → is_in set k ≡ false
 
-  pub below_first : (p : Parted B M K) (s : Seated B) → PostsBelow 1 (acting p s) (acting p s) s s
-  below_first p s =
+  pub below_first : (set : List Bool) (p : Parted B M K) (s : Seated B) → ((k : ℕ) → is_in set k ≡ false)
+      → PostsBelow 1 set (acting p s) (acting p s) s s
+  below_first set p s none =
       record {
         beside = record { only = only_none p p refl; table = refl; me = refl; seen = refl; events = refl; received = refl };
         tried = λ k peer low. let least : 1 ≤ k = peer.0.0 in absurd (omega (arith, least, low));
         rest = λ k peer high. record { waits = refl; posted = refl; tries = refl };
+        above = λ k high. none k;
+        others = λ k alien. none k;
       }
 
   beside_on : (a b c : Parted B M K) (v w x : Seated B) → Beside (acting a v) (acting b w) v w → Beside (acting b w) (acting c x) w x
@@ -217,48 +257,69 @@ module _ {B M K : Type 0} where
       → StaysTo k (acting a v) (acting c x) v x
   stays_both k a b c v w x f g = record { waits = g.waits ∙ f.waits; posted = g.posted ∙ f.posted; tries = g.tries ∙ f.tries }
 
-  tried_before : (k : ℕ) (a b c : Parted B M K) (v w x : Seated B) → PostsTo k (acting a v) (acting b w) v w
+  tried_before : (k : ℕ) (won : Bool) (a b c : Parted B M K) (v w x : Seated B) → PostsTo k won (acting a v) (acting b w) v w
       → StaysTo k (acting b w) (acting c x) w x
-      → PostsTo k (acting a v) (acting c x) v x
-  tried_before k a b c v w x (none_due h i j l) g = none_due h (g.waits ∙ i) (g.posted ∙ j) (g.tries ∙ l)
-  tried_before k a b c v w x (post_won p rest h i j l) g = post_won p rest h (g.waits ∙ i) (g.posted ∙ j) (g.tries ∙ l)
-  tried_before k a b c v w x (post_lost p rest h i j l) g = post_lost p rest h (g.waits ∙ i) (g.posted ∙ j) (g.tries ∙ l)
+      → PostsTo k won (acting a v) (acting c x) v x
+  tried_before k won a b c v w x (none_due n h i j l) g = none_due n h (g.waits ∙ i) (g.posted ∙ j) (g.tries ∙ l)
+  tried_before k won a b c v w x (post_won p rest n h i j l) g = post_won p rest n h (g.waits ∙ i) (g.posted ∙ j) (g.tries ∙ l)
+  tried_before k won a b c v w x (post_lost p rest n h i j l) g = post_lost p rest n h (g.waits ∙ i) (g.posted ∙ j) (g.tries ∙ l)
 
-  tried_now : (k : ℕ) (a b c : Parted B M K) (v w x : Seated B) → StaysTo k (acting a v) (acting b w) v w
-      → PostsTo k (acting b w) (acting c x) w x
-      → PostsTo k (acting a v) (acting c x) v x
-  tried_now k a b c v w x f (none_due h i j l) = none_due (sym f.waits ∙ h) i (j ∙ f.posted) (l ∙ f.tries)
-  tried_now k a b c v w x f (post_won p rest h i j l) =
-      post_won p rest (sym f.waits ∙ h) i (j ∙ ap (λ ps. ps ++ p ∷ []) f.posted) (l ∙ ap (λ ts. ts ++ true ∷ []) f.tries)
-  tried_now k a b c v w x f (post_lost p rest h i j l) =
-      post_lost p rest (sym f.waits ∙ h) i (j ∙ f.posted) (l ∙ ap (λ ts. ts ++ false ∷ []) f.tries)
+  tried_now : (k : ℕ) (won : Bool) (a b c : Parted B M K) (v w x : Seated B) → StaysTo k (acting a v) (acting b w) v w
+      → PostsTo k won (acting b w) (acting c x) w x
+      → PostsTo k won (acting a v) (acting c x) v x
+  tried_now k won a b c v w x f (none_due n h i j l) = none_due n (sym f.waits ∙ h) i (j ∙ f.posted) (l ∙ f.tries)
+  tried_now k won a b c v w x f (post_won p rest n h i j l) =
+      post_won p rest n (sym f.waits ∙ h) i (j ∙ ap (λ ps. ps ++ p ∷ []) f.posted) (l ∙ ap (λ ts. ts ++ true ∷ []) f.tries)
+  tried_now k won a b c v w x f (post_lost p rest n h i j l) =
+      post_lost p rest n (sym f.waits ∙ h) i (j ∙ f.posted) (l ∙ ap (λ ts. ts ++ false ∷ []) f.tries)
 
   peer_on : (a b : Parted B M K) (v w : Seated B) → Beside (acting a v) (acting b w) v w → (k : ℕ) → IsPeer a.node.me a.node.members k
       → IsPeer b.node.me b.node.members k
   peer_on a b v w f k peer = subst (λ n. IsPeer n.me n.members k) (sym f.only.node) peer
 
-  pub below_next : (n : ℕ) (a b c : Parted B M K) (v w x : Seated B) → PostsBelow n (acting a v) (acting b w) v w
-      → PostsOne n (acting b w) (acting c x) w x → PostsBelow (suc n) (acting a v) (acting c x) v x
-  below_next n a b c v w x f g =
+  peer_back : (a b : Parted B M K) (v w : Seated B) → Beside (acting a v) (acting b w) v w → (k : ℕ) → IsPeer b.node.me b.node.members k
+      → IsPeer a.node.me a.node.members k
+  peer_back a b v w f k peer = subst (λ n. IsPeer n.me n.members k) f.only.node peer
+
+  pub below_next : (n : ℕ) (won : Bool) (set next : List Bool) (a b c : Parted B M K) (v w x : Seated B)
+      → PostsBelow n set (acting a v) (acting b w) v w → PostsOne n won (acting b w) (acting c x) w x → Notes n won set next
+      → PostsBelow (suc n) next (acting a v) (acting c x) v x
+  below_next n won set next a b c v w x f g notes =
       record {
         beside = beside_on a b c v w x f.beside g.beside;
         tried = λ k peer low. ⊎_elim
-            (λ (e : k ≡ n). tried_now k a b c v w x (f.rest k peer (omega (arith, e)))
-            (subst (λ j. PostsTo j (acting b w) (acting c x) w x) (sym e)
-            (g.there (subst (IsPeer b.node.me b.node.members) e (peer_on a b v w f.beside k peer)))))
-            (λ d. tried_before k a b c v w x (f.tried k peer (below k low d)) (g.others k (peer_on a b v w f.beside k peer) d))
+            (λ (e : k ≡ n). subst (λ z. PostsTo k z (acting a v) (acting c x) v x) (sym (ap (is_in next) e ∙ notes.here))
+            (tried_now k won a b c v w x (f.rest k peer (omega (arith, e)))
+            (subst (λ j. PostsTo j won (acting b w) (acting c x) w x) (sym e)
+            (g.there (subst (IsPeer b.node.me b.node.members) e (peer_on a b v w f.beside k peer))))))
+            (λ d. subst (λ z. PostsTo k z (acting a v) (acting c x) v x) (sym (notes.others k d))
+            (tried_before k (is_in set k) a b c v w x (f.tried k peer (below k low d)) (g.others k (peer_on a b v w f.beside k peer) d)))
             (cases_eq k n);
         rest = λ k peer high. stays_both k a b c v w x (f.rest k peer (omega (arith, high)))
             (g.others k (peer_on a b v w f.beside k peer) (λ e. omega (arith, high, e)));
+        above = λ k high. notes.others k (λ e. omega (arith, high, e)) ∙ f.above k (omega (arith, high));
+        others = λ k alien. ⊎_elim
+            (λ (e : k ≡ n). ap (is_in next) e ∙ notes.here ∙ not_won k e alien)
+            (λ d. notes.others k d ∙ f.others k alien)
+            (cases_eq k n);
       }
     where
+      not_won : (k : ℕ) → k ≡ n → (IsPeer a.node.me a.node.members k → ⊥) → won ≡ false
+      not_won k e alien = by_won won (λ y. g.peer y)
+        where
+          by_won : (y : Bool) → (y ≡ true → IsPeer b.node.me b.node.members n) → y ≡ false
+          by_won true peer = absurd (alien (peer_back a b v w f.beside k (subst (IsPeer b.node.me b.node.members) (sym e) (peer refl))))
+          by_won false peer = refl
+
       below : (k : ℕ) → k < suc n → (k ≡ n → ⊥) → k < n
       below k low d = ⊎_elim (λ l. l) (λ m. absurd (d (omega (arith, low, m)))) (cases_lt k n)
 
-  pub below_all : (n : ℕ) (a b : Parted B M K) (v w : Seated B) → a.node.members < n → PostsBelow n (acting a v) (acting b w) v w
-      → PostsAlone (acting a v) (acting b w) v w
-  below_all n a b v w all f = record {
+  pub below_all : (n : ℕ) (set : List Bool) (a b : Parted B M K) (v w : Seated B) → a.node.members < n
+      → PostsBelow n set (acting a v) (acting b w) v w
+      → PostsAlone set (acting a v) (acting b w) v w
+  below_all n set a b v w all f = record {
     beside = f.beside;
     each = λ k peer. f.tried k peer
         (let most : k ≤ a.node.members = peer.0.1 in omega (arith, most, all));
+    others = f.others;
   }

@@ -1,6 +1,6 @@
 -- What is made of an outcome, stated for the view that the event began with.
 use Rattle.std.proofs.Common.{◌≡◌, ◌⊎◌, inl, inr, ℕ, ◌≤◌, ◌-◌, Bool, not, true}
-use Rattle.std.proofs.Common.{false, eqb, Option, Some, None, Result, Ok, Err, List, [], ◌++◌}
+use Rattle.std.proofs.Common.{false, cond, eqb, Option, Some, None, Result, Ok, Err, List, [], ◌++◌}
 use Rattle.std.proofs.Common.{length, drop, arith, sym, ap, subst, ◌∙◌, refl}
 use Rattle.std.specs.Prelude.{◌==◌, ◌^◌, nat_lt, filter}
 use Rattle.std.proofs.lemmas.Bool.{ne_eqb, and_parts, and_from, eqb-true, eq-eqb, false≢true}
@@ -33,13 +33,15 @@ use Rattle.actor_parts.specs.Parts.{Parted, IsPlan, IsServing, IsSound}
 use Rattle.actor_parts.specs.Handing.{handed_out, handed_by}
 use Rattle.actor_parts.specs.Steps.{OnlyKeeper, next_node}
 use Rattle.actor_parts.proofs.Carrying.{Roomed, next_rows}
-use Rattle.node_actor.specs.Actor.{Acting, acting, IsSeated}
+use Rattle.node_actor.specs.Actor.{Acting, acting, acting_since, IsSeated}
+use Rattle.node_actor.specs.declared.turning.LastTurn.{LastTurn}
 use Rattle.node_actor.specs.Posts.{advanced}
-use Rattle.node_actor.specs.Steps.{may_advance, TakesOver, StopsBefore, StopsBehind, CarriesOut}
+use Rattle.node_actor.specs.Steps.{may_advance, fault_without_plan, TakesOver, StopsBefore, StopsBehind, CarriesOut}
 use Rattle.node_actor.specs.Turns.{Reaches}
 use Rattle.node_actor.specs.Views.{View, seen, is_for, posted_to, received_from, StandsFor, moved_by, received_by, Queues}
 use Rattle.node_actor.specs.Calls.{take_event, turn_event, is_own, is_worn, Goes, Stops, IsTaken, IsAgreed, Acts}
 use Rattle.node_actor.proofs.Seating.{peer_of, seated_stands}
+use Rattle.node_actor.proofs.Since.{since, acts_since}
 
 keep_short : {A : Type 0} (xs : List A) → length xs ≤ most_waiting → keep_last most_waiting xs ≡ xs
 keep_short xs h = let z : length xs - most_waiting ≡ 0 = omega (arith, h) in ap (λ k. drop k xs) z
@@ -257,7 +259,7 @@ module _ {B S Y M K : Type 0} (same : B → B → Bool) (from : S → Machine B 
           held = subst (λ x. holds new.keeper x.rows) (is_node ∙ ap (λ x. x.node) (sym (ap seen h.2.seat ∙ reach.seen))) h.2.held;
         },
       )
-      acts_of fresh short (Err Memory) h = (fresh, h.1, is_taken, agrees, inr (worn_by true h.0), stops h.2)
+      acts_of fresh short (Err Memory) h = (fresh, h.1, is_agreed h.0, stops h.2)
       acts_of fresh short (Err Failed) h = absurd h
       acts_of fresh short (Err Rounds) h = absurd h
       acts_of fresh short (Err Full) h = absurd h
@@ -280,6 +282,17 @@ module _ {B S Y M K : Type 0} (same : B → B → Bool) (from : S → Machine B 
             held = subst (λ x. holds p.keeper x.rows) (sym seated.node) serving.held;
           }
 
+      taken_here : (is_round_refused e p.node.state ≡ false) × (is_full_refused same e p.node.state ≡ false)
+          → IsTaken same from content holds finds failures (Some e) (acting p v) v
+      taken_here h = (ap (is_round_refused e) (sym stays_node) ∙ h.0, ap (is_full_refused same e) (sym stays_node) ∙ h.1)
+
+      agrees_here : (b : Bool) → (outcome_of same p.node.members e p.node.state).disagrees ≡ b
+          → (outcome_of same p.node.members e (seen v).node).disagrees ≡ b
+      agrees_here b h = ap (λ x. (outcome_of same p.node.members e x).disagrees) (sym stays_node) ∙ h
+
+      worn_here : (b : Bool) → may_advance s ≡ b → is_worn (Some e) v ≡ not b
+      worn_here b may = ap (λ n. not (nat_lt n (2 ^ 62))) (sym reach.events) ∙ ap not may
+
       pub disagree_acts : p.spoiled ≡ false → IsServing holds is_failed p → IsSeated same (acting (record p { spoiled = true }) s)
           → (is_round_refused e p.node.state ≡ false) × (is_full_refused same e p.node.state ≡ false)
           × ((outcome_of same p.node.members e p.node.state).disagrees ≡ true)
@@ -287,23 +300,30 @@ module _ {B S Y M K : Type 0} (same : B → B → Bool) (from : S → Machine B 
       disagree_acts fresh serving behind h = (
         fresh,
         refl,
-        (ap (is_round_refused e) (sym stays_node) ∙ h.0, ap (is_full_refused same e) (sym stays_node) ∙ h.1),
-        ap (λ x. (outcome_of same p.node.members e x).disagrees) (sym stays_node) ∙ h.2,
+        taken_here (h.0, h.1),
+        agrees_here true h.2,
         stops_here serving None behind,
       )
 
       pub memory_acts : p.spoiled ≡ false → IsServing holds is_failed p → IsSeated same (acting (record p { spoiled = true }) s)
           → (is_round_refused e p.node.state ≡ false) × (is_full_refused same e p.node.state ≡ false)
           → (outcome_of same p.node.members e p.node.state).disagrees ≡ false
-          → Acts same from content holds finds failures (Some e) (acting p v) (acting (record p { spoiled = true }) s) v (Err Memory)
-      memory_acts fresh serving behind h agrees = (
-        fresh,
-        refl,
-        (ap (is_round_refused e) (sym stays_node) ∙ h.0, ap (is_full_refused same e) (sym stays_node) ∙ h.1),
-        ap (λ x. (outcome_of same p.node.members e x).disagrees) (sym stays_node) ∙ agrees,
-        inl refl,
-        stops_here serving (Some e) behind,
-      )
+          → Acts same from content holds finds failures (Some e) (acting p v) (acting (record p { spoiled = true }) s) v
+          (Err (fault_without_plan s))
+      memory_acts fresh serving behind h agrees = by_word (may_advance s) refl
+        where
+          by_word : (b : Bool) → may_advance s ≡ b
+              → Acts same from content holds finds failures (Some e) (acting p v) (acting (record p { spoiled = true }) s) v
+              (Err (cond {A = ActorFault Y} b Memory Worn))
+          by_word true may = (fresh, refl, (taken_here h, agrees_here false agrees, worn_here true may), stops_here serving (Some e) behind)
+          by_word false may = (
+            fresh,
+            refl,
+            taken_here h,
+            agrees_here false agrees,
+            worn_here false may,
+            stops_here serving None behind,
+          )
 
       round_alone : (x : Event B) → is_round_refused x p.node.state ≡ true → packet_in x ≡ None
       round_alone (Deliver q) h = absurd (false≢true h)
@@ -433,31 +453,34 @@ module _ {B S Y M K : Type 0} (same : B → B → Bool) (from : S → Machine B 
       (h v (subst (λ x. Reaches p.spoiled x v s) is reach))
 
   -- the event of a call, stated for the value that the actor shows
-  pub acts_seen : (E : ℕ → ℕ → Option (Event B)) (e : Option (Event B)) (p : Parted B M K) (s : Seated B) (now new : Acting B M K)
-      (result : Result (Vec Y Global) (ActorFault Y)) → E p.node.me p.node.members ≡ e → received_by e ≡ [] → acting p s ≡ now
+  pub acts_seen : (E : ℕ → ℕ → Option (Event B)) (e : Option (Event B)) (l : LastTurn) (p : Parted B M K) (s : Seated B)
+      (now new : Acting B M K) (result : Result (Vec Y Global) (ActorFault Y)) → E p.node.me p.node.members ≡ e → received_by e ≡ []
+      → acting_since l p s ≡ now
       → ((v : View B) → Reaches p.spoiled e v s → Acts same from content holds finds failures e (acting p v) new v result)
-      → (v : View B) → StandsFor now v → Acts same from content holds finds failures (E now.node.me now.node.members) now new v result
-  acts_seen E e p s now new result is none same_actor h =
+      → (v : View B) → StandsFor now v
+      → Acts same from content holds finds failures (E now.node.me now.node.members) now (since l new) v result
+  acts_seen E e l p s now new result is none same_actor h =
       subst (λ (x : Acting B M K). (v : View B) → StandsFor x v → Acts same from content holds finds failures (E x.node.me x.node.members)
-      x new v result)
-      same_actor (λ v stands. subst (λ x. Acts same from content holds finds failures (E p.node.me p.node.members) (acting p s) new x
-      result) stands.seat
-      (subst (λ f. Acts same from content holds finds failures f (acting p s) new s result) (sym is)
-      (h s (reaches_self p.spoiled e s none))))
+      x (since l new) v result)
+      same_actor (λ v stands. subst (λ x. Acts same from content holds finds failures (E p.node.me p.node.members) (acting_since l p s)
+      (since l new) x result) stands.seat
+      (subst (λ f. Acts same from content holds finds failures f (acting_since l p s) (since l new) s result) (sym is)
+      (acts_since same from content holds finds failures l e (acting p s) new s result (h s (reaches_self p.spoiled e s none)))))
 
   -- the same if nothing happens
-  pub acts_passed : (E : ℕ → ℕ → Option (Event B)) (p : Parted B M K) (s : Seated B) (now : Acting B M K)
+  pub acts_passed : (E : ℕ → ℕ → Option (Event B)) (l : LastTurn) (p : Parted B M K) (s : Seated B) (now : Acting B M K)
       (result : Result (Vec Y Global) (ActorFault Y))
-      → E p.node.me p.node.members ≡ None → acting p s ≡ now
+      → E p.node.me p.node.members ≡ None → acting_since l p s ≡ now
       → ((v : View B) → Reaches p.spoiled None v s → Acts same from content holds finds failures None (acting p v) (acting p s) v result)
       → (v : View B) → StandsFor now v → Acts same from content holds finds failures (E now.node.me now.node.members) now now v result
-  acts_passed E p s now result is same_actor h =
+  acts_passed E l p s now result is same_actor h =
       subst (λ (x : Acting B M K). (v : View B) → StandsFor x v → Acts same from content holds finds failures (E x.node.me x.node.members)
       x x v result)
-      same_actor (λ v stands. subst (λ x. Acts same from content holds finds failures (E p.node.me p.node.members) (acting p s)
-      (acting p s) x result) stands.seat
-      (subst (λ f. Acts same from content holds finds failures f (acting p s) (acting p s) s result) (sym is)
-      (h s (reaches_self p.spoiled None s refl))))
+      same_actor (λ v stands. subst (λ x. Acts same from content holds finds failures (E p.node.me p.node.members) (acting_since l p s)
+      (acting_since l p s) x result) stands.seat
+      (subst (λ f. Acts same from content holds finds failures f (acting_since l p s) (acting_since l p s) s result) (sym is)
+      (acts_since same from content holds finds failures l None (acting p s) (acting p s) s result
+      (h s (reaches_self p.spoiled None s refl)))))
 
 pub take_some : {B : Type 0} (me n number : ℕ) (body : B) → (number ≡ 0 → ⊥) → n ≡ me
     → take_event me number body ≡ Some (Take n number body)

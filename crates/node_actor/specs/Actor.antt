@@ -1,5 +1,6 @@
 -- A node with its store, its machine and its seat at the table, as callers see it (docs/CONSENSUS.md, "A node with its store").
-use Rattle.std.specs.Prelude.{◌≡◌, ℕ, Bool, Option, Some, All, Contains}
+use Rattle.std.specs.Prelude.{◌≡◌, ℕ, Bool, Option, Some, None, All, Contains}
+use Rattle.paxos_packets.specs.Members.{no_nodes}
 use Rattle.paxos_packets.specs.declared.rows.Rows.{Rows}
 use Rattle.replica_machine.specs.Log.{LogState}
 use Rattle.actor_outboxes.specs.Outboxes.{Waiting, waiting, IsPeer}
@@ -9,6 +10,7 @@ use Rattle.paxos_node.specs.declared.view.Opened.TheVariants.{With}
 use Rattle.actor_parts.specs.Parts.{Parted}
 use Rattle.mail_table.specs.Boxes.{Follows}
 use Rattle.mail_table.specs.Seats.{Seated}
+use Rattle.node_actor.specs.declared.turning.LastTurn.{LastTurn}
 
 pub record Acting (B M K : Type 0) : Type 0 where
   pub node : Held B
@@ -22,12 +24,29 @@ pub record Acting (B M K : Type 0) : Type 0 where
   pub spoiled : Bool
   -- its node's seat at the table
   pub seat : Seated B
+  -- what it shows of its last turn
+  pub last : LastTurn
 
--- an actor of these parts at this seat, and the parts of an actor
+-- what is shown before any turn: no packet was fetched, and none was posted
+abbrev pub no_turn : LastTurn
+no_turn = record { from = None; heard = None; posted = no_nodes }
+
+-- an actor of these parts at this seat, which shows this of its last turn; the same before any turn; and the parts of an actor
+
+abbrev pub acting_since : {B M K : Type 0} → LastTurn → Parted B M K → Seated B → Acting B M K
+acting_since l p s = record {
+  node = p.node;
+  keeper = p.keeper;
+  waiting = p.waiting;
+  log = p.log;
+  failed = p.failed;
+  spoiled = p.spoiled;
+  seat = s;
+  last = l;
+}
 
 abbrev pub acting : {B M K : Type 0} → Parted B M K → Seated B → Acting B M K
-acting p s =
-    record { node = p.node; keeper = p.keeper; waiting = p.waiting; log = p.log; failed = p.failed; spoiled = p.spoiled; seat = s }
+acting p s = acting_since no_turn p s
 
 abbrev pub parts : {B M K : Type 0} → Acting B M K → Parted B M K
 parts a = record { node = a.node; keeper = a.keeper; waiting = a.waiting; log = a.log; failed = a.failed; spoiled = a.spoiled }

@@ -18,7 +18,7 @@ use Rattle.paxos_node.specs.Events.{outcome_of, is_round_refused, is_full_refuse
 use Rattle.paxos_planning.specs.Node.{NodeState}
 use Rattle.actor_parts.specs.declared.fault.ActorFault.{ActorFault}
 use Rattle.actor_parts.specs.declared.fault.ActorFault.TheVariants.{Failed, Rounds, Full, Keeper, Disagree, LostHere, Worn, Memory}
-use Rattle.node_actor.specs.Actor.{Acting, parts}
+use Rattle.node_actor.specs.Actor.{Acting}
 use Rattle.actor_parts.specs.Handing.{handed_by}
 use Rattle.node_actor.specs.Views.{View, seen, is_for, received_from, StandsFor, moved_by, sent_by, received_by, Queues}
 
@@ -106,10 +106,6 @@ module _ {B S Y M K : Type 0} (same : B → B → Bool) (from : S → Machine B 
   abbrev pub IsAgreed : Option (Event B) → Acting B M K → View B → Type 0
   IsAgreed e old v = IsTaken e old v × (disagrees same old.node.members e (seen v).node ≡ false) × (is_worn e v ≡ false)
 
-  -- nothing was done, since memory for the plan ran out: the node's word comes after that
-  abbrev pub IsUnplanned : Acting B M K → Acting B M K → Type 0
-  IsUnplanned old new = parts new ≡ record (parts old) { spoiled = true }
-
   -- what a call returns that makes this event, and what it makes of the actor
   abbrev pub Acts : Option (Event B) → Acting B M K → Acting B M K → View B → Result (Vec Y Global) (ActorFault Y) → Type 0
   Acts e old new v (Ok says) =
@@ -128,6 +124,4 @@ module _ {B S Y M K : Type 0} (same : B → B → Bool) (from : S → Machine B 
   Acts e old new v (Err Worn) =
       (old.spoiled ≡ false) × (new.spoiled ≡ true) × IsTaken e old v × (disagrees same old.node.members e (seen v).node ≡ false)
       × (is_worn e v ≡ true) × Stops None old new v
-  Acts e old new v (Err Memory) =
-      (old.spoiled ≡ false) × (new.spoiled ≡ true) × IsTaken e old v × (disagrees same old.node.members e (seen v).node ≡ false)
-      × (IsUnplanned old new ⊎ (is_worn e v ≡ false)) × Stops e old new v
+  Acts e old new v (Err Memory) = (old.spoiled ≡ false) × (new.spoiled ≡ true) × IsAgreed e old v × Stops e old new v

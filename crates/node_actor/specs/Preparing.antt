@@ -1,6 +1,6 @@
 -- What a restart is among the events of the core, and why one is refused (docs/CONSENSUS.md, "A node with its store").
 use Rattle.std.specs.Prelude.{◌≡◌, ◌<◌, ◌≤◌, ◌^◌, ℕ, zero, suc, ◌-◌, nat_lt, Bool, true, false, Result, Ok, Err, Some, None, List, []}
-use Rattle.std.specs.Prelude.{◌∷◌, if◌then◌else◌}
+use Rattle.std.specs.Prelude.{◌∷◌, is_some, if◌then◌else◌}
 use Rattle.paxos_packets.specs.Rows.{raised}
 use Rattle.paxos_packets.specs.declared.rows.Rows.{Rows}
 use Rattle.paxos_acceptor.specs.Acceptor as accepting
@@ -18,7 +18,7 @@ use Rattle.paxos_planning.specs.Node.{NodeState}
 use Rattle.mail_table.specs.Seats.{Seated}
 use Rattle.actor_parts.specs.declared.fault.ActorFault.{ActorFault}
 use Rattle.actor_parts.specs.declared.fault.ActorFault.TheVariants.{Keeper, Worn, Memory}
-use Rattle.node_actor.specs.Compare.{fit_of}
+use Rattle.node_actor.specs.Compare.{fit_of, is_ahead}
 use Rattle.node_actor.specs.declared.compare.Fit.{Fit}
 use Rattle.node_actor.specs.declared.compare.Fit.TheVariants.{Left, Meant, Others}
 use Rattle.node_actor.specs.Posts.{Posted}
@@ -92,11 +92,6 @@ module _ {B K : Type 0} (same : B → B → Bool) (holds finds : K → Rows B �
     pub held : holds mid rows
     pub right : is_faithful mid → (r : Rows B) → holds old r → rows ≡ r
 
-  -- the node was never opened, or a load gave these rows, which it may find again
-  pub data Fits (p : Posted B) (old mid : K) : Type 0 where
-    anew : p.rows ≡ None → mid ≡ old → Fits p old mid
-    again : (k r : Rows B) → p.rows ≡ Some k → Loads old mid r → (fit_of same p.failed k r ≡ Others → ⊥) → Fits p old mid
-
   -- it has the rows that were left, or those that the failed commit was to leave, and its word counts the events that are to come
   pub data Found (p : Posted B) (old new : K) (r : Rows B) (meant : Bool) : Type 0 where
     found_left : (k : Rows B) → p.rows ≡ Some k → Loads old new r → fit_of same p.failed k r ≡ Left → meant ≡ false
@@ -106,6 +101,11 @@ module _ {B K : Type 0} (same : B → B → Bool) (holds finds : K → Rows B �
         → suc p.seat.part.events < 2 ^ 62
         → Found p old new r meant
 
+  -- the node was never opened, or a load gave rows that it may find again; and its word counts the events that are to come
+  pub data Fits (p : Posted B) (old mid : K) : Type 0 where
+    anew : p.rows ≡ None → mid ≡ old → p.seat.part.events < 2 ^ 62 → Fits p old mid
+    again : (r : Rows B) (meant : Bool) → Found p old mid r meant → Fits p old mid
+
   -- the word of the node counts no event more, or not the two that the failed event and the renewal are
   pub data IsWorn (p : Posted B) (old new : K) : Type 0 where
     worn_first : p.rows ≡ None → new ≡ old → 2 ^ 62 ≤ p.seat.part.events → IsWorn p old new
@@ -114,17 +114,20 @@ module _ {B K : Type 0} (same : B → B → Bool) (holds finds : K → Rows B �
     worn_meant : (k r : Rows B) → p.rows ≡ Some k → Loads old new r → fit_of same p.failed k r ≡ Meant → 2 ^ 62 ≤ suc p.seat.part.events
         → IsWorn p old new
 
-  -- the load failed; the rows are others; there was no memory to compare them; the word is worn; the boot did not begin; or it gave other
-  -- rows than the load, as it never does if what lies below returned what was written
+  -- the node was opened, and the load failed; or its rows are others; or they are not those that were left, and memory ran out as they were
+  -- compared with those that the failed commit was to leave; or the word is worn; or it counts what is to come, and the boot did not begin; or
+  -- the boot gave other rows than the load, as it never does if what lies below returned what was written
   pub data Refuses {Y : Type 0} (p : Posted B) (old new : K) : ActorFault Y → Type 0 where
-    unread : (f : KeeperFault) → Stays old new → (f ≡ store.Store → failures old < failures new)
+    unread : (k : Rows B) (f : KeeperFault) → p.rows ≡ Some k → Stays old new → (f ≡ store.Store → failures old < failures new)
         → (is_faithful new → (r : Rows B) → holds old r → f ≡ store.Damaged → ⊥)
         → Refuses p old new (Keeper f)
     others : (k r : Rows B) → p.rows ≡ Some k → Loads old new r → fit_of same p.failed k r ≡ Others
         → Refuses p old new (Keeper store.Damaged)
-    unjudged : (r : Rows B) → Loads old new r → Refuses p old new Memory
+    unjudged : (k r : Rows B) → p.rows ≡ Some k → Loads old new r → is_ahead same k r ≡ false → is_some p.failed ≡ true
+        → Refuses p old new Memory
     worn : IsWorn p old new → Refuses p old new Worn
-    unbooted : (f : ActorFault Y) (mid : K) → Fits p old mid → Starts holds finds failures mid new f → NoDamage holds is_faithful mid new f
+    unbooted : (f : ActorFault Y) (mid : K) → (f ≡ Worn → ⊥) → Fits p old mid → Starts holds finds failures mid new f
+        → NoDamage holds is_faithful mid new f
         → Refuses p old new f
     strayed : (mid : K) → Fits p old mid → (is_faithful new → ⊥) → Starts {Y = Y} holds finds failures mid new (Keeper store.Damaged)
         → Refuses p old new (Keeper store.Damaged)

@@ -11,11 +11,11 @@ use Rattle.actor_parts.specs.declared.fault.ActorFault.{ActorFault}
 use Rattle.node_actor.specs.Posts.{Posted}
 use Rattle.node_actor.specs.Beginning.{Leaves, Renews, Starts}
 use Rattle.node_actor.specs.Preparing.{ArePossible, ComesBack, moved_by_all}
-use Rattle.node_actor.specs.Actor.{Acting}
+use Rattle.node_actor.specs.Actor.{Acting, no_turn}
 use Rattle.node_actor.specs.Views.{View, seen, posted_to, received_from, StandsFor}
 
 -- an actor begins with the rows of its store, raised by one boot: it stands for a view that was opened with them, or begins anew with them,
--- and nothing waits
+-- nothing waits, and no turn was taken
 module _ {B S Y M K : Type 0} (from : S → Machine B S Y) (content : M → S) (holds : K → Rows B → Type 0) (is_faithful : K → Type 0) where
   pub record Opens (p : Posted B) (machine : M) (keeper : K) (a : Acting B M K) : Type 0 where
     pub renews : Renews holds is_faithful p keeper a.keeper a.seat
@@ -23,6 +23,7 @@ module _ {B S Y M K : Type 0} (from : S → Machine B S Y) (content : M → S) (
     pub node : a.node.state ≡ started p.me renews.rows
     pub who : (a.node.me ≡ p.me) × (a.node.members ≡ p.members)
     pub waits : (k : ℕ) → waiting k a.waiting ≡ []
+    pub last : a.last ≡ no_turn
     pub fresh : a.spoiled ≡ false
     pub follows : Follows from content (content machine) a.log
 

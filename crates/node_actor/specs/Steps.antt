@@ -1,5 +1,5 @@
 -- What an actor makes of an outcome that its node has planned: committed, taken at the table, adopted.
-use Rattle.std.specs.Prelude.{◌≡◌, ◌⊎◌, ℕ, nat_lt, ◌^◌, Bool, true, false, Some, None, Result, Ok, Err, List, ◌++◌}
+use Rattle.std.specs.Prelude.{◌≡◌, ◌⊎◌, ℕ, nat_lt, ◌^◌, Bool, true, false, Some, None, Result, Ok, Err, List, ◌++◌, if◌then◌else◌}
 use Rattle.std.specs.declared.vec.Vec.{Vec}
 use Rattle.std.specs.declared.alloc.Global.{Global}
 use Rattle.paxos_packets.specs.declared.rows.Rows.{Rows}
@@ -21,6 +21,10 @@ use Rattle.node_actor.specs.Posts.{advanced}
 -- the word of the seat's node counts one event more
 abbrev pub may_advance : {B : Type 0} → Seated B → Bool
 may_advance s = nat_lt s.part.events (2 ^ 62)
+
+-- why an event is not taken if memory for its plan ran out: a word that counts no more comes before that
+abbrev pub fault_without_plan : {B Y : Type 0} → Seated B → ActorFault Y
+fault_without_plan s = if may_advance s then Memory else Worn
 
 module _ {B S Y M K : Type 0} (from : S → Machine B S Y) (content : M → S) (holds : K → Rows B → Type 0) (finds : K → Rows B → Type 0)
     (failures : K → ℕ) where

@@ -6,7 +6,7 @@ use Rattle.std.specs.Prelude.{if◌then◌else◌}
 use Rattle.std.specs.declared.vec.Vec.{Vec}
 use Rattle.std.specs.declared.alloc.Global.{Global}
 use Rattle.cluster_world.specs.Has.{Has}
-use Rattle.paxos_packets.specs.Members.{IsMember}
+use Rattle.paxos_packets.specs.Members.{IsMember, is_in}
 use Rattle.paxos_packets.specs.declared.packet.Packet.{Packet}
 use Rattle.paxos_packets.specs.declared.rows.Rows.{Rows}
 use Rattle.actor_outboxes.specs.Outboxes.{IsPeer, waiting}
@@ -20,6 +20,8 @@ use Rattle.mail_table.specs.Views.{box_of, lost, receiving}
 use Rattle.mail_table.specs.declared.part.Part.{Part}
 use Rattle.mail_table.specs.declared.part.Try.{Try}
 use Rattle.node_actor.specs.Actor.{Acting, parts}
+use Rattle.node_actor.specs.declared.heard.Heard.{Heard}
+use Rattle.node_actor.specs.Heard.{heard_in}
 use Rattle.node_actor.specs.Calls.{turn_event, Acts}
 use Rattle.node_actor.specs.Views.{View, posted_to, received_from, StandsFor, received_by}
 
@@ -31,15 +33,18 @@ tries_at at (t ∷ ts) = if t.at == at then t.won ∷ tries_at at ts else tries_
 abbrev pub tries_to : {B : Type 0} → ℕ → View B → List Bool
 tries_to k v = tries_at (box_of v.members v.part.me k) v.part.tried
 
--- what one try makes of the packets for a peer: none is due, and there is no try; or the oldest one is posted, and waits no longer; or the
--- try is lost, and all wait as before
-pub data PostsTo {B M K : Type 0} (k : ℕ) (old new : Acting B M K) (v w : View B) : Type 0 where
-  none_due : waiting k old.waiting ≡ [] → waiting k new.waiting ≡ [] → posted_to k w ≡ posted_to k v → tries_to k w ≡ tries_to k v
-      → PostsTo k old new v w
-  post_won : (p : Packet B) (rest : List (Packet B)) → waiting k old.waiting ≡ p ∷ rest → waiting k new.waiting ≡ rest
-      → posted_to k w ≡ posted_to k v ++ p ∷ [] → tries_to k w ≡ tries_to k v ++ true ∷ [] → PostsTo k old new v w
-  post_lost : (p : Packet B) (rest : List (Packet B)) → waiting k old.waiting ≡ p ∷ rest → waiting k new.waiting ≡ p ∷ rest
-      → posted_to k w ≡ posted_to k v → tries_to k w ≡ tries_to k v ++ false ∷ [] → PostsTo k old new v w
+-- what one try makes of the packets for a peer, and whether one was posted: none is due, and there is no try; or the oldest one is posted,
+-- and waits no longer; or the try is lost, and all wait as before
+pub data PostsTo {B M K : Type 0} (k : ℕ) (won : Bool) (old new : Acting B M K) (v w : View B) : Type 0 where
+  none_due : won ≡ false → waiting k old.waiting ≡ [] → waiting k new.waiting ≡ [] → posted_to k w ≡ posted_to k v
+      → tries_to k w ≡ tries_to k v
+      → PostsTo k won old new v w
+  post_won : (p : Packet B) (rest : List (Packet B)) → won ≡ true → waiting k old.waiting ≡ p ∷ rest → waiting k new.waiting ≡ rest
+      → posted_to k w ≡ posted_to k v ++ p ∷ [] → tries_to k w ≡ tries_to k v ++ true ∷ []
+      → PostsTo k won old new v w
+  post_lost : (p : Packet B) (rest : List (Packet B)) → won ≡ false → waiting k old.waiting ≡ p ∷ rest → waiting k new.waiting ≡ p ∷ rest
+      → posted_to k w ≡ posted_to k v → tries_to k w ≡ tries_to k v ++ false ∷ []
+      → PostsTo k won old new v w
 
 -- nothing but what waits, what was posted and what was tried is new
 pub record Beside {B M K : Type 0} (old new : Acting B M K) (v w : View B) : Type 0 where
@@ -56,16 +61,18 @@ pub record StaysTo {B M K : Type 0} (k : ℕ) (old new : Acting B M K) (v w : Vi
   pub posted : posted_to k w ≡ posted_to k v
   pub tries : tries_to k w ≡ tries_to k v
 
--- there was one try to post to this node, if packets were due for it
-pub record PostsOne {B M K : Type 0} (to : ℕ) (old new : Acting B M K) (v w : View B) : Type 0 where
+-- there was one try to post to this node, if packets were due for it; and whether one was posted, as to a peer alone
+pub record PostsOne {B M K : Type 0} (to : ℕ) (won : Bool) (old new : Acting B M K) (v w : View B) : Type 0 where
   pub beside : Beside old new v w
-  pub there : IsPeer old.node.me old.node.members to → PostsTo to old new v w
+  pub there : IsPeer old.node.me old.node.members to → PostsTo to won old new v w
+  pub peer : won ≡ true → IsPeer old.node.me old.node.members to
   pub others : (k : ℕ) → IsPeer old.node.me old.node.members k → (k ≡ to → ⊥) → StaysTo k old new v w
 
--- for each peer for which packets were due, there was one try to post
-pub record PostsAlone {B M K : Type 0} (old new : Acting B M K) (v w : View B) : Type 0 where
+-- for each peer for which packets were due, there was one try to post; and the set of the peers to which one was posted
+pub record PostsAlone {B M K : Type 0} (set : List Bool) (old new : Acting B M K) (v w : View B) : Type 0 where
   pub beside : Beside old new v w
-  pub each : (k : ℕ) → IsPeer old.node.me old.node.members k → PostsTo k old new v w
+  pub each : (k : ℕ) → IsPeer old.node.me old.node.members k → PostsTo k (is_in set k) old new v w
+  pub others : (k : ℕ) → (IsPeer old.node.me old.node.members k → ⊥) → is_in set k ≡ false
 
 -- the numbers of this many members from this one on, the first one after the last one; and all but one node, once round
 
@@ -98,19 +105,30 @@ Fetches n (k ∷ ks) x (Some got) y =
 abbrev pub passed_by : {B : Type 0} → ℕ → ℕ → Part B → Part B
 passed_by n k x = if k == x.me then x else lost (box_of n k x.me) x
 
+-- the packet that was fetched, the peer from which it came, and what it shows
+
 abbrev pub packet_got : {B : Type 0} → Option (ℕ × Packet B) → Option (Packet B)
 packet_got None = None
 packet_got (Some got) = Some got.1
 
+abbrev pub peer_got : {B : Type 0} → Option (ℕ × Packet B) → Option ℕ
+peer_got None = None
+peer_got (Some got) = Some got.0
+
+abbrev pub heard_got : {B : Type 0} → Option (ℕ × Packet B) → Option Heard
+heard_got None = None
+heard_got (Some got) = Some (heard_in got.1.kind)
+
 module _ {B S Y M K : Type 0} (same : B → B → Bool) (from : S → Machine B S Y) (content : M → S) (holds : K → Rows B → Type 0)
     (finds : K → Rows B → Type 0) (failures : K → ℕ) where
   -- what was due was posted, as far as tries won; then it was fetched, from one peer after another, until a try won; what came, if anything
-  -- did, is the event that the call makes of the actor that had posted
+  -- did, is the event that the call makes of the actor that had posted; and the actor shows to which peers it posted, from which one a packet
+  -- came, and what that shows, whatever the event makes of it
   pub record Turns (old new : Acting B M K) (v : View B) (result : Result (Vec Y Global) (ActorFault Y)) : Type 0 where
     pub mid : Acting B M K
     pub between : View B
     pub stands : StandsFor mid between
-    pub posts : PostsAlone old mid v between
+    pub posts : PostsAlone new.last.posted old mid v between
     pub first : ℕ
     pub within : IsMember old.node.members first
     pub got : Option (ℕ × Packet B)
@@ -120,6 +138,8 @@ module _ {B S Y M K : Type 0} (same : B → B → Bool) (from : S → Machine B 
     pub tried : new.seat.part.tried ≡ behind.tried
     pub received : new.seat.part.received ≡ behind.received
     pub posted : new.seat.part.posted ≡ behind.posted
+    pub peer : new.last.from ≡ peer_got got
+    pub heard : new.last.heard ≡ heard_got got
 
 -- what an event leaves alone at the seat
 pub record StaysAt {B : Type 0} (old new : Seated B) : Type 0 where

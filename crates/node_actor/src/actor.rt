@@ -17,7 +17,7 @@ ghost use Rattle.paxos_planning.specs.Node.{log_length};
 use crate::event::{make_event, pass};
 use crate::heard::Heard;
 use crate::post::Post;
-use crate::turning::{FetchOrder, turn};
+use crate::turning::{LastTurn, turn};
 use actor_parts::{ActorFault, Parts};
 use mail_table::{Mail, NodeSeat};
 use paxos_node::Event;
@@ -31,10 +31,15 @@ use store_keeper::Keeper;
 ///
 /// The calls that take an event return what the machine says, at what the event applies, to the transports of this node in its present
 /// boot. They require the table of the actor's seat. None of them waits.
+///
+/// `from`, `heard` and `posted` tell of the last turn, whatever it returned. Before the first one there is nothing to tell, and no other call
+/// changes what they return, nor does a turn of an actor that a fault has ended.
 pub struct Actor<M: Machine, K: Keeper<M::Body>> {
     parts: Parts<M, K>,
     seat: NodeSeat<M::Body>,
-    order: FetchOrder,
+    // From which member the next turn fetches first.
+    first: u8,
+    last: LastTurn,
 }
 
 impl<M: Machine, K: Keeper<M::Body> + Drop> Drop for Actor<M, K> {
@@ -42,7 +47,8 @@ impl<M: Machine, K: Keeper<M::Body> + Drop> Drop for Actor<M, K> {
         let Actor {
             parts: _parts,
             seat: _seat,
-            order: _order,
+            first: _,
+            last: _,
         } = self;
     }
 }
@@ -50,14 +56,14 @@ impl<M: Machine, K: Keeper<M::Body> + Drop> Drop for Actor<M, K> {
 impl<M: Machine, K: Keeper<M::Body>> Model for Actor<M, K> {
     ghost use Rattle.paxos_packets.specs.Members.{IsMember};
     ghost use Rattle.actor_parts.specs.Parts.{IsSound};
-    ghost use Rattle.node_actor.specs.Actor.{Acting, acting, IsSeated};
+    ghost use Rattle.node_actor.specs.Actor.{Acting, acting, acting_since, IsSeated};
 
     ghost Value = { Acting M.Body M K };
 
-    ghost view = { λ a. acting a.parts a.seat };
+    ghost view = { λ a. acting_since a.last a.parts a.seat };
 
     ghost invariant = { λ a. IsSound M.Body.same K.holds K.is_failed a.parts × IsSeated M.Body.same (acting a.parts a.seat)
-        × IsMember a.parts.node.members a.order.first };
+        × IsMember a.parts.node.members a.first };
 }
 
 impl<M: Machine, K: Keeper<M::Body>> Actor<M, K> {
@@ -70,7 +76,8 @@ impl<M: Machine, K: Keeper<M::Body>> Actor<M, K> {
         Actor {
             parts,
             seat,
-            order: FetchOrder::new(),
+            first: 1,
+            last: LastTurn::none(),
         }
     }
 
@@ -85,6 +92,7 @@ impl<M: Machine, K: Keeper<M::Body>> Actor<M, K> {
         ensures still_owned { Owns mail.now self.new.seat }
         ensures me { self.new.node.me ≡ self.old.node.me }
         ensures members { self.new.node.members ≡ self.old.node.members }
+        ensures last { self.new.last ≡ self.old.last }
         ensures acts { (view : View M.Body) → StandsFor self.old view →
             Acts M.Body.same (machine_from M.next M.says M.to) M.content K.holds K.finds K.failures (Some event.now)
             self.old self.new view result }
@@ -103,6 +111,7 @@ impl<M: Machine, K: Keeper<M::Body>> Actor<M, K> {
         ensures still_owned { Owns mail.now self.new.seat }
         ensures me { self.new.node.me ≡ self.old.node.me }
         ensures members { self.new.node.members ≡ self.old.node.members }
+        ensures last { self.new.last ≡ self.old.last }
         ensures acts { (view : View M.Body) → StandsFor self.old view →
             Acts M.Body.same (machine_from M.next M.says M.to) M.content K.holds K.finds K.failures (take_event self.old.node.me number body)
             self.old self.new view result }
@@ -135,7 +144,13 @@ impl<M: Machine, K: Keeper<M::Body>> Actor<M, K> {
         if self.parts.is_spoiled() {
             return Err(ActorFault::Failed);
         }
-        turn(mail, &mut self.seat, &mut self.parts, &mut self.order)
+        turn(
+            mail,
+            &mut self.seat,
+            &mut self.parts,
+            &mut self.first,
+            &mut self.last,
+        )
     }
 
     /// Lets time pass at the node.
@@ -144,6 +159,7 @@ impl<M: Machine, K: Keeper<M::Body>> Actor<M, K> {
         ensures still_owned { Owns mail.now self.new.seat }
         ensures me { self.new.node.me ≡ self.old.node.me }
         ensures members { self.new.node.members ≡ self.old.node.members }
+        ensures last { self.new.last ≡ self.old.last }
         ensures acts { (view : View M.Body) → StandsFor self.old view →
             Acts M.Body.same (machine_from M.next M.says M.to) M.content K.holds K.finds K.failures (Some (Tick self.old.node.me))
             self.old self.new view result }
@@ -158,6 +174,7 @@ impl<M: Machine, K: Keeper<M::Body>> Actor<M, K> {
         ensures still_owned { Owns mail.now self.new.seat }
         ensures me { self.new.node.me ≡ self.old.node.me }
         ensures members { self.new.node.members ≡ self.old.node.members }
+        ensures last { self.new.last ≡ self.old.last }
         ensures acts { (view : View M.Body) → StandsFor self.old view →
             Acts M.Body.same (machine_from M.next M.says M.to) M.content K.holds K.finds K.failures (Some (Start self.old.node.me))
             self.old self.new view result }
@@ -176,6 +193,7 @@ impl<M: Machine, K: Keeper<M::Body>> Actor<M, K> {
         ensures still_owned { Owns mail.now self.new.seat }
         ensures me { self.new.node.me ≡ self.old.node.me }
         ensures members { self.new.node.members ≡ self.old.node.members }
+        ensures last { self.new.last ≡ self.old.last }
         ensures acts { (view : View M.Body) → StandsFor self.old view →
             Acts M.Body.same (machine_from M.next M.says M.to) M.content K.holds K.finds K.failures (Some (Suspect self.old.node.me node))
             self.old self.new view result }
@@ -241,19 +259,25 @@ impl<M: Machine, K: Keeper<M::Body>> Actor<M, K> {
         self.parts.waiting_for(peer)
     }
 
-    /// Returns the peer whose packet the last turn treated, if it treated one.
-    pub fn from(&self) -> Option<u8> {
-        self.order.from
+    /// Returns the peer from which the last turn fetched a packet, if it fetched one.
+    pub fn from(&self) -> Option<u8>
+        ensures { result ≡ self.now.last.from }
+    {
+        self.last.from
     }
 
-    /// Returns what the packet that the last turn treated showed, if it treated one.
-    pub fn heard(&self) -> Option<Heard> {
-        self.order.heard
+    /// Returns what the packet showed that the last turn fetched, if it fetched one.
+    pub fn heard(&self) -> Option<Heard>
+        ensures { result ≡ self.now.last.heard }
+    {
+        self.last.heard
     }
 
     /// Returns the peers to which the last turn posted.
-    pub fn posted(&self) -> NodeSet {
-        self.order.posted
+    pub fn posted(&self) -> NodeSet
+        ensures { result ≡ self.now.last.posted }
+    {
+        self.last.posted
     }
 
     /// Returns the node's log, slot 1 first; empty once the node is down. If running out of memory ended the actor, the last entries may be
@@ -278,7 +302,8 @@ impl<M: Machine, K: Keeper<M::Body>> Actor<M, K> {
         let Actor {
             parts,
             seat,
-            order: _order,
+            first: _,
+            last: _,
         } = self;
         let (me, members) = (parts.me(), parts.members());
         let (rows, failed, keeper) = parts.leave_rows();
@@ -299,7 +324,8 @@ impl<M: Machine, K: Keeper<M::Body> + Drop> Actor<M, K> {
         let Actor {
             parts,
             seat,
-            order: _order,
+            first: _,
+            last: _,
         } = self;
         (seat, parts.leave())
     }

@@ -1,4 +1,4 @@
-ghost use Rattle.std.specs.Prelude.{◌≡◌, IfOk, option_copied};
+ghost use Rattle.std.specs.Prelude.{◌≡◌, false, true, IfOk, OnErr, is_some, option_copied};
 ghost use Rattle.paxos_acceptor.specs.Acceptor.{adopted};
 ghost use Rattle.node_actor.specs.Compare.{same_promise, same_but_boot, is_ahead, is_later, fit_of};
 
@@ -14,14 +14,17 @@ pub(crate) enum Fit {
     Others,
 }
 
-// Compares the rows with those that were kept, and with those that the outcome was to leave, apart from a boot number that is not lower.
+// Compares the rows with those that were kept, and with those that the outcome was to leave, apart from a boot number that is not lower. Only
+// the second comparison needs memory.
 pub(crate) fn fit_of<B: Body>(
     alloc: Global,
     failed: Option<&Outcome<B>>,
     kept: &Rows<B>,
     rows: &Rows<B>,
 ) -> Result<Fit, Memory>
-    ensures { IfOk result (λ fit. fit ≡ fit_of B.same (option_copied failed.entry) kept.now rows.now) }
+    ensures fit { IfOk result (λ fit. fit ≡ fit_of B.same (option_copied failed.entry) kept.now rows.now) }
+    ensures other { OnErr result (is_ahead B.same kept.now rows.now ≡ false) }
+    ensures failed { OnErr result (is_some (option_copied failed.entry) ≡ true) }
 {
     if is_ahead(kept, rows) {
         return Ok(Fit::Left);

@@ -11,7 +11,7 @@ ghost use Rattle.mail_table.specs.Seats.{Owns};
 ghost use Rattle.node_actor.specs.Actor.{acting, IsSeated};
 ghost use Rattle.node_actor.specs.Posts.{advanced};
 ghost use Rattle.node_actor.specs.Calls.{Acts, Rests, turn_event};
-ghost use Rattle.node_actor.specs.Steps.{CarriesOut, may_advance};
+ghost use Rattle.node_actor.specs.Steps.{CarriesOut, fault_without_plan, may_advance};
 ghost use Rattle.node_actor.specs.Turns.{Reaches, StaysAt};
 ghost use Rattle.node_actor.specs.Views.{View, is_for};
 
@@ -56,9 +56,21 @@ pub(crate) fn make_event<M: Machine, K: Keeper<M::Body>>(
             Err(ActorFault::Disagree)
         },
         Err(NodeFault::Memory) => {
+            let fault = fault_without_plan(seat);
             parts.spoil();
-            Err(ActorFault::Memory)
+            Err(fault)
         },
+    }
+}
+
+// Returns why an event is not taken if memory for its plan ran out: `Worn` if the node's word counts no event more.
+fn fault_without_plan<B: Body, Y>(seat: &NodeSeat<B>) -> ActorFault<Y>
+    ensures { result ≡ fault_without_plan seat.now }
+{
+    if seat.may_advance() {
+        ActorFault::Memory
+    } else {
+        ActorFault::Worn
     }
 }
 

@@ -1,7 +1,7 @@
 // Posts what waits, as far as boxes are empty.
-ghost use Rattle.std.specs.Prelude.{◌≡◌, ◌⊎◌, false, MatchResult};
+ghost use Rattle.std.specs.Prelude.{◌≡◌, ◌⊎◌, ℕ, ◌==◌, nat_lt, true, false, ◌||◌, ◌&&◌, MatchResult};
 ghost use Rattle.cluster_world.specs.Has.{Has};
-ghost use Rattle.paxos_packets.specs.Members.{IsMember};
+ghost use Rattle.paxos_packets.specs.Members.{IsMember, is_in};
 ghost use Rattle.actor_parts.specs.Parts.{IsSound};
 ghost use Rattle.mail_table.specs.Seats.{Owns, knows};
 ghost use Rattle.mail_table.specs.Views.{box_of, posting, lost};
@@ -27,15 +27,24 @@ pub(crate) fn send_waiting<M: Machine, K: Keeper<M::Body>>(
     ensures owned { Owns mail.now seat.new }
     ensures sound { IsSound M.Body.same K.holds K.is_failed parts.new }
     ensures seated { IsSeated M.Body.same (acting parts.new seat.new) }
-    ensures posts { PostsAlone (acting parts.old seat.old) (acting parts.new seat.new) seat.old seat.new }
+    ensures posts { PostsAlone result (acting parts.old seat.old) (acting parts.new seat.new) seat.old seat.new }
 {
     let mut posted = NodeSet::new();
     for peer in 1..parts.members().count() + 1 {
-        if post_one(mail, seat, parts, peer) {
-            posted.insert(peer);
-        }
+        let won = post_one(mail, seat, parts, peer);
+        note_post(&mut posted, peer, won);
     }
     posted
+}
+
+// Adds the peer to the set, if a packet was posted to it.
+fn note_post(set: &mut NodeSet, peer: u8, won: bool)
+    ensures won { won ≡ true → (k : ℕ) → is_in set.new k ≡ (is_in set.old k || ((k == peer) && nat_lt k 8)) }
+    ensures lost { won ≡ false → set.new ≡ set.old }
+{
+    if won {
+        set.insert(peer);
+    }
 }
 
 // Tries once to post the oldest packet for this member, if one waits. Returns whether the try won.
@@ -53,7 +62,7 @@ fn post_one<M: Machine, K: Keeper<M::Body>>(
     ensures owned { Owns mail.now seat.new }
     ensures sound { IsSound M.Body.same K.holds K.is_failed parts.new }
     ensures seated { IsSeated M.Body.same (acting parts.new seat.new) }
-    ensures posts { PostsOne peer (acting parts.old seat.old) (acting parts.new seat.new) seat.old seat.new }
+    ensures posts { PostsOne peer result (acting parts.old seat.old) (acting parts.new seat.new) seat.old seat.new }
 {
     let Some(packet) = parts.take_for(peer) else {
         return false;

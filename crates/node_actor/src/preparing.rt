@@ -150,6 +150,7 @@ fn boot_up<B: Body, K: Keeper<B>, Y: Drop>(
     ensures empty { IfOk result (λ up. IsEmpty me members up.1) }
     ensures starts { IfErr result (λ fault. Starts K.holds K.finds K.failures keeper.old keeper.new fault) }
     ensures sound { IfErr result (λ fault. NoDamage K.holds K.is_faithful keeper.old keeper.new fault) }
+    ensures unworn { IfErr result (λ fault. fault ≡ ActorFault.Worn → ⊥) }
     ensures found { (r : Rows B) → K.holds keeper.old r → FindsOr K.finds keeper.old keeper.new (raised r) }
     ensures faithful { K.is_faithful keeper.new → K.is_faithful keeper.old }
 {

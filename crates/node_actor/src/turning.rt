@@ -5,7 +5,7 @@ ghost use Rattle.replica_machine.specs.Log.{machine_from};
 ghost use Rattle.actor_parts.specs.Parts.{IsSound};
 ghost use Rattle.actor_parts.specs.Steps.{StaysWho};
 ghost use Rattle.mail_table.specs.Seats.{Owns};
-ghost use Rattle.node_actor.specs.Actor.{acting, IsSeated};
+ghost use Rattle.node_actor.specs.Actor.{acting, acting_since, no_turn, IsSeated};
 ghost use Rattle.node_actor.specs.Turns.{Turns};
 
 use crate::event::{deliver, pass};
@@ -18,23 +18,20 @@ use paxos_packets::NodeSet;
 use replica_machine::Machine;
 use store_keeper::Keeper;
 
-// The member from which the next turn fetches first: the one after the member whose packet came last, so that those that always have one
-// get turns equally; and of the last turn, whose packet it treated, what that showed, and the peers to which it posted.
-#[derive(Drop)]
-pub(crate) struct FetchOrder {
-    pub(crate) first: u8,
+// What an actor shows of its last turn: the peer from which it fetched a packet, what that shows, and the peers to which it posted.
+#[derive(Clone, Copy, Drop)]
+pub(crate) struct LastTurn {
     pub(crate) from: Option<u8>,
     pub(crate) heard: Option<Heard>,
     pub(crate) posted: NodeSet,
 }
 
-impl FetchOrder {
-    // Creates the order before any turn.
-    pub(crate) fn new() -> FetchOrder
-        ensures { result.first ≡ 1 }
+impl LastTurn {
+    // Returns what is shown before any turn.
+    pub(crate) fn none() -> LastTurn
+        ensures { result ≡ no_turn }
     {
-        FetchOrder {
-            first: 1,
+        LastTurn {
             from: None,
             heard: None,
             posted: NodeSet::new(),
@@ -42,38 +39,48 @@ impl FetchOrder {
     }
 }
 
-// Posts what is due, as far as boxes are empty; then hands the packet that is fetched, if one is, to the node.
+// Posts what is due, as far as boxes are empty; then hands the packet that is fetched, if one is, to the node. It fetches from the member
+// `first` on: the next turn from the one after the member whose packet came, so that those that always have one get turns equally.
 pub(crate) fn turn<M: Machine, K: Keeper<M::Body>>(
     mail: &Mail<M::Body>,
     seat: &mut NodeSeat<M::Body>,
     parts: &mut Parts<M, K>,
-    order: &mut FetchOrder,
+    first: &mut u8,
+    last: &mut LastTurn,
 ) -> Result<Vec<M::Say>, ActorFault<M::Say>>
     requires owned { Owns mail.now seat.old }
     requires sound { IsSound M.Body.same K.holds K.is_failed parts.old }
     requires seated { IsSeated M.Body.same (acting parts.old seat.old) }
-    requires first { IsMember parts.old.node.members order.old.first }
+    requires first { IsMember parts.old.node.members first.old }
     requires serving { parts.old.spoiled ≡ false }
     ensures owned { Owns mail.now seat.new }
     ensures sound { IsSound M.Body.same K.holds K.is_failed parts.new }
     ensures seated { IsSeated M.Body.same (acting parts.new seat.new) }
-    ensures first { IsMember parts.new.node.members order.new.first }
+    ensures first { IsMember parts.new.node.members first.new }
     ensures who { StaysWho parts.old parts.new }
     ensures turns { Turns M.Body.same (machine_from M.next M.says M.to) M.content K.holds K.finds K.failures
-        (acting parts.old seat.old) (acting parts.new seat.new) seat.old result }
+        (acting_since last.old parts.old seat.old) (acting_since last.new parts.new seat.new) seat.old result }
 {
     let members = parts.members();
-    let first = order.first;
-    order.posted = send_waiting(mail, seat, parts);
-    order.first = after(members, first);
-    order.from = None;
-    order.heard = None;
-    match fetch_round(mail, seat, members, first) {
-        None => pass(seat, parts),
+    let posted = send_waiting(mail, seat, parts);
+    match fetch_round(mail, seat, members, *first) {
+        None => {
+            *first = after(members, *first);
+            *last = LastTurn {
+                from: None,
+                heard: None,
+                posted,
+            };
+            pass(seat, parts)
+        },
         Some((from, packet)) => {
-            order.first = after(members, from);
-            order.from = Some(from);
-            order.heard = Some(heard_in(&packet.kind));
+            let heard = heard_in(&packet.kind);
+            *first = after(members, from);
+            *last = LastTurn {
+                from: Some(from),
+                heard: Some(heard),
+                posted,
+            };
             deliver(mail, seat, parts, packet)
         },
     }

@@ -6,7 +6,9 @@ ghost use Rattle.paxos_packets.specs.Members.{IsMember};
 
 use actor_run::{Feed, Gate, run_node};
 use mail_table::{Mail, NodeSeat};
-use node_actor::{Actor, ActorFault, Ballot, Entry, Keeper, Machine, Members, Post, Rows};
+use node_actor::{
+    Actor, ActorFault, Ballot, Entry, Heard, Keeper, Machine, Members, NodeSet, Post, Rows,
+};
 use replica_machine::AppliedLog;
 use std::alloc::Global;
 
@@ -133,9 +135,19 @@ impl<'a, M: Machine, K: Keeper<M::Body>> SeatedActor<'a, M, K> {
         self.actor.promised()
     }
 
-    /// Returns the peer whose packet its last turn treated, if it treated one.
+    /// Returns the peer from which its last turn fetched a packet, if it fetched one.
     pub fn from(&self) -> Option<u8> {
         self.actor.from()
+    }
+
+    /// Returns what the packet showed that its last turn fetched, if it fetched one.
+    pub fn heard(&self) -> Option<Heard> {
+        self.actor.heard()
+    }
+
+    /// Returns the peers to which its last turn posted.
+    pub fn posted(&self) -> NodeSet {
+        self.actor.posted()
     }
 
     /// Returns whether its last turn treated a packet.

@@ -36,9 +36,10 @@ returns-in_default-post-clause-posts g c =
     let is : c.post.new.seat ≡ knows (posting (post_box c.args.seat.now c.args.peer) c.in-Some.packet c.args.seat.now.part) c.args.seat.now
     =
     c.in_default-post.ensures.posted in
+    let peer = peer_there _ _ _ c.args.parts.now c.args.peer c.requires.sound taken.peer in
     posts_won g.M.Body.Body.same c.args.peer c.in-Some.packet c.args.parts.now c.take_for.new.self c.args.seat.now c.requires.seated
     c.requires.sound.member
-    c.requires.member c.take_for.ensures.rest taken c.post.new.seat is
+    c.requires.member c.take_for.ensures.rest taken c.post.new.seat peer is
 
 pub returns-clause-seated : goal.returns-clause-seated
 returns-clause-seated g c =

@@ -7,6 +7,6 @@ use Rattle.node_actor.proofs.posting.send_waiting.Given as goal
 
 abbrev pub invariant-loop-peer : goal.invariant-loop-peer
 invariant-loop-peer g l =
-    PostsBelow l.peer (acting l.initial.parts l.initial.seat) (acting l.parts l.seat) l.initial.seat l.seat
+    PostsBelow l.peer l.posted (acting l.initial.parts l.initial.seat) (acting l.parts l.seat) l.initial.seat l.seat
     × IsSound g.M.Body.Body.same g.K.Keeper.holds g.K.Keeper.is_failed l.parts × IsSeated g.M.Body.Body.same (acting l.parts l.seat)
     × Owns l.mail l.seat × (l.parts.spoiled ≡ false)

@@ -1,5 +1,5 @@
-use Rattle.std.proofs.Common.{◌≡◌, ◌<◌, ◌∙◌, ap, rules}
-use Rattle.std.specs.Prelude.{Err}
+use Rattle.std.proofs.Common.{◌≡◌, ◌<◌, ◌∙◌, true, ap, subst, rules}
+use Rattle.std.specs.Prelude.{Err, is_some}
 use Rattle.store_keeper.specs.declared.fault.KeeperFault.TheVariants as store
 use Rattle.node_actor.specs.Compare.{fit_of}
 use Rattle.node_actor.specs.Preparing.{Loads, unread, unjudged}
@@ -10,16 +10,17 @@ pub returns-in-Err-clause-err : goal.returns-in-Err-clause-err
 returns-in-Err-clause-err g c =
     let failed : c.in-Err.fault ≡ store.Store → g.K.Keeper.failures c.args.keeper.now < g.K.Keeper.failures c.load.new.self =
     λ e. c.load.ensures.store (c.in-Err.is ∙ ap Err e) in
-    unread c.in-Err.fault (record { same_rows = c.load.ensures.same; found = c.load.ensures.found; counted = c.load.ensures.counts }) failed
+    unread c.args.kept.now c.in-Err.fault c.requires (record { same_rows = c.load.ensures.same; found = c.load.ensures.found; counted = c.load.ensures.counts }) failed
     (λ true_to r held e. c.load.ensures.sound true_to r held (c.in-Err.is ∙ ap Err e))
 
 pub returns-in-Err-fit_of-clause-err : goal.returns-in-Err-fit_of-clause-err
 returns-in-Err-fit_of-clause-err g c =
-    unjudged c.in-Ok.rows (record {
+    let failed : is_some c.args.post.now.failed ≡ true = subst (λ f. is_some f ≡ true) c.failed.ensures c.in-Err-fit_of.ensures.failed in
+    unjudged c.args.kept.now c.in-Ok.rows c.requires (record {
       stays = record { same_rows = c.load.ensures.same; found = c.load.ensures.found; counted = c.load.ensures.counts };
       held = c.in-Ok.ensures.held;
       right = c.in-Ok.ensures.right;
-    })
+    }) c.in-Err-fit_of.ensures.other failed
 
 pub returns-in-Ok-fit_of-clause-ok : goal.returns-in-Ok-fit_of-clause-ok
 returns-in-Ok-fit_of-clause-ok g c =

@@ -11,11 +11,12 @@ returns-then-events-ge-MOST_EVENTS-clause-err g c =
 
 pub returns-in_err-rows-clause-err : goal.returns-in_err-rows-clause-err
 returns-in_err-rows-clause-err g c =
+    let low : c.events.result < 2 ^ 62 = search rules in
     let given : c.from_residual.result ≡ Err c.in_err-rows.field-0.0 = search rules in
     subst (λ r. IfErr r (λ f. Refuses g.B.Body.same g.K.Keeper.holds g.K.Keeper.finds g.K.Keeper.is_faithful g.K.Keeper.failures
     c.args.post.now c.args.keeper.now c.boot_up.new.keeper f))
-    (sym given) (unbooted c.in_err-rows.field-0.0 c.args.keeper.now
-    (anew c.requires refl) c.in_err-rows.ensures.starts c.in_err-rows.ensures.sound)
+    (sym given) (unbooted c.in_err-rows.field-0.0 c.args.keeper.now c.in_err-rows.ensures.unworn
+    (anew c.requires refl (subst (λ n. n < 2 ^ 62) c.events.ensures low)) c.in_err-rows.ensures.starts c.in_err-rows.ensures.sound)
 
 pub returns-clause-ok : goal.returns-clause-ok
 returns-clause-ok g c =
@@ -24,7 +25,7 @@ returns-clause-ok g c =
     (c.me.ensures.number, c.members.ensures) at c.in_ok-rows.ensures.empty in
     record {
       mid = c.args.keeper.now;
-      fits = anew c.requires refl;
+      fits = anew c.requires refl (subst (λ n. n < 2 ^ 62) c.events.ensures low);
       found = c.boot_up.ensures.found;
       faithful = c.boot_up.ensures.faithful;
       boots = c.in_ok-rows.ensures.boots;
