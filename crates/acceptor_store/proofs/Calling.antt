@@ -1,5 +1,6 @@
 -- What is held and found after the calls of a keeper.
-use Rattle.std.proofs.Common.{◌≡◌, ◌⊎◌, inl, inr, ⊎_elim, ℕ, ◌≤◌, true, List, [], Option, None, refl, sym, ap, subst, ◌∙◌, arith, IsTrue}
+use Rattle.std.proofs.Common.{◌≡◌, ◌⊎◌, inl, inr, ⊎_elim, ℕ, ◌≤◌, true, List, [], Option, Some, None, refl, sym, ap, subst, ◌∙◌, arith, IsTrue}
+use Rattle.std.specs.Prelude.{IfSome}
 use Rattle.std.specs.Option.{option_or}
 use Rattle.sqlite_trees.specs.Tree.{Trees}
 use Rattle.sqlite_trees.specs.View.{doubt}
@@ -19,7 +20,7 @@ use Rattle.store_rows.specs.declared.rows.Numbers.{Numbers}
 use Rattle.acceptor_store.specs.Tables.{store_schema, empty_schema}
 use Rattle.acceptor_store.specs.Statements.{IsFounded}
 use Rattle.acceptor_store.specs.Store.{Stores, AreVotes, Leaves, Holds, Finds, LeavesRows, LeavesOr, written, NotLowered, Follows}
-use Rattle.store_rows.specs.Numbers.{numbers_in_rows}
+use Rattle.store_rows.specs.Numbers.{numbers_in_rows, are_numbers}
 use Rattle.acceptor_store.specs.Once.{stored_once}
 use Rattle.acceptor_store.specs.Calls.{keeper_of}
 use Rattle.acceptor_store.proofs.Keeping.{reads_left, leaves_on}
@@ -53,6 +54,10 @@ not_empty reading s rows live settled is_open none stores =
 
 pub earlier : {S : Type 0} (g : Ghosts S) (old new : Held S) → doubt (state g old).is_clean ≤ doubt (state g new).is_clean → HasCleanDisk (state g new) → HasCleanDisk (state g old)
 earlier g old new clean h = omega arith
+
+-- numbers that are known are in range
+pub in_range : {known : Option Numbers} {n : Numbers} → known ≡ Some n → IfSome known (λ m. are_numbers m ≡ true) → are_numbers n ≡ true
+in_range e within = subst (λ k. IfSome k (λ m. are_numbers m ≡ true)) e within
 
 -- what a change makes of rows that have the numbers
 

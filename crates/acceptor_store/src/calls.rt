@@ -1,4 +1,4 @@
-// The calls of a keeper, over its connection and the numbers that it knows.
+// The calls of a keeper, over its session.
 ghost use Rattle.std.specs.Prelude.{◌≡◌, ◌⊎◌, ◌<◌, ◌≤◌, ◌-◌, ◌^◌, ◌≢◌, Some, [], IsTrue, IfOk, IfErr, OnOk, IsErrOf, true, false};
 ghost use Rattle.std.specs.List.{AllByRecursion};
 ghost use Rattle.sqlite_trees.specs.Tree.{Trees};
@@ -12,13 +12,14 @@ ghost use Rattle.paxos_acceptor.specs.Acceptor.{adopted};
 ghost use Rattle.store_keeper.specs.Keeper.{no_rows};
 ghost use Rattle.acceptor_store.specs.Tables.{empty_schema};
 ghost use Rattle.acceptor_store.specs.Statements.{IsFounded};
-ghost use Rattle.acceptor_store.specs.Store.{Stores, Leaves, Holds, LeavesOr, written, Follows, NotLowered};
+ghost use Rattle.acceptor_store.specs.Store.{Stores, Leaves, LeavesOr, written, Follows, NotLowered};
 ghost use Rattle.store_rows.specs.Numbers.{numbers_in_rows, are_numbers, is_ballot};
 ghost use Rattle.store_rows.specs.Changes.{is_placed};
-ghost use Rattle.acceptor_store.specs.Calls.{keeper_of, AreKnown};
+ghost use Rattle.acceptor_store.specs.Calls.{HeldBy, WhenHeld};
 ghost use Rattle.store_rows.specs.Faults.{LiesBelow};
 ghost use Rattle.acceptor_store.specs.Answers.{Gives, Tells, Refuses, IsUnfit, are_spelled, has_place};
 
+use crate::session::Session;
 use crate::store::{commit_rows, found_store, read_store, settle};
 use crate::tables::is_empty;
 use command_codec::Coder;
@@ -75,55 +76,37 @@ fn numbers_in<B>(rows: &Rows<B>) -> Numbers
 }
 
 // Reads the rows, whose numbers are known from then on.
-fn read<B: Body, C: Coder<B>, S: Alter>(
-    alloc: Global,
-    conn: &mut Connection<S>,
-    known: &mut Option<Numbers>,
-) -> Result<Rows<B>, KeeperFault>
-    requires alone { conn.old.in_transaction ≡ false }
-    requires known { AreKnown known.old }
-    ensures alone { conn.new.in_transaction ≡ false }
-    ensures known { AreKnown known.new }
-    ensures held { IfOk result (Holds S.Store C.reading (keeper_of conn.new known.new)) }
-    ensures right { HasCleanDisk (state S.Store conn.new) → (rows : Rows B) → Holds S.Store C.reading (keeper_of conn.old known.old) rows
-        → IfOk result (λ read. read ≡ rows) }
-    ensures kept { (rows : Rows B) → Holds S.Store C.reading (keeper_of conn.old known.old) rows → Holds S.Store C.reading (keeper_of conn.new known.new) rows }
-    ensures survives { Survives (state S.Store conn.old) (state S.Store conn.new) (λ _. ⊥) }
-    ensures told { IfOk result (λ rows. known.new ≡ Some (numbers_in_rows rows)) }
-    ensures gives { HasCleanDisk (state S.Store conn.new) → IfOk result (Gives C.reading (state S.Store conn.old).now) }
-    ensures tells { HasCleanDisk (state S.Store conn.new) → IfErr result (Tells C.reading (state S.Store conn.old).now) }
-    ensures sound { HasCleanDisk (state S.Store conn.new) → (rows : Rows B) → Holds S.Store C.reading (keeper_of conn.old known.old) rows
-        → IsUnfit result → ⊥ }
+fn read<B: Body, C: Coder<B>, S: Alter>(session: &mut Session<S>) -> Result<Rows<B>, KeeperFault>
+    ensures held { IfOk result (HeldBy S.Store C.reading session.new) }
+    ensures right { WhenHeld S.Store C.reading session.old session.new (λ rows. IfOk result (λ read. read ≡ rows)) }
+    ensures kept { (rows : Rows B) → HeldBy S.Store C.reading session.old rows → HeldBy S.Store C.reading session.new rows }
+    ensures survives { Survives (state S.Store session.old.conn) (state S.Store session.new.conn) (λ _. ⊥) }
+    ensures told { IfOk result (λ rows. session.new.known ≡ Some (numbers_in_rows rows)) }
+    ensures gives { HasCleanDisk (state S.Store session.new.conn) → IfOk result (Gives C.reading (state S.Store session.old.conn).now) }
+    ensures tells { HasCleanDisk (state S.Store session.new.conn) → IfErr result (Tells C.reading (state S.Store session.old.conn).now) }
+    ensures sound { WhenHeld S.Store C.reading session.old session.new (λ rows. IsUnfit result → ⊥) }
     ensures fault { IfErr result LiesBelow }
 {
-    settle(conn); // for the proof
-    let rows = read_store::<B, C, S>(alloc, conn)?;
-    *known = Some(numbers_in(&rows));
+    settle(&session.conn); // for the proof
+    let rows = read_store::<B, C, S>(session.alloc, &mut session.conn)?;
+    session.known = Some(numbers_in(&rows));
     Ok(rows)
 }
 
 // Returns the numbers that the store has; reads the rows if they are not known.
-fn numbers<B: Body, C: Coder<B>, S: Alter>(
-    alloc: Global,
-    conn: &mut Connection<S>,
-    known: &mut Option<Numbers>,
-) -> Result<Numbers, KeeperFault>
-    requires alone { conn.old.in_transaction ≡ false }
-    requires known { AreKnown known.old }
-    ensures alone { conn.new.in_transaction ≡ false }
-    ensures known { AreKnown known.new }
-    ensures kept { (rows : Rows B) → Holds S.Store C.reading (keeper_of conn.old known.old) rows → Holds S.Store C.reading (keeper_of conn.new known.new) rows }
-    ensures survives { Survives (state S.Store conn.old) (state S.Store conn.new) (λ _. ⊥) }
-    ensures told { IfOk result (λ numbers. known.new ≡ Some numbers) }
-    ensures refused { HasCleanDisk (state S.Store conn.new) → IsTrue (state S.Store conn.old).is_open
-        → (rows : Rows B) → Holds S.Store C.reading (keeper_of conn.old known.old) rows → IfErr result (Refuses ⊥) }
+fn numbers<B: Body, C: Coder<B>, S: Alter>(session: &mut Session<S>) -> Result<Numbers, KeeperFault>
+    ensures kept { (rows : Rows B) → HeldBy S.Store C.reading session.old rows → HeldBy S.Store C.reading session.new rows }
+    ensures survives { Survives (state S.Store session.old.conn) (state S.Store session.new.conn) (λ _. ⊥) }
+    ensures told { IfOk result (λ numbers. session.new.known ≡ Some numbers) }
+    ensures refused { WhenHeld S.Store C.reading session.old session.new (λ rows.
+        IsTrue (state S.Store session.old.conn).is_open → IfErr result (Refuses ⊥)) }
     ensures fault { IfErr result LiesBelow }
 {
-    if let Some(numbers) = *known {
+    if let Some(numbers) = session.known {
         return Ok(numbers);
     }
-    settle(conn); // for the proof
-    let rows = read::<B, C, S>(alloc, conn, known)?;
+    settle(&session.conn); // for the proof
+    let rows = read::<B, C, S>(session)?;
     Ok(numbers_in(&rows))
 }
 
@@ -193,66 +176,56 @@ fn put_numbers<B: Body, C: Coder<B>, S: Alter>(
 
 // Commits the change, if it has a place.
 fn write<B: Body, C: Coder<B>, S: Alter>(
-    alloc: Global,
-    conn: &mut Connection<S>,
-    known: &mut Option<Numbers>,
+    session: &mut Session<S>,
     change: &Change<B>,
-    octets: &mut Vec<u8>,
 ) -> Result<(), KeeperFault>
-    requires alone { conn.old.in_transaction ≡ false }
-    requires known { AreKnown known.old }
-    ensures alone { conn.new.in_transaction ≡ false }
-    ensures known { AreKnown known.new }
-    ensures ok { OnOk result ((rows : Rows B) → Holds S.Store C.reading (keeper_of conn.old known.old) rows
-        → Holds S.Store C.reading (keeper_of conn.new known.new) (adopted rows change.now)) }
-    ensures crash { (rows : Rows B) → Holds S.Store C.reading (keeper_of conn.old known.old) rows
-        → LeavesOr S.Store C.reading conn.old conn.new (adopted rows change.now) }
-    ensures placed { HasCleanDisk (state S.Store conn.new) → (rows : Rows B) → Holds S.Store C.reading (keeper_of conn.old known.old) rows
-        → OnOk result (has_place C.spelling (numbers_in_rows rows) change.now ≡ true) }
-    ensures refused { HasCleanDisk (state S.Store conn.new) → IsTrue (state S.Store conn.old).is_open
-        → (rows : Rows B) → Holds S.Store C.reading (keeper_of conn.old known.old) rows
-        → IfErr result (Refuses (has_place C.spelling (numbers_in_rows rows) change.now ≡ false)) }
-    ensures kept { IsErrOf result KeeperFault.Damaged → Survives (state S.Store conn.old) (state S.Store conn.new) (λ _. ⊥) }
+    ensures ok { OnOk result ((rows : Rows B) → HeldBy S.Store C.reading session.old rows
+        → HeldBy S.Store C.reading session.new (adopted rows change.now)) }
+    ensures crash { (rows : Rows B) → HeldBy S.Store C.reading session.old rows
+        → LeavesOr S.Store C.reading session.old.conn session.new.conn (adopted rows change.now) }
+    ensures placed { WhenHeld S.Store C.reading session.old session.new (λ rows. OnOk result (has_place C.spelling (numbers_in_rows rows) change.now ≡ true)) }
+    ensures refused { WhenHeld S.Store C.reading session.old session.new (λ rows.
+        IsTrue (state S.Store session.old.conn).is_open → IfErr result (Refuses (has_place C.spelling (numbers_in_rows rows) change.now ≡ false))) }
+    ensures kept { IsErrOf result KeeperFault.Damaged → Survives (state S.Store session.old.conn) (state S.Store session.new.conn) (λ _. ⊥) }
     ensures fault { IfErr result LiesBelow }
 {
-    let before = numbers::<B, C, S>(alloc, conn, known)?;
+    let before = numbers::<B, C, S>(session)?;
     let Some(next) = numbers_after(&before, change) else {
         return Err(KeeperFault::Damaged);
     };
-    commit_over::<B, C, S>(conn, &before, &next, change.votes.as_slice(), octets)?;
-    *known = Some(next);
+    commit_over::<B, C, S>(
+        &mut session.conn,
+        &before,
+        &next,
+        change.votes.as_slice(),
+        &mut session.octets,
+    )?;
+    session.known = Some(next);
     Ok(())
 }
 
 // Raises the boot number, and commits that.
-fn raise<B: Body, C: Coder<B>, S: Alter>(
-    alloc: Global,
-    conn: &mut Connection<S>,
-    known: &mut Option<Numbers>,
-    octets: &mut Vec<u8>,
-) -> Result<Rows<B>, KeeperFault>
-    requires alone { conn.old.in_transaction ≡ false }
-    requires known { AreKnown known.old }
-    ensures alone { conn.new.in_transaction ≡ false }
-    ensures known { AreKnown known.new }
-    ensures held { IfOk result (Holds S.Store C.reading (keeper_of conn.new known.new)) }
-    ensures right { HasCleanDisk (state S.Store conn.new) → (rows : Rows B) → Holds S.Store C.reading (keeper_of conn.old known.old) rows
-        → IfOk result (λ booted. booted ≡ raised rows) }
-    ensures sound { HasCleanDisk (state S.Store conn.new) → (rows : Rows B) → Holds S.Store C.reading (keeper_of conn.old known.old) rows
-        → IsUnfit result → ⊥ }
-    ensures clean { doubt (state S.Store conn.old).is_clean ≤ doubt (state S.Store conn.new).is_clean }
+fn raise<B: Body, C: Coder<B>, S: Alter>(session: &mut Session<S>) -> Result<Rows<B>, KeeperFault>
+    ensures held { IfOk result (HeldBy S.Store C.reading session.new) }
+    ensures right { WhenHeld S.Store C.reading session.old session.new (λ rows. IfOk result (λ booted. booted ≡ raised rows)) }
+    ensures sound { WhenHeld S.Store C.reading session.old session.new (λ rows. IsUnfit result → ⊥) }
+    ensures clean { doubt (state S.Store session.old.conn).is_clean ≤ doubt (state S.Store session.new.conn).is_clean }
     ensures within { IfOk result (λ rows. rows.boot ≤ last_boot) }
-    ensures last { HasCleanDisk (state S.Store conn.new) → (rows : Rows B) → Holds S.Store C.reading (keeper_of conn.old known.old) rows
-        → IsErrOf result KeeperFault.Boots → last_boot ≤ rows.boot }
-    ensures crash { (rows : Rows B) → Holds S.Store C.reading (keeper_of conn.old known.old) rows
-        → LeavesOr S.Store C.reading conn.old conn.new (raised rows) }
+    ensures last { WhenHeld S.Store C.reading session.old session.new (λ rows. IsErrOf result KeeperFault.Boots → last_boot ≤ rows.boot) }
+    ensures crash { (rows : Rows B) → HeldBy S.Store C.reading session.old rows
+        → LeavesOr S.Store C.reading session.old.conn session.new.conn (raised rows) }
     ensures fault { IfErr result (λ e. e ≢ KeeperFault.Failed) }
 {
-    let mut rows = read::<B, C, S>(alloc, conn, known)?;
+    let mut rows = read::<B, C, S>(session)?;
     raise_boot(&mut rows)?;
     let numbers = numbers_in(&rows);
-    put_numbers::<B, C, S>(alloc, conn, &numbers, octets)?;
-    *known = Some(numbers);
+    put_numbers::<B, C, S>(
+        session.alloc,
+        &mut session.conn,
+        &numbers,
+        &mut session.octets,
+    )?;
+    session.known = Some(numbers);
     Ok(rows)
 }
 
@@ -275,29 +248,21 @@ fn count_refusal(fault: KeeperFault, failures: &mut u64) -> KeeperFault
 
 // Reads the rows; counts refusals of the connection.
 pub(crate) fn load_from<B: Body, C: Coder<B>, S: Alter>(
-    alloc: Global,
-    conn: &mut Connection<S>,
-    known: &mut Option<Numbers>,
+    session: &mut Session<S>,
     failures: &mut u64,
 ) -> Result<Rows<B>, KeeperFault>
-    requires alone { conn.old.in_transaction ≡ false }
-    requires known { AreKnown known.old }
-    ensures alone { conn.new.in_transaction ≡ false }
-    ensures known { AreKnown known.new }
-    ensures held { IfOk result (Holds S.Store C.reading (keeper_of conn.new known.new)) }
-    ensures right { HasCleanDisk (state S.Store conn.new) → (rows : Rows B) → Holds S.Store C.reading (keeper_of conn.old known.old) rows
-        → IfOk result (λ read. read ≡ rows) }
-    ensures kept { (rows : Rows B) → Holds S.Store C.reading (keeper_of conn.old known.old) rows → Holds S.Store C.reading (keeper_of conn.new known.new) rows }
-    ensures survives { Survives (state S.Store conn.old) (state S.Store conn.new) (λ _. ⊥) }
-    ensures gives { HasCleanDisk (state S.Store conn.new) → IfOk result (Gives C.reading (state S.Store conn.old).now) }
-    ensures tells { HasCleanDisk (state S.Store conn.new) → IfErr result (Tells C.reading (state S.Store conn.old).now) }
-    ensures sound { HasCleanDisk (state S.Store conn.new) → (rows : Rows B) → Holds S.Store C.reading (keeper_of conn.old known.old) rows
-        → IsUnfit result → ⊥ }
+    ensures held { IfOk result (HeldBy S.Store C.reading session.new) }
+    ensures right { WhenHeld S.Store C.reading session.old session.new (λ rows. IfOk result (λ read. read ≡ rows)) }
+    ensures kept { (rows : Rows B) → HeldBy S.Store C.reading session.old rows → HeldBy S.Store C.reading session.new rows }
+    ensures survives { Survives (state S.Store session.old.conn) (state S.Store session.new.conn) (λ _. ⊥) }
+    ensures gives { HasCleanDisk (state S.Store session.new.conn) → IfOk result (Gives C.reading (state S.Store session.old.conn).now) }
+    ensures tells { HasCleanDisk (state S.Store session.new.conn) → IfErr result (Tells C.reading (state S.Store session.old.conn).now) }
+    ensures sound { WhenHeld S.Store C.reading session.old session.new (λ rows. IsUnfit result → ⊥) }
     ensures spent { IsErrOf result KeeperFault.Failed → failures.old ≡ 2 ^ 64 - 1 }
     ensures store { IsErrOf result KeeperFault.Store → failures.old < failures.new }
     ensures counts { failures.old ≤ failures.new }
 {
-    match read::<B, C, S>(alloc, conn, known) {
+    match read::<B, C, S>(session) {
         Ok(rows) => Ok(rows),
         Err(fault) => Err(count_refusal(fault, failures)),
     }
@@ -305,32 +270,23 @@ pub(crate) fn load_from<B: Body, C: Coder<B>, S: Alter>(
 
 // Commits the change; counts refusals of the connection.
 pub(crate) fn commit_to<B: Body, C: Coder<B>, S: Alter>(
-    alloc: Global,
-    conn: &mut Connection<S>,
-    known: &mut Option<Numbers>,
+    session: &mut Session<S>,
     change: &Change<B>,
-    octets: &mut Vec<u8>,
     failures: &mut u64,
 ) -> Result<(), KeeperFault>
-    requires alone { conn.old.in_transaction ≡ false }
-    requires known { AreKnown known.old }
-    ensures alone { conn.new.in_transaction ≡ false }
-    ensures known { AreKnown known.new }
-    ensures ok { OnOk result ((rows : Rows B) → Holds S.Store C.reading (keeper_of conn.old known.old) rows
-        → Holds S.Store C.reading (keeper_of conn.new known.new) (adopted rows change.now)) }
-    ensures crash { (rows : Rows B) → Holds S.Store C.reading (keeper_of conn.old known.old) rows
-        → LeavesOr S.Store C.reading conn.old conn.new (adopted rows change.now) }
-    ensures placed { HasCleanDisk (state S.Store conn.new) → (rows : Rows B) → Holds S.Store C.reading (keeper_of conn.old known.old) rows
-        → OnOk result (has_place C.spelling (numbers_in_rows rows) change.now ≡ true) }
-    ensures refused { HasCleanDisk (state S.Store conn.new) → IsTrue (state S.Store conn.old).is_open
-        → (rows : Rows B) → Holds S.Store C.reading (keeper_of conn.old known.old) rows
-        → IfErr result (Refuses (has_place C.spelling (numbers_in_rows rows) change.now ≡ false)) }
-    ensures kept { IsErrOf result KeeperFault.Damaged → Survives (state S.Store conn.old) (state S.Store conn.new) (λ _. ⊥) }
+    ensures ok { OnOk result ((rows : Rows B) → HeldBy S.Store C.reading session.old rows
+        → HeldBy S.Store C.reading session.new (adopted rows change.now)) }
+    ensures crash { (rows : Rows B) → HeldBy S.Store C.reading session.old rows
+        → LeavesOr S.Store C.reading session.old.conn session.new.conn (adopted rows change.now) }
+    ensures placed { WhenHeld S.Store C.reading session.old session.new (λ rows. OnOk result (has_place C.spelling (numbers_in_rows rows) change.now ≡ true)) }
+    ensures refused { WhenHeld S.Store C.reading session.old session.new (λ rows.
+        IsTrue (state S.Store session.old.conn).is_open → IfErr result (Refuses (has_place C.spelling (numbers_in_rows rows) change.now ≡ false))) }
+    ensures kept { IsErrOf result KeeperFault.Damaged → Survives (state S.Store session.old.conn) (state S.Store session.new.conn) (λ _. ⊥) }
     ensures spent { IsErrOf result KeeperFault.Failed → failures.old ≡ 2 ^ 64 - 1 }
     ensures store { IsErrOf result KeeperFault.Store → failures.old < failures.new }
     ensures counts { failures.old ≤ failures.new }
 {
-    match write::<B, C, S>(alloc, conn, known, change, octets) {
+    match write::<B, C, S>(session, change) {
         Ok(()) => Ok(()),
         Err(fault) => Err(count_refusal(fault, failures)),
     }
@@ -338,32 +294,22 @@ pub(crate) fn commit_to<B: Body, C: Coder<B>, S: Alter>(
 
 // Begins a boot; counts refusals of the connection.
 pub(crate) fn boot_from<B: Body, C: Coder<B>, S: Alter>(
-    alloc: Global,
-    conn: &mut Connection<S>,
-    known: &mut Option<Numbers>,
-    octets: &mut Vec<u8>,
+    session: &mut Session<S>,
     failures: &mut u64,
 ) -> Result<Rows<B>, KeeperFault>
-    requires alone { conn.old.in_transaction ≡ false }
-    requires known { AreKnown known.old }
-    ensures alone { conn.new.in_transaction ≡ false }
-    ensures known { AreKnown known.new }
-    ensures held { IfOk result (Holds S.Store C.reading (keeper_of conn.new known.new)) }
-    ensures right { HasCleanDisk (state S.Store conn.new) → (rows : Rows B) → Holds S.Store C.reading (keeper_of conn.old known.old) rows
-        → IfOk result (λ booted. booted ≡ raised rows) }
-    ensures sound { HasCleanDisk (state S.Store conn.new) → (rows : Rows B) → Holds S.Store C.reading (keeper_of conn.old known.old) rows
-        → IsUnfit result → ⊥ }
-    ensures clean { doubt (state S.Store conn.old).is_clean ≤ doubt (state S.Store conn.new).is_clean }
+    ensures held { IfOk result (HeldBy S.Store C.reading session.new) }
+    ensures right { WhenHeld S.Store C.reading session.old session.new (λ rows. IfOk result (λ booted. booted ≡ raised rows)) }
+    ensures sound { WhenHeld S.Store C.reading session.old session.new (λ rows. IsUnfit result → ⊥) }
+    ensures clean { doubt (state S.Store session.old.conn).is_clean ≤ doubt (state S.Store session.new.conn).is_clean }
     ensures within { IfOk result (λ rows. rows.boot ≤ last_boot) }
-    ensures last { HasCleanDisk (state S.Store conn.new) → (rows : Rows B) → Holds S.Store C.reading (keeper_of conn.old known.old) rows
-        → IsErrOf result KeeperFault.Boots → last_boot ≤ rows.boot }
-    ensures crash { (rows : Rows B) → Holds S.Store C.reading (keeper_of conn.old known.old) rows
-        → LeavesOr S.Store C.reading conn.old conn.new (raised rows) }
+    ensures last { WhenHeld S.Store C.reading session.old session.new (λ rows. IsErrOf result KeeperFault.Boots → last_boot ≤ rows.boot) }
+    ensures crash { (rows : Rows B) → HeldBy S.Store C.reading session.old rows
+        → LeavesOr S.Store C.reading session.old.conn session.new.conn (raised rows) }
     ensures spent { IsErrOf result KeeperFault.Failed → failures.old ≡ 2 ^ 64 - 1 }
     ensures store { IsErrOf result KeeperFault.Store → failures.old < failures.new }
     ensures counts { failures.old ≤ failures.new }
 {
-    match raise::<B, C, S>(alloc, conn, known, octets) {
+    match raise::<B, C, S>(session) {
         Ok(rows) => Ok(rows),
         Err(fault) => Err(count_refusal(fault, failures)),
     }

@@ -4,6 +4,7 @@
 
 mod calls;
 pub mod laws;
+mod session;
 mod sql;
 mod statements;
 mod store;

@@ -14,6 +14,7 @@ ghost use Rattle.store_rows.specs.Numbers.{numbers_in_rows};
 ghost use Rattle.acceptor_store.specs.Answers.{Gives, Tells, Refuses, has_place};
 
 use crate::calls::{boot_from, commit_to, found_where_empty, load_from};
+use crate::session::Session;
 use crate::store::settle;
 use command_codec::Coder;
 use paxos_packets::{Body, Change, Rows};
@@ -21,16 +22,12 @@ use sqlite::{Alter, Connection};
 use std::alloc::Global;
 use std::marker::{Model, PhantomData};
 use store_keeper::{Keeper, KeeperFault};
-use store_rows::Numbers;
 
 /// A keeper whose rows are two tables of a SQLite database, with one transaction for each commit.
 ///
 /// It knows the numbers of `meta` from its last read or commit, and keeps one buffer for the octets of an entry; it holds no votes.
 pub struct SqlKeeper<B, C: Coder<B>, S: Alter> {
-    alloc: Global,
-    conn: Connection<S>,
-    known: Option<Numbers>,
-    octets: Vec<u8>,
+    session: Session<S>,
     failed: bool,
     failures: u64,
     of: PhantomData<(B, C)>,
@@ -43,21 +40,13 @@ impl<B, C: Coder<B>, S: Alter> Model for SqlKeeper<B, C, S> {
 
     ghost coded = { kept_code S.code };
 
-    ghost view = { λ k. record { conn = k.conn; known = k.known; is_failed = k.failed; failures = k.failures } };
-
-    ghost use Rattle.std.specs.Prelude.{◌≡◌, false};
-    ghost use Rattle.acceptor_store.specs.Calls.{AreKnown};
-
-    ghost invariant = { λ k. (k.conn.in_transaction ≡ false) × AreKnown k.known };
+    ghost view = { λ k. record { conn = k.session.conn; known = k.session.known; is_failed = k.failed; failures = k.failures } };
 }
 
 impl<B, C: Coder<B>, S: Alter + Drop> Drop for SqlKeeper<B, C, S> {
     fn drop(self) {
         let SqlKeeper {
-            alloc: _,
-            conn: _,
-            known: _,
-            octets: _,
+            session: _session,
             failed: _,
             failures: _,
             of: _,
@@ -92,10 +81,12 @@ impl<B: Body, C: Coder<B>, S: Alter> SqlKeeper<B, C, S> {
         }
         match found_where_empty::<B, C, S>(&mut conn) {
             Ok(()) => Ok(SqlKeeper {
-                alloc,
-                conn,
-                known: None,
-                octets: Vec::new(alloc),
+                session: Session {
+                    alloc,
+                    conn,
+                    known: None,
+                    octets: Vec::new(alloc),
+                },
                 failed: false,
                 failures: 0,
                 of: PhantomData,
@@ -115,16 +106,13 @@ impl<B: Body, C: Coder<B>, S: Alter> SqlKeeper<B, C, S> {
             → (rows : Rows B) × Finds S.Store C.reading self rows × Stores C.reading (state S.Store result).committed.trees rows }
     {
         let SqlKeeper {
-            alloc: _,
-            conn,
-            known: _,
-            octets: _,
+            session,
             failed: _,
             failures: _,
             of: _,
         } = self;
-        settle(&conn); // for the proof
-        conn
+        settle(&session.conn); // for the proof
+        session.into_connection()
     }
 }
 
@@ -164,12 +152,7 @@ impl<B: Body, C: Coder<B>, S: Alter> Keeper<B> for SqlKeeper<B, C, S> {
         if self.failed {
             return Err(KeeperFault::Failed);
         }
-        load_from::<B, C, S>(
-            self.alloc,
-            &mut self.conn,
-            &mut self.known,
-            &mut self.failures,
-        )
+        load_from::<B, C, S>(&mut self.session, &mut self.failures)
     }
 
     /// Commits in one transaction and one sync, with a statement for `meta` if the promise changes and one for each vote, which takes the
@@ -199,14 +182,7 @@ impl<B: Body, C: Coder<B>, S: Alter> Keeper<B> for SqlKeeper<B, C, S> {
         if self.failed {
             return Err(KeeperFault::Failed);
         }
-        let done = commit_to::<B, C, S>(
-            self.alloc,
-            &mut self.conn,
-            &mut self.known,
-            change,
-            &mut self.octets,
-            &mut self.failures,
-        );
+        let done = commit_to::<B, C, S>(&mut self.session, change, &mut self.failures);
         self.failed = done.is_err();
         done
     }
@@ -216,13 +192,7 @@ impl<B: Body, C: Coder<B>, S: Alter> Keeper<B> for SqlKeeper<B, C, S> {
         if self.failed {
             return Err(KeeperFault::Failed);
         }
-        let booted = boot_from::<B, C, S>(
-            self.alloc,
-            &mut self.conn,
-            &mut self.known,
-            &mut self.octets,
-            &mut self.failures,
-        );
+        let booted = boot_from::<B, C, S>(&mut self.session, &mut self.failures);
         self.failed = booted.is_err();
         booted
     }

@@ -8,9 +8,8 @@ use Rattle.paxos_acceptor.specs.Acceptor.{adopted}
 use Rattle.acceptor_store.specs.Store.{Stores, Leaves, Agrees, written}
 use Rattle.store_rows.specs.Numbers.{numbers_in_rows}
 use Rattle.store_rows.specs.Changes.{is_placed}
-use Rattle.acceptor_store.specs.Calls.{AreKnown}
 use Rattle.acceptor_store.proofs.Changing.{places}
-use Rattle.acceptor_store.proofs.Calling.{earlier, adopts, not_lower, leaves_none, leaves_then}
+use Rattle.acceptor_store.proofs.Calling.{earlier, in_range, adopts, not_lower, leaves_none, leaves_then}
 use Rattle.store_keeper.specs.declared.fault.KeeperFault.TheVariants.{Damaged}
 use Rattle.acceptor_store.specs.Answers.{Refuses, are_spelled, has_place}
 use Rattle.acceptor_store.proofs.Refusing.{placed, unplaced, unspelled, refuses_for, same_fault}
@@ -18,7 +17,7 @@ use Rattle.acceptor_store.proofs.calls.write.Goals as goal
 
 pub returns-clause-ok : goal.returns-clause-ok
 returns-clause-ok g c rows holds clean =
-    let mid = c.numbers.new.conn in
+    let mid = c.numbers.new.session.conn in
     let before = c.in_ok-before.before in
     let next = c.in-Some.next in
     let change = c.args.change.now in
@@ -32,35 +31,37 @@ returns-clause-ok g c rows holds clean =
 
 pub commit_over-requires-clause-numbers : goal.commit_over-requires-clause-numbers
 commit_over-requires-clause-numbers g c =
-    (places c.in_ok-before.before c.args.change.now c.in-Some.next (sym c.in-Some.ensures)).numbers (subst AreKnown c.in_ok-before.ensures.told c.numbers.ensures.known)
+    (places c.in_ok-before.before c.args.change.now c.in-Some.next (sym c.in-Some.ensures)).numbers (in_range c.in_ok-before.ensures.told c.numbers.new.session.in_range)
 
 pub commit_over-requires-clause-ballots : goal.commit_over-requires-clause-ballots
 commit_over-requires-clause-ballots g c =
     rw c.as_slice.ensures.votes (places c.in_ok-before.before c.args.change.now c.in-Some.next (sym c.in-Some.ensures)).ballots
 
-pub returns-clause-known : goal.returns-clause-known
-returns-clause-known g c =
-    (places c.in_ok-before.before c.args.change.now c.in-Some.next (sym c.in-Some.ensures)).numbers (subst AreKnown c.in_ok-before.ensures.told c.numbers.ensures.known)
+pub invariant_of-session-2 : goal.invariant_of-session-2
+invariant_of-session-2 g c = record {
+  alone = c.commit_over.ensures.alone;
+  in_range = (places c.in_ok-before.before c.args.change.now c.in-Some.next (sym c.in-Some.ensures)).numbers (in_range c.in_ok-before.ensures.told c.numbers.new.session.in_range);
+}
 
 pub returns-clause-placed : goal.returns-clause-placed
 returns-clause-placed g c clean rows holds =
     let spelling = g.C.Coder.spelling in
     let before = c.in_ok-before.before in
     let change = c.args.change.now in
-    let early = earlier g.S.Store c.numbers.new.conn c.commit_over.new.conn c.commit_over.ensures.clean clean in
+    let early = earlier g.S.Store c.numbers.new.session.conn c.commit_over.new.conn c.commit_over.ensures.clean clean in
     let same : before ≡ numbers_in_rows rows = subst (λ k. Agrees k rows) c.in_ok-before.ensures.told (c.numbers.ensures.kept rows holds early).1 in
     let all = subst (λ vs. are_spelled spelling vs ≡ true) c.as_slice.ensures.votes c.in_ok-commit_over.ensures.spelled in
     subst (λ n. has_place spelling n change ≡ true) same (placed spelling before change c.in-Some.next (sym c.in-Some.ensures) all)
 
 pub returns-in_err-before-clause-refused : goal.returns-in_err-before-clause-refused
-returns-in_err-before-clause-refused g c clean is_open rows holds =
+returns-in_err-before-clause-refused g c clean rows holds is_open =
     let P = has_place g.C.Coder.spelling (numbers_in_rows rows) c.args.change.now ≡ false in
     let given : c.from_residual.result ≡ Err c.in_err-before.field-0.0 = search rules in
     subst (λ r. IfErr r (Refuses P)) (sym given)
-    (refuses_for c.in_err-before.field-0.0 (λ none. absurd none) (c.in_err-before.ensures.refused clean is_open rows holds))
+    (refuses_for c.in_err-before.field-0.0 (λ none. absurd none) (c.in_err-before.ensures.refused clean rows holds is_open))
 
 pub returns-in_default-clause-refused : goal.returns-in_default-clause-refused
-returns-in_default-clause-refused g c clean is_open rows holds =
+returns-in_default-clause-refused g c clean rows holds is_open =
     let spelling = g.C.Coder.spelling in
     let before = c.in_ok-before.before in
     let change = c.args.change.now in
@@ -68,11 +69,11 @@ returns-in_default-clause-refused g c clean is_open rows holds =
     subst (λ n. has_place spelling n change ≡ false) same (unplaced spelling before change (sym c.in_default.ensures))
 
 pub returns-in_err-commit_over-clause-refused : goal.returns-in_err-commit_over-clause-refused
-returns-in_err-commit_over-clause-refused g c clean is_open rows holds =
+returns-in_err-commit_over-clause-refused g c clean rows holds is_open =
     let spelling = g.C.Coder.spelling in
     let before = c.in_ok-before.before in
     let change = c.args.change.now in
-    let early = earlier g.S.Store c.numbers.new.conn c.commit_over.new.conn c.commit_over.ensures.clean clean in
+    let early = earlier g.S.Store c.numbers.new.session.conn c.commit_over.new.conn c.commit_over.ensures.clean clean in
     let same : before ≡ numbers_in_rows rows = subst (λ k. Agrees k rows) c.in_ok-before.ensures.told (c.numbers.ensures.kept rows holds early).1 in
     let P = has_place spelling (numbers_in_rows rows) change ≡ false in
     let given : c.from_residual-in_err-commit_over.result ≡ Err c.in_err-commit_over.field-0.0 = search rules in
@@ -83,12 +84,12 @@ returns-in_err-commit_over-clause-refused g c clean is_open rows holds =
 
 pub returns-clause-crash : goal.returns-clause-crash
 returns-clause-crash g c rows holds =
-    let mid = c.numbers.new.conn in
+    let mid = c.numbers.new.session.conn in
     let new = c.commit_over.new.conn in
     let before = c.in_ok-before.before in
     let next = c.in-Some.next in
     let change = c.args.change.now in
-    leaves_then g.S.Store g.C.Coder.reading c.args.conn.now mid new (adopted rows change) c.numbers.ensures.survives c.commit_over.ensures.clean (λ clean trees may.
+    leaves_then g.S.Store g.C.Coder.reading c.args.session.now.conn mid new (adopted rows change) c.numbers.ensures.survives c.commit_over.ensures.clean (λ clean trees may.
     let held = c.numbers.ensures.kept rows holds (earlier g.S.Store mid new c.commit_over.ensures.clean clean) in
     let same : before ≡ numbers_in_rows rows = subst (λ k. Agrees k rows) c.in_ok-before.ensures.told held.1 in
     let p = places before change next (sym c.in-Some.ensures) in
@@ -99,12 +100,12 @@ returns-clause-crash g c rows holds =
 
 pub returns-in_err-commit_over-clause-crash : goal.returns-in_err-commit_over-clause-crash
 returns-in_err-commit_over-clause-crash g c rows holds =
-    let mid = c.numbers.new.conn in
+    let mid = c.numbers.new.session.conn in
     let new = c.commit_over.new.conn in
     let before = c.in_ok-before.before in
     let next = c.in-Some.next in
     let change = c.args.change.now in
-    leaves_then g.S.Store g.C.Coder.reading c.args.conn.now mid new (adopted rows change) c.numbers.ensures.survives c.commit_over.ensures.clean (λ clean trees may.
+    leaves_then g.S.Store g.C.Coder.reading c.args.session.now.conn mid new (adopted rows change) c.numbers.ensures.survives c.commit_over.ensures.clean (λ clean trees may.
     let held = c.numbers.ensures.kept rows holds (earlier g.S.Store mid new c.commit_over.ensures.clean clean) in
     let same : before ≡ numbers_in_rows rows = subst (λ k. Agrees k rows) c.in_ok-before.ensures.told held.1 in
     let p = places before change next (sym c.in-Some.ensures) in
@@ -115,15 +116,15 @@ returns-in_err-commit_over-clause-crash g c rows holds =
 
 pub returns-in_err-before-clause-crash : goal.returns-in_err-before-clause-crash
 returns-in_err-before-clause-crash g c rows holds =
-    leaves_none g.S.Store g.C.Coder.reading c.args.conn.now c.numbers.new.conn (adopted rows c.args.change.now) c.numbers.ensures.survives
+    leaves_none g.S.Store g.C.Coder.reading c.args.session.now.conn c.numbers.new.session.conn (adopted rows c.args.change.now) c.numbers.ensures.survives
 
 pub returns-in_default-clause-crash : goal.returns-in_default-clause-crash
 returns-in_default-clause-crash g c rows holds =
-    leaves_none g.S.Store g.C.Coder.reading c.args.conn.now c.numbers.new.conn (adopted rows c.args.change.now) c.numbers.ensures.survives
+    leaves_none g.S.Store g.C.Coder.reading c.args.session.now.conn c.numbers.new.session.conn (adopted rows c.args.change.now) c.numbers.ensures.survives
 
 pub returns-in_err-commit_over-clause-kept : goal.returns-in_err-commit_over-clause-kept
 returns-in_err-commit_over-clause-kept g c damaged =
     let given : c.from_residual-in_err-commit_over.result ≡ Err c.in_err-commit_over.field-0.0 = search rules in
     let same : c.in_err-commit_over.field-0.0 ≡ Damaged = same_fault (sym given ∙ damaged) in
-    survives_then (state g.S.Store c.args.conn.now) (state g.S.Store c.numbers.new.conn) (state g.S.Store c.commit_over.new.conn) (λ _. ⊥) (λ _. ⊥) (λ _. ⊥)
+    survives_then (state g.S.Store c.args.session.now.conn) (state g.S.Store c.numbers.new.session.conn) (state g.S.Store c.commit_over.new.conn) (λ _. ⊥) (λ _. ⊥) (λ _. ⊥)
     (λ _ trees none. none) (λ _ trees none. none) c.numbers.ensures.survives (c.commit_over.ensures.kept (c.in_err-commit_over.was ∙ ap Err same))

@@ -14,12 +14,12 @@ returns-clause-last g c clean rows holds spent =
 pub returns-clause-found : goal.returns-clause-found
 returns-clause-found g c rows holds x found =
     ⊎_elim (λ was. inl (subst (λ k. Finds g.S.Store g.C.Coder.reading k x) c.self.view_is was)) (λ next. inr next)
-    (found_or g.S.Store g.C.Coder.reading _ c.boot_from-booted.new.conn _ (c.boot_from-booted.ensures.crash rows (subst (λ k. Holds g.S.Store g.C.Coder.reading k rows) (sym c.self.view_is) holds)) x found)
+    (found_or g.S.Store g.C.Coder.reading _ c.boot_from-booted.new.session.conn _ (c.boot_from-booted.ensures.crash rows (subst (λ k. Holds g.S.Store g.C.Coder.reading k rows) (sym c.self.view_is) holds)) x found)
 
 pub returns-clause-left : goal.returns-clause-left
 returns-clause-left g c rows holds =
     let held = subst (λ k. Holds g.S.Store g.C.Coder.reading k rows) (sym c.self.view_is) holds in
-    rows_or g.S.Store g.C.Coder.reading _ c.boot_from-booted.new.conn _ rows _ (c.boot_from-booted.ensures.crash rows held) held
+    rows_or g.S.Store g.C.Coder.reading _ c.boot_from-booted.new.session.conn _ rows _ (c.boot_from-booted.ensures.crash rows held) held
 
 pub returns-clause-sound : goal.returns-clause-sound
 returns-clause-sound g c clean rows holds damaged =

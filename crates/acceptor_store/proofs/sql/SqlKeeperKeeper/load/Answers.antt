@@ -15,11 +15,11 @@ returns-clause-same g c rows holds = c.load_from.ensures.kept rows (subst (λ k.
 
 pub returns-clause-found : goal.returns-clause-found
 returns-clause-found g c x found =
-    subst (λ k. Finds g.S.Store g.C.Coder.reading k x) c.self.view_is (found_no_more g.S.Store g.C.Coder.reading c.self.inside.conn c.load_from.new.conn c.load_from.ensures.survives x found)
+    subst (λ k. Finds g.S.Store g.C.Coder.reading k x) c.self.view_is (found_no_more g.S.Store g.C.Coder.reading c.self.inside.session.conn c.load_from.new.session.conn c.load_from.ensures.survives x found)
 
 pub returns-clause-left : goal.returns-clause-left
 returns-clause-left g c left =
-    rows_on g.S.Store g.C.Coder.reading c.self.inside.conn c.load_from.new.conn c.load_from.ensures.survives (subst (LeavesRows g.S.Store g.C.Coder.reading) (sym c.self.view_is) left)
+    rows_on g.S.Store g.C.Coder.reading c.self.inside.session.conn c.load_from.new.session.conn c.load_from.ensures.survives (subst (LeavesRows g.S.Store g.C.Coder.reading) (sym c.self.view_is) left)
 
 pub returns-clause-gives : goal.returns-clause-gives
 returns-clause-gives g c clean =
