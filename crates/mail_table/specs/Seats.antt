@@ -8,7 +8,7 @@ use Rattle.paxos_packets.specs.Members.{IsMember}
 use Rattle.mail_table.specs.declared.part.Doing.TheVariants.{Idle}
 use Rattle.mail_table.specs.declared.part.Part.{Part}
 use Rattle.mail_table.specs.Boxes.{Sat, sits}
-use Rattle.mail_table.specs.Views.{log_in, only, place, unopened}
+use Rattle.mail_table.specs.Views.{length_in, only, place, unopened}
 
 -- the office in which it was founded, the table's number there, and the number of its nodes
 pub record Mailed : Type 0 where
@@ -51,7 +51,7 @@ is_whole m seats = (length seats == m.members) && (list_all (λ s. s.table == m.
 
 -- the lengths of the logs, by node
 abbrev pub with_length : {B : Type 0} → List ℕ → Seated B → List ℕ
-with_length lengths s = slice_set lengths (place s.part.me) (length (log_in s.part.seen))
+with_length lengths s = slice_set lengths (place s.part.me) (length_in s.part.seen)
 
 abbrev pub lengths_of : {B : Type 0} → List (Seated B) → List ℕ
 lengths_of seats = fold with_length (replicate 7 0) seats
@@ -70,7 +70,7 @@ pub record IsAlone {B : Type 0} (n me_is count length_is : ℕ) (t : TableId) (m
   pub node : (only me.0).me ≡ me_is
   pub idle : (only me.0).doing ≡ Idle
   pub events : (only me.0).events ≡ count
-  pub log : length (log_in (only me.0).seen) ≡ length_is
+  pub log : length_in (only me.0).seen ≡ length_is
   pub member : IsMember n me_is
   pub slots : t.slots ≡ 8 * (n * n)
   pub most : n ≤ 7

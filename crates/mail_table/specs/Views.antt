@@ -3,7 +3,7 @@ use Rattle.std.specs.Prelude.{ℕ, zero, suc, ◌+◌, ◌*◌, ◌==◌, Bool, 
 use Rattle.paxos_packets.specs.declared.entry.Entry.{Entry}
 use Rattle.paxos_packets.specs.declared.packet.Packet.{Packet}
 use Rattle.paxos_packets.specs.declared.rows.Rows.{Rows}
-use Rattle.paxos_planning.specs.Node.{NodeState}
+use Rattle.paxos_planning.specs.Node.{NodeState, log_length}
 use Rattle.paxos_node.specs.Applying.{started}
 use Rattle.paxos_node.specs.View.{Viewed, moved}
 use Rattle.paxos_node.specs.declared.view.Opened.{Opened}
@@ -60,6 +60,15 @@ log_shown (With r) v = v.applied
 
 abbrev pub log_in : {B : Type 0} → Viewed B → List (Entry B)
 log_in seen = log_shown seen.opened seen.node
+
+-- how long it is: the slot of its last entry
+
+abbrev pub length_shown : {B : Type 0} → Opened B → NodeState B → ℕ
+length_shown Never v = 0
+length_shown (With r) v = log_length v
+
+abbrev pub length_in : {B : Type 0} → Viewed B → ℕ
+length_in seen = length_shown seen.opened seen.node
 
 -- the part in a view that has one
 abbrev pub only : {B : Type 0} → List (Part B) → Part B

@@ -1,9 +1,9 @@
 //! A node's seat at the table.
-ghost use Rattle.std.specs.Prelude.{◌≡◌, ◌<◌, ◌≤◌, [], length, slice_get, Some};
+ghost use Rattle.std.specs.Prelude.{◌≡◌, ◌<◌, ◌≤◌, [], slice_get, Some};
 ghost use Rattle.paxos_packets.specs.Members.{IsMember};
 ghost use Rattle.mail_table.specs.Boxes.{sits};
 ghost use Rattle.mail_table.specs.Offices.{name_of};
-ghost use Rattle.mail_table.specs.Views.{log_in, place, unopened};
+ghost use Rattle.mail_table.specs.Views.{length_in, place, unopened};
 ghost use Rattle.std.specs.Prelude.{◌*◌, ◌^◌, nat_lt};
 
 use crate::office::Mark;
@@ -79,7 +79,7 @@ impl<B: Body> NodeSeat<B> {
 
     // Returns how long the log of its node is.
     pub(crate) fn log(&self) -> u64
-        ensures { result ≡ length (log_in self.now.part.seen) }
+        ensures { result ≡ length_in self.now.part.seen }
     {
         self.log
     }
