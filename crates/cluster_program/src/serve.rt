@@ -3,7 +3,7 @@ ghost use Rattle.cluster_program.specs.Fault.{ends_nothing};
 
 use crate::fault::of_serve;
 use program_order::Members;
-use serve_program::Gate;
+use serve_program::{ClusterConfig, Gate};
 use std::io::{Eprint, Read, Write};
 use std::net::{Net, TcpListener, TcpStream};
 use std::sync::Wait;
@@ -47,11 +47,16 @@ where
     G: Gate + Sync,
     ensures { IfErr result (λ fault. ends_nothing fault ≡ false) }
 {
-    match serve_program::serve_run(
-        rt, host, reader, writer, members, port, key, dir, realm, gate,
-    ) {
-        Ok(served) => {
-            drop(served);
+    let config = ClusterConfig {
+        members,
+        port,
+        key,
+        dir,
+        realm,
+    };
+    match serve_program::serve_run(rt, host, reader, writer, config, gate) {
+        Ok(end) => {
+            drop(end);
             Ok(())
         }
         Err(fault) => Err(of_serve(fault)),

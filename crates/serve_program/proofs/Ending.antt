@@ -81,11 +81,11 @@ kept m n (acted.LostHere says) may = absurd may
 refused : {B K Y : Type 0} (same : B → B → Bool) (holds finds : K → Rows B → Type 0) (is_faithful : K → Type 0) (failures : K → ℕ)
     (p : Posted B) (old new : K) (f : ActorFault Y) → Refuses same holds finds is_faithful failures p old new f
     → ends_by (actor.number_of f) ≡ true
-refused same holds finds is_faithful failures p old new _ (unread f stays rose sound) = stored f
+refused same holds finds is_faithful failures p old new _ (unread k f has stays rose sound) = stored f
 refused same holds finds is_faithful failures p old new _ (others k r has loads fit) = refl
-refused same holds finds is_faithful failures p old new _ (unjudged r loads) = refl
+refused same holds finds is_faithful failures p old new _ (unjudged k r has loads other failed) = refl
 refused same holds finds is_faithful failures p old new _ (worn is) = refl
-refused same holds finds is_faithful failures p old new _ (unbooted f mid fits starts sound) = kept (failures mid) (failures new) f starts.may
+refused same holds finds is_faithful failures p old new _ (unbooted f mid unworn fits starts sound) = kept (failures mid) (failures new) f starts.may
 refused same holds finds is_faithful failures p old new _ (strayed mid fits not_faithful starts) = refl
 
 -- so what becomes of its fault ends the node

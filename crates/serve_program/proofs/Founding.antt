@@ -1,5 +1,5 @@
 -- The seats that a table is founded with are its own, and no node was opened at them.
-use Rattle.std.proofs.Common.{◌≡◌, ◌<◌, ℕ, zero, suc, refl, sym, subst, arith, List, [], ◌∷◌, ◌++◌}
+use Rattle.std.proofs.Common.{◌≡◌, ℕ, zero, suc, refl, sym, subst, arith, List, [], ◌∷◌}
 use Rattle.std.proofs.lemmas.List.Elements.{All-append}
 use Rattle.std.specs.Prelude.{All}
 use Rattle.paxos_node.specs.declared.view.Opened.TheVariants.{Never}

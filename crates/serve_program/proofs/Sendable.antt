@@ -49,6 +49,7 @@ use denote.Ref.{NamedLft}
 use Rattle.rtrb.proofs.end.End.TheSendSync as end
 use Rattle.serve_connections.proofs.Crossing.{arrival_send}
 use Rattle.serve_program.specs.declared.cluster.Cluster as cluster
+use Rattle.serve_program.specs.contracts.cluster.FreshSeat as fresh_seat
 use Rattle.serve_program.specs.contracts.cluster.Left as left
 use Rattle.serve_program.specs.contracts.fault.NodeEnd as node_end
 use Rattle.serve_program.specs.contracts.nodes.End as ended
@@ -202,8 +203,11 @@ node_end_send = search sendable depth 20
 pub ended_send : IsSend ended.the_field.row
 ended_send = let e = node_end_send in search sendable depth 20
 
+fresh_seat_send : (κ : NamedLft) → IsSend (fresh_seat.the_field κ act.the_row body.ghosts).row
+fresh_seat_send κ = let s = seat_send in let m = mail_sync in search (sendable, heap.crosses) depth 20
+
 pub station_send : (κ : NamedLft) (C : RattleType) (g : cluster.Ghosts C.Denot) → IsSend C → IsSend (station.the_field κ C g).row
-station_send κ C g c = let s = seat_send in let m = mail_sync in let a = arrival_send in search (sendable, heap.crosses, end.the_send) depth 20
+station_send κ C g c = let f = fresh_seat_send κ in let a = arrival_send in search (sendable, heap.crosses, end.the_send) depth 20
 
 pub left_send : (C : RattleType) (g : cluster.Ghosts C.Denot) → IsSend C → IsSend (left.the_field C g).row
 left_send C g c = let s = seat_send in search sendable depth 20

@@ -100,6 +100,15 @@ pub(crate) struct NodeEnd {
     ghost ending: { IsEnding fault },
 }
 
+/// Why the nodes of a cluster were stopped before its input ended.
+#[derive(Drop)]
+pub(crate) enum ClusterStop {
+    /// This node ended before its gate was shut.
+    Node(NodeEnd),
+    /// Memory ran out, or no thread could be made.
+    Memory,
+}
+
 /// Why a cluster ended before its input did.
 #[derive(Clone, Copy, Debug, PartialEq, Eq, Drop, Error)]
 pub enum ServeFault {
@@ -128,13 +137,26 @@ fn fault_at(node: u8, fault: NodeFault) -> ServeFault
     }
 }
 
-/// Returns the fault of a cluster in which a node ended so.
-pub(crate) fn fault_of(end: NodeEnd) -> ServeFault
+// Returns the fault of a cluster in which a node ended so.
+fn fault_of(end: NodeEnd) -> ServeFault
     ensures at { FaultAt end.node end.fault result }
     ensures ends { EndsAll result }
 {
     let NodeEnd { node, fault } = end;
     fault_at(node, fault)
+}
+
+impl From<ClusterStop> for ServeFault {
+    ghost use Rattle.serve_program.specs.Fault.{EndsAll};
+
+    ghost from_gives = { λ stop made. EndsAll made };
+
+    fn from(stop: ClusterStop) -> ServeFault {
+        match stop {
+            ClusterStop::Node(end) => fault_of(end),
+            ClusterStop::Memory => ServeFault::Memory,
+        }
+    }
 }
 
 impl From<AllocError> for ServeFault {

@@ -2,19 +2,19 @@
 #![tactic(auto)]
 
 mod cluster;
+mod cluster_end;
 mod fault;
 mod lives;
 mod nodes;
 mod serve;
-mod served;
 mod source;
 mod station;
 mod stores;
 
 pub use actor_run::Gate;
+pub use cluster_end::ClusterEnd;
 pub use fault::{NodeFault, ServeFault};
 pub use mail_table::NodeSeat;
 pub use node_actor::{KeeperFault, Members};
 pub use realm_machine::Act;
-pub use serve::serve_run;
-pub use served::Served;
+pub use serve::{ClusterConfig, serve_run};

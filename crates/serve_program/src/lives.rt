@@ -3,15 +3,15 @@
 ghost use Rattle.std.specs.Prelude.{◌≡◌, [], true, false, IfOk, IfErr, OnOk};
 ghost use Rattle.actor_parts.specs.Fault as actor;
 ghost use Rattle.mail_table.specs.Seats.{Owns};
-ghost use Rattle.paxos_node.specs.declared.view.Opened.TheVariants.{Never};
 ghost use Rattle.node_actor.specs.Views.{StandsFor};
 ghost use Rattle.serve_program.specs.declared.fault.NodeFault.TheVariants.{Lost};
 ghost use Rattle.serve_program.specs.Fault.{number_of, is_fatal, IsEnding};
 
+use crate::cluster::FreshSeat;
 use crate::fault::NodeFault;
 use crate::source::{Boots, Source};
 use actor_run::{Gate, run_node};
-use node_actor::{Actor, ActorFault, Body, Keeper, Machine, Mail, Members, NodeSeat, Post};
+use node_actor::{Actor, ActorFault, Body, Keeper, Machine, Mail, NodeSeat, Post};
 use std::alloc::Global;
 
 // Returns the fault, and drops the rest of the node.
@@ -27,20 +27,20 @@ fn fault_of<B: Body, Y: Drop, K: Drop>(left: (ActorFault<Y>, Post<B>, K)) -> Nod
 // Opens the actor of a node that was never opened, with this machine.
 fn open_with<M: Machine, K: Keeper<M::Body> + Drop>(
     alloc: Global,
-    mail: &Mail<M::Body>,
-    members: Members,
-    seat: NodeSeat<M::Body>,
+    fresh: FreshSeat<'_, M::Body>,
     machine: M,
     keeper: K,
 ) -> Result<Actor<M, K>, NodeFault>
-    requires owned { Owns mail.now seat }
-    requires fresh { seat.part.seen.opened ≡ Never }
-    requires table { members ≡ mail.now.members }
-    requires machine { M.has_failed machine ≡ false }
-    ensures owned { IfOk result (λ actor. Owns mail.now actor.seat) }
+    requires { M.has_failed machine ≡ false }
+    ensures owned { IfOk result (λ actor. Owns fresh.entry.mail.now actor.seat) }
     ensures stands { IfOk result (λ actor. StandsFor actor actor.seat) }
     ensures ending { IfErr result IsEnding }
 {
+    let FreshSeat {
+        mail,
+        members,
+        seat,
+    } = fresh;
     let me = seat.node();
     if me < 1 || members.count() < me {
         return Err(NodeFault::NoMember);
@@ -54,21 +54,16 @@ fn open_with<M: Machine, K: Keeper<M::Body> + Drop>(
 // Opens the actor of a node that was never opened.
 fn open_actor<M: Machine, K: Keeper<M::Body> + Drop, S: Source<M>>(
     alloc: Global,
-    mail: &Mail<M::Body>,
-    members: Members,
-    seat: NodeSeat<M::Body>,
+    fresh: FreshSeat<'_, M::Body>,
     source: &S,
     keeper: K,
 ) -> Result<Actor<M, K>, NodeFault>
-    requires owned { Owns mail.now seat }
-    requires fresh { seat.part.seen.opened ≡ Never }
-    requires table { members ≡ mail.now.members }
-    ensures owned { IfOk result (λ actor. Owns mail.now actor.seat) }
+    ensures owned { IfOk result (λ actor. Owns fresh.entry.mail.now actor.seat) }
     ensures stands { IfOk result (λ actor. StandsFor actor actor.seat) }
     ensures ending { IfErr result IsEnding }
 {
     match source.make_machine(alloc) {
-        Ok(machine) => open_with(alloc, mail, members, seat, machine, keeper),
+        Ok(machine) => open_with(alloc, fresh, machine, keeper),
         Err(_) => Err(NodeFault::Memory),
     }
 }
@@ -157,58 +152,14 @@ fn leave<M: Machine, K: Keeper<M::Body> + Drop>(actor: Actor<M, K>) -> NodeSeat<
     seat
 }
 
-// Runs the node's lives, one after the other.
-fn run_each_life<M, K, S, G, F>(
-    alloc: Global,
-    mail: &Mail<M::Body>,
-    actor: Actor<M, K>,
-    source: &S,
-    gate: &G,
-    feed: &mut F,
-) -> Result<NodeSeat<M::Body>, NodeFault>
-where
-    M: Machine,
-    K: Keeper<M::Body> + Drop,
-    S: Source<M>,
-    G: Gate,
-    F: Boots<M::Body, M::Say>,
-    requires owned { Owns mail.now actor.seat }
-    requires stands { StandsFor actor actor.seat }
-    requires told { F.saw feed.old [] [] }
-    ensures owned { IfOk result (λ seat. Owns mail.now seat) }
-    ensures ending { IfErr result IsEnding }
-{
-    let mut actor = actor;
-    for _ in 0..u64::MAX {
-        match run_boot(mail, &mut actor, gate, feed) {
-            Ok(true) => return Ok(leave(actor)),
-            Ok(false) => {}
-            Err(fault) => {
-                drop(actor);
-                return Err(fault);
-            }
-        }
-        match restart_actor(alloc, mail, actor, source) {
-            Ok(next) => {
-                feed.up_again(next.me(), next.boot());
-                actor = next;
-            }
-            Err(fault) => return Err(fault),
-        }
-    }
-    Ok(leave(actor))
-}
-
-/// Opens the node over its store, with a machine from the source, and turns it until its gate is shut; returns its seat. A node that is lost
-/// is crashed and restarted over the same store, which has not failed, with a new machine. The feed notes each boot.
+/// Opens the node at this seat over its store, with a machine from the source, and turns it until its gate is shut; returns its seat. A node
+/// that is lost is crashed and restarted over the same store, which has not failed, with a new machine. The feed notes each boot.
 ///
 /// Any other fault ends the node and is returned: `NoMember` for a seat of no member, `Memory` if the source has none, the actor's or the
 /// store's. It is never `Lost`, nor `Rounds` or `Full`, which end no run. Seat, machine and store are dropped then.
 pub(crate) fn run_lives<M, K, S, G, F>(
     alloc: Global,
-    mail: &Mail<M::Body>,
-    members: Members,
-    seat: NodeSeat<M::Body>,
+    fresh: FreshSeat<'_, M::Body>,
     source: &S,
     keeper: K,
     gate: &G,
@@ -220,17 +171,23 @@ where
     S: Source<M>,
     G: Gate,
     F: Boots<M::Body, M::Say>,
-    requires owned { Owns mail.now seat }
-    requires fresh { seat.part.seen.opened ≡ Never }
-    requires table { members ≡ mail.now.members }
-    ensures owned { IfOk result (λ seat. Owns mail.now seat) }
+    ensures owned { IfOk result (λ seat. Owns fresh.entry.mail.now seat) }
     ensures ending { IfErr result IsEnding }
 {
-    match open_actor::<M, K, S>(alloc, mail, members, seat, source, keeper) {
-        Ok(actor) => {
-            feed.up(actor.me(), actor.boot());
-            run_each_life(alloc, mail, actor, source, gate, feed)
+    let mail = fresh.mail;
+    let mut actor = open_actor::<M, K, S>(alloc, fresh, source, keeper)?;
+    feed.up(actor.me(), actor.boot());
+    for _ in 0..u64::MAX {
+        match run_boot(mail, &mut actor, gate, feed) {
+            Ok(true) => return Ok(leave(actor)),
+            Ok(false) => {}
+            Err(fault) => {
+                drop(actor);
+                return Err(fault);
+            }
         }
-        Err(fault) => Err(fault),
+        actor = restart_actor(alloc, mail, actor, source)?;
+        feed.up_again(actor.me(), actor.boot());
     }
+    Ok(leave(actor))
 }

@@ -5,8 +5,8 @@ ghost use Rattle.mail_table.specs.Seats.{Owns};
 ghost use Rattle.paxos_node.specs.declared.view.Opened.TheVariants.{Never};
 ghost use Rattle.serve_program.specs.Fault.{EndsAll};
 
-use crate::cluster::{Cluster, Left};
-use crate::fault::{NodeEnd, ServeFault, fault_of};
+use crate::cluster::{Cluster, FreshSeat, Left};
+use crate::fault::{ClusterStop, NodeEnd, ServeFault};
 use crate::station::{Runs, Site, Station};
 use actor_run::Gate;
 use crossbeam_channel::{Receiver, Sender};
@@ -22,6 +22,16 @@ use std::sync::atomic::Ordering;
 use std::thread;
 use std::thread::Threads;
 use std::time::Clock;
+
+/// A cluster that was founded and does not run yet: its table and its members, and of each node, the first one first, its seat and where its
+/// clients' connections arrive.
+#[derive(Drop)]
+pub(crate) struct FoundedCluster<'a> {
+    pub mail: &'a Mail<Act>,
+    pub members: Members,
+    pub seats: Vec<NodeSeat<Act>>,
+    pub arrivals: Vec<Consumer<Arrival>>,
+}
 
 /// What ends a cluster, or a part of it.
 #[derive(Drop)]
@@ -53,24 +63,30 @@ fn station_of<'a, C: Cluster>(
     let Some(seat) = seats.pop() else {
         return Err(ServeFault::Memory);
     };
-    Ok(Station::new(mail, members, seat, arrivals))
+    let fresh = FreshSeat {
+        mail,
+        members,
+        seat,
+    };
+    Ok(Station::new(fresh, arrivals))
 }
 
 // Returns the stations of all nodes, the last one first.
 fn stations_of<'a, C: Cluster>(
     alloc: Global,
-    mail: &'a Mail<Act>,
-    members: Members,
-    seats: Vec<NodeSeat<Act>>,
-    arrivals: Vec<Consumer<Arrival>>,
+    founded: FoundedCluster<'a>,
 ) -> Result<Vec<Station<'a, C>>, ServeFault>
-    requires cluster { mail.now ≡ C.table }
-    requires fresh { All (λ s. Owns mail.now s × (s.part.seen.opened ≡ Never)) seats.items }
-    requires members { members ≡ mail.now.members }
+    requires cluster { founded.mail.now ≡ C.table }
+    requires fresh { All (λ s. Owns founded.mail.now s × (s.part.seen.opened ≡ Never)) founded.seats.items }
+    requires members { founded.members ≡ founded.mail.now.members }
     ensures ends { IfErr result EndsAll }
 {
-    let mut seats = seats;
-    let mut arrivals = arrivals;
+    let FoundedCluster {
+        mail,
+        members,
+        mut seats,
+        mut arrivals,
+    } = founded;
     let mut stations = Vec::new(alloc);
     for _ in 0..members.count() {
         let station = station_of(mail, members, &mut seats, &mut arrivals)?;
@@ -79,20 +95,15 @@ fn stations_of<'a, C: Cluster>(
     Ok(stations)
 }
 
-// Waits until the input has ended, a node has ended before its gate was shut, or all gates are shut. The error is the node's end; without one
-// an end is missing.
-fn await_end<R: Wait>(
-    rt: &R,
-    ends: &Receiver<End>,
-    members: Members,
-) -> Result<(), Option<NodeEnd>> {
-    let mut left = members.count();
+// Waits until the input has ended, a node has ended before its gate was shut, or the gates of this many nodes are shut.
+fn await_end<R: Wait>(rt: &R, ends: &Receiver<End>, nodes: usize) -> Result<(), ClusterStop> {
+    let mut left = nodes;
     for _ in rt.forever() {
         match ends.recv(rt) {
             Ok(End::Input) => return Ok(()),
-            Ok(End::Node(end)) => return Err(Some(end)),
+            Ok(End::Node(end)) => return Err(ClusterStop::Node(end)),
             Ok(End::Shut) => left = left.saturating_sub(1),
-            Err(_) => return Err(None),
+            Err(_) => return Err(ClusterStop::Memory),
         }
         if left == 0 {
             return Ok(());
@@ -137,8 +148,7 @@ fn run_all<'b, R, G, T, L>(
     stations: Vec<T>,
     site: &'b Site<'b, G>,
     ends: (&Sender<End>, &Receiver<End>),
-    members: Members,
-) -> Result<Vec<L>, Option<NodeEnd>>
+) -> Result<Vec<L>, ClusterStop>
 where
     R: Threads + Wait + Eprint + Sync,
     G: Sync,
@@ -149,7 +159,7 @@ where
     thread::scope(
         thread::scope_env(),
         rt,
-        |scope| -> Result<Vec<L>, Option<NodeEnd>>
+        |scope| -> Result<Vec<L>, ClusterStop>
             requires { IsSync R.row × IsSync G.row × IsSend T.row × IsSend L.row }
         {
             let mut threads = Vec::new(alloc);
@@ -161,9 +171,9 @@ where
                 }
             }
             let end = if spawned {
-                await_end(rt, receiver, members)
+                await_end(rt, receiver, threads.len())
             } else {
-                Err(None)
+                Err(ClusterStop::Memory)
             };
             site.open.store(false, Ordering::SeqCst);
             for lobby in site.lobbies {
@@ -177,33 +187,11 @@ where
             }
             match end {
                 Ok(()) if spawned => Ok(all),
-                Ok(()) => Err(None),
-                Err(end) => Err(end),
+                Ok(()) => Err(ClusterStop::Memory),
+                Err(stop) => Err(stop),
             }
         },
     )
-}
-
-// Runs these stations.
-fn run_stations<'b, R, G, C>(
-    rt: &'b R,
-    alloc: Global,
-    stations: Vec<Station<'_, C>>,
-    site: &'b Site<'b, G>,
-    ends: (&Sender<End>, &Receiver<End>),
-    members: Members,
-) -> Result<Vec<Left<C>>, ServeFault>
-where
-    R: Threads + Wait + Clock + Eprint + Sync,
-    G: Gate + Sync,
-    C: Cluster + Send,
-    ensures ends { IfErr result EndsAll }
-{
-    match run_all(rt, alloc, stations, site, ends, members) {
-        Ok(all) => Ok(all),
-        Err(Some(end)) => Err(fault_of(end)),
-        Err(None) => Err(ServeFault::Memory),
-    }
 }
 
 // Returns the seats of what is left of nodes.
@@ -219,29 +207,26 @@ fn seats_of<C: Cluster>(alloc: Global, all: Vec<Left<C>>) -> Result<Vec<NodeSeat
     Ok(seats)
 }
 
-/// Runs the nodes at these seats, each on a thread, until an end comes; `arrivals` has where their clients' connections arrive. Returns the
-/// seats of all nodes that ended because their gate was shut. An error is the end of a node that ended before all of them were to, or `Memory`.
+/// Runs the nodes of a founded cluster, each on a thread, until an end comes. Returns the seats of all nodes that ended because their gate was
+/// shut. An error is the end of a node that ended before all of them were to, or `Memory`.
 pub(crate) fn run_cluster<R, G, C>(
     rt: &R,
     alloc: Global,
-    mail: &Mail<Act>,
-    seats: Vec<NodeSeat<Act>>,
-    arrivals: Vec<Consumer<Arrival>>,
+    founded: FoundedCluster<'_>,
     site: &Site<'_, G>,
     ends: (&Sender<End>, &Receiver<End>),
-    members: Members,
 ) -> Result<Vec<NodeSeat<Act>>, ServeFault>
 where
     R: Threads + Wait + Clock + Eprint + Sync,
     G: Gate + Sync,
     C: Cluster + Send,
-    requires cluster { mail.now ≡ C.table }
-    requires fresh { All (λ s. Owns mail.now s × (s.part.seen.opened ≡ Never)) seats.items }
-    requires members { members ≡ mail.now.members }
-    ensures owned { IfOk result (λ seats. All (λ s. Owns mail.now s) seats.items) }
+    requires cluster { founded.mail.now ≡ C.table }
+    requires fresh { All (λ s. Owns founded.mail.now s × (s.part.seen.opened ≡ Never)) founded.seats.items }
+    requires members { founded.members ≡ founded.mail.now.members }
+    ensures owned { IfOk result (λ seats. All (λ s. Owns founded.entry.mail.now s) seats.items) }
     ensures ends { IfErr result EndsAll }
 {
-    let stations = stations_of::<C>(alloc, mail, members, seats, arrivals)?;
-    let all = run_stations(rt, alloc, stations, site, ends, members)?;
+    let stations = stations_of::<C>(alloc, founded)?;
+    let all = run_all(rt, alloc, stations, site, ends)?;
     seats_of(alloc, all)
 }

@@ -1,11 +1,11 @@
 //! The cluster: its table, its ports, its threads.
 ghost use Rattle.std.specs.Prelude.{IfOk, IfErr, IfSome};
+ghost use Rattle.serve_program.specs.ClusterEnd.{AgreesAtEnd};
 ghost use Rattle.serve_program.specs.Fault.{EndsAll};
-ghost use Rattle.serve_program.specs.Served.{AgreesAtEnd};
 
+use crate::cluster_end::{ClusterEnd, gather_seats};
 use crate::fault::{NodeFault, ServeFault};
-use crate::nodes::{End, run_cluster};
-use crate::served::{Served, gather_seats};
+use crate::nodes::{End, FoundedCluster, run_cluster};
 use crate::station::Site;
 use crate::stores::{Stores, find_stray};
 use actor_run::Gate;
@@ -30,13 +30,19 @@ const ARRIVALS: usize = 64;
 // The most ends that wait: one of each node, and that of the input.
 const ENDS: usize = 8;
 
-// What is to be served.
-#[derive(Clone, Copy, Drop)]
-struct Plan<'a> {
-    members: Members,
-    port: u16,
-    key: u64,
-    realm: &'a str,
+/// A cluster to be served.
+#[derive(Drop)]
+pub struct ClusterConfig<'a> {
+    /// Its members, a node each.
+    pub members: Members,
+    /// The port of node 1 at 127.0.0.1; each further node's port is the next one.
+    pub port: u16,
+    /// The key of the nodes' draws.
+    pub key: u64,
+    /// The folder with the nodes' databases, `node-I.db` for node I; without one the rows are kept in memory.
+    pub dir: Option<&'a str>,
+    /// The realm's name.
+    pub realm: &'a str,
 }
 
 // ---- before the threads
@@ -152,11 +158,10 @@ fn start_porters<R: Threads + Wait + Clock + Eprint + Clone + Drop + Send + 'sta
     alloc: Global,
     lobbies: &[Arc<Lobby>],
     doors: &mut Vec<Door>,
-    porters: Vec<Producer<Arrival>>,
+    mut porters: Vec<Producer<Arrival>>,
 ) -> Result<(), ServeFault>
     ensures { IfErr result EndsAll }
 {
-    let mut porters = porters;
     let count = doors.len().min(7) as u8;
     let mut node = count;
     for _ in 0..count {
@@ -232,16 +237,38 @@ fn refuse_stray<R: Eprint>(
     })
 }
 
-// Serves clients with a cluster over these stores.
-fn serve<R, I, W, G>(
+// Returns where the nodes' rows are kept. Refuses a folder with the database of a node above the members.
+fn stores_of<'a, R: Eprint>(
     rt: &R,
-    alloc: Global,
+    host: &'a HostRuntime,
+    dir: Option<&'a str>,
+    members: Members,
+) -> Result<Stores<'a>, ServeFault>
+    ensures { IfErr result EndsAll }
+{
+    let Some(folder) = dir else {
+        return Ok(Stores::Memory);
+    };
+    refuse_stray(rt, host, folder, members)?;
+    Ok(Stores::Folder { host, folder })
+}
+
+/// Runs this cluster, each node on a thread under this gate, and serves its clients. Writes where each node listens before that.
+///
+/// Returns when the reader ends, with what the nodes' seats knew, if every node was still running then. An error is the fault that ended the
+/// cluster before; that a node is lost in its boot is none: it begins its next boot, without its clients. A folder that has the database of a
+/// node above the members is refused with `NoMember`, and a line on standard error names the file: nothing is opened or changed then.
+///
+/// Writes each boot, each node that begins to lead, and the fault by which a node ends, in a line on standard error. Threads that wait for a
+/// connection, for a client or for the reader are left.
+pub fn serve_run<R, I, W, G>(
+    rt: &R,
+    host: &HostRuntime,
     reader: I,
     writer: &mut W,
-    plan: Plan<'_>,
-    stores: Stores<'_>,
+    config: ClusterConfig<'_>,
     gate: &G,
-) -> Result<Option<Served>, ServeFault>
+) -> Result<Option<ClusterEnd>, ServeFault>
 where
     R: Net<Listener = TcpListener, Stream = TcpStream>
         + Threads
@@ -256,12 +283,20 @@ where
     I: Read + Drop + Send + 'static,
     W: Write,
     G: Gate + Sync,
-    ensures agrees { IfOk result (λ served. IfSome served (AgreesAtEnd plan.entry.members)) }
+    ensures agrees { IfOk result (λ end. IfSome end (AgreesAtEnd config.entry.members)) }
     ensures ends { IfErr result EndsAll }
 {
-    let members = plan.members;
-    let mut doors = open_doors(rt, alloc, members, plan.port)?;
-    print_ports(writer, members, plan.port)?;
+    let ClusterConfig {
+        members,
+        port,
+        key,
+        dir,
+        realm,
+    } = config;
+    let alloc = host.alloc();
+    let stores = stores_of(rt, host, dir, members)?;
+    let mut doors = open_doors(rt, alloc, members, port)?;
+    print_ports(writer, members, port)?;
     let lobbies = make_lobbies(alloc, members)?;
     let (sender, receiver) = bounded(alloc, ENDS)?;
     let mut office = Office::new();
@@ -278,68 +313,17 @@ where
         gate,
         open: &open,
         lobbies: &lobbies,
-        key: plan.key,
-        realm: plan.realm,
-        began: Instant::now(rt).ok(),
-    };
-    let ends = (&sender, &receiver);
-    let seats = run_cluster::<R, G, Brand>(
-        rt, alloc, &mail, seats, arrivals, &site, ends, members,
-    )?;
-    Ok(gather_seats(mail, seats))
-}
-
-/// Runs a cluster of these members, in the realm of this name, each node on a thread under this gate, and serves clients: node I at port
-/// `port + I - 1` of 127.0.0.1, with draws by this key. Rows are kept in `dir/node-I.db`, or in memory without a folder. It writes where each
-/// node listens before it serves clients.
-///
-/// It ends when the reader does, and returns what the nodes' seats knew, if every node was still running then. Or it ends by a fault; a node
-/// that is lost in its boot is none: it begins its next boot, without its clients. A folder that has the database of a node above the members is refused with `NoMember`, and a line on standard error names the file: nothing is
-/// opened or changed then.
-///
-/// It writes each boot, each node that begins to lead, and the fault by which a node ends, in a line on standard error. Threads that wait for a
-/// connection, for a client or for the reader are left.
-pub fn serve_run<R, I, W, G>(
-    rt: &R,
-    host: &HostRuntime,
-    reader: I,
-    writer: &mut W,
-    members: Members,
-    port: u16,
-    key: u64,
-    dir: Option<&str>,
-    realm: &str,
-    gate: &G,
-) -> Result<Option<Served>, ServeFault>
-where
-    R: Net<Listener = TcpListener, Stream = TcpStream>
-        + Threads
-        + Wait
-        + Clock
-        + Eprint
-        + Clone
-        + Drop
-        + Send
-        + Sync
-        + 'static,
-    I: Read + Drop + Send + 'static,
-    W: Write,
-    G: Gate + Sync,
-    ensures agrees { IfOk result (λ served. IfSome served (AgreesAtEnd members)) }
-    ensures ends { IfErr result EndsAll }
-{
-    let plan = Plan {
-        members,
-        port,
         key,
         realm,
+        began: Instant::now(rt).ok(),
     };
-    let stores = match dir {
-        None => Stores::Memory,
-        Some(folder) => {
-            refuse_stray(rt, host, folder, members)?;
-            Stores::Folder { host, folder }
-        }
+    let founded = FoundedCluster {
+        mail: &mail,
+        members,
+        seats,
+        arrivals,
     };
-    serve(rt, host.alloc(), reader, writer, plan, stores, gate)
+    let ends = (&sender, &receiver);
+    let seats = run_cluster::<R, G, Brand>(rt, alloc, founded, &site, ends)?;
+    Ok(gather_seats(mail, seats))
 }

@@ -1,16 +1,14 @@
 // A node's thread.
-ghost use Rattle.std.specs.Prelude.{◌≡◌, ◌++◌, [], false, List, IfOk, IfErr};
+ghost use Rattle.std.specs.Prelude.{◌≡◌, ◌++◌, [], false, List, IfOk};
 ghost use Rattle.std.specs.Option.{option_to_list};
 ghost use Rattle.mail_table.specs.Seats.{Owns};
 ghost use Rattle.realm_machine.specs.Machine.{has_failed};
 ghost use Rattle.paxos_node.specs.declared.event.Event.{Event};
-ghost use Rattle.paxos_node.specs.declared.view.Opened.TheVariants.{Never};
 ghost use Rattle.realm_acts.specs.declared.act.Act.{Act};
 ghost use Rattle.realm_machine.specs.declared.sayings.say.Say.{Say};
 ghost use Rattle.serve_feed.specs.Feeds.{HasGiven};
-ghost use Rattle.serve_program.specs.Fault.{IsEnding};
 
-use crate::cluster::{Cluster, Left};
+use crate::cluster::{Cluster, FreshSeat, Left};
 use crate::fault::{NodeEnd, NodeFault};
 use crate::lives::run_lives;
 use crate::source::{Boots, Source};
@@ -22,7 +20,7 @@ use realm_snapshot::KeptRealm;
 use rtrb::Consumer;
 use serve_connections::{Arrival, Lobby};
 use serve_feed::{ClientFeed, Home, Pace, Paced};
-use sqlite_disk::{Start, Unknown};
+use sqlite_disk::Unknown;
 use std::alloc::{AllocError, Global};
 use std::io::Eprint;
 use std::marker::PhantomData;
@@ -58,50 +56,50 @@ impl<R: Wait + Clock, G: Gate> Gate for ShutGate<'_, R, G> {
     }
 }
 
-// What feeds a node: its clients. It writes each boot, and each time that the node begins to lead, on standard error.
+// The feed of a node's clients. It reports each boot, and each time that the node begins to lead, on standard error.
 #[derive(Drop)]
-struct Served<'a, R> {
+struct ReportingFeed<'a, R> {
     rt: &'a R,
     node: u8,
     leads: bool,
-    feed: ClientFeed<'a>,
+    clients: ClientFeed<'a>,
 }
 
-impl<R: Eprint> Feed<Act, Say> for Served<'_, R> {
+impl<R: Eprint> Feed<Act, Say> for ReportingFeed<'_, R> {
     ghost use Rattle.serve_feed.specs.Feeds.{HasGiven};
 
-    ghost saw = { λ served given got. HasGiven served.feed given };
+    ghost saw = { λ feed given got. HasGiven feed.clients given };
 
     fn next(&mut self, seen: Seen) -> Option<Event<Act>>
-        ensures { (given : List (Event Act)) (got : List Say) → HasGiven self.old.feed given
-            → HasGiven self.new.feed (given ++ option_to_list result) }
+        ensures { (given : List (Event Act)) (got : List Say) → HasGiven self.old.clients given
+            → HasGiven self.new.clients (given ++ option_to_list result) }
     {
         if seen.leads && !self.leads {
             let _ = eprintln!(self.rt; "node {} leads", self.node);
         }
         self.leads = seen.leads;
-        self.feed.next(seen)
+        self.clients.next(seen)
     }
 
     fn hand(&mut self, says: Vec<Say>)
-        ensures { (given : List (Event Act)) (got : List Say) → HasGiven self.old.feed given → HasGiven self.new.feed given }
+        ensures { (given : List (Event Act)) (got : List Say) → HasGiven self.old.clients given → HasGiven self.new.clients given }
     {
-        self.feed.hand(says)
+        self.clients.hand(says)
     }
 }
 
-impl<R: Eprint> Boots<Act, Say> for Served<'_, R> {
+impl<R: Eprint> Boots<Act, Say> for ReportingFeed<'_, R> {
     fn up(&mut self, node: u8, boot: u64)
-        ensures { HasGiven self.new.feed [] }
+        ensures { HasGiven self.new.clients [] }
     {
-        self.feed.begin(boot);
+        self.clients.begin(boot);
         let _ = eprintln!(self.rt; "node {node} is up in boot {boot}");
     }
 
     fn up_again(&mut self, node: u8, boot: u64)
-        ensures { HasGiven self.new.feed [] }
+        ensures { HasGiven self.new.clients [] }
     {
-        self.feed.restart(boot);
+        self.clients.restart(boot);
         let _ = eprintln!(self.rt;
             "node {node} is restarted in boot {boot}: it was taken to be lost"
         );
@@ -131,62 +129,23 @@ pub(crate) trait Runs<R, G, L> {
     fn run<'b>(self, rt: &'b R, alloc: Global, site: &'b Site<'b, G>) -> Result<L, NodeEnd>;
 }
 
-/// A node that was never opened: its seat at the table, and where its clients' connections arrive.
+/// A node that was never opened: its seat, and where its clients' connections arrive.
 #[derive(Drop)]
 pub(crate) struct Station<'a, C: Cluster> {
-    mail: &'a Mail<Act>,
-    members: Members,
-    seat: NodeSeat<Act>,
+    fresh: FreshSeat<'a, Act>,
     arrivals: Consumer<Arrival>,
     of: PhantomData<C>,
-    ghost cluster: { mail.now ≡ C.table },
-    ghost owned: { Owns mail.now seat },
-    ghost fresh: { seat.part.seen.opened ≡ Never },
-    ghost table: { members ≡ mail.now.members },
+    ghost cluster: { fresh.mail.now ≡ C.table },
 }
 
 impl<'a, C: Cluster> Station<'a, C> {
-    pub fn new(
-        mail: &'a Mail<Act>,
-        members: Members,
-        seat: NodeSeat<Act>,
-        arrivals: Consumer<Arrival>,
-    ) -> Station<'a, C>
-        requires cluster { mail.now ≡ C.table }
-        requires owned { Owns mail.now seat }
-        requires fresh { seat.part.seen.opened ≡ Never }
-        requires table { members ≡ mail.now.members }
+    pub fn new(fresh: FreshSeat<'a, Act>, arrivals: Consumer<Arrival>) -> Station<'a, C>
+        requires { fresh.mail.now ≡ C.table }
     {
         Station {
-            mail,
-            members,
-            seat,
+            fresh,
             arrivals,
             of: PhantomData,
-        }
-    }
-
-    // Runs the node at this lobby, over the store that the site names. `start` stands for what the node's files hold.
-    fn run_at<'b, S: Start, R: Wait + Clock + Eprint, G: Gate>(
-        self,
-        rt: &'b R,
-        alloc: Global,
-        site: &'b Site<'b, G>,
-        lobby: &'b Lobby,
-        start: S,
-    ) -> Result<Left<C>, NodeEnd> {
-        match site.stores {
-            Stores::Memory => self.run_over(rt, alloc, site, lobby, MemoryStore::new(alloc)),
-            Stores::Folder { host, folder } => {
-                let node = self.seat.node();
-                match open_node_store(host, folder, node, start) {
-                    Ok(keeper) => self.run_over(rt, alloc, site, lobby, keeper),
-                    Err(fault) => {
-                        drop(self);
-                        Err(end_by_store(node, fault))
-                    }
-                }
-            }
         }
     }
 
@@ -199,43 +158,33 @@ impl<'a, C: Cluster> Station<'a, C> {
         lobby: &'b Lobby,
         keeper: K,
     ) -> Result<Left<C>, NodeEnd> {
-        let pace = Pace::new();
-        self.run_paced(rt, alloc, site, lobby, &pace, keeper)
-    }
-
-    // Runs the node at this lobby, over this store, at this pace.
-    fn run_paced<'c, R: Wait + Clock + Eprint, G: Gate, K: Keeper<Act> + Drop>(
-        self,
-        rt: &'c R,
-        alloc: Global,
-        site: &'c Site<'_, G>,
-        lobby: &'c Lobby,
-        pace: &'c Pace,
-        keeper: K,
-    ) -> Result<Left<C>, NodeEnd> {
         let Station {
-            mail,
-            members,
-            seat,
+            fresh,
             arrivals,
             of: _,
         } = self;
-        let node = seat.node();
-        let home = home_of(node, members, site, lobby, pace);
+        let mail = fresh.mail;
+        let node = fresh.node();
+        let pace = Pace::new();
+        let home = home_of(node, fresh.members, site, lobby, &pace);
         let gate = ShutGate {
             open: site.open,
             paced: Paced::new(rt, home, site.gate),
         };
-        let again = home_of(node, members, site, lobby, pace);
-        let served = Served {
+        let again = home_of(node, fresh.members, site, lobby, &pace);
+        let mut feed = ReportingFeed {
             rt,
             node,
             leads: false,
-            feed: ClientFeed::new(alloc, again, 0, arrivals),
+            clients: ClientFeed::new(alloc, again, 0, arrivals),
         };
-        match run_fed(
-            alloc, mail, members, seat, site.realm, keeper, &gate, served,
-        ) {
+        let source = Realms { name: site.realm };
+        let done = run_lives::<KeptRealm, _, _, _, _>(
+            alloc, fresh, &source, keeper, &gate, &mut feed,
+        );
+        feed.clients.close();
+        drop(feed);
+        match done {
             Ok(seat) => Ok(left_of(mail, seat)),
             Err(fault) => Err(NodeEnd { node, fault }),
         }
@@ -243,17 +192,26 @@ impl<'a, C: Cluster> Station<'a, C> {
 }
 
 impl<R: Wait + Clock + Eprint, G: Gate, C: Cluster> Runs<R, G, Left<C>> for Station<'_, C> {
-    // Opens the node over its store, and turns it until its gate is shut. A node that is lost begins its next boot.
+    // Opens the node over the store that the site names, and turns it until its gate is shut. A node that is lost begins its next boot.
     fn run<'b>(self, rt: &'b R, alloc: Global, site: &'b Site<'b, G>) -> Result<Left<C>, NodeEnd> {
-        let node = self.seat.node();
-        match site.lobbies.get(usize::from(node).saturating_sub(1)) {
-            Some(lobby) => self.run_at(rt, alloc, site, lobby, Unknown),
-            None => {
-                drop(self);
-                Err(NodeEnd {
-                    node,
-                    fault: NodeFault::NoMember,
-                })
+        let node = self.fresh.node();
+        let Some(lobby) = site.lobbies.get(usize::from(node).saturating_sub(1)) else {
+            drop(self);
+            return Err(NodeEnd {
+                node,
+                fault: NodeFault::NoMember,
+            });
+        };
+        match site.stores {
+            Stores::Memory => self.run_over(rt, alloc, site, lobby, MemoryStore::new(alloc)),
+            Stores::Folder { host, folder } => {
+                match open_node_store(host, folder, node, Unknown) {
+                    Ok(keeper) => self.run_over(rt, alloc, site, lobby, keeper),
+                    Err(fault) => {
+                        drop(self);
+                        Err(end_by_store(node, fault))
+                    }
+                }
             }
         }
     }
@@ -297,38 +255,4 @@ fn home_of<'c, G>(
         is_on_disk: matches!(site.stores, Stores::Folder { .. }),
         began: site.began,
     }
-}
-
-// Runs the node's lives, out of this feed.
-fn run_fed<R: Eprint, T: Gate, K: Keeper<Act> + Drop>(
-    alloc: Global,
-    mail: &Mail<Act>,
-    members: Members,
-    seat: NodeSeat<Act>,
-    realm: &str,
-    keeper: K,
-    gate: &T,
-    served: Served<'_, R>,
-) -> Result<NodeSeat<Act>, NodeFault>
-    requires owned { Owns mail.now seat }
-    requires fresh { seat.part.seen.opened ≡ Never }
-    requires table { members ≡ mail.now.members }
-    ensures owned { IfOk result (λ seat. Owns mail.now seat) }
-    ensures ending { IfErr result IsEnding }
-{
-    let source = Realms { name: realm };
-    let mut served = served;
-    let done = run_lives::<KeptRealm, _, _, _, _>(
-        alloc,
-        mail,
-        members,
-        seat,
-        &source,
-        keeper,
-        gate,
-        &mut served,
-    );
-    served.feed.close();
-    drop(served);
-    done
 }

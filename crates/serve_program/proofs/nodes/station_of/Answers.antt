@@ -1,5 +1,5 @@
 -- The seats that are left are of those that were there.
-use Rattle.std.proofs.Common.{◌≡◌, ◌<◌, arith, subst, length}
+use Rattle.std.proofs.Common.{◌≡◌, arith, subst}
 use Rattle.std.specs.Prelude.{All, option_to_list}
 use Rattle.std.proofs.lemmas.List.{get_or_append_left, length-append}
 use Rattle.paxos_node.specs.declared.view.Opened.TheVariants.{Never}

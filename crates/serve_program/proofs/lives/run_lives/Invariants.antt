@@ -1,7 +1,7 @@
 use Rattle.std.proofs.Common.{[]}
 use Rattle.mail_table.specs.Seats.{Owns}
 use Rattle.node_actor.specs.Views.{StandsFor}
-use Rattle.serve_program.proofs.lives.run_each_life.Given as goal
+use Rattle.serve_program.proofs.lives.run_lives.Given as goal
 
 -- the table owns the seat of the node's present life, in which nothing was given yet
 abbrev pub invariant-loop : goal.invariant-loop

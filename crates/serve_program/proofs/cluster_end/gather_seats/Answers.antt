@@ -1,6 +1,6 @@
 use Rattle.std.proofs.Common.{ap}
 use Rattle.serve_program.proofs.Gathering.{agrees}
-use Rattle.serve_program.proofs.served.gather_seats.Goals as goal
+use Rattle.serve_program.proofs.cluster_end.gather_seats.Goals as goal
 
 -- the snapshot is of the seats that were gathered
 pub returns-in-Ok : goal.returns-in-Ok
