@@ -285,12 +285,12 @@ all_told t r (it ∷ said) k p rest few stays go =
     (flat_map (λ it. told (is_final t r it) (is_progress t r it)) said) rest few stays
     (λ q fewer. all_told t r said k q rest fewer (omega (arith, here)) go)
 
-behind : (a : Bool) (t : Transport) (r : ℕ) (said : List Say) (k : ℕ) (p : Bool) (rest : List Letter)
+after_input_trace : (a : Bool) (t : Transport) (r : ℕ) (said : List Say) (k : ℕ) (p : Bool) (rest : List Letter)
     → (a ≡ true → k + finals t r said ≤ 1) → (a ≡ false → k + finals t r said ≤ bit p) → partials t r said ≤ k
     → ((q : Bool) → k ≤ bit q → answers_calls q rest ≡ true)
     → answers_calls p ((asked a ++ flat_map (λ it. told (is_final t r it) (is_progress t r it)) said) ++ rest) ≡ true
-behind true t r said k p rest owed paid stays go = all_told t r said k true rest (owed refl) stays go
-behind false t r said k p rest owed paid stays go = all_told t r said k p rest (paid refl) stays go
+after_input_trace true t r said k p rest owed paid stays go = all_told t r said k true rest (owed refl) stays go
+after_input_trace false t r said k p rest owed paid stays go = all_told t r said k p rest (paid refl) stays go
 
 trace_from : (config : Config) (t : Transport) (r : ℕ) (inputs : List (Input Act)) (c : Content) (pending : Bool)
     → Once c → Base c
@@ -299,7 +299,7 @@ trace_from config t r [] c pending once base most = refl
 trace_from config t r (input ∷ inputs) c pending once base most =
     let s = step_goes config c input base once in
     let said = said_at config c input in
-    behind (asks t r input) t r said (opens (after_input config c input) t r) pending
+    after_input_trace (asks t r input) t r said (opens (after_input config c input) t r) pending
     (trace config t r (after_input config c input) inputs)
     (s.owed t r)
     (λ e. let h : opens (after_input config c input) t r + finals t r said ≤ opens c t r = s.paid t r e in
