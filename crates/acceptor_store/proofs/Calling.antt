@@ -10,7 +10,9 @@ use Rattle.sqlite_schema.specs.declared.schema.Schema.{Schema}
 use Rattle.sqlite.specs.Effect.{Database}
 use Rattle.sqlite.specs.Held.{Held, state}
 use Rattle.sqlite.specs.State.{State, HasCleanDisk, IsLive, Survives}
-use Rattle.paxos_packets.specs.Rows.{raised}
+use Rattle.paxos_packets.specs.Rows.{raised, kept_votes}
+use Rattle.paxos_packets.specs.Snapshot.{Snapshot}
+use Rattle.paxos_packets.specs.Vote.{put_votes}
 use Rattle.paxos_packets.specs.declared.rows.Change.{Change}
 use Rattle.paxos_packets.specs.declared.rows.Rows.{Rows}
 use Rattle.paxos_acceptor.specs.Acceptor.{adopted}
@@ -35,6 +37,7 @@ founded_stores {B} reading db is = record {
   sound = is.sound;
   has = record {
     meta = (_, is.meta, refl);
+    plain = refl;
     votes = subst (λ tree. AreVotes reading None tree []) (sym is.empty.0) (record { each = tt; all = tt; once = tt; promised_all = tt; ascend = tt });
   };
 }
@@ -66,7 +69,13 @@ pub adopts : {B : Type 0} (known next : Numbers) (change : Change B) (rows : Row
 adopts known next change rows p same =
     let boot : next.boot ≡ rows.boot = p.boot ∙ ap (λ (n : Numbers). n.boot) same in
     let promised : next.promised ≡ option_or change.promised rows.promised = p.promised ∙ ap (λ (n : Numbers). option_or change.promised n.promised) same in
-    λ i. record { boot = boot i; promised = promised i; votes = (adopted rows change).votes }
+    let plain : ◌≡◌ {A = Option Snapshot} None change.snapshot = sym p.plain in
+    λ i. record {
+      boot = boot i;
+      promised = promised i;
+      snapshot = option_or (plain i) rows.snapshot;
+      votes = put_votes change.votes (kept_votes (plain i) rows.votes);
+    }
 
 pub not_lower : {B : Type 0} (known next : Numbers) (change : Change B) (rows : Rows B) → Places known change next → known ≡ numbers_in_rows rows
     → NotLowered rows.promised next.promised

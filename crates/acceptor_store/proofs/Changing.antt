@@ -1,6 +1,6 @@
 -- What a change that has a place makes of the numbers.
 use Rattle.std.proofs.Common.{◌≡◌, ◌||◌, arith, not, Bool, true, false, cond, List, [], ◌∷◌, Option, Some, None, refl, sym, subst}
-use Rattle.std.specs.Prelude.{nat_le, length, ◌==◌}
+use Rattle.std.specs.Prelude.{nat_le, length, ◌==◌, is_some, option_and_then}
 use Rattle.std.specs.List.{AllByRecursion, list_all}
 use Rattle.std.specs.Option.{option_or}
 use Rattle.std.proofs.lemmas.Bool.{and_parts, and_from, eqb-true}
@@ -8,6 +8,7 @@ use Rattle.paxos_packets.specs.declared.ballot.Ballot.{Ballot}
 use Rattle.paxos_packets.specs.declared.vote.Vote.{Vote}
 use Rattle.paxos_packets.specs.declared.rows.Change.{Change}
 use Rattle.paxos_packets.specs.declared.rows.Rows.{Rows}
+use Rattle.paxos_packets.specs.Snapshot.{Snapshot}
 use Rattle.store_rows.specs.declared.rows.Numbers.{Numbers}
 use Rattle.store_rows.specs.Rows.{is_promised}
 use Rattle.acceptor_store.specs.Store.{NotLowered, written}
@@ -35,6 +36,7 @@ promise_stands promised (Some b) next h k = go (is_ballot b) (is_lower b promise
     go true false e h = let same : Some b ≡ next = cc in subst (λ p. is_promise p ≡ true) same e
 
 pub record Places {B : Type 0} (known : Numbers) (change : Change B) (next : Numbers) : Type 0 where
+  pub plain : change.snapshot ≡ None
   pub boot : next.boot ≡ known.boot
   pub promised : next.promised ≡ option_or change.promised known.promised
   pub up : NotLowered known.promised next.promised
@@ -43,13 +45,12 @@ pub record Places {B : Type 0} (known : Numbers) (change : Change B) (next : Num
   pub numbers : are_numbers known ≡ true → are_numbers next ≡ true
 
 pub places : {B : Type 0} (known : Numbers) (change : Change B) (next : Numbers) → numbers_after known change ≡ Some next → Places known change next
-places {B} known change next h =
-    let k = and_then_is _ (promise_after known.promised change.promised) next h in
-    go k.0 (list_all (is_placed k.0) change.votes) k.1 refl k.2
+places {B} known change next h = split change.snapshot refl h
   where
-    made : (p : Option Ballot) → promise_after known.promised change.promised ≡ Some p → list_all (is_placed p) change.votes ≡ true
-        → Places known change (record { boot = known.boot; promised = p })
-    made p e all = record {
+    made : change.snapshot ≡ None → (p : Option Ballot) → promise_after known.promised change.promised ≡ Some p
+        → list_all (is_placed p) change.votes ≡ true → Places known change (record { boot = known.boot; promised = p })
+    made plain p e all = record {
+      plain = plain;
       boot = refl;
       promised = promise_is known.promised change.promised p e;
       up = not_lowered known.promised change.promised p e;
@@ -60,12 +61,22 @@ places {B} known change next h =
           and_from (nat_le known.boot 281474976710655) (is_promise p) parts.0 (promise_stands known.promised change.promised p e parts.1);
     }
 
-    go : (p : Option Ballot) (b : Bool) → promise_after known.promised change.promised ≡ Some p → list_all (is_placed p) change.votes ≡ b
+    go : change.snapshot ≡ None → (p : Option Ballot) (b : Bool) → promise_after known.promised change.promised ≡ Some p
+        → list_all (is_placed p) change.votes ≡ b
         → cond (not b) None (Some (record { boot = known.boot; promised = p })) ≡ Some next → Places known change next
-    go p false e all h = absurd cc
-    go p true e all h =
+    go plain p false e all h = absurd cc
+    go plain p true e all h =
         let same : ◌≡◌ {A = Numbers} (record { boot = known.boot; promised = p }) next = cc in
-        subst (Places known change) same (made p e all)
+        subst (Places known change) same (made plain p e all)
+
+    split : (s : Option Snapshot) → change.snapshot ≡ s
+        → cond (is_some s) None (option_and_then (λ promised. cond (not (list_all (is_placed promised) change.votes)) None
+        (Some (record { boot = known.boot; promised = promised }))) (promise_after known.promised change.promised)) ≡ Some next
+        → Places known change next
+    split (Some s) e h = absurd cc
+    split None e h =
+        let k = and_then_is _ (promise_after known.promised change.promised) next h in
+        go e k.0 (list_all (is_placed k.0) change.votes) k.1 refl k.2
 
 -- what is written if there is nothing to write
 pub written_none : {B : Type 0} (rows : Rows B) (numbers : Numbers) (votes : List (Vote B)) → numbers ≡ numbers_in_rows rows → votes ≡ [] → written numbers votes rows ≡ rows

@@ -204,6 +204,7 @@ module _ {B : Type 0} (reading : List ℕ → Reading B) (trees : Trees) (shown 
           let same : rows_with numbers vs ≡ rows = cc in
           let made : StandsFor reading trees (rows_with numbers vs) = record {
             meta = numbers_found (trees 0) shown.metas numbers are.metas n;
+            plain = refl;
             votes = votes_found reading numbers.promised (trees 1) shown.votes vs are.votes e;
           } in
           subst (StandsFor reading trees) same made
@@ -216,4 +217,4 @@ module _ {B : Type 0} (reading : List ℕ → Reading B) (trees : Trees) (shown 
   loads rows it = rw (
     numbers_loaded (trees 0) shown.metas (numbers_in_rows rows) are.metas it.meta,
     votes_loaded reading rows.promised (trees 1) shown.votes rows.votes are.votes it.votes,
-  ) refl
+  ) (λ i. Ok (record rows { snapshot = sym it.plain i }))

@@ -132,6 +132,7 @@ meta_reads reading old new rows n has put ok up = (
     sound = put.edits.sound;
     has = record {
       meta = (_, put.alone, numbers_read n ok);
+      plain = has.1.has.plain;
       votes = stays 0 1 old new put.edits (λ e. omega (arith, e)) (λ tree. AreVotes reading n.promised tree rows.votes)
           (votes_under reading rows.promised n.promised (old.trees 1) rows.votes up has.1.has.votes);
     };
@@ -147,6 +148,7 @@ vote_reads reading old new rows v has put = (
     sound = put.0.sound;
     has = record {
       meta = stays 1 0 old new put.0 (λ e. omega (arith, e)) (λ tree. HasNumbers tree (numbers_in_rows rows)) has.1.has.meta;
+      plain = has.1.has.plain;
       votes = put.1;
     };
   },

@@ -38,8 +38,8 @@ Tells reading db Failed = ⊤
 abbrev pub are_spelled : {B : Type 0} → (B → Option (List ℕ)) → List (Vote B) → Bool
 are_spelled spelling votes = list_all (λ v. is_some (entry_spelling spelling v.entry)) votes
 
--- the change has a place over these numbers: no promise is lowered, no number out of range, no vote above the promise, and no entry without
--- a spelling
+-- the change has a place over these numbers: it has no snapshot, no promise is lowered, no number is out of range, no vote is above the
+-- promise, and no entry is without a spelling
 abbrev pub has_place : {B : Type 0} → (B → Option (List ℕ)) → Numbers → Change B → Bool
 has_place spelling numbers change = is_some (numbers_after numbers change) && are_spelled spelling change.votes
 

@@ -83,7 +83,7 @@ stands_once {B} reading trees rows others a b =
     let both : Ok (numbers_in_rows others) ≡ Ok (numbers_in_rows rows) = sym b.meta.2 ∙ ap (λ r. numbers_of (meta_columns r)) head ∙ a.meta.2 in
     let numbers : numbers_in_rows others ≡ numbers_in_rows rows = cc in
     let votes = votes_once reading rows.promised others.promised (trees 1) rows.votes others.votes a.votes b.votes in
-    λ i. record { boot = (ap (λ (n : Numbers). n.boot) numbers) i; promised = (ap (λ (n : Numbers). n.promised) numbers) i; votes = votes i }
+    λ i. record { boot = (ap (λ (n : Numbers). n.boot) numbers) i; promised = (ap (λ (n : Numbers). n.promised) numbers) i; snapshot = (b.plain ∙ sym a.plain) i; votes = votes i }
 
 pub stored_once : {B : Type 0} (reading : List ℕ → Reading B) (trees : Trees) (rows others : Rows B) → Stores reading trees rows → Stores reading trees others → others ≡ rows
 stored_once reading trees rows others a b = stands_once reading trees rows others a.has b.has

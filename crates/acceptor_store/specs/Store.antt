@@ -51,9 +51,10 @@ pub record AreVotes {B : Type 0} (reading : List ℕ → Reading B) (promised : 
 abbrev pub HasNumbers : List Row → Numbers → Type 0
 HasNumbers tree numbers = (row : Row) × (tree ≡ row ∷ []) × (numbers_of (meta_columns row) ≡ Ok numbers)
 
--- the trees have these rows, whatever tables they list
+-- the trees have these rows, whatever tables they list; no table is for a snapshot
 pub record StandsFor {B : Type 0} (reading : List ℕ → Reading B) (trees : Trees) (rows : Rows B) : Type 0 where
   pub meta : HasNumbers (trees 0) (numbers_in_rows rows)
+  pub plain : rows.snapshot ≡ None
   pub votes : AreVotes reading rows.promised (trees 1) rows.votes
 
 -- the trees are a store that has these rows
@@ -67,7 +68,7 @@ Reads reading db rows = (db.schema ≡ store_schema) × Stores reading db.trees 
 
 -- the rows with these numbers and these votes
 abbrev pub written : {B : Type 0} → Numbers → List (Vote B) → Rows B → Rows B
-written numbers votes rows = record { boot = numbers.boot; promised = numbers.promised; votes = put_votes votes rows.votes }
+written numbers votes rows = record rows { boot = numbers.boot; promised = numbers.promised; votes = put_votes votes rows.votes }
 
 -- the promise is not lowered
 abbrev pub NotLowered : Option Ballot → Option Ballot → Type 0

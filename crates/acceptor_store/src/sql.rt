@@ -1,3 +1,4 @@
+// The keeper over SQLite: how it opens and closes, and its calls as a `Keeper`.
 ghost use Rattle.std.specs.Prelude.{◌≡◌, ◌⊎◌, ◌<◌, ◌≤◌, ◌-◌, ◌^◌, IsTrue, IfOk, IfErr, OnOk, IsErrOf, is_err, Err, None, true, false};
 ghost use Rattle.sqlite_trees.specs.View.{doubt};
 ghost use Rattle.sqlite.specs.Effect.{Database};

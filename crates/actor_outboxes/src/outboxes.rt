@@ -1,3 +1,4 @@
+// A node's outboxes: how packets are put after the others or before them, and taken oldest first, for all peers or for one.
 ghost use Rattle.std.specs.Prelude.{◌≡◌, ◌<◌, ℕ, suc, [], ◌∷◌, length, slice_get, IfOk, IfSome, IfNone, MatchOption, Some};
 ghost use Rattle.actor_outboxes.specs.Outboxes.{empty_boxes, limit, box_of, waiting, filed, without_first, HasLimits, WaitBehind, Leaves};
 ghost use Rattle.actor_outboxes.specs.Outboxes.{first_stamp, older, IsOldestBelow, IsPeer, TakenFor, WaitsFirst, filed_first, most_waiting};

@@ -11,7 +11,7 @@ use Rattle.paxos_packets.specs.Members.{IsMember}
 use Rattle.paxos_acceptor.specs.Acceptor as accepting
 use Rattle.store_keeper.specs.declared.fault.KeeperFault.{KeeperFault}
 use Rattle.replica_machine.specs.Log.{LogState}
-use Rattle.replica_machine.specs.Replay.{Machine}
+use Rattle.replica_machine.specs.Replay.{Steps}
 use Rattle.actor_outboxes.specs.Outboxes.{Waiting, WaitBehind}
 use Rattle.paxos_node.specs.declared.outcome.Outcome.{Outcome}
 use Rattle.paxos_planning.specs.Node.{NodeState}
@@ -147,40 +147,40 @@ module _ {B M K : Type 0} where
         whole = stays (ap is_failed r.rest.keeper ∙ whole);
       }
 
-module _ {B S Y M K : Type 0} (from : S → Machine B S Y) (content : M → S) where
+module _ {B S Y M K : Type 0} (steps : Steps B S Y) (content : M → S) where
   takes_of : (o : Outcome B) (old mid new : Parted B M K) (boot : ℕ) (entries : List (Entry B)) (says : List Y) → Adopts o old mid
-      → Applied from content mid.waiting.me boot entries mid.log new.log says → entries ≡ o.applied → boot ≡ old.node.state.rows.boot
-      → OnlyLog mid new → IsAtEnd new.log → Takes from content o old new says
+      → Applied steps content mid.waiting.me boot entries mid.log new.log says → entries ≡ o.applied → boot ≡ old.node.state.rows.boot
+      → OnlyLog mid new → IsAtEnd new.log → Takes steps content o old new says
   takes_of o old mid new boot entries says a p entries_are boot_is l at_end =
       record {
         node = ap (λ n. n.state) l.node ∙ a.node;
         waits = subst (WaitBehind o.packets old.waiting) (sym l.waiting) a.waits;
         keeper = l.keeper ∙ a.keeper;
         failed = l.failed ∙ a.failed;
-        applied = subst (λ b. Applied from content old.waiting.me b o.applied old.log new.log says) boot_is
-            (subst (λ es. Applied from content old.waiting.me boot es old.log new.log says) entries_are
-            (subst (λ n. Applied from content n boot entries old.log new.log says) a.waits_me
-            (subst (λ (log : LogState B M). Applied from content mid.waiting.me boot entries log new.log says) a.log p)));
+        applied = subst (λ b. Applied steps content old.waiting.me b o.applied old.log new.log says) boot_is
+            (subst (λ es. Applied steps content old.waiting.me boot es old.log new.log says) entries_are
+            (subst (λ n. Applied steps content n boot entries old.log new.log says) a.waits_me
+            (subst (λ (log : LogState B M). Applied steps content mid.waiting.me boot entries log new.log says) a.log p)));
         end = at_end;
       }
 
   pub taken : (o : Outcome B) (old mid new last : Parted B M K) (boot : ℕ) (entries : List (Entry B)) (says : List Y) → Adopts o old mid
-      → Applied from content mid.waiting.me boot entries mid.log new.log says → entries ≡ o.applied → boot ≡ old.node.state.rows.boot
+      → Applied steps content mid.waiting.me boot entries mid.log new.log says → entries ≡ o.applied → boot ≡ old.node.state.rows.boot
       → OnlyLog mid new → IsAtEnd new.log → (result : Result (Vec Y Global) (ActorFault Y)) → AnswersUp says new last result
-      → TakesIn from content o old last result
+      → TakesIn steps content o old last result
   taken o old mid new last boot entries says a p entries_are boot_is l at_end (Ok found) h =
-      let t : Takes from content o old new says = takes_of o old mid new boot entries says a p entries_are boot_is l at_end in (
+      let t : Takes steps content o old new says = takes_of o old mid new boot entries says a p entries_are boot_is l at_end in (
         ap (λ (x : Parted B M K). x.node.state.up) h.1 ∙ h.0,
         ap (λ (x : Parted B M K). x.spoiled) h.1 ∙ l.spoiled ∙ a.spoiled,
-        subst (Takes from content o old last) (sym h.2) (subst (λ (x : Parted B M K). Takes from content o old x says) (sym h.1) t),
+        subst (Takes steps content o old last) (sym h.2) (subst (λ (x : Parted B M K). Takes steps content o old x says) (sym h.1) t),
       )
   taken o old mid new last boot entries says a p entries_are boot_is l at_end (Err (LostHere found)) h =
-      let t : Takes from content o old new says = takes_of o old mid new boot entries says a p entries_are boot_is l at_end in
-      let u : Takes from content o old (record new { spoiled = true }) says =
+      let t : Takes steps content o old new says = takes_of o old mid new boot entries says a p entries_are boot_is l at_end in
+      let u : Takes steps content o old (record new { spoiled = true }) says =
       record { node = t.node; waits = t.waits; keeper = t.keeper; failed = t.failed; applied = t.applied; end = t.end } in (
         ap (λ (x : Parted B M K). x.node.state.up) h.1 ∙ h.0,
         ap (λ (x : Parted B M K). x.spoiled) h.1,
-        subst (Takes from content o old last) (sym h.2) (subst (λ (x : Parted B M K). Takes from content o old x says) (sym h.1) u),
+        subst (Takes steps content o old last) (sym h.2) (subst (λ (x : Parted B M K). Takes steps content o old x says) (sym h.1) u),
       )
   taken o old mid new last boot entries says a p entries_are boot_is l at_end (Err (Keeper fault)) h = h
   taken o old mid new last boot entries says a p entries_are boot_is l at_end (Err Memory) h = absurd h
@@ -191,7 +191,7 @@ module _ {B S Y M K : Type 0} (from : S → Machine B S Y) (content : M → S) w
   taken o old mid new last boot entries says a p entries_are boot_is l at_end (Err Disagree) h = h
 
   pub not_followed : (o : Outcome B) (old mid new : Parted B M K) (entries : List (Entry B)) → Adopts o old mid → OnlyLog mid new → entries ≡ o.applied
-      → IsPrefixOf new.log.applied (mid.log.applied ++ entries) → TakesNot from content o old (record new { spoiled = true })
+      → IsPrefixOf new.log.applied (mid.log.applied ++ entries) → TakesNot steps content o old (record new { spoiled = true })
   not_followed o old mid new entries a l entries_are front =
       record {
         node = ap (λ n. n.state) l.node ∙ a.node;

@@ -8,8 +8,8 @@ use Rattle.paxos_packets.specs.declared.rows.Rows.{Rows}
 use Rattle.paxos_acceptor.specs.Acceptor as accepting
 use Rattle.store_keeper.specs.declared.fault.KeeperFault.{KeeperFault}
 use Rattle.store_keeper.specs.declared.fault.KeeperFault.TheVariants as store
-use Rattle.replica_machine.specs.Log.{LogState, IsLogOf}
-use Rattle.replica_machine.specs.Replay.{Machine}
+use Rattle.replica_machine.specs.Log.{LogState, IsLogOf, machine_from}
+use Rattle.replica_machine.specs.Replay.{Steps}
 use Rattle.actor_outboxes.specs.Outboxes.{WaitBehind}
 use Rattle.paxos_node.specs.declared.outcome.Outcome.{Outcome}
 use Rattle.paxos_planning.specs.Node.{NodeState}
@@ -31,14 +31,14 @@ abbrev pub IsAtEnd : {B M : Type 0} → LogState B M → Type 0
 IsAtEnd log = log.ahead ≡ []
 
 -- what a machine says and becomes at entries after its log
-module _ {B S Y M : Type 0} (from : S → Machine B S Y) (content : M → S) where
+module _ {B S Y M : Type 0} (steps : Steps B S Y) (content : M → S) where
   -- the entries are applied at the end of the log, and these are the sayings at them to the transports of a node in a boot
   pub record Applied (node boot : ℕ) (entries : List (Entry B)) (old new : LogState B M) (said : List Y) : Type 0 where
     pub applied : new.applied ≡ old.applied ++ entries
     pub alive : new.failed ≡ false
-    pub says : (first : S) (under : List (Entry B)) → IsLogOf from content first under old
-        → said ≡ handed_out (from first) node boot (under ++ old.applied) entries
-    pub follows : (first : S) (under : List (Entry B)) → IsLogOf from content first under old → IsLogOf from content first under new
+    pub says : (first : S) (under : List (Entry B)) → IsLogOf steps content first under old
+        → said ≡ handed_out (machine_from steps first) node boot (under ++ old.applied) entries
+    pub follows : (first : S) (under : List (Entry B)) → IsLogOf steps content first under old → IsLogOf steps content first under new
 
 -- one part of an actor changes, and the others stay
 module _ {B M K : Type 0} where
@@ -108,14 +108,14 @@ AnswersUp says old new (Err Rounds) = ⊥
 AnswersUp says old new (Err Full) = ⊥
 AnswersUp says old new (Err Disagree) = ⊥
 
-module _ {B S Y M K : Type 0} (from : S → Machine B S Y) (content : M → S) where
+module _ {B S Y M K : Type 0} (steps : Steps B S Y) (content : M → S) where
   -- the outcome is adopted, and the machine has followed what it applied
   pub record Takes (o : Outcome B) (old new : Parted B M K) (says : List Y) : Type 0 where
     pub node : new.node.state ≡ next_node o old
     pub waits : WaitBehind o.packets old.waiting new.waiting
     pub keeper : new.keeper ≡ old.keeper
     pub failed : new.failed ≡ old.failed
-    pub applied : Applied from content old.waiting.me old.node.state.rows.boot o.applied old.log new.log says
+    pub applied : Applied steps content old.waiting.me old.node.state.rows.boot o.applied old.log new.log says
     pub end : IsAtEnd new.log
 
   -- the same, but the machine has followed the first of these alone

@@ -1,3 +1,4 @@
+// The faults of an actor: their numbers and texts.
 ghost use Rattle.std.specs.Prelude.{◌≡◌};
 ghost use Rattle.actor_parts.specs.Fault.{number_of};
 

@@ -1,7 +1,6 @@
 // What a machine says at the entries that its node applies.
 ghost use Rattle.std.specs.Prelude.{◌≡◌, ◌++◌, ◌∷◌, [], false, filter, map, IfOk, OnOk, OnErr};
 ghost use Rattle.std.specs.List.{flat_map};
-ghost use Rattle.replica_machine.specs.Log.{machine_from};
 ghost use Rattle.actor_parts.specs.Parts.{IsPrefixOf};
 ghost use Rattle.actor_parts.specs.Handing.{is_of};
 ghost use Rattle.actor_parts.specs.Steps.{IsAtEnd, Applied};
@@ -21,7 +20,7 @@ pub(crate) fn apply_all<M: Machine>(
     requires alive { log.old.failed ≡ false }
     requires end { IsAtEnd log.old }
     ensures ok { IfOk result (λ says.
-        Applied (machine_from M.next M.says M.to) M.content node boot entries.items log.old log.new says.items) }
+        Applied M.steps M.content node boot entries.items log.old log.new says.items) }
     ensures end { IsAtEnd log.new }
     ensures err { OnErr result (IsPrefixOf log.new.applied (log.old.applied ++ entries.items)) }
 {
@@ -39,7 +38,7 @@ fn collect_own<M: Machine>(
     boot: u64,
 ) -> Result<Vec<M::Say>, Failed>
     ensures { IfOk result (λ says. says.items
-        ≡ filter (λ y. is_of node boot (M.to y)) (flat_map (λ ys. ys) (map (λ more. more.items) said.items))) }
+        ≡ filter (λ y. is_of node boot (M.steps.to y)) (flat_map (λ ys. ys) (map (λ more. more.items) said.items))) }
 {
     let mut says = Vec::new(alloc);
     for more in said {
@@ -55,7 +54,7 @@ fn retain_own<M: Machine>(
     node: u8,
     boot: u64,
 ) -> Result<(), Failed>
-    ensures { OnOk result (says.new.items ≡ says.old.items ++ filter (λ y. is_of node boot (M.to y)) more.items) }
+    ensures { OnOk result (says.new.items ≡ says.old.items ++ filter (λ y. is_of node boot (M.steps.to y)) more.items) }
 {
     for say in more {
         retain_if_own::<M>(says, say, node, boot)?;
@@ -70,7 +69,7 @@ fn retain_if_own<M: Machine>(
     node: u8,
     boot: u64,
 ) -> Result<(), Failed>
-    ensures { OnOk result (says.new.items ≡ says.old.items ++ filter (λ y. is_of node boot (M.to y)) (say ∷ [])) }
+    ensures { OnOk result (says.new.items ≡ says.old.items ++ filter (λ y. is_of node boot (M.steps.to y)) (say ∷ [])) }
 {
     if !is_of(node, boot, &M::to(&say)) {
         return Ok(());

@@ -9,7 +9,7 @@ ghost use Rattle.paxos_node.specs.Held.{HasRoom};
 ghost use Rattle.paxos_node.specs.Plans.{plans, unchanged, Answers};
 ghost use Rattle.paxos_proposer.specs.Proposer.{is_leading};
 ghost use Rattle.actor_outboxes.specs.Outboxes.{HasLimits, IsPeer, TakenFor, WaitsFirst, most_waiting, waiting};
-ghost use Rattle.replica_machine.specs.Log.{machine_from, Follows};
+ghost use Rattle.replica_machine.specs.Log.{Follows};
 ghost use Rattle.actor_parts.specs.Parts.{Parted, IsPrefixOf, first_parts};
 ghost use Rattle.actor_parts.specs.Steps.{IsAtEnd, Applied, Falls, OnlyNode, OnlyKeeper, OnlyLog, OnlyWaiting, Adopts};
 ghost use Rattle.paxos_planning.specs.Node.{log_length};
@@ -73,7 +73,7 @@ impl<M: Machine, K: Keeper<M::Body>> Parts<M, K> {
         machine: M,
     ) -> Parts<M, K>
         ensures is { result ≡ first_parts node keeper outboxes machine }
-        ensures follows { Follows (machine_from M.next M.says M.to) M.content (M.content machine) result.log }
+        ensures follows { Follows M.steps M.content (M.content machine) result.log }
     {
         Parts {
             alloc,
@@ -252,7 +252,7 @@ impl<M: Machine, K: Keeper<M::Body>> Parts<M, K> {
     ) -> Result<Vec<M::Say>, Failed>
         requires alive { self.old.log.failed ≡ false }
         requires end { IsAtEnd self.old.log }
-        ensures ok { IfOk result (λ says. Applied (machine_from M.next M.says M.to) M.content self.old.waiting.me boot entries
+        ensures ok { IfOk result (λ says. Applied M.steps M.content self.old.waiting.me boot entries
             self.old.log self.new.log says.items) }
         ensures end { IsAtEnd self.new.log }
         ensures err { OnErr result (IsPrefixOf self.new.log.applied (self.old.log.applied ++ entries)) }

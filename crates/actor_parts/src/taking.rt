@@ -2,7 +2,6 @@
 ghost use Rattle.std.specs.Prelude.{◌≡◌, false};
 ghost use Rattle.paxos_node.specs.Adopting.{Fits};
 ghost use Rattle.paxos_node.specs.Held.{HasRoom};
-ghost use Rattle.replica_machine.specs.Log.{machine_from};
 ghost use Rattle.actor_parts.specs.Steps.{StaysWho, IsAtEnd, AnswersUp, TakesIn};
 
 use crate::fault::ActorFault;
@@ -24,7 +23,7 @@ impl<M: Machine, K: Keeper<M::Body>> Parts<M, K> {
         requires alive { self.old.log.failed ≡ false }
         requires end { IsAtEnd self.old.log }
         ensures who { StaysWho self.old self.new }
-        ensures follows { TakesIn (machine_from M.next M.says M.to) M.content outcome self.old self.new result }
+        ensures follows { TakesIn M.steps M.content outcome self.old self.new result }
     {
         let boot = self.boot();
         let applied = self.adopt(outcome);

@@ -12,8 +12,8 @@ use Rattle.std.specs.Prelude.{Result}
 use Rattle.std.specs.declared.vec.Vec.{Vec}
 use Rattle.std.specs.declared.alloc.Global.{Global}
 use Rattle.actor_parts.specs.declared.fault.ActorFault.{ActorFault}
-use Rattle.replica_machine.specs.Log.{IsLogOf}
-use Rattle.replica_machine.specs.Replay.{Machine}
+use Rattle.replica_machine.specs.Log.{IsLogOf, machine_from}
+use Rattle.replica_machine.specs.Replay.{Steps}
 use Rattle.actor_parts.specs.Handing.{handed_by}
 use Rattle.node_actor.specs.Actor.{Acting}
 use Rattle.node_actor.specs.Calls.{Goes, turn_event}
@@ -23,7 +23,7 @@ use Rattle.actor_run.specs.Events.{asked_by, asked_in, act_in, acts_in, behind, 
 use Rattle.actor_run.specs.Runs.{Outset, HeldBack, Went}
 use Rattle.actor_run.proofs.Lists.{gained_at, behind_more, gained_more, said_more}
 
-module _ {B S Y M K : Type 0} (same : B → B → Bool) (from : S → Machine B S Y) (content : M → S) (holds : K → Rows B → Type 0)
+module _ {B S Y M K : Type 0} (same : B → B → Bool) (steps : Steps B S Y) (content : M → S) (holds : K → Rows B → Type 0)
     (finds : K → Rows B → Type 0) (failures : K → ℕ) (o : Outset B Y M K) where
   abbrev n_of : ℕ
   n_of = o.actor.node.members
@@ -33,10 +33,10 @@ module _ {B S Y M K : Type 0} (same : B → B → Bool) (from : S → Machine B 
 
   -- the event, or none, is one of those that were made, and its act is no longer late
   pub goes_on : (late rest : List (ℕ × B)) (mid now : Acting B M K) (w : View B) (made given : List (Event B)) (said says : List Y)
-      (e : Option (Event B)) (t : Went same from content late o mid w made given said)
-      (g : Goes same from content holds finds failures e mid now w says) → now.node.me ≡ mid.node.me → now.node.members ≡ mid.node.members
+      (e : Option (Event B)) (t : Went same steps content late o mid w made given said)
+      (g : Goes same steps content holds finds failures e mid now w says) → now.node.me ≡ mid.node.me → now.node.members ≡ mid.node.members
       → acts_in (gained_at e (seen w).node) ++ rest ≡ late
-      → Went same from content rest o now g.next (made ++ option_to_list e) given (said ++ says)
+      → Went same steps content rest o now g.next (made ++ option_to_list e) given (said ++ says)
   goes_on late rest mid now w made given said says e t g me members gain =
       let at : NodeState B = (behind same n_of made s_of).node in
       let here : acts_in (gained_at e at) ++ rest ≡ late = subst (λ (z : Viewed B). acts_in (gained_at e z.node) ++ rest ≡ late) t.moved gain in
@@ -53,20 +53,21 @@ module _ {B S Y M K : Type 0} (same : B → B → Bool) (from : S → Machine B 
         follows = λ first under l. g.follows first under (t.follows first under l);
       }
     where
-      says_on : (first : S) (under : List (Entry B)) → said ≡ said_in same n_of (from first) under made s_of
-          → says ≡ handed_by same mid.node.members (from first) under e (seen w).node
-          → said ++ says ≡ said_in same n_of (from first) under (made ++ option_to_list e) s_of
+      says_on : (first : S) (under : List (Entry B)) → said ≡ said_in same n_of (machine_from steps first) under made s_of
+          → says ≡ handed_by same mid.node.members (machine_from steps first) under e (seen w).node
+          → said ++ says ≡ said_in same n_of (machine_from steps first) under (made ++ option_to_list e) s_of
       says_on first under before now_is =
-          let mine : says ≡ handed_by same n_of (from first) under e (behind same n_of made s_of).node =
-          now_is ∙ (ap (λ k. handed_by same k (from first) under e (seen w).node) t.members
-          ∙ ap (λ z. handed_by same n_of (from first) under e z.node) t.moved) in
+          let mine : says ≡ handed_by same n_of (machine_from steps first) under e (behind same n_of made s_of).node =
+          now_is ∙ (ap (λ k. handed_by same k (machine_from steps first) under e (seen w).node) t.members
+          ∙ ap (λ z. handed_by same n_of (machine_from steps first) under e z.node) t.moved) in
           ap (λ z. z ++ says) before
-          ∙ (ap (λ z. said_in same n_of (from first) under made s_of ++ z) mine ∙ sym (said_more same n_of (from first) under made e s_of))
+          ∙ (ap (λ z. said_in same n_of (machine_from steps first) under made s_of ++ z) mine
+          ∙ sym (said_more same n_of (machine_from steps first) under made e s_of))
 
   -- what was due was posted: the view shows the same node
   pub posts_on : (late : List (ℕ × B)) (old now : Acting B M K) (w : View B) (made given : List (Event B)) (said : List Y)
-      (r : Result (Vec Y Global) (ActorFault Y)) (t : Turns same from content holds finds failures old now w r)
-      → Went same from content late o old w made given said → Went same from content late o t.mid t.between made given said
+      (r : Result (Vec Y Global) (ActorFault Y)) (t : Turns same steps content holds finds failures old now w r)
+      → Went same steps content late o old w made given said → Went same steps content late o t.mid t.between made given said
   posts_on late old now w made given said r t went =
       let only = t.posts.beside.only in
       record {
@@ -76,7 +77,7 @@ module _ {B S Y M K : Type 0} (same : B → B → Bool) (from : S → Machine B 
         moved = t.posts.beside.seen ∙ went.moved;
         acts = went.acts;
         says = went.says;
-        follows = λ first under l. subst (λ log. IsLogOf from content first under log) (sym only.log) (went.follows first under l);
+        follows = λ first under l. subst (λ log. IsLogOf steps content first under log) (sym only.log) (went.follows first under l);
       }
 
   -- an event that was held back is so still if no act was taken since

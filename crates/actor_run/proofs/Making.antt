@@ -11,7 +11,7 @@ use Rattle.paxos_node.specs.declared.event.Event.{Event}
 use Rattle.paxos_node.specs.Events.{is_full_refused}
 use Rattle.paxos_node.specs.View.{Viewed}
 use Rattle.paxos_planning.specs.Node.{NodeState}
-use Rattle.replica_machine.specs.Replay.{Machine}
+use Rattle.replica_machine.specs.Replay.{Steps}
 use Rattle.actor_parts.specs.declared.fault.ActorFault.{ActorFault}
 use Rattle.actor_parts.specs.declared.fault.ActorFault.TheVariants.{Failed, Rounds, Full, Keeper, Disagree, LostHere, Worn, Memory}
 use Rattle.node_actor.specs.Actor.{Acting}
@@ -24,11 +24,11 @@ use Rattle.actor_run.specs.Runs.{Outset, HeldBack, Went, Underway, Waits, IsLate
 use Rattle.actor_run.proofs.Lists.{gained_at, gains, not_asked, none_asked, turn_gains, turn_rounds, turn_rooms}
 use Rattle.actor_run.proofs.Going.{goes_on, posts_on, held_on}
 
-module _ {B S Y M K F : Type 0} (same : B → B → Bool) (from : S → Machine B S Y) (content : M → S) (saw : F → List (Event B) → List Y → Type 0)
+module _ {B S Y M K F : Type 0} (same : B → B → Bool) (steps : Steps B S Y) (content : M → S) (saw : F → List (Event B) → List Y → Type 0)
     (o : Outset B Y M K) where
   -- another list of late acts that is the same
-  abbrev late_is : (late rest : List (ℕ × B)) (now : Acting B M K) (feed : F) → late ≡ rest → Underway same from content saw late o now feed
-      → Underway same from content saw rest o now feed
+  abbrev late_is : (late rest : List (ℕ × B)) (now : Acting B M K) (feed : F) → late ≡ rest → Underway same steps content saw late o now feed
+      → Underway same steps content saw rest o now feed
   late_is late rest now feed e u =
       record {
         view = u.view;
@@ -50,7 +50,7 @@ module _ {B S Y M K F : Type 0} (same : B → B → Bool) (from : S → Machine 
   -- the feed gave an event, or none
   pub given_on : (now : Acting B M K) (feed next : F) (r : Option (Event B))
       → ((given : List (Event B)) (got : List Y) → saw feed given got → saw next (given ++ option_to_list r) got)
-      → Underway same from content saw [] o now feed → Underway same from content saw (late_of o.actor.node.me r) o now next
+      → Underway same steps content saw [] o now feed → Underway same steps content saw (late_of o.actor.node.me r) o now next
   given_on now feed next r gives u =
       let me : ℕ = o.actor.node.me in
       let asked : asked_in me (u.given ++ option_to_list r) ≡ asked_in me u.given ++ late_of me r =
@@ -82,31 +82,31 @@ module _ {B S Y M K F : Type 0} (same : B → B → Bool) (from : S → Machine 
   -- the next event that a feed gave, if none was held back
   pub next_of : (now : Acting B M K) (feed next : F) (r : Option (Event B))
       → ((given : List (Event B)) (got : List Y) → saw feed given got → saw next (given ++ option_to_list r) got)
-      → Waits same from content saw None o now feed
-      → MatchOption r (Waits same from content saw None o now next) (λ e. Underway same from content saw (asked_by now.node.me e) o now next)
+      → Waits same steps content saw None o now feed
+      → MatchOption r (Waits same steps content saw None o now next) (λ e. Underway same steps content saw (asked_by now.node.me e) o now next)
   next_of now feed next None gives w = record { under = given_on now feed next None gives w.under; back = tt }
   next_of now feed next (Some e) gives w =
       late_is (asked_by o.actor.node.me e) (asked_by now.node.me e) now next (ap (λ k. asked_by k e) (sym w.under.went.me))
       (given_on now feed next (Some e) gives w.under)
 
   -- the one that was held back
-  pub held_again : (now : Acting B M K) (feed : F) (e : Event B) → Waits same from content saw (Some e) o now feed
-      → Underway same from content saw (asked_by now.node.me e) o now feed
+  pub held_again : (now : Acting B M K) (feed : F) (e : Event B) → Waits same steps content saw (Some e) o now feed
+      → Underway same steps content saw (asked_by now.node.me e) o now feed
   held_again now feed e w =
       late_is (asked_by o.actor.node.me e) (asked_by now.node.me e) now feed (ap (λ k. asked_by k e) (sym w.under.went.me)) w.under
 
   -- an event that is no node's own asks nothing
   pub passes : (now : Acting B M K) (feed : F) (e : Event B) → is_own now.node.me e ≡ false
-      → Underway same from content saw (asked_by now.node.me e) o now feed → Waits same from content saw None o now feed
+      → Underway same steps content saw (asked_by now.node.me e) o now feed → Waits same steps content saw None o now feed
   passes now feed e own u = record { under = late_is _ [] now feed (not_asked same o.actor.node.members now.node.me e own) u; back = tt }
 
   module _ (holds : K → Rows B → Type 0) (finds : K → Rows B → Type 0) (failures : K → ℕ) where
     -- the actor took it
     pub makes_ok : (mid now : Acting B M K) (feed next : F) (e : Event B) (says : Vec Y Global)
-        → ((v : View B) → StandsFor mid v → Acts same from content holds finds failures (Some e) mid now v (Ok says))
+        → ((v : View B) → StandsFor mid v → Acts same steps content holds finds failures (Some e) mid now v (Ok says))
         → is_own mid.node.me e ≡ true → now.node.me ≡ mid.node.me → now.node.members ≡ mid.node.members
-        → Gets {B = B} saw says.items feed next → Underway same from content saw (asked_by mid.node.me e) o mid feed
-        → Waits same from content saw None o now next
+        → Gets {B = B} saw says.items feed next → Underway same steps content saw (asked_by mid.node.me e) o mid feed
+        → Waits same steps content saw None o now next
     makes_ok mid now feed next e says acts own me members gets u =
         let a = acts u.view u.went.stands in
         let full : is_full_refused same e (seen u.view).node ≡ false = a.2.0.1 in
@@ -118,7 +118,7 @@ module _ {B S Y M K F : Type 0} (same : B → B → Bool) (from : S → Machine 
             made = u.made ++ e ∷ [];
             given = u.given;
             said = u.said ++ says.items;
-            went = goes_on same from content holds finds failures o (asked_by mid.node.me e) [] mid now u.view u.made u.given u.said says.items
+            went = goes_on same steps content holds finds failures o (asked_by mid.node.me e) [] mid now u.view u.made u.given u.said says.items
                 (Some e) u.went a.4 me members gain;
             told = subst (saw next (o.gave ++ u.given)) (append_assoc o.got u.said says.items) (gets (o.gave ++ u.given) (o.got ++ u.said) u.told);
           };
@@ -127,25 +127,25 @@ module _ {B S Y M K F : Type 0} (same : B → B → Bool) (from : S → Machine 
 
     -- the actor returned a fault
     pub makes_err : (mid now : Acting B M K) (feed next : F) (e : Event B) (fault : ActorFault Y) (r : Result (Option (Event B)) (ActorFault Y))
-        → ((v : View B) → StandsFor mid v → Acts same from content holds finds failures (Some e) mid now v (Err fault))
-        → Answered saw fault e feed next r → Underway same from content saw (asked_by mid.node.me e) o mid feed
-        → Makes same from content saw holds finds failures o now next r
+        → ((v : View B) → StandsFor mid v → Acts same steps content holds finds failures (Some e) mid now v (Err fault))
+        → Answered saw fault e feed next r → Underway same steps content saw (asked_by mid.node.me e) o mid feed
+        → Makes same steps content saw holds finds failures o now next r
     makes_err mid now feed next e fault (Ok None) acts told u =
-        let at : (v : View B) → StandsFor mid v → Acts same from content holds finds failures (Some e) mid now v (Err Rounds) =
-        subst (λ f. (v : View B) → StandsFor mid v → Acts same from content holds finds failures (Some e) mid now v (Err f)) told.0 acts in
+        let at : (v : View B) → StandsFor mid v → Acts same steps content holds finds failures (Some e) mid now v (Err Rounds) =
+        subst (λ f. (v : View B) → StandsFor mid v → Acts same steps content holds finds failures (Some e) mid now v (Err f)) told.0 acts in
         let a = at u.view u.went.stands in
         let none : asked_by mid.node.me e ≡ [] = none_asked same o.actor.node.members mid.node.me e (seen u.view).node a.1 in
-        subst (λ f. Waits same from content saw None o now f) (sym told.1)
-        (subst (λ z. Waits same from content saw None o z feed) (sym a.2) (record { under = late_is _ [] mid feed none u; back = tt }))
+        subst (λ f. Waits same steps content saw None o now f) (sym told.1)
+        (subst (λ z. Waits same steps content saw None o z feed) (sym a.2) (record { under = late_is _ [] mid feed none u; back = tt }))
     makes_err mid now feed next e fault (Ok (Some held)) acts told u =
-        let at : (v : View B) → StandsFor mid v → Acts same from content holds finds failures (Some e) mid now v (Err Full) =
-        subst (λ f. (v : View B) → StandsFor mid v → Acts same from content holds finds failures (Some e) mid now v (Err f)) told.0 acts in
+        let at : (v : View B) → StandsFor mid v → Acts same steps content holds finds failures (Some e) mid now v (Err Full) =
+        subst (λ f. (v : View B) → StandsFor mid v → Acts same steps content holds finds failures (Some e) mid now v (Err f)) told.0 acts in
         let a = at u.view u.went.stands in
         let full : is_full_refused same e (behind same o.actor.node.members u.made (seen o.view)).node ≡ true =
         subst (λ (z : Viewed B). is_full_refused same e z.node ≡ true) u.went.moved a.1 in
-        subst (λ h. Waits same from content saw (Some h) o now next) (sym told.1)
-        (subst (λ f. Waits same from content saw (Some e) o now f) (sym told.2)
-        (subst (λ z. Waits same from content saw (Some e) o z feed) (sym a.2) (record {
+        subst (λ h. Waits same steps content saw (Some h) o now next) (sym told.1)
+        (subst (λ f. Waits same steps content saw (Some e) o now f) (sym told.2)
+        (subst (λ z. Waits same steps content saw (Some e) o z feed) (sym a.2) (record {
           under = late_is _ (asked_by o.actor.node.me e) mid feed (ap (λ k. asked_by k e) u.went.me) u;
           back = record { front = u.made; since = []; all = sym (append-nil u.made); full = full; no_act = refl };
         })))
@@ -172,22 +172,22 @@ module _ {B S Y M K F : Type 0} (same : B → B → Bool) (from : S → Machine 
     held_still : (held : Option (Event B)) (made : List (Event B)) (e : Option (Event B)) → ((x : NodeState B) → gained_at e x ≡ [])
         → IsHeld same o.actor.node.members held made (seen o.view) → IsHeld same o.actor.node.members held (made ++ option_to_list e) (seen o.view)
     held_still None made e none back = tt
-    held_still (Some h) made e none back = held_on same from content holds finds failures o h made e none back
+    held_still (Some h) made e none back = held_on same steps content holds finds failures o h made e none back
 
     why_late : (held : Option (Event B)) (made : List (Event B)) (last : Option (Event B)) → IsHeld same o.actor.node.members held made (seen o.view)
-        → IsLate same from content saw holds finds failures (late_of o.actor.node.me held) o made last
+        → IsLate same steps content saw holds finds failures (late_of o.actor.node.me held) o made last
     why_late None made last back = none_is refl
     why_late (Some h) made last back = was_held h refl back
 
     -- a turn that returned what was said
     pub turned_ok : (held : Option (Event B)) (old now : Acting B M K) (feed next : F) (says : Vec Y Global)
         → (old.spoiled ≡ true → (now ≡ old) × ◌≡◌ {A = Result (Vec Y Global) (ActorFault Y)} (Ok says) (Err Failed))
-        → ((v : View B) → StandsFor old v → old.spoiled ≡ false → Turns same from content holds finds failures old now v (Ok says))
+        → ((v : View B) → StandsFor old v → old.spoiled ≡ false → Turns same steps content holds finds failures old now v (Ok says))
         → now.node.me ≡ old.node.me → now.node.members ≡ old.node.members → Gets {B = B} saw says.items feed next
-        → Waits same from content saw held o old feed → Waits same from content saw held o now next
+        → Waits same steps content saw held o old feed → Waits same steps content saw held o now next
     turned_ok held old now feed next says spoils turns me members gets w = by_spoiled old.spoiled refl
       where
-        by_spoiled : (b : Bool) → old.spoiled ≡ b → Waits same from content saw held o now next
+        by_spoiled : (b : Bool) → old.spoiled ≡ b → Waits same steps content saw held o now next
         by_spoiled true e = absurd (let off : ◌≡◌ {A = Result (Vec Y Global) (ActorFault Y)} (Ok says) (Err Failed) = (spoils e).1 in cc)
         by_spoiled false e =
             let u = w.under in
@@ -203,8 +203,8 @@ module _ {B S Y M K F : Type 0} (same : B → B → Bool) (from : S → Machine 
                 made = u.made ++ option_to_list last;
                 given = u.given;
                 said = u.said ++ says.items;
-                went = goes_on same from content holds finds failures o late late t.mid now t.between u.made u.given u.said says.items last
-                    (posts_on same from content holds finds failures o late old now u.view u.made u.given u.said (Ok says) t u.went) a.4
+                went = goes_on same steps content holds finds failures o late late t.mid now t.between u.made u.given u.said says.items last
+                    (posts_on same steps content holds finds failures o late old now u.view u.made u.given u.said (Ok says) t u.went) a.4
                     (me ∙ sym (ap (λ h. h.me) still)) (members ∙ sym (ap (λ h. h.members) still))
                     (ap (λ l. acts_in l ++ late) (none (seen t.between).node));
                 told = subst (saw next (o.gave ++ u.given)) (append_assoc o.got u.said says.items)
@@ -215,7 +215,7 @@ module _ {B S Y M K F : Type 0} (same : B → B → Bool) (from : S → Machine 
 
     -- no packet's event is refused
     fatal_by : (fault : ActorFault Y) (last : Option (Event B)) (mid now : Acting B M K) (v : View B)
-        → Acts same from content holds finds failures last mid now v (Err fault) → has_no_round last (seen v).node ≡ false
+        → Acts same steps content holds finds failures last mid now v (Err fault) → has_no_round last (seen v).node ≡ false
         → has_no_room same last (seen v).node ≡ false → is_refusal fault ≡ false
     fatal_by Failed last mid now v a rounds rooms = refl
     fatal_by Rounds last mid now v a rounds rooms = absurd (let off : ◌≡◌ {A = Bool} true false = sym a.1 ∙ rounds in cc)
@@ -229,12 +229,12 @@ module _ {B S Y M K F : Type 0} (same : B → B → Bool) (from : S → Machine 
     -- a turn that returned a fault
     pub turned_err : (held : Option (Event B)) (old now : Acting B M K) (feed next : F) (fault answer : ActorFault Y)
         → (old.spoiled ≡ true → (now ≡ old) × ◌≡◌ {A = Result (Vec Y Global) (ActorFault Y)} (Err fault) (Err Failed))
-        → ((v : View B) → StandsFor old v → old.spoiled ≡ false → Turns same from content holds finds failures old now v (Err fault))
+        → ((v : View B) → StandsFor old v → old.spoiled ≡ false → Turns same steps content holds finds failures old now v (Err fault))
         → IsQuiet fault answer → Gets {B = B} saw (says_of fault) feed next
-        → Waits same from content saw held o old feed → Ended same from content saw holds finds failures o now next answer
+        → Waits same steps content saw held o old feed → Ended same steps content saw holds finds failures o now next answer
     turned_err held old now feed next fault answer spoils turns quiet gets w = by_spoiled old.spoiled refl
       where
-        by_spoiled : (b : Bool) → old.spoiled ≡ b → Ended same from content saw holds finds failures o now next answer
+        by_spoiled : (b : Bool) → old.spoiled ≡ b → Ended same steps content saw holds finds failures o now next answer
         by_spoiled true e =
             let u = w.under in
             let off : ◌≡◌ {A = Result (Vec Y Global) (ActorFault Y)} (Err fault) (Err Failed) = (spoils e).1 in
@@ -250,7 +250,7 @@ module _ {B S Y M K F : Type 0} (same : B → B → Bool) (from : S → Machine 
               said = u.said;
               went = u.went;
               why = why_late held u.made None w.back;
-              ended = subst (λ f. Acts same from content holds finds failures None old now u.view (Err f)) (sym is) (e, (spoils e).0);
+              ended = subst (λ f. Acts same steps content holds finds failures None old now u.view (Err f)) (sym is) (e, (spoils e).0);
               fatal = subst (λ f. is_refusal f ≡ false) (sym is) refl;
               quiet = quiet;
               told = gets (o.gave ++ u.given) (o.got ++ u.said) u.told;
@@ -268,7 +268,8 @@ module _ {B S Y M K F : Type 0} (same : B → B → Bool) (from : S → Machine 
               made = u.made;
               given = u.given;
               said = u.said;
-              went = posts_on same from content holds finds failures o (late_of o.actor.node.me held) old now u.view u.made u.given u.said (Err fault)
+              went = posts_on same steps content holds finds failures o (late_of o.actor.node.me held) old now u.view u.made u.given u.said
+                  (Err fault)
                   t u.went;
               why = why_late held u.made last w.back;
               ended = t.acts;
@@ -280,7 +281,7 @@ module _ {B S Y M K F : Type 0} (same : B → B → Bool) (from : S → Machine 
             }
 
   -- nothing has come yet
-  pub sets_out : (feed : F) → StandsFor o.actor o.view → saw feed o.gave o.got → Waits same from content saw None o o.actor feed
+  pub sets_out : (feed : F) → StandsFor o.actor o.view → saw feed o.gave o.got → Waits same steps content saw None o o.actor feed
   sets_out feed stands told =
       record {
         under = record {

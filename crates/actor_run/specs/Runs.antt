@@ -5,8 +5,8 @@ use Rattle.paxos_packets.specs.declared.rows.Rows.{Rows}
 use Rattle.paxos_node.specs.declared.event.Event.{Event}
 use Rattle.paxos_node.specs.Events.{is_full_refused}
 use Rattle.paxos_node.specs.View.{Viewed}
-use Rattle.replica_machine.specs.Log.{IsLogOf}
-use Rattle.replica_machine.specs.Replay.{Machine}
+use Rattle.replica_machine.specs.Log.{IsLogOf, machine_from}
+use Rattle.replica_machine.specs.Replay.{Steps}
 use Rattle.actor_parts.specs.declared.fault.ActorFault.{ActorFault}
 use Rattle.node_actor.specs.Actor.{Acting}
 use Rattle.node_actor.specs.Calls.{Acts}
@@ -39,7 +39,7 @@ abbrev pub IsHeld : {B : Type 0} → (B → B → Bool) → ℕ → Option (Even
 IsHeld same members None made s = Unit {0}
 IsHeld same members (Some e) made s = HeldBack same members e made s
 
-module _ {B S Y M K : Type 0} (same : B → B → Bool) (from : S → Machine B S Y) (content : M → S) where
+module _ {B S Y M K : Type 0} (same : B → B → Bool) (steps : Steps B S Y) (content : M → S) where
   -- the view went on by these events of the core, and its actor with it: the acts that it gained, and after them one that is late, are
   -- those that the feed asked for, in order; and what was said is what the core hands out
   pub record Went (late : List (ℕ × B)) (o : Outset B Y M K) (now : Acting B M K) (view : View B) (made given : List (Event B)) (said : List Y) : Type 0 where
@@ -48,10 +48,10 @@ module _ {B S Y M K : Type 0} (same : B → B → Bool) (from : S → Machine B 
     pub members : now.node.members ≡ o.actor.node.members
     pub moved : seen view ≡ behind same o.actor.node.members made (seen o.view)
     pub acts : acts_in (gained_in same o.actor.node.members made (seen o.view)) ++ late ≡ asked_in o.actor.node.me given
-    pub says : (first : S) (under : List (Entry B)) → IsLogOf from content first under o.actor.log
-        → said ≡ said_in same o.actor.node.members (from first) under made (seen o.view)
-    pub follows : (first : S) (under : List (Entry B)) → IsLogOf from content first under o.actor.log
-        → IsLogOf from content first under now.log
+    pub says : (first : S) (under : List (Entry B)) → IsLogOf steps content first under o.actor.log
+        → said ≡ said_in same o.actor.node.members (machine_from steps first) under made (seen o.view)
+    pub follows : (first : S) (under : List (Entry B)) → IsLogOf steps content first under o.actor.log
+        → IsLogOf steps content first under now.log
 
   module _ {F : Type 0} (saw : F → List (Event B) → List Y → Type 0) where
     -- the same, stated with what the feed gave and got
@@ -88,7 +88,7 @@ module _ {B S Y M K : Type 0} (same : B → B → Bool) (from : S → Machine B 
         pub said : List Y
         pub went : Went late o before view made given said
         pub why : IsLate late o made last
-        pub ended : Acts same from content holds finds failures last before now view (Err fault)
+        pub ended : Acts same steps content holds finds failures last before now view (Err fault)
         pub fatal : is_refusal fault ≡ false
         pub quiet : IsQuiet fault answer
         pub told : saw feed (o.gave ++ given) ((o.got ++ said) ++ says_of fault)

@@ -1,7 +1,6 @@
 // What comes before a turn: makes the events that a feed gives.
 ghost use Rattle.std.specs.Prelude.{◌≡◌, Option, List, [], MatchOption};
 ghost use Rattle.paxos_node.specs.declared.event.Event.{Event};
-ghost use Rattle.replica_machine.specs.Log.{machine_from};
 ghost use Rattle.mail_table.specs.Seats.{Owns};
 ghost use Rattle.node_actor.specs.Calls.{is_own};
 ghost use Rattle.actor_run.specs.Answers.{says_of, IsQuiet, Gets, Answered};
@@ -80,9 +79,9 @@ fn next_event<M: Machine, K: Keeper<M::Body>, F: Feed<M::Body, M::Say>>(
     feed: &mut F,
     held: &mut Option<Event<M::Body>>,
 ) -> Option<Event<M::Body>>
-    ensures next { (o : Outset M.Body M.Say M K) → Waits M.Body.same (machine_from M.next M.says M.to) M.content F.saw held.old o actor.now feed.old →
-        MatchOption result (Waits M.Body.same (machine_from M.next M.says M.to) M.content F.saw Option.None o actor.now feed.new)
-        (λ e. Underway M.Body.same (machine_from M.next M.says M.to) M.content F.saw (asked_by actor.now.node.me e) o actor.now feed.new) }
+    ensures next { (o : Outset M.Body M.Say M K) → Waits M.Body.same M.steps M.content F.saw held.old o actor.now feed.old →
+        MatchOption result (Waits M.Body.same M.steps M.content F.saw Option.None o actor.now feed.new)
+        (λ e. Underway M.Body.same M.steps M.content F.saw (asked_by actor.now.node.me e) o actor.now feed.new) }
     ensures taken { held.new ≡ Option.None }
 {
     if held.is_none() {
@@ -141,8 +140,8 @@ fn make<M: Machine, K: Keeper<M::Body>, F: Feed<M::Body, M::Say>>(
     ensures still_owned { Owns mail.now actor.new.seat }
     ensures me { actor.new.node.me ≡ actor.old.node.me }
     ensures makes { (o : Outset M.Body M.Say M K) →
-        Underway M.Body.same (machine_from M.next M.says M.to) M.content F.saw (asked_by actor.old.node.me event) o actor.old feed.old →
-        Makes M.Body.same (machine_from M.next M.says M.to) M.content F.saw K.holds K.finds K.failures o actor.new feed.new result }
+        Underway M.Body.same M.steps M.content F.saw (asked_by actor.old.node.me event) o actor.old feed.old →
+        Makes M.Body.same M.steps M.content F.saw K.holds K.finds K.failures o actor.new feed.new result }
 {
     if !is_own(actor.me(), &event) {
         drop(event);
@@ -168,8 +167,8 @@ pub(crate) fn make_events<M: Machine, K: Keeper<M::Body>, F: Feed<M::Body, M::Sa
     requires owned { Owns mail.now actor.old.seat }
     ensures still_owned { Owns mail.now actor.new.seat }
     ensures makes { (o : Outset M.Body M.Say M K) →
-        Waits M.Body.same (machine_from M.next M.says M.to) M.content F.saw held.old o actor.old feed.old →
-        Keeps M.Body.same (machine_from M.next M.says M.to) M.content F.saw K.holds K.finds K.failures o actor.new feed.new held.new result }
+        Waits M.Body.same M.steps M.content F.saw held.old o actor.old feed.old →
+        Keeps M.Body.same M.steps M.content F.saw K.holds K.finds K.failures o actor.new feed.new held.new result }
 {
     for _ in 0..EVENTS_A_TURN {
         let Some(event) = next_event(actor, feed, held) else {

@@ -1,3 +1,4 @@
+// The trait of feeds, which give a run its events and take its sayings, and what a feed sees of the node.
 ghost use Rattle.std.specs.Prelude.{ℕ, List, ◌++◌};
 ghost use Rattle.std.specs.Option.{option_to_list};
 ghost use Rattle.paxos_node.specs.declared.event.Event.{Event};

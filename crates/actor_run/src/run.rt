@@ -1,6 +1,6 @@
+// Runs an actor: the events of its feed and then a turn, again and again, until the gate or a fault ends the run.
 ghost use Rattle.std.specs.Prelude.{◌≡◌, Option, List, [], ◌++◌};
 ghost use Rattle.paxos_node.specs.declared.event.Event.{Event};
-ghost use Rattle.replica_machine.specs.Log.{machine_from};
 ghost use Rattle.mail_table.specs.Seats.{Owns};
 ghost use Rattle.node_actor.specs.Views.{View, StandsFor};
 ghost use Rattle.actor_run.specs.Runs.{Outset, Waits, Keeps, Runs};
@@ -20,8 +20,8 @@ fn take_turn<M: Machine, K: Keeper<M::Body>, F: Feed<M::Body, M::Say>>(
     requires owned { Owns mail.now actor.old.seat }
     ensures still_owned { Owns mail.now actor.new.seat }
     ensures turned { (held : Option (Event M.Body)) (o : Outset M.Body M.Say M K) →
-        Waits M.Body.same (machine_from M.next M.says M.to) M.content F.saw held o actor.old feed.old →
-        Keeps M.Body.same (machine_from M.next M.says M.to) M.content F.saw K.holds K.finds K.failures o actor.new feed.new held result }
+        Waits M.Body.same M.steps M.content F.saw held o actor.old feed.old →
+        Keeps M.Body.same M.steps M.content F.saw K.holds K.finds K.failures o actor.new feed.new held result }
 {
     match actor.turn(mail) {
         Ok(says) => {
@@ -42,8 +42,8 @@ fn round<M: Machine, K: Keeper<M::Body>, F: Feed<M::Body, M::Say>>(
     requires owned { Owns mail.now actor.old.seat }
     ensures still_owned { Owns mail.now actor.new.seat }
     ensures makes { (o : Outset M.Body M.Say M K) →
-        Waits M.Body.same (machine_from M.next M.says M.to) M.content F.saw held.old o actor.old feed.old →
-        Keeps M.Body.same (machine_from M.next M.says M.to) M.content F.saw K.holds K.finds K.failures o actor.new feed.new held.new result }
+        Waits M.Body.same M.steps M.content F.saw held.old o actor.old feed.old →
+        Keeps M.Body.same M.steps M.content F.saw K.holds K.finds K.failures o actor.new feed.new held.new result }
 {
     match make_events(mail, actor, feed, held) {
         Ok(()) => take_turn(mail, actor, feed),
@@ -65,7 +65,7 @@ pub fn run_node<M: Machine, K: Keeper<M::Body>, G: Gate, F: Feed<M::Body, M::Say
     requires owned { Owns mail.now actor.old.seat }
     ensures still_owned { Owns mail.now actor.new.seat }
     ensures runs { (view : View M.Body) (gave : List (Event M.Body)) (got : List M.Say) → StandsFor actor.old view → F.saw feed.old gave got →
-        Runs M.Body.same (machine_from M.next M.says M.to) M.content F.saw K.holds K.finds K.failures
+        Runs M.Body.same M.steps M.content F.saw K.holds K.finds K.failures
         (record { actor = actor.old; view = view; gave = gave; got = got }) actor.new feed.new result }
 {
     let mut held = None;

@@ -5,7 +5,7 @@ use Rattle.std.proofs.lemmas.Bool.{false≢true}
 use Rattle.std.proofs.lemmas.List.{append-nil}
 use Rattle.paxos_packets.specs.declared.rows.Rows.{Rows}
 use Rattle.paxos_node.specs.declared.event.Event.{Event}
-use Rattle.replica_machine.specs.Replay.{Machine}
+use Rattle.replica_machine.specs.Replay.{Steps}
 use Rattle.actor_parts.specs.declared.fault.ActorFault.{ActorFault}
 use Rattle.node_actor.specs.Actor.{Acting}
 use Rattle.node_actor.specs.Views.{View}
@@ -35,13 +35,13 @@ gets_more gave given old new said says was is keeps told whole =
 
 -- what a run makes of them
 
-pub told_all : {B S Y M K F : Type 0} (same : B → B → Bool) (from : S → Machine B S Y) (content : M → S) (saw : F → List (Event B) → List Y → Type 0)
+pub told_all : {B S Y M K F : Type 0} (same : B → B → Bool) (steps : Steps B S Y) (content : M → S) (saw : F → List (Event B) → List Y → Type 0)
     (holds : K → Rows B → Type 0) (finds : K → Rows B → Type 0) (failures : K → ℕ) (old now : Acting B M K) (view : View B) (feed : F)
     (gave : List (Event B)) (got : List Y) (result : Result (Unit {0}) (ActorFault Y)) → is_ok result ≡ true
     → ((given : List (Event B)) (said : List Y) → saw feed given said → (gave ≡ given) × (got ≡ said))
-    → Runs same from content saw holds finds failures (record { actor = old; view = view; gave = []; got = [] }) now feed result
-    → TellsAll same from content old view gave got
-told_all same from content saw holds finds failures old now view feed gave got (Ok _) ok shows runs =
+    → Runs same steps content saw holds finds failures (record { actor = old; view = view; gave = []; got = [] }) now feed result
+    → TellsAll same steps content old view gave got
+told_all same steps content saw holds finds failures old now view feed gave got (Ok _) ok shows runs =
     let under = runs.1.under in
     let all = shows under.given under.said under.told in
     record {
@@ -51,4 +51,4 @@ told_all same from content saw holds finds failures old now view feed gave got (
       acts = under.went.acts ∙ ap (asked_in old.node.me) (sym all.0);
       says = λ first follows. all.1 ∙ under.went.says first [] follows;
     }
-told_all same from content saw holds finds failures old now view feed gave got (Err fault) ok shows runs = absurd (false≢true ok)
+told_all same steps content saw holds finds failures old now view feed gave got (Err fault) ok shows runs = absurd (false≢true ok)

@@ -1,8 +1,8 @@
 -- What a run makes of what its feed gave and got.
 use Rattle.std.specs.Prelude.{◌≡◌, ℕ, Bool, false, Option, List, [], ◌++◌}
 use Rattle.paxos_node.specs.declared.event.Event.{Event}
-use Rattle.replica_machine.specs.Log.{Follows}
-use Rattle.replica_machine.specs.Replay.{Machine}
+use Rattle.replica_machine.specs.Log.{Follows, machine_from}
+use Rattle.replica_machine.specs.Replay.{Steps}
 use Rattle.node_actor.specs.Actor.{Acting}
 use Rattle.node_actor.specs.Views.{View, seen}
 use Rattle.actor_run.specs.Events.{asked_in, acts_in, gained_in, said_in}
@@ -14,10 +14,11 @@ Told short gave got given said = short ≡ false → (gave ≡ given) × (got �
 
 -- the node took the acts that the feed gave, in order, but for that of an event that is held back for want of room at the end; and the feed
 -- got what the core hands out in the events that were made
-pub record TellsAll {B S Y M K : Type 0} (same : B → B → Bool) (from : S → Machine B S Y) (content : M → S) (actor : Acting B M K) (view : View B)
+pub record TellsAll {B S Y M K : Type 0} (same : B → B → Bool) (steps : Steps B S Y) (content : M → S) (actor : Acting B M K) (view : View B)
     (gave : List (Event B)) (got : List Y) : Type 0 where
   pub made : List (Event B)
   pub held : Option (Event B)
   pub back : IsHeld same actor.node.members held made (seen view)
   pub acts : acts_in (gained_in same actor.node.members made (seen view)) ++ late_of actor.node.me held ≡ asked_in actor.node.me gave
-  pub says : (first : S) → Follows from content first actor.log → got ≡ said_in same actor.node.members (from first) [] made (seen view)
+  pub says : (first : S) → Follows steps content first actor.log
+      → got ≡ said_in same actor.node.members (machine_from steps first) [] made (seen view)

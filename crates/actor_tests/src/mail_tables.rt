@@ -1,3 +1,4 @@
+// A mail table: fetches from empty boxes, seats that are gathered or handed back, and the faults' numbers.
 ghost use Rattle.std.specs.Prelude.{◌≡◌, ◌≤◌, All};
 ghost use Rattle.mail_table.specs.Seats.{Owns};
 

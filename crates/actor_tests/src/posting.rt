@@ -1,3 +1,4 @@
+// Packets from node 1 to node 2: a full box hands the second one back, and both are fetched in order.
 ghost use Rattle.cluster_world.specs.Has.{Has};
 ghost use Rattle.mail_table.specs.Seats.{Owns};
 ghost use Rattle.actor_tests.specs.Standing.{Knows};

@@ -5,7 +5,7 @@ use crate::counting::{Asked, Counting, NONE_FAILS, Sum, ask};
 use crate::crashing::restarted;
 use crate::trial::{Trial, tried};
 use node_actor::ActorFault;
-use paxos_packets::{Ballot, Change, Votes};
+use paxos_packets::{Ballot, Change, Snapshot, Votes};
 use std::alloc::Global;
 use std::process::Abort;
 use store_keeper::{Keeper, KeeperFault, MemKeeper};
@@ -99,14 +99,19 @@ pub fn begins_again(rt: &impl Abort, alloc: Global, actor: Counting<'_>) {
 
 // Restarts on other stores.
 
-// A store of a node that was started this often, and then promised this round, if one is given.
-fn keeper_with(rt: &impl Abort, alloc: Global, boots: u64, round: u64) -> MemKeeper<Number> {
+// How often the node of another store was started, the round and the node of the ballot that it promised then, and the floor of its
+// snapshot; 0 for none.
+type Other = (u64, (u64, u8), u8);
+
+// That store.
+fn keeper_with(rt: &impl Abort, alloc: Global, other: &Other) -> MemKeeper<Number> {
+    let (boots, (round, _), _) = *other;
     let mut keeper = MemKeeper::new(alloc);
     for _ in 0..boots {
         boot(rt, &mut keeper);
     }
     if 0 < round {
-        promise(rt, alloc, &mut keeper, round);
+        promise(rt, alloc, &mut keeper, other);
     }
     keeper
 }
@@ -116,13 +121,22 @@ fn boot(rt: &impl Abort, keeper: &mut MemKeeper<Number>) {
     drop(rows);
 }
 
-fn promise(rt: &impl Abort, alloc: Global, keeper: &mut MemKeeper<Number>, round: u64) {
-    keeper
-        .commit(&Change {
-            promised: Some(Ballot { round, node: 3 }),
-            votes: Votes::new(alloc),
-        })
-        .expect(rt, "a commit");
+// The promise, and the snapshot, if there is one.
+fn change(rt: &impl Abort, alloc: Global, other: &Other) -> Change<Number> {
+    let (_, (round, node), floor) = *other;
+    let octets = [0, 0, 0, 0, 0, 0, 0, floor];
+    let octets = Vec::from_slice(alloc, &octets).expect(rt, "room for octets");
+    Change {
+        promised: Some(Ballot { round, node }),
+        snapshot: Snapshot::of(octets).expect(rt, "room for a snapshot"),
+        votes: Votes::new(alloc),
+    }
+}
+
+fn promise(rt: &impl Abort, alloc: Global, keeper: &mut MemKeeper<Number>, other: &Other) {
+    let change = change(rt, alloc, other);
+    keeper.commit(&change).expect(rt, "a commit");
+    drop(change);
 }
 
 fn boots_of(rt: &impl Abort, keeper: &mut MemKeeper<Number>) -> u64 {
@@ -148,16 +162,24 @@ fn refused<'a>(
     }
 }
 
-// How often the node of another store was started, and the round that it promised then.
-const OTHERS: &[(u64, u64)] = &[(0, 0), (1, 0), (1, 2), (2, 2), (0, 1)];
+const OTHERS: &[Other] = &[
+    (0, (0, 3), 0),
+    (1, (0, 3), 0),
+    (1, (2, 3), 0),
+    (2, (2, 3), 0),
+    (0, (1, 3), 0),
+    // the node's own promise, and a snapshot
+    (1, (1, 1), 5),
+    (2, (1, 1), 5),
+];
 
 // Whether all of them are refused.
 fn refuses_all(rt: &impl Abort, alloc: Global, left: Left<'_, Count>) -> bool {
     let mut left = left;
     let mut all = true;
-    for (boots, round) in OTHERS {
-        let keeper = keeper_with(rt, alloc, *boots, *round);
-        let (next, is_one) = refused(rt, alloc, left, keeper, *boots);
+    for other in OTHERS {
+        let keeper = keeper_with(rt, alloc, other);
+        let (next, is_one) = refused(rt, alloc, left, keeper, other.0);
         left = next;
         all = all && is_one;
     }

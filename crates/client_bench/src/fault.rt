@@ -1,3 +1,4 @@
+// The faults of a measure, and which faults of other crates become them.
 use realm_machine::Failed;
 use realm_snapshot::{LoadFault, SaveFault};
 use std::alloc::{AllocError, AllocFailed};

@@ -1,3 +1,4 @@
+// Empties a client's ring once nothing more is put into it.
 ghost use Rattle.std.specs.Prelude.{◌≡◌, ◌+◌, ◌≤◌, ◌++◌, [], length, IfOk, IfErr, OnErr, vec_len, vec_capacity};
 ghost use Rattle.rtrb.specs.Ring.{all_sent, known_items, received, IsFinishedOf, SameConsumer};
 

@@ -1,3 +1,4 @@
+// The faults of serving a client, and their numbers.
 ghost use Rattle.std.specs.Prelude.{◌≡◌};
 ghost use Rattle.client_listener.specs.Fault.{number_of};
 

@@ -1,3 +1,4 @@
+// A client's handshake: its four octets are read and answered, in one call or in two.
 ghost use Rattle.std.specs.Prelude.{take};
 ghost use Rattle.wamp_rawsocket.specs.Handshake.{answer_of};
 ghost use Rattle.client_listener.specs.Handshake.{GivesOctet, ReadsHandshake, Writes, Answers, Greets};

@@ -1,3 +1,4 @@
+// From octets of one client to items in a ring, in steps that wait for nothing.
 ghost use Rattle.std.specs.Prelude.{◌≡◌, ◌<◌, ◌++◌, [], ◌∷◌, ℕ, List, None, Some, Ok, Err, false, true, IfErr, IfSome, OnOk, MatchOption, IsOkUnless};
 ghost use Rattle.std.specs.Bool.{OnTrue};
 ghost use Rattle.std.specs.Option.{option_to_list};

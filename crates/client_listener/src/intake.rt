@@ -1,3 +1,4 @@
+// An inlet with the buffer and the parser of a thread that reads one client.
 ghost use Rattle.std.specs.Prelude.{◌≡◌, [], List, ℕ, Ok, false, IfOk, IfErr};
 ghost use Rattle.rtrb.specs.Ring.{sent, known_free, SameProducer};
 ghost use Rattle.client_listener.specs.Inlet.{Inflow, PutsOn, KeepsRoom};

@@ -1,3 +1,4 @@
+// The items of a client's two rings: what its node takes, and what its node hands over.
 use bytes::Bytes;
 use wamp_messages::{Message, Read};
 

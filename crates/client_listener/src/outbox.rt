@@ -1,3 +1,4 @@
+// A client's outbox: gathers frames out of a ring, or takes them one by one, and writes them.
 ghost use Rattle.std.specs.Prelude.{◌≡◌, ◌<◌, ◌++◌, ◌⊎◌, [], length, ℕ, List, Ok, true, OnOk, OnErr};
 ghost use Rattle.wamp_messages.specs.Writing.{text_of};
 ghost use Rattle.std.specs.Io.KnownBytes.{Appends, Keeps};

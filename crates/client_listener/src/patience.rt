@@ -1,3 +1,4 @@
+// The waits of a thread that tries again and again: it looks, then gives way, then sleeps for up to 1 ms.
 use std::thread;
 use std::time::{Clock, Duration};
 

@@ -1,3 +1,4 @@
+// From one client's stream into a ring: reads after the handshake, puts an item for each frame, and waits for room.
 ghost use Rattle.std.specs.Prelude.{◌≡◌, ◌<◌, ◌≤◌, List, [], ℕ, Option, Ok, true, IsErrOf, IfSome, MatchBool};
 ghost use Rattle.std.specs.Io.KnownBytes.{Consumes};
 ghost use Rattle.std.specs.declared.alloc.Global.{Global};

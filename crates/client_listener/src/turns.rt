@@ -1,3 +1,4 @@
+// The turns that a call may spend, and the most of them.
 ghost use Rattle.std.specs.Prelude.{◌≡◌, ◌+◌, MatchBool};
 
 /// The most turns of a call.

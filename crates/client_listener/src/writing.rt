@@ -1,3 +1,4 @@
+// From a ring to one client's stream: writes the frames of the items at hand, and waits for more, until `Close`.
 ghost use Rattle.std.specs.Prelude.{◌≡◌, ◌<◌, ◌≤◌, ◌+◌, ◌^◌, ◌++◌, ◌⊎◌, ℕ, List, [], length, Option, Ok, true, IsErrOf, IfErr};
 ghost use Rattle.std.specs.Io.KnownBytes.{Appends, Keeps};
 ghost use Rattle.rtrb.specs.Ring.{received, known_items, SameConsumer};

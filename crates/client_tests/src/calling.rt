@@ -1,3 +1,4 @@
+// Rows on a realm's calls: callees in turn, canceled, unfit and refused calls, and callers, callees and nodes that leave.
 use crate::check::Check;
 use crate::realm::{HELLO, Row, check, in_one_text, realm_of, reload, replies};
 use realm_machine::{Realm, Say, Transport};

@@ -1,3 +1,4 @@
+// Entries with acts as octets: which octets are which act, unfit requests and faults among them, and draws.
 use crate::check::Check;
 use command_codec::{Entry, put_entry, take_entry};
 use paxos_packets::{Body, Shared};

@@ -1,3 +1,4 @@
+// Rows on handshakes and frames: what is answered, faults, octets in any pieces, and the limits of payloads.
 use crate::check::Check;
 use std::alloc::Global;
 use std::process::Abort;

@@ -1,3 +1,4 @@
+// Rows of what transports do and what a realm says then, how they are checked, and those on topics and subscriptions.
 use crate::check::Check;
 use realm_machine::{Act, Id, Limits, Out, Realm, Say, Shared, Transport};
 use realm_snapshot::{load, save};

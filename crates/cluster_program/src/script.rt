@@ -1,3 +1,4 @@
+// The run of a script, with the program's limits and faults.
 ghost use Rattle.cluster_program.specs.Script.{Plays};
 
 use crate::fault::of_script;

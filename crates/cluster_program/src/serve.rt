@@ -1,3 +1,4 @@
+// The run of a served cluster, with the program's faults.
 ghost use Rattle.std.specs.Prelude.{◌≡◌, false, IfErr};
 ghost use Rattle.cluster_program.specs.Fault.{ends_nothing};
 

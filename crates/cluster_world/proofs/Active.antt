@@ -1,7 +1,8 @@
 -- Moves that promise, vote or propose.
 use Rattle.std.proofs.Common.{max, ◌≡◌, ⊎_elim, ℕ, suc, ◌<◌, ◌≤◌, true, false, refl, sym, ap, ◌∙◌, subst, arith, List, [], ◌∷◌, ◌++◌, Option}
-use Rattle.std.proofs.Common.{Some}
-use Rattle.std.proofs.lemmas.Bool.{cond_both}
+use Rattle.std.proofs.Common.{Some, None, Bool, cond}
+use Rattle.std.specs.Prelude.{nat_le}
+use Rattle.std.proofs.lemmas.Bool.{cond_both, leb-false}
 use Rattle.cluster_world.proofs.Order.{Lt, Le, Reaches, Over, reach, le_refl, lt_not_le, le_cases, le_from_test}
 use Rattle.cluster_world.proofs.Lists.{has_one, has_cases}
 use Rattle.cluster_world.proofs.Invariant.{Sent, Known, Safe, Tops, Tells, Told, RowsOk, RoleOk, LeadingOk, Grows, NodeOk, Inv, promises}
@@ -16,7 +17,9 @@ use Rattle.paxos_proposer.specs.declared.promises.CountedPromise.{CountedPromise
 use Rattle.paxos_proposer.specs.Role.{Role, Idle, Preparing, Leading}
 use Rattle.paxos_planning.specs.Node.{NodeState}
 use Rattle.paxos_packets.specs.Packet.{packet, to_others}
-use Rattle.paxos_acceptor.specs.Acceptor.{with_promise, may_promise, may_accept}
+use Rattle.paxos_packets.specs.Snapshot.{floor_in}
+use Rattle.paxos_packets.specs.Snapshot as taken
+use Rattle.paxos_acceptor.specs.Acceptor.{with_promise, may_promise, may_accept, promise_of, given_by}
 use Rattle.paxos_planning.specs.Plan.{with_role, promised_at, voted_at}
 use Rattle.paxos_proposer.specs.Proposer.{step_down, next_vote, asking, offered}
 use Rattle.paxos_packets.specs.Vote.{put_vote, votes_from}
@@ -29,8 +32,8 @@ use Rattle.paxos_packets.specs.declared.packet.Kind.TheVariants.{Prepare, Promis
 use Rattle.paxos_packets.specs.declared.entry.Entry.{Entry}
 
 -- kinds differ
-not_accepted : {B : Type 0} (b : Ballot) (votes : List (Vote B)) (v : Vote B) → Promise b votes ≡ Accepted v → ⊥
-not_accepted b votes v e = cc
+not_accepted : {B : Type 0} (b : Ballot) (floor : ℕ) (votes : List (Vote B)) (v : Vote B) → Promise b floor votes ≡ Accepted v → ⊥
+not_accepted b floor votes v e = cc
 
 same_prepare : (B : Type 0) (b c : Ballot) (f h : ℕ) → ◌≡◌ {A = Kind B} (Prepare b f) (Prepare c h) → f ≡ h
 same_prepare E b c f h e = cc
@@ -49,49 +52,55 @@ rows_up : {B : Type 0} {promised now : ℕ → Option Ballot} {sent later : List
 rows_up g n rows boot mine up none ok =
     record {
       reached = λ w s. up w.ballot (ok.reached w (none w s));
-      tops = λ w s. ok.tops w (none w s);
+      tops = λ w s l. ok.tops w (none w s) l;
+      above = ok.above;
       low = λ u h. up u.ballot (ok.low u h);
       known = λ u h. known_grows g (ok.known u h);
     }
 
--- what a node reports of itself
+-- a slot above the floor is above the snapshot's
+pub is_high : (o : Option taken.Snapshot) (next : ℕ) → floor_in o < next → (s : taken.Snapshot) → o ≡ Some s → s.floor < next
+is_high o next l s e = subst (λ z. floor_in z < next) e l
+
+-- what a node reports of itself: its votes from a slot on, which no slot above its floor that it is asked for comes before
 own_tells : {B : Type 0} {promised now : ℕ → Option Ballot} {sent later : List (Packet B)} → Grows promised now sent later
-    → (n : ℕ) (rows : Rows B) (b : Ballot) (floor : ℕ) → Reaches (now n) b → ((a : Ballot) → Reaches rows.promised a → Lt a b)
+    → (n : ℕ) (rows : Rows B) (b : Ballot) (first from : ℕ) → ((s : ℕ) → first ≤ s → floor_in rows.snapshot < s → from ≤ s)
+    → Reaches (now n) b → ((a : Ballot) → Reaches rows.promised a → Lt a b)
     → ((w : Vote B) → Sent later n (Accepted w) → Sent sent n (Accepted w)) → RowsOk sent n rows
-    → Tells now later n b floor (votes_from floor rows.votes)
-own_tells {B} g n rows b floor reaches under none ok =
+    → Tells now later n b first (floor_in rows.snapshot) (votes_from from rows.votes)
+own_tells {B} g n rows b first from covers reaches under none ok =
     record {
       reaches = reaches;
-      told = λ w l h s. let t = ok.tops w (none w s) in
+      told = λ w l f h s. let t = ok.tops w (none w s) (is_high rows.snapshot w.slot f) in
           record {
             best = t.best;
-            is = from_has floor rows.votes t.best t.is (subst (λ i. floor ≤ i) (sym t.slot) l);
+            is = from_has from rows.votes t.best t.is (subst (λ i. from ≤ i) (sym t.slot) (covers w.slot l f));
             slot = t.slot;
             high = t.high;
           };
-      low = λ u h. under u.ballot (ok.low u (has_from floor rows.votes u h));
-      known = λ u h. known_grows g (ok.known u (has_from floor rows.votes u h));
+      low = λ u h. under u.ballot (ok.low u (has_from from rows.votes u h));
+      known = λ u h. known_grows g (ok.known u (has_from from rows.votes u h));
     }
 
 -- Prepare
 
-role_promise : {B : Type 0} (now : ℕ → Option Ballot) (later : List (Packet B)) (n : ℕ) (o : Option Ballot) (b : Ballot)
-    → may_promise o b ≡ true → (r : Role B) → RoleOk now o later n r → RoleOk now (Some b) later n (step_down b r)
-role_promise now later n o b m Idle ok = tt
-role_promise now later n o b m (Preparing c floor ps) ok =
-    cond_both (below c b) Idle (Preparing c floor ps) (λ r. RoleOk now (Some b) later n r) (λ e. tt)
+role_promise : {B : Type 0} (now : ℕ → Option Ballot) (later : List (Packet B)) (n : ℕ) (o : Option Ballot) (own : ℕ) (b : Ballot)
+    → may_promise o b ≡ true → (r : Role B) → RoleOk now o own later n r → RoleOk now (Some b) own later n (step_down b r)
+role_promise now later n o own b m Idle ok = tt
+role_promise now later n o own b m (Preparing c first ps) ok =
+    cond_both (below c b) Idle (Preparing c first ps) (λ r. RoleOk now (Some b) own later n r) (λ e. tt)
     (λ e. absurd (lt_not_le (promise_lt o b m c (subst (λ z. Reaches z c) (sym ok.exact) (reach (le_refl c)))) (le_from_test c b e)))
-role_promise now later n o b m (Leading c next table) ok =
-    cond_both (below c b) Idle (Leading c next table) (λ r. RoleOk now (Some b) later n r) (λ e. tt)
+role_promise now later n o own b m (Leading c next table) ok =
+    cond_both (below c b) Idle (Leading c next table) (λ r. RoleOk now (Some b) own later n r) (λ e. tt)
     (λ e. absurd (lt_not_le (promise_lt o b m c (subst (λ z. Reaches z c) (sym ok.exact) (reach (le_refl c)))) (le_from_test c b e)))
 
 pub promise_moved : {B : Type 0} (members : ℕ) (at : ℕ → NodeState B) (n : ℕ) (x : NodeState B) (sent : List (Packet B)) (to : ℕ)
-    (b : Ballot) (floor : ℕ)
-    → Inv members (with_node at n x) sent → may_promise x.rows.promised b ≡ true → Known sent (Prepare b floor)
-    → Kept members at n x sent (promised_at b x) (sent ++ packet n (Promise b (votes_from floor x.rows.votes)) to ∷ [])
-promise_moved {B} members at n x sent to b floor inv may asked =
+    (b : Ballot) (first : ℕ)
+    → Inv members (with_node at n x) sent → may_promise x.rows.promised b ≡ true → Known sent (Prepare b first)
+    → Kept members at n x sent (promised_at b x) (sent ++ packet n (promise_of x.rows b first) to ∷ [])
+promise_moved {B} members at n x sent to b first inv may asked =
     plan_moved members at n x y sent new inv (promise_up x.rows.promised b may)
-    (λ k v s. absurd (not_accepted b (votes_from floor x.rows.votes) v (one k (Accepted v) s).1))
+    (λ k v s. absurd (not_accepted b own (votes_from from x.rows.votes) v (one k (Accepted v) s).1))
     (λ g k kind s. (
       (one k kind s).0,
       subst (λ z. KindOk members (promises (with_node at n y)) (sent ++ new) n z) (one k kind s).1
@@ -100,8 +109,8 @@ promise_moved {B} members at n x sent to b floor inv may asked =
     (λ g. record {
       rows = rows_up g n x.rows x.rows.boot (Some b) (promise_up x.rows.promised b may) none ok.rows;
       role =
-          role_promise (promises (with_node at n y)) (sent ++ new) n x.rows.promised b may x.proposer.role
-          (role_grows g n (λ c o f p. asks c f p) (λ v o p. offers v p) x.rows.promised x.proposer.role ok.role);
+          role_promise (promises (with_node at n y)) (sent ++ new) n x.rows.promised own b may x.proposer.role
+          (role_grows g n (λ c o f p. asks c f p) (λ v o p. offers v p) x.rows.promised own x.proposer.role ok.role);
       heard = λ t i k q. vote_of_grows g (ok.heard t i k q);
       learned = λ f i. chosen_grows g (ok.learned f i);
     })
@@ -109,39 +118,45 @@ promise_moved {B} members at n x sent to b floor inv may asked =
     y : NodeState B
     y = promised_at b x
 
+    own : ℕ
+    own = floor_in x.rows.snapshot
+
+    from : ℕ
+    from = max first (suc own)
+
     new : List (Packet B)
-    new = packet n (Promise b (votes_from floor x.rows.votes)) to ∷ []
+    new = packet n (promise_of x.rows b first) to ∷ []
 
     ok : NodeOk members (promises (with_node at n x)) sent n x
     ok = mine_ok members at n x sent inv
 
-    one : (k : ℕ) (kind : Kind B) → Sent new k kind → (k ≡ n) × (Promise b (votes_from floor x.rows.votes) ≡ kind)
-    one = sent_one n to (Promise b (votes_from floor x.rows.votes))
+    one : (k : ℕ) (kind : Kind B) → Sent new k kind → (k ≡ n) × (promise_of x.rows b first ≡ kind)
+    one = sent_one n to (promise_of x.rows b first)
 
     none : (w : Vote B) → Sent (sent ++ new) n (Accepted w) → Sent sent n (Accepted w)
     none w s =
-        ⊎_elim (λ o. o) (λ o. absurd (not_accepted b (votes_from floor x.rows.votes) w (one n (Accepted w) o).1)) (sent_cases sent new s)
+        ⊎_elim (λ o. o) (λ o. absurd (not_accepted b own (votes_from from x.rows.votes) w (one n (Accepted w) o).1)) (sent_cases sent new s)
 
     asks : (c : Ballot) (f : ℕ) → Known (sent ++ new) (Prepare c f) → Known sent (Prepare c f)
     asks c f p = ⊎_elim (λ o. o) (λ o. absurd (differ (one o.by (Prepare c f) o.is).1)) (known_cases sent new p)
       where
-        differ : Promise b (votes_from floor x.rows.votes) ≡ Prepare c f → ⊥
+        differ : promise_of x.rows b first ≡ Prepare c f → ⊥
         differ e = cc
 
     offers : (v : Vote B) → Known (sent ++ new) (Accept v) → Known sent (Accept v)
     offers v p = ⊎_elim (λ o. o) (λ o. absurd (differ (one o.by (Accept v) o.is).1)) (known_cases sent new p)
       where
-        differ : Promise b (votes_from floor x.rows.votes) ≡ Accept v → ⊥
+        differ : promise_of x.rows b first ≡ Accept v → ⊥
         differ e = cc
 
     told : Grows (promises (with_node at n x)) (promises (with_node at n y)) sent (sent ++ new)
-        → Told (promises (with_node at n y)) (sent ++ new) n b (votes_from floor x.rows.votes)
+        → Told (promises (with_node at n y)) (sent ++ new) n b own (votes_from from x.rows.votes)
     told g =
         record {
-          floor = floor;
+          first = first;
           asked = known_grows g asked;
           tells =
-              own_tells g n x.rows b floor (subst (λ o. Reaches o b) (sym (with_node_promised at n y)) (reach (le_refl b)))
+              own_tells g n x.rows b first from (λ s l f. omega arith) (subst (λ o. Reaches o b) (sym (with_node_promised at n y)) (reach (le_refl b)))
               (promise_lt x.rows.promised b may) none ok.rows;
         }
 
@@ -152,11 +167,11 @@ accept_same o b c m e f =
     ⊎_elim (λ l. absurd (lt_not_le l (accept_le c b (subst (λ z. may_accept z b ≡ true) e m)))) (λ s. ap (λ z. Some z) s)
     (le_cases (le_from_test c b f))
 
-role_accept : {B : Type 0} (now : ℕ → Option Ballot) (later : List (Packet B)) (n : ℕ) (o : Option Ballot) (b : Ballot)
-    → may_accept o b ≡ true → (r : Role B) → RoleOk now o later n r → RoleOk now (Some b) later n (step_down b r)
-role_accept now later n o b m Idle ok = tt
-role_accept now later n o b m (Preparing c floor ps) ok =
-    cond_both (below c b) Idle (Preparing c floor ps) (λ r. RoleOk now (Some b) later n r) (λ e. tt)
+role_accept : {B : Type 0} (now : ℕ → Option Ballot) (later : List (Packet B)) (n : ℕ) (o : Option Ballot) (own : ℕ) (b : Ballot)
+    → may_accept o b ≡ true → (r : Role B) → RoleOk now o own later n r → RoleOk now (Some b) own later n (step_down b r)
+role_accept now later n o own b m Idle ok = tt
+role_accept now later n o own b m (Preparing c first ps) ok =
+    cond_both (below c b) Idle (Preparing c first ps) (λ r. RoleOk now (Some b) own later n r) (λ e. tt)
     (λ e. record {
       owner = ok.owner;
       exact = accept_same o b c m ok.exact e;
@@ -165,14 +180,33 @@ role_accept now later n o b m (Preparing c floor ps) ok =
       none = ok.none;
       kept = ok.kept;
     })
-role_accept now later n o b m (Leading c next table) ok =
-    cond_both (below c b) Idle (Leading c next table) (λ r. RoleOk now (Some b) later n r) (λ e. tt)
-    (λ e. record { owner = ok.owner; exact = accept_same o b c m ok.exact e; made = ok.made; own = ok.own; owned = ok.owned })
+role_accept now later n o own b m (Leading c next table) ok =
+    cond_both (below c b) Idle (Leading c next table) (λ r. RoleOk now (Some b) own later n r) (λ e. tt)
+    (λ e. record {
+      owner = ok.owner;
+      exact = accept_same o b c m ok.exact e;
+      high = ok.high;
+      made = ok.made;
+      own = ok.own;
+      owned = ok.owned;
+    })
+
+-- a slot that the snapshot does not give is above its floor
+
+pub not_given : (o : Option taken.Snapshot) (slot : ℕ) → given_by o slot ≡ None → (s : taken.Snapshot) → o ≡ Some s → s.floor < slot
+not_given None slot g s e = absurd (cc)
+not_given (Some t) slot g s e = go (nat_le slot t.floor) refl g
+  where
+    go : (b : Bool) → nat_le slot t.floor ≡ b → cond b (Some t) None ≡ None → s.floor < slot
+    go true p q = absurd (cc)
+    go false p q =
+        let same : t ≡ s = cc in subst (λ (z : taken.Snapshot). z.floor < slot) same (leb-false slot t.floor p)
 
 pub accept_moved : {B : Type 0} (members : ℕ) (at : ℕ → NodeState B) (n : ℕ) (x : NodeState B) (sent : List (Packet B)) (v : Vote B)
-    → Inv members (with_node at n x) sent → may_accept x.rows.promised v.ballot ≡ true → Known sent (Accept v)
+    → Inv members (with_node at n x) sent → may_accept x.rows.promised v.ballot ≡ true
+    → ((s : taken.Snapshot) → x.rows.snapshot ≡ Some s → s.floor < v.slot) → Known sent (Accept v)
     → Kept members at n x sent (voted_at v x) (sent ++ to_others members n (Accepted v))
-accept_moved {B} members at n x sent v inv may known =
+accept_moved {B} members at n x sent v inv may high known =
     plan_moved members at n x y sent new inv (accept_up x.rows.promised v.ballot may)
     (λ k w s. (
       (one k (Accepted w) s).0,
@@ -187,8 +221,8 @@ accept_moved {B} members at n x sent v inv may known =
     (λ g. record {
       rows = rows g;
       role =
-          role_accept (promises (with_node at n y)) (sent ++ new) n x.rows.promised v.ballot may x.proposer.role
-          (role_grows g n (λ c o f p. asks c f p) (λ v o p. offers v p) x.rows.promised x.proposer.role ok.role);
+          role_accept (promises (with_node at n y)) (sent ++ new) n x.rows.promised (floor_in x.rows.snapshot) v.ballot may x.proposer.role
+          (role_grows g n (λ c o f p. asks c f p) (λ v o p. offers v p) x.rows.promised (floor_in x.rows.snapshot) x.proposer.role ok.role);
       heard = λ t i k q. vote_of_grows g (ok.heard t i k q);
       learned = λ f i. chosen_grows g (ok.learned f i);
     })
@@ -248,8 +282,12 @@ accept_moved {B} members at n x sent v inv may known =
               (λ o. subst (λ (z : Vote B). Reaches (Some v.ballot) z.ballot) (voted n w o) (reach (le_refl v.ballot)))
               (sent_cases sent new s);
           tops =
-              λ w s.
-              ⊎_elim (λ o. old_top w (ok.rows.reached w o) (ok.rows.tops w o)) (λ o. mine_top w (voted n w o)) (sent_cases sent new s);
+              λ w s l.
+              ⊎_elim (λ o. old_top w (ok.rows.reached w o) (ok.rows.tops w o l)) (λ o. mine_top w (voted n w o)) (sent_cases sent new s);
+          above =
+              λ s e u h.
+              ⊎_elim (λ i. subst (λ (z : Vote B). s.floor < z.slot) i (high s e)) (λ o. ok.rows.above s e u o)
+              (put_cases v x.rows.votes u h);
           low =
               λ u h.
               ⊎_elim (λ e. subst (λ (z : Vote B). Reaches (Some v.ballot) z.ballot) e (reach (le_refl v.ballot)))
@@ -263,17 +301,20 @@ accept_moved {B} members at n x sent v inv may known =
 -- Start
 
 abbrev pub begun_at : {B : Type 0} → ℕ → Ballot → ℕ → NodeState B → NodeState B
-begun_at n b floor x =
+begun_at n b first x =
     record x {
       rows = with_promise b x.rows;
-      proposer = record { role = asking n b floor (votes_from floor x.rows.votes); seen = max x.proposer.seen b.round };
+      proposer = record {
+        role = asking n b first (floor_in x.rows.snapshot) (votes_from first x.rows.votes);
+        seen = max x.proposer.seen b.round;
+      };
     }
 
 pub begin_moved : {B : Type 0} (members : ℕ) (at : ℕ → NodeState B) (n : ℕ) (x : NodeState B) (sent : List (Packet B)) (b : Ballot)
-    (floor : ℕ)
+    (first : ℕ)
     → 2 ≤ members → Inv members (with_node at n x) sent → may_promise x.rows.promised b ≡ true → b.node ≡ n
-    → Kept members at n x sent (begun_at n b floor x) (sent ++ to_others members n (Prepare b floor))
-begin_moved {B} members at n x sent b floor many inv may owner =
+    → Kept members at n x sent (begun_at n b first x) (sent ++ to_others members n (Prepare b first))
+begin_moved {B} members at n x sent b first many inv may owner =
     plan_moved members at n x y sent new inv (promise_up x.rows.promised b may)
     (λ k v s. absurd (differ v (one k (Accepted v) s).1))
     (λ g k kind s. (
@@ -287,22 +328,22 @@ begin_moved {B} members at n x sent b floor many inv may owner =
         owner = owner;
         exact = refl;
         only = λ f p. sym (only f p);
-        asked = record { by = n; is = sent_right sent (others_sent members n many (Prepare b floor)) };
+        asked = record { by = n; is = sent_right sent (others_sent members n many (Prepare b first)) };
         none = λ v p e. unoffered v p e;
         kept =
             λ c h.
-            subst (λ (z : CountedPromise B). Tells (promises (with_node at n y)) (sent ++ new) z.node b floor z.votes) (has_one h)
-            (own_tells g n x.rows b floor mine (promise_lt x.rows.promised b may) none ok.rows);
+            subst (λ (z : CountedPromise B). Tells (promises (with_node at n y)) (sent ++ new) z.node b first z.floor z.votes) (has_one h)
+            (own_tells g n x.rows b first first (λ s l f. l) mine (promise_lt x.rows.promised b may) none ok.rows);
       };
       heard = λ t i k q. vote_of_grows g (ok.heard t i k q);
       learned = λ f i. chosen_grows g (ok.learned f i);
     })
   where
     y : NodeState B
-    y = begun_at n b floor x
+    y = begun_at n b first x
 
     new : List (Packet B)
-    new = to_others members n (Prepare b floor)
+    new = to_others members n (Prepare b first)
 
     ok : NodeOk members (promises (with_node at n x)) sent n x
     ok = mine_ok members at n x sent inv
@@ -310,10 +351,10 @@ begin_moved {B} members at n x sent b floor many inv may owner =
     mine : Reaches (promises (with_node at n y) n) b
     mine = subst (λ o. Reaches o b) (sym (with_node_promised at n y)) (reach (le_refl b))
 
-    one : (k : ℕ) (kind : Kind B) → Sent new k kind → (k ≡ n) × (Prepare b floor ≡ kind)
-    one = sent_to_others members n (Prepare b floor)
+    one : (k : ℕ) (kind : Kind B) → Sent new k kind → (k ≡ n) × (Prepare b first ≡ kind)
+    one = sent_to_others members n (Prepare b first)
 
-    differ : (v : Vote B) → Prepare b floor ≡ Accepted v → ⊥
+    differ : (v : Vote B) → Prepare b first ≡ Accepted v → ⊥
     differ v e = cc
 
     none : (w : Vote B) → Sent (sent ++ new) n (Accepted w) → Sent sent n (Accepted w)
@@ -327,9 +368,9 @@ begin_moved {B} members at n x sent b floor many inv may owner =
         (subst (λ j. Reaches (promises (with_node at n x) j) b) owner r)))
         (le_refl b)
 
-    only : (f : ℕ) → Known (sent ++ new) (Prepare b f) → floor ≡ f
+    only : (f : ℕ) → Known (sent ++ new) (Prepare b f) → first ≡ f
     only f p =
-        ⊎_elim (λ o. absurd (unreached (inv.packets.asked_low b f o))) (λ o. same_prepare B b b floor f (one o.by (Prepare b f) o.is).1)
+        ⊎_elim (λ o. absurd (unreached (inv.packets.asked_low b f o))) (λ o. same_prepare B b b first f (one o.by (Prepare b f) o.is).1)
         (known_cases sent new p)
 
     unoffered : (v : Vote B) → Known (sent ++ new) (Accept v) → v.ballot ≡ b → ⊥
@@ -338,14 +379,14 @@ begin_moved {B} members at n x sent b floor many inv may owner =
         (λ o. other (one o.by (Accept v) o.is).1)
         (known_cases sent new p)
       where
-        other : Prepare b floor ≡ Accept v → ⊥
+        other : Prepare b first ≡ Accept v → ⊥
         other d = cc
 
 -- a proposal
 
 pub offer_moved : {B : Type 0} (members : ℕ) (at : ℕ → NodeState B) (n : ℕ) (x : NodeState B) (sent : List (Packet B)) (b : Ballot)
     (next : ℕ) (table : List (Vote B)) (e : Entry B)
-    → 2 ≤ members → Inv members (with_node at n x) sent → LeadingOk x.rows.promised sent n b next table
+    → 2 ≤ members → Inv members (with_node at n x) sent → LeadingOk x.rows.promised (floor_in x.rows.snapshot) sent n b next table
     → Safe members (promises (with_node at n x)) sent (next_vote b next e)
     → Kept members at n x sent (with_role (offered b next table e) x) (sent ++ to_others members n (Accept (next_vote b next e)))
 offer_moved {B} members at n x sent b next table e many inv lead safe =
@@ -366,6 +407,7 @@ offer_moved {B} members at n x sent b next table e many inv lead safe =
       role = record {
         owner = lead.owner;
         exact = lead.exact;
+        high = let l = lead.high in omega arith;
         made =
             λ w p d.
             ⊎_elim (λ o. let l = lead.made w o d in omega arith) (λ o. subst (λ (z : Vote B). z.slot < suc next) (same w o) (omega arith))

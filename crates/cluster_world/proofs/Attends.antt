@@ -1,146 +1,36 @@
--- A machine attends its node through an event.
-use Rattle.std.proofs.Common.{◌≡◌, ◌⊎◌, inl, inr, ⊎_elim, ◌≤◌, ℕ, suc, ◌+◌, ◌-◌, Bool, true, false, not, ◌&&◌, eqb, refl, sym, ap, ◌∙◌, subst, arith}
-use Rattle.std.proofs.Common.{List, [], ◌∷◌, ◌++◌, append_assoc, take, drop, length}
-use Rattle.std.specs.Prelude.{nat_lt, Result, Ok, Err, OnOk, OnErr}
-use Rattle.std.proofs.lemmas.Bool.{cond-true, cond-false, and_from, and_parts, eq-eqb}
-use Rattle.std.proofs.lemmas.List.{append-nil, append_cancel_left, length-append}
-use Rattle.std.proofs.Math.Seq.{take-append_seam, drop-append_seam}
-use Rattle.std.proofs.Math.ListN.{drop_of_length-le}
+-- A machine stands where its node stands, event by event.
+use Rattle.std.proofs.Common.{◌≡◌, ⊎_elim, ◌<◌, ◌^◌, ℕ, suc, ◌+◌, Bool, true, false, not, ◌&&◌, eqb, refl, sym, ap, ◌∙◌, subst, arith}
+use Rattle.std.proofs.Common.{List, [], ◌∷◌, ◌++◌, length, Option, Some, None, replicate, zero}
+use Rattle.std.specs.Prelude.{nat_lt, Result, Ok, Err, OnOk, OnErr, IfSome, IsSomeAnd}
+use Rattle.std.proofs.lemmas.Bool.{and_from, and_parts, eq-eqb, cond_both}
+use Rattle.std.proofs.lemmas.List.{append-nil}
 use Rattle.paxos_packets.specs.Rows.{last_boot, raised}
 use Rattle.paxos_packets.specs.declared.packet.Packet.{Packet}
 use Rattle.paxos_packets.specs.declared.entry.Entry.TheVariants.{Boot}
+use Rattle.paxos_packets.specs.declared.transport.Transport.{Transport}
 use Rattle.paxos_node.specs.declared.event.Event.TheVariants.{Crash, Restart}
-use Rattle.cluster_world.proofs.Attending.{gone_nowhere, nothing_to}
 use Rattle.paxos_packets.specs.declared.entry.Entry.{Entry}
 use Rattle.paxos_node.specs.declared.event.Event.{Event}
 use Rattle.paxos_node.specs.Applying.{down, started}
 use Rattle.paxos_node.specs.Events.{owner, possible, outcome_of}
 use Rattle.paxos_node.specs.Plans.{is_planned}
-use Rattle.paxos_planning.specs.Node.{NodeState, Plan, log_length}
+use Rattle.paxos_planning.specs.Node.{NodeState, Plan}
 use Rattle.world_nodes.proofs.Planning.{plans_up}
+use Rattle.command_codec.specs.Number.{number_reading}
+use Rattle.replica_machine.specs.declared.roll.Standing.TheVariants.{Unknown}
+use Rattle.replica_machine.specs.Given.{AreGiven}
+use Rattle.replica_machine.specs.Log.{LogState, IsLogOf, length_in, steps_of}
 use Rattle.replica_machine.specs.Replay.{Machine}
-use Rattle.replica_follower.specs.Following.{Followed, Follows, Keeps, AgreesWith, handed_to}
+use Rattle.replica_machine.specs.Snapshot.{Kept, IsLoaded, kept_of, loaded_log, standing_from_node}
+use Rattle.replica_follower.specs.Following.{Followed, Follows, handed_to}
 use Rattle.replica_follower.specs.Handed.{said_in}
-use Rattle.replica_follower.proofs.Keeping.{later_boots}
-use Rattle.cluster_world.specs.Answers.{log_after}
-use Rattle.cluster_world.specs.Laws.{IsPrefixOf}
-use Rattle.cluster_world.specs.Members.{MemberState, gone_on, FollowsOn, StaysBehind, Moves, Happens, Rests}
-use Rattle.cluster_world.specs.StandsAt.{Attends, handing_boot, handing_from}
+use Rattle.cluster_world.specs.Members.{MemberState, Moves, Unmoved, Happens, Rests, IsInBoot, IsLater}
+use Rattle.cluster_world.specs.StandsAt.{HasLog, empty_kept, LoadsFirst}
+use Rattle.cluster_world.proofs.Attending.{nothing_to}
 use Rattle.cluster_world.proofs.Handing.{Ran, Began, event_cases}
 
 off : false ≡ true → ⊥
 off e = cc
-
--- the log of the machine, by the node's
-
-pub front_is : {E : Type 0} (log stood : List E) → IsPrefixOf log stood → log ≡ take (length log) stood
-front_is log stood p = sym (take-append_seam log p.0) ∙ ap (λ l. take (length log) l) p.1
-
-pub front_within : {E : Type 0} (log stood : List E) → IsPrefixOf log stood → length log ≤ length stood
-front_within log stood p = let n = length-append log p.0 in let k : length (log ++ p.0) ≡ length stood = ap (λ l. length l) p.1 in omega arith
-
--- either it has followed what it had, and the node's log is a prefix of that, or it has followed the node's log
-pub gone : {B : Type 0} (stood log es : List (Entry B)) → IsPrefixOf log stood → AgreesWith (log ++ es) stood
-    → ((gone_on stood log es ≡ stood) × IsPrefixOf (log ++ es) stood) ⊎ (gone_on stood log es ≡ log ++ es)
-gone {B} stood log es p a = ⊎_elim (λ h. inl (inside h, h)) (λ h. inr (past h)) a
-  where
-    behind : IsPrefixOf (log ++ es) stood → length es ≤ length stood - length log
-    behind h =
-        let k = length-append (log ++ es) h.0 in let n = length-append log es in
-        let j : length ((log ++ es) ++ h.0) ≡ length stood = ap (λ l. length l) h.1 in omega arith
-
-    inside : IsPrefixOf (log ++ es) stood → gone_on stood log es ≡ stood
-    inside h = ap (λ l. stood ++ l) (drop_of_length-le es (behind h)) ∙ append-nil stood
-
-    -- what is left of the node's log
-    past : IsPrefixOf stood (log ++ es) → gone_on stood log es ≡ log ++ es
-    past h = ap (λ l. stood ++ l) rest_is ∙ h.1
-      where
-        es_is : es ≡ p.0 ++ h.0
-        es_is =
-            append_cancel_left log es (p.0 ++ h.0)
-            (sym h.1 ∙ (ap (λ l. l ++ h.0) (sym p.1) ∙ append_assoc log p.0 h.0))
-
-        count : length stood - length log ≡ length p.0
-        count = let k = length-append log p.0 in let j : length (log ++ p.0) ≡ length stood = ap (λ l. length l) p.1 in omega arith
-
-        rest_is : drop (length stood - length log) es ≡ h.0
-        rest_is = (λ i. drop (count i) (es_is i)) ∙ drop-append_seam p.0 h.0
-
-module _ {B M S Y : Type 0} (content : M → S) (m : Machine B S Y) where
-  keeps_up : (x : NodeState B) (f : Followed B M Y) → x.up ≡ true → Keeps m x.rows.boot (log_length x) f
-      → Keeps m (handing_boot x) (handing_from x) f
-  keeps_up x f u k =
-      subst (λ (z : ℕ × ℕ). Keeps m z.0 z.1 f)
-      (λ i. (sym (cond-true x.up x.rows.boot (suc x.rows.boot) u) i, sym (cond-true x.up (log_length x) 0 u) i)) k
-
-  keeps_down : (x : NodeState B) (f : Followed B M Y) → x.up ≡ false → Keeps m (suc x.rows.boot) 0 f → Keeps m (handing_boot x) (handing_from x) f
-  keeps_down x f u k =
-      subst (λ (z : ℕ × ℕ). Keeps m z.0 z.1 f)
-      (λ i. (sym (cond-false x.up x.rows.boot (suc x.rows.boot) u) i, sym (cond-false x.up (log_length x) 0 u) i)) k
-
-  pub keeps_while_up : (x : NodeState B) (f : Followed B M Y) → x.up ≡ true → Attends content m x f
-      → Follows content m f × Keeps m x.rows.boot (log_length x) f
-  keeps_while_up x f u a = (
-    a.follows,
-    subst (λ (z : ℕ × ℕ). Keeps m z.0 z.1 f)
-        (λ i. (cond-true x.up x.rows.boot (suc x.rows.boot) u i, cond-true x.up (log_length x) 0 u i)) a.keeps,
-  )
-
-  keeps_while_down : (x : NodeState B) (f : Followed B M Y) → x.up ≡ false → Attends content m x f → Keeps m (suc x.rows.boot) 0 f
-  keeps_while_down x f u a =
-      subst (λ (z : ℕ × ℕ). Keeps m z.0 z.1 f)
-      (λ i. (cond-false x.up x.rows.boot (suc x.rows.boot) u i, cond-false x.up (log_length x) 0 u i)) a.keeps
-
-  module _ (same : B → B → Bool) (members : ℕ) (e : Event B) (x : NodeState B) where
-    abbrev pub o : Plan B
-    o = outcome_of same members e x
-
-    -- an event at a node that was up
-    pub attends_ran : (f g : Followed B M Y) → Ran same members e x → IsPrefixOf x.applied f.log → AgreesWith (log_after same members e x) f.log
-        → g.log ≡ gone_on f.log x.applied o.applied → FollowsOn content m x.rows.boot x.applied o.applied f g → Attends content m o.node g
-    attends_ran f g r p a l d = ⊎_elim up down r.from.case
-      where
-        prefix : IsPrefixOf (x.applied ++ o.applied) g.log
-        prefix =
-            ⊎_elim (λ h. subst (λ k. IsPrefixOf (x.applied ++ o.applied) k) (sym (l ∙ h.0)) h.1)
-            (λ h. ([], append-nil (x.applied ++ o.applied) ∙ sym (l ∙ h))) (gone f.log x.applied o.applied p a)
-
-        up : (o.node.up ≡ true) × (o.node.applied ≡ x.applied ++ o.applied) × (o.node.taken ≡ Rattle.cluster_world.proofs.Standing.acts_after e x)
-            → Attends content m o.node g
-        up c =
-            record {
-              front = subst (λ k. IsPrefixOf k g.log) (sym c.1) prefix;
-              follows = d.follows;
-              keeps = keeps_up o.node g c.0
-                  (subst (λ (z : ℕ × ℕ). Keeps m z.0 z.1 g)
-                  (λ i. (sym r.from.boot_is i, (sym (ap (λ l. length l) c.1 ∙ length-append x.applied o.applied)) i)) d.keeps);
-            }
-
-        down : (o.node.up ≡ false) × (o.node.applied ≡ []) → Attends content m o.node g
-        down c =
-            record {
-              front = subst (λ k. IsPrefixOf k g.log) (sym c.1) (g.log, refl);
-              follows = d.follows;
-              keeps = keeps_down o.node g c.0
-                  (subst (λ n. Keeps m (suc n) 0 g) (sym r.from.boot_is)
-                  (later_boots m x.rows.boot (log_length x + length o.applied) (suc x.rows.boot) g (omega arith) d.keeps));
-            }
-
-    -- a restart
-    pub attends_began : (f : Followed B M Y) → Began same members e x → Attends content m x f → Attends content m o.node f
-    attends_began f r a =
-        subst (λ y. Attends content m y f) (sym r.is)
-        (record { front = (f.log, refl); follows = a.follows; keeps = keeps_while_down x f r.was a })
-
-  -- a node whose event did not happen
-  pub attends_still : {R E : Type 0} (r : Result R E) (x : NodeState B) (f g : Followed B M Y) → x.up ≡ true → IsPrefixOf x.applied f.log
-      → OnErr r (g.log ≡ f.log) → OnErr r (StaysBehind content m x.rows.boot x.applied f g) → OnErr r (Attends content m x g)
-  attends_still (Ok a) x f g u p l d = tt
-  attends_still (Err a) x f g u p l d =
-      record { front = subst (λ k. IsPrefixOf x.applied k) (sym l) p; follows = d.follows; keeps = keeps_up x g u d.keeps }
-
--- members in their events
 
 abbrev fault : {E : Type 0} → E → Result (Unit {0}) E
 fault e = Err e
@@ -150,34 +40,83 @@ up_planned e x d p =
     plans_up (owner e) e x
     (and_from (eqb (owner e) (owner e)) (is_planned e && possible e x) (eq-eqb (owner e) (owner e) refl) (and_from (is_planned e) (possible e x) d p))
 
-module _ {B M S Y : Type 0} (same : B → B → Bool) (content : M → S) (m : Machine B S Y) where
-  pub turned : {R E : Type 0} (r : Result R E) (e : Event B) (old new : MemberState B M Y) → possible e old.node ≡ true → old.node.up ≡ true
-      → IsPrefixOf old.node.applied old.machine.log → AgreesWith (log_after same old.members e old.node) old.machine.log
-      → OnOk r (new.node ≡ (outcome_of same old.members e old.node).node)
-      → OnOk r (new.machine.log ≡ gone_on old.machine.log old.node.applied (outcome_of same old.members e old.node).applied)
-      → OnOk r (FollowsOn content m old.node.rows.boot old.node.applied (outcome_of same old.members e old.node).applied old.machine new.machine)
-      → OnOk r (Happens same content m e old new)
-  turned (Err a) e old new p u front agrees n l d = tt
-  turned (Ok a) e old new p u front agrees n l d =
-      ⊎_elim
-      (λ (c : Ran same old.members e old.node). record {
-        handed = d.handed;
-        attends = subst (λ y. Attends content m y new.machine) (sym n)
-            (attends_ran content m same old.members e old.node old.machine new.machine c front agrees l d);
-      })
-      (λ (c : Began same old.members e old.node). absurd (off (sym c.was ∙ u)))
-      (event_cases same old.members e old.node p)
+-- a node whose log is that of its machine, and of one that is down
 
-  pub rested : {R E : Type 0} (r : Result R E) (old new : MemberState B M Y) → old.node.up ≡ true → IsPrefixOf old.node.applied old.machine.log
-      → OnErr r (new.node ≡ old.node) → OnErr r (new.machine.log ≡ old.machine.log)
-      → OnErr r (StaysBehind content m old.node.rows.boot old.node.applied old.machine new.machine) → OnErr r (Rests content m old new)
-  rested (Ok a) old new u front n l d = tt
-  rested (Err a) old new u front n l d =
+pub log_down : {B M Y : Type 0} (x : NodeState B) (f : Followed B M Y) → x.up ≡ false → HasLog x f
+log_down x f d u = absurd (off (sym d ∙ u))
+
+module _ {B : Type 0} (same : B → B → Bool) (members : ℕ) (e : Event B) (x : NodeState B) where
+  abbrev pub o : Plan B
+  o = outcome_of same members e x
+
+  pub log_ran : {M Y : Type 0} (g : Followed B M Y) → Ran same members e x → g.log.applied ≡ x.applied ++ o.applied → HasLog o.node g
+  log_ran g r h =
+      ⊎_elim
+      (λ (c : (o.node.up ≡ true) × (o.node.applied ≡ x.applied ++ o.applied) × (o.node.taken ≡ Rattle.cluster_world.proofs.Standing.acts_after e x)).
+      λ u. h ∙ sym c.1)
+      (λ (c : (o.node.up ≡ false) × (o.node.applied ≡ [])). log_down o.node g c.0)
+      r.from.case
+
+-- what comes later at a node
+
+pub later_same : {B : Type 0} (x : NodeState B) → IsLater x x
+later_same x = record { boots = omega arith; up = λ h. h.0 }
+
+pub later_then : {B : Type 0} (x y z : NodeState B) → IsLater x y → IsLater y z → IsLater x z
+later_then x y z a b =
+    record {
+      boots = let l = a.boots in let k = b.boots in omega (arith, l, k);
+      up = λ h. let l = a.boots in let k = b.boots in let s = h.1 in
+          let there : z.rows.boot ≡ y.rows.boot = omega (arith, l, k, s) in
+          let here : y.rows.boot ≡ x.rows.boot = omega (arith, l, k, s) in
+          a.up (b.up (h.0, there), here);
+    }
+
+-- so is a node after an event
+pub later_event : {B : Type 0} (same : B → B → Bool) (members : ℕ) (e : Event B) (x : NodeState B) → possible e x ≡ true
+    → IsLater x (outcome_of same members e x).node
+later_event {B} same members e x p =
+    ⊎_elim
+    (λ (c : Ran same members e x). record { boots = (let s = c.from.boot_is in omega (arith, s)); up = λ h. c.was })
+    (λ (c : Began same members e x).
+    subst (λ (y : NodeState B). IsLater x y) (sym c.is)
+    (record { boots = omega arith; up = λ h. (let s = h.1 in absurd (omega (arith, s))) }))
+    (event_cases same members e x p)
+
+-- members in their events
+
+module _ {B M Y : Type 0} (same : B → B → Bool) where
+  pub moved : {R E : Type 0} (r : Result R E) (e : Event B) (old new : MemberState B M Y) (sent later : List (Packet B)) (made more : List (Entry B))
+      → possible e old.node ≡ true → old.node.up ≡ true
+      → OnOk r (new.node ≡ (outcome_of same old.members e old.node).node)
+      → OnOk r (later ≡ sent ++ (outcome_of same old.members e old.node).packets)
+      → OnOk r (more ≡ made ++ Rattle.paxos_node.specs.Events.made_by same e old.node)
+      → OnOk r (new.machine.log.applied ≡ old.node.applied ++ (outcome_of same old.members e old.node).applied)
+      → OnOk r (Moves same e old new sent later made more)
+  moved (Err a) e old new sent later made more p u n s k l = tt
+  moved (Ok a) e old new sent later made more p u n s k l =
       record {
-        handed = d.handed;
-        attends = subst (λ y. Attends content m y new.machine) (sym n)
-            (attends_still content m (fault a) old.node old.machine new.machine u front l d);
+        node = n;
+        packets = s;
+        made_is = k;
+        log = ⊎_elim
+            (λ (c : Ran same old.members e old.node).
+            subst (λ (y : NodeState B). HasLog y new.machine) (sym n) (log_ran same old.members e old.node new.machine c l))
+            (λ (c : Began same old.members e old.node). absurd (off (sym c.was ∙ u)))
+            (event_cases same old.members e old.node p);
       }
+
+pub unmoved : {B M Y R E : Type 0} (r : Result R E) (old new : MemberState B M Y) (sent later : List (Packet B)) (made more : List (Entry B))
+    → OnErr r (new.node ≡ old.node) → OnErr r (later ≡ sent) → OnErr r (more ≡ made) → OnErr r (new.machine.log.applied ≡ old.machine.log.applied)
+    → HasLog old.node old.machine → OnErr r (Unmoved old new sent later made more)
+unmoved (Ok a) old new sent later made more n s k l h = tt
+unmoved (Err a) old new sent later made more n s k l h =
+    record {
+      node = n;
+      packets = s;
+      made_is = k;
+      log = λ u. l ∙ (h (ap (λ (y : NodeState _). y.up) (sym n) ∙ u) ∙ ap (λ (y : NodeState _). y.applied) (sym n));
+    }
 
 -- a crash and a restart
 
@@ -192,80 +131,143 @@ restarts_down e n x is p =
 
 module _ {B M Y : Type 0} (same : B → B → Bool) where
   pub crash_moves : (e : Event B) (n : ℕ) (old new : MemberState B M Y) (sent : List (Packet B)) (made : List (Entry B)) → e ≡ Crash n
-      → new.node ≡ down old.node.rows → new.machine ≡ old.machine → Moves same e old new sent sent made made
-  crash_moves e n old new sent made is x f =
+      → new.node ≡ down old.node.rows → Moves same e old new sent sent made made
+  crash_moves e n old new sent made is x =
       subst (λ d. Moves same d old new sent sent made made) (sym is)
       (record {
         node = x;
         packets = sym (append-nil sent);
         made_is = sym (append-nil made);
-        log = ap (λ (g : Followed B M Y). g.log) f ∙ gone_nowhere old.machine.log old.node.applied;
+        log = log_down new.node new.machine (ap (λ (y : NodeState B). y.up) x);
       })
 
   pub restart_moves : {R E : Type 0} (r : Result R E) (e : Event B) (n : ℕ) (old new : MemberState B M Y) (sent : List (Packet B))
       (made more : List (Entry B)) → e ≡ Restart n → owner e ≡ old.me
       → OnOk r (new.node ≡ started old.me (raised old.node.rows)) → OnOk r (more ≡ made ++ Boot old.me (suc old.node.rows.boot) ∷ [])
-      → new.machine ≡ old.machine → OnOk r (Moves same e old new sent sent made more)
-  restart_moves (Err a) e n old new sent made more is own x k f = tt
-  restart_moves (Ok a) e n old new sent made more is own x k f =
+      → OnOk r (new.machine.log.applied ≡ []) → OnOk r (Moves same e old new sent sent made more)
+  restart_moves (Err a) e n old new sent made more is own x k l = tt
+  restart_moves (Ok a) e n old new sent made more is own x k l =
       let own' : old.me ≡ n = sym (subst (λ d. owner d ≡ old.me) is own) in
       subst (λ d. Moves same d old new sent sent made more) (sym is)
       (record {
         node = x ∙ ap (λ j. started j (raised old.node.rows)) own';
         packets = sym (append-nil sent);
         made_is = k ∙ ap (λ j. made ++ Boot j (suc old.node.rows.boot) ∷ []) own';
-        log = ap (λ (g : Followed B M Y). g.log) f ∙ gone_nowhere old.machine.log old.node.applied;
+        log = λ u. l ∙ ap (λ (y : NodeState B). y.applied) (sym x);
       })
 
+  pub restart_unmoved : {R E : Type 0} (r : Result R E) (old new : MemberState B M Y) (sent : List (Packet B)) (made more : List (Entry B))
+      → old.node.up ≡ false → OnErr r (new.node ≡ old.node) → OnErr r (more ≡ made) → OnErr r (Unmoved old new sent sent made more)
+  restart_unmoved (Ok a) old new sent made more d x k = tt
+  restart_unmoved (Err a) old new sent made more d x k =
+      record { node = x; packets = refl; made_is = k; log = log_down new.node new.machine (ap (λ (y : NodeState B). y.up) x ∙ d) }
+
+-- after a crash a node is down; after a restart it is in the next boot, or it is down as before
+
+pub crashed : {B : Type 0} (x y : NodeState B) {P : Type 0} → y ≡ down x.rows → IsInBoot x y → P
+crashed x y is h = absurd (off (sym (ap (λ z. z.up) is) ∙ h.0))
+
+pub restarted : {B R E P : Type 0} (r : Result R E) (me : ℕ) (x y : NodeState B) → x.up ≡ false → OnOk r (y ≡ started me (raised x.rows))
+    → OnErr r (y ≡ x) → IsInBoot x y → P
+restarted (Ok a) me x y d ok err h =
+    let s : suc x.rows.boot ≡ x.rows.boot = ap (λ z. z.rows.boot) (sym ok) ∙ h.1 in absurd (omega (arith, s))
+restarted (Err a) me x y d ok err h = absurd (off (sym d ∙ (ap (λ z. z.up) (sym err) ∙ h.0)))
+
 module _ {B M S Y : Type 0} (same : B → B → Bool) (content : M → S) (m : Machine B S Y) where
-  -- nothing is applied, and the machine is the same
+  -- nothing is applied, and nothing handed out
   quiet : (e : Event B) (old new : MemberState B M Y) → (outcome_of same old.members e old.node).applied ≡ []
-      → new.machine ≡ old.machine → Attends content m new.node old.machine → Happens same content m e old new
-  quiet e old new none f a =
+      → new.machine.told ≡ old.machine.told → Follows content m [] new.machine → Happens same content m e old new
+  quiet e old new none told a =
       record {
-        handed = λ t. ap (λ (g : Followed B M Y). said_in t g.told) f
+        handed = λ t. ap (λ u. said_in t u) told
             ∙ sym (ap (λ l. said_in t old.machine.told ++ l)
             (ap (λ es. handed_to m t old.machine.node old.node.rows.boot old.node.applied es) none
-            ∙ nothing_to content m old.machine t old.node.rows.boot old.node.applied)
+            ∙ nothing_to m old.machine.node t old.node.rows.boot old.node.applied)
             ∙ append-nil (said_in t old.machine.told));
-        attends = subst (λ g. Attends content m new.node g) (sym f) a;
+        follows = a;
       }
 
-  pub crash_happens : (e : Event B) (n : ℕ) (old new : MemberState B M Y) → e ≡ Crash n → possible e old.node ≡ true
-      → IsPrefixOf old.node.applied old.machine.log → new.node ≡ down old.node.rows → new.machine ≡ old.machine
-      → Attends content m old.node old.machine → Happens same content m e old new
-  crash_happens e n old new is p front x f a =
-      let u : old.node.up ≡ true = subst (λ d. possible d old.node ≡ true) is p in
-      let k = keeps_while_up content m old.node old.machine u a in
+  pub crash_happens : (e : Event B) (n : ℕ) (old new : MemberState B M Y) → e ≡ Crash n → new.machine ≡ old.machine
+      → Follows content m [] old.machine → Happens same content m e old new
+  crash_happens e n old new is f a =
       subst (λ d. Happens same content m d old new) (sym is)
-      (quiet (Crash n) old new refl f
-      (subst (λ y. Attends content m y old.machine) (sym x)
-      (record {
-        front = (old.machine.log, refl);
-        follows = a.follows;
-        keeps = later_boots m old.node.rows.boot (log_length old.node) (suc old.node.rows.boot) old.machine (omega arith) k.1;
-      })))
+      (quiet (Crash n) old new refl (ap (λ (g : Followed B M Y). g.told) f) (subst (λ g. Follows content m [] g) (sym f) a))
 
-  pub restart_happens : {R E : Type 0} (r : Result R E) (e : Event B) (n : ℕ) (old new : MemberState B M Y) → e ≡ Restart n → possible e old.node ≡ true
-      → OnOk r (new.node ≡ started old.me (raised old.node.rows)) → new.machine ≡ old.machine
-      → Attends content m old.node old.machine → OnOk r (Happens same content m e old new)
-  restart_happens (Err b) e n old new is p x f a = tt
-  restart_happens (Ok b) e n old new is p x f a =
-      let u = (restarts_down e n old.node is p).0 in
-      subst (λ d. Happens same content m d old new) (sym is)
-      (quiet (Restart n) old new refl f
-      (subst (λ y. Attends content m y old.machine) (sym x)
-      (record {
-        front = (old.machine.log, refl);
-        follows = a.follows;
-        keeps = keeps_while_down content m old.node old.machine u a;
-      })))
+  pub restart_happens : {R E : Type 0} (r : Result R E) (e : Event B) (n : ℕ) (old new : MemberState B M Y) → e ≡ Restart n
+      → new.machine.told ≡ old.machine.told → Follows content m [] new.machine → OnOk r (Happens same content m e old new)
+  restart_happens (Err b) e n old new is told a = tt
+  restart_happens (Ok b) e n old new is told a =
+      subst (λ d. Happens same content m d old new) (sym is) (quiet (Restart n) old new refl told a)
 
-  pub restart_rests : {R E : Type 0} (r : Result R E) (old new : MemberState B M Y) → OnErr r (new.node ≡ old.node) → new.machine ≡ old.machine
-      → Attends content m old.node old.machine → OnErr r (Rests content m old new)
-  restart_rests (Ok b) old new x f a = tt
-  restart_rests (Err b) old new x f a =
+  pub restart_rests : {R E : Type 0} (r : Result R E) (old new : MemberState B M Y) → new.machine.told ≡ old.machine.told
+      → Follows content m [] new.machine → OnErr r (Rests content m old new)
+  restart_rests (Ok b) old new told a = tt
+  restart_rests (Err b) old new told a = record { handed = λ t. ap (λ u. said_in t u) told; follows = a }
+
+  pub happens_all : {R E : Type 0} (r : Result R E) (e : Event B) (old new : MemberState B M Y)
+      → OnOk r ((t : Transport) → said_in t new.machine.told ≡ said_in t old.machine.told
+      ++ handed_to m t old.machine.node old.node.rows.boot old.node.applied (outcome_of same old.members e old.node).applied)
+      → Follows content m [] new.machine → OnOk r (Happens same content m e old new)
+  happens_all (Err b) e old new h a = tt
+  happens_all (Ok b) e old new h a = record { handed = h; follows = a }
+
+  pub rests_all : {R E : Type 0} (r : Result R E) (old new : MemberState B M Y)
+      → OnErr r ((t : Transport) → said_in t new.machine.told ≡ said_in t old.machine.told) → Follows content m [] new.machine
+      → OnErr r (Rests content m old new)
+  rests_all (Ok b) old new h a = tt
+  rests_all (Err b) old new h a = record { handed = h; follows = a }
+
+-- the empty log, kept and loaded
+
+all_unknown : (k first n : ℕ) → standing_from_node first n (replicate k Unknown) ≡ Unknown
+all_unknown zero first n = refl
+all_unknown (suc k) first n =
+    cond_both (eqb first n) Unknown (standing_from_node (first + 1) n (replicate k Unknown)) (λ s. s ≡ Unknown) (λ e. refl)
+    (λ e. all_unknown k (first + 1) n)
+
+module _ {B M S Y : Type 0} (content : M → S) (m : Machine B S Y) where
+  pub loaded_first : (log : LogState B M) → IsLoaded content (empty_kept m.first) log → IsLogOf (steps_of m) content m.first [] log
+  loaded_first log h =
       record {
-        handed = λ t. ap (λ (g : Followed B M Y). said_in t g.told) f;
-        attends = subst (λ (z : NodeState B × Followed B M Y). Attends content m z.0 z.1) (λ i. (sym x i, sym f i)) a;
+        below = sym h.floor;
+        stands = subst (λ (es : List (Entry B)). Rattle.replica_machine.specs.Log.IsAt (steps_of m) content m.first es log.roll log.machine)
+            (sym h.applied)
+            (h.machine, λ n l. h.roll n l ∙ all_unknown 7 1 n);
       }
+
+  pub loads_first : (kept : Option (Kept S)) (log : LogState B M) → IfSome kept (λ k. k ≡ empty_kept m.first)
+      → IsSomeAnd kept (λ k. IsLoaded content k log) → IsLogOf (steps_of m) content m.first [] log
+  loads_first None log h k = absurd k
+  loads_first (Some kept) log h k = loaded_first log (subst (λ z. IsLoaded content z log) h k)
+
+  pub kept_first : (log : LogState B M) → IsLogOf (steps_of m) content m.first [] log → log.applied ≡ []
+      → kept_of content log ≡ empty_kept m.first
+  kept_first log h none =
+      let at = subst (λ (es : List (Entry B)). Rattle.replica_machine.specs.Log.IsAt (steps_of m) content m.first es log.roll log.machine)
+      none h.stands in
+      let long : length_in log ≡ 0 = (let b = h.below in let l = ap (λ (es : List (Entry B)). length es) none in omega (arith, b, l)) in
+      λ i. record {
+        floor = long i;
+        standings = at.1 1 (omega arith) i ∷ at.1 2 (omega arith) i ∷ at.1 3 (omega arith) i ∷ at.1 4 (omega arith) i ∷ at.1 5 (omega arith) i
+            ∷ at.1 6 (omega arith) i ∷ at.1 7 (omega arith) i ∷ [];
+        content = at.0 i;
+      }
+
+  -- what is saved of it loads again, or as nothing
+  pub saves_first : (loaded : List ℕ → Option S) (octets : List ℕ) (log : LogState B M) → IsLogOf (steps_of m) content m.first [] log
+      → log.applied ≡ []
+      → IfSome (loaded_log loaded octets) (λ kept. kept ≡ kept_of content log) → LoadsFirst loaded m.first octets
+  saves_first loaded octets log h none only =
+      subst (λ same. IfSome (loaded_log loaded octets) (λ kept. kept ≡ same)) (kept_first log h none) only
+
+-- no octets are no log
+pub loads_none : {S : Type 0} (loaded : List ℕ → Option S) (first : S) (octets : List ℕ) → octets ≡ [] → LoadsFirst loaded first octets
+unfolding number_reading
+loads_none loaded first octets is = subst (λ os. LoadsFirst loaded first os) (sym is) tt
+
+-- entries that are none are ones, and few
+pub none_given : {B : Type 0} (log : List (Entry B)) → log ≡ [] → AreGiven log
+none_given log is = subst (λ l. AreGiven l) (sym is) (λ i d l. absurd (omega arith))
+
+pub none_long : {B M : Type 0} (log : LogState B M) → 0 ≡ log.floor → log.applied ≡ [] → length_in log < 2 ^ 40
+none_long log below is = let l = ap (λ es. length es) is in omega (arith, below, l)

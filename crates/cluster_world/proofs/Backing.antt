@@ -1,10 +1,11 @@
 -- Who made a node lead: a majority whose reports end before the slot that it proposes in next.
-use Rattle.std.proofs.Common.{◌≡◌, ◌⊎◌, inl, inr, ⊎_elim, ℕ, suc, ◌+◌, ◌-◌, ◌≤◌, Bool, true, false, not, ◌&&◌, eqb, refl, sym, subst, arith}
+use Rattle.std.proofs.Common.{◌≡◌, ◌⊎◌, inl, inr, ⊎_elim, ℕ, suc, ◌+◌, ◌-◌, ◌<◌, ◌≤◌, Bool, true, false, not, ◌&&◌, eqb, refl, sym, subst, arith}
 use Rattle.std.proofs.Common.{List, [], ◌∷◌, ◌++◌, length, Some, None}
 use Rattle.std.specs.Prelude.{fold, if◌then◌else◌}
 use Rattle.std.proofs.lemmas.Bool.{cond_both, or_cases, eqb-true}
 use Rattle.cluster_world.proofs.Leading.{called_length, first_below}
 use Rattle.cluster_world.proofs.Lists.{has_one, has_cases}
+use Rattle.cluster_world.proofs.Reports.{lowest_is}
 use Rattle.cluster_world.specs.Has.{Has, here, there}
 use Rattle.paxos_packets.specs.Ballot.{same_ballot}
 use Rattle.paxos_packets.specs.Members.{is_majority}
@@ -12,12 +13,12 @@ use Rattle.paxos_packets.specs.declared.ballot.Ballot.{Ballot}
 use Rattle.paxos_packets.specs.declared.entry.Entry.{Entry}
 use Rattle.paxos_packets.specs.declared.vote.Vote.{Vote}
 use Rattle.paxos_proposer.specs.declared.promises.CountedPromise.{CountedPromise}
-use Rattle.paxos_proposer.specs.Promises.{with_promises, calls}
+use Rattle.paxos_proposer.specs.Promises.{with_promises, calls, lowest}
 use Rattle.paxos_proposer.specs.Proposals.{stands}
 use Rattle.paxos_proposer.specs.Proposer.{submitted}
 use Rattle.paxos_proposer.specs.Reports.{is_counted, reports, past_reports, called_for}
 use Rattle.paxos_proposer.specs.Role.{Role, Idle, Preparing, Leading}
-use Rattle.world_rescue.specs.Course.{Seat, propose_all, propose_new, proposes, hears}
+use Rattle.world_rescue.specs.Course.{Seat, floor_of, propose_all, propose_new, proposes, hears}
 
 -- who was counted
 pub counted_is : {B : Type 0} (cs : List (CountedPromise B)) (k : ℕ) → is_counted cs k ≡ true → (c : CountedPromise B) × Has cs c × (c.node ≡ k)
@@ -65,8 +66,8 @@ called_past first vs =
     go : (p c : ℕ) → c ≡ p - first → first ≤ p → p ≤ first + c
     go p c e l = omega arith
 
-module _ {B : Type 0} (same : B → B → Bool) (members applied : ℕ) (pending : List (Entry B)) (b : Ballot) (first : ℕ)
-    (P : CountedPromise B → Type 0) where
+module _ {B : Type 0} (same : B → B → Bool) (members applied : ℕ) (pending : List (Entry B)) (b : Ballot) (first own : ℕ)
+    (high : own < first) (P : CountedPromise B → Type 0) (floors : (c : CountedPromise B) → P c → c.floor < first) where
   -- a majority whose promises were counted
   pub record Backed (r : Role B) : Type 0 where
     pub cs : List (CountedPromise B)
@@ -81,14 +82,14 @@ module _ {B : Type 0} (same : B → B → Bool) (members applied : ℕ) (pending
     pub role : r ≡ Preparing b first cs
     pub from : (c : CountedPromise B) → Has cs c → P c
 
-  hears_one : (k : ℕ) (vs : List (Vote B)) (r : Role B) → P (record { node = k; votes = vs }) → Backed r ⊎ Asks r
-      → Backed (hears same members applied pending b k vs r) ⊎ Asks (hears same members applied pending b k vs r)
-  hears_one k vs r p e = ⊎_elim (λ w. inl (still r w)) (λ w. subst (λ z. Goal z) (sym w.role) (counts w.cs w.from)) e
+  hears_one : (k floor : ℕ) (vs : List (Vote B)) (r : Role B) → P (record { node = k; floor = floor; votes = vs }) → Backed r ⊎ Asks r
+      → Backed (hears same members applied pending b k floor vs own r) ⊎ Asks (hears same members applied pending b k floor vs own r)
+  hears_one k floor vs r p e = ⊎_elim (λ w. inl (still r w)) (λ w. subst (λ z. Goal z) (sym w.role) (counts w.cs w.from)) e
     where
       Goal : Role B → Type 0
-      Goal z = Backed (hears same members applied pending b k vs z) ⊎ Asks (hears same members applied pending b k vs z)
+      Goal z = Backed (hears same members applied pending b k floor vs own z) ⊎ Asks (hears same members applied pending b k floor vs own z)
 
-      still : (r : Role B) → Backed r → Backed (hears same members applied pending b k vs r)
+      still : (r : Role B) → Backed r → Backed (hears same members applied pending b k floor vs own r)
       still Idle w = w
       still (Preparing c f cs) w = absurd w.past
       still (Leading c next table) w = w
@@ -97,19 +98,27 @@ module _ {B : Type 0} (same : B → B → Bool) (members applied : ℕ) (pending
       counts cs from = go (same_ballot b b && not (is_counted cs k))
         where
           more : List (CountedPromise B)
-          more = cs ++ record { node = k; votes = vs } ∷ []
+          more = cs ++ record { node = k; floor = floor; votes = vs } ∷ []
 
           es : List (Entry B)
           es = called_for first (reports more)
 
           from_more : (c : CountedPromise B) → Has more c → P c
-          from_more c h = ⊎_elim (λ i. from c i) (λ i. subst P (has_one i) p) (has_cases cs (record { node = k; votes = vs } ∷ []) h)
+          from_more c h =
+              ⊎_elim (λ i. from c i) (λ i. subst P (has_one i) p) (has_cases cs (record { node = k; floor = floor; votes = vs } ∷ []) h)
 
-          most : (m : Bool) → is_majority members (is_counted more) ≡ m
-              → Backed (proposes same applied pending (if m then Some es else None)
-              (if m then Leading b first [] else Preparing b first more))
-              ⊎ Asks (proposes same applied pending (if m then Some es else None)
-              (if m then Leading b first [] else Preparing b first more))
+          low_is : lowest first own more ≡ first
+          low_is = lowest_is first own more high (λ c h. floors c (from_more c h))
+
+          -- by the slot that it leads from
+          LedAt : ℕ → Bool → Type 0
+          LedAt l m =
+              Backed (proposes same applied pending (if m then Some (called_for l (reports more)) else None)
+              (if m then Leading b l [] else Preparing b first more))
+              ⊎ Asks (proposes same applied pending (if m then Some (called_for l (reports more)) else None)
+              (if m then Leading b l [] else Preparing b first more))
+
+          most : (m : Bool) → is_majority members (is_counted more) ≡ m → LedAt first m
           most true q =
               inl (record {
                 cs = more;
@@ -122,18 +131,19 @@ module _ {B : Type 0} (same : B → B → Bool) (members applied : ℕ) (pending
           most false q = inr (record { cs = more; role = refl; from = from_more })
 
           go : (m : Bool)
-              → Backed (proposes same applied pending (if m then calls members first more else None)
-              (if m then with_promises members b first more else Preparing b first cs))
-              ⊎ Asks (proposes same applied pending (if m then calls members first more else None)
-              (if m then with_promises members b first more else Preparing b first cs))
-          go true = most (is_majority members (is_counted more)) refl
+              → Backed (proposes same applied pending (if m then calls members first own more else None)
+              (if m then with_promises members b first own more else Preparing b first cs))
+              ⊎ Asks (proposes same applied pending (if m then calls members first own more else None)
+              (if m then with_promises members b first own more else Preparing b first cs))
+          go true =
+              subst (λ l. LedAt l (is_majority members (is_counted more))) (sym low_is) (most (is_majority members (is_counted more)) refl)
           go false = inr (record { cs = cs; role = refl; from = from })
 
   pub hears_all : (vs : Seat B → List (Vote B)) (seats : List (Seat B)) (r : Role B)
-      → ((s : Seat B) → Has seats s → P (record { node = s.number; votes = vs s })) → Backed r ⊎ Asks r
-      → Backed (fold (λ r s. hears same members applied pending b s.number (vs s) r) r seats)
-      ⊎ Asks (fold (λ r s. hears same members applied pending b s.number (vs s) r) r seats)
+      → ((s : Seat B) → Has seats s → P (record { node = s.number; floor = floor_of s; votes = vs s })) → Backed r ⊎ Asks r
+      → Backed (fold (λ r s. hears same members applied pending b s.number (floor_of s) (vs s) own r) r seats)
+      ⊎ Asks (fold (λ r s. hears same members applied pending b s.number (floor_of s) (vs s) own r) r seats)
   hears_all vs [] r p e = e
   hears_all vs (s ∷ seats) r p e =
-      hears_all vs seats (hears same members applied pending b s.number (vs s) r) (λ t h. p t (there h))
-      (hears_one s.number (vs s) r (p s here) e)
+      hears_all vs seats (hears same members applied pending b s.number (floor_of s) (vs s) own r) (λ t h. p t (there h))
+      (hears_one s.number (floor_of s) (vs s) r (p s here) e)

@@ -8,7 +8,7 @@ use Rattle.cluster_world.proofs.AcceptorTests.{has_from}
 use Rattle.cluster_world.proofs.AtOnce.{AtRest}
 use Rattle.cluster_world.proofs.Casting.{HeardOwn}
 use Rattle.cluster_world.proofs.EventsAtOnce.{all_rest}
-use Rattle.cluster_world.proofs.EveryWorld.{play_on}
+use Rattle.cluster_world.proofs.EveryWorld.{world_ok, play_on}
 use Rattle.cluster_world.proofs.Leading.{AreBelow}
 use Rattle.cluster_world.proofs.Limits.{rounds_fit, first_most, first_slots_fit}
 use Rattle.cluster_world.proofs.Lists.{has_nil, has_cons, has_first}
@@ -167,6 +167,14 @@ module _ {B : Type 0} (same : B → B → Bool) (equal : IsEquality same) (membe
 
   rests : (s : Seat B) → Has seats s → AtRest s.node
   rests s h = subst (λ x. AtRest x) (are s h) (all_rest same members events s.number)
+
+  -- no node has a snapshot
+
+  pub plains : (s : Seat B) → Has seats s → s.node.rows.snapshot ≡ None
+  plains s h = ap (λ (x : NodeState B). x.rows.snapshot) (sym (are s h)) ∙ (world_ok same equal members two events).plain s.number
+
+  pub own_plain : x0.rows.snapshot ≡ None
+  own_plain = (world_ok same equal members two events).plain n
 
   -- rounds
 
@@ -378,7 +386,7 @@ module _ {B : Type 0} (same : B → B → Bool) (equal : IsEquality same) (membe
       (subst (λ (x : NodeState B). suc (log_length x) ≤ suc last_rescue_slot) (sym x_is) (up_one (log_length x0) log_fits))
       (subst (λ (l : List _). suc last_rescue_slot + length l ≤ first_most) (sym pending_is)
       (room_left (length x0.pending) (pending_is_few same members events n)))
-      first_slots_fit mays (λ s h. (asked s h).votes) (ap (λ (x : NodeState B). x.rows.votes) x_is)
+      first_slots_fit mays (λ s h. (asked s h).votes) (ap (λ (x : NodeState B). x.rows.votes) x_is) plains own_plain
       (λ s h. below_past (suc (log_length (node_at u.nodes n))) s.node (rooms s h))
       (below_past (suc (log_length (node_at u.nodes n))) x0 room) (heard_none same members (events ++ lk) equal three ballot may_own n)
       (all_eights same members (events ++ lk) n) heards enough_first enough_then

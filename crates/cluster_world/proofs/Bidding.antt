@@ -1,6 +1,6 @@
 -- The ballot that the helpers promise, from its start on: the node leads then, and each helper has promised it.
 use Rattle.std.proofs.Common.{◌≡◌, ⊎_elim, ℕ, suc, ◌+◌, ◌<◌, ◌≤◌, Bool, true, false, ◌||◌, eqb, refl, sym, ap, ◌∙◌, subst, arith}
-use Rattle.std.proofs.Common.{List, [], ◌∷◌, length}
+use Rattle.std.proofs.Common.{List, [], ◌∷◌, length, Option, None}
 use Rattle.std.specs.Prelude.{max, fold}
 use Rattle.std.proofs.lemmas.List.{append-nil}
 use Rattle.std.proofs.lemmas.Bool.{or_cases, eqb-true}
@@ -8,7 +8,7 @@ use Rattle.cluster_world.proofs.AtOnce.{AtRest, alone_is_few}
 use Rattle.cluster_world.proofs.Casting.{HeardOwn, AreEights}
 use Rattle.cluster_world.proofs.Electing.{elected}
 use Rattle.cluster_world.proofs.Leading.{AreBelow}
-use Rattle.cluster_world.proofs.Lists.{has_nil}
+use Rattle.cluster_world.proofs.Lists.{has_nil, has_one}
 use Rattle.cluster_world.proofs.Opening.{Started, started_in}
 use Rattle.cluster_world.proofs.Passing.{among}
 use Rattle.cluster_world.proofs.Playing.{none_is, AllVisited}
@@ -16,16 +16,19 @@ use Rattle.cluster_world.proofs.Promising.{Knows, Due, promise_then, promise_tur
 use Rattle.cluster_world.specs.Has.{Has}
 use Rattle.paxos_packets.specs.Body.{IsEquality}
 use Rattle.paxos_packets.specs.Members.{IsMember, is_majority}
+use Rattle.paxos_packets.specs.Snapshot.{floor_in}
+use Rattle.paxos_packets.specs.Snapshot as taken
 use Rattle.paxos_packets.specs.Vote.{put_votes, votes_from}
 use Rattle.paxos_packets.specs.declared.ballot.Ballot.{Ballot}
 use Rattle.paxos_packets.specs.declared.vote.Vote.{Vote}
 use Rattle.paxos_acceptor.specs.Acceptor.{may_promise}
+use Rattle.paxos_proposer.specs.declared.promises.CountedPromise.{CountedPromise}
 use Rattle.paxos_proposer.specs.Proposer.{round_of, round_end, slot_end, new_ballot, asking, is_leading}
 use Rattle.paxos_proposer.specs.Role.{Role}
 use Rattle.paxos_node.specs.declared.event.Event.TheVariants.{Start}
 use Rattle.paxos_planning.specs.Node.{NodeState, log_length}
 use Rattle.cluster_world.specs.World.{World, node_at, next, play}
-use Rattle.world_rescue.specs.Course.{Seat, votes_then, promises, lead, led}
+use Rattle.world_rescue.specs.Course.{Seat, floor_of, votes_then, promises, lead, led}
 use Rattle.cluster_world.specs.Rescue.{Apart}
 
 module _ {B : Type 0} (same : B → B → Bool) (equal : IsEquality same) (members : ℕ) (many : 2 ≤ members) (n : ℕ)
@@ -70,22 +73,42 @@ module _ {B : Type 0} (same : B → B → Bool) (equal : IsEquality same) (membe
       (mays : (s : Seat B) → Has seats s → may_promise (now s).rows.promised ballot ≡ true)
       (votes_are : (s : Seat B) → Has seats s → (now s).rows.votes ≡ put_votes cast s.node.rows.votes)
       (own_votes : x.rows.votes ≡ put_votes cast own.node.rows.votes)
+      (flats : (s : Seat B) → Has seats s → (now s).rows.snapshot ≡ None) (plains : (s : Seat B) → Has seats s → s.node.rows.snapshot ≡ None)
+      (flat : x.rows.snapshot ≡ None) (own_plain : own.node.rows.snapshot ≡ None)
       (belows : (s : Seat B) → Has seats s → AreBelow past (votes_then first cast s))
       (own_below : AreBelow past (votes_then first cast own))
       (heard : HeardOwn ballot n x.learner) (eights : AreEights x.learner.heard)
       (enough : is_majority members (among (fold (λ ks s. s.number ∷ ks) (n ∷ []) seats)) ≡ true) where
+    flat_y : y.rows.snapshot ≡ None
+    flat_y = ap (λ (z : NodeState B). z.rows.snapshot) started.own ∙ flat
+
+    above : (a : ℕ) → 0 < suc a
+    above a = omega arith
+
+    -- its floor in the course is the one that it has
+    pub floor_y : floor_in y.rows.snapshot ≡ floor_of own
+    floor_y = ap (λ k. floor_in k) (flat_y ∙ sym own_plain)
+
+    pub base_under : floor_of own < first
+    base_under = subst (λ (k : Option taken.Snapshot). floor_in k < first) (sym own_plain) (above (log_length x))
+
     abbrev pub KnowsIt : World B → Role B → Type 0
-    KnowsIt w r = Knows same equal members many n low (suc seen) x.rows.votes y rest_y first past most from room slots cast now w r
+    KnowsIt w r = Knows same equal members many n low (suc seen) x.rows.votes y rest_y first past most from (floor_of own) floor_y base_under room slots cast now w r
 
-    first_role : asking n ballot first (votes_from first x.rows.votes) ≡ asking own.number ballot first (votes_then first cast own)
-    first_role = λ i. asking (sym number i) ballot first (votes_from first (own_votes i))
+    own_floor : floor_in x.rows.snapshot ≡ floor_of own
+    own_floor = ap (λ k. floor_in k) (flat ∙ sym own_plain)
 
-    knows : KnowsIt v (asking n ballot first (votes_from first x.rows.votes))
+    first_role : asking n ballot first (floor_in x.rows.snapshot) (votes_from first x.rows.votes)
+        ≡ asking own.number ballot first (floor_of own) (votes_then first cast own)
+    first_role = λ i. asking (sym number i) ballot first (own_floor i) (votes_from first (own_votes i))
+
+    knows : KnowsIt v (asking n ballot first (floor_in x.rows.snapshot) (votes_from first x.rows.votes))
     knows =
         record {
           bids = record {
             up = ap (λ (z : NodeState B). z.up) started.own ∙ up;
             boot = refl;
+            base = refl;
             promised = ap (λ (z : NodeState B). z.rows.promised) started.own;
             cast = ap (λ (z : NodeState B). z.rows.votes) started.own;
             role = ap (λ (z : NodeState B). z.proposer.role) started.own;
@@ -104,25 +127,30 @@ module _ {B : Type 0} (same : B → B → Bool) (equal : IsEquality same) (membe
             refl,
             subst (λ l. AreBelow past l) (sym (append-nil (votes_from first x.rows.votes)))
                 (subst (λ l. AreBelow past (votes_from first l)) (sym own_votes) own_below),
+            λ d h. subst (λ (z : CountedPromise B). z.floor < first) (has_one h)
+                (subst (λ (k : Option taken.Snapshot). floor_in k < first) (sym flat) (above (log_length x))),
           );
         }
 
     -- after the promises
     pub bid : AllVisited same members n KnowsIt now
-        (promise_then same equal members many n low (suc seen) x.rows.votes y rest_y first past most from room slots cast now)
+        (promise_then same equal members many n low (suc seen) x.rows.votes y rest_y first past most from (floor_of own) floor_y base_under room slots cast now)
         (promises ballot first cast)
-        (promise_turn same equal members many n low (suc seen) x.rows.votes y rest_y first past most from room slots cast now)
-        (Due same equal members many n low (suc seen) x.rows.votes y rest_y first past most from room slots cast now) seats
+        (promise_turn same equal members many n low (suc seen) x.rows.votes y rest_y first past most from (floor_of own) floor_y base_under room slots cast now)
+        (Due same equal members many n low (suc seen) x.rows.votes y rest_y first past most from (floor_of own) floor_y base_under room slots cast now) seats
         (led same members (log_length y) y.pending ballot first cast own seats) v (play same members (lead ballot first cast seats) u)
     bid =
-        promise_all same equal members many n low (suc seen) x.rows.votes y rest_y first past most from room slots cast now seats v
-        (asking own.number ballot first (votes_then first cast own)) apart
+        promise_all same equal members many n low (suc seen) x.rows.votes y rest_y first past most from (floor_of own) floor_y base_under room slots cast now seats v
+        (asking own.number ballot first (floor_of own) (votes_then first cast own)) apart
         (λ s h. record {
           asked = started.asked s.number (others s h) (none_is n seats apart s h);
           up_is = ups s h;
           rests = rests s h;
           may = mays s h;
           votes_are = votes_are s h;
+          plain = flats s h;
+          was_plain = plains s h;
+          one_at_least = above (log_length x);
           below = belows s h;
         })
         (λ s h. started.others s.number (none_is n seats apart s h) ∙ are s h)
@@ -131,7 +159,7 @@ module _ {B : Type 0} (same : B → B → Bool) (equal : IsEquality same) (membe
     -- the node leads
     pub leads : is_leading (led same members (log_length y) y.pending ballot first cast own seats) ≡ true
     leads =
-        elected same members (log_length y) y.pending ballot first own.number (votes_then first cast own)
+        elected same members (log_length y) y.pending ballot first (floor_of own) own.number (votes_then first cast own)
         (λ s. votes_then first cast s) seats
         (alone_is_few members many (λ j. eqb own.number j || false) own.number alone)
         (subst (λ k. is_majority members (among (fold (λ ks s. s.number ∷ ks) (k ∷ []) seats)) ≡ true) (sym number) enough)

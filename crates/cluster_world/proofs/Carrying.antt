@@ -1,5 +1,5 @@
 -- What a leader proposed is carried to the helpers, and their votes back: it learns all of it, or goes down.
-use Rattle.std.proofs.Common.{◌≡◌, inl, ℕ, ◌≤◌, ◌<◌, Bool, true, refl, sym, ap, ◌∙◌, subst, List, [], ◌∷◌}
+use Rattle.std.proofs.Common.{◌≡◌, inl, ℕ, ◌≤◌, ◌<◌, Bool, true, refl, sym, ap, ◌∙◌, subst, List, [], ◌∷◌, None}
 use Rattle.std.proofs.lemmas.List.{append-nil}
 use Rattle.cluster_world.proofs.AtOnce.{AtRest}
 use Rattle.cluster_world.proofs.Casting.{HeardOwn}
@@ -35,13 +35,13 @@ module _ {B : Type 0} (same : B → B → Bool) (equal : IsEquality same) (membe
 
   -- a helper that has just promised the ballot is ready
   pub ready_after : (y x : NodeState B) (k first : ℕ) → x.up ≡ true → AtRest x → may_promise x.rows.promised ballot ≡ true
-      → HeardOwn ballot k x.learner
+      → x.rows.snapshot ≡ None → HeardOwn ballot k x.learner
       → Ready same equal members many n member round y k x.rows.votes (stepped same members (Deliver (packet n (Prepare ballot first) k)) x)
-  ready_after y x k first up rest may own =
+  ready_after y x k first up rest may plain own =
       subst (λ z. Ready same equal members many n member round y k x.rows.votes z)
       (sym (up_stepped same members (packet n (Prepare ballot first) k) x up
       ∙ ap (λ (o : Plan B). o.node) (promises_it same members n k first ballot x rest may)))
-      (record { up = up; promised = refl; votes_are = refl; own = own; rests = rest })
+      (record { up = up; promised = refl; votes_are = refl; plain = plain; own = own; rests = rest })
 
   -- the leader's proposals are passed on
   module _ (p : World B) (ok : WorldOk members p) (votes : List (Vote B)) (y : NodeState B) (r : Role B)

@@ -1,5 +1,5 @@
 -- The node's part of each event keeps the invariant.
-use Rattle.std.proofs.Common.{◌≡◌, ⊎_elim, ℕ, suc, ◌+◌, ◌-◌, ◌≤◌, Bool, true, false, not, ◌&&◌, ◌||◌, eqb, ltb, refl, sym, ap, ◌∙◌, subst, arith, List, []}
+use Rattle.std.proofs.Common.{◌≡◌, ⊎_elim, ℕ, suc, ◌+◌, ◌-◌, ◌<◌, ◌≤◌, Bool, true, false, not, ◌&&◌, ◌||◌, eqb, ltb, refl, sym, ap, ◌∙◌, subst, arith, List, []}
 use Rattle.std.proofs.Common.{◌∷◌, ◌++◌, append_assoc, Option, Some, None}
 use Rattle.std.specs.Prelude.{filter, if◌then◌else◌, nat_lt, nat_le, max, take}
 use Rattle.std.proofs.lemmas.Bool.{cond_both, and_parts, lt-ltb}
@@ -11,33 +11,35 @@ use Rattle.cluster_world.proofs.InvariantKept.{sent_cases}
 use Rattle.cluster_world.proofs.WithNode.{with_node, Kept, mine_ok}
 use Rattle.cluster_world.proofs.Quiet.{QuietKind, quiet_moved}
 use Rattle.cluster_world.proofs.AcceptorTests.{sent_nil, sent_one, sent_to_others, sent_to_some}
-use Rattle.cluster_world.proofs.Active.{promise_moved, begin_moved}
+use Rattle.cluster_world.proofs.Active.{promise_moved, begin_moved, not_given}
 use Rattle.cluster_world.proofs.Learner.{learner_of, with_learner_ok, learn_ok, agrees, vote_agrees}
 use Rattle.cluster_world.proofs.Proposals.{silent, counted_ok, cast_kept, cast_agrees, neither, State, Going, FreeAt, Path, StepTo, Step, step_on, stay}
 use Rattle.cluster_world.proofs.Proposals.{propose_step, recover_step}
-use Rattle.cluster_world.proofs.Reports.{all_called, past_free, length-called_in}
+use Rattle.cluster_world.proofs.Reports.{all_called, past_free, length-called_in, lowest_has}
 use Rattle.cluster_world.specs.Has.{Has, here, there}
 use Rattle.paxos_packets.specs.Members.{is_majority, others}
 use Rattle.paxos_packets.specs.Packet.{packet, to_others}
-use Rattle.paxos_packets.specs.Vote.{votes_from}
+use Rattle.paxos_packets.specs.Snapshot.{floor_in}
+use Rattle.paxos_packets.specs.Snapshot as taken
 use Rattle.paxos_packets.specs.declared.ballot.Ballot.{Ballot}
 use Rattle.paxos_packets.specs.declared.entry.Entry.{Entry}
 use Rattle.paxos_packets.specs.declared.packet.Kind.{Kind}
 use Rattle.paxos_packets.specs.declared.packet.Packet.{Packet}
 use Rattle.paxos_packets.specs.declared.vote.Vote.{Vote}
-use Rattle.paxos_packets.specs.declared.packet.Kind.TheVariants.{Prepare, Promise, Accept, Accepted, Nack, Forward, Ask, Learned}
-use Rattle.paxos_acceptor.specs.Acceptor.{may_promise, may_accept}
+use Rattle.paxos_packets.specs.declared.packet.Kind.TheVariants.{Prepare, Promise, Accept, Accepted, Nack, Forward, Ask, Learned, Snapshot}
+use Rattle.paxos_acceptor.specs.Acceptor.{may_promise, may_accept, promise_of, given_by}
 use Rattle.std.specs.Option.{unwrap_or}
 use Rattle.paxos_proposer.specs.declared.promises.CountedPromise.{CountedPromise}
 use Rattle.paxos_proposer.specs.Role.{Role, Idle, Preparing, Leading}
 use Rattle.paxos_proposer.specs.Proposer.{round_of, new_ballot, step_down, nacked, is_leading}
+use Rattle.paxos_proposer.specs.Promises.{lowest}
 use Rattle.paxos_proposer.specs.Reports.{is_counted, reports, past_reports, called_for}
 use Rattle.paxos_learner.specs.declared.learned.LearnedEntry.{LearnedEntry}
 use Rattle.paxos_learner.specs.Learner.{is_learned, learn, disagrees, vote_disagrees}
 use Rattle.paxos_planning.specs.Node.{NodeState, Plan, log_length}
 use Rattle.paxos_planning.specs.Plan.{with_role, with_pending, with_learner, promised_at, counted_at, send, promise, count, hear_learned, cast}
 use Rattle.paxos_planning.specs.Proposals.{propose, lead, stands, propose_new, propose_each, forwarded, push}
-use Rattle.paxos_planning.specs.Replies.{saw, refuse, on_prepare, on_accept, count_promise, on_promise_as, on_nack, on_forward, told_from, on_packet}
+use Rattle.paxos_planning.specs.Replies.{saw, refuse, show, cast_or_show, on_prepare, on_accept, answer_ask, count_promise, on_promise_as, on_nack, on_forward, told_from, on_packet}
 use Rattle.paxos_node.specs.Events.{takes, with_item, on_take, has_room, suspected}
 use Rattle.paxos_planning.specs.Ticking.{accepts_again, again, ask, on_tick}
 use Rattle.paxos_planning.specs.Starting.{begin, starts, on_start}
@@ -66,6 +68,10 @@ module _ {B : Type 0} (same : B → B → Bool) (equal : IsEquality same) (membe
   abbrev all : Plan B → List (Packet B)
   all t = before ++ t.packets
 
+  -- its floor
+  abbrev own : Plan B → ℕ
+  own t = floor_in t.node.rows.snapshot
+
   abbrev now : Plan B → ℕ → Option Ballot
   now t = promises (with_node at n t.node)
 
@@ -86,7 +92,7 @@ module _ {B : Type 0} (same : B → B → Bool) (equal : IsEquality same) (membe
       let g : Go t (send new t) = subst (λ l. Kept members at n t.node (all t) t.node l) (append_assoc before t.packets new)
       (quiet_moved members at n t.node t.node (all t) new inv refl (mine_ok members at n t.node (all t) inv) quiet) in
       record {
-        path = record { going = g; agrees = λ e. e; stays = record { boot = refl; up = refl; log = refl; news = refl; acts = refl } };
+        path = record { going = g; agrees = λ e. e; stays = record { boot = refl; base = refl; up = refl; log = refl; news = refl; acts = refl } };
         free = free_same t (send new t) g refl free;
       }
 
@@ -99,17 +105,17 @@ module _ {B : Type 0} (same : B → B → Bool) (equal : IsEquality same) (membe
   mine t inv = mine_ok members at n t.node (all t) inv
 
   -- another role
-  with_role_ok : (t : Plan B) → St t → (r : Role B) (seen : ℕ) → RoleOk (now t) t.node.rows.promised (all t) n r
+  with_role_ok : (t : Plan B) → St t → (r : Role B) (seen : ℕ) → RoleOk (now t) t.node.rows.promised (own t) (all t) n r
       → NodeOk members (now t) (all t) n (record t.node { proposer = record { role = r; seen = seen } })
   with_role_ok t inv r seen ok = let m = mine t inv in record { rows = m.rows; role = ok; heard = m.heard; learned = m.learned }
 
-  pub role_path : (t : Plan B) → St t → (r : Role B) (seen : ℕ) → RoleOk (now t) t.node.rows.promised (all t) n r
+  pub role_path : (t : Plan B) → St t → (r : Role B) (seen : ℕ) → RoleOk (now t) t.node.rows.promised (own t) (all t) n r
       → Way t.node.taken t (record t { node = record t.node { proposer = record { role = r; seen = seen } } })
   role_path t inv r seen ok =
       record {
         going = turns t (record t.node { proposer = record { role = r; seen = seen } }) inv refl (with_role_ok t inv r seen ok);
         agrees = λ e. e;
-        stays = record { boot = refl; up = refl; log = refl; news = refl; acts = refl };
+        stays = record { boot = refl; base = refl; up = refl; log = refl; news = refl; acts = refl };
       }
 
   -- other pending entries
@@ -123,7 +129,7 @@ module _ {B : Type 0} (same : B → B → Bool) (equal : IsEquality same) (membe
       let g : Go t (record t { node = record t.node { pending = pending; taken = taken } }) =
       turns t (record t.node { pending = pending; taken = taken }) inv refl (pending_ok t inv pending taken) in
       record {
-        path = record { going = g; agrees = λ e. e; stays = record { boot = refl; up = refl; log = refl; news = refl; acts = refl } };
+        path = record { going = g; agrees = λ e. e; stays = record { boot = refl; base = refl; up = refl; log = refl; news = refl; acts = refl } };
         free = free_same t (record t { node = record t.node { pending = pending; taken = taken } }) g refl free;
       }
 
@@ -153,30 +159,35 @@ module _ {B : Type 0} (same : B → B → Bool) (equal : IsEquality same) (membe
       subst (λ l. Kept members at n t.node (all t) (promised_at b t.node) l) (append_assoc before t.packets _)
       (promise_moved members at n t.node (all t) from b floor inv e known) in
       record {
-        path = record { going = g; agrees = λ d. d; stays = record { boot = refl; up = refl; log = refl; news = refl; acts = refl } };
+        path = record { going = g; agrees = λ d. d; stays = record { boot = refl; base = refl; up = refl; log = refl; news = refl; acts = refl } };
         free = step_down_free (now u) (all u) b t.node.proposer.role (role_free_grows members g.grows t.node.proposer.role free);
       })
       (λ e. refuse_step t from b inv free)
     where
       u : Plan B
-      u = send (packet n (Promise b (votes_from floor t.node.rows.votes)) from ∷ []) (promise b t)
+      u = send (packet n (promise_of t.node.rows b floor) from ∷ []) (promise b t)
 
   -- Accept
 
-  cast_step : (t : Plan B) (v : Vote B) → St t → Fr t → may_accept t.node.rows.promised v.ballot ≡ true → Known (all t) (Accept v)
-      → To t (cast same members n v t)
-  cast_step t v inv free may known =
+  show_step : (t : Plan B) (from : ℕ) (s : taken.Snapshot) → St t → Fr t → To t (show n from s t)
+  show_step t from s inv free =
+      sends t (packet n (Snapshot s) from ∷ []) inv free
+      (λ k kind p. let o = sent_one n from (Snapshot s) k kind p in (o.0, subst (λ z. QuietKind members (all t) n z) o.1 tt))
+
+  cast_step : (t : Plan B) (v : Vote B) → St t → Fr t → may_accept t.node.rows.promised v.ballot ≡ true
+      → ((s : taken.Snapshot) → t.node.rows.snapshot ≡ Some s → s.floor < v.slot) → Known (all t) (Accept v) → To t (cast same members n v t)
+  cast_step t v inv free may high known =
       let g : Go t (cast same members n v t) =
       subst (λ l. Kept members at n t.node (all t) (cast same members n v t).node l) (append_assoc before t.packets _)
-      (cast_kept members many at n t.node (all t) v inv may known) in
+      (cast_kept members many at n t.node (all t) v inv may high known) in
       record {
         path = record {
           going = g;
           agrees =
               λ d.
               neither t.disagrees (vote_disagrees same members n v t.node.learner) d
-              (cast_agrees members many at n same equal t.node (all t) v inv may known);
-          stays = record { boot = refl; up = refl; log = refl; news = refl; acts = refl };
+              (cast_agrees members many at n same equal t.node (all t) v inv may high known);
+          stays = record { boot = refl; base = refl; up = refl; log = refl; news = refl; acts = refl };
         };
         free =
             step_down_free (now (cast same members n v t)) (all (cast same members n v t)) v.ballot t.node.proposer.role
@@ -185,9 +196,15 @@ module _ {B : Type 0} (same : B → B → Bool) (equal : IsEquality same) (membe
 
   accept_step : (t : Plan B) (from : ℕ) (v : Vote B) → St t → Fr t → Known (all t) (Accept v) → To t (on_accept same members n from v t)
   accept_step t from v inv free known =
-      cond_both (may_accept t.node.rows.promised v.ballot) (cast same members n v t) (refuse n from v.ballot t) (λ u. To t u)
-      (λ e. cast_step t v inv free e known)
+      cond_both (may_accept t.node.rows.promised v.ballot) (cast_or_show same members n from (given_by t.node.rows.snapshot v.slot) v t)
+      (refuse n from v.ballot t) (λ u. To t u)
+      (λ e. either e (given_by t.node.rows.snapshot v.slot) refl)
       (λ e. refuse_step t from v.ballot inv free)
+    where
+      either : may_accept t.node.rows.promised v.ballot ≡ true → (s : Option taken.Snapshot) → given_by t.node.rows.snapshot v.slot ≡ s
+          → To t (cast_or_show same members n from s v t)
+      either may None e = cast_step t v inv free may (not_given t.node.rows.snapshot v.slot e) known
+      either may (Some s) e = show_step t from s inv free
 
   -- proposals and push
 
@@ -221,48 +238,57 @@ module _ {B : Type 0} (same : B → B → Bool) (equal : IsEquality same) (membe
 
   -- Promise
 
-  pub lead_step : (t : Plan B) (b : Ballot) (floor : ℕ) (cs : List (CountedPromise B)) → St t → PreparingOk (now t) t.node.rows.promised (all t) n b floor cs
-      → is_majority members (is_counted cs) ≡ true → To t (lead same members n b floor (reports cs) t)
-  lead_step t b floor cs inv ok most =
+  pub lead_step : (t : Plan B) (b : Ballot) (first : ℕ) (cs : List (CountedPromise B)) → St t
+      → PreparingOk (now t) t.node.rows.promised (all t) n b first cs → is_majority members (is_counted cs) ≡ true
+      → To t (lead same members n b (lowest first (own t) cs) (reports cs) t)
+  lead_step t b first cs inv ok most =
       step_on same equal members many at n before g
-      (recover_step same equal members many at n before (called_for floor (reports cs)) u b floor [] g.going.inv refl
-      (all_called members (now u) (all u) b floor cs most kept (past_reports floor (reports cs) - floor) floor (omega arith))
-      (λ slot a z. past_free members (now u) (all u) b floor cs most kept slot (omega arith)
-      (past slot (subst (λ l. floor + l ≤ slot) (length-called_in (reports cs) floor (past_reports floor (reports cs) - floor)) a))))
+      (recover_step same equal members many at n before (called_for low (reports cs)) u b low [] g.going.inv refl
+      (all_called members (now u) (all u) b first cs most kept low is.0 is.2 (past_reports low (reports cs) - low) low (omega arith))
+      (λ slot a z. past_free members (now u) (all u) b first cs most kept low is.0 is.2 slot (omega arith)
+      (past slot (subst (λ l. low + l ≤ slot) (length-called_in (reports cs) low (past_reports low (reports cs) - low)) a))))
     where
+      low : ℕ
+      low = lowest first (own t) cs
+
+      is : (first ≤ low) × (own t < low) × ((c : CountedPromise B) → Has cs c → c.floor < low)
+      is = lowest_has first (own t) cs
+
       u : Plan B
-      u = record t { node = with_role (Leading b floor []) t.node }
+      u = record t { node = with_role (Leading b low []) t.node }
 
       g : Way t.node.taken t u
       g =
-          role_path t inv (Leading b floor []) t.node.proposer.seen
+          role_path t inv (Leading b low []) t.node.proposer.seen
           (record {
             owner = ok.owner;
             exact = ok.exact;
+            high = is.1;
             made = λ v p e. absurd (ok.none v p e);
             own = λ v h. absurd (elim h [ ]);
             owned = λ v h. absurd (elim h [ ]);
           })
 
-      kept : (c : CountedPromise B) → Has cs c → Tells (now u) (all u) c.node b floor c.votes
+      kept : (c : CountedPromise B) → Has cs c → Tells (now u) (all u) c.node b first c.floor c.votes
       kept c h = tells_grows g.going.grows (ok.kept c h)
 
-      past : (slot : ℕ) → floor + (past_reports floor (reports cs) - floor) ≤ slot → past_reports floor (reports cs) ≤ slot
+      past : (slot : ℕ) → low + (past_reports low (reports cs) - low) ≤ slot → past_reports low (reports cs) ≤ slot
       past slot a = omega arith
 
-  count_promise_step : (t : Plan B) (b : Ballot) (floor : ℕ) (cs : List (CountedPromise B)) → St t
-      → PreparingOk (now t) t.node.rows.promised (all t) n b floor cs → To t (count_promise same members n b floor cs t)
-  count_promise_step t b floor cs inv ok =
-      cond_both (is_majority members (is_counted cs)) (push same members n (lead same members n b floor (reports cs) t))
-      (record t { node = with_role (Preparing b floor cs) t.node }) (λ u. To t u)
-      (λ e. let a = lead_step t b floor cs inv ok e in then_to a (push_step (lead same members n b floor (reports cs) t) a.path.going.inv a.free))
-      (λ e. record { path = role_path t inv (Preparing b floor cs) t.node.proposer.seen ok; free = tt })
+  count_promise_step : (t : Plan B) (b : Ballot) (first : ℕ) (cs : List (CountedPromise B)) → St t
+      → PreparingOk (now t) t.node.rows.promised (all t) n b first cs → To t (count_promise same members n b first (own t) cs t)
+  count_promise_step t b first cs inv ok =
+      cond_both (is_majority members (is_counted cs)) (push same members n (lead same members n b (lowest first (own t) cs) (reports cs) t))
+      (record t { node = with_role (Preparing b first cs) t.node }) (λ u. To t u)
+      (λ e. let a = lead_step t b first cs inv ok e in
+      then_to a (push_step (lead same members n b (lowest first (own t) cs) (reports cs) t) a.path.going.inv a.free))
+      (λ e. record { path = role_path t inv (Preparing b first cs) t.node.proposer.seen ok; free = tt })
 
   -- one promise more
-  pub promised_ok : (t : Plan B) (from : ℕ) (b : Ballot) (votes : List (Vote B)) → St t → Sent (all t) from (Promise b votes) → (c : Ballot) (floor : ℕ)
-      (cs : List (CountedPromise B)) → t.node.proposer.role ≡ Preparing c floor cs → b ≡ c
-      → PreparingOk (now t) t.node.rows.promised (all t) n c floor (cs ++ record { node = from; votes = votes } ∷ [])
-  promised_ok t from b votes inv s c floor cs is e =
+  pub promised_ok : (t : Plan B) (from : ℕ) (b : Ballot) (floor : ℕ) (votes : List (Vote B)) → St t → Sent (all t) from (Promise b floor votes)
+      → (c : Ballot) (first : ℕ) (cs : List (CountedPromise B)) → t.node.proposer.role ≡ Preparing c first cs → b ≡ c
+      → PreparingOk (now t) t.node.rows.promised (all t) n c first (cs ++ record { node = from; floor = floor; votes = votes } ∷ [])
+  promised_ok t from b floor votes inv s c first cs is e =
       record {
         owner = ok.owner;
         exact = ok.exact;
@@ -270,40 +296,45 @@ module _ {B : Type 0} (same : B → B → Bool) (equal : IsEquality same) (membe
         asked = ok.asked;
         none = ok.none;
         kept =
-            λ d h. ⊎_elim (λ o. ok.kept d o) (λ o. subst (λ (z : CountedPromise B). Tells (now t) (all t) z.node c floor z.votes) (has_one o) tells)
-            (has_cases cs (record { node = from; votes = votes } ∷ []) h);
+            λ d h. ⊎_elim (λ o. ok.kept d o)
+            (λ o. subst (λ (z : CountedPromise B). Tells (now t) (all t) z.node c first z.floor z.votes) (has_one o) tells)
+            (has_cases cs (record { node = from; floor = floor; votes = votes } ∷ []) h);
       }
     where
-      ok : PreparingOk (now t) t.node.rows.promised (all t) n c floor cs
-      ok = subst (λ r. RoleOk (now t) t.node.rows.promised (all t) n r) is (mine t inv).role
+      ok : PreparingOk (now t) t.node.rows.promised (all t) n c first cs
+      ok = subst (λ r. RoleOk (now t) t.node.rows.promised (own t) (all t) n r) is (mine t inv).role
 
-      tells : Tells (now t) (all t) from c floor votes
+      tells : Tells (now t) (all t) from c first floor votes
       tells =
-          let told = inv.packets.told from b votes s in
-          let here' = subst (λ z. Known (all t) (Prepare z told.floor)) e told.asked in
-          subst (λ f. Tells (now t) (all t) from c f votes) (ok.only told.floor here')
-          (subst (λ z. Tells (now t) (all t) from z told.floor votes) e told.tells)
+          let told = inv.packets.told from b floor votes s in
+          let here' = subst (λ z. Known (all t) (Prepare z told.first)) e told.asked in
+          subst (λ f. Tells (now t) (all t) from c f floor votes) (ok.only told.first here')
+          (subst (λ z. Tells (now t) (all t) from z told.first floor votes) e told.tells)
 
-  promise_step : (t : Plan B) (from : ℕ) (b : Ballot) (votes : List (Vote B)) → St t → Fr t → Sent (all t) from (Promise b votes) → (r : Role B)
-      → t.node.proposer.role ≡ r → To t (on_promise_as same members n from b votes r t)
-  promise_step t from b votes inv free s Idle is = stood t inv free
-  promise_step t from b votes inv free s (Leading c next table) is = stood t inv free
-  promise_step t from b votes inv free s (Preparing c floor cs) is =
-      cond_both (same_ballot b c && not (is_counted cs from)) (count_promise same members n c floor (cs ++ record { node = from; votes = votes } ∷ []) t) t
+  promise_step : (t : Plan B) (from : ℕ) (b : Ballot) (floor : ℕ) (votes : List (Vote B)) → St t → Fr t
+      → Sent (all t) from (Promise b floor votes) → (r : Role B) → t.node.proposer.role ≡ r
+      → To t (on_promise_as same members n from b floor votes r t)
+  promise_step t from b floor votes inv free s Idle is = stood t inv free
+  promise_step t from b floor votes inv free s (Leading c next table) is = stood t inv free
+  promise_step t from b floor votes inv free s (Preparing c first cs) is =
+      cond_both (same_ballot b c && not (is_counted cs from)) (count_promise same members n c first (own t) more t) t
       (λ u. To t u)
-      (λ e. count_promise_step t c floor (cs ++ record { node = from; votes = votes } ∷ []) inv
-      (promised_ok t from b votes inv s c floor cs is (ballot_sound b c (and_parts (same_ballot b c) (not (is_counted cs from)) e).0)))
+      (λ e. count_promise_step t c first more inv
+      (promised_ok t from b floor votes inv s c first cs is (ballot_sound b c (and_parts (same_ballot b c) (not (is_counted cs from)) e).0)))
       (λ e. stood t inv free)
+    where
+      more : List (CountedPromise B)
+      more = cs ++ record { node = from; floor = floor; votes = votes } ∷ []
 
   -- Nack
 
-  nacked_ok : (promised : ℕ → Option Ballot) (m : Option Ballot) (sent : List (Packet B)) (b p : Ballot) (r : Role B) → RoleOk promised m sent n r
-      → RoleOk promised m sent n (nacked b p r)
-  nacked_ok promised m sent b p Idle ok = tt
-  nacked_ok promised m sent b p (Preparing c floor cs) ok =
-      cond_both (same_ballot b c && below c p) Idle (Preparing c floor cs) (λ r. RoleOk promised m sent n r) (λ e. tt) (λ e. ok)
-  nacked_ok promised m sent b p (Leading c next table) ok =
-      cond_both (same_ballot b c && below c p) Idle (Leading c next table) (λ r. RoleOk promised m sent n r) (λ e. tt) (λ e. ok)
+  nacked_ok : (promised : ℕ → Option Ballot) (m : Option Ballot) (f : ℕ) (sent : List (Packet B)) (b p : Ballot) (r : Role B) → RoleOk promised m f sent n r
+      → RoleOk promised m f sent n (nacked b p r)
+  nacked_ok promised m f sent b p Idle ok = tt
+  nacked_ok promised m f sent b p (Preparing c floor cs) ok =
+      cond_both (same_ballot b c && below c p) Idle (Preparing c floor cs) (λ r. RoleOk promised m f sent n r) (λ e. tt) (λ e. ok)
+  nacked_ok promised m f sent b p (Leading c next table) ok =
+      cond_both (same_ballot b c && below c p) Idle (Leading c next table) (λ r. RoleOk promised m f sent n r) (λ e. tt) (λ e. ok)
 
   nacked_free : (promised : ℕ → Option Ballot) (sent : List (Packet B)) (b p : Ballot) (r : Role B) → RoleFree members promised sent r
       → RoleFree members promised sent (nacked b p r)
@@ -317,7 +348,7 @@ module _ {B : Type 0} (same : B → B → Bool) (equal : IsEquality same) (membe
   nack_step t b p inv free =
       let g =
       role_path t inv (nacked b p t.node.proposer.role) t.node.proposer.seen
-      (nacked_ok (now t) t.node.rows.promised (all t) b p t.node.proposer.role (mine t inv).role) in
+      (nacked_ok (now t) t.node.rows.promised (own t) (all t) b p t.node.proposer.role (mine t inv).role) in
       record {
         path = g;
         free = nacked_free (now (on_nack b p t)) (all t) b p t.node.proposer.role (role_free_grows members g.going.grows t.node.proposer.role free);
@@ -337,7 +368,7 @@ module _ {B : Type 0} (same : B → B → Bool) (equal : IsEquality same) (membe
               neither t.disagrees (vote_disagrees same members from v t.node.learner) d
               (vote_agrees members (now t) (all t) n same equal t.node.learner from v inv.packets
               (learner_of members (now t) (all t) n t.node (mine t inv)) s);
-          stays = record { boot = refl; up = refl; log = refl; news = refl; acts = refl };
+          stays = record { boot = refl; base = refl; up = refl; log = refl; news = refl; acts = refl };
         };
         free = free_same t (count same members from v t) g refl free;
       }
@@ -357,7 +388,7 @@ module _ {B : Type 0} (same : B → B → Bool) (equal : IsEquality same) (membe
               λ d.
               neither t.disagrees (disagrees same slot e t.node.learner) d
               (agrees members (now t) (all t) n same equal t.node.learner slot e inv.packets lo chosen);
-          stays = record { boot = refl; up = refl; log = refl; news = refl; acts = refl };
+          stays = record { boot = refl; base = refl; up = refl; log = refl; news = refl; acts = refl };
         };
         free = free_same t (hear_learned same slot e t) g refl free;
       }
@@ -376,9 +407,14 @@ module _ {B : Type 0} (same : B → B → Bool) (equal : IsEquality same) (membe
       (λ b. told_quiet sent to slot fs (λ g h. ok g (there h)) k kind b)
       (sent_cases (if nat_le slot f.slot && nat_lt f.slot (slot + 64) then packet n (Learned f.slot f.entry) to ∷ [] else []) (told_from n to slot fs) s)
 
-  ask_step : (t : Plan B) (from slot : ℕ) → St t → Fr t → To t (send (told_from n from slot t.node.learner.learned) t)
-  ask_step t from slot inv free =
+  tell_step : (t : Plan B) (from slot : ℕ) → St t → Fr t → To t (send (told_from n from slot t.node.learner.learned) t)
+  tell_step t from slot inv free =
       sends t (told_from n from slot t.node.learner.learned) inv free (told_quiet (all t) from slot t.node.learner.learned (mine t inv).learned)
+
+  ask_step : (t : Plan B) (from slot : ℕ) → St t → Fr t → (s : Option taken.Snapshot) → To t (answer_ask n from slot s t)
+  ask_step t from slot inv free None = tell_step t from slot inv free
+  ask_step t from slot inv free (Some s) =
+      let a = show_step t from s inv free in then_to a (tell_step (show n from s t) from (suc s.floor) a.path.going.inv a.free)
 
   forward_step : (t : Plan B) (es : List (Entry B)) → St t → Fr t → To t (on_forward same members n es t)
   forward_step t es inv free =
@@ -387,12 +423,13 @@ module _ {B : Type 0} (same : B → B → Bool) (equal : IsEquality same) (membe
 
   packet_step : (t : Plan B) (from : ℕ) (kind : Kind B) → St t → Fr t → Sent (all t) from kind → To t (on_packet same members n from kind t)
   packet_step t from (Prepare b floor) inv free s = prepare_step t from b floor inv free (record { by = from; is = s })
-  packet_step t from (Promise b votes) inv free s = promise_step t from b votes inv free s t.node.proposer.role refl
+  packet_step t from (Promise b floor votes) inv free s = promise_step t from b floor votes inv free s t.node.proposer.role refl
   packet_step t from (Accept v) inv free s = accept_step t from v inv free (record { by = from; is = s })
   packet_step t from (Accepted v) inv free s = accepted_step t from v inv free s
   packet_step t from (Nack b p) inv free s = nack_step t b p inv free
   packet_step t from (Forward es) inv free s = forward_step t es inv free
-  packet_step t from (Ask slot) inv free s = ask_step t from slot inv free
+  packet_step t from (Ask slot) inv free s = ask_step t from slot inv free (given_by t.node.rows.snapshot slot)
+  packet_step t from (Snapshot k) inv free s = stood t inv free
   packet_step t from (Learned slot e) inv free s = learned_step t slot e inv free (record { by = from; is = s })
 
   -- Deliver
@@ -420,7 +457,7 @@ module _ {B : Type 0} (same : B → B → Bool) (equal : IsEquality same) (membe
           going = subst (λ l. Kept members at n t.node (all t) (begin members n b floor t).node l) (append_assoc before t.packets _)
               (begin_moved members at n t.node (all t) b floor many inv (start_may t.node.rows.promised t.node.proposer.seen) refl);
           agrees = λ d. d;
-          stays = record { boot = refl; up = refl; log = refl; news = refl; acts = refl };
+          stays = record { boot = refl; base = refl; up = refl; log = refl; news = refl; acts = refl };
         };
         free = tt;
       })
@@ -447,13 +484,13 @@ module _ {B : Type 0} (same : B → B → Bool) (equal : IsEquality same) (membe
       (λ a. offers_quiet sent learned vs (λ w h. ok w (there h)) k kind a)
       (sent_cases (if is_learned v.slot learned then [] else to_others members n (Accept v)) (accepts_again members n learned vs) s)
 
-  pub again_quiet : (promised : ℕ → Option Ballot) (o : Option Ballot) (sent : List (Packet B)) (learned : List (LearnedEntry B)) (r : Role B)
-      → RoleOk promised o sent n r → (k : ℕ) (kind : Kind B) → Sent (again members n r learned) k kind → (k ≡ n) × QuietKind members sent n kind
-  again_quiet promised o sent learned Idle ok k kind s = absurd (sent_nil k kind s)
-  again_quiet promised o sent learned (Preparing b floor cs) ok k kind s =
+  pub again_quiet : (promised : ℕ → Option Ballot) (o : Option Ballot) (f : ℕ) (sent : List (Packet B)) (learned : List (LearnedEntry B)) (r : Role B)
+      → RoleOk promised o f sent n r → (k : ℕ) (kind : Kind B) → Sent (again members n r learned) k kind → (k ≡ n) × QuietKind members sent n kind
+  again_quiet promised o f sent learned Idle ok k kind s = absurd (sent_nil k kind s)
+  again_quiet promised o f sent learned (Preparing b floor cs) ok k kind s =
       let z = sent_to_some n (filter (λ j. not (is_counted cs j)) (others n members)) (Prepare b floor) k kind s in
       (z.0, subst (λ y. QuietKind members sent n y) z.1 (ok.owner, ok.asked))
-  again_quiet promised o sent learned (Leading b next table) ok k kind s =
+  again_quiet promised o f sent learned (Leading b next table) ok k kind s =
       offers_quiet sent learned table (λ v h. (ap (λ (z : Ballot). z.node) (ok.owned v h) ∙ ok.owner, ok.own v h)) k kind s
 
   asks_step : (t : Plan B) → St t → Fr t → To t (ask members n t)
@@ -468,7 +505,7 @@ module _ {B : Type 0} (same : B → B → Bool) (equal : IsEquality same) (membe
   tick_step t inv free =
       let a =
       sends t (again members n t.node.proposer.role t.node.learner.learned) inv free
-      (again_quiet (now t) t.node.rows.promised (all t) t.node.learner.learned t.node.proposer.role (mine t inv).role) in
+      (again_quiet (now t) t.node.rows.promised (own t) (all t) t.node.learner.learned t.node.proposer.role (mine t inv).role) in
       let b = push_step (send (again members n t.node.proposer.role t.node.learner.learned) t) a.path.going.inv a.free in
       then_to a (then_to b (asks_step (push same members n (send (again members n t.node.proposer.role t.node.learner.learned) t)) b.path.going.inv b.free))
 

@@ -1,5 +1,5 @@
 -- Each event in every world makes of its node what it would make of one that applies at once.
-use Rattle.std.proofs.Common.{◌≡◌, ⊎_elim, ℕ, suc, ◌-◌, ◌≤◌, Bool, true, false, not, ◌&&◌, refl, sym, ap, subst, arith}
+use Rattle.std.proofs.Common.{◌≡◌, ⊎_elim, ℕ, suc, ◌<◌, ◌-◌, ◌≤◌, Bool, true, false, not, ◌&&◌, refl, sym, ap, subst, arith}
 use Rattle.std.proofs.Common.{List, [], ◌∷◌, ◌++◌, length, Option, Some, None}
 use Rattle.std.specs.Prelude.{if◌then◌else◌}
 use Rattle.std.proofs.lemmas.Bool.{cond_both, and_parts, cases_eq}
@@ -7,7 +7,7 @@ use Rattle.cluster_world.proofs.Invariant.{Sent, PreparingOk, promises}
 use Rattle.cluster_world.proofs.InvariantKept.{sent_left}
 use Rattle.cluster_world.proofs.Growth.{tells_grows}
 use Rattle.cluster_world.proofs.WithNode.{with_node}
-use Rattle.cluster_world.proofs.Reports.{all_called}
+use Rattle.cluster_world.proofs.Reports.{all_called, lowest_has}
 use Rattle.cluster_world.proofs.Proposals.{State, FreeAt}
 use Rattle.cluster_world.proofs.Events.{Way, role_path, free_same, propose_new_step, lead_step, promised_ok, mine, sends, again_quiet, pending_step}
 use Rattle.cluster_world.proofs.EveryWorld.{WorldOk, world_ok, start_good, among_has, within, node_same, node_other, plain_at}
@@ -18,17 +18,19 @@ use Rattle.cluster_world.proofs.AtOnce.{proposes, recovers}
 use Rattle.paxos_packets.specs.Ballot.{ballot_sound, same_ballot}
 use Rattle.paxos_packets.specs.Members.{is_majority}
 use Rattle.paxos_packets.specs.Packet.{packet, to_others}
-use Rattle.paxos_packets.specs.Vote.{votes_from}
+use Rattle.paxos_packets.specs.Snapshot.{floor_in}
+use Rattle.paxos_packets.specs.Snapshot as taken
 use Rattle.paxos_packets.specs.declared.ballot.Ballot.{Ballot}
 use Rattle.paxos_packets.specs.declared.entry.Entry.{Entry}
 use Rattle.paxos_packets.specs.declared.packet.Kind.{Kind}
 use Rattle.paxos_packets.specs.declared.packet.Packet.{Packet}
 use Rattle.paxos_packets.specs.declared.vote.Vote.{Vote}
-use Rattle.paxos_packets.specs.declared.packet.Kind.TheVariants.{Prepare, Promise, Accept, Accepted, Nack, Forward, Ask, Learned}
-use Rattle.paxos_acceptor.specs.Acceptor.{may_promise, may_accept}
+use Rattle.paxos_packets.specs.declared.packet.Kind.TheVariants.{Prepare, Promise, Accept, Accepted, Nack, Forward, Ask, Learned, Snapshot}
+use Rattle.paxos_acceptor.specs.Acceptor.{may_promise, may_accept, promise_of, given_by}
 use Rattle.paxos_proposer.specs.declared.promises.CountedPromise.{CountedPromise}
 use Rattle.paxos_proposer.specs.Role.{Role, Idle, Preparing, Leading}
 use Rattle.paxos_proposer.specs.Proposer.{new_ballot, is_leading}
+use Rattle.paxos_proposer.specs.Promises.{lowest}
 use Rattle.paxos_proposer.specs.Reports.{is_counted, reports, past_reports, called_for}
 use Rattle.paxos_learner.specs.Learner.{run_from}
 use Rattle.paxos_node.specs.declared.event.Event.{Event}
@@ -37,7 +39,7 @@ use Rattle.paxos_planning.specs.Node.{NodeState, Plan, log_length}
 use Rattle.paxos_planning.specs.Plan.{with_role, with_pending, begun, send, promise, vote as vote_at_end, count as count_at_end, cast as cast_at_end}
 use Rattle.paxos_planning.specs.Proposals.{stands, forwarded, propose as propose_at_end, propose_new as propose_new_at_end, lead as lead_at_end}
 use Rattle.paxos_planning.specs.Proposals.{propose_each as propose_each_at_end, push as push_at_end}
-use Rattle.paxos_planning.specs.Replies.{saw, refuse, told_from, on_nack, count_promise as count_promise_at_end, on_promise_as as on_promise_as_at_end}
+use Rattle.paxos_planning.specs.Replies.{saw, refuse, show, cast_or_show as cast_or_show_at_end, answer_ask, on_nack, count_promise as count_promise_at_end, on_promise_as as on_promise_as_at_end}
 use Rattle.paxos_planning.specs.Replies.{on_packet as on_packet_at_end}
 use Rattle.paxos_node.specs.Events.{takes, with_item, has_room, new_lost, on_event, owner, possible, outcome_of}
 use Rattle.paxos_planning.specs.Ticking.{again, ask}
@@ -46,6 +48,7 @@ use Rattle.paxos_node.specs.Events.{on_take as on_take_at_end, suspected as susp
 use Rattle.paxos_planning.specs.Ticking.{on_tick as on_tick_at_end}
 use Rattle.paxos_node.specs.Applying.{settle}
 use Rattle.cluster_world.specs.AtOnce as now
+use Rattle.cluster_world.specs.Has.{Has}
 use Rattle.cluster_world.specs.AtOnce.{AppliesAsAtOnce}
 use Rattle.cluster_world.specs.World.{World, node_at, put_node, first_world, was_sent, next, played}
 use Rattle.paxos_packets.specs.Body.{IsEquality}
@@ -92,64 +95,79 @@ module _ {B : Type 0} (same : B → B → Bool) (equal : IsEquality same) (membe
 
   -- packets
 
-  leads : (t : Plan B) (b : Ballot) (floor : ℕ) (cs : List (CountedPromise B)) → St t
-      → PreparingOk (promises (with_node at n t.node)) t.node.rows.promised (all t) n b floor cs → is_majority members (is_counted cs) ≡ true
-      → AtRest t.node → Agrees t (now.lead same members n b floor (reports cs) t) (lead_at_end same members n b floor (reports cs) t)
-  leads t b floor cs inv ok most rest =
+  abbrev own : Plan B → ℕ
+  own t = floor_in t.node.rows.snapshot
+
+  leads : (t : Plan B) (b : Ballot) (first : ℕ) (cs : List (CountedPromise B)) → St t
+      → PreparingOk (promises (with_node at n t.node)) t.node.rows.promised (all t) n b first cs → is_majority members (is_counted cs) ≡ true
+      → AtRest t.node
+      → Agrees t (now.lead same members n b (lowest first (own t) cs) (reports cs) t)
+      (lead_at_end same members n b (lowest first (own t) cs) (reports cs) t)
+  leads t b first cs inv ok most rest =
       let a =
-      recovers same equal members many at n before (called_for floor (reports cs)) u b floor [] g.going.inv refl
-      (all_called members (promises (with_node at n u.node)) (all u) b floor cs most (λ c h. tells_grows g.going.grows (ok.kept c h))
-      (past_reports floor (reports cs) - floor) floor (omega arith)) rest in
+      recovers same equal members many at n before (called_for low (reports cs)) u b low [] g.going.inv refl
+      (all_called members (promises (with_node at n u.node)) (all u) b first cs most (λ c h. tells_grows g.going.grows (ok.kept c h)) low is.0
+      is.2 (past_reports low (reports cs) - low) low (omega arith)) rest in
       record { is = a.is; calm = record { learned = a.calm.learned; log = a.calm.log; pending = a.calm.pending } }
     where
+      low : ℕ
+      low = lowest first (own t) cs
+
+      is : (first ≤ low) × (own t < low) × ((c : CountedPromise B) → Has cs c → c.floor < low)
+      is = lowest_has first (own t) cs
+
       u : Plan B
-      u = record t { node = with_role (Leading b floor []) t.node }
+      u = record t { node = with_role (Leading b low []) t.node }
 
       g : Way same equal members many at n before t.node.taken t u
       g =
-          role_path same equal members many at n before t inv (Leading b floor []) t.node.proposer.seen
+          role_path same equal members many at n before t inv (Leading b low []) t.node.proposer.seen
           (record {
             owner = ok.owner;
             exact = ok.exact;
+            high = is.1;
             made = λ v p e. absurd (ok.none v p e);
             own = λ v h. absurd (elim h [ ]);
             owned = λ v h. absurd (elim h [ ]);
           })
 
-  counts_promise : (t : Plan B) (b : Ballot) (floor : ℕ) (cs : List (CountedPromise B)) → St t
-      → PreparingOk (promises (with_node at n t.node)) t.node.rows.promised (all t) n b floor cs → AtRest t.node
-      → Agrees t (now.count_promise same members n b floor cs t) (count_promise_at_end same members n b floor cs t)
-  counts_promise t b floor cs inv ok rest = go (is_majority members (is_counted cs)) refl
+  counts_promise : (t : Plan B) (b : Ballot) (first : ℕ) (cs : List (CountedPromise B)) → St t
+      → PreparingOk (promises (with_node at n t.node)) t.node.rows.promised (all t) n b first cs → AtRest t.node
+      → Agrees t (now.count_promise same members n b first (own t) cs t) (count_promise_at_end same members n b first (own t) cs t)
+  counts_promise t b first cs inv ok rest = go (is_majority members (is_counted cs)) refl
     where
+      low : ℕ
+      low = lowest first (own t) cs
+
       go : (m : Bool) → is_majority members (is_counted cs) ≡ m
           → Agrees t
-          (if m then now.push same members n (now.lead same members n b floor (reports cs) t)
-          else record t { node = with_role (Preparing b floor cs) t.node })
-          (if m then push_at_end same members n (lead_at_end same members n b floor (reports cs) t)
-          else record t { node = with_role (Preparing b floor cs) t.node })
+          (if m then now.push same members n (now.lead same members n b low (reports cs) t)
+          else record t { node = with_role (Preparing b first cs) t.node })
+          (if m then push_at_end same members n (lead_at_end same members n b low (reports cs) t)
+          else record t { node = with_role (Preparing b first cs) t.node })
       go true e =
-          let a = leads t b floor cs inv ok e rest in
-          let s = lead_step same equal members many at n before t b floor cs inv ok e in
+          let a = leads t b first cs inv ok e rest in
+          let s = lead_step same equal members many at n before t b first cs inv ok e in
           then_agrees (λ z. now.push same members n z) a
-          (pushes (lead_at_end same members n b floor (reports cs) t) s.path.going.inv s.free (calm_rest a.calm rest))
+          (pushes (lead_at_end same members n b low (reports cs) t) s.path.going.inv s.free (calm_rest a.calm rest))
       go false e = record { is = refl; calm = record { learned = refl; log = refl; pending = refl } }
 
-  hears_promise : (t : Plan B) (from : ℕ) (b : Ballot) (votes : List (Vote B)) → St t → Sent (all t) from (Promise b votes) → AtRest t.node
-      → (r : Role B) → t.node.proposer.role ≡ r
-      → Agrees t (now.on_promise_as same members n from b votes r t) (on_promise_as_at_end same members n from b votes r t)
-  hears_promise t from b votes inv s rest Idle is = agrees_here t
-  hears_promise t from b votes inv s rest (Leading c next table) is = agrees_here t
-  hears_promise t from b votes inv s rest (Preparing c floor cs) is = go (same_ballot b c && not (is_counted cs from)) refl
+  hears_promise : (t : Plan B) (from : ℕ) (b : Ballot) (floor : ℕ) (votes : List (Vote B)) → St t → Sent (all t) from (Promise b floor votes)
+      → AtRest t.node → (r : Role B) → t.node.proposer.role ≡ r
+      → Agrees t (now.on_promise_as same members n from b floor votes r t) (on_promise_as_at_end same members n from b floor votes r t)
+  hears_promise t from b floor votes inv s rest Idle is = agrees_here t
+  hears_promise t from b floor votes inv s rest (Leading c next table) is = agrees_here t
+  hears_promise t from b floor votes inv s rest (Preparing c first cs) is = go (same_ballot b c && not (is_counted cs from)) refl
     where
       more : List (CountedPromise B)
-      more = cs ++ record { node = from; votes = votes } ∷ []
+      more = cs ++ record { node = from; floor = floor; votes = votes } ∷ []
 
       go : (m : Bool) → (same_ballot b c && not (is_counted cs from)) ≡ m
-          → Agrees t (if m then now.count_promise same members n c floor more t else t)
-          (if m then count_promise_at_end same members n c floor more t else t)
+          → Agrees t (if m then now.count_promise same members n c first (own t) more t else t)
+          (if m then count_promise_at_end same members n c first (own t) more t else t)
       go true e =
-          counts_promise t c floor more inv
-          (promised_ok same equal members many at n before t from b votes inv s c floor cs is
+          counts_promise t c first more inv
+          (promised_ok same equal members many at n before t from b floor votes inv s c first cs is
           (ballot_sound b c (and_parts (same_ballot b c) (not (is_counted cs from)) e).0)) rest
       go false e = agrees_here t
 
@@ -162,22 +180,25 @@ module _ {B : Type 0} (same : B → B → Bool) (equal : IsEquality same) (membe
 
   ends_packet : (t : Plan B) (from : ℕ) (kind : Kind B) → St t → Fr t → Sent (all t) from kind → AtRest t.node
       → Ends (now.on_packet same members n from kind t) (on_packet_at_end same members n from kind t)
-  ends_packet t from (Prepare b floor) inv free s rest =
-      cond_both (may_promise t.node.rows.promised b)
-      (send (packet n (Promise b (votes_from floor t.node.rows.votes)) from ∷ []) (promise b t)) (refuse n from b t) (λ u. Ends u u)
-      (λ e. settle_rest n (send (packet n (Promise b (votes_from floor t.node.rows.votes)) from ∷ []) (promise b t)) rest)
+  ends_packet t from (Prepare b first) inv free s rest =
+      cond_both (may_promise t.node.rows.promised b) (send (packet n (promise_of t.node.rows b first) from ∷ []) (promise b t))
+      (refuse n from b t) (λ u. Ends u u)
+      (λ e. settle_rest n (send (packet n (promise_of t.node.rows b first) from ∷ []) (promise b t)) rest)
       (λ e. refuses t from b rest)
-  ends_packet t from (Promise b votes) inv free s rest = end_agrees n rest (hears_promise t from b votes inv s rest t.node.proposer.role refl)
-  ends_packet t from (Accept v) inv free s rest = go (may_accept t.node.rows.promised v.ballot)
+  ends_packet t from (Promise b floor votes) inv free s rest =
+      end_agrees n rest (hears_promise t from b floor votes inv s rest t.node.proposer.role refl)
+  ends_packet t from (Accept v) inv free s rest = go (may_accept t.node.rows.promised v.ballot) (given_by t.node.rows.snapshot v.slot)
     where
       counted : Plan B
       counted = count_at_end same members n v (vote_at_end v t)
 
-      go : (m : Bool) → Ends (if m then now.cast same members n v t else refuse n from v.ballot t)
-          (if m then cast_at_end same members n v t else refuse n from v.ballot t)
-      go true =
+      go : (m : Bool) (given : Option taken.Snapshot)
+          → Ends (if m then now.cast_or_show same members n from given v t else refuse n from v.ballot t)
+          (if m then cast_or_show_at_end same members n from given v t else refuse n from v.ballot t)
+      go true None =
           apply_send n (to_others members n (Accepted v)) (run_from (suc (log_length counted.node)) counted.node.learner.learned) counted
-      go false = refuses t from v.ballot rest
+      go true (Some k) = settle_rest n (show n from k t) rest
+      go false given = refuses t from v.ballot rest
   ends_packet t from (Accepted v) inv free s rest = refl
   ends_packet t from (Nack b p) inv free s rest = settle_rest n (on_nack b p t) rest
   ends_packet t from (Forward es) inv free s rest =
@@ -188,7 +209,12 @@ module _ {B : Type 0} (same : B → B → Bool) (equal : IsEquality same) (membe
         calm = cond_both (is_leading t.node.proposer.role) (propose_each_at_end same members n es t) t (λ u. Calm t u) (λ d. a.calm)
             (λ d. calm_here t);
       })
-  ends_packet t from (Ask slot) inv free s rest = settle_rest n (send (told_from n from slot t.node.learner.learned) t) rest
+  ends_packet t from (Ask slot) inv free s rest = answered (given_by t.node.rows.snapshot slot)
+    where
+      answered : (given : Option taken.Snapshot) → Ends (answer_ask n from slot given t) (answer_ask n from slot given t)
+      answered None = settle_rest n (answer_ask n from slot None t) rest
+      answered (Some k) = settle_rest n (answer_ask n from slot (Some k) t) rest
+  ends_packet t from (Snapshot k) inv free s rest = settle_rest n t rest
   ends_packet t from (Learned slot e) inv free s rest = refl
 
   pub ends_deliver : (t : Plan B) (from : ℕ) (kind : Kind B) → St t → Fr t → Sent (all t) from kind → AtRest t.node
@@ -205,21 +231,21 @@ module _ {B : Type 0} (same : B → B → Bool) (equal : IsEquality same) (membe
 
   pub ends_start : (t : Plan B) → AtRest t.node → Ends (on_start members n t) (on_start members n t)
   ends_start t rest =
-      cond_both (starts n t.node) (begin members n b floor t) t (λ u. Ends u u) (λ e. settle_rest n (begin members n b floor t) rest)
+      cond_both (starts n t.node) (begin members n b first t) t (λ u. Ends u u) (λ e. settle_rest n (begin members n b first t) rest)
       (λ e. settle_rest n t rest)
     where
       b : Ballot
       b = new_ballot n t.node.rows.promised t.node.proposer
 
-      floor : ℕ
-      floor = suc (log_length t.node)
+      first : ℕ
+      first = suc (log_length t.node)
 
   pub ends_tick : (t : Plan B) → St t → Fr t → AtRest t.node
       → Ends (now.on_tick same members n t) (on_tick_at_end same members n t)
   ends_tick t inv free rest =
       let a =
       sends same equal members many at n before t (again members n t.node.proposer.role t.node.learner.learned) inv free
-      (again_quiet same equal members many at n before (promises (with_node at n t.node)) t.node.rows.promised (all t)
+      (again_quiet same equal members many at n before (promises (with_node at n t.node)) t.node.rows.promised (own t) (all t)
       t.node.learner.learned t.node.proposer.role (mine same equal members many at n before t inv).role) in
       let u = send (again members n t.node.proposer.role t.node.learner.learned) t in
       let p = pushes u a.path.going.inv a.free rest in

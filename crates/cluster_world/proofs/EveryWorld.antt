@@ -1,6 +1,6 @@
 -- The invariant holds in the first world, and each event keeps it.
 use Rattle.std.proofs.Common.{◌≡◌, ⊎_elim, ℕ, zero, suc, ◌<◌, ◌≤◌, Bool, true, false, ◌&&◌, refl, sym, ap, ◌∙◌, subst, arith, List, [], ◌∷◌}
-use Rattle.std.proofs.Common.{◌++◌, length, Option}
+use Rattle.std.proofs.Common.{◌++◌, length, Option, Some, None}
 use Rattle.std.proofs.Math.Path.{fun_ext}
 use Rattle.std.specs.Prelude.{slice_index_or}
 use Rattle.std.proofs.lemmas.List.{append-nil, get_or-set_same, get_or-set_other, get_or_past}
@@ -16,6 +16,7 @@ use Rattle.cluster_world.proofs.Events.{ToBy, take_step, tick_step, start_step, 
 use Rattle.cluster_world.proofs.Settling.{Logged, logged_nil, Good, Goes, down_goes, start_goes, step_goes, step_logged}
 use Rattle.cluster_world.specs.Has.{Has, there}
 use Rattle.paxos_packets.specs.Body.{IsEquality}
+use Rattle.paxos_packets.specs.Snapshot.{floor_in}
 use Rattle.paxos_packets.specs.declared.entry.Entry.{Entry}
 use Rattle.paxos_packets.specs.declared.packet.Kind.{Kind}
 use Rattle.paxos_packets.specs.declared.packet.Packet.{Packet}
@@ -33,19 +34,22 @@ pub record WorldOk {B : Type 0} (members : ℕ) (w : World B) : Type 0 where
   pub inv : Inv members (node_at w.nodes) w.sent
   pub free : (k : ℕ) → RoleFree members (promises (node_at w.nodes)) w.sent (node_at w.nodes k).proposer.role
   pub log : (k : ℕ) → Logged members w.sent (node_at w.nodes k).applied
+  -- no node has a snapshot
+  pub plain : (k : ℕ) → (node_at w.nodes k).rows.snapshot ≡ None
 
 -- the first world
 
 -- a node that has done nothing yet
 pub record Plain {B : Type 0} (x : NodeState B) : Type 0 where
   pub votes : x.rows.votes ≡ []
+  pub snapshot : x.rows.snapshot ≡ None
   pub role : x.proposer.role ≡ Idle
   pub heard : x.learner.heard ≡ []
   pub learned : x.learner.learned ≡ []
   pub applied : x.applied ≡ []
 
 plain_absent : {B : Type 0} → Plain {B = B} absent
-plain_absent = record { votes = refl; role = refl; heard = refl; learned = refl; applied = refl }
+plain_absent = record { votes = refl; snapshot = refl; role = refl; heard = refl; learned = refl; applied = refl }
 
 plain_push : {B : Type 0} (xs : List (NodeState B)) (x : NodeState B) → Plain x → ((k : ℕ) → Plain (slice_index_or xs k absent)) → (k : ℕ)
     → Plain (slice_index_or (xs ++ x ∷ []) k absent)
@@ -57,7 +61,7 @@ plain_push (y ∷ ys) x p h (suc k) = plain_push ys x p (λ j. h (suc j)) k
 plain_founded : {B : Type 0} (n k : ℕ) → Plain {B = B} (slice_index_or (founded n) k absent)
 plain_founded zero k = plain_absent
 plain_founded (suc n) k =
-    plain_push (founded n) (started (suc n) first_rows) (record { votes = refl; role = refl; heard = refl; learned = refl; applied = refl })
+    plain_push (founded n) (started (suc n) first_rows) (record { votes = refl; snapshot = refl; role = refl; heard = refl; learned = refl; applied = refl })
     (λ j. plain_founded n j) k
 
 pub plain_at : {B : Type 0} (n k : ℕ) → Plain {B = B} (node_at (founded n) k)
@@ -79,11 +83,12 @@ plain_ok members promised k x p =
       rows =
           record {
             reached = λ w s. absurd (sent_nil k _ s);
-            tops = λ w s. absurd (sent_nil k _ s);
+            tops = λ w s l. absurd (sent_nil k _ s);
+            above = λ s e u h. absurd (in_none x.rows.votes u p.votes h);
             low = λ u h. absurd (in_none x.rows.votes u p.votes h);
             known = λ u h. absurd (in_none x.rows.votes u p.votes h);
           };
-      role = subst (λ r. Rattle.cluster_world.proofs.Invariant.RoleOk promised x.rows.promised [] k r) (sym p.role) tt;
+      role = subst (λ r. Rattle.cluster_world.proofs.Invariant.RoleOk promised x.rows.promised (floor_in x.rows.snapshot) [] k r) (sym p.role) tt;
       heard = λ t i j q. absurd (in_none x.learner.heard t p.heard i);
       learned = λ f i. absurd (in_none x.learner.learned f p.learned i);
     }
@@ -99,7 +104,7 @@ first_ok {B} members =
           voted = λ k v s. absurd (sent_nil k _ s);
           asked_one = λ b f g p q. absurd (nothing_sent p);
           asked_low = λ b f p. absurd (nothing_sent p);
-          told = λ k b votes s. absurd (sent_nil k _ s);
+          told = λ k b floor votes s. absurd (sent_nil k _ s);
           learned = λ s e p. absurd (nothing_sent p);
         };
         nodes =
@@ -111,6 +116,7 @@ first_ok {B} members =
           subst (λ (r : Role B). RoleFree members (promises {B = B} (node_at (founded members))) [] r)
           (sym (plain_at {B = B} members k).role) tt;
       log = λ k. subst (λ l. Logged members [] l) (sym (plain_at {B = B} members k).applied) (logged_nil members []);
+      plain = λ k. (plain_at {B = B} members k).snapshot;
     }
 
 -- what is among the packets sent was sent
@@ -248,6 +254,11 @@ module _ {B : Type 0} (same : B → B → Bool) (equal : IsEquality same) (membe
             (subst (λ (x : NodeState B). Logged members later x.applied) (sym (node_same w.nodes k o.node l)) g.goes.log))
             (λ s. subst (λ (x : NodeState B). Logged members later x.applied) (sym (node_other w.nodes k o.node j s))
             (record { at = λ i f h. chosen_grows g.goes.going.grows (chosen_later ((ok.log j).at i f h)) }))
+            (cases_eq j k);
+        plain = λ j. ⊎_elim
+            (λ (s : j ≡ k). ap (λ i. (node_at (put_node w.nodes k o.node) i).rows.snapshot) s
+            ∙ (ap (λ (x : NodeState B). x.rows.snapshot) (node_same w.nodes k o.node l) ∙ (g.goes.base ∙ ok.plain k)))
+            (λ s. ap (λ (x : NodeState B). x.rows.snapshot) (node_other w.nodes k o.node j s) ∙ ok.plain j)
             (cases_eq j k);
       }
     where

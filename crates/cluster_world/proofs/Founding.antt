@@ -8,16 +8,15 @@ use Rattle.paxos_packets.specs.declared.entry.Entry.{Entry}
 use Rattle.paxos_packets.specs.declared.entry.Entry.TheVariants.{Boot}
 use Rattle.paxos_packets.specs.declared.transport.Transport.{Transport}
 use Rattle.paxos_node.specs.Applying.{started}
-use Rattle.paxos_planning.specs.Node.{NodeState}
 use Rattle.replica_machine.specs.Replay.{Machine}
-use Rattle.replica_follower.specs.Following.{Followed}
+use Rattle.replica_follower.specs.Following.{Followed, Follows}
 use Rattle.replica_follower.specs.Handed.{said_in}
-use Rattle.cluster_world.specs.Members.{MemberState, nodes_of, machines_of, AreMembers, held_of}
-use Rattle.cluster_world.specs.StandsAt.{told_by, machine_at, Attends, StandsIn, HaveContent}
-use Rattle.cluster_world.specs.World.{founded, first_boots, first_world}
-use Rattle.cluster_world.specs.Founding.{HasBegun, AreFounded, AllAttend, AreAlike, NoneGivenUp}
-use Rattle.cluster_world.proofs.Replacing.{get_map, get_unmap, some_same}
-use Rattle.cluster_world.proofs.Worlds.{node_of_get}
+use Rattle.cluster_world.specs.Members.{MemberState, machines_of, AreMembers, held_of}
+use Rattle.cluster_world.specs.StandsAt.{told_by, machine_at, Shows, LoadsFirst, StandsIn}
+use Rattle.cluster_world.specs.World.{founded, first_boots, first_world, node_at}
+use Rattle.cluster_world.specs.Founding.{HasBegun, AreFounded, AllFollow, NoneGivenUp}
+use Rattle.cluster_world.proofs.Replacing.{get_unmap, some_same}
+use Rattle.cluster_world.proofs.EveryWorld.{plain_at}
 
 -- an element of a list with one more at its end
 pub get_last : {A : Type 0} (xs : List A) (x : A) (i : ℕ) (y : A) → slice_get (xs ++ x ∷ []) i ≡ Some y
@@ -50,11 +49,11 @@ module _ {B M Y : Type 0} (members : ℕ) where
       longer : length (list ++ s ∷ []) ≡ suc (length list)
       longer = let l = length-append list (s ∷ []) in omega (arith, l)
 
-pub attend_more : {B M S Y : Type 0} (content : M → S) (m : Machine B S Y) (list : List (MemberState B M Y)) (s : MemberState B M Y)
-    → AllAttend content m list → Attends content m s.node s.machine → AllAttend content m (list ++ s ∷ [])
-attend_more {B} {M} {S} {Y} content m list s all a i x g =
+pub follow_more : {B M S Y : Type 0} (content : M → S) (m : Machine B S Y) (list : List (MemberState B M Y)) (s : MemberState B M Y)
+    → AllFollow content m list → Follows content m [] s.machine → AllFollow content m (list ++ s ∷ [])
+follow_more {B} {M} {S} {Y} content m list s all a i x g =
     ⊎_elim (λ h. all i x h)
-    (λ (h : (i ≡ length list) × (x ≡ s)). subst (λ (z : MemberState B M Y). Attends content m z.node z.machine) (sym h.1) a)
+    (λ (h : (i ≡ length list) × (x ≡ s)). subst (λ (z : MemberState B M Y). Follows content m [] z.machine) (sym h.1) a)
     (get_last list s i x g)
 
 pub are_members : {B M Y : Type 0} (members : ℕ) (list : List (MemberState B M Y)) (made : List (Entry B)) → AreFounded members list made
@@ -62,29 +61,42 @@ pub are_members : {B M Y : Type 0} (members : ℕ) (list : List (MemberState B M
 are_members members list made f n =
     record { count = n; each = λ i s g. let b = f.each i s g in (b.me, b.members_are, b.node) }
 
-pub stands_first : {B M S Y : Type 0} (content : M → S) (m : Machine B S Y) (members : ℕ) (list : List (MemberState B M Y)) (made : List (Entry B))
-    → AreFounded members list made → length list ≡ members → AllAttend content m list
-    → StandsIn content m (held_of members list [] made) (first_world members)
-stands_first {B} {M} {S} {Y} content m members list made f n all =
+-- a node that was founded has applied nothing
+none_applied : {B : Type 0} (n k : ℕ) → (node_at {B = B} (founded n) k).applied ≡ []
+none_applied {B} n k = (plain_at {B = B} n k).applied
+
+pub shows_first : {B M Y : Type 0} (members : ℕ) (list : List (MemberState B M Y)) (made : List (Entry B)) (first : List ℕ)
+    → AreFounded members list made → length list ≡ members → Shows (held_of members list [] made first) (first_world members)
+shows_first {B} {M} {Y} members list made first f n =
     record {
       nodes = f.nodes ∙ ap (λ k. founded k) n;
       sent = refl;
       made = f.made_is ∙ ap (λ k. first_boots k) n;
+      logs =
+          λ i g h u.
+          let s = get_unmap (λ (z : MemberState B M Y). z.machine) list i g h in
+          ap (λ (z : Followed B M Y). z.log.applied) (sym s.2)
+          ∙ ((f.each i s.0 s.1).log
+          ∙ sym (ap (λ ns. (node_at ns (suc i)).applied) f.nodes ∙ none_applied {B = B} (length list) (suc i)));
+    }
+
+pub stands_first : {B M S Y : Type 0} (content : M → S) (loaded : List ℕ → Option S) (m : Machine B S Y) (members : ℕ)
+    (list : List (MemberState B M Y)) (made : List (Entry B)) (first : List ℕ)
+    → AreFounded members list made → length list ≡ members → AllFollow content m list → LoadsFirst loaded m.first first
+    → StandsIn content loaded m (held_of members list [] made first) (first_world members)
+stands_first {B} {M} {S} {Y} content loaded m members list made first f n all loads =
+    record {
+      shows = shows_first members list made first f n;
       handed = λ t. told_at t.node t;
       own =
           λ i g h t d.
           let s = get_unmap (λ (z : MemberState B M Y). z.machine) list i g h in
           ap (λ (l : List _). said_in t l) (ap (λ (z : Followed B M Y). z.told) (sym s.2) ∙ (f.each i s.0 s.1).told);
-      attends =
+      follows =
           λ i g h.
           let s = get_unmap (λ (z : MemberState B M Y). z.machine) list i g h in
-          subst (λ (z : NodeState B × Followed B M Y). Attends content m z.0 z.1)
-          (λ j. (sym (node_of_get (nodes_of list) i s.0.node (get_map (λ (z : MemberState B M Y). z.node) list i s.0 s.1)) j, s.2 j))
-          (all i s.0 s.1);
-      had =
-          λ i g h.
-          let s = get_unmap (λ (z : MemberState B M Y). z.machine) list i g h in
-          inl (ap (λ (z : Followed B M Y). z.log) (sym s.2) ∙ (f.each i s.0 s.1).log);
+          subst (λ (z : Followed B M Y). Follows content m [] z) s.2 (all i s.0 s.1);
+      loads = loads;
     }
   where
     told_some : (o : Option (Followed B M Y)) (i : ℕ) (t : Transport) → slice_get (machines_of list) i ≡ o → told_by o t ≡ []
@@ -103,11 +115,10 @@ none_given_up members list made f i g h =
     let s = get_unmap (λ (z : MemberState _ _ _). z.machine) list i g h in
     ap (λ (z : Followed _ _ _). z.given_up) (sym s.2) ∙ (f.each i s.0 s.1).alive
 
--- the content that all machines have
-pub content_of_all : {M S : Type 0} (content : M → S) (machines : List M) (n : ℕ) → length machines ≡ n → 3 ≤ n → AreAlike content machines
-    → (first : S) × HaveContent content first machines
-content_of_all content [] n e l a = absurd (none e l)
+-- a list of some has a first one
+pub first_of : {A : Type 0} (xs : List A) (n : ℕ) → length xs ≡ n → 3 ≤ n → (x : A) × (slice_get xs 0 ≡ Some x)
+first_of [] n e l = absurd (none e l)
   where
     none : {k : ℕ} → 0 ≡ k → 3 ≤ k → ⊥
     none e l = omega arith
-content_of_all content (x ∷ xs) n e l a = (content x, λ i b h. a i 0 b x h refl)
+first_of (x ∷ xs) n e l = (x, refl)

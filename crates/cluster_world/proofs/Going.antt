@@ -23,6 +23,7 @@ use Rattle.cluster_world.proofs.Slots.{AreAfter, Ordered, new_ordered, behind_re
 use Rattle.cluster_world.specs.Has.{Has}
 use Rattle.paxos_packets.specs.Body.{IsEquality}
 use Rattle.paxos_packets.specs.Members.{IsMember, is_majority}
+use Rattle.paxos_packets.specs.Snapshot.{floor_in}
 use Rattle.paxos_packets.specs.Vote.{put_vote, put_votes}
 use Rattle.paxos_packets.specs.declared.ballot.Ballot.{Ballot}
 use Rattle.paxos_packets.specs.declared.entry.Entry.{Entry}
@@ -98,8 +99,8 @@ module _ {B : Type 0} (same : B → B → Bool) (equal : IsEquality same) (membe
       ok : WorldOk members q
       ok = world_ok same equal members two before
 
-      leading : LeadingOk z.rows.promised q.sent n ballot d.next vs
-      leading = subst (λ r. RoleOk (promises (node_at q.nodes)) z.rows.promised q.sent n r) role_z (ok.inv.nodes n).role
+      leading : LeadingOk z.rows.promised (floor_in z.rows.snapshot) q.sent n ballot d.next vs
+      leading = subst (λ r. RoleOk (promises (node_at q.nodes)) z.rows.promised (floor_in z.rows.snapshot) q.sent n r) role_z (ok.inv.nodes n).role
 
       slot_below : {p : SlotBallot} {j : ℕ} → VoteOf q.sent p j → p.ballot ≡ ballot
           → p.slot < d.next
@@ -118,6 +119,7 @@ module _ {B : Type 0} (same : B → B → Bool) (equal : IsEquality same) (membe
       record {
         up = ride.up;
         boot = refl;
+        base = refl;
         promised = d.promised;
         cast = d.votes;
         role = role_z;
@@ -207,6 +209,7 @@ module _ {B : Type 0} (same : B → B → Bool) (equal : IsEquality same) (membe
         up = ap (λ (x : NodeState B). x.up) e ∙ r.up;
         promised = ap (λ (x : NodeState B). x.rows.promised) e ∙ r.promised;
         votes_are = refl;
+        plain = ap (λ (x : NodeState B). x.rows.snapshot) e ∙ r.plain;
         own = subst (λ (x : NodeState B). HeardFrom ballot 0 s.number x.learner) (sym e) r.own;
         rests = subst (λ x. AtRest x) (sym e) r.rests;
       }

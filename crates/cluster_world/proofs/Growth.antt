@@ -76,20 +76,20 @@ safe_from_free e f =
       backs = λ k m q. record { reaches = (f.clear k m q).reaches; carries = λ w s l i. absurd ((f.clear k m q).never w s l i) };
     }
 
-pub tells_grows : {B : Type 0} {promised now : ℕ → Option Ballot} {sent later : List (Packet B)} {k : ℕ} {b : Ballot} {floor : ℕ}
+pub tells_grows : {B : Type 0} {promised now : ℕ → Option Ballot} {sent later : List (Packet B)} {k : ℕ} {b : Ballot} {first floor : ℕ}
     {votes : List (Vote B)}
-    → Grows promised now sent later → Tells promised sent k b floor votes → Tells now later k b floor votes
+    → Grows promised now sent later → Tells promised sent k b first floor votes → Tells now later k b first floor votes
 tells_grows {k = k} {b = b} g t =
     record {
       reaches = g.higher k b t.reaches;
-      told = λ w s l i. t.told w s l (g.still k w (reach_over t.reaches l) i);
+      told = λ w s f l i. t.told w s f l (g.still k w (reach_over t.reaches l) i);
       low = t.low;
       known = λ u h. known_grows g (t.known u h);
     }
 
-pub told_grows : {B : Type 0} {promised now : ℕ → Option Ballot} {sent later : List (Packet B)} {k : ℕ} {b : Ballot} {votes : List (Vote B)}
-    → Grows promised now sent later → Told promised sent k b votes → Told now later k b votes
-told_grows g t = record { floor = t.floor; asked = known_grows g t.asked; tells = tells_grows g t.tells }
+pub told_grows : {B : Type 0} {promised now : ℕ → Option Ballot} {sent later : List (Packet B)} {k : ℕ} {b : Ballot} {floor : ℕ}
+    {votes : List (Vote B)} → Grows promised now sent later → Told promised sent k b floor votes → Told now later k b floor votes
+told_grows g t = record { first = t.first; asked = known_grows g t.asked; tells = tells_grows g t.tells }
 
 pub chosen_grows : {B : Type 0} {members : ℕ} {promised now : ℕ → Option Ballot} {sent later : List (Packet B)} {slot : ℕ} {entry : Entry B}
     → Grows promised now sent later → IsChosen members sent slot entry → IsChosen members later slot entry
@@ -102,16 +102,16 @@ vote_of_grows g c = record { entry = c.entry; is = sent_grows g c.is }
 pub role_free_grows : {B : Type 0} (members : ℕ) {promised now : ℕ → Option Ballot} {sent later : List (Packet B)}
     → Grows promised now sent later → (r : Role B) → RoleFree members promised sent r → RoleFree members now later r
 role_free_grows members g Idle f = f
-role_free_grows members g (Preparing b floor promises) f = f
+role_free_grows members g (Preparing b first promises) f = f
 role_free_grows members g (Leading b next table) f = λ slot h l. free_grows g (f slot h l)
 
 -- a role stays if its own ballot gets no new Prepare and no new Accept
 pub role_grows : {B : Type 0} {promised now : ℕ → Option Ballot} {sent later : List (Packet B)} → Grows promised now sent later → (k : ℕ)
     → ((b : Ballot) → b.node ≡ k → (f : ℕ) → Known later (Prepare b f) → Known sent (Prepare b f))
-    → ((v : Vote B) → v.ballot.node ≡ k → Known later (Accept v) → Known sent (Accept v)) → (mine : Option Ballot) (r : Role B)
-    → RoleOk promised mine sent k r → RoleOk now mine later k r
-role_grows g k asks offers mine Idle ok = ok
-role_grows g k asks offers mine (Preparing b floor promises) ok =
+    → ((v : Vote B) → v.ballot.node ≡ k → Known later (Accept v) → Known sent (Accept v)) → (mine : Option Ballot) (own_floor : ℕ) (r : Role B)
+    → RoleOk promised mine own_floor sent k r → RoleOk now mine own_floor later k r
+role_grows g k asks offers mine own_floor Idle ok = ok
+role_grows g k asks offers mine own_floor (Preparing b first promises) ok =
     record {
       owner = ok.owner;
       exact = ok.exact;
@@ -120,10 +120,11 @@ role_grows g k asks offers mine (Preparing b floor promises) ok =
       none = λ v p e. ok.none v (offers v (ap (λ (z : Ballot). z.node) e ∙ ok.owner) p) e;
       kept = λ c h. tells_grows g (ok.kept c h);
     }
-role_grows g k asks offers mine (Leading b next table) ok =
+role_grows g k asks offers mine own_floor (Leading b next table) ok =
     record {
       owner = ok.owner;
       exact = ok.exact;
+      high = ok.high;
       made = λ v p e. ok.made v (offers v (ap (λ (z : Ballot). z.node) e ∙ ok.owner) p) e;
       own = λ v h. known_grows g (ok.own v h);
       owned = ok.owned;

@@ -1,5 +1,5 @@
 -- The laws at a world in code.
-use Rattle.std.proofs.Common.{◌≡◌, ◌⊎◌, ℕ, suc, ◌≤◌, ◌<◌, take, length, Bool, sym, ap, ◌∙◌, subst, List, ◌++◌, Some}
+use Rattle.std.proofs.Common.{◌≡◌, ◌⊎◌, ℕ, suc, ◌≤◌, ◌<◌, take, length, Bool, sym, ap, ◌∙◌, subst, List, ◌++◌, Option, Some}
 use Rattle.std.specs.Prelude.{slice_get, Result, Ok, Err, OnOk, IfErr}
 use Rattle.paxos_packets.specs.Body.{IsEquality}
 use Rattle.paxos_packets.specs.declared.entry.Entry.{Entry}
@@ -13,7 +13,7 @@ use Rattle.cluster_world.specs.Answers.{IsPresent}
 use Rattle.cluster_world.specs.Has.{Has}
 use Rattle.cluster_world.specs.Laws.{IsPrefixOf}
 use Rattle.cluster_world.specs.World.{World, node_at, played}
-use Rattle.cluster_world.specs.StandsAt.{Held, StandsIn, StandsAt}
+use Rattle.cluster_world.specs.StandsAt.{Held, Shows, ShowsAt, StandsAt}
 use Rattle.cluster_world.specs.Headline.{log_in, Agree, LogsAgree, AnswersAreSaid, MachinesFollow, TookEffectOnce, LossesWereCalledFor, NoneDisagrees}
 use Rattle.cluster_world.proofs.Agreeing.{learned_is_chosen, chosen_is_one, log_is_chosen, logs_are_prefixes, never_disagrees}
 use Rattle.cluster_world.proofs.Booting.{boots_were_had}
@@ -24,16 +24,16 @@ use Rattle.cluster_world.proofs.Waiting.{losts_were_suspected}
 -- a world in code that shows the nodes, the packets and what was made of a world
 
 abbrev with_shown : {B M Y : Type 0} → Held B M Y → List (NodeState B) → List (Packet B) → List (Entry B) → Held B M Y
-with_shown w nodes sent made = record { members = w.members; nodes = nodes; sent = sent; made = made; machines = w.machines }
+with_shown w nodes sent made = record { members = w.members; nodes = nodes; sent = sent; made = made; machines = w.machines; first = w.first }
 
-module _ {B M S Y : Type 0} (same : B → B → Bool) (equal : IsEquality same) (content : M → S) (m : Machine B S Y) where
+module _ {B M Y : Type 0} (same : B → B → Bool) (equal : IsEquality same) where
   -- what holds if nodes, packets and what was made are the world's holds of the world in code
-  over : (P : Held B M Y → Type 0) (w : Held B M Y) (v : World B) → StandsIn content m w v → P (with_shown w v.nodes v.sent v.made) → P w
+  over : (P : Held B M Y → Type 0) (w : Held B M Y) (v : World B) → Shows w v → P (with_shown w v.nodes v.sent v.made) → P w
   over P w v h p =
       subst (λ (z : List (NodeState B) × List (Packet B) × List (Entry B)). P (with_shown w z.0 z.1 z.2))
       (λ i. (sym h.nodes i, sym h.sent i, sym h.made i)) p
 
-  module _ (w : Held B M Y) (es : List (Event B)) (many : 3 ≤ w.members) (h : StandsAt same content m w es) where
+  module _ (w : Held B M Y) (es : List (Event B)) (many : 3 ≤ w.members) (h : ShowsAt same w es) where
     abbrev v : World B
     v = played same w.members es
 
@@ -44,15 +44,6 @@ module _ {B M S Y : Type 0} (same : B → B → Bool) (equal : IsEquality same) 
           learned = λ node f l. learned_is_chosen same equal w.members many es node f l;
           one = λ slot d e a b. chosen_is_one same equal w.members many es slot d e a b;
         })
-
-    pub answers : AnswersAreSaid m w
-    answers t p =
-        h.handed t
-        ∙ (handed_is_said same m w.members es t (subst (λ ns. IsPresent t (node_at ns t.node)) h.nodes p)
-        ∙ ap (λ ns. said m t (node_at ns t.node).applied) (sym h.nodes))
-
-    pub machines : MachinesFollow content m w
-    machines = record { contents = λ i f a u. (h.attends i f a).follows u; fronts = λ i f a. (h.attends i f a).front }
 
     pub took_effect_once : TookEffectOnce w
     took_effect_once =
@@ -73,7 +64,7 @@ module _ {B M S Y : Type 0} (same : B → B → Bool) (equal : IsEquality same) 
     none_disagrees = over (λ z. NoneDisagrees same z) w v h (λ e s p. never_disagrees same equal w.members many es e s p)
 
   pub logs_agree : (old new : Held B M Y) (early later : List (Event B)) → 3 ≤ old.members → new.members ≡ old.members
-      → StandsAt same content m old early → StandsAt same content m new (early ++ later) → LogsAgree old new
+      → ShowsAt same old early → ShowsAt same new (early ++ later) → LogsAgree old new
   logs_agree old new early later many is h k =
       record {
         chosen = over (λ z. (node i : ℕ) (e : Entry B) → slice_get (log_in z node) i ≡ Some e
@@ -89,10 +80,19 @@ module _ {B M S Y : Type 0} (same : B → B → Bool) (equal : IsEquality same) 
             (logs_are_prefixes same equal old.members many early later a b);
       }
 
+module _ {B M S Y : Type 0} (same : B → B → Bool) (content : M → S) (loaded : List ℕ → Option S) (m : Machine B S Y) (w : Held B M Y)
+    (es : List (Event B)) (h : StandsAt same content loaded m w es) where
+  pub answers : AnswersAreSaid m w
+  answers t p =
+      h.handed t
+      ∙ (handed_is_said same m w.members es t (subst (λ ns. IsPresent t (node_at ns t.node)) h.shows.nodes p)
+      ∙ ap (λ ns. said m t (node_at ns t.node).applied) (sym h.shows.nodes))
+
+  pub machines : MachinesFollow content m w
+  machines = record { contents = λ i f a u. (h.follows i f a u).stands.0; logs = h.shows.logs }
+
 -- where a run ended: with all events, or before one that was not run
-pub reached : {B M S Y L F : Type 0} (same : B → B → Bool) (content : M → S) (m : Machine B S Y) (new : Held B M Y) (r : Result L (ℕ × F))
-    (es events : List (Event B)) → OnOk r (StandsAt same content m new (es ++ events))
-    → IfErr r (λ f. (f.0 < length events) × StandsAt same content m new (es ++ take f.0 events))
-    → (later : List (Event B)) × StandsAt same content m new (es ++ later)
-reached same content m new (Ok x) es events ok err = (events, ok)
-reached same content m new (Err f) es events ok err = (take f.0 events, err.1)
+pub reached : {E L F : Type 0} (P : List E → Type 0) (r : Result L (ℕ × F)) (es events : List E) → OnOk r (P (es ++ events))
+    → IfErr r (λ f. (f.0 < length events) × P (es ++ take f.0 events)) → (later : List E) × P (es ++ later)
+reached P (Ok x) es events ok err = (events, ok)
+reached P (Err f) es events ok err = (take f.0 events, err.1)

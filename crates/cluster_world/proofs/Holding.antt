@@ -1,14 +1,15 @@
 -- Each majority holds what is chosen, and a ballot that its own node has not promised is fresh.
-use Rattle.std.proofs.Common.{◌≡◌, ℕ, Bool, true, subst, arith, List, Option, Some, None}
+use Rattle.std.proofs.Common.{◌≡◌, ℕ, Bool, true, sym, ◌∙◌, subst, arith, List, Option, Some, None}
 use Rattle.paxos_packets.proofs.Meeting.{common_member}
 use Rattle.cluster_world.proofs.Agreeing.{chosen_in}
-use Rattle.cluster_world.proofs.EveryWorld.{world_ok}
+use Rattle.cluster_world.proofs.EveryWorld.{WorldOk, world_ok}
 use Rattle.cluster_world.proofs.Invariant.{vote, Sent, Known, Tops, IsChosen, Inv, promises}
 use Rattle.cluster_world.proofs.OneChosen.{later_same}
 use Rattle.cluster_world.proofs.Order.{Le, Reaches, reach, le_trans, lt_not_le, lt_from_test, le_from_test}
 use Rattle.paxos_acceptor.specs.Acceptor.{may_promise}
 use Rattle.paxos_packets.specs.Body.{IsEquality}
 use Rattle.paxos_packets.specs.Members.{IsMember}
+use Rattle.paxos_packets.specs.Snapshot as taken
 use Rattle.paxos_packets.specs.declared.ballot.Ballot.{Ballot}
 use Rattle.paxos_packets.specs.declared.packet.Kind.{Kind}
 use Rattle.paxos_packets.specs.declared.packet.Kind.TheVariants.{Accept}
@@ -45,8 +46,11 @@ module _ {B : Type 0} (same : B → B → Bool) (equal : IsEquality same) where
       w : World B
       w = played same members events
 
+      ok : WorldOk members w
+      ok = world_ok same equal members (omega arith) events
+
       inv : Inv members (node_at w.nodes) w.sent
-      inv = (world_ok same equal members (omega arith) events).inv
+      inv = ok.inv
 
       d : IsChosen members w.sent slot e
       d = chosen_in members w.sent slot e c
@@ -56,6 +60,10 @@ module _ {B : Type 0} (same : B → B → Bool) (equal : IsEquality same) where
 
       t : Tops (node_at w.nodes k.0).rows.votes (vote slot d.ballot e)
       t = (inv.nodes k.0).rows.tops (vote slot d.ballot e) (d.voted k.0 k.1 k.3)
+          (λ s i. absurd (none s (sym (ok.plain k.0) ∙ i)))
+        where
+          none : (s : taken.Snapshot) → None ≡ Some s → ⊥
+          none s e = cc
 
       entry : (j : ℕ) (v : Vote B) → HasVote w.nodes j v → v.slot ≡ slot → Le d.ballot v.ballot → v.entry ≡ e
       entry j v h s a =

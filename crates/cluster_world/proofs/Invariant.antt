@@ -2,6 +2,8 @@
 use Rattle.std.proofs.Common.{◌≡◌, ℕ, suc, ◌<◌, ◌≤◌, Bool, true, List, [], ◌∷◌, Option, Some}
 use Rattle.cluster_world.proofs.Order.{Lt, Le, Reaches, Over}
 use Rattle.paxos_packets.specs.Members.{IsMajority, IsMember, is_in}
+use Rattle.paxos_packets.specs.Snapshot.{floor_in}
+use Rattle.paxos_packets.specs.Snapshot as taken
 use Rattle.cluster_world.specs.Has.{Has}
 use Rattle.paxos_proposer.specs.declared.promises.CountedPromise.{CountedPromise}
 use Rattle.paxos_proposer.specs.Role.{Role, Idle, Preparing, Leading}
@@ -14,7 +16,7 @@ use Rattle.paxos_packets.specs.declared.packet.Kind.{Kind}
 use Rattle.paxos_packets.specs.declared.packet.Packet.{Packet}
 use Rattle.paxos_packets.specs.declared.rows.Rows.{Rows}
 use Rattle.paxos_packets.specs.declared.vote.Vote.{Vote}
-use Rattle.paxos_packets.specs.declared.packet.Kind.TheVariants.{Prepare, Promise, Accept, Accepted, Nack, Forward, Ask, Learned}
+use Rattle.paxos_packets.specs.declared.packet.Kind.TheVariants.{Prepare, Promise, Accept, Accepted, Nack, Forward, Ask, Learned, Snapshot}
 use Rattle.paxos_packets.specs.declared.entry.Entry.{Entry}
 
 abbrev pub vote : {B : Type 0} → ℕ → Ballot → Entry B → Vote B
@@ -65,19 +67,19 @@ pub record Tops {B : Type 0} (votes : List (Vote B)) (w : Vote B) : Type 0 where
   pub slot : best.slot ≡ w.slot
   pub high : Le w.ballot best.ballot
 
--- what a promise of k says, from a slot on
-pub record Tells {B : Type 0} (promised : ℕ → Option Ballot) (sent : List (Packet B)) (k : ℕ) (b : Ballot) (floor : ℕ)
+-- what a promise of k says, from a slot on, and above a floor
+pub record Tells {B : Type 0} (promised : ℕ → Option Ballot) (sent : List (Packet B)) (k : ℕ) (b : Ballot) (first floor : ℕ)
     (votes : List (Vote B)) : Type 0 where
   pub reaches : Reaches (promised k) b
-  pub told : (w : Vote B) → floor ≤ w.slot → Lt w.ballot b → Sent sent k (Accepted w) → Tops votes w
+  pub told : (w : Vote B) → first ≤ w.slot → floor < w.slot → Lt w.ballot b → Sent sent k (Accepted w) → Tops votes w
   pub low : (u : Vote B) → Has votes u → Lt u.ballot b
   pub known : (u : Vote B) → Has votes u → Known sent (Accept u)
 
-pub record Told {B : Type 0} (promised : ℕ → Option Ballot) (sent : List (Packet B)) (k : ℕ) (b : Ballot) (votes : List (Vote B)) : Type 0
-  where
-    pub floor : ℕ
-    pub asked : Known sent (Prepare b floor)
-    pub tells : Tells promised sent k b floor votes
+pub record Told {B : Type 0} (promised : ℕ → Option Ballot) (sent : List (Packet B)) (k : ℕ) (b : Ballot) (floor : ℕ)
+    (votes : List (Vote B)) : Type 0 where
+  pub first : ℕ
+  pub asked : Known sent (Prepare b first)
+  pub tells : Tells promised sent k b first floor votes
 
 pub record IsChosen {B : Type 0} (members : ℕ) (sent : List (Packet B)) (slot : ℕ) (entry : Entry B) : Type 0 where
   pub ballot : Ballot
@@ -94,43 +96,48 @@ pub record PacketsOk {B : Type 0} (members : ℕ) (promised : ℕ → Option Bal
   pub voted : (k : ℕ) (v : Vote B) → Sent sent k (Accepted v) → Known sent (Accept v)
   pub asked_one : (b : Ballot) (f g : ℕ) → Known sent (Prepare b f) → Known sent (Prepare b g) → f ≡ g
   pub asked_low : (b : Ballot) (f : ℕ) → Known sent (Prepare b f) → Reaches (promised b.node) b
-  pub told : (k : ℕ) (b : Ballot) (votes : List (Vote B)) → Sent sent k (Promise b votes) → Told promised sent k b votes
+  pub told : (k : ℕ) (b : Ballot) (floor : ℕ) (votes : List (Vote B)) → Sent sent k (Promise b floor votes)
+      → Told promised sent k b floor votes
   pub learned : (slot : ℕ) (entry : Entry B) → Known sent (Learned slot entry) → IsChosen members sent slot entry
 
 -- nodes
 
 pub record PreparingOk {B : Type 0} (promised : ℕ → Option Ballot) (mine : Option Ballot) (sent : List (Packet B)) (k : ℕ) (b : Ballot)
-    (floor : ℕ) (promises : List (CountedPromise B)) : Type 0 where
+    (first : ℕ) (promises : List (CountedPromise B)) : Type 0 where
   pub owner : b.node ≡ k
   pub exact : mine ≡ Some b
-  pub only : (g : ℕ) → Known sent (Prepare b g) → g ≡ floor
-  pub asked : Known sent (Prepare b floor)
+  pub only : (g : ℕ) → Known sent (Prepare b g) → g ≡ first
+  pub asked : Known sent (Prepare b first)
   pub none : (v : Vote B) → Known sent (Accept v) → v.ballot ≡ b → ⊥
-  pub kept : (c : CountedPromise B) → Has promises c → Tells promised sent c.node b floor c.votes
+  pub kept : (c : CountedPromise B) → Has promises c → Tells promised sent c.node b first c.floor c.votes
 
-pub record LeadingOk {B : Type 0} (mine : Option Ballot) (sent : List (Packet B)) (k : ℕ) (b : Ballot) (next : ℕ) (table : List (Vote B)) :
-    Type 0 where
+-- a leader proposes above its own floor
+pub record LeadingOk {B : Type 0} (mine : Option Ballot) (own_floor : ℕ) (sent : List (Packet B)) (k : ℕ) (b : Ballot) (next : ℕ)
+    (table : List (Vote B)) : Type 0 where
   pub owner : b.node ≡ k
   pub exact : mine ≡ Some b
+  pub high : own_floor < next
   pub made : (v : Vote B) → Known sent (Accept v) → v.ballot ≡ b → v.slot < next
   pub own : (v : Vote B) → Has table v → Known sent (Accept v)
   pub owned : (v : Vote B) → Has table v → v.ballot ≡ b
 
-abbrev pub RoleOk : {B : Type 0} → (ℕ → Option Ballot) → Option Ballot → List (Packet B) → ℕ → Role B → Type 0
-RoleOk promised mine sent k Idle = Unit {0}
-RoleOk promised mine sent k (Preparing b floor promises) = PreparingOk promised mine sent k b floor promises
-RoleOk promised mine sent k (Leading b next table) = LeadingOk mine sent k b next table
+abbrev pub RoleOk : {B : Type 0} → (ℕ → Option Ballot) → Option Ballot → ℕ → List (Packet B) → ℕ → Role B → Type 0
+RoleOk promised mine own_floor sent k Idle = Unit {0}
+RoleOk promised mine own_floor sent k (Preparing b first promises) = PreparingOk promised mine sent k b first promises
+RoleOk promised mine own_floor sent k (Leading b next table) = LeadingOk mine own_floor sent k b next table
 
 -- if a leader goes on, no member of some majority voted below it
 abbrev pub RoleFree : {B : Type 0} → ℕ → (ℕ → Option Ballot) → List (Packet B) → Role B → Type 0
 RoleFree members promised sent Idle = Unit {0}
-RoleFree members promised sent (Preparing b floor promises) = Unit {0}
+RoleFree members promised sent (Preparing b first promises) = Unit {0}
 RoleFree {B} members promised sent (Leading b next table) =
     (slot : ℕ) → next ≤ slot → slot < slot_end → Free {B = B} members promised sent b slot
 
 pub record RowsOk {B : Type 0} (sent : List (Packet B)) (k : ℕ) (rows : Rows B) : Type 0 where
   pub reached : (w : Vote B) → Sent sent k (Accepted w) → Reaches rows.promised w.ballot
-  pub tops : (w : Vote B) → Sent sent k (Accepted w) → Tops rows.votes w
+  pub tops : (w : Vote B) → Sent sent k (Accepted w) → ((s : taken.Snapshot) → rows.snapshot ≡ Some s → s.floor < w.slot)
+      → Tops rows.votes w
+  pub above : (s : taken.Snapshot) → rows.snapshot ≡ Some s → (u : Vote B) → Has rows.votes u → s.floor < u.slot
   pub low : (u : Vote B) → Has rows.votes u → Reaches rows.promised u.ballot
   pub known : (u : Vote B) → Has rows.votes u → Known sent (Accept u)
 
@@ -141,7 +148,7 @@ pub record VoteOf {B : Type 0} (sent : List (Packet B)) (p : SlotBallot) (k : �
 pub record NodeOk {B : Type 0} (members : ℕ) (promised : ℕ → Option Ballot) (sent : List (Packet B)) (k : ℕ) (x : NodeState B) : Type 0
   where
     pub rows : RowsOk sent k x.rows
-    pub role : RoleOk promised x.rows.promised sent k x.proposer.role
+    pub role : RoleOk promised x.rows.promised (floor_in x.rows.snapshot) sent k x.proposer.role
     pub heard : (t : SlotBallot × List Bool) → Has x.learner.heard t → (j : ℕ) → is_in t.1 j ≡ true → VoteOf sent t.0 j
     pub learned : (f : LearnedEntry B) → Has x.learner.learned f → IsChosen members sent f.slot f.entry
 
@@ -160,10 +167,10 @@ pub record Grows {B : Type 0} (promised now : ℕ → Option Ballot) (sent later
 
 -- what n may send
 
-pub record NewPrepare {B : Type 0} (now : ℕ → Option Ballot) (later : List (Packet B)) (n : ℕ) (b : Ballot) (floor : ℕ) : Type 0 where
+pub record NewPrepare {B : Type 0} (now : ℕ → Option Ballot) (later : List (Packet B)) (n : ℕ) (b : Ballot) (first : ℕ) : Type 0 where
   pub owner : b.node ≡ n
   pub reaches : Reaches (now n) b
-  pub one : (g : ℕ) → Known later (Prepare b g) → g ≡ floor
+  pub one : (g : ℕ) → Known later (Prepare b g) → g ≡ first
 
 pub record NewAccept {B : Type 0} (members : ℕ) (now : ℕ → Option Ballot) (later : List (Packet B)) (n : ℕ) (v : Vote B) : Type 0 where
   pub owner : v.ballot.node ≡ n
@@ -172,14 +179,15 @@ pub record NewAccept {B : Type 0} (members : ℕ) (now : ℕ → Option Ballot) 
   pub one : (w : Vote B) → Known later (Accept w) → v.slot ≡ w.slot → v.ballot ≡ w.ballot → v.entry ≡ w.entry
 
 abbrev pub KindOk : {B : Type 0} → ℕ → (ℕ → Option Ballot) → List (Packet B) → ℕ → Kind B → Type 0
-KindOk members now later n (Prepare b floor) = NewPrepare now later n b floor
-KindOk members now later n (Promise b votes) = Told now later n b votes
+KindOk members now later n (Prepare b first) = NewPrepare now later n b first
+KindOk members now later n (Promise b floor votes) = Told now later n b floor votes
 KindOk members now later n (Accept v) = NewAccept members now later n v
 KindOk members now later n (Accepted v) = Known later (Accept v)
 KindOk members now later n (Nack b p) = Unit {0}
 KindOk members now later n (Forward es) = Unit {0}
 KindOk members now later n (Ask s) = Unit {0}
 KindOk members now later n (Learned s e) = IsChosen members later s e
+KindOk members now later n (Snapshot s) = Unit {0}
 
 -- the entries of these slot_end may be proposed
 abbrev pub AllSafe : {B : Type 0} → ℕ → (ℕ → Option Ballot) → List (Packet B) → Ballot → ℕ → List (Entry B) → Type 0

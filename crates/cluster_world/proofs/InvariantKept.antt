@@ -5,6 +5,7 @@ use Rattle.cluster_world.proofs.Order.{Reaches, Over}
 use Rattle.cluster_world.proofs.Lists.{has_left, has_right, has_cases}
 use Rattle.cluster_world.proofs.Invariant.{Sent, Known, Told, RowsOk, RoleOk, Grows, PacketsOk, NodeOk, Inv, promises, KindOk}
 use Rattle.cluster_world.proofs.Growth.{known_grows, safe_grows, told_grows, chosen_grows, vote_of_grows, role_grows}
+use Rattle.paxos_packets.specs.Snapshot.{floor_in}
 use Rattle.paxos_proposer.specs.Role.{Role}
 use Rattle.paxos_planning.specs.Node.{NodeState}
 use Rattle.paxos_packets.specs.declared.ballot.Ballot.{Ballot}
@@ -78,9 +79,9 @@ module _ {B : Type 0} (members : ℕ) (promised now : ℕ → Option Ballot) (se
             (λ o. let a = (fresh o.by (Prepare b f) o.is).1 in subst (λ j. Reaches (now j) b) (sym a.owner) a.reaches)
             (known_cases sent new p);
         told =
-            λ k b votes p.
-            ⊎_elim (λ o. told_grows g (ok.told k b votes o))
-            (λ o. let a = fresh k (Promise b votes) o in subst (λ j. Told now (sent ++ new) j b votes) (sym a.0) a.1)
+            λ k b floor votes p.
+            ⊎_elim (λ o. told_grows g (ok.told k b floor votes o))
+            (λ o. let a = fresh k (Promise b floor votes) o in subst (λ j. Told now (sent ++ new) j b floor votes) (sym a.0) a.1)
             (sent_cases sent new p);
         learned =
             λ s e p. ⊎_elim (λ o. chosen_grows g (ok.learned s e o)) (λ o. (fresh o.by (Learned s e) o.is).1) (known_cases sent new p);
@@ -95,24 +96,25 @@ module _ {B : Type 0} (members : ℕ) (promised now : ℕ → Option Ballot) (se
   rows_kept k d rows ok =
       record {
         reached = λ w s. ok.reached w (still_sent k d (Accepted w) s);
-        tops = λ w s. ok.tops w (still_sent k d (Accepted w) s);
+        tops = λ w s l. ok.tops w (still_sent k d (Accepted w) s) l;
+        above = ok.above;
         low = ok.low;
         known = λ u h. known_grows g (ok.known u h);
       }
 
-  role_kept : (k : ℕ) → (k ≡ n → ⊥) → (mine : Option Ballot) (r : Role B) → RoleOk promised mine sent k r
-      → RoleOk now mine (sent ++ new) k r
-  role_kept k d mine r ok =
+  role_kept : (k : ℕ) → (k ≡ n → ⊥) → (mine : Option Ballot) (own_floor : ℕ) (r : Role B) → RoleOk promised mine own_floor sent k r
+      → RoleOk now mine own_floor (sent ++ new) k r
+  role_kept k d mine own_floor r ok =
       role_grows g k
       (λ b o f p. ⊎_elim (λ a. a) (λ a. absurd (d (sym o ∙ (fresh a.by (Prepare b f) a.is).1.owner))) (known_cases sent new p))
       (λ v o p. ⊎_elim (λ a. a) (λ a. absurd (d (sym o ∙ (fresh a.by (Accept v) a.is).1.owner))) (known_cases sent new p))
-      mine r ok
+      mine own_floor r ok
 
   node_kept : (k : ℕ) → (k ≡ n → ⊥) → (x : NodeState B) → NodeOk members promised sent k x → NodeOk members now (sent ++ new) k x
   node_kept k d x ok =
       record {
         rows = rows_kept k d x.rows ok.rows;
-        role = role_kept k d x.rows.promised x.proposer.role ok.role;
+        role = role_kept k d x.rows.promised (floor_in x.rows.snapshot) x.proposer.role ok.role;
         heard = λ t i k q. vote_of_grows g (ok.heard t i k q);
         learned = λ f i. chosen_grows g (ok.learned f i);
       }

@@ -8,11 +8,13 @@ use Rattle.std.proofs.lemmas.List.Sums.{fold-append}
 use Rattle.cluster_world.proofs.Casting.{HeardFrom, heard_later, AreEights, hears_own, counts_own, sent_to, hears_itself, hears_still}
 use Rattle.cluster_world.proofs.Casting.{eights_more}
 use Rattle.cluster_world.proofs.Lists.{has_nil, has_one, has_cases, has_left, has_right}
+use Rattle.cluster_world.proofs.Reports.{lowest_is}
 use Rattle.cluster_world.specs.Has.{Has, here, there}
 use Rattle.paxos_packets.proofs.Order.{irreflexive}
 use Rattle.paxos_packets.specs.Ballot.{below, same_ballot}
 use Rattle.paxos_packets.specs.Members.{IsMember, is_in, is_majority}
 use Rattle.paxos_packets.specs.Packet.{packet, to_others}
+use Rattle.paxos_packets.specs.Snapshot.{floor_in}
 use Rattle.paxos_packets.specs.Vote.{put_vote, put_votes}
 use Rattle.paxos_packets.specs.declared.ballot.Ballot.{Ballot}
 use Rattle.paxos_packets.specs.declared.entry.Entry.{Entry}
@@ -22,7 +24,7 @@ use Rattle.paxos_packets.specs.declared.vote.Vote.{Vote}
 use Rattle.paxos_learner.specs.Learner.{LearnerState, hears, count_vote}
 use Rattle.paxos_learner.specs.Tallies.{place_of, nodes_heard}
 use Rattle.paxos_proposer.specs.declared.promises.CountedPromise.{CountedPromise}
-use Rattle.paxos_proposer.specs.Promises.{with_promises, calls}
+use Rattle.paxos_proposer.specs.Promises.{with_promises, calls, lowest}
 use Rattle.paxos_proposer.specs.Proposer.{slot_end, next_vote, submitted, is_leading}
 use Rattle.paxos_proposer.specs.Proposing.{proposals_of}
 use Rattle.paxos_proposer.specs.Reports.{is_counted, reports, past_reports, called_in, called_for}
@@ -50,10 +52,11 @@ fresh_from (Leading c next table) = next
 pub record AreBelow {B : Type 0} (past : ℕ) (vs : List (Vote B)) : Type 0 where
   pub each : (v : Vote B) → Has vs v → v.slot < past
 
--- it prepares this ballot, and what was reported is below the slot `past`, or it leads in it so
+-- it prepares this ballot, what was reported is below the slot `past`, and no floor reaches the first slot; or it leads in it so
 abbrev pub IsIn : {B : Type 0} → Ballot → ℕ → ℕ → ℕ → Role B → Type 0
 IsIn b first past most Idle = ⊥
-IsIn b first past most (Preparing c f cs) = (c ≡ b) × (f ≡ first) × AreBelow past (reports cs)
+IsIn b first past most (Preparing c f cs) =
+    (c ≡ b) × (f ≡ first) × AreBelow past (reports cs) × ((d : CountedPromise _) → Has cs d → d.floor < first)
 IsIn b first past most (Leading c next table) = (c ≡ b) × (next ≤ most)
 
 -- what is called for is below it then
@@ -102,6 +105,7 @@ module _ {B : Type 0} (same : B → B → Bool) (members : ℕ) (many : 2 ≤ me
   pub record Bids (x : NodeState B) (all : List (Packet B)) (r : Role B) : Type 0 where
     pub up : x.up ≡ true
     pub boot : x.rows.boot ≡ y.rows.boot
+    pub base : x.rows.snapshot ≡ y.rows.snapshot
     pub promised : x.rows.promised ≡ Some b
     pub cast : x.rows.votes ≡ put_votes (proposals_of r) votes
     pub role : x.proposer.role ≡ r
@@ -128,6 +132,7 @@ module _ {B : Type 0} (same : B → B → Bool) (members : ℕ) (many : 2 ≤ me
         (record {
           up = ok.up;
           boot = ok.boot;
+          base = ok.base;
           promised = refl;
           cast = ap (put_vote v) ok.cast ∙ sym (fold-append (λ us w. put_vote w us) votes table (v ∷ []));
           role = cond-false (below b b) Idle (Leading b (suc next) (table ++ v ∷ [])) (irreflexive b);
@@ -255,24 +260,48 @@ module _ {B : Type 0} (same : B → B → Bool) (members : ℕ) (many : 2 ≤ me
             fits_in q = omega arith
 
     -- a promise is counted: as the role says
-    pub hears_promise : (from first past most : ℕ) (vs : List (Vote B)) (r : Role B) (t : Plan B) → At t r → IsIn b first past most r
-        → first ≤ past → AreBelow past vs → past + length y.pending ≤ most → most ≤ slot_end
-        → At (on_promise_as same members n from b vs r t) (course.hears same members (log_length y) y.pending b from vs r)
-        × IsIn b first past most (course.hears same members (log_length y) y.pending b from vs r)
-    hears_promise from first past most vs Idle t ok e low' below' room h = absurd e
-    hears_promise from first past most vs (Leading c next table) t ok e low' below' room h = (ok, e)
-    hears_promise from first past most vs (Preparing c f cs) t ok e low' below' room h = go (same_ballot b c && not (is_counted cs from))
+    pub hears_promise : (from floor own first past most : ℕ) (vs : List (Vote B)) (r : Role B) (t : Plan B) → At t r
+        → IsIn b first past most r → first ≤ past → AreBelow past vs → floor < first → floor_in y.rows.snapshot ≡ own → own < first
+        → past + length y.pending ≤ most → most ≤ slot_end
+        → At (on_promise_as same members n from b floor vs r t)
+        (course.hears same members (log_length y) y.pending b from floor vs own r)
+        × IsIn b first past most (course.hears same members (log_length y) y.pending b from floor vs own r)
+    hears_promise from floor own first past most vs Idle t ok e low' below' under is_own own_under room h = absurd e
+    hears_promise from floor own first past most vs (Leading c next table) t ok e low' below' under is_own own_under room h = (ok, e)
+    hears_promise from floor own first past most vs (Preparing c f cs) t ok e low' below' under is_own own_under room h =
+        go (same_ballot b c && not (is_counted cs from))
       where
+        one : CountedPromise B
+        one = record { node = from; floor = floor; votes = vs }
+
         more : List (CountedPromise B)
-        more = cs ++ record { node = from; votes = vs } ∷ []
+        more = cs ++ one ∷ []
+
+        mine : ℕ
+        mine = floor_in t.node.rows.snapshot
 
         es : List (Entry B)
         es = called_for f (reports more)
 
         all_below : AreBelow past (reports more)
-        all_below =
-            subst (λ l. AreBelow past l) (sym (reports_more cs (record { node = from; votes = vs })))
-            (below_both past (reports cs) vs e.2 below')
+        all_below = subst (λ l. AreBelow past l) (sym (reports_more cs one)) (below_both past (reports cs) vs e.2 below')
+
+        floors : (d : CountedPromise B) → Has more d → d.floor < first
+        floors d i =
+            ⊎_elim (λ o. e.3 d o) (λ o. subst (λ (z : CountedPromise B). z.floor < first) (has_one o) under) (has_cases cs (one ∷ []) i)
+
+        floors_at : (d : CountedPromise B) → Has more d → d.floor < f
+        floors_at d i = subst (λ k. d.floor < k) (sym e.1) (floors d i)
+
+        own_at : own < f
+        own_at = subst (λ k. own < k) (sym e.1) own_under
+
+        -- so it leads from the slot on that it asked for
+        own_is : lowest f own more ≡ f
+        own_is = lowest_is f own more own_at floors_at
+
+        mine_is : lowest f mine more ≡ f
+        mine_is = ap (λ k. lowest f k more) (ap (λ s. floor_in s) ok.base ∙ is_own) ∙ own_is
 
         Both : Plan B → Role B → Type 0
         Both u r = At u r × IsIn b first past most r
@@ -288,6 +317,7 @@ module _ {B : Type 0} (same : B → B → Bool) (members : ℕ) (many : 2 ≤ me
             record {
               up = ok.up;
               boot = ok.boot;
+              base = ok.base;
               promised = ok.promised;
               cast = ok.cast ∙ ap (λ l. put_votes l votes) (sym none);
               role = refl;
@@ -302,9 +332,13 @@ module _ {B : Type 0} (same : B → B → Bool) (members : ℕ) (many : 2 ≤ me
               out = λ v i. absurd (has_nil (subst (λ l. Has l v) none i));
             }
 
-        led : Both (push same members n (lead same members n c f (reports more) t))
-            (course.propose_new same (log_length y) y.pending (course.propose_all es (Leading c f [])))
-        led =
+        LedAt : ℕ → ℕ → Type 0
+        LedAt a d =
+            Both (push same members n (lead same members n c a (reports more) t))
+            (course.propose_new same (log_length y) y.pending (course.propose_all (called_for d (reports more)) (Leading c d [])))
+
+        led_first : LedAt f f
+        led_first =
             let g =
             leads f past most es (record t { node = with_role (Leading b f []) t.node }) (bare (Leading b f []) refl)
             (subst (λ z. z + length (called_for z (reports more)) ≤ past) (sym e.1) (called_below first past (reports more) low' all_below))
@@ -314,20 +348,23 @@ module _ {B : Type 0} (same : B → B → Bool) (members : ℕ) (many : 2 ≤ me
             (course.propose_new same (log_length y) y.pending (course.propose_all es (Leading z f [])))) (sym e.0)
             (g.0, known _ g.1)
 
+        led : LedAt (lowest f mine more) (lowest f own more)
+        led = subst (λ (z : ℕ × ℕ). LedAt z.0 z.1) (λ i. (sym mine_is i, sym own_is i)) led_first
+
         waits : Both (record t { node = with_role (Preparing c f more) t.node }) (Preparing c f more)
-        waits = (bare (Preparing c f more) refl, (e.0, e.1, all_below))
+        waits = (bare (Preparing c f more) refl, (e.0, e.1, all_below, floors))
 
         counted : (m : Bool)
-            → Both (if m then push same members n (lead same members n c f (reports more) t)
+            → Both (if m then push same members n (lead same members n c (lowest f mine more) (reports more) t)
             else record t { node = with_role (Preparing c f more) t.node })
-            (course.proposes same (log_length y) y.pending (if m then Some es else None)
-            (if m then Leading c f [] else Preparing c f more))
+            (course.proposes same (log_length y) y.pending (if m then Some (called_for (lowest f own more) (reports more)) else None)
+            (if m then Leading c (lowest f own more) [] else Preparing c f more))
         counted true = led
         counted false = waits
 
         go : (m : Bool)
-            → Both (if m then count_promise same members n c f more t else t)
-            (course.proposes same (log_length y) y.pending (if m then calls members f more else None)
-            (if m then with_promises members c f more else Preparing c f cs))
+            → Both (if m then count_promise same members n c f mine more t else t)
+            (course.proposes same (log_length y) y.pending (if m then calls members f own more else None)
+            (if m then with_promises members c f own more else Preparing c f cs))
         go true = counted (is_majority members (is_counted more))
         go false = (ok, e)

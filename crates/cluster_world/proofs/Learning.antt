@@ -10,16 +10,18 @@ use Rattle.cluster_world.proofs.Taking.{by_next}
 use Rattle.paxos_packets.specs.Ballot.{same_ballot}
 use Rattle.paxos_packets.specs.Members.{is_majority}
 use Rattle.paxos_packets.specs.Packet.{packet}
-use Rattle.paxos_packets.specs.Vote.{votes_from}
+use Rattle.paxos_packets.specs.Snapshot.{floor_in}
+use Rattle.paxos_packets.specs.Snapshot as taken
 use Rattle.paxos_packets.specs.declared.ballot.Ballot.{Ballot}
 use Rattle.paxos_packets.specs.declared.entry.Entry.{Entry}
 use Rattle.paxos_packets.specs.declared.packet.Kind.{Kind}
-use Rattle.paxos_packets.specs.declared.packet.Kind.TheVariants.{Prepare, Promise, Accept, Accepted, Nack, Forward, Ask, Learned}
+use Rattle.paxos_packets.specs.declared.packet.Kind.TheVariants.{Prepare, Promise, Accept, Accepted, Nack, Forward, Ask, Learned, Snapshot}
 use Rattle.paxos_packets.specs.declared.vote.Vote.{Vote}
-use Rattle.paxos_acceptor.specs.Acceptor.{may_promise, may_accept}
+use Rattle.paxos_acceptor.specs.Acceptor.{may_promise, may_accept, promise_of, given_by}
 use Rattle.paxos_proposer.specs.declared.promises.CountedPromise.{CountedPromise}
 use Rattle.paxos_proposer.specs.Role.{Role, Idle, Preparing, Leading}
 use Rattle.paxos_proposer.specs.Proposer.{slot_end, next_vote, new_ballot, is_leading}
+use Rattle.paxos_proposer.specs.Promises.{lowest}
 use Rattle.paxos_proposer.specs.Reports.{is_counted, reports, called_for}
 use Rattle.paxos_learner.specs.declared.learned.LearnedEntry.{LearnedEntry}
 use Rattle.paxos_learner.specs.Learned.{is_learned}
@@ -29,7 +31,7 @@ use Rattle.paxos_node.specs.declared.event.Event.TheVariants.{Take, Tick, Start,
 use Rattle.paxos_planning.specs.Node.{NodeState, Plan, log_length}
 use Rattle.paxos_planning.specs.Plan.{with_role, with_pending, begun, send, promise, cast}
 use Rattle.paxos_planning.specs.Proposals.{offer, propose_as, propose, propose_all, lead, stands, propose_new, propose_each, forwarded, push}
-use Rattle.paxos_planning.specs.Replies.{saw, refuse, count_promise, on_promise_as, on_packet}
+use Rattle.paxos_planning.specs.Replies.{saw, refuse, cast_or_show, answer_ask, count_promise, on_promise_as, on_packet}
 use Rattle.paxos_planning.specs.Starting.{begin, starts, on_start}
 use Rattle.paxos_planning.specs.Ticking.{again}
 use Rattle.paxos_node.specs.Applying.{note, ends, go_down, apply_all, settle}
@@ -73,35 +75,51 @@ module _ {B : Type 0} (same : B → B → Bool) (members : ℕ) (Q : LearnerStat
         cond_both (is_leading t.node.proposer.role) (propose_each same members n t.node.pending t)
         (send (forwarded n t.node.rows.promised t.node.pending) t) (λ u. Ok u) (λ d. proposes_each t.node.pending t ok) (λ d. ok)
 
-    promises_as : (from : ℕ) (b : Ballot) (votes : List (Vote B)) (r : Role B) (t : Plan B) → Ok t → Ok (on_promise_as same members n from b votes r t)
-    promises_as from b votes Idle t ok = ok
-    promises_as from b votes (Leading c slot table) t ok = ok
-    promises_as from b votes (Preparing c floor cs) t ok =
-        cond_both (same_ballot b c && not (is_counted cs from)) (count_promise same members n c floor more t) t (λ u. Ok u)
-        (λ e. cond_both (is_majority members (is_counted more)) (push same members n (lead same members n c floor (reports more) t))
-        (record t { node = with_role (Preparing c floor more) t.node }) (λ u. Ok u)
-        (λ m. pushes (lead same members n c floor (reports more) t)
-        (proposes_all (called_for floor (reports more)) (record t { node = with_role (Leading c floor []) t.node }) ok))
+    promises_as : (from : ℕ) (b : Ballot) (floor : ℕ) (votes : List (Vote B)) (r : Role B) (t : Plan B) → Ok t → Ok (on_promise_as same members n from b floor votes r t)
+    promises_as from b floor votes Idle t ok = ok
+    promises_as from b floor votes (Leading c slot table) t ok = ok
+    promises_as from b floor votes (Preparing c first cs) t ok =
+        cond_both (same_ballot b c && not (is_counted cs from)) (count_promise same members n c first own more t) t (λ u. Ok u)
+        (λ e. cond_both (is_majority members (is_counted more)) (push same members n (lead same members n c low (reports more) t))
+        (record t { node = with_role (Preparing c first more) t.node }) (λ u. Ok u)
+        (λ m. pushes (lead same members n c low (reports more) t)
+        (proposes_all (called_for low (reports more)) (record t { node = with_role (Leading c low []) t.node }) ok))
         (λ m. ok))
         (λ e. ok)
       where
         more : List (CountedPromise B)
-        more = cs ++ record { node = from; votes = votes } ∷ []
+        more = cs ++ record { node = from; floor = floor; votes = votes } ∷ []
+
+        own : ℕ
+        own = floor_in t.node.rows.snapshot
+
+        low : ℕ
+        low = lowest first own more
+
+    casts_or_shows : (from : ℕ) (given : Option taken.Snapshot) (v : Vote B) (t : Plan B) → Ok t → Ok (cast_or_show same members n from given v t)
+    casts_or_shows from None v t ok = counts n v t.node.learner ok
+    casts_or_shows from (Some s) v t ok = ok
+
+    answers_ask : (from slot : ℕ) (given : Option taken.Snapshot) (t : Plan B) → Ok t → Ok (answer_ask n from slot given t)
+    answers_ask from slot None t ok = ok
+    answers_ask from slot (Some s) t ok = ok
 
     hears_packet : (from : ℕ) (kind : Kind B) (t : Plan B) → Ok t → Ok (on_packet same members n from kind t)
-    hears_packet from (Prepare b floor) t ok =
+    hears_packet from (Prepare b first) t ok =
         cond_both (may_promise t.node.rows.promised b)
-        (send (packet n (Promise b (votes_from floor t.node.rows.votes)) from ∷ []) (promise b t)) (refuse n from b t) (λ u. Ok u)
+        (send (packet n (promise_of t.node.rows b first) from ∷ []) (promise b t)) (refuse n from b t) (λ u. Ok u)
         (λ e. ok) (λ e. ok)
-    hears_packet from (Promise b votes) t ok = promises_as from b votes t.node.proposer.role t ok
+    hears_packet from (Promise b floor votes) t ok = promises_as from b floor votes t.node.proposer.role t ok
     hears_packet from (Accept v) t ok =
-        cond_both (may_accept t.node.rows.promised v.ballot) (cast same members n v t) (refuse n from v.ballot t) (λ u. Ok u)
-        (λ e. counts n v t.node.learner ok) (λ e. ok)
+        cond_both (may_accept t.node.rows.promised v.ballot) (cast_or_show same members n from (given_by t.node.rows.snapshot v.slot) v t)
+        (refuse n from v.ballot t) (λ u. Ok u)
+        (λ e. casts_or_shows from (given_by t.node.rows.snapshot v.slot) v t ok) (λ e. ok)
     hears_packet from (Accepted v) t ok = counts from v t.node.learner ok
     hears_packet from (Nack b p) t ok = ok
     hears_packet from (Forward es) t ok =
         cond_both (is_leading t.node.proposer.role) (propose_each same members n es t) t (λ u. Ok u) (λ d. proposes_each es t ok) (λ d. ok)
-    hears_packet from (Ask slot) t ok = ok
+    hears_packet from (Ask slot) t ok = answers_ask from slot (given_by t.node.rows.snapshot slot) t ok
+    hears_packet from (Snapshot s) t ok = ok
     hears_packet from (Learned slot e) t ok = learns slot e t.node.learner ok
 
     begins : (t : Plan B) → Ok t → Ok (on_start members n t)

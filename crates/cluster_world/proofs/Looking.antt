@@ -13,11 +13,10 @@ use Rattle.cluster_world.specs.Has.{Has, here}
 use Rattle.paxos_packets.specs.Ballot.{below}
 use Rattle.paxos_packets.specs.Body.{IsEquality}
 use Rattle.paxos_packets.specs.Packet.{packet}
-use Rattle.paxos_packets.specs.Vote.{votes_from}
 use Rattle.paxos_packets.specs.declared.ballot.Ballot.{Ballot}
-use Rattle.paxos_packets.specs.declared.packet.Kind.TheVariants.{Prepare, Promise, Nack}
+use Rattle.paxos_packets.specs.declared.packet.Kind.TheVariants.{Prepare, Nack}
 use Rattle.paxos_packets.specs.declared.packet.Packet.{Packet}
-use Rattle.paxos_acceptor.specs.Acceptor.{may_promise}
+use Rattle.paxos_acceptor.specs.Acceptor.{may_promise, promise_of}
 use Rattle.paxos_proposer.specs.Proposer.{nacked}
 use Rattle.paxos_proposer.specs.Role.{Role}
 use Rattle.paxos_node.specs.declared.event.Event.{Event}
@@ -43,20 +42,20 @@ module _ {B : Type 0} (same : B → B → Bool) (members : ℕ) where
 
   pub promises_it : (n k first : ℕ) (b : Ballot) (x : NodeState B) → AtRest x → may_promise x.rows.promised b ≡ true
       → outcome_of same members (Deliver (packet n (Prepare b first) k)) x
-      ≡ send (packet k (Promise b (votes_from first x.rows.votes)) n ∷ []) (promise b (seeing first b x))
+      ≡ send (packet k (promise_of x.rows b first) n ∷ []) (promise b (seeing first b x))
   promises_it n k first b x rest may =
       ap (λ (o : Plan B). settle k o) (cond-true (may_promise x.rows.promised b) yes (refuse k n b (seeing first b x)) may)
       ∙ settle_rest k yes rest
     where
       yes : Plan B
-      yes = send (packet k (Promise b (votes_from first x.rows.votes)) n ∷ []) (promise b (seeing first b x))
+      yes = send (packet k (promise_of x.rows b first) n ∷ []) (promise b (seeing first b x))
 
   pub refuses_it : (n k first : ℕ) (b : Ballot) (x : NodeState B) → AtRest x → may_promise x.rows.promised b ≡ false
       → outcome_of same members (Deliver (packet n (Prepare b first) k)) x ≡ refuse k n b (seeing first b x)
   refuses_it n k first b x rest may =
       ap (λ (o : Plan B). settle k o)
       (cond-false (may_promise x.rows.promised b)
-      (send (packet k (Promise b (votes_from first x.rows.votes)) n ∷ []) (promise b (seeing first b x))) no may)
+      (send (packet k (promise_of x.rows b first) n ∷ []) (promise b (seeing first b x))) no may)
       ∙ settle_rest k no rest
     where
       no : Plan B
@@ -66,6 +65,7 @@ module _ {B : Type 0} (same : B → B → Bool) (members : ℕ) where
   pub record WasAsked (b : Ballot) (x y : NodeState B) : Type 0 where
     pub up : y.up ≡ x.up
     pub boot : y.rows.boot ≡ x.rows.boot
+    pub snapshot : y.rows.snapshot ≡ x.rows.snapshot
     pub votes : y.rows.votes ≡ x.rows.votes
     pub learner : y.learner ≡ x.learner
     pub log : y.applied ≡ x.applied
@@ -88,13 +88,13 @@ module _ {B : Type 0} (same : B → B → Bool) (members : ℕ) where
       yes : may_promise x.rows.promised b ≡ true → WasAsked b x o.node
       yes may =
           subst (λ (z : Plan B). WasAsked b x z.node) (sym (promises_it n k first b x rest may))
-          (record { up = refl; boot = refl; votes = refl; learner = refl; log = refl; promised = inl refl })
+          (record { up = refl; boot = refl; snapshot = refl; votes = refl; learner = refl; log = refl; promised = inl refl })
 
       no : may_promise x.rows.promised b ≡ false → WasAsked b x o.node
       no may =
           let h = had x.rows.promised b may in
           subst (λ (z : Plan B). WasAsked b x z.node) (sym (refuses_it n k first b x rest may))
-          (record { up = refl; boot = refl; votes = refl; learner = refl; log = refl; promised = inr (h.0, h.1, h.1, h.2) })
+          (record { up = refl; boot = refl; snapshot = refl; votes = refl; learner = refl; log = refl; promised = inr (h.0, h.1, h.1, h.2) })
 
   -- the node that asks: but for its role and the round that it sees it is this one
   pub record Looked (y : NodeState B) (seen : ℕ) (x : NodeState B) : Type 0 where

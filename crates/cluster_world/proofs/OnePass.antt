@@ -1,7 +1,7 @@
 -- A whole pass, from the start of its ballot to the votes for all that was proposed.
 use Rattle.std.proofs.Common.{◌≡◌, ◌⊎◌, inl, inr, ⊎_elim, ℕ, suc, ◌+◌, ◌-◌, ◌<◌, ◌≤◌, Bool, true, false, refl, sym, ap, ◌∙◌, subst}
 use Rattle.std.proofs.Common.{arith}
-use Rattle.std.proofs.Common.{List, [], ◌∷◌, ◌++◌, length, Some}
+use Rattle.std.proofs.Common.{List, [], ◌∷◌, ◌++◌, length, Some, None}
 use Rattle.std.specs.Prelude.{fold}
 use Rattle.std.proofs.lemmas.Bool.{cases_lt, ltb-true}
 use Rattle.cluster_world.proofs.AcceptorTests.{from_has, has_from}
@@ -26,6 +26,7 @@ use Rattle.cluster_world.specs.Has.{Has}
 use Rattle.paxos_packets.specs.Body.{IsEquality}
 use Rattle.paxos_packets.specs.Members.{IsMember, is_majority}
 use Rattle.paxos_packets.specs.Packet.{packet}
+use Rattle.paxos_packets.specs.Snapshot.{floor_in}
 use Rattle.paxos_packets.specs.Vote.{put_votes, votes_from}
 use Rattle.paxos_packets.specs.declared.ballot.Ballot.{Ballot}
 use Rattle.paxos_packets.specs.declared.entry.Entry.{Entry}
@@ -46,7 +47,7 @@ use Rattle.paxos_node.specs.declared.event.Event.{Event}
 use Rattle.paxos_node.specs.declared.event.Event.TheVariants.{Start}
 use Rattle.paxos_planning.specs.Node.{NodeState, log_length}
 use Rattle.cluster_world.specs.World.{World, node_at, first_world, next, play, played}
-use Rattle.world_rescue.specs.Course.{Seat, votes_then, lead, led, pass, entries_of, propose_all, propose_new}
+use Rattle.world_rescue.specs.Course.{Seat, floor_of, votes_then, lead, led, pass, entries_of, propose_all, propose_new}
 use Rattle.cluster_world.specs.Rescue.{Apart}
 
 -- a role that leads in the ballot
@@ -62,8 +63,9 @@ leading_is b first past most (Leading c next table) l i = (next, table, λ j. Le
 -- whose promise it is: the node's own, or that of a seat
 pub data IsPromise {B : Type 0} (first : ℕ) (cast : List (Vote B)) (own : Seat B) (seats : List (Seat B))
     (c : CountedPromise B) : Type 0 where
-  Own : c ≡ record { node = own.number; votes = votes_then first cast own } → IsPromise first cast own seats c
-  Seated : (s : Seat B) → Has seats s → c ≡ record { node = s.number; votes = votes_then first cast s } → IsPromise first cast own seats c
+  Own : c ≡ record { node = own.number; floor = floor_of own; votes = votes_then first cast own } → IsPromise first cast own seats c
+  Seated : (s : Seat B) → Has seats s → c ≡ record { node = s.number; floor = floor_of s; votes = votes_then first cast s }
+      → IsPromise first cast own seats c
 
 module _ {B : Type 0} (same : B → B → Bool) (equal : IsEquality same) (members : ℕ) (three : 3 ≤ members) (two : 2 ≤ members) (n : ℕ)
     (member : IsMember members n) (low : n < 8) (before : List (Event B)) (own : Seat B) (number : own.number ≡ n) (seats : List (Seat B))
@@ -114,29 +116,49 @@ module _ {B : Type 0} (same : B → B → Bool) (equal : IsEquality same) (membe
       (mays : (s : Seat B) → Has seats s → may_promise (now s).rows.promised ballot ≡ true)
       (votes_are : (s : Seat B) → Has seats s → (now s).rows.votes ≡ put_votes cast s.node.rows.votes)
       (own_votes : x.rows.votes ≡ put_votes cast own.node.rows.votes)
+      (plains : (s : Seat B) → Has seats s → s.node.rows.snapshot ≡ None) (own_plain : own.node.rows.snapshot ≡ None)
       (belows : (s : Seat B) → Has seats s → AreBelow past (votes_then first cast s))
       (own_below : AreBelow past (votes_then first cast own))
       (heard : HeardOwn ballot n x.learner) (eights : AreEights x.learner.heard)
       (heards : (s : Seat B) → Has seats s → HeardOwn ballot s.number (now s).learner)
       (enough : is_majority members (among (fold (λ ks s. s.number ∷ ks) (n ∷ []) seats)) ≡ true)
       (enough_too : is_majority members (among (n ∷ counted_by seats)) ≡ true) where
+    -- no node has a snapshot
+    flat_of : (k : ℕ) → (node_at u.nodes k).rows.snapshot ≡ None
+    flat_of k = (world_ok same equal members two before).plain k
+
+    flats : (s : Seat B) → Has seats s → (now s).rows.snapshot ≡ None
+    flats s h = ap (λ (z : NodeState B). z.rows.snapshot) (sym (are s h)) ∙ flat_of s.number
+
+    flat : x.rows.snapshot ≡ None
+    flat = flat_of n
+
+    floors : (s : Seat B) → Has seats s → floor_of s ≡ 0
+    floors s h = ap (λ k. floor_in k) (plains s h)
+
+    own_floor : floor_of own ≡ 0
+    own_floor = ap (λ k. floor_in k) own_plain
+
+    under : (a b : ℕ) → a ≡ 0 → a < suc b
+    under a b e = omega arith
+
     -- the node leads
     leads : is_leading role ≡ true
     leads =
         bidding.leads same equal members two n member low u own number seats apart others now are ups rests up rest seen is_seen sees rounds
         cast past
-        most from room slots mays votes_are own_votes belows own_below heard eights enough
+        most from room slots mays votes_are own_votes flats plains flat own_plain belows own_below heard eights enough
 
     abbrev Bid : Type 0
     Bid = bidding.KnowsIt same equal members two n member low u own number seats apart others now are ups rests up rest seen is_seen sees
         rounds cast
-        past most from room slots mays votes_are own_votes belows own_below heard eights enough p role
+        past most from room slots mays votes_are own_votes flats plains flat own_plain belows own_below heard eights enough p role
 
     bid : Bid
     bid =
         (bidding.bid same equal members two n member low u own number seats apart others now are ups rests up rest seen is_seen sees rounds
         cast past
-        most from room slots mays votes_are own_votes belows own_below heard eights enough).own
+        most from room slots mays votes_are own_votes flats plains flat own_plain belows own_below heard eights enough).own
 
     helper_is : (s : Seat B) → Has seats s
         → Ready same equal members two n member (suc seen) (node_at p.nodes n) s.number (now s).rows.votes (node_at p.nodes s.number)
@@ -145,9 +167,10 @@ module _ {B : Type 0} (same : B → B → Bool) (equal : IsEquality same) (membe
         (sym
         ((bidding.bid same equal members two n member low u own number seats apart others now are ups rests up rest seen is_seen sees rounds
         cast past
-        most from room slots mays votes_are own_votes belows own_below heard eights enough).helpers s h))
+        most from room slots mays votes_are own_votes flats plains flat own_plain belows own_below heard eights enough).helpers s h))
         (ready_after same equal members two n member low (suc seen) (node_at p.nodes n) (now s) s.number first (ups s h) (rests s h)
         (mays s h)
+        (flats s h)
         (heards s h))
 
     -- what a helper has is what it reported, or below the first slot
@@ -156,7 +179,7 @@ module _ {B : Type 0} (same : B → B → Bool) (equal : IsEquality same) (membe
         (node_at p.nodes s.number)
     ready s h =
         let r = helper_is s h in
-        record { up = r.up; promised = r.promised; votes_are = refl; own = r.own; rests = r.rests }
+        record { up = r.up; promised = r.promised; votes_are = refl; plain = r.plain; own = r.own; rests = r.rests }
 
     p_is : played same members (before ++ leading) ≡ p
     p_is = play_on same members before leading (first_world members)
@@ -181,21 +204,36 @@ module _ {B : Type 0} (same : B → B → Bool) (equal : IsEquality same) (membe
 
     ordered : Ordered (log_length y) role
     ordered =
-        led_ordered same members (log_length y) y.pending ballot (log_length y) (λ s. votes_then first cast s) seats
-        (asking own.number ballot first (votes_then first cast own)) (ap (λ (l : List _). suc (length l)) (sym log_is))
+        led_ordered same members (log_length y) y.pending ballot (log_length y) (floor_of own) (least (floor_of own) (log_length y) own_floor)
+        (λ s. votes_then first cast s) seats (asking own.number ballot first (floor_of own) (votes_then first cast own))
+        (λ s h. least (floor_of s) (log_length y) (floors s h)) (
+          ap (λ (l : List _). suc (length l)) (sym log_is),
+          λ c h. subst (λ (z : CountedPromise B). z.floor ≤ log_length y) (has_one h) (least (floor_of own) (log_length y) own_floor),
+        )
+      where
+        least : (a b : ℕ) → a ≡ 0 → a ≤ b
+        least a b e = omega arith
 
     abbrev Promised : CountedPromise B → Type 0
     Promised c = IsPromise first cast own seats c
 
-    backed : Backed same members (log_length y) y.pending ballot first Promised role
+    own_under : floor_of own < first
+    own_under = under (floor_of own) (log_length x) own_floor
+
+    promised_under : (c : CountedPromise B) → Promised c → c.floor < first
+    promised_under c (Own e) = subst (λ (d : CountedPromise B). d.floor < first) (sym e) own_under
+    promised_under c (Seated s h e) =
+        subst (λ (d : CountedPromise B). d.floor < first) (sym e) (under (floor_of s) (log_length x) (floors s h))
+
+    backed : Backed same members (log_length y) y.pending ballot first (floor_of own) own_under Promised promised_under role
     backed =
         ⊎_elim (λ b. b)
-        (λ (a : Asks same members (log_length y) y.pending ballot first Promised role). absurd (off
+        (λ (a : Asks same members (log_length y) y.pending ballot first (floor_of own) own_under Promised promised_under role). absurd (off
         (sym (ap (λ r. is_leading r) a.role) ∙ leads)))
-        (hears_all same members (log_length y) y.pending ballot first Promised (λ s. votes_then first cast s) seats
-        (asking own.number ballot first (votes_then first cast own)) (λ s h. Seated s h refl)
+        (hears_all same members (log_length y) y.pending ballot first (floor_of own) own_under Promised promised_under (λ s. votes_then first cast s) seats
+        (asking own.number ballot first (floor_of own) (votes_then first cast own)) (λ s h. Seated s h refl)
         (inr (record {
-          cs = record { node = own.number; votes = votes_then first cast own } ∷ [];
+          cs = record { node = own.number; floor = floor_of own; votes = votes_then first cast own } ∷ [];
           role = refl;
           from = λ c h. Own (sym (has_one h));
         })))
@@ -260,7 +298,7 @@ module _ {B : Type 0} (same : B → B → Bool) (equal : IsEquality same) (membe
     short : (k : ℕ) (v : Vote B) → crew k ≡ true → Has (node_at p.nodes k).rows.votes v → v.slot ≤ log_length y + length table
     short k v t h = let c = counted_is backed.cs k t in go c.0 c.1 (backed.from c.0 c.1) c.2
       where
-        own_case : (c : CountedPromise B) → Has backed.cs c → c ≡ record { node = own.number; votes = votes_then first cast own } → k ≡ n
+        own_case : (c : CountedPromise B) → Has backed.cs c → c ≡ record { node = own.number; floor = floor_of own; votes = votes_then first cast own } → k ≡ n
             → v.slot ≤ log_length y + length table
         own_case c i e at_n =
             ⊎_elim (λ g. slots_within (log_length y) table v after_table g)
@@ -269,7 +307,7 @@ module _ {B : Type 0} (same : B → B → Bool) (equal : IsEquality same) (membe
             (subst (λ j. Has (node_at p.nodes j).rows.votes v) at_n h)))
 
         seat_case : (c : CountedPromise B) → Has backed.cs c → (s : Seat B) → Has seats s
-            → c ≡ record { node = s.number; votes = votes_then first cast s } → s.number ≡ k → v.slot ≤ log_length y + length table
+            → c ≡ record { node = s.number; floor = floor_of s; votes = votes_then first cast s } → s.number ≡ k → v.slot ≤ log_length y + length table
         seat_case c i s g e at_s =
             held c i (now s).rows.votes (ap (λ (d : CountedPromise B). d.votes) e ∙ ap (λ l. votes_from first l) (sym (votes_are s g))) v
             (subst (λ l. Has l v) (helper_is s g).votes_are (subst (λ j. Has (node_at p.nodes j).rows.votes v) (sym at_s) h))
@@ -340,6 +378,7 @@ module _ {B : Type 0} (same : B → B → Bool) (equal : IsEquality same) (membe
           up = r.up;
           promised = r.promised;
           votes_are = r.votes_are ∙ ap (λ l. put_votes vs l) (helper_is s h).votes_are;
+          plain = r.plain;
           own = r.own;
           rests = r.rests;
         }
@@ -478,7 +517,7 @@ module _ {B : Type 0} (same : B → B → Bool) (equal : IsEquality same) (membe
         one_pass.others j d g
         ∙ ((bidding.bid same equal members two n member low u own number seats apart others now are ups rests up rest seen is_seen sees
         rounds cast past
-        most from room slots mays votes_are own_votes belows own_below heard eights enough).others j d g
+        most from room slots mays votes_are own_votes flats plains flat own_plain belows own_below heard eights enough).others j d g
         ∙ (bidding.started same equal members two n member low u own number seats apart others now are ups rests up rest seen is_seen sees
         rounds cast
         past most).others j d)

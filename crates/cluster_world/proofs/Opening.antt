@@ -11,6 +11,7 @@ use Rattle.cluster_world.specs.Has.{Has}
 use Rattle.paxos_packets.specs.Body.{IsEquality}
 use Rattle.paxos_packets.specs.Members.{IsMember}
 use Rattle.paxos_packets.specs.Packet.{packet}
+use Rattle.paxos_packets.specs.Snapshot.{floor_in}
 use Rattle.paxos_packets.specs.Vote.{votes_from}
 use Rattle.paxos_packets.specs.declared.ballot.Ballot.{Ballot}
 use Rattle.paxos_packets.specs.declared.packet.Kind.TheVariants.{Prepare}
@@ -32,7 +33,7 @@ in_ballot n b x =
     record x {
       rows = with_promise b x.rows;
       proposer = record {
-        role = asking n b (suc (log_length x)) (votes_from (suc (log_length x)) x.rows.votes);
+        role = asking n b (suc (log_length x)) (floor_in x.rows.snapshot) (votes_from (suc (log_length x)) x.rows.votes);
         seen = max x.proposer.seen b.round;
       };
     }

@@ -1,7 +1,7 @@
 -- Each helper casts the votes that a leader asks for, and the leader learns them or goes down.
 use Rattle.std.proofs.Common.{◌≡◌, ◌⊎◌, inl, inr, ⊎_elim, ℕ, zero, suc, ◌+◌, ◌*◌, ◌<◌, ◌≤◌, Bool, true, false, not, eqb, refl, sym, ap, ◌∙◌}
 use Rattle.std.proofs.Common.{subst, arith}
-use Rattle.std.proofs.Common.{List, [], ◌∷◌, ◌++◌, Some}
+use Rattle.std.proofs.Common.{List, [], ◌∷◌, ◌++◌, Some, None}
 use Rattle.std.specs.Prelude.{fold, if◌then◌else◌}
 use Rattle.std.specs.List.{flat_map, list_any}
 use Rattle.std.proofs.lemmas.List.{append-nil, append_assoc}
@@ -27,7 +27,7 @@ use Rattle.paxos_packets.specs.declared.entry.Entry.{Entry}
 use Rattle.paxos_packets.specs.declared.packet.Kind.TheVariants.{Accept, Accepted}
 use Rattle.paxos_packets.specs.declared.packet.Packet.{Packet}
 use Rattle.paxos_packets.specs.declared.vote.Vote.{Vote}
-use Rattle.paxos_acceptor.specs.Acceptor.{may_accept}
+use Rattle.paxos_acceptor.specs.Acceptor.{may_accept, given_by}
 use Rattle.paxos_learner.specs.Learned.{is_learned}
 use Rattle.paxos_learner.specs.Learner.{LearnerState, hears, count_vote, run_from}
 use Rattle.paxos_learner.specs.Tallies.{place_of, nodes_heard}
@@ -37,7 +37,7 @@ use Rattle.paxos_node.specs.declared.event.Event.{Event}
 use Rattle.paxos_node.specs.declared.event.Event.TheVariants.{Deliver}
 use Rattle.paxos_planning.specs.Node.{NodeState, Plan, log_length}
 use Rattle.paxos_planning.specs.Plan.{begun, cast}
-use Rattle.paxos_planning.specs.Replies.{saw, refuse}
+use Rattle.paxos_planning.specs.Replies.{saw, refuse, cast_or_show}
 use Rattle.cluster_world.specs.World.{World, node_at, next, play}
 use Rattle.world_rescue.specs.Course.{Seat, cast_by, pass}
 use Rattle.cluster_world.specs.Rescue.{Apart}
@@ -111,6 +111,7 @@ module _ {B : Type 0} (same : B → B → Bool) (equal : IsEquality same) (membe
     pub up : x.up ≡ true
     pub promised : x.rows.promised ≡ Some ballot
     pub votes_are : x.rows.votes ≡ votes
+    pub plain : x.rows.snapshot ≡ None
     pub own : HeardOwn ballot k x.learner
     pub rests : AtRest x
 
@@ -124,8 +125,10 @@ module _ {B : Type 0} (same : B → B → Bool) (equal : IsEquality same) (membe
     casts_it : (k : ℕ) (votes : List (Vote B)) (x : NodeState B) → Ready k votes x
         → outcome_of same members (Deliver (question k)) x ≡ cast same members k v (record (begun x) { node = saw (Accept v) x })
     casts_it k votes x ready =
-        ap (λ (z : Plan B). settle k z) (cond-true (may_accept x.rows.promised v.ballot) (cast same members k v t)
-        (refuse k n v.ballot t) may)
+        ap (λ (z : Plan B). settle k z)
+        (cond-true (may_accept x.rows.promised v.ballot) (cast_or_show same members k n (given_by x.rows.snapshot v.slot) v t)
+        (refuse k n v.ballot t) may
+        ∙ ap (λ z. cast_or_show same members k n (given_by z v.slot) v t) ready.plain)
         ∙ settle_rest k (cast same members k v t) rests
       where
         t : Plan B
@@ -148,6 +151,7 @@ module _ {B : Type 0} (same : B → B → Bool) (equal : IsEquality same) (membe
           up = ready.up;
           promised = ap (λ c. Some c) mine;
           votes_are = ap (put_vote v) ready.votes_are;
+          plain = ready.plain;
           own = subst (λ l. HeardOwn ballot k l) (sym quiet) (hears_own ballot 0 k v x.learner ready.own);
           rests = (λ i. run_from (suc (log_length x)) (quiet i).learned) ∙ ready.rests;
         })

@@ -1,6 +1,6 @@
 -- The ballot of a rescue that the helpers promise: after their promises the node leads, and proposed what they call for.
-use Rattle.std.proofs.Common.{◌≡◌, ℕ, suc, ◌+◌, ◌<◌, ◌≤◌, Bool, true, sym, ap, ◌∙◌, subst, List, [], ◌∷◌, ◌++◌, length}
-use Rattle.std.specs.Prelude.{fold}
+use Rattle.std.proofs.Common.{◌≡◌, ℕ, suc, ◌+◌, ◌<◌, ◌≤◌, Bool, true, sym, ap, ◌∙◌, subst, List, [], ◌∷◌, ◌++◌, length, Option, None, arith}
+use Rattle.std.specs.Prelude.{max, fold}
 use Rattle.std.specs.List.{flat_map}
 use Rattle.std.proofs.lemmas.List.{append-nil}
 use Rattle.cluster_world.proofs.AtOnce.{AtRest, settle_rest}
@@ -11,13 +11,15 @@ use Rattle.cluster_world.proofs.Playing.{stepped, Moved, reached, answers, Visit
 use Rattle.cluster_world.specs.Has.{Has, here}
 use Rattle.paxos_packets.specs.Body.{IsEquality}
 use Rattle.paxos_packets.specs.Packet.{packet}
+use Rattle.paxos_packets.specs.Snapshot.{floor_in}
+use Rattle.paxos_packets.specs.Snapshot as taken
 use Rattle.paxos_packets.specs.Vote.{put_votes, votes_from}
 use Rattle.paxos_packets.specs.declared.ballot.Ballot.{Ballot}
 use Rattle.paxos_packets.specs.declared.packet.Kind.{Kind}
 use Rattle.paxos_packets.specs.declared.packet.Kind.TheVariants.{Prepare, Promise}
 use Rattle.paxos_packets.specs.declared.packet.Packet.{Packet}
 use Rattle.paxos_packets.specs.declared.vote.Vote.{Vote}
-use Rattle.paxos_acceptor.specs.Acceptor.{may_promise}
+use Rattle.paxos_acceptor.specs.Acceptor.{may_promise, promise_of}
 use Rattle.paxos_proposer.specs.Proposer.{slot_end}
 use Rattle.paxos_proposer.specs.Role.{Role}
 use Rattle.paxos_node.specs.declared.event.Event.{Event}
@@ -31,11 +33,11 @@ use Rattle.paxos_planning.specs.Replies.{saw, on_promise_as}
 use Rattle.cluster_world.specs.World.{World, node_at, next, play}
 use Rattle.world_rescue.specs.Course as course
 use Rattle.cluster_world.specs.Rescue.{Apart}
-use Rattle.world_rescue.specs.Course.{Seat, votes_then, promises}
+use Rattle.world_rescue.specs.Course.{Seat, floor_of, votes_then, promises}
 
 module _ {B : Type 0} (same : B → B → Bool) (equal : IsEquality same) (members : ℕ) (many : 2 ≤ members) (n : ℕ) (low : n < 8) (round : ℕ)
     (votes : List (Vote B)) (y : NodeState B) (rest : AtRest y) (first past most : ℕ) (from : first ≤ past)
-    (room : past + length y.pending ≤ most) (slots : most ≤ slot_end) (cast : List (Vote B)) (now : Seat B → NodeState B) where
+    (base : ℕ) (is_base : floor_in y.rows.snapshot ≡ base) (base_under : base < first) (room : past + length y.pending ≤ most) (slots : most ≤ slot_end) (cast : List (Vote B)) (now : Seat B → NodeState B) where
   abbrev pub ballot : Ballot
   ballot = record { round = round; node = n }
 
@@ -48,13 +50,13 @@ module _ {B : Type 0} (same : B → B → Bool) (equal : IsEquality same) (membe
   question s = packet n (Prepare ballot first) s.number
 
   abbrev pub answer : Seat B → Packet B
-  answer s = packet s.number (Promise ballot (votes_then first cast s)) n
+  answer s = packet s.number (Promise ballot (floor_of s) (votes_then first cast s)) n
 
   abbrev pub promise_then : Seat B → NodeState B
   promise_then s = stepped same members (Deliver (question s)) (now s)
 
   abbrev pub promise_turn : Seat B → Role B → Role B
-  promise_turn s r = course.hears same members (log_length y) y.pending ballot s.number (votes_then first cast s) r
+  promise_turn s r = course.hears same members (log_length y) y.pending ballot s.number (floor_of s) (votes_then first cast s) base r
 
   -- what is known of a helper before it is asked
   pub record Due (w : World B) (s : Seat B) : Type 0 where
@@ -63,6 +65,9 @@ module _ {B : Type 0} (same : B → B → Bool) (equal : IsEquality same) (membe
     pub rests : AtRest (now s)
     pub may : may_promise (now s).rows.promised ballot ≡ true
     pub votes_are : (now s).rows.votes ≡ put_votes cast s.node.rows.votes
+    pub plain : (now s).rows.snapshot ≡ None
+    pub was_plain : s.node.rows.snapshot ≡ None
+    pub one_at_least : 1 ≤ first
     pub below : AreBelow past (votes_then first cast s)
 
   abbrev Visit : World B → World B → Seat B → Role B → Type 0
@@ -75,6 +80,7 @@ module _ {B : Type 0} (same : B → B → Bool) (equal : IsEquality same) (membe
       record {
         up = ok.up;
         boot = ok.boot;
+        base = ok.base;
         promised = ok.promised;
         cast = ok.cast;
         role = ok.role;
@@ -110,13 +116,30 @@ module _ {B : Type 0} (same : B → B → Bool) (equal : IsEquality same) (membe
       m : Moved same members w u (Deliver (question s))
       m = reached same members equal w (question s) due.asked
 
+      -- no snapshot, so all its votes from the first slot on
+      answered : promise_of (now s).rows ballot first ≡ Promise ballot (floor_of s) vs
+      answered =
+          λ i. Promise ballot (floor_in (same_snapshot i)) (votes_from (from_first i) (due.votes_are i))
+        where
+          same_snapshot : (now s).rows.snapshot ≡ s.node.rows.snapshot
+          same_snapshot = due.plain ∙ sym due.was_plain
+
+          from_first : max first (suc (floor_in (now s).rows.snapshot)) ≡ first
+          from_first = ap (λ k. max first (suc (floor_in k))) due.plain ∙ least first due.one_at_least
+            where
+              least : (a : ℕ) → 1 ≤ a → max a 1 ≡ a
+              least a l = omega arith
+
+      floor_under : floor_of s < first
+      floor_under = subst (λ (k : Option taken.Snapshot). floor_in k < first) (sym due.was_plain) due.one_at_least
+
       sent : Has u.sent (answer s)
       sent =
           answers same members equal w (question s) (answer s) due.asked (ap (λ (x : NodeState B). x.up) is ∙ due.up_is)
           (subst (λ x. Has (outcome_of same members (Deliver (question s)) x).packets (answer s)) (sym is)
           (subst (λ (o : Plan B). Has o.packets (answer s)) (sym (promises_it same members n s.number first ballot
           (now s) due.rests due.may))
-          (subst (λ l. Has (packet s.number (Promise ballot (votes_from first l)) n ∷ []) (answer s)) (sym due.votes_are) here)))
+          (subst (λ z. Has (packet s.number z n ∷ []) (answer s)) (sym answered) here)))
 
       back : Moved same members u v (Deliver (answer s))
       back = reached same members equal u (answer s) sent
@@ -128,26 +151,26 @@ module _ {B : Type 0} (same : B → B → Bool) (equal : IsEquality same) (membe
       is_x = m.others n (λ i. apart (sym i))
 
       t : Plan B
-      t = record (begun x) { node = saw (Promise ballot vs) x }
+      t = record (begun x) { node = saw (Promise ballot (floor_of s) vs) x }
 
-      heard : Bids same members many n low ballot votes y (on_promise_as same members n s.number ballot vs r t).node
-          (u.sent ++ (on_promise_as same members n s.number ballot vs r t).packets) (promise_turn s r)
+      heard : Bids same members many n low ballot votes y (on_promise_as same members n s.number ballot (floor_of s) vs r t).node
+          (u.sent ++ (on_promise_as same members n s.number ballot (floor_of s) vs r t).packets) (promise_turn s r)
           × IsIn ballot first past most (promise_turn s r)
       heard =
-          hears_promise same members many n low ballot votes y u.sent s.number first past most vs r t
-          (seeing (Promise ballot vs) x w.sent (u.sent ++ []) r (λ p h. subst (λ l. Has l p) (sym (append-nil u.sent)) (m.stay p h))
+          hears_promise same members many n low ballot votes y u.sent s.number (floor_of s) base first past most vs r t
+          (seeing (Promise ballot (floor_of s) vs) x w.sent (u.sent ++ []) r (λ p h. subst (λ l. Has l p) (sym (append-nil u.sent)) (m.stay p h))
           (subst (λ z. Bids same members many n low ballot votes y z w.sent r) (sym is_x) knows.bids))
-          knows.is_in from due.below room slots
+          knows.is_in from due.below floor_under is_base base_under room slots
 
       o : Plan B
-      o = on_promise_as same members n s.number ballot vs r t
+      o = on_promise_as same members n s.number ballot (floor_of s) vs r t
 
       role_is : x.proposer.role ≡ r
       role_is = ap (λ (z : NodeState B). z.proposer.role) is_x ∙ knows.bids.role
 
       outcome_is : outcome_of same members (Deliver (answer s)) x ≡ o
       outcome_is =
-          ap (λ z. settle n (on_promise_as same members n s.number ballot vs z t)) role_is
+          ap (λ z. settle n (on_promise_as same members n s.number ballot (floor_of s) vs z t)) role_is
           ∙ settle_rest n o ((λ i. run_from (suc (length (heard.0.log i))) (heard.0.learned i)) ∙ rest)
 
       up_x : x.up ≡ true
@@ -168,6 +191,9 @@ module _ {B : Type 0} (same : B → B → Bool) (equal : IsEquality same) (membe
         rests = d.rests;
         may = d.may;
         votes_are = d.votes_are;
+        plain = d.plain;
+        was_plain = d.was_plain;
+        one_at_least = d.one_at_least;
         below = d.below;
       }
 

@@ -11,10 +11,11 @@ use Rattle.cluster_world.proofs.InvariantKept.{sent_right}
 use Rattle.cluster_world.proofs.WithNode.{with_node, Kept, kept_on, mine_ok}
 use Rattle.cluster_world.proofs.Quiet.{quiet_moved}
 use Rattle.cluster_world.proofs.AcceptorTests.{sent_nil, others_sent}
-use Rattle.cluster_world.proofs.Active.{accept_moved, offer_moved}
+use Rattle.cluster_world.proofs.Active.{accept_moved, offer_moved, is_high}
 use Rattle.cluster_world.proofs.Learner.{learner_of, with_learner_ok, count_ok, vote_agrees}
 use Rattle.paxos_packets.specs.Ballot.{below}
 use Rattle.paxos_packets.specs.Packet.{to_others}
+use Rattle.paxos_packets.specs.Snapshot.{Snapshot, floor_in}
 use Rattle.paxos_packets.specs.declared.ballot.Ballot.{Ballot}
 use Rattle.paxos_packets.specs.declared.entry.Entry.{Entry}
 use Rattle.paxos_packets.specs.declared.packet.Packet.{Packet}
@@ -65,21 +66,25 @@ module _ {B : Type 0} (members : ℕ) (many : 2 ≤ members) (at : ℕ → NodeS
       → Sent sent k (Accepted v) → Kept members at n x sent (counted_at members k v x) sent
   count_kept x sent k v inv s = silent x (counted_at members k v x) sent inv refl (counted_ok x sent k v inv s)
 
+  -- its snapshot does not give the vote's slot
+  abbrev pub IsAbove : NodeState B → Vote B → Type 0
+  IsAbove x v = (s : Snapshot) → x.rows.snapshot ≡ Some s → s.floor < v.slot
+
   pub cast_kept : (x : NodeState B) (sent : List (Packet B)) (v : Vote B) → Inv members (with_node at n x) sent
-      → may_accept x.rows.promised v.ballot ≡ true → Known sent (Accept v)
+      → may_accept x.rows.promised v.ballot ≡ true → IsAbove x v → Known sent (Accept v)
       → Kept members at n x sent (counted_at members n v (voted_at v x)) (sent ++ to_others members n (Accepted v))
-  cast_kept x sent v inv may known =
-      let a = accept_moved members at n x sent v inv may known in
+  cast_kept x sent v inv may high known =
+      let a = accept_moved members at n x sent v inv may high known in
       kept_on a
       (count_kept (voted_at v x) (sent ++ to_others members n (Accepted v)) n v a.inv
       (sent_right sent (others_sent members n many (Accepted v))))
 
   -- a vote of its own brings no disagreement
   pub cast_agrees : (same : B → B → Bool) → IsEquality same → (x : NodeState B) (sent : List (Packet B)) (v : Vote B)
-      → Inv members (with_node at n x) sent → may_accept x.rows.promised v.ballot ≡ true → Known sent (Accept v)
+      → Inv members (with_node at n x) sent → may_accept x.rows.promised v.ballot ≡ true → IsAbove x v → Known sent (Accept v)
       → vote_disagrees same members n v x.learner ≡ false
-  cast_agrees same equal x sent v inv may known =
-      let a = accept_moved members at n x sent v inv may known in
+  cast_agrees same equal x sent v inv may high known =
+      let a = accept_moved members at n x sent v inv may high known in
       let later = sent ++ to_others members n (Accepted v) in
       vote_agrees members (promises (with_node at n (voted_at v x))) later n same equal x.learner n v a.inv.packets
       (learner_of members (promises (with_node at n (voted_at v x))) later n (voted_at v x)
@@ -87,9 +92,9 @@ module _ {B : Type 0} (members : ℕ) (many : 2 ≤ members) (at : ℕ → NodeS
       (sent_right sent (others_sent members n many (Accepted v)))
 
   pub leads : (x : NodeState B) (sent : List (Packet B)) (b : Ballot) (next : ℕ) (table : List (Vote B)) → Inv members (with_node at n x) sent
-      → x.proposer.role ≡ Leading b next table → LeadingOk x.rows.promised sent n b next table
+      → x.proposer.role ≡ Leading b next table → LeadingOk x.rows.promised (floor_in x.rows.snapshot) sent n b next table
   leads x sent b next table inv is =
-      subst (λ r. RoleOk (promises (with_node at n x)) x.rows.promised sent n r) is (mine_ok members at n x sent inv).role
+      subst (λ r. RoleOk (promises (with_node at n x)) x.rows.promised (floor_in x.rows.snapshot) sent n r) is (mine_ok members at n x sent inv).role
 
   -- the proposal is made
   pub offer_kept : (x : NodeState B) (sent : List (Packet B)) (b : Ballot) (next : ℕ) (table : List (Vote B)) (e : Entry B)
@@ -102,6 +107,10 @@ module _ {B : Type 0} (members : ℕ) (many : 2 ≤ members) (at : ℕ → NodeS
   offered_may : (x : NodeState B) (sent : List (Packet B)) (b : Ballot) (next : ℕ) (table : List (Vote B))
       → Inv members (with_node at n x) sent → x.proposer.role ≡ Leading b next table → may_accept x.rows.promised b ≡ true
   offered_may x sent b next table inv is = accept_own x.rows.promised b (leads x sent b next table inv is).exact
+
+  offered_high : (x : NodeState B) (sent : List (Packet B)) (b : Ballot) (next : ℕ) (table : List (Vote B)) (e : Entry B)
+      → Inv members (with_node at n x) sent → x.proposer.role ≡ Leading b next table → IsAbove x (next_vote b next e)
+  offered_high x sent b next table e inv is = is_high x.rows.snapshot next (leads x sent b next table inv is).high
 
   offer_known : (sent : List (Packet B)) (b : Ballot) (next : ℕ) (e : Entry B)
       → Known (sent ++ to_others members n (Accept (next_vote b next e))) (Accept (next_vote b next e))
@@ -117,7 +126,7 @@ module _ {B : Type 0} (members : ℕ) (many : 2 ≤ members) (at : ℕ → NodeS
       let a = offer_kept x sent b next table e inv is safe in
       kept_on a
       (cast_kept (with_role (offered b next table e) x) (sent ++ to_others members n (Accept (next_vote b next e))) (next_vote b next e)
-      a.inv (offered_may x sent b next table inv is) (offer_known sent b next e))
+      a.inv (offered_may x sent b next table inv is) (offered_high x sent b next table e inv is) (offer_known sent b next e))
 
   pub offer_agrees : (same : B → B → Bool) → IsEquality same
       → (x : NodeState B) (sent : List (Packet B)) (b : Ballot) (next : ℕ) (table : List (Vote B)) (e : Entry B)
@@ -127,18 +136,20 @@ module _ {B : Type 0} (members : ℕ) (many : 2 ≤ members) (at : ℕ → NodeS
   offer_agrees same equal x sent b next table e inv is safe =
       let a = offer_kept x sent b next table e inv is safe in
       cast_agrees same equal (with_role (offered b next table e) x) (sent ++ to_others members n (Accept (next_vote b next e)))
-      (next_vote b next e) a.inv (offered_may x sent b next table inv is) (offer_known sent b next e)
+      (next_vote b next e) a.inv (offered_may x sent b next table inv is) (offered_high x sent b next table e inv is)
+      (offer_known sent b next e)
 
 -- what a plan leaves alone; it has taken this many acts
 pub record Stays {B : Type 0} (taken : ℕ) (t u : Plan B) : Type 0 where
   pub boot : u.node.rows.boot ≡ t.node.rows.boot
+  pub base : u.node.rows.snapshot ≡ t.node.rows.snapshot
   pub up : u.node.up ≡ t.node.up
   pub log : u.node.applied ≡ t.node.applied
   pub news : u.applied ≡ t.applied
   pub acts : u.node.taken ≡ taken
 
 pub stays_on : {B : Type 0} {k : ℕ} {t u v : Plan B} → Stays k t u → Stays u.node.taken u v → Stays k t v
-stays_on s r = record { boot = r.boot ∙ s.boot; up = r.up ∙ s.up; log = r.log ∙ s.log; news = r.news ∙ s.news; acts = r.acts ∙ s.acts }
+stays_on s r = record { boot = r.boot ∙ s.boot; base = r.base ∙ s.base; up = r.up ∙ s.up; log = r.log ∙ s.log; news = r.news ∙ s.news; acts = r.acts ∙ s.acts }
 
 -- the same, of plans
 module _ {B : Type 0} (same : B → B → Bool) (equal : IsEquality same) (members : ℕ) (many : 2 ≤ members) (at : ℕ → NodeState B) (n : ℕ)
@@ -202,7 +213,7 @@ module _ {B : Type 0} (same : B → B → Bool) (equal : IsEquality same) (membe
             λ d.
             neither t.disagrees (vote_disagrees same members n (next_vote b next e) t.node.learner) d
             (offer_agrees members many at n same equal t.node (before ++ t.packets) b next table e inv is safe);
-        stays = record { boot = refl; up = refl; log = refl; news = refl; acts = refl };
+        stays = record { boot = refl; base = refl; up = refl; log = refl; news = refl; acts = refl };
       }
 
   pub proposed_role : (t : Plan B) (b : Ballot) (next : ℕ) (table : List (Vote B)) (e : Entry B)
@@ -225,7 +236,7 @@ module _ {B : Type 0} (same : B → B → Bool) (equal : IsEquality same) (membe
             record {
               going = kept_none members many at n t.node (before ++ t.packets) inv;
               agrees = λ e. e;
-              stays = record { boot = refl; up = refl; log = refl; news = refl; acts = refl };
+              stays = record { boot = refl; base = refl; up = refl; log = refl; news = refl; acts = refl };
             };
         free = free;
       }

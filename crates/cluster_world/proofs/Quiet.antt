@@ -5,23 +5,25 @@ use Rattle.cluster_world.proofs.Invariant.{Sent, Known, IsChosen, Grows, Packets
 use Rattle.cluster_world.proofs.Growth.{known_grows, safe_grows, chosen_grows, vote_of_grows, role_grows}
 use Rattle.cluster_world.proofs.InvariantKept.{sent_cases, known_cases}
 use Rattle.cluster_world.proofs.WithNode.{with_node, Kept, plan_moved}
+use Rattle.paxos_packets.specs.Snapshot.{floor_in}
 use Rattle.paxos_planning.specs.Node.{NodeState}
 use Rattle.paxos_packets.specs.declared.ballot.Ballot.{Ballot}
 use Rattle.paxos_packets.specs.declared.packet.Kind.{Kind}
 use Rattle.paxos_packets.specs.declared.packet.Packet.{Packet}
 use Rattle.paxos_packets.specs.declared.vote.Vote.{Vote}
-use Rattle.paxos_packets.specs.declared.packet.Kind.TheVariants.{Prepare, Promise, Accept, Accepted, Nack, Forward, Ask, Learned}
+use Rattle.paxos_packets.specs.declared.packet.Kind.TheVariants.{Prepare, Promise, Accept, Accepted, Nack, Forward, Ask, Learned, Snapshot}
 
 -- what may be sent at any time
 abbrev pub QuietKind : {B : Type 0} → ℕ → List (Packet B) → ℕ → Kind B → Type 0
 QuietKind members sent n (Prepare b floor) = (b.node ≡ n) × Known sent (Prepare b floor)
-QuietKind members sent n (Promise b votes) = ⊥
+QuietKind members sent n (Promise b floor votes) = ⊥
 QuietKind members sent n (Accept v) = (v.ballot.node ≡ n) × Known sent (Accept v)
 QuietKind members sent n (Accepted v) = ⊥
 QuietKind members sent n (Nack b p) = Unit {0}
 QuietKind members sent n (Forward es) = Unit {0}
 QuietKind members sent n (Ask s) = Unit {0}
 QuietKind members sent n (Learned s e) = IsChosen members sent s e
+QuietKind members sent n (Snapshot s) = Unit {0}
 
 module _ {B : Type 0} (members : ℕ) (promised now : ℕ → Option Ballot) (sent new : List (Packet B)) (n : ℕ)
     (g : Grows promised now sent (sent ++ new))
@@ -42,7 +44,7 @@ module _ {B : Type 0} (members : ℕ) (promised now : ℕ → Option Ballot) (se
         reaches = subst (λ j. Reaches (now j) b) q.0 (g.higher b.node b (ok.asked_low b floor q.1));
         one = λ f p. ok.asked_one b f floor (old_asks b f p) q.1;
       }
-  kind_quiet ok (Promise b votes) q = absurd q
+  kind_quiet ok (Promise b floor votes) q = absurd q
   kind_quiet ok (Accept v) q =
       record {
         owner = q.0;
@@ -55,17 +57,20 @@ module _ {B : Type 0} (members : ℕ) (promised now : ℕ → Option Ballot) (se
   kind_quiet ok (Forward es) q = tt
   kind_quiet ok (Ask s) q = tt
   kind_quiet ok (Learned s e) q = chosen_grows g q
+  kind_quiet ok (Snapshot s) q = tt
 
   node_quiet : (x : NodeState B) → NodeOk members promised sent n x → NodeOk members now (sent ++ new) n x
   node_quiet x ok =
       record {
         rows = record {
           reached = λ w s. ok.rows.reached w (old_votes n w s);
-          tops = λ w s. ok.rows.tops w (old_votes n w s);
+          tops = λ w s l. ok.rows.tops w (old_votes n w s) l;
+          above = ok.rows.above;
           low = ok.rows.low;
           known = λ u h. known_grows g (ok.rows.known u h);
         };
-        role = role_grows g n (λ b o f p. old_asks b f p) (λ v o p. old_offers v p) x.rows.promised x.proposer.role ok.role;
+        role = role_grows g n (λ b o f p. old_asks b f p) (λ v o p. old_offers v p) x.rows.promised (floor_in x.rows.snapshot) x.proposer.role
+            ok.role;
         heard = λ t i k q. vote_of_grows g (ok.heard t i k q);
         learned = λ f i. chosen_grows g (ok.learned f i);
       }

@@ -1,17 +1,16 @@
 -- What readers of a world in code return.
-use Rattle.std.proofs.Common.{◌≡◌, ℕ, zero, suc, ◌+◌, ◌<◌, ◌≤◌, take, append_assoc, refl, sym, ap, ◌∙◌, arith, List, [], ◌∷◌, ◌++◌, length, Option, Some, None}
+use Rattle.std.proofs.Common.{◌≡◌, Bool, false, subst, ℕ, zero, suc, ◌+◌, ◌<◌, ◌≤◌, take, append_assoc, refl, sym, ap, ◌∙◌, arith, List, [], ◌∷◌, ◌++◌, length, Some, None}
 use Rattle.std.specs.Prelude.{slice_get, slice_index_or, Result, Ok, Err, OnOk, OnErr}
 use Rattle.std.proofs.lemmas.List.{get_or_past, length-map, append-nil, take_all}
 use Rattle.std.proofs.lemmas.Option.{slice_get_past, slice_get_read}
-use Rattle.paxos_packets.specs.declared.transport.Transport.{Transport}
 use Rattle.paxos_planning.specs.Node.{NodeState}
-use Rattle.replica_machine.specs.Replay.{Machine}
 use Rattle.replica_follower.specs.Following.{Followed}
-use Rattle.cluster_world.specs.Laws.{IsPrefixOf}
+use Rattle.paxos_node.specs.declared.event.Event.{Event}
 use Rattle.cluster_world.specs.Members.{MemberState, nodes_of, machines_of}
-use Rattle.cluster_world.specs.StandsAt.{Held, told_by, machine_at, StandsIn}
-use Rattle.cluster_world.specs.World.{World, absent, node_at, handed}
+use Rattle.cluster_world.specs.StandsAt.{Held, HasLog, machine_at, Shows, ShowsAt}
+use Rattle.cluster_world.specs.World.{World, absent, node_at, played}
 use Rattle.cluster_world.proofs.Replacing.{get_map}
+use Rattle.cluster_world.proofs.Pending.{down_is_rows}
 use Rattle.cluster_world.proofs.Worlds.{node_of_get}
 
 module _ {B M Y : Type 0} (list : List (MemberState B M Y)) where
@@ -34,22 +33,22 @@ module _ {B M Y : Type 0} (list : List (MemberState B M Y)) where
       ap (λ k. machine_at (machines_of list) k) is
       ∙ slice_get_past (machines_of list) i (let g = length-map list (λ (z : MemberState B M Y). z.machine) in omega (arith, g, l))
 
-module _ {B M S Y : Type 0} (content : M → S) (m : Machine B S Y) (w : Held B M Y) (v : World B) (h : StandsIn content m w v) where
-  some_eq : {A : Type 0} {x y : A} → Some x ≡ Some y → x ≡ y
-  some_eq e = cc
+module _ {B M Y : Type 0} (w : Held B M Y) (v : World B) (h : Shows w v) where
+  log_of_at : (n : ℕ) (f : Followed B M Y) → machine_at w.machines n ≡ Some f → HasLog (node_at w.nodes n) f
+  log_of_at zero f e = absurd (cc)
+  log_of_at (suc i) f e = h.logs i f e
 
-  pub front_at : (n : ℕ) (f : Followed B M Y) → machine_at w.machines n ≡ Some f → IsPrefixOf (node_at w.nodes n).applied f.log
-  front_at zero f e = absurd (cc)
-  front_at (suc i) f e = (h.attends i f e).front
+  pub has_log_at : (n : ℕ) (x : NodeState B) (f : Followed B M Y) → node_at w.nodes n ≡ x → machine_at w.machines n ≡ Some f → HasLog x f
+  has_log_at n x f is e = subst (λ y. HasLog y f) is (log_of_at n f e)
 
-  pub log_at : (n : ℕ) (x : NodeState B) → node_at w.nodes n ≡ x → x.applied ≡ (node_at v.nodes n).applied
-  log_at n x e = ap (λ (y : NodeState B). y.applied) (sym e ∙ ap (λ ns. node_at ns n) h.nodes)
-
-  pub up_at : (n : ℕ) (x : NodeState B) → node_at w.nodes n ≡ x → x.up ≡ (node_at v.nodes n).up
-  up_at n x e = ap (λ (y : NodeState B). y.up) (sym e ∙ ap (λ ns. node_at ns n) h.nodes)
-
-  pub told_at : (t : Transport) (o : Option (Followed B M Y)) → machine_at w.machines t.node ≡ o → told_by o t ≡ handed m t v
-  told_at t o e = ap (λ f. told_by f t) (sym e) ∙ h.handed t
+-- a node that is down has no log
+pub none_down : {B M Y : Type 0} (same : B → B → Bool) (w : Held B M Y) (es : List (Event B)) → ShowsAt same w es
+    → (n : ℕ) (x : NodeState B) → node_at w.nodes n ≡ x → x.up ≡ false → x.applied ≡ []
+none_down same w es h n x is d =
+    let there = ap (λ ns. node_at ns n) h.nodes in
+    let here : x ≡ node_at (played same w.members es).nodes n = sym is ∙ there in
+    ap (λ (y : NodeState _). y.applied)
+    (here ∙ down_is_rows same w.members es n (ap (λ (y : NodeState _). y.up) (sym here) ∙ d))
 
 -- one event on, or not
 pub leads_on : {E R F : Type 0} (P : List E → Type 0) (r : Result R F) (es : List E) (e : E) → OnOk r (P (es ++ e ∷ [])) → OnErr r (P es)

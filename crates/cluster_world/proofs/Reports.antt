@@ -1,6 +1,6 @@
 -- What the promises of a majority call for.
 use Rattle.std.proofs.Common.{◌≡◌, ◌⊎◌, inl, inr, ⊎_elim, ℕ, zero, suc, ◌<◌, ◌≤◌, Bool, true, false, ◌&&◌, eqb, refl, sym, ap, ◌∙◌, subst}
-use Rattle.std.proofs.Common.{arith, List, [], ◌∷◌, length, Option, Some, None}
+use Rattle.std.proofs.Common.{arith, max, List, [], ◌∷◌, length, Option, Some, None}
 use Rattle.std.proofs.lemmas.Bool.{cond_both, cond-true, cond-false, cases_Bool, ltb-true, eqb-true, eq-eqb, and_parts, and_cases, or_cases}
 use Rattle.cluster_world.proofs.Order.{Le, le_refl, le_trans, lt_le, lt_from_test, le_from_test}
 use Rattle.cluster_world.proofs.Lists.{has_cons, has_nil, has_left, has_right, has_cases}
@@ -9,6 +9,7 @@ use Rattle.paxos_packets.specs.Ballot.{below}
 use Rattle.cluster_world.specs.Has.{Has, here, there}
 use Rattle.paxos_packets.specs.Members.{is_majority}
 use Rattle.paxos_proposer.specs.declared.promises.CountedPromise.{CountedPromise}
+use Rattle.paxos_proposer.specs.Promises.{above_floors, lowest}
 use Rattle.paxos_proposer.specs.Reports.{entry_or_noop, better, best, reports, past_reports, is_counted, called_in}
 use Rattle.paxos_proposer.specs.Proposer.{next_vote}
 use Rattle.paxos_packets.specs.declared.ballot.Ballot.{Ballot}
@@ -147,14 +148,54 @@ pub length-called_in : {B : Type 0} (vs : List (Vote B)) (slot n : ℕ) → leng
 length-called_in vs slot zero = refl
 length-called_in vs slot (suc n) = ap suc (length-called_in vs (suc slot) n)
 
-module _ {B : Type 0} (members : ℕ) (promised : ℕ → Option Ballot) (sent : List (Packet B)) (b : Ballot) (floor : ℕ)
+-- the first slot above each floor
+pub above_has : {B : Type 0} (cs : List (CountedPromise B)) (slot : ℕ) → (slot ≤ above_floors slot cs)
+    × ((c : CountedPromise B) → Has cs c → c.floor < above_floors slot cs)
+above_has [] slot = (omega arith, λ c h. absurd (has_nil h))
+above_has {B} (d ∷ cs) slot =
+    let r = above_has cs (max slot (suc d.floor)) in (
+      (let l = r.0 in omega arith),
+      λ c h. ⊎_elim (λ e. subst (λ (z : CountedPromise B). z.floor < above_floors (max slot (suc d.floor)) cs) e (let l = r.0 in omega arith))
+          (λ i. r.1 c i) (has_cons h),
+    )
+
+-- a leader's first slot: not before the one that was asked for, above its own floor and each one reported
+pub lowest_has : {B : Type 0} (first own : ℕ) (cs : List (CountedPromise B)) → (first ≤ lowest first own cs) × (own < lowest first own cs)
+    × ((c : CountedPromise B) → Has cs c → c.floor < lowest first own cs)
+lowest_has first own cs =
+    let r = above_has cs (max first (suc own)) in ((let l = r.0 in omega arith), (let l = r.0 in omega arith), r.1)
+
+-- it is the one that was asked for, if no floor reaches it
+above_is : {B : Type 0} (slot : ℕ) (cs : List (CountedPromise B)) → ((c : CountedPromise B) → Has cs c → c.floor < slot)
+    → above_floors slot cs ≡ slot
+above_is slot [] h = refl
+above_is slot (c ∷ cs) h = ap (λ k. above_floors k cs) (greater c.floor (h c here)) ∙ above_is slot cs (λ d i. h d (there i))
+  where
+    greater : (a : ℕ) → a < slot → max slot (suc a) ≡ slot
+    greater a l = omega arith
+
+pub lowest_is : {B : Type 0} (first own : ℕ) (cs : List (CountedPromise B)) → own < first
+    → ((c : CountedPromise B) → Has cs c → c.floor < first) → lowest first own cs ≡ first
+lowest_is first own cs l h = ap (λ k. above_floors k cs) (greater own l) ∙ above_is first cs h
+  where
+    greater : (a : ℕ) → a < first → max first (suc a) ≡ first
+    greater a g = omega arith
+
+module _ {B : Type 0} (members : ℕ) (promised : ℕ → Option Ballot) (sent : List (Packet B)) (b : Ballot) (first : ℕ)
     (cs : List (CountedPromise B)) (most : is_majority members (is_counted cs) ≡ true)
-    (kept : (c : CountedPromise B) → Has cs c → Tells promised sent c.node b floor c.votes) where
-  told_by : (k : ℕ) → is_counted cs k ≡ true → (c : CountedPromise B) × Has cs c × Tells promised sent k b floor c.votes
-  told_by k e = let c = counted_has cs k e in (c.0, c.1, subst (λ j. Tells promised sent j b floor c.0.votes) c.2 (kept c.0 c.1))
+    (kept : (c : CountedPromise B) → Has cs c → Tells promised sent c.node b first c.floor c.votes) (low : ℕ) (from : first ≤ low)
+    (over : (c : CountedPromise B) → Has cs c → c.floor < low) where
+  told_by : (k : ℕ) → is_counted cs k ≡ true → (c : CountedPromise B) × Has cs c × Tells promised sent k b first c.floor c.votes
+  told_by k e =
+      let c = counted_has cs k e in
+      (c.0, c.1, subst (λ j. Tells promised sent j b first c.0.floor c.0.votes) c.2 (kept c.0 c.1))
+
+  -- from the leader's first slot on each report tells of the slot
+  covers : (slot s : ℕ) → low ≤ slot → s ≡ slot → (c : CountedPromise B) → Has cs c → (first ≤ s) × (c.floor < s)
+  covers slot s l e c h = let g = over c h in (omega arith, omega arith)
 
   -- what the reports call for in a slot is safe there
-  pub called_safe : (slot : ℕ) → floor ≤ slot → Safe members promised sent (next_vote b slot (entry_or_noop (best slot (reports cs))))
+  pub called_safe : (slot : ℕ) → low ≤ slot → Safe members promised sent (next_vote b slot (entry_or_noop (best slot (reports cs))))
   called_safe slot l =
       record {
         quorum = is_counted cs;
@@ -162,8 +203,10 @@ module _ {B : Type 0} (members : ℕ) (promised : ℕ → Option Ballot) (sent :
         backs =
             λ k m q.
             let t = told_by k q in
-            record
-            { reaches = t.2.reaches; carries = λ w s a i. carried k w s t.0 t.1 (t.2.told w (subst (λ z. floor ≤ z) (sym s) l) a i) };
+            record {
+              reaches = t.2.reaches;
+              carries = λ w s a i. let z = covers slot w.slot l s t.0 t.1 in carried k w s t.0 t.1 (t.2.told w z.0 z.1 a i);
+            };
       }
     where
       carried : (k : ℕ) (w : Vote B) → w.slot ≡ slot → (c : CountedPromise B) → Has cs c → Tops c.votes w
@@ -181,7 +224,7 @@ module _ {B : Type 0} (members : ℕ) (promised : ℕ → Option Ballot) (sent :
                 ((kept d.0 d.1).known a.m d.2);
           }
 
-  pub past_free : (slot : ℕ) → floor ≤ slot → past_reports floor (reports cs) ≤ slot → Free members promised sent b slot
+  pub past_free : (slot : ℕ) → low ≤ slot → past_reports low (reports cs) ≤ slot → Free members promised sent b slot
   past_free slot l p =
       record {
         quorum = is_counted cs;
@@ -189,15 +232,18 @@ module _ {B : Type 0} (members : ℕ) (promised : ℕ → Option Ballot) (sent :
         clear =
             λ k m q.
             let t = told_by k q in
-            record { reaches = t.2.reaches; never = λ w s a i. never w s t.0 t.1 (t.2.told w (subst (λ z. floor ≤ z) (sym s) l) a i) };
+            record {
+              reaches = t.2.reaches;
+              never = λ w s a i. let z = covers slot w.slot l s t.0 t.1 in never w s t.0 t.1 (t.2.told w z.0 z.1 a i);
+            };
       }
     where
       never : (w : Vote B) → w.slot ≡ slot → (c : CountedPromise B) → Has cs c → Tops c.votes w → ⊥
-      never w s c h t = let z = past_has floor (reports cs) t.best (reports_has h t.is) in low z (t.slot ∙ s)
+      never w s c h t = let z = past_has low (reports cs) t.best (reports_has h t.is) in later z (t.slot ∙ s)
         where
-          low : t.best.slot < past_reports floor (reports cs) → t.best.slot ≡ slot → ⊥
-          low z e = omega arith
+          later : t.best.slot < past_reports low (reports cs) → t.best.slot ≡ slot → ⊥
+          later z e = omega arith
 
-  pub all_called : (n slot : ℕ) → floor ≤ slot → AllSafe members promised sent b slot (called_in (reports cs) slot n)
+  pub all_called : (n slot : ℕ) → low ≤ slot → AllSafe members promised sent b slot (called_in (reports cs) slot n)
   all_called zero slot l = tt
   all_called (suc n) slot l = (called_safe slot l, all_called n (suc slot) (omega arith))

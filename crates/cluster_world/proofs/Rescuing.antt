@@ -7,7 +7,7 @@ use Rattle.std.specs.List.{list_any}
 use Rattle.std.proofs.lemmas.Bool.{cond-true, cond-false, or_parts, ltb-false, cases_eq}
 use Rattle.cluster_world.proofs.Beginning.{HasRoom, seen, two, member, low, others, lows, seen_low, enough_first, enough_then, had, had_is}
 use Rattle.cluster_world.proofs.Beginning.{first_still}
-use Rattle.cluster_world.proofs.Beginning.{first_done}
+use Rattle.cluster_world.proofs.Beginning.{first_done, plains, own_plain}
 use Rattle.cluster_world.proofs.Booting.{boot_was_had}
 use Rattle.cluster_world.proofs.Chaining.{Chain, all_shape, all_in, chain_owed}
 use Rattle.cluster_world.proofs.EveryWorld.{play_on}
@@ -246,6 +246,8 @@ module _ {B : Type 0} (same : B → B → Bool) (equal : IsEquality same) (membe
             (enough_first same equal members three few events n up seats apart are ups room rooms enough act)
             (enough_then same equal members three few events n up seats apart are ups room rooms enough act) (kept_of x) have role vs d fell
             (had_is same equal members three few events n up seats apart are ups room rooms enough act) refl
+            (plains same equal members three few events n up seats apart are ups room rooms enough act)
+            (own_plain same equal members three few events n up seats apart are ups room rooms enough act)
             (λ s h. (rooms s h).slots) room.slots act.transport act.body may.number_is may.boots
 
     came_back : Achieved (play same members (course same c act) w)

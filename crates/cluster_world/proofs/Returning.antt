@@ -1,6 +1,6 @@
 -- A node that went down in its first pass begins its next boot, takes the act, and learns the log anew: it ends with the act's Item.
 use Rattle.std.proofs.Common.{◌≡◌, ◌⊎◌, inl, inr, ⊎_elim, ℕ, suc, ◌+◌, ◌<◌, ◌≤◌, Bool, true, false, not, refl, sym, ap, ◌∙◌, subst, arith}
-use Rattle.std.proofs.Common.{List, [], ◌∷◌, ◌++◌, length, Some}
+use Rattle.std.proofs.Common.{List, [], ◌∷◌, ◌++◌, length, Some, None}
 use Rattle.std.specs.Prelude.{nat_lt, fold, slice_get}
 use Rattle.std.proofs.lemmas.Bool.{cond-true, cases_lt, and_from, lt-ltb}
 use Rattle.cluster_world.proofs.AcceptorTests.{has_from}
@@ -109,6 +109,7 @@ module _ {B : Type 0} (same : B → B → Bool) (equal : IsEquality same) (membe
     (d : PassDone same equal members two n member (suc seen) seats k had first_most role vs (played same members before))
     (fell : WentDown same equal members two n member (suc seen) seats k vs (node_at (played same members before).nodes n))
     (had_is : (s : Seat B) → Has seats s → had s ≡ s.node.rows.votes) (own_had : k.votes ≡ own.node.rows.votes)
+    (plains : (s : Seat B) → Has seats s → s.node.rows.snapshot ≡ None) (own_plain : own.node.rows.snapshot ≡ None)
     (slots : (s : Seat B) → Has seats s → (v : Vote B) → Has s.node.rows.votes v → v.slot ≤ last_rescue_slot)
     (own_slots : (v : Vote B) → Has own.node.rows.votes v → v.slot ≤ last_rescue_slot) (transport : ℕ) (body : B) (positive : 1 ≤ transport)
     (boots : k.boot < last_boot) where
@@ -283,7 +284,7 @@ module _ {B : Type 0} (same : B → B → Bool) (equal : IsEquality same) (membe
       (subst (λ (l : List (Entry B)). first_most + length l ≤ second_most) (sym pending_is) (two_more first_most most_pending room_for_two))
       slots_fit (λ s h. ap (λ p. may_promise p ballot) (d.helpers s h).promised ∙ ballots)
       (λ s h. (d.helpers s h).votes_are ∙ ap (λ l. put_votes vs l) (had_is s h))
-      (ap (λ (x : NodeState B). x.rows.votes) x_is ∙ (d.votes ∙ ap (λ l. put_votes vs l) own_had))
+      (ap (λ (x : NodeState B). x.rows.votes) x_is ∙ (d.votes ∙ ap (λ l. put_votes vs l) own_had)) plains own_plain
       (λ s h. subst (λ c. AreBelow first_most (votes_then c vs s)) (sym first_is) (votes_below s.node.rows.votes (slots s h)))
       (subst (λ c. AreBelow first_most (votes_then c vs own)) (sym first_is) (votes_below own.node.rows.votes own_slots))
       (heard_at n) (all_eights same members taken_events n)

@@ -1,5 +1,5 @@
 -- The votes that a node has cast ascend by their slots, so the last one tells whether one is past a limit.
-use Rattle.std.proofs.Common.{◌≡◌, ⊎_elim, ℕ, suc, max, not, ◌-◌, ◌+◌, ◌<◌, ◌≤◌, Bool, true, false, ◌&&◌, ◌||◌, refl, sym, ap, ◌∙◌, subst, arith, List, [], ◌∷◌, length, get_or, ltb}
+use Rattle.std.proofs.Common.{◌≡◌, ⊎_elim, ℕ, suc, max, not, ◌-◌, ◌+◌, ◌<◌, ◌≤◌, Bool, true, false, ◌&&◌, ◌||◌, refl, sym, ap, ◌∙◌, subst, arith, List, [], ◌∷◌, length, get_or, ltb, Option, Some, None}
 use Rattle.std.specs.Prelude.{nat_lt}
 use Rattle.std.specs.List.{list_any}
 use Rattle.std.proofs.lemmas.Bool.{cases_eq, lt-ltb}
@@ -10,7 +10,10 @@ use Rattle.cluster_world.proofs.Pending.{founded_each}
 use Rattle.cluster_world.proofs.Taking.{by_next}
 use Rattle.cluster_world.specs.World.{World, node_at, put_node, first_world, next, played}
 use Rattle.paxos_packets.proofs.Ascending.{AllAfter, Ascends}
+use Rattle.paxos_packets.proofs.Behind.{from_ascending}
 use Rattle.paxos_packets.proofs.Placing.{put_ascending}
+use Rattle.paxos_packets.specs.Rows.{kept_votes}
+use Rattle.paxos_packets.specs.Snapshot as taken
 use Rattle.paxos_packets.specs.Vote.{put_vote, put_votes}
 use Rattle.paxos_packets.specs.declared.vote.Vote.{Vote}
 use Rattle.paxos_node.proofs.Committing.{commits_its_change}
@@ -18,11 +21,17 @@ use Rattle.paxos_node.specs.Events.{owner, possible, outcome_of}
 use Rattle.paxos_node.specs.declared.event.Event.{Event}
 use Rattle.paxos_node.specs.declared.event.Event.TheVariants.{Take, Tick, Start, Suspect, Deliver, Crash, Restart}
 use Rattle.paxos_planning.specs.Node.{NodeState, Plan}
+use Rattle.paxos_packets.specs.declared.rows.Change.{Change}
 use Rattle.paxos_packets.specs.declared.rows.Rows.{Rows}
 
 put_all : {B : Type 0} (vs ws : List (Vote B)) → Ascends ws → Ascends (put_votes vs ws)
 put_all [] ws a = a
 put_all (v ∷ vs) ws a = put_all vs (put_vote v ws) (put_ascending v ws a)
+
+-- without those up to a snapshot's floor they ascend, too
+kept_ascending : {B : Type 0} (s : Option taken.Snapshot) (ws : List (Vote B)) → Ascends ws → Ascends (kept_votes s ws)
+kept_ascending None ws a = a
+kept_ascending (Some s) ws a = from_ascending (suc s.floor) ws a
 
 first_of : (a b : Bool) → (a && b) ≡ true → a ≡ true
 first_of true b h = refl
@@ -34,7 +43,10 @@ module _ {B : Type 0} (same : B → B → Bool) (members : ℕ) where
       → Ascends (outcome_of same members e x).node.rows.votes
   commits e x u h a =
       subst (λ (r : Rows B). Ascends r.votes) (sym (commits_its_change same members e x u h))
-      (put_all (outcome_of same members e x).change.votes x.rows.votes a)
+      (put_all c.votes (kept_votes c.snapshot x.rows.votes) (kept_ascending c.snapshot x.rows.votes a))
+    where
+      c : Change B
+      c = (outcome_of same members e x).change
 
   stays : (e : Event B) (x : NodeState B) → possible e x ≡ true → Ascends x.rows.votes → Ascends (outcome_of same members e x).node.rows.votes
   stays (Take n t body) x h a = commits (Take n t body) x (first_of x.up (nat_lt 0 t) h) h a

@@ -1,9 +1,10 @@
 -- Where no refusal stands, what the crew of a rescue holds leaves it room.
-use Rattle.std.proofs.Common.{◌≡◌, ⊎_elim, ℕ, ◌+◌, ◌<◌, ◌≤◌, Bool, true, ◌||◌, max, eqb, sym, ap, ◌∙◌, subst, arith, List, length, None}
+use Rattle.std.proofs.Common.{◌≡◌, ⊎_elim, ℕ, ◌+◌, ◌<◌, ◌≤◌, Bool, true, ◌||◌, max, eqb, sym, ap, ◌∙◌, subst, arith, List, length, Option, None}
 use Rattle.std.specs.List.{list_any}
 use Rattle.std.proofs.lemmas.Bool.{eqb-true, ltb-true, or_cases}
 use Rattle.cluster_world.proofs.Beginning as beginning
 use Rattle.cluster_world.proofs.Beginning.{seat_of_number}
+use Rattle.cluster_world.proofs.EveryWorld.{world_ok}
 use Rattle.cluster_world.proofs.Giving.{each_all}
 use Rattle.cluster_world.proofs.Limits.{last_round, last_slot}
 use Rattle.cluster_world.proofs.Pending.{pending_is_few}
@@ -11,12 +12,14 @@ use Rattle.cluster_world.proofs.Reached.{is_member_up, log_low}
 use Rattle.cluster_world.proofs.Rescuing.{unrefused, has_room_of}
 use Rattle.cluster_world.specs.Has.{Has}
 use Rattle.paxos_packets.specs.Body.{IsEquality}
+use Rattle.paxos_packets.specs.Snapshot.{floor_in}
+use Rattle.paxos_packets.specs.Snapshot as taken
 use Rattle.paxos_packets.specs.declared.vote.Vote.{Vote}
 use Rattle.paxos_planning.specs.Node.{NodeState, log_length}
 use Rattle.paxos_proposer.specs.Proposer.{round_of}
 use Rattle.paxos_node.specs.Events.{most_pending}
 use Rattle.paxos_node.specs.declared.event.Event.{Event}
-use Rattle.cluster_world.specs.Rescue.{HasRoom, IsCrew, RescuesHaveRoom, last_rescue_round, last_rescue_slot, is_crowded, rescue_refused}
+use Rattle.cluster_world.specs.Rescue.{IsCrew, RescuesHaveRoom, last_rescue_round, last_rescue_slot, rescue_refused}
 use Rattle.cluster_world.specs.World.{World, node_at, played}
 use Rattle.world_rescue.specs.Course.{Seat, Crew}
 use Rattle.world_rescue.specs.Room.{HoldsUpTo, IsUpTo}
@@ -68,6 +71,15 @@ module _ {B : Type 0} (same : B → B → Bool) (equal : IsEquality same) (membe
       (or_cases (eqb n k) (list_any (λ (s : Seat B). eqb s.number k) c.helpers) t))
       n
 
+  -- no node has a snapshot
+  no_floor : (k : ℕ) → floor_in (node_at w.nodes k).rows.snapshot ≤ last_rescue_slot
+  no_floor k =
+      subst (λ (s : Option taken.Snapshot). floor_in s ≤ last_rescue_slot) (sym ((world_ok same equal members (omega arith) events).plain k))
+      (least last_rescue_slot)
+    where
+      least : (a : ℕ) → 0 ≤ a
+      least a = omega arith
+
   pub crew_low : IsUpTo last_rescue_round last_rescue_slot most_pending c
   crew_low = record {
     seen = subst (λ (a : NodeState B). a.proposer.seen ≤ last_rescue_round) is.own (seen_low x own);
@@ -75,12 +87,14 @@ module _ {B : Type 0} (same : B → B → Bool) (equal : IsEquality same) (membe
     votes =
         each_all (λ (v : Vote B). v.slot ≤ last_rescue_slot) c.own.node.rows.votes
         (subst (λ (a : NodeState B). beginning.HasRoom a) is.own own).slots;
+    floor = subst (λ (a : NodeState B). floor_in a.rows.snapshot ≤ last_rescue_slot) is.own (no_floor n);
     pending = subst (λ (a : NodeState B). length a.pending ≤ most_pending) is.own (pending_is_few same members events n);
     helpers =
         each_all (λ (s : Seat B). HoldsUpTo last_rescue_round last_rescue_slot s) c.helpers
         (λ s h. record {
           promised = promise_low s.node (seats s h);
           votes = each_all (λ (v : Vote B). v.slot ≤ last_rescue_slot) s.node.rows.votes (seats s h).slots;
+          floor = subst (λ (a : NodeState B). floor_in a.rows.snapshot ≤ last_rescue_slot) (is.are s h) (no_floor s.number);
         });
   }
 

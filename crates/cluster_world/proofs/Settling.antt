@@ -101,16 +101,17 @@ module _ {B : Type 0} (same : B → B → Bool) (equal : IsEquality same) (membe
     pub free : FreeAt same equal members many at n before u
     pub log : Logged members (before ++ u.packets) u.node.applied
     pub agrees : t.disagrees ≡ false → u.disagrees ≡ false
+    pub base : u.node.rows.snapshot ≡ t.node.rows.snapshot
 
   pub goes_on : {t u v : Plan B} → Goes t u → Goes u v → Goes t v
-  goes_on g h = record { going = kept_on g.going h.going; free = h.free; log = h.log; agrees = λ e. h.agrees (g.agrees e) }
+  goes_on g h = record { going = kept_on g.going h.going; free = h.free; log = h.log; agrees = λ e. h.agrees (g.agrees e); base = h.base ∙ g.base }
 
   pub good_of : {t u : Plan B} → Goes t u → Good u
   good_of g = record { inv = g.going.inv; free = g.free; log = g.log }
 
   keep : (o : Plan B) → Good o → Goes o o
   keep o ok =
-      record { going = kept_none members many at n o.node (before ++ o.packets) ok.inv; free = ok.free; log = ok.log; agrees = λ e. e }
+      record { going = kept_none members many at n o.node (before ++ o.packets) ok.inv; free = ok.free; log = ok.log; agrees = λ e. e; base = refl }
 
   mine : (o : Plan B) → Good o → NodeOk members (promises (with_node at n o.node)) (before ++ o.packets) n o.node
   mine o ok = mine_ok members at n o.node (before ++ o.packets) ok.inv
@@ -125,6 +126,7 @@ module _ {B : Type 0} (same : B → B → Bool) (equal : IsEquality same) (membe
         free = tt;
         log = logged_nil members (before ++ o.packets);
         agrees = λ e. e;
+        base = refl;
       }
 
   pub start_goes : (o : Plan B) → Good o → Goes o (record o { node = started n (raised o.node.rows) })
@@ -133,7 +135,7 @@ module _ {B : Type 0} (same : B → B → Bool) (equal : IsEquality same) (membe
       record {
         going = silent members many at n o.node (started n (raised o.node.rows)) (before ++ o.packets) ok.inv refl
             (record {
-              rows = record { reached = m.rows.reached; tops = m.rows.tops; low = m.rows.low; known = m.rows.known };
+              rows = record { reached = m.rows.reached; tops = m.rows.tops; above = m.rows.above; low = m.rows.low; known = m.rows.known };
               role = tt;
               heard = λ t i k q. absurd (elim i [ ]);
               learned = λ f i. absurd (elim i [ ]);
@@ -141,6 +143,7 @@ module _ {B : Type 0} (same : B → B → Bool) (equal : IsEquality same) (membe
         free = tt;
         log = logged_nil members (before ++ o.packets);
         agrees = λ e. e;
+        base = refl;
       }
 
   note_goes : (e : Entry B) (o : Plan B) → Good o → IsChosen members (before ++ o.packets) (suc (log_length o.node)) e
@@ -155,6 +158,7 @@ module _ {B : Type 0} (same : B → B → Bool) (equal : IsEquality same) (membe
         free = role_free_grows members g.grows o.node.proposer.role ok.free;
         log = logged_push members (before ++ o.packets) o.node.applied e ok.log c;
         agrees = λ d. d;
+        base = refl;
       }
 
   apply_goes : (es : List (Entry B)) (o : Plan B) → Good o → RunOk members (before ++ o.packets) (suc (log_length o.node)) es
@@ -182,6 +186,7 @@ module _ {B : Type 0} (same : B → B → Bool) (equal : IsEquality same) (membe
             subst (λ l. Logged members (before ++ u.packets) l) (sym s.path.stays.log)
             (record { at = λ i e h. chosen_grows s.path.going.grows (ok.log.at i e h) });
         agrees = s.path.agrees;
+        base = s.path.stays.base;
       }
 
   -- and what it taught is applied

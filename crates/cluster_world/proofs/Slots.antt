@@ -1,8 +1,10 @@
 -- The slots of a leader's proposals: one after the other, from the first one that it asked for.
-use Rattle.std.proofs.Common.{◌≡◌, ℕ, zero, suc, ◌+◌, ◌<◌, ◌≤◌, Bool, true, false, not, ◌&&◌, refl, sym, ap, ◌∙◌, subst, arith}
+use Rattle.std.proofs.Common.{◌≡◌, ⊎_elim, ℕ, zero, suc, ◌+◌, ◌<◌, ◌≤◌, Bool, true, false, not, ◌&&◌, refl, sym, ap, ◌∙◌, subst, arith}
 use Rattle.std.proofs.Common.{List, [], ◌∷◌, ◌++◌, length, length-append, Some, None}
 use Rattle.std.specs.Prelude.{slice_get, nat_lt, fold, if◌then◌else◌}
 use Rattle.std.proofs.lemmas.Bool.{cond-true, cond-false, cond_both, lt-ltb, le-ltb}
+use Rattle.cluster_world.proofs.Lists.{has_one, has_cases}
+use Rattle.cluster_world.proofs.Reports.{lowest_is}
 use Rattle.cluster_world.specs.Has.{Has, here, there}
 use Rattle.paxos_packets.specs.Ballot.{same_ballot}
 use Rattle.paxos_packets.specs.Members.{is_majority}
@@ -10,12 +12,12 @@ use Rattle.paxos_packets.specs.declared.ballot.Ballot.{Ballot}
 use Rattle.paxos_packets.specs.declared.entry.Entry.{Entry}
 use Rattle.paxos_packets.specs.declared.vote.Vote.{Vote}
 use Rattle.paxos_proposer.specs.declared.promises.CountedPromise.{CountedPromise}
-use Rattle.paxos_proposer.specs.Promises.{with_promises, calls}
+use Rattle.paxos_proposer.specs.Promises.{with_promises, calls, lowest}
 use Rattle.paxos_proposer.specs.Proposals.{behind, stands}
 use Rattle.paxos_proposer.specs.Proposer.{next_vote, submitted}
 use Rattle.paxos_proposer.specs.Reports.{is_counted, reports, called_for}
 use Rattle.paxos_proposer.specs.Role.{Role, Idle, Preparing, Leading}
-use Rattle.world_rescue.specs.Course.{Seat, propose_all, propose_new, proposes, hears}
+use Rattle.world_rescue.specs.Course.{Seat, floor_of, propose_all, propose_new, proposes, hears}
 
 -- votes in the slots after this one, one in each
 abbrev pub AreAfter : {B : Type 0} → ℕ → List (Vote B) → Type 0
@@ -89,7 +91,7 @@ behind_rest {B} slot (v ∷ vs) ws a =
 
 abbrev pub Ordered : {B : Type 0} → ℕ → Role B → Type 0
 Ordered slot Idle = Unit {0}
-Ordered slot (Preparing b first cs) = first ≡ suc slot
+Ordered slot (Preparing b first cs) = (first ≡ suc slot) × ((c : CountedPromise _) → Has cs c → c.floor ≤ slot)
 Ordered slot (Leading b next table) = (next ≡ suc (slot + length table)) × AreAfter slot table
 
 submits : {B : Type 0} (slot : ℕ) (e : Entry B) (r : Role B) → Ordered slot r → Ordered slot (submitted e r)
@@ -116,41 +118,59 @@ new_ordered {B} same applied slot (e ∷ es) r o = new_ordered same applied slot
     one : Ordered slot (if stands same applied r e then r else submitted e r)
     one = cond_both (stands same applied r e) r (submitted e r) (λ (s : Role B). Ordered slot s) (λ t. o) (λ t. submits slot e r o)
 
-module _ {B : Type 0} (same : B → B → Bool) (members applied : ℕ) (pending : List (Entry B)) (b : Ballot) (slot : ℕ) where
-  hears_ordered : (k : ℕ) (vs : List (Vote B)) (r : Role B) → Ordered slot r → Ordered slot (hears same members applied pending b k vs r)
-  hears_ordered k vs Idle o = o
-  hears_ordered k vs (Leading c next table) o = o
-  hears_ordered k vs (Preparing c first cs) o = go (same_ballot b c && not (is_counted cs k))
+module _ {B : Type 0} (same : B → B → Bool) (members applied : ℕ) (pending : List (Entry B)) (b : Ballot) (slot own : ℕ)
+    (high : own ≤ slot) where
+  hears_ordered : (k floor : ℕ) (vs : List (Vote B)) (r : Role B) → floor ≤ slot → Ordered slot r
+      → Ordered slot (hears same members applied pending b k floor vs own r)
+  hears_ordered k floor vs Idle l o = o
+  hears_ordered k floor vs (Leading c next table) l o = o
+  hears_ordered k floor vs (Preparing c first cs) l o = go (same_ballot b c && not (is_counted cs k))
     where
+      one : CountedPromise B
+      one = record { node = k; floor = floor; votes = vs }
+
       more : List (CountedPromise B)
-      more = cs ++ record { node = k; votes = vs } ∷ []
+      more = cs ++ one ∷ []
+
+      floors : (d : CountedPromise B) → Has more d → d.floor ≤ slot
+      floors d h =
+          ⊎_elim (λ i. o.1 d i) (λ i. subst (λ (z : CountedPromise B). z.floor ≤ slot) (has_one i) l) (has_cases cs (one ∷ []) h)
+
+      low : ℕ
+      low = lowest first own more
+
+      low_is : low ≡ suc slot
+      low_is = lowest_is first own more (under own high o.0) (λ d h. under d.floor (floors d h) o.0) ∙ o.0
+        where
+          under : (a : ℕ) → a ≤ slot → first ≡ suc slot → a < first
+          under a g e = omega arith
 
       es : List (Entry B)
-      es = called_for first (reports more)
+      es = called_for low (reports more)
 
-      begun : Ordered {B = B} slot (Leading c first [])
-      begun = (o ∙ plain slot, tt)
+      begun : Ordered {B = B} slot (Leading c low [])
+      begun = (low_is ∙ plain slot, tt)
         where
           plain : (k : ℕ) → suc k ≡ suc (k + 0)
           plain k = omega arith
 
       most : (m : Bool)
           → Ordered slot (proposes same applied pending (if m then Some es else None)
-          (if m then Leading c first [] else Preparing c first more))
-      most true = new_ordered same applied slot pending (propose_all es (Leading c first []))
-          (all_ordered slot es (Leading c first []) begun)
-      most false = o
+          (if m then Leading c low [] else Preparing c first more))
+      most true = new_ordered same applied slot pending (propose_all es (Leading c low []))
+          (all_ordered slot es (Leading c low []) begun)
+      most false = (o.0, floors)
 
       go : (m : Bool)
           → Ordered slot
-          (proposes same applied pending (if m then calls members first more else None)
-          (if m then with_promises members c first more else Preparing c first cs))
+          (proposes same applied pending (if m then calls members first own more else None)
+          (if m then with_promises members c first own more else Preparing c first cs))
       go true = most (is_majority members (is_counted more))
       go false = o
 
-  pub led_ordered : (vs : Seat B → List (Vote B)) (seats : List (Seat B)) (r : Role B) → Ordered slot r
-      → Ordered slot (fold (λ r s. hears same members applied pending b s.number (vs s) r) r seats)
-  led_ordered vs [] r o = o
-  led_ordered vs (s ∷ seats) r o =
-      led_ordered vs seats (hears same members applied pending b s.number (vs s) r)
-      (hears_ordered s.number (vs s) r o)
+  pub led_ordered : (vs : Seat B → List (Vote B)) (seats : List (Seat B)) (r : Role B) → ((s : Seat B) → Has seats s → floor_of s ≤ slot)
+      → Ordered slot r → Ordered slot (fold (λ r s. hears same members applied pending b s.number (floor_of s) (vs s) own r) r seats)
+  led_ordered vs [] r f o = o
+  led_ordered vs (s ∷ seats) r f o =
+      led_ordered vs seats (hears same members applied pending b s.number (floor_of s) (vs s) own r) (λ t h. f t (there h))
+      (hears_ordered s.number (floor_of s) (vs s) r (f s here) o)

@@ -1,7 +1,7 @@
 -- Every entry of a node and of its packets comes from what it was given: of any property of entries, kept through an event.
 use Rattle.std.proofs.Common.{◌≡◌, ⊎_elim, ℕ, zero, suc, ◌+◌, ◌-◌, Bool, true, false, not, ◌&&◌, eqb, refl, sym, subst, List, [], ◌∷◌, ◌++◌}
 use Rattle.std.proofs.Common.{map, Option, Some, None}
-use Rattle.std.specs.Prelude.{filter, if◌then◌else◌, nat_lt, nat_le, take, MatchOption}
+use Rattle.std.specs.Prelude.{filter, if◌then◌else◌, nat_lt, nat_le, max, take, MatchOption}
 use Rattle.std.proofs.lemmas.Bool.{cond_both, cond-true}
 use Rattle.cluster_world.proofs.Lists.{has_cons, has_nil, has_one, has_cases, has_map, has_filter}
 use Rattle.cluster_world.proofs.AcceptorTests.{put_cases, has_from}
@@ -11,19 +11,21 @@ use Rattle.paxos_packets.specs.Ballot.{below, same_ballot}
 use Rattle.cluster_world.specs.Has.{Has, here, there}
 use Rattle.paxos_packets.specs.Members.{is_majority, others}
 use Rattle.paxos_packets.specs.Packet.{packet, to_others}
-use Rattle.paxos_packets.specs.Vote.{votes_from}
+use Rattle.paxos_packets.specs.Snapshot.{floor_in}
+use Rattle.paxos_packets.specs.Snapshot as taken
 use Rattle.paxos_packets.specs.declared.ballot.Ballot.{Ballot}
 use Rattle.paxos_packets.specs.declared.entry.Entry.{Entry}
 use Rattle.paxos_packets.specs.declared.entry.Entry.TheVariants.{Noop, Boot}
 use Rattle.paxos_packets.specs.declared.packet.Kind.{Kind}
 use Rattle.paxos_packets.specs.declared.packet.Packet.{Packet}
 use Rattle.paxos_packets.specs.declared.vote.Vote.{Vote}
-use Rattle.paxos_packets.specs.declared.packet.Kind.TheVariants.{Prepare, Promise, Accept, Accepted, Nack, Forward, Ask, Learned}
-use Rattle.paxos_acceptor.specs.Acceptor.{may_promise, may_accept}
+use Rattle.paxos_packets.specs.declared.packet.Kind.TheVariants.{Prepare, Promise, Accept, Accepted, Nack, Forward, Ask, Learned, Snapshot}
+use Rattle.paxos_acceptor.specs.Acceptor.{may_promise, may_accept, promise_of, given_by}
 use Rattle.std.specs.Option.{unwrap_or}
 use Rattle.paxos_proposer.specs.declared.promises.CountedPromise.{CountedPromise}
 use Rattle.paxos_proposer.specs.Role.{Role, Idle, Preparing, Leading}
 use Rattle.paxos_proposer.specs.Proposer.{slot_end, new_ballot, step_down, nacked, next_vote, is_leading}
+use Rattle.paxos_proposer.specs.Promises.{lowest}
 use Rattle.paxos_proposer.specs.Reports.{is_counted, reports, best, past_reports, entry_or_noop, called_in, called_for}
 use Rattle.paxos_learner.specs.declared.learned.LearnedEntry.{LearnedEntry}
 use Rattle.paxos_learner.specs.Learner.{LearnerState}
@@ -34,7 +36,7 @@ use Rattle.paxos_node.specs.declared.event.Event.TheVariants.{Take, Tick, Start,
 use Rattle.paxos_planning.specs.Node.{NodeState, Plan, log_length}
 use Rattle.paxos_planning.specs.Plan.{with_role, with_pending, begun, voted_at, counted_at, send, promise, cast}
 use Rattle.paxos_planning.specs.Proposals.{offer, propose_as, propose, propose_all, lead, stands, propose_new, propose_each, forwarded, push}
-use Rattle.paxos_planning.specs.Replies.{saw, refuse, on_prepare, on_accept, count_promise, on_promise_as, told_from, on_packet}
+use Rattle.paxos_planning.specs.Replies.{saw, refuse, show, cast_or_show, on_prepare, on_accept, answer_ask, count_promise, on_promise_as, told_from, on_packet}
 use Rattle.paxos_node.specs.Applying.{note, ends, go_down, apply_all, settle}
 use Rattle.paxos_node.specs.Events.{takes, new_item, with_item, on_take, has_room, new_lost, packet_in}
 use Rattle.paxos_planning.specs.Ticking.{accepts_again, again, on_tick}
@@ -55,13 +57,14 @@ module _ {B : Type 0} (G : Entry B → Type 0) where
 
   abbrev pub KindGood : Kind B → Type 0
   KindGood (Prepare b floor) = Unit {0}
-  KindGood (Promise b votes) = VotesGood votes
+  KindGood (Promise b floor votes) = VotesGood votes
   KindGood (Accept v) = G v.entry
   KindGood (Accepted v) = G v.entry
   KindGood (Nack b p) = Unit {0}
   KindGood (Forward es) = (e : Entry B) → Has es e → G e
   KindGood (Ask s) = Unit {0}
   KindGood (Learned s e) = G e
+  KindGood (Snapshot s) = Unit {0}
 
   abbrev pub SentGood : List (Packet B) → Type 0
   SentGood sent = (p : Packet B) → Has sent p → KindGood p.kind
@@ -163,9 +166,9 @@ module _ {B : Type 0} (G : Entry B → Type 0) where
         send_good (packet n (Nack b (unwrap_or t.node.rows.promised b)) from ∷ []) t ok
         (one_good n from (Nack b (unwrap_or t.node.rows.promised b)) tt)
 
-    prepare_good : (from : ℕ) (b : Ballot) (floor : ℕ) (t : Plan B) → PlanGood t → PlanGood (on_prepare n from b floor t)
-    prepare_good from b floor t ok =
-        cond_both (may_promise t.node.rows.promised b) (send (packet n (Promise b (votes_from floor t.node.rows.votes)) from ∷ []) (promise b t))
+    prepare_good : (from : ℕ) (b : Ballot) (first : ℕ) (t : Plan B) → PlanGood t → PlanGood (on_prepare n from b first t)
+    prepare_good from b first t ok =
+        cond_both (may_promise t.node.rows.promised b) (send (packet n (promise_of t.node.rows b first) from ∷ []) (promise b t))
         (refuse n from b t) (λ u. PlanGood u)
         (λ e. record {
           node =
@@ -178,14 +181,26 @@ module _ {B : Type 0} (G : Entry B → Type 0) where
               };
           out =
               sent_good t.packets _ ok.out
-              (one_good n from (Promise b (votes_from floor t.node.rows.votes)) (λ v h. ok.node.votes v (has_from floor t.node.rows.votes v h)));
+              (one_good n from (promise_of t.node.rows b first) (λ v h. ok.node.votes v (has_from low t.node.rows.votes v h)));
         })
         (λ e. refuse_good from b t ok)
+      where
+        low : ℕ
+        low = max first (suc (floor_in t.node.rows.snapshot))
+
+    show_good : (to : ℕ) (s : taken.Snapshot) (t : Plan B) → PlanGood t → PlanGood (show n to s t)
+    show_good to s t ok = send_good (packet n (Snapshot s) to ∷ []) t ok (one_good n to (Snapshot s) tt)
+
+    cast_or_show_good : (from : ℕ) (given : Option taken.Snapshot) (v : Vote B) (t : Plan B) → PlanGood t → G v.entry
+        → PlanGood (cast_or_show same members n from given v t)
+    cast_or_show_good from None v t ok g = cast_good v t ok g
+    cast_or_show_good from (Some s) v t ok g = show_good from s t ok
 
     accept_good : (from : ℕ) (v : Vote B) (t : Plan B) → PlanGood t → G v.entry → PlanGood (on_accept same members n from v t)
     accept_good from v t ok g =
-        cond_both (may_accept t.node.rows.promised v.ballot) (cast same members n v t) (refuse n from v.ballot t) (λ u. PlanGood u)
-        (λ e. cast_good v t ok g)
+        cond_both (may_accept t.node.rows.promised v.ballot) (cast_or_show same members n from (given_by t.node.rows.snapshot v.slot) v t)
+        (refuse n from v.ballot t) (λ u. PlanGood u)
+        (λ e. cast_or_show_good from (given_by t.node.rows.snapshot v.slot) v t ok g)
         (λ e. refuse_good from v.ballot t ok)
 
     -- the proposer
@@ -273,26 +288,30 @@ module _ {B : Type 0} (G : Entry B → Type 0) where
           (role_good (Leading b floor []) t.node.proposer.seen t ok (λ v h. absurd (has_nil h)))
           (called_good vs g floor (past_reports floor vs - floor))
 
-      promise_as_good : (from : ℕ) (b : Ballot) (votes : List (Vote B)) (r : Role B) (t : Plan B) → RoleGood r → PlanGood t → VotesGood votes
-          → PlanGood (on_promise_as same members n from b votes r t)
-      promise_as_good from b votes Idle t rg ok g = ok
-      promise_as_good from b votes (Leading c next table) t rg ok g = ok
-      promise_as_good from b votes (Preparing c floor cs) t rg ok g =
-          cond_both (same_ballot b c && not (is_counted cs from)) (count_promise same members n c floor all t) t (λ u. PlanGood u)
-          (λ e. cond_both (is_majority members (is_counted all)) (push same members n (lead same members n c floor (reports all) t))
-          (record t { node = with_role (Preparing c floor all) t.node }) (λ u. PlanGood u)
-          (λ m. push_good (lead same members n c floor (reports all) t)
-          (lead_good c floor (reports all) t ok (λ v h. let z = has_reports all v h in all_good z.0 z.1 v z.2)))
-          (λ m. role_good (Preparing c floor all) t.node.proposer.seen t ok all_good))
+      promise_as_good : (from : ℕ) (b : Ballot) (floor : ℕ) (votes : List (Vote B)) (r : Role B) (t : Plan B) → RoleGood r → PlanGood t
+          → VotesGood votes → PlanGood (on_promise_as same members n from b floor votes r t)
+      promise_as_good from b floor votes Idle t rg ok g = ok
+      promise_as_good from b floor votes (Leading c next table) t rg ok g = ok
+      promise_as_good from b floor votes (Preparing c first cs) t rg ok g =
+          cond_both (same_ballot b c && not (is_counted cs from)) (count_promise same members n c first (floor_in t.node.rows.snapshot) all t) t
+          (λ u. PlanGood u)
+          (λ e. cond_both (is_majority members (is_counted all)) (push same members n (lead same members n c low (reports all) t))
+          (record t { node = with_role (Preparing c first all) t.node }) (λ u. PlanGood u)
+          (λ m. push_good (lead same members n c low (reports all) t)
+          (lead_good c low (reports all) t ok (λ v h. let z = has_reports all v h in all_good z.0 z.1 v z.2)))
+          (λ m. role_good (Preparing c first all) t.node.proposer.seen t ok all_good))
           (λ e. ok)
         where
           all : List (CountedPromise B)
-          all = cs ++ record { node = from; votes = votes } ∷ []
+          all = cs ++ record { node = from; floor = floor; votes = votes } ∷ []
+
+          low : ℕ
+          low = lowest first (floor_in t.node.rows.snapshot) all
 
           all_good : (d : CountedPromise B) → Has all d → VotesGood d.votes
           all_good d h =
               ⊎_elim (λ o. rg d o) (λ s. subst (λ (z : CountedPromise B). VotesGood z.votes) (has_one s) g)
-              (has_cases cs (record { node = from; votes = votes } ∷ []) h)
+              (has_cases cs (record { node = from; floor = floor; votes = votes } ∷ []) h)
 
       nacked_good : (b p : Ballot) (r : Role B) → RoleGood r → RoleGood (nacked b p r)
       nacked_good b p Idle g = tt
@@ -313,9 +332,16 @@ module _ {B : Type 0} (G : Entry B → Type 0) where
           (has_cases (if nat_le slot f.slot && nat_lt f.slot (slot + 64) then packet n (Learned f.slot f.entry) to ∷ [] else [])
           (told_from n to slot fs) h)
 
+      ask_good : (from slot : ℕ) (given : Option taken.Snapshot) (t : Plan B) → PlanGood t → PlanGood (answer_ask n from slot given t)
+      ask_good from slot None t ok =
+          send_good (told_from n from slot t.node.learner.learned) t ok (told_good from slot t.node.learner.learned ok.node.learned)
+      ask_good from slot (Some s) t ok =
+          send_good (told_from n from (suc s.floor) t.node.learner.learned) (show n from s t) (show_good from s t ok)
+          (told_good from (suc s.floor) t.node.learner.learned ok.node.learned)
+
       packet_good : (from : ℕ) (kind : Kind B) (t : Plan B) → PlanGood t → KindGood kind → PlanGood (on_packet same members n from kind t)
       packet_good from (Prepare b floor) t ok g = prepare_good from b floor t ok
-      packet_good from (Promise b votes) t ok g = promise_as_good from b votes t.node.proposer.role t ok.node.role ok g
+      packet_good from (Promise b floor votes) t ok g = promise_as_good from b floor votes t.node.proposer.role t ok.node.role ok g
       packet_good from (Accept v) t ok g = accept_good from v t ok g
       packet_good from (Accepted v) t ok g = record { node = counted_good members from v t.node ok.node g; out = ok.out }
       packet_good from (Nack b p) t ok g =
@@ -323,8 +349,8 @@ module _ {B : Type 0} (G : Entry B → Type 0) where
       packet_good from (Forward es) t ok g =
           cond_both (is_leading t.node.proposer.role) (propose_each same members n es t) t (λ u. PlanGood u) (λ d. propose_each_good es t ok g)
           (λ d. ok)
-      packet_good from (Ask slot) t ok g =
-          send_good (told_from n from slot t.node.learner.learned) t ok (told_good from slot t.node.learner.learned ok.node.learned)
+      packet_good from (Ask slot) t ok g = ask_good from slot (given_by t.node.rows.snapshot slot) t ok
+      packet_good from (Snapshot s) t ok g = ok
       packet_good from (Learned slot e) t ok g =
           record {
             node =

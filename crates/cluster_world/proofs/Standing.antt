@@ -9,23 +9,25 @@ use Rattle.cluster_world.proofs.Settling.{From, step_from}
 use Rattle.paxos_packets.specs.Members.{is_majority}
 use Rattle.paxos_packets.specs.Ballot.{same_ballot}
 use Rattle.paxos_packets.specs.Packet.{packet}
-use Rattle.paxos_packets.specs.Vote.{votes_from}
+use Rattle.paxos_packets.specs.Snapshot.{floor_in}
+use Rattle.paxos_packets.specs.Snapshot as taken
 use Rattle.paxos_packets.specs.declared.ballot.Ballot.{Ballot}
 use Rattle.paxos_packets.specs.declared.entry.Entry.{Entry}
 use Rattle.paxos_packets.specs.declared.packet.Kind.{Kind}
 use Rattle.paxos_packets.specs.declared.vote.Vote.{Vote}
-use Rattle.paxos_packets.specs.declared.packet.Kind.TheVariants.{Prepare, Promise, Accept, Accepted, Nack, Forward, Ask, Learned}
-use Rattle.paxos_acceptor.specs.Acceptor.{may_promise, may_accept}
+use Rattle.paxos_packets.specs.declared.packet.Kind.TheVariants.{Prepare, Promise, Accept, Accepted, Nack, Forward, Ask, Learned, Snapshot}
+use Rattle.paxos_acceptor.specs.Acceptor.{may_promise, may_accept, promise_of, given_by}
 use Rattle.paxos_proposer.specs.declared.promises.CountedPromise.{CountedPromise}
 use Rattle.paxos_proposer.specs.Role.{Role, Idle, Preparing, Leading}
 use Rattle.paxos_proposer.specs.Proposer.{slot_end, next_vote, new_ballot, is_leading}
+use Rattle.paxos_proposer.specs.Promises.{lowest}
 use Rattle.paxos_proposer.specs.Reports.{is_counted, reports, called_for}
 use Rattle.paxos_node.specs.declared.event.Event.{Event}
 use Rattle.paxos_node.specs.declared.event.Event.TheVariants.{Take, Tick, Start, Suspect, Deliver, Crash, Restart}
 use Rattle.paxos_planning.specs.Node.{NodeState, Plan, log_length}
 use Rattle.paxos_planning.specs.Plan.{with_role, with_pending, begun, send, promise, cast}
 use Rattle.paxos_planning.specs.Proposals.{offer, propose_as, propose, propose_all, lead, stands, propose_new, propose_each, forwarded, push}
-use Rattle.paxos_planning.specs.Replies.{saw, refuse, count_promise, on_promise_as, on_packet}
+use Rattle.paxos_planning.specs.Replies.{saw, refuse, cast_or_show, answer_ask, count_promise, on_promise_as, on_packet}
 use Rattle.paxos_node.specs.Events.{takes, new_item, with_item, on_take, has_room, suspected, new_lost, taken_by, suspected_by}
 use Rattle.paxos_planning.specs.Ticking.{again, on_tick}
 use Rattle.paxos_planning.specs.Starting.{begin, starts, on_start}
@@ -43,7 +45,7 @@ abbrev pub Same : {B : Type 0} → Plan B → Plan B → Type 0
 Same t u = Leaves t.node.taken t.node.pending t u
 
 pub same_here : {B : Type 0} (t : Plan B) → Same t t
-same_here t = record { stays = record { boot = refl; up = refl; log = refl; news = refl; acts = refl }; pending = refl }
+same_here t = record { stays = record { boot = refl; base = refl; up = refl; log = refl; news = refl; acts = refl }; pending = refl }
 
 module _ {B : Type 0} (same : B → B → Bool) (members n : ℕ) where
   proposes_as : (r : Role B) (e : Entry B) (t : Plan B) → Same t (propose_as same members n r e t)
@@ -51,7 +53,7 @@ module _ {B : Type 0} (same : B → B → Bool) (members n : ℕ) where
   proposes_as (Preparing b floor cs) e t = same_here t
   proposes_as (Leading b next table) e t =
       cond_both (nat_lt next slot_end) (cast same members n (next_vote b next e) (offer members n b next table e t)) t (λ u. Same t u)
-      (λ l. record { stays = record { boot = refl; up = refl; log = refl; news = refl; acts = refl }; pending = refl }) (λ l. same_here t)
+      (λ l. record { stays = record { boot = refl; base = refl; up = refl; log = refl; news = refl; acts = refl }; pending = refl }) (λ l. same_here t)
 
   proposes : (e : Entry B) (t : Plan B) → Same t (propose same members n e t)
   proposes e t = proposes_as t.node.proposer.role e t
@@ -74,55 +76,71 @@ module _ {B : Type 0} (same : B → B → Bool) (members n : ℕ) where
       cond_both (is_leading t.node.proposer.role) (propose_each same members n t.node.pending t)
       (send (forwarded n t.node.rows.promised t.node.pending) t) (λ u. Same t u)
       (λ d. proposes_each t.node.pending t)
-      (λ d. record { stays = record { boot = refl; up = refl; log = refl; news = refl; acts = refl }; pending = refl })
+      (λ d. record { stays = record { boot = refl; base = refl; up = refl; log = refl; news = refl; acts = refl }; pending = refl })
 
   leads : (b : Ballot) (floor : ℕ) (vs : List (Vote B)) (t : Plan B) → Same t (lead same members n b floor vs t)
   leads b floor vs t =
       let s = proposes_all (called_for floor vs) (record t { node = with_role (Leading b floor []) t.node }) in
       record {
-        stays = record { boot = s.stays.boot; up = s.stays.up; log = s.stays.log; news = s.stays.news; acts = s.stays.acts };
+        stays = record { boot = s.stays.boot; base = s.stays.base; up = s.stays.up; log = s.stays.log; news = s.stays.news; acts = s.stays.acts };
         pending = s.pending;
       }
 
-  promises_as : (from : ℕ) (b : Ballot) (votes : List (Vote B)) (r : Role B) (t : Plan B)
-      → Same t (on_promise_as same members n from b votes r t)
-  promises_as from b votes Idle t = same_here t
-  promises_as from b votes (Leading c next table) t = same_here t
-  promises_as from b votes (Preparing c floor cs) t =
-      cond_both (same_ballot b c && not (is_counted cs from)) (count_promise same members n c floor more t) t (λ u. Same t u)
-      (λ e. cond_both (is_majority members (is_counted more)) (push same members n (lead same members n c floor (reports more) t))
-      (record t { node = with_role (Preparing c floor more) t.node }) (λ u. Same t u)
-      (λ m. leaves_on (leads c floor (reports more) t) (pushes (lead same members n c floor (reports more) t)))
-      (λ m. record { stays = record { boot = refl; up = refl; log = refl; news = refl; acts = refl }; pending = refl }))
+  promises_as : (from : ℕ) (b : Ballot) (floor : ℕ) (votes : List (Vote B)) (r : Role B) (t : Plan B)
+      → Same t (on_promise_as same members n from b floor votes r t)
+  promises_as from b floor votes Idle t = same_here t
+  promises_as from b floor votes (Leading c next table) t = same_here t
+  promises_as from b floor votes (Preparing c first cs) t =
+      cond_both (same_ballot b c && not (is_counted cs from)) (count_promise same members n c first own more t) t (λ u. Same t u)
+      (λ e. cond_both (is_majority members (is_counted more))
+      (push same members n (lead same members n c (lowest first own more) (reports more) t))
+      (record t { node = with_role (Preparing c first more) t.node }) (λ u. Same t u)
+      (λ m. leaves_on (leads c (lowest first own more) (reports more) t)
+      (pushes (lead same members n c (lowest first own more) (reports more) t)))
+      (λ m. record { stays = record { boot = refl; base = refl; up = refl; log = refl; news = refl; acts = refl }; pending = refl }))
       (λ e. same_here t)
     where
+      own : ℕ
+      own = floor_in t.node.rows.snapshot
+
       more : List (CountedPromise B)
-      more = cs ++ record { node = from; votes = votes } ∷ []
+      more = cs ++ record { node = from; floor = floor; votes = votes } ∷ []
+
+  casts_or_shows : (from : ℕ) (given : Option taken.Snapshot) (v : Vote B) (t : Plan B)
+      → Same t (cast_or_show same members n from given v t)
+  casts_or_shows from None v t = record { stays = record { boot = refl; base = refl; up = refl; log = refl; news = refl; acts = refl }; pending = refl }
+  casts_or_shows from (Some s) v t = record { stays = record { boot = refl; base = refl; up = refl; log = refl; news = refl; acts = refl }; pending = refl }
+
+  answers_ask : (from slot : ℕ) (given : Option taken.Snapshot) (t : Plan B) → Same t (answer_ask n from slot given t)
+  answers_ask from slot None t = record { stays = record { boot = refl; base = refl; up = refl; log = refl; news = refl; acts = refl }; pending = refl }
+  answers_ask from slot (Some s) t = record { stays = record { boot = refl; base = refl; up = refl; log = refl; news = refl; acts = refl }; pending = refl }
 
   hears_packet : (from : ℕ) (kind : Kind B) (t : Plan B) → Same t (on_packet same members n from kind t)
-  hears_packet from (Prepare b floor) t =
-      cond_both (may_promise t.node.rows.promised b)
-      (send (packet n (Promise b (votes_from floor t.node.rows.votes)) from ∷ []) (promise b t)) (refuse n from b t) (λ u. Same t u)
-      (λ e. record { stays = record { boot = refl; up = refl; log = refl; news = refl; acts = refl }; pending = refl })
-      (λ e. record { stays = record { boot = refl; up = refl; log = refl; news = refl; acts = refl }; pending = refl })
-  hears_packet from (Promise b votes) t = promises_as from b votes t.node.proposer.role t
+  hears_packet from (Prepare b first) t =
+      cond_both (may_promise t.node.rows.promised b) (send (packet n (promise_of t.node.rows b first) from ∷ []) (promise b t))
+      (refuse n from b t) (λ u. Same t u)
+      (λ e. record { stays = record { boot = refl; base = refl; up = refl; log = refl; news = refl; acts = refl }; pending = refl })
+      (λ e. record { stays = record { boot = refl; base = refl; up = refl; log = refl; news = refl; acts = refl }; pending = refl })
+  hears_packet from (Promise b floor votes) t = promises_as from b floor votes t.node.proposer.role t
   hears_packet from (Accept v) t =
-      cond_both (may_accept t.node.rows.promised v.ballot) (cast same members n v t) (refuse n from v.ballot t) (λ u. Same t u)
-      (λ e. record { stays = record { boot = refl; up = refl; log = refl; news = refl; acts = refl }; pending = refl })
-      (λ e. record { stays = record { boot = refl; up = refl; log = refl; news = refl; acts = refl }; pending = refl })
-  hears_packet from (Accepted v) t = record { stays = record { boot = refl; up = refl; log = refl; news = refl; acts = refl }; pending = refl }
-  hears_packet from (Nack b p) t = record { stays = record { boot = refl; up = refl; log = refl; news = refl; acts = refl }; pending = refl }
+      cond_both (may_accept t.node.rows.promised v.ballot) (cast_or_show same members n from (given_by t.node.rows.snapshot v.slot) v t)
+      (refuse n from v.ballot t) (λ u. Same t u)
+      (λ e. casts_or_shows from (given_by t.node.rows.snapshot v.slot) v t)
+      (λ e. record { stays = record { boot = refl; base = refl; up = refl; log = refl; news = refl; acts = refl }; pending = refl })
+  hears_packet from (Accepted v) t = record { stays = record { boot = refl; base = refl; up = refl; log = refl; news = refl; acts = refl }; pending = refl }
+  hears_packet from (Nack b p) t = record { stays = record { boot = refl; base = refl; up = refl; log = refl; news = refl; acts = refl }; pending = refl }
   hears_packet from (Forward es) t =
       cond_both (is_leading t.node.proposer.role) (propose_each same members n es t) t (λ u. Same t u) (λ d. proposes_each es t)
       (λ d. same_here t)
-  hears_packet from (Ask slot) t = record { stays = record { boot = refl; up = refl; log = refl; news = refl; acts = refl }; pending = refl }
-  hears_packet from (Learned slot e) t = record { stays = record { boot = refl; up = refl; log = refl; news = refl; acts = refl }; pending = refl }
+  hears_packet from (Ask slot) t = answers_ask from slot (given_by t.node.rows.snapshot slot) t
+  hears_packet from (Snapshot s) t = same_here t
+  hears_packet from (Learned slot e) t = record { stays = record { boot = refl; base = refl; up = refl; log = refl; news = refl; acts = refl }; pending = refl }
 
   pub delivers : (from : ℕ) (kind : Kind B) (t : Plan B) → Same t (on_packet same members n from kind (record t { node = saw kind t.node }))
   delivers from kind t =
       let s = hears_packet from kind (record t { node = saw kind t.node }) in
       record {
-        stays = record { boot = s.stays.boot; up = s.stays.up; log = s.stays.log; news = s.stays.news; acts = s.stays.acts };
+        stays = record { boot = s.stays.boot; base = s.stays.base; up = s.stays.up; log = s.stays.log; news = s.stays.news; acts = s.stays.acts };
         pending = s.pending;
       }
 
@@ -130,13 +148,13 @@ module _ {B : Type 0} (same : B → B → Bool) (members n : ℕ) where
   begins t =
       cond_both (starts n t.node) (begin members n (new_ballot n t.node.rows.promised t.node.proposer) (suc (log_length t.node)) t) t
       (λ u. Same t u)
-      (λ e. record { stays = record { boot = refl; up = refl; log = refl; news = refl; acts = refl }; pending = refl }) (λ e. same_here t)
+      (λ e. record { stays = record { boot = refl; base = refl; up = refl; log = refl; news = refl; acts = refl }; pending = refl }) (λ e. same_here t)
 
   pub ticks : (t : Plan B) → Same t (on_tick same members n t)
   ticks t =
       let s = pushes (send (again members n t.node.proposer.role t.node.learner.learned) t) in
       record {
-        stays = record { boot = s.stays.boot; up = s.stays.up; log = s.stays.log; news = s.stays.news; acts = s.stays.acts };
+        stays = record { boot = s.stays.boot; base = s.stays.base; up = s.stays.up; log = s.stays.log; news = s.stays.news; acts = s.stays.acts };
         pending = s.pending;
       }
 
@@ -152,7 +170,7 @@ module _ {B : Type 0} (same : B → B → Bool) (members n : ℕ) where
           → Leaves t.node.taken (t.node.pending ++ (if b then lost ∷ [] else [])) t (if b then push same members n u else t)
       go true e = let s = pushes u in
           record {
-            stays = record { boot = s.stays.boot; up = s.stays.up; log = s.stays.log; news = s.stays.news; acts = s.stays.acts };
+            stays = record { boot = s.stays.boot; base = s.stays.base; up = s.stays.up; log = s.stays.log; news = s.stays.news; acts = s.stays.acts };
             pending = s.pending;
           }
       go false e = record { stays = (same_here t).stays; pending = sym (append-nil t.node.pending) }
@@ -173,7 +191,7 @@ module _ {B : Type 0} (same : B → B → Bool) (members n : ℕ) where
           (if b then push same members n u else t)
       go true e = let s = pushes u in
           record {
-            stays = record { boot = s.stays.boot; up = s.stays.up; log = s.stays.log; news = s.stays.news; acts = s.stays.acts };
+            stays = record { boot = s.stays.boot; base = s.stays.base; up = s.stays.up; log = s.stays.log; news = s.stays.news; acts = s.stays.acts };
             pending = s.pending;
           }
       go false e = record { stays = (same_here t).stays; pending = sym (append-nil t.node.pending) }

@@ -227,11 +227,12 @@ module _ {B M Y : Type 0} where
       (told_has (tellings s.machine.told) t (λ q. n (sym (f.each t) ∙ q)))))
   goes (x ∷ list) h t (suc i) s g n = has_right (tellings x.machine.told) (goes list (λ j. h (suc j)) t i s g n)
 
-  pub were_handed : {S : Type 0} (content : M → S) (m : Machine B S Y) (members : ℕ) (list : List (MemberState B M Y)) (sent : List (Packet B))
-      (made : List (Entry B)) (v : World B) → StandsIn content m (held_of members list sent made) v
+  pub were_handed : {S : Type 0} (content : M → S) (loaded : List ℕ → Option S) (m : Machine B S Y) (members : ℕ)
+      (list : List (MemberState B M Y)) (sent : List (Packet B)) (made : List (Entry B)) (first : List ℕ) (v : World B)
+      → StandsIn content loaded m (held_of members list sent made first) v
       → ((i : ℕ) (s : MemberState B M Y) → slice_get list i ≡ Some s → TellAll s.machine.told (tellings s.machine.told))
       → WereHanded m v (tell_members list)
-  were_handed content m members list sent made v h tell =
+  were_handed content loaded m members list sent made first v h tell =
       record {
         in_order = in_order_of (tell_members list) (ascend_all 1 list own);
         only = λ t ys s. let c = comes 1 list own t ys s in

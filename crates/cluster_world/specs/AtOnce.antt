@@ -8,19 +8,22 @@ use Rattle.paxos_packets.specs.declared.ballot.Ballot.{Ballot}
 use Rattle.paxos_packets.specs.declared.entry.Entry.{Entry}
 use Rattle.paxos_packets.specs.declared.vote.Vote.{Vote}
 use Rattle.paxos_packets.specs.declared.packet.Kind.{Kind}
-use Rattle.paxos_packets.specs.declared.packet.Kind.TheVariants.{Prepare, Promise, Accept, Accepted, Nack, Forward, Learned, Ask}
+use Rattle.paxos_packets.specs.declared.packet.Kind.TheVariants.{Prepare, Promise, Accept, Accepted, Nack, Forward, Learned, Ask, Snapshot}
 use Rattle.paxos_packets.specs.Rows.{raised}
-use Rattle.paxos_acceptor.specs.Acceptor.{may_accept}
+use Rattle.paxos_packets.specs.Snapshot.{floor_in}
+use Rattle.paxos_packets.specs.Snapshot as taken
+use Rattle.paxos_acceptor.specs.Acceptor.{may_accept, given_by}
 use Rattle.paxos_proposer.specs.declared.promises.CountedPromise.{CountedPromise}
 use Rattle.paxos_proposer.specs.Role.{Role, Idle, Preparing, Leading}
 use Rattle.paxos_proposer.specs.Proposer.{slot_end, next_vote, is_leading}
+use Rattle.paxos_proposer.specs.Promises.{lowest}
 use Rattle.paxos_proposer.specs.Reports.{is_counted, reports, called_for}
 use Rattle.paxos_node.specs.declared.event.Event.{Event}
 use Rattle.paxos_node.specs.declared.event.Event.TheVariants.{Take, Tick, Start, Suspect, Deliver, Crash, Restart}
 use Rattle.paxos_planning.specs.Node.{NodeState, Plan, log_length}
 use Rattle.paxos_planning.specs.Plan.{with_role, with_pending, begun, send, vote, count as count_at_end, hear_learned}
 use Rattle.paxos_planning.specs.Proposals.{offer, stands, forwarded}
-use Rattle.paxos_planning.specs.Replies.{saw, refuse, on_prepare, on_nack, told_from}
+use Rattle.paxos_planning.specs.Replies.{saw, refuse, show, on_prepare, on_nack, on_ask}
 use Rattle.paxos_node.specs.Applying.{started, go_down, settle}
 use Rattle.paxos_node.specs.Events.{takes, with_item, has_room, new_lost, owner, outcome_of}
 use Rattle.paxos_planning.specs.Ticking.{again, ask}
@@ -70,22 +73,29 @@ push same members me o =
 
 -- packets
 
+abbrev pub cast_or_show : {B : Type 0} → (B → B → Bool) → ℕ → ℕ → ℕ → Option taken.Snapshot → Vote B → Plan B → Plan B
+cast_or_show same members me sender None v o = cast same members me v o
+cast_or_show same members me sender (Some s) v o = show me sender s o
+
 abbrev pub on_accept : {B : Type 0} → (B → B → Bool) → ℕ → ℕ → ℕ → Vote B → Plan B → Plan B
 on_accept same members me sender v o =
-    if may_accept o.node.rows.promised v.ballot then cast same members me v o
+    if may_accept o.node.rows.promised v.ballot
+    then cast_or_show same members me sender (given_by o.node.rows.snapshot v.slot) v o
     else refuse me sender v.ballot o
 
-abbrev pub count_promise : {B : Type 0} → (B → B → Bool) → ℕ → ℕ → Ballot → ℕ → List (CountedPromise B) → Plan B → Plan B
-count_promise same members me b first promises o =
-    if is_majority members (is_counted promises) then push same members me (lead same members me b first (reports promises) o)
+abbrev pub count_promise : {B : Type 0} → (B → B → Bool) → ℕ → ℕ → Ballot → ℕ → ℕ → List (CountedPromise B) → Plan B → Plan B
+count_promise same members me b first own promises o =
+    if is_majority members (is_counted promises)
+    then push same members me (lead same members me b (lowest first own promises) (reports promises) o)
     else record o { node = with_role (Preparing b first promises) o.node }
 
-abbrev pub on_promise_as : {B : Type 0} → (B → B → Bool) → ℕ → ℕ → ℕ → Ballot → List (Vote B) → Role B → Plan B → Plan B
-on_promise_as same members me sender b votes Idle o = o
-on_promise_as same members me sender b votes (Leading c next proposed) o = o
-on_promise_as same members me sender b votes (Preparing c first promises) o =
+abbrev pub on_promise_as : {B : Type 0} → (B → B → Bool) → ℕ → ℕ → ℕ → Ballot → ℕ → List (Vote B) → Role B → Plan B → Plan B
+on_promise_as same members me sender b floor votes Idle o = o
+on_promise_as same members me sender b floor votes (Leading c next proposed) o = o
+on_promise_as same members me sender b floor votes (Preparing c first promises) o =
     if same_ballot b c && not (is_counted promises sender)
-    then count_promise same members me c first (promises ++ record { node = sender; votes = votes } ∷ []) o
+    then count_promise same members me c first (floor_in o.node.rows.snapshot)
+    (promises ++ record { node = sender; floor = floor; votes = votes } ∷ []) o
     else o
 
 abbrev pub on_forward : {B : Type 0} → (B → B → Bool) → ℕ → ℕ → List (Entry B) → Plan B → Plan B
@@ -93,13 +103,14 @@ on_forward same members me es o = if is_leading o.node.proposer.role then propos
 
 abbrev pub on_packet : {B : Type 0} → (B → B → Bool) → ℕ → ℕ → ℕ → Kind B → Plan B → Plan B
 on_packet same members me sender (Prepare b first) o = on_prepare me sender b first o
-on_packet same members me sender (Promise b votes) o = on_promise_as same members me sender b votes o.node.proposer.role o
+on_packet same members me sender (Promise b floor votes) o = on_promise_as same members me sender b floor votes o.node.proposer.role o
 on_packet same members me sender (Accept v) o = on_accept same members me sender v o
 on_packet same members me sender (Accepted v) o = count same members me sender v o
 on_packet same members me sender (Nack b p) o = on_nack b p o
 on_packet same members me sender (Forward es) o = on_forward same members me es o
 on_packet same members me sender (Learned s e) o = settle me (hear_learned same s e o)
-on_packet same members me sender (Ask first) o = send (told_from me sender first o.node.learner.learned) o
+on_packet same members me sender (Ask first) o = on_ask me sender first o
+on_packet same members me sender (Snapshot s) o = o
 
 -- events
 

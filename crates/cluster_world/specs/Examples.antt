@@ -97,10 +97,10 @@ crash_packets =
     let old = boot_vote 1 first 1 in
     let again = boot_vote 1 second 1 in
     let own = boot_vote 2 second 2 in
-    packet 1 (Prepare first 1) 2 ∷ packet 1 (Prepare first 1) 3 ∷ packet 2 (Promise first []) 1
+    packet 1 (Prepare first 1) 2 ∷ packet 1 (Prepare first 1) 3 ∷ packet 2 (Promise first 0 []) 1
     ∷ packet 1 (Accept old) 2 ∷ packet 1 (Accept old) 3 ∷ packet 1 (Accepted old) 2 ∷ packet 1 (Accepted old) 3
     ∷ packet 3 (Accepted old) 1 ∷ packet 3 (Accepted old) 2
-    ∷ packet 2 (Prepare second 1) 1 ∷ packet 2 (Prepare second 1) 3 ∷ packet 3 (Promise second (old ∷ [])) 2
+    ∷ packet 2 (Prepare second 1) 1 ∷ packet 2 (Prepare second 1) 3 ∷ packet 3 (Promise second 0 (old ∷ [])) 2
     ∷ packet 2 (Accept again) 1 ∷ packet 2 (Accept again) 3 ∷ packet 2 (Accepted again) 1 ∷ packet 2 (Accepted again) 3
     ∷ packet 2 (Accept own) 1 ∷ packet 2 (Accept own) 3 ∷ packet 2 (Accepted own) 1 ∷ packet 2 (Accepted own) 3
     ∷ packet 3 (Accepted again) 1 ∷ packet 3 (Accepted again) 2 ∷ packet 3 (Accepted own) 1 ∷ packet 3 (Accepted own) 2 ∷ []

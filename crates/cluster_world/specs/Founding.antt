@@ -2,9 +2,8 @@
 use Rattle.std.specs.Prelude.{◌≡◌, ℕ, suc, false, Some, List, [], slice_get, length}
 use Rattle.paxos_packets.specs.declared.entry.Entry.{Entry}
 use Rattle.replica_machine.specs.Replay.{Machine}
-use Rattle.replica_follower.specs.Following.{Followed}
+use Rattle.replica_follower.specs.Following.{Followed, Follows}
 use Rattle.cluster_world.specs.Members.{MemberState, nodes_of}
-use Rattle.cluster_world.specs.StandsAt.{Attends}
 use Rattle.cluster_world.specs.World.{founded, first_boots}
 
 -- all have one content
@@ -16,7 +15,7 @@ pub record HasBegun {B M Y : Type 0} (members : ℕ) (i : ℕ) (s : MemberState 
   pub me : s.me ≡ suc i
   pub members_are : s.members ≡ members
   pub node : s.machine.node ≡ suc i
-  pub log : s.machine.log ≡ []
+  pub log : s.machine.log.applied ≡ []
   pub told : s.machine.told ≡ []
   pub alive : s.machine.given_up ≡ false
 
@@ -26,9 +25,9 @@ pub record AreFounded {B M Y : Type 0} (members : ℕ) (list : List (MemberState
   pub made_is : made ≡ first_boots (length list)
   pub each : (i : ℕ) (s : MemberState B M Y) → slice_get list i ≡ Some s → HasBegun members i s
 
--- their machines attend their nodes
-abbrev pub AllAttend : {B M S Y : Type 0} → (M → S) → Machine B S Y → List (MemberState B M Y) → Type 0
-AllAttend {B} {M} {S} {Y} content m list = (i : ℕ) (s : MemberState B M Y) → slice_get list i ≡ Some s → Attends content m s.node s.machine
+-- their machines have the content to which their logs lead
+abbrev pub AllFollow : {B M S Y : Type 0} → (M → S) → Machine B S Y → List (MemberState B M Y) → Type 0
+AllFollow {B} {M} {S} {Y} content m list = (i : ℕ) (s : MemberState B M Y) → slice_get list i ≡ Some s → Follows content m [] s.machine
 
 abbrev pub NoneGivenUp : {B M Y : Type 0} → List (Followed B M Y) → Type 0
 NoneGivenUp {B} {M} {Y} machines = (i : ℕ) (f : Followed B M Y) → slice_get machines i ≡ Some f → f.given_up ≡ false

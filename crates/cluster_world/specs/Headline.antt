@@ -16,7 +16,7 @@ use Rattle.cluster_world.specs.Chosen.{Chosen}
 use Rattle.cluster_world.specs.Has.{Has}
 use Rattle.cluster_world.specs.Laws.{IsPrefixOf}
 use Rattle.cluster_world.specs.Origins.{acts_of, Suspected}
-use Rattle.cluster_world.specs.StandsAt.{Held, handed_in}
+use Rattle.cluster_world.specs.StandsAt.{Held, HasLog, handed_in}
 use Rattle.cluster_world.specs.World.{node_at, was_sent}
 
 module _ {B M Y : Type 0} where
@@ -42,10 +42,11 @@ module _ {B M Y : Type 0} where
   abbrev pub AnswersAreSaid : {S : Type 0} → Machine B S Y → Held B M Y → Type 0
   AnswersAreSaid m w = (t : Transport) → IsPresent t (node_at w.nodes t.node) → handed_in w t ≡ said m t (log_in w t.node)
 
-  -- machines: one that is not given up has the content that the log which it followed leads to, of which its node's log is a prefix
+  -- machines: one that is not given up has the content that its log leads to, and while its node is up that is the node's log
   pub record MachinesFollow {S : Type 0} (content : M → S) (m : Machine B S Y) (w : Held B M Y) : Type 0 where
-    pub contents : (i : ℕ) (f : Followed B M Y) → slice_get w.machines i ≡ Some f → f.given_up ≡ false → content f.machine ≡ state m f.log
-    pub fronts : (i : ℕ) (f : Followed B M Y) → slice_get w.machines i ≡ Some f → IsPrefixOf (log_in w (suc i)) f.log
+    pub contents :
+        (i : ℕ) (f : Followed B M Y) → slice_get w.machines i ≡ Some f → f.given_up ≡ false → content f.log.machine ≡ state m f.log.applied
+    pub logs : (i : ℕ) (f : Followed B M Y) → slice_get w.machines i ≡ Some f → HasLog (node_at w.nodes (suc i)) f
 
   -- at most once: the Items of a boot that take effect in a log are numbered 1, 2, 3 and so on; each Item in a log is the act, with transport and
   -- body, that its node took under that number in that boot; and a Boot in a log is one that its node, a member, had

@@ -1,3 +1,5 @@
+//! The faults of a world and of a rescue, and their numbers.
+
 ghost use Rattle.std.specs.Prelude.{◌≡◌};
 ghost use Rattle.cluster_world.specs.Rescue.{rescue_fault_number};
 

@@ -1,3 +1,5 @@
+//! An iterator over what a world's transports were handed.
+
 ghost use Rattle.std.specs.Prelude.{◌≡◌, ◌<◌, Some, List, MatchOption, length, slice_get, ℕ, [], ◌∷◌, ◌++◌};
 ghost use Rattle.std.specs.Iterator.{YieldsFirstBy, item_count};
 ghost use Rattle.cluster_world.specs.Members.{MemberState};

@@ -1,6 +1,6 @@
-//! One member of a world: its node, and the machine that attends the node.
+//! One member of a world: its node, and the machine that stands where the node stands.
 
-ghost use Rattle.std.specs.Prelude.{◌≡◌, suc, ◌≤◌, ◌<◌, ◌+◌, ◌-◌, ◌^◌, ◌++◌, [], ◌∷◌, List, take, drop, length, true, false, IfOk, OnOk, OnErr, vec_len, vec_capacity, option_copied, is_some, IfSome};
+ghost use Rattle.std.specs.Prelude.{◌≡◌, suc, ◌≤◌, ◌<◌, ◌+◌, ◌^◌, ◌++◌, [], ◌∷◌, List, length, true, false, Some, IfOk, OnOk, OnErr, vec_len, vec_capacity, option_copied, is_some, IfSome};
 ghost use Rattle.paxos_packets.specs.declared.entry.Entry as log_entries;
 ghost use Rattle.paxos_packets.specs.declared.entry.Entry.TheVariants.{Boot};
 ghost use Rattle.paxos_packets.specs.declared.transport.Transport as transports;
@@ -9,21 +9,20 @@ ghost use Rattle.paxos_node.specs.Adopting.{adopted, Fits, Planned};
 ghost use Rattle.paxos_node.specs.Applying.{down, started};
 ghost use Rattle.paxos_node.specs.Events.{owner, possible, outcome_of, made_by};
 ghost use Rattle.paxos_node.specs.Plans.{is_planned, plans};
-ghost use Rattle.paxos_planning.specs.Node.{log_length};
 ghost use Rattle.paxos_planning.specs.Drafting.{listed};
-ghost use Rattle.replica_machine.specs.Log.{machine_from};
-ghost use Rattle.replica_follower.specs.Following.{handed_to, Follows, Keeps, AgreesWith};
+ghost use Rattle.replica_machine.specs.Given.{AreGiven};
+ghost use Rattle.replica_machine.specs.Log.{machine_from, length_in, IsLogOf};
+ghost use Rattle.replica_machine.specs.Snapshot.{kept_of, loaded_log};
+ghost use Rattle.replica_follower.specs.Following.{handed_to, Follows};
 ghost use Rattle.replica_follower.specs.Handed.{said_in, tellings, TellAll};
 ghost use Rattle.world_nodes.specs.Nodes.{node_of, HasRoomIn, IsAtRest};
-ghost use Rattle.cluster_world.specs.Members.{gone_on, FollowsOn, StaysBehind, FollowedSo, Moves, Unmoved, Happens, Rests};
-ghost use Rattle.cluster_world.specs.StandsAt.{Attends};
-ghost use Rattle.cluster_world.specs.Answers.{log_after};
-ghost use Rattle.cluster_world.specs.Laws.{IsPrefixOf};
+ghost use Rattle.cluster_world.specs.Members.{Moves, Unmoved, Happens, Rests, IsInBoot, IsGivenUp};
+ghost use Rattle.cluster_world.specs.StandsAt.{HasLog, LoadsFirst};
 
 use paxos_node::{Event, Node, Outcome};
 use paxos_packets::{Body, Entry, Members, Memory, Transport};
 use replica_follower::{Follower, Tellings};
-use replica_machine::Machine;
+use replica_machine::{Machine, SaveFault};
 use std::alloc::Global;
 use std::marker::Model;
 use world_nodes::WorldNode;
@@ -32,7 +31,7 @@ use world_packets::SentPackets;
 // The greatest boot.
 const LAST_BOOT: u64 = (1 << 48) - 1;
 
-/// A member of the cluster: its node, and the machine that attends the node.
+/// A member of the cluster: its node, and the machine that stands where the node stands.
 pub struct Member<M: Machine> {
     me: u8,
     node: WorldNode<M::Body>,
@@ -68,11 +67,11 @@ impl<M: Machine> Member<M> {
         ensures members { IfOk result (λ member. member.members ≡ members) }
         ensures node { IfOk result (λ member. member.node ≡ started me first_rows) }
         ensures machine { IfOk result (λ member. member.machine.node ≡ me) }
-        ensures log { IfOk result (λ member. member.machine.log ≡ []) }
+        ensures log { IfOk result (λ member. member.machine.log.applied ≡ []) }
         ensures told { IfOk result (λ member. member.machine.told ≡ []) }
         ensures given_up { IfOk result (λ member. member.machine.given_up ≡ false) }
-        ensures attends { (first : M.Content) → M.content machine ≡ first → IfOk result (λ member.
-            Attends M.content (machine_from M.next M.says M.to first) member.node member.machine) }
+        ensures follows { (first : M.Content) → M.content machine ≡ first → IfOk result (λ member.
+            Follows M.content (machine_from M.steps first) [] member.machine) }
     {
         let node = WorldNode::first(alloc, me, members)?;
         Ok(Member {
@@ -100,10 +99,28 @@ impl<M: Machine> Member<M> {
 
     /// Returns its node's log. Does not allocate.
     pub fn log(&self) -> &[Entry<M::Body>]
-        requires { IsPrefixOf self.now.node.applied self.now.machine.log }
+        requires up { HasLog self.now.node self.now.machine }
+        requires down { self.now.node.up ≡ false → self.now.node.applied ≡ [] }
         ensures { result.now ≡ self.now.node.applied }
     {
-        &self.follower.log()[..self.node.applied() as usize]
+        if !self.node.is_up() {
+            return &[];
+        }
+        self.follower.log()
+    }
+
+    /// Returns the octets of its machine's log, as `AppliedLog::save` does.
+    pub fn saved(&self) -> Result<Vec<u8>, SaveFault>
+        ensures back { (first : M.Content) (under : List (log_entries.Entry M.Body))
+            → IsLogOf M.steps M.content first under self.now.machine.log → M.is_sound first
+            → AreGiven (under ++ self.now.machine.log.applied) → length_in self.now.machine.log < 2 ^ 40
+            → IfOk result (λ octets. loaded_log M.loaded octets.items ≡ Some (kept_of M.content self.now.machine.log)) }
+        ensures only { (first : M.Content) (under : List (log_entries.Entry M.Body))
+            → IsLogOf M.steps M.content first under self.now.machine.log
+            → AreGiven (under ++ self.now.machine.log.applied) → length_in self.now.machine.log < 2 ^ 40
+            → IfOk result (λ octets. IfSome (loaded_log M.loaded octets.items) (λ kept. kept ≡ kept_of M.content self.now.machine.log)) }
+    {
+        self.follower.saved()
     }
 
     /// Returns what the transport of its node was handed. Does not allocate.
@@ -147,21 +164,27 @@ impl<M: Machine> Member<M> {
         self.node.crash();
     }
 
-    // Starts its node, which is down, in the next boot.
-    fn restart(&mut self, made: &mut Vec<Entry<M::Body>>) -> Result<(), Memory>
+    // Starts its node, which is down, in the next boot, and makes its machine anew from the octets of a log. On `Memory` the node is as it was.
+    fn restart(&mut self, octets: &[u8], made: &mut Vec<Entry<M::Body>>) -> Result<(), Memory>
         requires down { self.old.node.up ≡ false }
         requires boots { self.old.node.rows.boot < last_boot }
         ensures me { self.new.me ≡ self.old.me }
         ensures members { self.new.members ≡ self.old.members }
+        ensures machine { self.new.machine.node ≡ self.old.machine.node }
         ensures node { OnOk result (self.new.node ≡ started self.old.me (raised self.old.node.rows)) }
         ensures made { OnOk result (made.new.items ≡ made.old.items ++ Boot self.old.me (suc self.old.node.rows.boot) ∷ []) }
-        ensures machine { self.new.machine ≡ self.old.machine }
+        ensures log { OnOk result (self.new.machine.log.applied ≡ []) }
+        ensures told { self.new.machine.told ≡ self.old.machine.told }
+        ensures follows { (first : M.Content) → LoadsFirst M.loaded first octets.now
+            → Follows M.content (machine_from M.steps first) [] self.old.machine
+            → Follows M.content (machine_from M.steps first) [] self.new.machine }
         ensures err_node { OnErr result (self.new.node ≡ self.old.node) }
         ensures err_made { OnErr result (made.new.items ≡ made.old.items) }
     {
         let Ok(()) = made.reserve(1) else {
             return Err(Memory);
         };
+        self.follower.renew(octets)?;
         self.node.restart()?;
         made.push_reserved(Entry::Boot {
             node: self.me,
@@ -184,26 +207,27 @@ impl<M: Machine> Member<M> {
         requires possible { possible event.now self.old.node ≡ true }
         requires rests { IsAtRest self.old.node }
         requires agrees { (outcome_of M.Body.same self.old.members event.now self.old.node).disagrees ≡ false }
-        requires front { IsPrefixOf self.old.node.applied self.old.machine.log }
-        requires logs { AgreesWith (log_after M.Body.same self.old.members event.now self.old.node) self.old.machine.log }
+        requires log { HasLog self.old.node self.old.machine }
         ensures me { self.new.me ≡ self.old.me }
         ensures members { self.new.members ≡ self.old.members }
         ensures machine { self.new.machine.node ≡ self.old.machine.node }
         ensures ok { OnOk result (Moves M.Body.same event.now self.old self.new sent.old.packets sent.new.packets made.old.items made.new.items) }
         ensures err { OnErr result (Unmoved self.old self.new sent.old.packets sent.new.packets made.old.items made.new.items) }
-        ensures given_up { self.old.machine.given_up ≡ true → self.new.machine.given_up ≡ true }
-        ensures refuses { self.old.machine.given_up ≡ true → OnOk result (self.new.machine.log ≡ self.old.machine.log) }
-        ensures happens { (first : M.Content) → Attends M.content (machine_from M.next M.says M.to first) self.old.node self.old.machine →
-            OnOk result (Happens M.Body.same M.content (machine_from M.next M.says M.to first) event.now self.old self.new) }
-        ensures rests { (first : M.Content) → Attends M.content (machine_from M.next M.says M.to first) self.old.node self.old.machine →
-            OnErr result (Rests M.content (machine_from M.next M.says M.to first) self.old self.new) }
+        ensures given_up { self.old.machine.given_up ≡ true → IsInBoot self.old.node self.new.node →
+            IsGivenUp self.old.machine.log.applied self.new.machine }
+        ensures happens { (first : M.Content) → Follows M.content (machine_from M.steps first) [] self.old.machine →
+            OnOk result (Happens M.Body.same M.content (machine_from M.steps first) event.now self.old self.new) }
+        ensures rests { (first : M.Content) → Follows M.content (machine_from M.steps first) [] self.old.machine →
+            OnErr result (Rests M.content (machine_from M.steps first) self.old self.new) }
     {
         do_event_at(&mut self.node, &mut self.follower, sent, made, event)
     }
 
-    /// Does the event, which is this member's and possible: whole or not at all.
+    /// Does the event, which is this member's and possible: whole or not at all. A restart makes the machine anew from the octets of a log;
+    /// if memory runs out then, the machine of the node, which is still down, may be a new one.
     pub fn happen(
         &mut self,
+        octets: &[u8],
         sent: &mut SentPackets<M::Body>,
         made: &mut Vec<Entry<M::Body>>,
         event: &Event<M::Body>,
@@ -212,26 +236,27 @@ impl<M: Machine> Member<M> {
         requires possible { possible event.now self.old.node ≡ true }
         requires rests { IsAtRest self.old.node }
         requires agrees { (outcome_of M.Body.same self.old.members event.now self.old.node).disagrees ≡ false }
-        requires front { IsPrefixOf self.old.node.applied self.old.machine.log }
-        requires logs { AgreesWith (log_after M.Body.same self.old.members event.now self.old.node) self.old.machine.log }
+        requires log { HasLog self.old.node self.old.machine }
         ensures me { self.new.me ≡ self.old.me }
         ensures members { self.new.members ≡ self.old.members }
         ensures machine { self.new.machine.node ≡ self.old.machine.node }
         ensures ok { OnOk result (Moves M.Body.same event.now self.old self.new sent.old.packets sent.new.packets made.old.items made.new.items) }
         ensures err { OnErr result (Unmoved self.old self.new sent.old.packets sent.new.packets made.old.items made.new.items) }
-        ensures given_up { self.old.machine.given_up ≡ true → self.new.machine.given_up ≡ true }
-        ensures refuses { self.old.machine.given_up ≡ true → OnOk result (self.new.machine.log ≡ self.old.machine.log) }
-        ensures happens { (first : M.Content) → Attends M.content (machine_from M.next M.says M.to first) self.old.node self.old.machine →
-            OnOk result (Happens M.Body.same M.content (machine_from M.next M.says M.to first) event.now self.old self.new) }
-        ensures rests { (first : M.Content) → Attends M.content (machine_from M.next M.says M.to first) self.old.node self.old.machine →
-            OnErr result (Rests M.content (machine_from M.next M.says M.to first) self.old self.new) }
+        ensures given_up { self.old.machine.given_up ≡ true → IsInBoot self.old.node self.new.node →
+            IsGivenUp self.old.machine.log.applied self.new.machine }
+        ensures happens { (first : M.Content) → LoadsFirst M.loaded first octets.now →
+            Follows M.content (machine_from M.steps first) [] self.old.machine →
+            OnOk result (Happens M.Body.same M.content (machine_from M.steps first) event.now self.old self.new) }
+        ensures rests { (first : M.Content) → LoadsFirst M.loaded first octets.now →
+            Follows M.content (machine_from M.steps first) [] self.old.machine →
+            OnErr result (Rests M.content (machine_from M.steps first) self.old self.new) }
     {
         match event {
             Event::Crash { .. } => {
                 self.crash();
                 Ok(())
             }
-            Event::Restart { .. } => self.restart(made),
+            Event::Restart { .. } => self.restart(octets, made),
             Event::Take { .. } => self.do_event(sent, made, event),
             Event::Tick { .. } => self.do_event(sent, made, event),
             Event::Start { .. } => self.do_event(sent, made, event),
@@ -315,31 +340,6 @@ fn commit<B: Body>(
     put(made, added);
 }
 
-// Lets the machine go on with its node, which applies these entries after the first `from` of its log in this boot: whole or not at all.
-fn attend<M: Machine>(
-    follower: &mut Follower<M>,
-    boot: u64,
-    from: usize,
-    entries: &[Entry<M::Body>],
-) -> Result<(), Memory>
-    requires within { from ≤ length follower.old.log }
-    requires slots { from + length entries.now < 2 ^ 40 }
-    requires agrees { AgreesWith (take from follower.old.log ++ entries.now) follower.old.log }
-    ensures node { follower.new.node ≡ follower.old.node }
-    ensures log { OnOk result (follower.new.log ≡ follower.old.log ++ drop (length follower.old.log - from) entries.now) }
-    ensures err_log { OnErr result (follower.new.log ≡ follower.old.log) }
-    ensures given_up { follower.old.given_up ≡ true → follower.new.given_up ≡ true }
-    ensures refuses { follower.old.given_up ≡ true → OnOk result (from + length entries.now ≤ length follower.old.log) }
-    ensures ok { (first : M.Content) (log : List (log_entries.Entry M.Body)) → log ≡ take from follower.old.log → length log ≡ from →
-        Follows M.content (machine_from M.next M.says M.to first) follower.old → Keeps (machine_from M.next M.says M.to first) boot from follower.old →
-        OnOk result (FollowsOn M.content (machine_from M.next M.says M.to first) boot log entries.now follower.old follower.new) }
-    ensures err { (first : M.Content) (log : List (log_entries.Entry M.Body)) → length log ≡ from →
-        Follows M.content (machine_from M.next M.says M.to first) follower.old → Keeps (machine_from M.next M.says M.to first) boot from follower.old →
-        OnErr result (StaysBehind M.content (machine_from M.next M.says M.to first) boot log follower.old follower.new) }
-{
-    follower.follow(boot, from, entries)
-}
-
 // Adopts what was planned at the node, which is up, and lets its machine go on with it: whole or not at all.
 fn carry_out<M: Machine>(
     node: &mut WorldNode<M::Body>,
@@ -350,33 +350,28 @@ fn carry_out<M: Machine>(
 ) -> Result<(), Memory>
     requires up { (node_of node.old).up ≡ true }
     requires fits { Fits node.old.me node.old.members outcome (node_of node.old) }
-    requires front { (node_of node.old).applied ≡ take (log_length (node_of node.old)) follower.old.log }
-    requires within { log_length (node_of node.old) ≤ length follower.old.log }
-    requires logs { AgreesWith ((node_of node.old).applied ++ outcome.applied) follower.old.log }
+    requires log { follower.old.log.applied ≡ (node_of node.old).applied }
     ensures me { node.new.me ≡ node.old.me }
     ensures members { node.new.members ≡ node.old.members }
     ensures machine { follower.new.node ≡ follower.old.node }
     ensures node { OnOk result (node_of node.new ≡ adopted node.old.me node.old.members outcome (node_of node.old)) }
     ensures packets { OnOk result (sent.new.packets ≡ sent.old.packets ++ outcome.packets) }
     ensures made { OnOk result (made.new.items ≡ made.old.items ++ listed outcome.moves.added) }
-    ensures log { OnOk result (follower.new.log ≡ gone_on follower.old.log (node_of node.old).applied outcome.applied) }
+    ensures log { OnOk result (follower.new.log.applied ≡ (node_of node.old).applied ++ outcome.applied) }
     ensures err_node { OnErr result (node_of node.new ≡ node_of node.old) }
     ensures err_packets { OnErr result (sent.new.packets ≡ sent.old.packets) }
     ensures err_made { OnErr result (made.new.items ≡ made.old.items) }
-    ensures err_log { OnErr result (follower.new.log ≡ follower.old.log) }
-    ensures given_up { follower.old.given_up ≡ true → follower.new.given_up ≡ true }
-    ensures refuses { follower.old.given_up ≡ true →
-        OnOk result (log_length (node_of node.old) + length outcome.applied ≤ length follower.old.log) }
-    ensures ok { (first : M.Content) → FollowedSo M.content (machine_from M.next M.says M.to first) (node_of node.old) follower.old →
-        OnOk result (FollowsOn M.content (machine_from M.next M.says M.to first) (node_of node.old).rows.boot (node_of node.old).applied outcome.applied
-        follower.old follower.new) }
-    ensures err { (first : M.Content) → FollowedSo M.content (machine_from M.next M.says M.to first) (node_of node.old) follower.old →
-        OnErr result (StaysBehind M.content (machine_from M.next M.says M.to first) (node_of node.old).rows.boot (node_of node.old).applied
-        follower.old follower.new) }
+    ensures err_log { OnErr result (follower.new.log.applied ≡ follower.old.log.applied) }
+    ensures given_up { follower.old.given_up ≡ true → IsGivenUp follower.old.log.applied follower.new }
+    ensures follows { (first : M.Content) → Follows M.content (machine_from M.steps first) [] follower.old →
+        Follows M.content (machine_from M.steps first) [] follower.new }
+    ensures handed { (first : M.Content) → Follows M.content (machine_from M.steps first) [] follower.old →
+        OnOk result ((t : transports.Transport) → said_in t follower.new.told ≡ said_in t follower.old.told
+        ++ handed_to (machine_from M.steps first) t follower.old.node (node_of node.old).rows.boot (node_of node.old).applied outcome.applied) }
+    ensures err_handed { OnErr result ((t : transports.Transport) → said_in t follower.new.told ≡ said_in t follower.old.told) }
 {
     let added = prepare(node, sent, made, &outcome)?;
-    let from = node.applied() as usize;
-    attend(follower, node.boot(), from, outcome.applied.as_slice())?;
+    follower.follow(node.boot(), outcome.applied.as_slice())?;
     commit(node, sent, made, outcome, added);
     Ok(())
 }
@@ -392,9 +387,7 @@ fn do_event_at<M: Machine>(
     requires plans { plans node.old.me event.now (node_of node.old) ≡ true }
     requires rests { IsAtRest (node_of node.old) }
     requires agrees { (outcome_of M.Body.same node.old.members event.now (node_of node.old)).disagrees ≡ false }
-    requires front { (node_of node.old).applied ≡ take (log_length (node_of node.old)) follower.old.log }
-    requires within { log_length (node_of node.old) ≤ length follower.old.log }
-    requires logs { AgreesWith (log_after M.Body.same node.old.members event.now (node_of node.old)) follower.old.log }
+    requires log { follower.old.log.applied ≡ (node_of node.old).applied }
     ensures me { node.new.me ≡ node.old.me }
     ensures members { node.new.members ≡ node.old.members }
     ensures machine { follower.new.node ≡ follower.old.node }
@@ -402,21 +395,20 @@ fn do_event_at<M: Machine>(
     ensures packets { OnOk result
         (sent.new.packets ≡ sent.old.packets ++ (outcome_of M.Body.same node.old.members event.now (node_of node.old)).packets) }
     ensures made { OnOk result (made.new.items ≡ made.old.items ++ made_by M.Body.same event.now (node_of node.old)) }
-    ensures log { OnOk result (follower.new.log
-        ≡ gone_on follower.old.log (node_of node.old).applied (outcome_of M.Body.same node.old.members event.now (node_of node.old)).applied) }
+    ensures log { OnOk result (follower.new.log.applied
+        ≡ (node_of node.old).applied ++ (outcome_of M.Body.same node.old.members event.now (node_of node.old)).applied) }
     ensures err_node { OnErr result (node_of node.new ≡ node_of node.old) }
     ensures err_packets { OnErr result (sent.new.packets ≡ sent.old.packets) }
     ensures err_made { OnErr result (made.new.items ≡ made.old.items) }
-    ensures err_log { OnErr result (follower.new.log ≡ follower.old.log) }
-    ensures given_up { follower.old.given_up ≡ true → follower.new.given_up ≡ true }
-    ensures refuses { follower.old.given_up ≡ true → OnOk result (log_length (node_of node.old)
-        + length (outcome_of M.Body.same node.old.members event.now (node_of node.old)).applied ≤ length follower.old.log) }
-    ensures ok { (first : M.Content) → FollowedSo M.content (machine_from M.next M.says M.to first) (node_of node.old) follower.old →
-        OnOk result (FollowsOn M.content (machine_from M.next M.says M.to first) (node_of node.old).rows.boot (node_of node.old).applied
-        (outcome_of M.Body.same node.old.members event.now (node_of node.old)).applied follower.old follower.new) }
-    ensures err { (first : M.Content) → FollowedSo M.content (machine_from M.next M.says M.to first) (node_of node.old) follower.old →
-        OnErr result (StaysBehind M.content (machine_from M.next M.says M.to first) (node_of node.old).rows.boot (node_of node.old).applied
-        follower.old follower.new) }
+    ensures err_log { OnErr result (follower.new.log.applied ≡ follower.old.log.applied) }
+    ensures given_up { follower.old.given_up ≡ true → IsGivenUp follower.old.log.applied follower.new }
+    ensures follows { (first : M.Content) → Follows M.content (machine_from M.steps first) [] follower.old →
+        Follows M.content (machine_from M.steps first) [] follower.new }
+    ensures handed { (first : M.Content) → Follows M.content (machine_from M.steps first) [] follower.old →
+        OnOk result ((t : transports.Transport) → said_in t follower.new.told ≡ said_in t follower.old.told
+        ++ handed_to (machine_from M.steps first) t follower.old.node (node_of node.old).rows.boot (node_of node.old).applied
+        (outcome_of M.Body.same node.old.members event.now (node_of node.old)).applied) }
+    ensures err_handed { OnErr result ((t : transports.Transport) → said_in t follower.new.told ≡ said_in t follower.old.told) }
 {
     match node.plan(event)? {
         Some(outcome) => carry_out(node, follower, sent, made, outcome),

@@ -51,10 +51,10 @@ impl<M: Machine> World<M> {
         body: M::Body,
     ) -> Result<Vec<Event<M::Body>>, RescueFault>
         ensures refused { (first : M.Content) (es : List (occurred.Event M.Body)) →
-            StandsAt M.Body.same M.content (machine_from M.next M.says M.to first) self.now es →
+            StandsAt M.Body.same M.content M.loaded (machine_from M.steps first) self.now es →
             Refuses (rescue_refused self.now.members (played M.Body.same self.now.members es) node) result }
         ensures rescued { (first : M.Content) (es : List (occurred.Event M.Body)) →
-            StandsAt M.Body.same M.content (machine_from M.next M.says M.to first) self.now es →
+            StandsAt M.Body.same M.content M.loaded (machine_from M.steps first) self.now es →
             MayBeRescued (node_at (played M.Body.same self.now.members es).nodes node) number →
             IfOk result (λ events. Rescues M.Body.same self.now.members (played M.Body.same self.now.members es) node number body events.items) }
     {

@@ -1,14 +1,13 @@
+//! How events happen in a world, one after the other, each whole or not at all.
+
 ghost use Rattle.std.specs.Prelude.{◌≡◌, ◌<◌, ◌≤◌, ◌++◌, ◌∷◌, [], List, true, false, take, length, OnOk, OnErr, IfErr};
 ghost use Rattle.paxos_node.specs.declared.event.Event as occurred;
 ghost use Rattle.paxos_node.specs.Events.{owner, possible, outcome_of};
 ghost use Rattle.replica_machine.specs.Log.{machine_from};
-ghost use Rattle.replica_follower.specs.Following.{AgreesWith};
 ghost use Rattle.world_nodes.specs.Nodes.{IsAtRest};
-ghost use Rattle.cluster_world.specs.Answers.{log_after};
-ghost use Rattle.cluster_world.specs.Laws.{IsPrefixOf};
-ghost use Rattle.cluster_world.specs.Members.{AreMembers, nodes_of, machines_of, held_of, GivenUpStay};
+ghost use Rattle.cluster_world.specs.Members.{AreMembers, nodes_of, held_of, GivenUpStay, AreLater};
 ghost use Rattle.cluster_world.specs.Headline.{Agree, LogsAgree, AnswersAreSaid, MachinesFollow, TookEffectOnce, LossesWereCalledFor, NoneDisagrees};
-ghost use Rattle.cluster_world.specs.StandsAt.{StandsAt};
+ghost use Rattle.cluster_world.specs.StandsAt.{ShowsAt, StandsAt};
 ghost use Rattle.cluster_world.specs.World.{node_at, was_sent};
 
 use crate::fault::Memory;
@@ -24,31 +23,31 @@ impl<M: Machine> World<M> {
     /// run, and it was not. An event that is not possible changes nothing: of a node that is down or not a member, for a transport with
     /// number 0, of a packet unlike all that were sent, or a restart of a node that is up. Nor does an event that a node refuses.
     ///
-    /// A machine that fails, or goes on and then lacks memory for what it says, is given up: later runs return `Memory` at each event in
-    /// which its node applies an entry after the log that the machine has followed, and all else goes on.
+    /// A machine that fails, or goes on and then lacks memory for what it says, is given up: `Memory` comes at each event in which its node
+    /// would apply an entry, and all else goes on. A restart of the node makes its machine anew.
     ///
     /// An event takes time in what it reads, commits, sends and applies, at most times a logarithm.
     pub fn run(&mut self, events: &[Event<M::Body>]) -> Result<(), (usize, Memory)>
         ensures members { self.new.members ≡ self.old.members }
         ensures ok { (first : M.Content) (es : List (occurred.Event M.Body)) →
-            StandsAt M.Body.same M.content (machine_from M.next M.says M.to first) self.old es →
-            OnOk result (StandsAt M.Body.same M.content (machine_from M.next M.says M.to first) self.new (es ++ events.now)) }
+            StandsAt M.Body.same M.content M.loaded (machine_from M.steps first) self.old es →
+            OnOk result (StandsAt M.Body.same M.content M.loaded (machine_from M.steps first) self.new (es ++ events.now)) }
         ensures err { (first : M.Content) (es : List (occurred.Event M.Body)) →
-            StandsAt M.Body.same M.content (machine_from M.next M.says M.to first) self.old es →
+            StandsAt M.Body.same M.content M.loaded (machine_from M.steps first) self.old es →
             IfErr result (λ f. (f.0 < length events.now)
-            × StandsAt M.Body.same M.content (machine_from M.next M.says M.to first) self.new (es ++ take f.0 events.now)) }
-        ensures given_up { GivenUpStay self.old.machines self.new.machines }
+            × StandsAt M.Body.same M.content M.loaded (machine_from M.steps first) self.new (es ++ take f.0 events.now)) }
+        ensures given_up { GivenUpStay self.old self.new }
         ensures agreement { Agree self.new }
         ensures log_agreement { LogsAgree self.old self.new }
         ensures answers { (first : M.Content) (es : List (occurred.Event M.Body)) →
-            StandsAt M.Body.same M.content (machine_from M.next M.says M.to first) self.old es →
-            AnswersAreSaid (machine_from M.next M.says M.to first) self.new }
+            StandsAt M.Body.same M.content M.loaded (machine_from M.steps first) self.old es →
+            AnswersAreSaid (machine_from M.steps first) self.new }
         ensures machines { (first : M.Content) (es : List (occurred.Event M.Body)) →
-            StandsAt M.Body.same M.content (machine_from M.next M.says M.to first) self.old es →
-            MachinesFollow M.content (machine_from M.next M.says M.to first) self.new }
+            StandsAt M.Body.same M.content M.loaded (machine_from M.steps first) self.old es →
+            MachinesFollow M.content (machine_from M.steps first) self.new }
         ensures at_most_once { TookEffectOnce self.new }
         ensures losses { (first : M.Content) (es : List (occurred.Event M.Body)) →
-            StandsAt M.Body.same M.content (machine_from M.next M.says M.to first) self.new es → LossesWereCalledFor M.Body.same self.new es }
+            StandsAt M.Body.same M.content M.loaded (machine_from M.steps first) self.new es → LossesWereCalledFor M.Body.same self.new es }
         ensures no_disagreement { NoneDisagrees M.Body.same self.new }
     {
         self.leads();
@@ -58,8 +57,7 @@ impl<M: Machine> World<M> {
     // Some events lead to it.
     pub(crate) fn leads(&self)
         ensures many { 3 ≤ self.now.members }
-        ensures leads { (first : M.Content) × (es : List (occurred.Event M.Body))
-            × StandsAt M.Body.same M.content (machine_from M.next M.says M.to first) self.now es }
+        ensures leads { (es : List (occurred.Event M.Body)) × ShowsAt M.Body.same self.now es }
     {
         let _ = self.members.count();
     }
@@ -67,14 +65,19 @@ impl<M: Machine> World<M> {
     // Runs the events, as `run` does, but for the laws.
     fn run_all(&mut self, events: &[Event<M::Body>]) -> Result<(), (usize, Memory)>
         ensures members { self.new.members ≡ self.old.members }
+        ensures shows_ok { (es : List (occurred.Event M.Body)) → ShowsAt M.Body.same self.old es →
+            OnOk result (ShowsAt M.Body.same self.new (es ++ events.now)) }
+        ensures shows_err { (es : List (occurred.Event M.Body)) → ShowsAt M.Body.same self.old es →
+            IfErr result (λ f. (f.0 < length events.now) × ShowsAt M.Body.same self.new (es ++ take f.0 events.now)) }
+        ensures later { AreLater self.old self.new }
         ensures ok { (first : M.Content) (es : List (occurred.Event M.Body)) →
-            StandsAt M.Body.same M.content (machine_from M.next M.says M.to first) self.old es →
-            OnOk result (StandsAt M.Body.same M.content (machine_from M.next M.says M.to first) self.new (es ++ events.now)) }
+            StandsAt M.Body.same M.content M.loaded (machine_from M.steps first) self.old es →
+            OnOk result (StandsAt M.Body.same M.content M.loaded (machine_from M.steps first) self.new (es ++ events.now)) }
         ensures err { (first : M.Content) (es : List (occurred.Event M.Body)) →
-            StandsAt M.Body.same M.content (machine_from M.next M.says M.to first) self.old es →
+            StandsAt M.Body.same M.content M.loaded (machine_from M.steps first) self.old es →
             IfErr result (λ f. (f.0 < length events.now)
-            × StandsAt M.Body.same M.content (machine_from M.next M.says M.to first) self.new (es ++ take f.0 events.now)) }
-        ensures given_up { GivenUpStay self.old.machines self.new.machines }
+            × StandsAt M.Body.same M.content M.loaded (machine_from M.steps first) self.new (es ++ take f.0 events.now)) }
+        ensures given_up { GivenUpStay self.old self.new }
     {
         for index in 0..events.len() {
             let Ok(()) = self.step(&events[index]) else {
@@ -87,17 +90,22 @@ impl<M: Machine> World<M> {
     // Lets one event happen, whole or not at all.
     fn step(&mut self, event: &Event<M::Body>) -> Result<(), paxos_packets::Memory>
         ensures members { self.new.members ≡ self.old.members }
+        ensures shows_ok { (es : List (occurred.Event M.Body)) → ShowsAt M.Body.same self.old es →
+            OnOk result (ShowsAt M.Body.same self.new (es ++ event.now ∷ [])) }
+        ensures shows_err { (es : List (occurred.Event M.Body)) → ShowsAt M.Body.same self.old es → OnErr result (ShowsAt M.Body.same self.new es) }
+        ensures later { AreLater self.old self.new }
         ensures ok { (first : M.Content) (es : List (occurred.Event M.Body)) →
-            StandsAt M.Body.same M.content (machine_from M.next M.says M.to first) self.old es →
-            OnOk result (StandsAt M.Body.same M.content (machine_from M.next M.says M.to first) self.new (es ++ event.now ∷ [])) }
+            StandsAt M.Body.same M.content M.loaded (machine_from M.steps first) self.old es →
+            OnOk result (StandsAt M.Body.same M.content M.loaded (machine_from M.steps first) self.new (es ++ event.now ∷ [])) }
         ensures err { (first : M.Content) (es : List (occurred.Event M.Body)) →
-            StandsAt M.Body.same M.content (machine_from M.next M.says M.to first) self.old es →
-            OnErr result (StandsAt M.Body.same M.content (machine_from M.next M.says M.to first) self.new es) }
-        ensures given_up { GivenUpStay self.old.machines self.new.machines }
+            StandsAt M.Body.same M.content M.loaded (machine_from M.steps first) self.old es →
+            OnErr result (StandsAt M.Body.same M.content M.loaded (machine_from M.steps first) self.new es) }
+        ensures given_up { GivenUpStay self.old self.new }
     {
         let _ = self.members.count();
         happen_in(
             self.members,
+            &self.first,
             &mut self.list,
             &mut self.sent,
             &mut self.made,
@@ -119,6 +127,7 @@ fn was_sent<B: Body>(event: &Event<B>, sent: &SentPackets<B>) -> bool
 // Lets the event happen if it is possible: whole or not at all.
 fn happen_in<M: Machine>(
     members: Members,
+    octets: &[u8],
     list: &mut Vec<Member<M>>,
     sent: &mut SentPackets<M::Body>,
     made: &mut Vec<Entry<M::Body>>,
@@ -126,18 +135,27 @@ fn happen_in<M: Machine>(
 ) -> Result<(), paxos_packets::Memory>
     requires many { 3 ≤ members }
     requires seated { AreMembers members list.old.items }
-    requires leads { (first : M.Content) × (es : List (occurred.Event M.Body)) × StandsAt M.Body.same M.content (machine_from M.next M.says M.to first)
-        (held_of members list.old.items sent.old.packets made.old.items) es }
+    requires leads { (es : List (occurred.Event M.Body))
+        × ShowsAt M.Body.same (held_of members list.old.items sent.old.packets made.old.items octets.now) es }
     ensures seated { AreMembers members list.new.items }
-    ensures ok { (first : M.Content) (es : List (occurred.Event M.Body)) → StandsAt M.Body.same M.content (machine_from M.next M.says M.to first)
-        (held_of members list.old.items sent.old.packets made.old.items) es →
-        OnOk result (StandsAt M.Body.same M.content (machine_from M.next M.says M.to first)
-        (held_of members list.new.items sent.new.packets made.new.items) (es ++ event.now ∷ [])) }
-    ensures err { (first : M.Content) (es : List (occurred.Event M.Body)) → StandsAt M.Body.same M.content (machine_from M.next M.says M.to first)
-        (held_of members list.old.items sent.old.packets made.old.items) es →
-        OnErr result (StandsAt M.Body.same M.content (machine_from M.next M.says M.to first)
-        (held_of members list.new.items sent.new.packets made.new.items) es) }
-    ensures given_up { GivenUpStay (machines_of list.old.items) (machines_of list.new.items) }
+    ensures shows_ok { (es : List (occurred.Event M.Body)) →
+        ShowsAt M.Body.same (held_of members list.old.items sent.old.packets made.old.items octets.now) es →
+        OnOk result (ShowsAt M.Body.same (held_of members list.new.items sent.new.packets made.new.items octets.now) (es ++ event.now ∷ [])) }
+    ensures shows_err { (es : List (occurred.Event M.Body)) →
+        ShowsAt M.Body.same (held_of members list.old.items sent.old.packets made.old.items octets.now) es →
+        OnErr result (ShowsAt M.Body.same (held_of members list.new.items sent.new.packets made.new.items octets.now) es) }
+    ensures ok { (first : M.Content) (es : List (occurred.Event M.Body)) → StandsAt M.Body.same M.content M.loaded (machine_from M.steps first)
+        (held_of members list.old.items sent.old.packets made.old.items octets.now) es
+        → OnOk result (StandsAt M.Body.same M.content M.loaded (machine_from M.steps first)
+        (held_of members list.new.items sent.new.packets made.new.items octets.now) (es ++ event.now ∷ [])) }
+    ensures err { (first : M.Content) (es : List (occurred.Event M.Body)) → StandsAt M.Body.same M.content M.loaded (machine_from M.steps first)
+        (held_of members list.old.items sent.old.packets made.old.items octets.now) es
+        → OnErr result (StandsAt M.Body.same M.content M.loaded (machine_from M.steps first)
+        (held_of members list.new.items sent.new.packets made.new.items octets.now) es) }
+    ensures later { AreLater (held_of members list.old.items sent.old.packets made.old.items octets.now)
+        (held_of members list.new.items sent.new.packets made.new.items octets.now) }
+    ensures given_up { GivenUpStay (held_of members list.old.items sent.old.packets made.old.items octets.now)
+        (held_of members list.new.items sent.new.packets made.new.items octets.now) }
 {
     if !was_sent(event, sent) {
         return Ok(());
@@ -146,7 +164,7 @@ fn happen_in<M: Machine>(
         return Ok(());
     }
     let place = (event.node() - 1) as usize;
-    list[place].happen(sent, made, event)
+    list[place].happen(octets, sent, made, event)
 }
 
 // Returns whether the event is possible at its node; none is at a node that is not a member.

@@ -1,3 +1,4 @@
+// The trait of coders, which spell the bodies of items in octets.
 ghost use Rattle.std.specs.Prelude.{◌≡◌, ◌≢◌, ℕ, Option, List, Ok, Err, IfOk, IfErr};
 ghost use Rattle.command_codec.specs.Coder.{Puts, IsReadAgain, IsSpelled};
 ghost use Rattle.command_codec.specs.Number.{Reading};

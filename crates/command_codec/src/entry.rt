@@ -1,3 +1,4 @@
+// Entries as octets, put and taken (docs/CONSENSUS.md, "Entry bytes").
 ghost use Rattle.paxos_packets.specs.declared.entry.Entry.{Entry};
 ghost use Rattle.std.specs.Prelude.{◌≡◌, ◌≢◌, [], ◌∷◌, Some, Ok, Err, IfOk, IfErr, MatchResult};
 ghost use Rattle.command_codec.specs.Coder.{Puts};

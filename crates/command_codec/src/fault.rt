@@ -1,3 +1,4 @@
+// The faults of entries as octets, and their numbers.
 ghost use Rattle.std.specs.Prelude.{◌≡◌};
 ghost use Rattle.command_codec.specs.Fault.{fault_number};
 

@@ -1,3 +1,4 @@
+// Numbers as octets, the highest first: the forms of an entry's numbers, and how one is read.
 ghost use Rattle.std.specs.Prelude.{◌≡◌, ◌+◌, ◌<◌, ◌≤◌, ◌||◌, nat_lt, Ok, Err, IfOk, MatchResult};
 ghost use Rattle.command_codec.specs.Number.{cut, number_from, number_reading, is_within};
 

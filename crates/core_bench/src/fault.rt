@@ -1,3 +1,4 @@
+// The faults of a measure, and which faults of other crates become them.
 use paxos_node::NodeFault;
 use realm_codec::CodecFault;
 use replica_machine::{Failed, LearnFault};

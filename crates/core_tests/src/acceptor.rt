@@ -1,6 +1,9 @@
+// An acceptor that is asked for promises and votes: what it commits and sends, which changes it has, and which votes it copies.
 use crate::check::Check;
 use paxos_acceptor::{Acceptor, Answer, Memory, Verdict};
-use paxos_packets::{Ballot, Body, Change, Entries, Entry, Kind, Packet, Rows, Slot, Vote, Votes};
+use paxos_packets::{
+    Ballot, Body, Change, Entries, Entry, Floor, Kind, Packet, Rows, Slot, Vote, Votes,
+};
 use std::alloc::Global;
 use std::process::Abort;
 use test_checks::{check, check_eq};
@@ -88,6 +91,7 @@ fn promise<B: Body>(
 ) -> Kind<B> {
     Kind::Promise {
         ballot,
+        floor: Floor::none(),
         votes: votes_of(rt, alloc, entry, voted),
     }
 }
@@ -288,6 +292,7 @@ fn has<B: Body>(
 ) -> bool {
     let change = Change {
         promised: row.0,
+        snapshot: None,
         votes: votes_of(rt, alloc, entry, row.1),
     };
     let has_all = acceptor.has_all(&change);
@@ -328,6 +333,7 @@ fn acceptor<B>(alloc: Global) -> Acceptor<B> {
         Rows {
             boot: 1,
             promised: None,
+            snapshot: None,
             votes: Votes::new(alloc),
         },
     )

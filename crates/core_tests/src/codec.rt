@@ -1,3 +1,4 @@
+// Entries as octets: the spelling of each kind, the faults of octets, and entries without a spelling.
 use crate::check::Check;
 use command_codec::{Entry, put_entry, take_entry};
 use std::alloc::Global;

@@ -1,40 +1,32 @@
+// A node's machine along its log in several boots: what transports are handed, sayings ahead, and a machine that refuses.
 use crate::check::Check;
 use replica_follower::{Follower, Transport};
 use replica_machine::{Entry, Machine};
 use std::alloc::Global;
-use std::marker::Model;
+use std::panic::Expect;
 use std::process::Abort;
-use test_checks::check_eq;
+use test_checks::{check, check_eq};
 use test_machines::{Count, Foretells, Number, Refuses};
 
-// A node that has passed a front of one log, and passes pieces of it.
+// A node whose boots go by pieces of one log, and the octets of the empty one.
 #[derive(Drop)]
 struct Walk<M: Machine> {
     follower: Follower<M>,
     log: Vec<Entry<M::Body>>,
-}
-
-impl<M: Machine> Model for Walk<M> {
-    ghost use Rattle.std.specs.Prelude.{List};
-    ghost use Rattle.paxos_packets.specs.declared.entry.Entry.{Entry};
-    ghost use Rattle.replica_machine.specs.Log.{Begins};
-
-    ghost Value = { List (Entry M.Body) };
-
-    ghost view = { λ p. p.log.items };
-
-    ghost invariant = { λ p. Begins p.follower.log p.log.items };
+    first: Vec<u8>,
 }
 
 impl<M: Machine> Walk<M> {
-    // Passes the entries from one place to another in this boot. Returns whether it did.
+    // Applies the entries from one place to another in this boot, from the first one on with a machine that is made anew. Returns whether it
+    // did.
     fn pass(&mut self, boot: u64, from: usize, end: usize) -> bool {
-        if self.follower.log().len() < from || end < from || self.log.len() < end || end > 99 {
+        if end < from || self.log.len() < end {
             return false;
         }
-        self.follower
-            .follow(boot, from, &self.log[from..end])
-            .is_ok()
+        if boot > 1 && from == 0 && self.follower.renew(&self.first).is_err() {
+            return false;
+        }
+        self.follower.follow(boot, &self.log[from..end]).is_ok()
     }
 }
 
@@ -63,9 +55,12 @@ fn walk_of<M: Machine<Body = Number>>(
         item(2, 6),
     ]
     .expect(rt, "room for a log");
+    let follower = Follower::new(alloc, node, machine);
+    let first = follower.saved().expect(rt, "the octets of a log");
     Walk {
-        follower: Follower::new(alloc, node, machine),
+        follower,
         log,
+        first,
     }
 }
 
@@ -112,6 +107,7 @@ const ONCE: &[Row] = &[
     (2, 3, 4, (2, Some(11)), (0, None)),
 ];
 
+// A machine that speaks to transports of the next boot, which it then tells all again.
 const AHEAD: &[Row] = &[
     (1, 0, 4, (2, Some(11)), (0, None)),
     (2, 0, 2, (2, Some(11)), (0, None)),
@@ -123,14 +119,14 @@ const AHEAD: &[Row] = &[
 // The node hands out what is for another one to nobody.
 const OF_ANOTHER: &[Row] = &[(1, 0, 4, (0, None), (0, None))];
 
-// The node was down before it passed the last act in boot 2.
+// The node was down before it applied the last act in boot 1.
 const CUT_SHORT: &[Row] = &[
     (1, 0, 3, (1, Some(5)), (0, None)),
     (2, 0, 4, (1, Some(5)), (2, Some(11))),
     (3, 0, 4, (1, Some(5)), (2, Some(11))),
 ];
 
-// What a piece of the log leads to: whether it is passed, and what the transports of boots 1 and 2 were handed then.
+// What a piece of the log leads to: whether it is applied, and what the transports of boots 1 and 2 were handed then.
 fn passed<M: Machine<Say = (Transport, u64)>>(
     walk: &mut Walk<M>,
     row: &Row,
@@ -178,12 +174,12 @@ fn speaks_ahead(rt: &impl Abort, alloc: Global, node: u8, rows: &[Row], transpor
 }
 
 #[test]
-fn what_was_said_early_is_handed_out_when_its_boot_passes(rt: HostRuntime) {
+fn what_is_said_to_a_boot_is_handed_out_in_it(rt: HostRuntime) {
     speaks_ahead(&rt, rt.alloc(), 2, AHEAD, 2);
 }
 
 #[test]
-fn what_a_boot_did_not_pass_is_not_handed_out(rt: HostRuntime) {
+fn what_a_boot_did_not_apply_is_not_handed_out(rt: HostRuntime) {
     speaks_ahead(&rt, rt.alloc(), 2, CUT_SHORT, 2);
 }
 
@@ -192,7 +188,7 @@ fn what_is_for_another_node_is_dropped(rt: HostRuntime) {
     speaks_ahead(&rt, rt.alloc(), 1, OF_ANOTHER, 0);
 }
 
-// A piece of the log in a boot, whether it is passed, and the length of the log then and whether the machine is given up.
+// A piece of the log in a boot, whether it is applied, and the length of the log then and whether the machine is given up.
 type Try = (u64, usize, usize, bool, usize, bool);
 
 const REFUSED: &[Try] = &[
@@ -200,11 +196,12 @@ const REFUSED: &[Try] = &[
     (1, 1, 3, false, 1, true),
     (1, 1, 2, false, 1, true),
     (1, 1, 1, true, 1, true),
-    (2, 0, 1, true, 1, true),
-    (2, 0, 2, false, 1, true),
 ];
 
-// Whether a piece is passed, and the length of the log then and whether the machine is given up.
+// In the next boot it comes back.
+const RENEWED: &[Try] = &[(2, 0, 1, true, 1, false), (2, 1, 4, true, 4, false)];
+
+// Whether a piece is applied, and the length of the log then and whether the machine is given up.
 fn tried(walk: &mut Walk<Refuses>, row: &Try) -> (bool, usize, bool) {
     let passed = walk.pass(row.0, row.1, row.2);
     (
@@ -214,17 +211,83 @@ fn tried(walk: &mut Walk<Refuses>, row: &Try) -> (bool, usize, bool) {
     )
 }
 
-fn is_given_up(rt: &impl Abort, walk: &mut Walk<Refuses>) {
-    for row in REFUSED {
+fn tries(rt: &impl Abort, walk: &mut Walk<Refuses>, rows: &[Try]) {
+    for row in rows {
         check_eq!(rt; tried(walk, row), (row.3, row.4, row.5));
     }
+}
+
+fn is_given_up(rt: &impl Abort, walk: &mut Walk<Refuses>) {
+    tries(rt, walk, REFUSED);
     // it took the second entry of the refused event before it failed at the third
     check_eq!(rt; walk.follower.machine().taken(), 2);
+    tries(rt, walk, RENEWED);
+    check_eq!(rt; walk.follower.machine().taken(), 4);
 }
 
 #[test]
-fn a_machine_that_refuses_is_given_up(rt: HostRuntime) {
+fn a_machine_that_refuses_is_given_up_until_the_next_boot(rt: HostRuntime) {
     let mut walk = walk_of(&rt, rt.alloc(), 3, Refuses::new(rt.alloc(), 2));
     is_given_up(&rt, &mut walk);
+    drop(walk);
+}
+
+// Whether a machine is made of the octets, the length of the log then and whether the machine is given up.
+fn renewed(walk: &mut Walk<Count>, octets: &[u8]) -> (bool, usize, bool) {
+    let renewed = walk.follower.renew(octets).is_ok();
+    (
+        renewed,
+        walk.follower.log().len(),
+        walk.follower.is_given_up(),
+    )
+}
+
+fn comes_back(rt: &impl Abort, walk: &mut Walk<Count>) {
+    goes(rt, walk, ONCE);
+    check_eq!(rt; renewed(walk, b"none".as_slice()), (true, 0, true));
+    check_eq!(rt; (walk.pass(1, 0, 1), walk.follower.saved().is_err()), (false, true));
+    check_eq!(rt; walk.pass(4, 0, 4), true);
+    check_eq!(rt; counted(walk), (11, 4, 1));
+}
+
+#[test]
+fn no_machine_is_made_of_damaged_octets(rt: HostRuntime) {
+    let mut walk = walk_of(&rt, rt.alloc(), 2, Count::new(rt.alloc()));
+    comes_back(&rt, &mut walk);
+    drop(walk);
+}
+
+// What transport 1 of node 2 in boot 1 is handed once the node applies one more act in it.
+fn goes_on(rt: &impl Abort, follower: &mut Follower<Count>) -> (usize, Option<u64>) {
+    follower
+        .follow(1, &[item(3, 7)])
+        .expect(rt, "room for an act");
+    handed(follower, 2, 1)
+}
+
+// A machine that is made of a log's octets stands where that log ended: its entries are not applied again, and what follows takes effect
+// after them.
+fn is_made_anew(rt: &impl Abort, walk: &mut Walk<Count>) {
+    goes(rt, walk, &ONCE[..3]);
+    let octets = walk.follower.saved().expect(rt, "the octets of a log");
+    check_eq!(rt; renewed(walk, &octets), (true, 0, false));
+    check_eq!(rt; counted(walk), (11, 0, 1));
+    check!(rt; is_saved_as(rt, &walk.follower, &octets));
+    check_eq!(rt; goes_on(rt, &mut walk.follower), (3, Some(18)));
+    check_eq!(rt; counted(walk), (18, 1, 1));
+    drop(octets);
+}
+
+fn is_saved_as(rt: &impl Abort, follower: &Follower<Count>, octets: &[u8]) -> bool {
+    let again = follower.saved().expect(rt, "the octets of a log");
+    let same = again.as_slice() == octets;
+    drop(again);
+    same
+}
+
+#[test]
+fn a_machine_is_made_of_what_was_saved(rt: HostRuntime) {
+    let mut walk = walk_of(&rt, rt.alloc(), 2, Count::new(rt.alloc()));
+    is_made_anew(&rt, &mut walk);
     drop(walk);
 }

@@ -1,8 +1,8 @@
 // One session through three nodes, of which the third has a machine that refuses its second input.
 use crate::check::Check;
 use crate::packet_rows::{FIRST, LOG, PACKETS, SECOND};
-use crate::schedule::SESSION;
-use crate::worlds::{has_log, has_sent, run_rows, turn, world_of};
+use crate::schedule::{SESSION, Turn};
+use crate::worlds::{flush, has_log, has_sent, run_rows, turn, world_of};
 use cluster_world::World;
 use std::alloc::Global;
 use std::process::Abort;
@@ -43,13 +43,27 @@ fn goes_on(rt: &impl Abort, alloc: Global, world: &mut World<Refuses>) {
     }
 }
 
+// The node's restart makes its machine anew, and the node applies the whole log, with its new boot.
+fn comes_back(rt: &impl Abort, alloc: Global, world: &mut World<Refuses>) {
+    let from = world.sent();
+    check!(rt; turn(rt, world, alloc, &Turn::Crash(3)));
+    check!(rt; turn(rt, world, alloc, &Turn::Restart(3)));
+    check!(rt; has_log(world, 3, &[]));
+    check!(rt; turn(rt, world, alloc, &Turn::Tick(3)));
+    check!(rt; flush(rt, world, alloc, from));
+    for node in 1..=3 {
+        check_eq!(rt; world.log(node).len(), LOG.len().saturating_add(1), node);
+    }
+}
+
 fn is_given_up(rt: &impl Abort, alloc: Global, world: &mut World<Refuses>) {
     stops(rt, alloc, world);
-    goes_on(rt, alloc, world)
+    goes_on(rt, alloc, world);
+    comes_back(rt, alloc, world)
 }
 
 #[test]
-fn a_machine_that_refuses_is_given_up_and_all_else_goes_on(rt: HostRuntime) {
+fn a_machine_that_refuses_is_given_up_until_its_node_restarts(rt: HostRuntime) {
     let mut world = refusing(&rt, rt.alloc());
     is_given_up(&rt, rt.alloc(), &mut world);
     drop(world);

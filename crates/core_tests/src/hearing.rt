@@ -1,3 +1,4 @@
+// What is planned on a learner: what it would learn, disagreement, and runs up to a gap; and that what is planned is heard.
 use crate::check::Check;
 use paxos_learner::{Hearing, Learner, News};
 use paxos_packets::{Ballot, Body, Entry, Members, Slot, Vote};

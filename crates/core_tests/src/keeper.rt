@@ -1,4 +1,6 @@
+// The keeper in memory: boots, loads and commits, snapshots, commits that fail, and the faults' numbers.
 use crate::check::Check;
+use crate::snapshots::snapshot_of;
 use paxos_packets::{Ballot, Change, Entry, Rows, Slot, Vote, Votes};
 use std::alloc::Global;
 use std::process::Abort;
@@ -65,6 +67,7 @@ fn change(rt: &impl Abort, alloc: Global, round: u64, slots: &[u64]) -> Change<N
     put_votes(rt, &mut votes, ballot, slots);
     Change {
         promised: Some(ballot),
+        snapshot: None,
         votes,
     }
 }
@@ -136,6 +139,57 @@ fn a_vote_replaces_that_of_its_slot(rt: HostRuntime) {
     let mut keeper = MemKeeper::new(rt.alloc());
     replaces(&rt, rt.alloc(), &mut keeper);
     drop(keeper);
+}
+
+// Commits a snapshot with this floor, and votes of this round in these slots.
+fn cut(
+    rt: &impl Abort,
+    alloc: Global,
+    keeper: &mut MemKeeper<Number>,
+    floor: u8,
+    round: u64,
+    slots: &[u64],
+) -> u8 {
+    let mut change = change(rt, alloc, round, slots);
+    change.snapshot = snapshot_of(rt, alloc, &[0, 0, 0, 0, 0, 0, 0, floor]);
+    let done = number(keeper.commit(&change));
+    drop(change);
+    done
+}
+
+// The floor of the snapshot that is loaded, or 0 if there is none.
+fn floor(rt: &impl Abort, keeper: &mut MemKeeper<Number>) -> u64 {
+    let rows = keeper.load().expect(rt, "the rows");
+    let floor = match &rows.snapshot {
+        Some(snapshot) => snapshot.floor().get(),
+        None => 0,
+    };
+    drop(rows);
+    floor
+}
+
+fn is_cut(rt: &impl Abort, alloc: Global, keeper: &mut MemKeeper<Number>) {
+    commits(rt, alloc, keeper, &[(1, &[1, 2, 3], 0)]);
+    check!(rt; floor(rt, keeper) == 0);
+    check!(rt; cut(rt, alloc, keeper, 1, 1, &[]) == 0);
+    check!(rt; floor(rt, keeper) == 1);
+    check!(rt; load(keeper) == (0, 0, 1, [0, 1, 1]));
+    check!(rt; cut(rt, alloc, keeper, 2, 2, &[3]) == 0);
+    check!(rt; floor(rt, keeper) == 2);
+    check!(rt; load(keeper) == (0, 0, 2, [0, 0, 2]));
+    // a change without a snapshot leaves it
+    commits(rt, alloc, keeper, &[(3, &[3], 0)]);
+}
+
+#[test]
+fn a_snapshot_takes_the_place_of_votes(rt: HostRuntime) {
+    let mut keeper = MemKeeper::new(rt.alloc());
+    is_cut(&rt, rt.alloc(), &mut keeper);
+    let mut again = keeper.reopen();
+    check!(&rt; floor(&rt, &mut again) == 2);
+    check!(&rt; boot(&mut again) == (0, 1, 3, [0, 0, 3]));
+    check!(&rt; floor(&rt, &mut again) == 2);
+    drop(again);
 }
 
 // Two commits with the rounds 1 and 2 in slots 1 and 2, of which one fails: what these return.

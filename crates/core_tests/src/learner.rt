@@ -1,3 +1,4 @@
+// Steps of a learner: votes and reports, what it learns by them, disagreement, and what it takes into room made for it.
 ghost use Rattle.std.specs.Prelude.{◌≡◌, ◌<◌, true, IsTrue};
 ghost use Rattle.paxos_learner.specs.Learner.{has_room_at};
 

@@ -52,6 +52,10 @@ mod sent;
 #[cfg(test)]
 mod session;
 #[cfg(test)]
+mod snapshots;
+#[cfg(test)]
+mod unsound;
+#[cfg(test)]
 mod votes;
 #[cfg(test)]
 mod worlds;

@@ -1,5 +1,8 @@
+// The applied log and the roll: which entries take effect, faults, and logs that are saved, loaded and cut, with their heads.
 use crate::check::Check;
-use replica_machine::{AppliedLog, Entry, LearnFault, LoadFault, Machine, Roll, SaveFault, Slot};
+use replica_machine::{
+    AppliedLog, Entry, Head, LearnFault, LoadFault, Machine, Roll, SaveFault, Slot, Standing,
+};
 use std::alloc::Global;
 use std::process::Abort;
 use test_checks::{check, check_eq};
@@ -200,7 +203,7 @@ fn a_log_goes_on_as_it_was_saved(rt: HostRuntime) {
     }
 }
 
-// The log of the entries out of order: 6 slots; node 1 live in boot 1, 3 of its Items taken; the sum 60.
+// The log of the entries out of order: 6 slots; node 1 live in boot 1, 3 of its Items taken; the sum 60. The first 127 octets are its head.
 const SAVED: &[u8] = &[
     0, 0, 0, 0, 0, 0, 0, 6, //
     0, 0, 0, 0, 0, 0, 0, 1, 1, 0, 0, 0, 0, 0, 0, 0, 3, //
@@ -236,13 +239,7 @@ fn refused(alloc: Global, octets: &[u8]) -> u8 {
 }
 
 fn damaged(rt: &impl Abort, alloc: Global, place: usize, octet: u8) -> u8 {
-    let mut octets = Vec::new(alloc);
-    octets
-        .extend_from_slice(SAVED)
-        .expect(rt, "room for octets");
-    if let Some(there) = octets.get_mut(place) {
-        *there = octet;
-    }
+    let octets = altered(rt, alloc, place, octet);
     let number = refused(alloc, &octets);
     drop(octets);
     number
@@ -255,6 +252,62 @@ fn damaged_octets_are_91(rt: HostRuntime) {
     check_eq!(&rt; refused(rt.alloc(), &[]), 91);
     for (place, octet) in DAMAGES {
         check_eq!(&rt; damaged(&rt, rt.alloc(), *place, *octet), 91);
+    }
+}
+
+// The octets of that log with another octet in this place.
+fn altered(rt: &impl Abort, alloc: Global, place: usize, octet: u8) -> Vec<u8> {
+    let mut octets = Vec::from_slice(alloc, SAVED).expect(rt, "room for octets");
+    if let Some(there) = octets.get_mut(place) {
+        *there = octet;
+    }
+    octets
+}
+
+// The head of that log with another octet in this place.
+fn head_with(rt: &impl Abort, alloc: Global, place: usize, octet: u8) -> Option<Head> {
+    let octets = altered(rt, alloc, place, octet);
+    let head = Head::read(&octets);
+    drop(octets);
+    head
+}
+
+// A head of this floor, where nodes 1 and 2 stand so, and no other node is known.
+const fn head(floor: u64, one: Standing, two: Standing) -> Head {
+    Head {
+        floor,
+        standings: [
+            one,
+            two,
+            Standing::Unknown,
+            Standing::Unknown,
+            Standing::Unknown,
+            Standing::Unknown,
+            Standing::Unknown,
+        ],
+    }
+}
+
+const LIVE: Standing = Standing::Live { boot: 1, taken: 3 };
+
+#[test]
+fn a_head_is_read_whatever_follows_it(rt: HostRuntime) {
+    let wanted = Some(head(6, LIVE, Standing::Unknown));
+    check_eq!(&rt; Head::read(SAVED), wanted);
+    check_eq!(&rt; Head::read(&SAVED[..127]), wanted);
+    check_eq!(&rt; Head::read(&SAVED[..126]), None);
+    check_eq!(&rt; Head::read(&SAVED[..8]), None);
+    check_eq!(&rt; Head::read(&[]), None);
+    // of 61 in place of the sum, of no slot, of a node that is lost in boot 2
+    check_eq!(&rt; head_with(&rt, rt.alloc(), 134, 61), wanted);
+    check_eq!(&rt; head_with(&rt, rt.alloc(), 7, 0), Some(head(0, LIVE, Standing::Unknown)));
+    check_eq!(&rt; head_with(&rt, rt.alloc(), 32, 2), Some(head(6, LIVE, Standing::Gone { boot: 2 })));
+}
+
+#[test]
+fn damaged_octets_have_no_head(rt: HostRuntime) {
+    for (place, octet) in DAMAGES {
+        check_eq!(&rt; head_with(&rt, rt.alloc(), *place, *octet), None, *place);
     }
 }
 
@@ -374,4 +427,32 @@ fn a_roll_goes_along_with_a_log(rt: HostRuntime) {
     let mut roll = Roll::new();
     goes_along(&rt, &mut roll);
     counts_items(&rt, &mut roll);
+}
+
+// Where nodes 1 to 7 stand in a roll that is made of standings.
+const STANDINGS: [Standing; 7] = [
+    Standing::Unknown,
+    Standing::Live { boot: 2, taken: 3 },
+    Standing::Gone { boot: 4 },
+    Standing::Unknown,
+    Standing::Live { boot: 5, taken: 0 },
+    Standing::Gone { boot: 6 },
+    Standing::Live { boot: 7, taken: 1 },
+];
+
+fn has_standings(rt: &impl Abort, roll: &Roll) {
+    check_eq!(rt; roll.seven(), STANDINGS);
+    for (place, standing) in STANDINGS.iter().enumerate() {
+        check_eq!(rt; roll.standing((place as u8).saturating_add(1)), *standing, place);
+    }
+    for node in [0, 8, 255] {
+        check_eq!(rt; roll.standing(node), Standing::Unknown, node);
+    }
+}
+
+#[test]
+fn a_roll_is_made_of_seven_standings(rt: HostRuntime) {
+    let roll = Roll::of(STANDINGS);
+    has_standings(&rt, &roll);
+    check_eq!(&rt; Roll::new().seven(), [Standing::Unknown; 7]);
 }

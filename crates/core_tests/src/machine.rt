@@ -1,3 +1,4 @@
+// A machine by its trait alone, one that adds up, and the fault of a failed one.
 ghost use Rattle.std.specs.Prelude.{◌≡◌, OnOk, fold};
 
 use crate::check::Check;
@@ -9,7 +10,7 @@ use test_machines::{Count, Number};
 
 // Applies inputs in order: from the trait alone, a machine folds `next` over them.
 fn follow<M: Machine>(machine: &mut M, inputs: &[Input<M::Body>]) -> Result<(), Failed>
-    ensures { OnOk result (M.content machine.new ≡ fold M.next (M.content machine.old) inputs.now) }
+    ensures { OnOk result (M.content machine.new ≡ fold M.steps.next (M.content machine.old) inputs.now) }
 {
     for input in inputs {
         machine.apply(input)?;

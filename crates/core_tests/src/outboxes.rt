@@ -1,3 +1,4 @@
+// Outboxes: the oldest packet goes first, one that could not go comes back, and a full outbox loses its oldest.
 use crate::check::Check;
 use actor_outboxes::Outboxes;
 use paxos_packets::{Kind, Members, Packet};

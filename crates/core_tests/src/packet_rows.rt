@@ -1,5 +1,5 @@
 // Packets and entries as rows, and those of one session through three nodes.
-use paxos_packets::{Ballot, Body, Entries, Entry, Kind, Packet, Slot, Vote, Votes};
+use paxos_packets::{Ballot, Body, Entries, Entry, Floor, Kind, Packet, Slot, Vote, Votes};
 use std::alloc::Global;
 use std::panic::Expect;
 use std::process::Abort;
@@ -131,6 +131,7 @@ fn kind_of(rt: &impl Abort, alloc: Global, mail: &Mail) -> Kind<Number> {
         Says::Prepare => Kind::Prepare { ballot, first },
         Says::Promise => Kind::Promise {
             ballot,
+            floor: Floor::none(),
             votes: Votes::new(alloc),
         },
         Says::Accept => Kind::Accept {

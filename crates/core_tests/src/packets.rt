@@ -1,11 +1,13 @@
+// Slots, floors, ballots and members; and copies of each kind of packet, of shared bodies, entries, rows and changes.
 ghost use Rattle.std.specs.Prelude.{◌≡◌, ◌==◌, ℕ, List, refl, IfOk};
 ghost use Rattle.std.specs.Cmp.Lexicographic.{pointwise, bytes_decides};
 
 use crate::check::Check;
+use crate::snapshots::{are_same_snapshots, snapshot_of};
 use crate::votes::{item, slot, vote, votes_of};
 use paxos_packets::{
-    Ballot, Body, Change, Entries, Entry, Kind, Members, Memory, NodeSet, Packet, Rows, Shared,
-    Slot, Votes,
+    Ballot, Body, Change, Entries, Entry, Floor, Kind, Members, Memory, NodeSet, Packet, Rows,
+    Shared, Slot, Votes,
 };
 use std::alloc::Global;
 use std::marker::Model;
@@ -62,6 +64,14 @@ fn slots_have_their_range(rt: HostRuntime) {
     check!(&rt; Slot::new(1 << 40).is_none());
     check_eq!(&rt; Slot::new(1).map(|s| s.get()), Some(1));
     check_eq!(&rt; Slot::new(1_099_511_627_775).map(|s| s.get()), Some(1_099_511_627_775));
+}
+
+#[test]
+fn floors_have_their_range(rt: HostRuntime) {
+    check!(&rt; Floor::new(1 << 40).is_none());
+    check_eq!(&rt; Floor::new(0).map(|floor| floor.get()), Some(0));
+    check_eq!(&rt; Floor::new(1_099_511_627_775).map(|floor| floor.get()), Some(1_099_511_627_775));
+    check_eq!(&rt; (Floor::none().get(), Floor::at(slot(&rt, 7)).get()), (0, 7));
 }
 
 #[test]
@@ -158,7 +168,25 @@ fn promise_with<B: Body>(rt: &impl Abort, alloc: Global, entry: Entry<B>) -> Kin
     votes.put(vote).expect(rt, "room for a vote");
     Kind::Promise {
         ballot: BALLOT,
+        floor: Floor::none(),
         votes,
+    }
+}
+
+// A Promise above this floor, without a vote.
+fn promise_above<B>(rt: &impl Abort, alloc: Global, floor: u64) -> Kind<B> {
+    Kind::Promise {
+        ballot: BALLOT,
+        floor: Floor::new(floor).expect(rt, "a floor"),
+        votes: Votes::new(alloc),
+    }
+}
+
+// A Snapshot with this floor, and one octet behind it.
+fn snapshot_with<B>(rt: &impl Abort, alloc: Global, floor: u8, octet: u8) -> Kind<B> {
+    let octets = [0, 0, 0, 0, 0, 0, 0, floor, octet];
+    Kind::Snapshot {
+        snapshot: snapshot_of(rt, alloc, &octets).expect(rt, "a snapshot"),
     }
 }
 
@@ -197,10 +225,7 @@ fn plain_kind<B: Body>(rt: &impl Abort, alloc: Global, number: u8) -> Kind<B> {
             ballot: BALLOT,
             first: 2,
         },
-        2 => Kind::Promise {
-            ballot: BALLOT,
-            votes: Votes::new(alloc),
-        },
+        2 => promise_above(rt, alloc, 0),
         3 => Kind::Accept {
             vote: vote(rt, 1, 1, Entry::Boot { node: 1, boot: 1 }),
         },
@@ -214,6 +239,10 @@ fn plain_kind<B: Body>(rt: &impl Abort, alloc: Global, number: u8) -> Kind<B> {
             slot: slot(rt, 7),
             entry: Entry::Noop,
         },
+        8 => promise_above(rt, alloc, 1),
+        9 => snapshot_with(rt, alloc, 5, 1),
+        10 => snapshot_with(rt, alloc, 5, 2),
+        11 => snapshot_with(rt, alloc, 6, 1),
         _ => Kind::Ask { first: 1 },
     }
 }
@@ -242,7 +271,7 @@ fn push_kinds<B: Body>(
     body: &B,
     other: &B,
 ) {
-    for number in 0..14 {
+    for number in 0..18 {
         let kind = kind(rt, alloc, number, body, other);
         kinds.push(kind).expect(rt, "room for a kind");
     }
@@ -329,7 +358,10 @@ fn entries_keep_their_order(rt: HostRuntime) {
 }
 
 fn are_same_rows(rows: &Rows<Number>, others: &Rows<Number>) -> bool {
-    rows.boot == others.boot && rows.promised == others.promised && rows.votes.same(&others.votes)
+    rows.boot == others.boot
+        && rows.promised == others.promised
+        && are_same_snapshots(&rows.snapshot, &others.snapshot)
+        && rows.votes.same(&others.votes)
 }
 
 fn are_rows_copied(rt: &impl Abort, alloc: Global, rows: &Rows<Number>) -> bool {
@@ -341,19 +373,24 @@ fn are_rows_copied(rt: &impl Abort, alloc: Global, rows: &Rows<Number>) -> bool 
 
 fn is_change_copied(rt: &impl Abort, alloc: Global, change: &Change<Number>) -> bool {
     let copy = change.copy(alloc).expect(rt, "room for a copy");
-    let same = copy.promised == change.promised && copy.votes.same(&change.votes);
+    let same = copy.promised == change.promised
+        && are_same_snapshots(&copy.snapshot, &change.snapshot)
+        && copy.votes.same(&change.votes);
     drop(copy);
     same
 }
 
 const PROMISED: Option<Ballot> = Some(Ballot { round: 2, node: 1 });
 
+const BASE: &[u8] = &[0, 0, 0, 0, 0, 0, 0, 5, 1];
+
 #[test]
 fn rows_are_copied(rt: HostRuntime) {
     let rows = Rows {
         boot: 4,
         promised: PROMISED,
-        votes: votes_of(&rt, rt.alloc(), &[(1, 2, 1)]),
+        snapshot: snapshot_of(&rt, rt.alloc(), BASE),
+        votes: votes_of(&rt, rt.alloc(), &[(6, 2, 1)]),
     };
     let copied = are_rows_copied(&rt, rt.alloc(), &rows);
     drop(rows);
@@ -364,7 +401,8 @@ fn rows_are_copied(rt: HostRuntime) {
 fn changes_are_copied(rt: HostRuntime) {
     let change = Change {
         promised: PROMISED,
-        votes: votes_of(&rt, rt.alloc(), &[(1, 2, 1)]),
+        snapshot: snapshot_of(&rt, rt.alloc(), BASE),
+        votes: votes_of(&rt, rt.alloc(), &[(6, 2, 1)]),
     };
     let copied = is_change_copied(&rt, rt.alloc(), &change);
     drop(change);

@@ -1,6 +1,11 @@
+// Rows on one node: what it sends and applies at its events, as a leader, as another node, in the last round, once it is lost, and with a
+// snapshot.
 use crate::check::Check;
+use crate::snapshots::snapshot_of;
 use paxos_node::{Event, Node, NodeFault, Packets};
-use paxos_packets::{Ballot, Body, Entries, Entry, Kind, Members, Packet, Rows, Slot, Vote, Votes};
+use paxos_packets::{
+    Ballot, Body, Entries, Entry, Floor, Kind, Members, Packet, Rows, Slot, Vote, Votes,
+};
 use std::alloc::Global;
 use std::process::Abort;
 use test_checks::check;
@@ -28,6 +33,12 @@ enum Says {
     Prepare(Owned, u64),
     // The ballot, and the vote that it reports, in ballot (1, 2): its slot and entry.
     Promise(Owned, Option<(u64, Held)>),
+    // The same above a floor.
+    PromiseAbove(Owned, u64, Option<(u64, Held)>),
+    // The ballot, and the one that is promised.
+    Nack(Owned, Owned),
+    // Octets that begin with this floor, and no others.
+    Snapshot(u8),
     // The ballot, the slot and the entry.
     Accept(Owned, u64, Held),
     Accepted(Owned, u64, Held),
@@ -57,6 +68,8 @@ enum Happens {
 enum Step {
     // An event: how many entries the node applies, or its fault; and what it sends.
     Event(Happens, Result<u64, NodeFault>, &'static [Mail]),
+    // A packet reaches it: its sender, and what it says; the node applies nothing, and sends this.
+    Hears(u8, Says, &'static [Mail]),
     // The node takes this many acts.
     TakesMany(u64),
     IsUp(bool),
@@ -142,6 +155,29 @@ fn entries_of(rt: &impl Abort, alloc: Global, one: Held, other: Held) -> Entries
     entries
 }
 
+// A Promise above a floor.
+fn promise_of(
+    rt: &impl Abort,
+    alloc: Global,
+    ballot: Owned,
+    floor: u64,
+    reported: Option<(u64, Held)>,
+) -> Kind<Number> {
+    Kind::Promise {
+        ballot: ballot_of(ballot),
+        floor: Floor::new(floor).expect(rt, "a floor"),
+        votes: votes_of(rt, alloc, reported),
+    }
+}
+
+// A Snapshot with this floor.
+fn shown(rt: &impl Abort, alloc: Global, floor: u8) -> Kind<Number> {
+    let octets = [0, 0, 0, 0, 0, 0, 0, floor];
+    Kind::Snapshot {
+        snapshot: snapshot_of(rt, alloc, &octets).expect(rt, "a snapshot"),
+    }
+}
+
 // What a packet says.
 fn kind_of(rt: &impl Abort, alloc: Global, says: Says) -> Kind<Number> {
     match says {
@@ -149,10 +185,15 @@ fn kind_of(rt: &impl Abort, alloc: Global, says: Says) -> Kind<Number> {
             ballot: ballot_of(ballot),
             first,
         },
-        Says::Promise(ballot, reported) => Kind::Promise {
-            ballot: ballot_of(ballot),
-            votes: votes_of(rt, alloc, reported),
+        Says::Promise(ballot, reported) => promise_of(rt, alloc, ballot, 0, reported),
+        Says::PromiseAbove(ballot, floor, reported) => {
+            promise_of(rt, alloc, ballot, floor, reported)
         },
+        Says::Nack(ballot, promised) => Kind::Nack {
+            ballot: ballot_of(ballot),
+            promised: ballot_of(promised),
+        },
+        Says::Snapshot(floor) => shown(rt, alloc, floor),
         Says::Accept(ballot, slot, held) => Kind::Accept {
             vote: vote_of(rt, ballot, slot, held),
         },
@@ -259,6 +300,20 @@ fn is_filled(rt: &impl Abort, alloc: Global, me: u8, node: &mut Node<Number>, ac
     true
 }
 
+// Whether the node applies nothing at this packet, and sends this.
+fn hears(
+    rt: &impl Abort,
+    alloc: Global,
+    me: u8,
+    node: &mut Node<Number>,
+    happens: Happens,
+    length: u64,
+    sent: &[Mail],
+) -> bool {
+    let event = event_of(rt, alloc, me, happens);
+    comes_so(rt, alloc, me, node, &event, Ok(0), length, sent)
+}
+
 // Takes the step of a row. Returns whether it comes as the row says.
 fn take(rt: &impl Abort, alloc: Global, me: u8, node: &mut Node<Number>, row: &Row) -> bool {
     let (step, length) = row;
@@ -266,6 +321,10 @@ fn take(rt: &impl Abort, alloc: Global, me: u8, node: &mut Node<Number>, row: &R
         Step::Event(event, outcome, sent) => {
             let event = event_of(rt, alloc, me, *event);
             comes_so(rt, alloc, me, node, &event, *outcome, *length, sent)
+        },
+        Step::Hears(sender, says, sent) => {
+            let happens = Happens::Hears(*sender, *says);
+            hears(rt, alloc, me, node, happens, *length, sent)
         },
         Step::TakesMany(acts) => is_filled(rt, alloc, me, node, *acts),
         Step::IsUp(wanted) => node.is_up() == *wanted,
@@ -282,6 +341,7 @@ fn node_of(rt: &impl Abort, alloc: Global, me: u8, promised: Option<Owned>) -> N
     let rows = Rows {
         boot: 1,
         promised: promised_of(promised),
+        snapshot: None,
         votes: Votes::new(alloc),
     };
     Node::of(alloc, me, members, rows).expect(rt, "room for a node")
@@ -585,4 +645,136 @@ const HEARD: &[Row] = &[
 fn its_own_lost_leaves_it_down(rt: HostRuntime) {
     check(&rt, rt.alloc(), 3, None, TOLD);
     check(&rt, rt.alloc(), 3, None, HEARD);
+}
+
+// The third node, which promised the ballot (1, 2), and voted in it in slot 6: its snapshot gives the slots up to 5.
+fn cut_node(rt: &impl Abort, alloc: Global) -> Node<Number> {
+    let members = Members::new(3).expect(rt, "3 members");
+    let rows = Rows {
+        boot: 1,
+        promised: promised_of(Some((1, 2))),
+        snapshot: snapshot_of(rt, alloc, &[0, 0, 0, 0, 0, 0, 0, 5]),
+        votes: votes_of(rt, alloc, Some((6, Held::Boot(2)))),
+    };
+    Node::of(alloc, 3, members, rows).expect(rt, "room for a node")
+}
+
+// It goes as these rows say.
+fn check_cut(rt: &impl Abort, alloc: Global, rows: &[Row]) {
+    let mut node = cut_node(rt, alloc);
+    are_so(rt, alloc, 3, &mut node, rows);
+}
+
+// What it sends, above its floor and in a slot that the snapshot gives, and what it tells one that lacks its log.
+const PROMISES: &[Mail] = &[(2, Says::PromiseAbove((2, 2), 5, Some((6, Held::Boot(2)))))];
+
+const SHOWS: &[Mail] = &[(2, Says::Snapshot(5))];
+
+const SHOWS_FIRST: &[Mail] = &[(1, Says::Snapshot(5))];
+
+const REFUSES: &[Mail] = &[(1, Says::Nack((1, 1), (2, 2)))];
+
+const VOTES_ABOVE: &[Mail] = &[
+    (1, Says::Accepted((2, 2), 6, Held::Boot(1))),
+    (2, Says::Accepted((2, 2), 6, Held::Boot(1))),
+];
+
+const SHOWS_AND_TELLS: &[Mail] = &[(1, Says::Snapshot(5)), (1, Says::Learned(6, Held::Boot(1)))];
+
+const TELLS_ABOVE: &[Mail] = &[(1, Says::Learned(6, Held::Boot(1)))];
+
+const CLOSED: &[Row] = &[
+    (Step::Hears(2, Says::Prepare((2, 2), 1), PROMISES), 0),
+    // in a slot up to the floor nothing is committed, not even a promise
+    (
+        Step::Hears(2, Says::Accept((2, 2), 5, Held::Noop), SHOWS),
+        0,
+    ),
+    (
+        Step::Hears(2, Says::Accept((3, 2), 1, Held::Noop), SHOWS),
+        0,
+    ),
+    (Step::Promised(Some((2, 2))), 0),
+    (
+        Step::Hears(1, Says::Accept((1, 1), 5, Held::Noop), REFUSES),
+        0,
+    ),
+    (Step::Hears(1, Says::Ask(1), SHOWS_FIRST), 0),
+    (
+        Step::Hears(2, Says::Accept((2, 2), 6, Held::Boot(1)), VOTES_ABOVE),
+        0,
+    ),
+    (Step::Votes(1), 0),
+    (
+        Step::Hears(2, Says::Accepted((2, 2), 6, Held::Boot(1)), NOTHING),
+        0,
+    ),
+    (Step::Hears(1, Says::Ask(5), SHOWS_AND_TELLS), 0),
+    (Step::Hears(1, Says::Ask(6), TELLS_ABOVE), 0),
+    (Step::Hears(1, Says::Ask(7), NOTHING), 0),
+    // a Snapshot brings about nothing
+    (Step::Hears(2, Says::Snapshot(9), NOTHING), 0),
+    (Step::Votes(1), 0),
+];
+
+#[test]
+fn slots_up_to_its_floor_are_closed(rt: HostRuntime) {
+    check_cut(&rt, rt.alloc(), CLOSED);
+}
+
+// What it sends as it begins a ballot, and once that has a majority: above its own floor, and above one that was reported.
+const PREPARES_ABOVE: &[Mail] = &[(1, Says::Prepare((2, 3), 1)), (2, Says::Prepare((2, 3), 1))];
+
+const PROPOSES_ABOVE: &[Mail] = &[
+    (1, Says::Accept((2, 3), 6, Held::Boot(2))),
+    (2, Says::Accept((2, 3), 6, Held::Boot(2))),
+    (1, Says::Accepted((2, 3), 6, Held::Boot(2))),
+    (2, Says::Accepted((2, 3), 6, Held::Boot(2))),
+    (1, Says::Accept((2, 3), 7, Held::Boot(3))),
+    (2, Says::Accept((2, 3), 7, Held::Boot(3))),
+    (1, Says::Accepted((2, 3), 7, Held::Boot(3))),
+    (2, Says::Accepted((2, 3), 7, Held::Boot(3))),
+];
+
+const PROPOSES_LATER: &[Mail] = &[
+    (1, Says::Accept((2, 3), 8, Held::Noop)),
+    (2, Says::Accept((2, 3), 8, Held::Noop)),
+    (1, Says::Accepted((2, 3), 8, Held::Noop)),
+    (2, Says::Accepted((2, 3), 8, Held::Noop)),
+    (1, Says::Accept((2, 3), 9, Held::Act)),
+    (2, Says::Accept((2, 3), 9, Held::Act)),
+    (1, Says::Accepted((2, 3), 9, Held::Act)),
+    (2, Says::Accepted((2, 3), 9, Held::Act)),
+    (1, Says::Accept((2, 3), 10, Held::Boot(3))),
+    (2, Says::Accept((2, 3), 10, Held::Boot(3))),
+    (1, Says::Accepted((2, 3), 10, Held::Boot(3))),
+    (2, Says::Accepted((2, 3), 10, Held::Boot(3))),
+];
+
+const ABOVE_ITS_OWN: &[Row] = &[
+    (Step::Event(Happens::Start(3), Ok(0), PREPARES_ABOVE), 0),
+    (
+        Step::Hears(1, Says::PromiseAbove((2, 3), 4, None), PROPOSES_ABOVE),
+        0,
+    ),
+    (Step::Votes(2), 0),
+];
+
+const ABOVE_A_REPORTED_ONE: &[Row] = &[
+    (Step::Event(Happens::Start(3), Ok(0), PREPARES_ABOVE), 0),
+    (
+        Step::Hears(
+            1,
+            Says::PromiseAbove((2, 3), 7, Some((9, Held::Act))),
+            PROPOSES_LATER,
+        ),
+        0,
+    ),
+    (Step::Votes(4), 0),
+];
+
+#[test]
+fn it_leads_above_floors(rt: HostRuntime) {
+    check_cut(&rt, rt.alloc(), ABOVE_ITS_OWN);
+    check_cut(&rt, rt.alloc(), ABOVE_A_REPORTED_ONE);
 }

@@ -1,7 +1,8 @@
+// What is planned on a proposer: rounds seen, a ballot begun, and a proposal as a leader; and that what is planned is done.
 ghost use Rattle.paxos_proposer.specs.Moves.{ArePossible};
 
 use crate::check::Check;
-use paxos_packets::{Ballot, Entry, Members, Votes};
+use paxos_packets::{Ballot, Entry, Floor, Members, Votes};
 use paxos_proposer::{Move, Proposer, Proposing};
 use std::alloc::Global;
 use std::process::Abort;
@@ -36,7 +37,7 @@ fn begun(rt: &impl Abort, alloc: Global, proposer: &Proposer<Number>) -> Vec<Mov
         return draft.into_moves();
     };
     draft
-        .start(1, Votes::new(alloc))
+        .start(1, Floor::none(), Votes::new(alloc))
         .expect(rt, "room for a move");
     draft.into_moves()
 }
@@ -51,7 +52,7 @@ fn led(
 {
     let mut draft = Proposing::of(alloc, proposer);
     let promised = draft
-        .on_promise(2, FIRST, Votes::new(alloc))
+        .on_promise(2, FIRST, Floor::none(), Votes::new(alloc), Floor::none())
         .expect(rt, "room for a promise");
     let called = match promised {
         Some(entries) => entries.as_slice().len(),

@@ -1,3 +1,4 @@
+// Packets that were ever sent: an equal one is found as soon as it was sent, and not before.
 use crate::check::Check;
 use crate::packets::{kinds, packet_of};
 use paxos_packets::{Body, Kind, Packet};

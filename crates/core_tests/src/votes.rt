@@ -51,7 +51,7 @@ fn is_vote(vote: &Vote<Number>, row: &(u64, u64, u32)) -> bool {
 }
 
 // Whether these are the votes, in this order.
-fn are_votes(votes: &[Vote<Number>], rows: &[(u64, u64, u32)]) -> bool {
+pub fn are_votes(votes: &[Vote<Number>], rows: &[(u64, u64, u32)]) -> bool {
     votes.len() == rows.len()
         && votes
             .iter()
@@ -175,4 +175,33 @@ fn votes_are_put_where_there_is_room(rt: HostRuntime) {
     let votes = kept.into_votes();
     check!(&rt; are_votes(votes.as_slice(), &[(1, 1, 2), (2, 2, 3)]));
     drop(votes);
+}
+
+// Whether these votes are left above a floor, of votes in the slots 1, 3, 4 and 7.
+fn leaves(rt: &impl Abort, alloc: Global, floor: u64, rows: &[(u64, u64, u32)]) -> bool {
+    let votes = votes_of(rt, alloc, &[(1, 1, 1), (3, 1, 3), (4, 2, 4), (7, 1, 7)]);
+    let mut kept = KeptVotes::of(votes);
+    kept.forget(slot(rt, floor));
+    let left = are_votes(kept.as_slice(), rows);
+    drop(kept);
+    left
+}
+
+// A floor, and the votes that are left above it.
+type Left = (u64, &'static [(u64, u64, u32)]);
+
+const LEFT: &[Left] = &[
+    (1, &[(3, 1, 3), (4, 2, 4), (7, 1, 7)]),
+    (2, &[(3, 1, 3), (4, 2, 4), (7, 1, 7)]),
+    (3, &[(4, 2, 4), (7, 1, 7)]),
+    (6, &[(7, 1, 7)]),
+    (7, &[]),
+    (1_099_511_627_775, &[]),
+];
+
+#[test]
+fn votes_up_to_a_floor_are_forgotten(rt: HostRuntime) {
+    for (floor, rows) in LEFT {
+        check!(&rt; leaves(&rt, rt.alloc(), *floor, rows), *floor);
+    }
 }

@@ -1,3 +1,4 @@
+// Runs of one client over a reader and a writer: octets in any pieces, calls, faults, failed reads and writes, and limits.
 use crate::check::Check;
 use std::alloc::{AllocError, Global};
 use std::process::Abort;

@@ -1,3 +1,4 @@
+// A client that waits for each reply before it sends more: all replies are flushed before the next read.
 use crate::check::Check;
 use std::cell::Cell;
 use std::io;

@@ -1,3 +1,4 @@
+//! The faults of a table and of a node's word at it, and their numbers.
 ghost use Rattle.std.specs.Prelude.{◌≡◌};
 
 use std::alloc::{AllocError, AllocFailed};

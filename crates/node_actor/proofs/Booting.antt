@@ -6,6 +6,8 @@ use Rattle.std.proofs.lemmas.Bool.{and_from, and_parts, false≢true, leb-true, 
 use Rattle.paxos_packets.specs.Ballot.{ballot_same, ballot_sound}
 use Rattle.paxos_packets.specs.Body.{IsEquality}
 use Rattle.paxos_packets.specs.Rows.{raised, rows_equal}
+use Rattle.paxos_packets.specs.Snapshot.{snapshot_same, snapshot_sound}
+use Rattle.paxos_packets.specs.Snapshot as taken
 use Rattle.paxos_packets.specs.Vote.{votes_equality}
 use Rattle.paxos_packets.specs.declared.ballot.Ballot.{Ballot}
 use Rattle.paxos_packets.specs.declared.rows.Rows.{Rows}
@@ -17,7 +19,7 @@ use Rattle.actor_outboxes.specs.Outboxes.{Waiting}
 use Rattle.paxos_node.specs.declared.outcome.Outcome.{Outcome}
 use Rattle.actor_parts.specs.declared.fault.ActorFault.{ActorFault}
 use Rattle.actor_parts.specs.declared.fault.ActorFault.TheVariants.{Keeper, Worn}
-use Rattle.node_actor.specs.Compare.{same_promise, is_ahead, is_later, is_meant, fit_of}
+use Rattle.node_actor.specs.Compare.{same_promise, same_base, is_ahead, is_later, is_meant, fit_of}
 use Rattle.node_actor.specs.declared.compare.Fit.{Fit}
 use Rattle.node_actor.specs.declared.compare.Fit.TheVariants.{Left, Meant, Others}
 use Rattle.node_actor.specs.Posts.{Posted}
@@ -37,11 +39,21 @@ promise_is (Some b) (Some c) h = ap Some (ballot_sound b c h)
 promise_is None (Some c) h = absurd (false≢true h)
 promise_is (Some b) None h = absurd (false≢true h)
 
+base_same : (s : Option taken.Snapshot) → same_base s s ≡ true
+base_same None = refl
+base_same (Some s) = snapshot_same s
+
+base_is : (s t : Option taken.Snapshot) → same_base s t ≡ true → s ≡ t
+base_is None None h = refl
+base_is (Some s) (Some t) h = ap Some (snapshot_sound s t h)
+base_is None (Some t) h = absurd (false≢true h)
+base_is (Some s) None h = absurd (false≢true h)
+
 module _ {B : Type 0} (same : B → B → Bool) (ok : IsEquality same) where
   later_raised : (r : Rows B) → is_later same r (raised r) ≡ true
   later_raised r =
       and_from _ _ (lt-ltb r.boot (suc r.boot) (omega arith)) (and_from _ _ (promise_same r.promised)
-      ((votes_equality same ok).reflexive r.votes))
+      (and_from _ _ (base_same r.snapshot) ((votes_equality same ok).reflexive r.votes)))
 
   later_is : (k r x : Rows B) → is_ahead same k r ≡ true → is_later same r x ≡ true → IsLater k x
   later_is k r x ahead later =
@@ -52,9 +64,12 @@ module _ {B : Type 0} (same : B → B → Bool) (ok : IsEquality same) where
       let low : k.boot ≤ r.boot = leb-true k.boot r.boot a.0 in
       let high : r.boot < x.boot = ltb-true r.boot x.boot c.0 in
       let promises : x.promised ≡ k.promised = sym (promise_is k.promised r.promised b.0 ∙ promise_is r.promised x.promised d.0) in
-      let votes : x.votes ≡ k.votes = sym ((votes_equality same ok).sound k.votes r.votes b.1
-      ∙ (votes_equality same ok).sound r.votes x.votes d.1) in
-      record { rows = rows_equal x (with_boot x.boot k) refl promises votes; later = omega (arith, low, high) }
+      let e = and_parts (same_base k.snapshot r.snapshot) _ b.1 in
+      let f = and_parts (same_base r.snapshot x.snapshot) _ d.1 in
+      let bases : x.snapshot ≡ k.snapshot = sym (base_is k.snapshot r.snapshot e.0 ∙ base_is r.snapshot x.snapshot f.0) in
+      let votes : x.votes ≡ k.votes = sym ((votes_equality same ok).sound k.votes r.votes e.1
+      ∙ (votes_equality same ok).sound r.votes x.votes f.1) in
+      record { rows = rows_equal x (with_boot x.boot k) refl promises bases votes; later = omega (arith, low, high) }
 
 module _ {B : Type 0} (same : B → B → Bool) (k r : Rows B) where
   fit_left : (f : Option (Outcome B)) → fit_of same f k r ≡ Left → is_ahead same k r ≡ true

@@ -7,8 +7,8 @@ use Rattle.paxos_packets.specs.declared.rows.Rows.{Rows}
 use Rattle.paxos_packets.specs.Members.{IsMember}
 use Rattle.paxos_acceptor.specs.Acceptor as accepting
 use Rattle.store_keeper.specs.declared.fault.KeeperFault.{KeeperFault}
-use Rattle.replica_machine.specs.Log.{LogState}
-use Rattle.replica_machine.specs.Replay.{Machine}
+use Rattle.replica_machine.specs.Log.{LogState, machine_from}
+use Rattle.replica_machine.specs.Replay.{Steps}
 use Rattle.actor_outboxes.specs.Outboxes.{Waiting, WaitBehind}
 use Rattle.paxos_node.specs.declared.outcome.Outcome.{Outcome}
 use Rattle.paxos_planning.specs.Node.{NodeState}
@@ -25,20 +25,20 @@ use Rattle.node_actor.specs.Actor.{acting}
 use Rattle.node_actor.specs.Posts.{advanced}
 use Rattle.node_actor.specs.Steps.{may_advance, TakesOver, CarriesOut}
 
-module _ {B S Y M K : Type 0} (from : S → Machine B S Y) (content : M → S) (holds : K → Rows B → Type 0) (finds : K → Rows B → Type 0)
+module _ {B S Y M K : Type 0} (steps : Steps B S Y) (content : M → S) (holds : K → Rows B → Type 0) (finds : K → Rows B → Type 0)
     (failures : K → ℕ) (is_failed : K → Bool) (same : B → B → Bool) where
   over_of : (o : Outcome B) (old mid new : Parted B M K) (s t : Seated B) (says : List Y) → t ≡ advanced o s
       → IsSound same holds is_failed old → IsServing holds is_failed old
-      → Ready holds is_failed o old mid → Takes from content o mid new says
-      → TakesOver from content holds finds failures o (acting old s) (acting new t) says
+      → Ready holds is_failed o old mid → Takes steps content o mid new says
+      → TakesOver steps content holds finds failures o (acting old s) (acting new t) says
   over_of o old mid new s t says is sound serving r takes =
       let same_node : next_node o mid ≡ next_node o old = next_same o old mid r.who.me r.who.members r.state in
       let rows : (next_node o old).rows ≡ accepting.adopted old.node.state.rows o.change = next_rows old.node.me old.node.members o
       old.node.state in
-      let p : Applied from content old.node.me old.node.state.rows.boot o.applied old.log new.log says =
-      subst (λ (log : LogState B M). Applied from content old.node.me old.node.state.rows.boot o.applied log new.log says) r.log
-      (subst (λ b. Applied from content old.node.me b o.applied mid.log new.log says) (ap (λ x. x.rows.boot) r.state)
-      (subst (λ n. Applied from content n mid.node.state.rows.boot o.applied mid.log new.log says) (ap (λ w. w.me) r.waiting
+      let p : Applied steps content old.node.me old.node.state.rows.boot o.applied old.log new.log says =
+      subst (λ (log : LogState B M). Applied steps content old.node.me old.node.state.rows.boot o.applied log new.log says) r.log
+      (subst (λ b. Applied steps content old.node.me b o.applied mid.log new.log says) (ap (λ x. x.rows.boot) r.state)
+      (subst (λ n. Applied steps content n mid.node.state.rows.boot o.applied mid.log new.log says) (ap (λ w. w.me) r.waiting
       ∙ sound.me) takes.applied)) in
       record {
         node = takes.node ∙ same_node;
@@ -47,14 +47,14 @@ module _ {B S Y M K : Type 0} (from : S → Machine B S Y) (content : M → S) (
         failed = takes.failed ∙ r.failed ∙ serving.committed;
         seat = is;
         says = λ first under l. p.says first under l
-            ∙ ap (λ log. handed_out (from first) old.node.me old.node.state.rows.boot (under ++ log) o.applied) serving.followed;
+            ∙ ap (λ log. handed_out (machine_from steps first) old.node.me old.node.state.rows.boot (under ++ log) o.applied) serving.followed;
         follows = p.follows;
       }
 
   pub carried_on : (o : Outcome B) (old mid new : Parted B M K) (s t : Seated B) → t ≡ advanced o s → may_advance s ≡ true
       → IsSound same holds is_failed old → IsServing holds is_failed old
       → Ready holds is_failed o old mid → old.spoiled ≡ false → (result : Result (Vec Y Global) (ActorFault Y))
-      → TakesIn from content o mid new result → CarriesOut from content holds finds failures o (acting old s) (acting new t) result
+      → TakesIn steps content o mid new result → CarriesOut steps content holds finds failures o (acting old s) (acting new t) result
   carried_on o old mid new s t is may sound serving r goes (Ok says) h =
       let over = over_of o old mid new s t says.items is sound serving r h.2 in (
         may,
@@ -92,7 +92,7 @@ module _ {B S Y M K : Type 0} (from : S → Machine B S Y) (content : M → S) (
   pub sound_on : (o : Outcome B) (old mid new : Parted B M K) (s : Seated B) → IsSound same holds is_failed old
       → IsServing holds is_failed old
       → Ready holds is_failed o old mid → StaysWho mid new → (result : Result (Vec Y Global) (ActorFault Y))
-      → TakesIn from content o mid new result → IsSound same holds is_failed new
+      → TakesIn steps content o mid new result → IsSound same holds is_failed new
   sound_on o old mid new s sound serving r who (Ok says) h =
       let over = over_of o old mid new s (advanced o s) says.items refl sound serving r h.2 in
       let all : StaysWho old new = who_on old mid new r.who who in
@@ -136,11 +136,11 @@ module _ {B S Y M K : Type 0} (from : S → Machine B S Y) (content : M → S) (
   sound_on o old mid new s sound serving r who (Err Full) h = absurd h
   sound_on o old mid new s sound serving r who (Err Disagree) h = absurd h
 
-module _ {B S Y M K : Type 0} (from : S → Machine B S Y) (content : M → S) (holds : K → Rows B → Type 0) (finds : K → Rows B → Type 0)
+module _ {B S Y M K : Type 0} (steps : Steps B S Y) (content : M → S) (holds : K → Rows B → Type 0) (finds : K → Rows B → Type 0)
     (failures : K → ℕ) (is_failed : K → Bool) where
   -- there was no memory for room
   pub stopped : (o : Outcome B) (old mid : Parted B M K) (s : Seated B) → may_advance s ≡ true → IsServing holds is_failed old → Roomed old mid
-      → CarriesOut from content holds finds failures o (acting old s) (acting (record mid { spoiled = true }) s) (Err Memory)
+      → CarriesOut steps content holds finds failures o (acting old s) (acting (record mid { spoiled = true }) s) (Err Memory)
   stopped o old mid s may serving r = (
     may,
     refl,
@@ -156,7 +156,7 @@ module _ {B S Y M K : Type 0} (from : S → Machine B S Y) (content : M → S) (
 
   -- the word counts no more
   pub worn_out : (o : Outcome B) (old : Parted B M K) (s : Seated B) → may_advance s ≡ false → IsServing holds is_failed old
-      → CarriesOut from content holds finds failures o (acting old s) (acting (record old { spoiled = true }) s) (Err Worn)
+      → CarriesOut steps content holds finds failures o (acting old s) (acting (record old { spoiled = true }) s) (Err Worn)
   worn_out o old s worn serving = (
     worn,
     refl,
@@ -167,7 +167,7 @@ module _ {B S Y M K : Type 0} (from : S → Machine B S Y) (content : M → S) (
   pub fallen : (o : Outcome B) (old mid new : Parted B M K) (s : Seated B) (fault : KeeperFault) → may_advance s ≡ true
       → IsServing holds is_failed old → Roomed old mid → OnlyKeeper mid new
       → (holds mid.keeper mid.node.state.rows → Falls finds failures o.change mid.node.state.rows mid.keeper new.keeper fault)
-      → CarriesOut from content holds finds failures o (acting old s) (acting (record new { failed = Some o; spoiled = true }) s)
+      → CarriesOut steps content holds finds failures o (acting old s) (acting (record new { failed = Some o; spoiled = true }) s)
       (Err (Keeper fault))
   fallen o old mid new s fault may serving r k falls =
       let h = subst (λ (x : NodeState B). holds old.keeper x.rows) (sym r.state) serving.held in

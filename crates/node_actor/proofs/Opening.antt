@@ -5,7 +5,7 @@ use Rattle.std.proofs.lemmas.List.Elements.{All-nil}
 use Rattle.paxos_packets.specs.declared.rows.Rows.{Rows}
 use Rattle.actor_outboxes.specs.Outboxes.{Waiting, waiting}
 use Rattle.replica_machine.specs.Log.{Follows}
-use Rattle.replica_machine.specs.Replay.{Machine}
+use Rattle.replica_machine.specs.Replay.{Steps}
 use Rattle.paxos_node.specs.Applying.{started}
 use Rattle.paxos_node.specs.Held.{Held}
 use Rattle.paxos_node.specs.declared.outcome.Outcome.{Outcome}
@@ -52,10 +52,10 @@ module _ {B M K : Type 0} (same : B → B → Bool) (holds : K → Rows B → Ty
         failed = λ o e. absurd cc;
       }
 
-  pub opens_first : {S Y : Type 0} (from : S → Machine B S Y) (content : M → S)
-      → Follows from content (content machine) (first_parts h keeper w machine).log
-      → Opens from content holds is_faithful p machine old (acting (first_parts h keeper w machine) s)
-  opens_first from content follows =
+  pub opens_first : {S Y : Type 0} (steps : Steps B S Y) (content : M → S)
+      → Follows steps content (content machine) (first_parts h keeper w machine).log
+      → Opens steps content holds is_faithful p machine old (acting (first_parts h keeper w machine) s)
+  opens_first steps content follows =
       record {
         renews = b.renews;
         stands = record { seat = refl; node = sym node_is; waits = λ k peer. none_waits k };
@@ -95,12 +95,12 @@ module _ {B M K : Type 0} (same : B → B → Bool) (p : Posted B) (v : View B) 
         });
       }
 
-  pub resumes_of : {S Y : Type 0} (from : S → Machine B S Y) (content : M → S) (holds : K → Rows B → Type 0) (is_faithful : K
+  pub resumes_of : {S Y : Type 0} (steps : Steps B S Y) (content : M → S) (holds : K → Rows B → Type 0) (is_faithful : K
       → Type 0) (machine : M)
-      (keeper : K) → IsLeft same p → LeftOf same p v → Opens from content holds is_faithful p machine keeper a → holds keeper r
+      (keeper : K) → IsLeft same p → LeftOf same p v → Opens steps content holds is_faithful p machine keeper a → holds keeper r
       → is_faithful a.keeper
       → Resumes same p v r a
-  resumes_of from content holds is_faithful machine keeper left of n held true_to =
+  resumes_of steps content holds is_faithful machine keeper left of n held true_to =
       resumed n.stands (returns_of same p left a.seat r n.renews.rows (n.renews.boots.booted true_to r held) n.renews.boots.within v of
       n.renews.meant n.renews.may
       n.renews.seat)
@@ -114,12 +114,12 @@ first_seat : {B : Type 0} (meant : Bool) (s : Seated B) → seat_before meant No
 first_seat true s = refl
 first_seat false s = refl
 
-pub first_of : {B M K S Y : Type 0} (from : S → Machine B S Y) (content : M → S) (holds : K → Rows B → Type 0) (is_faithful : K
+pub first_of : {B M K S Y : Type 0} (steps : Steps B S Y) (content : M → S) (holds : K → Rows B → Type 0) (is_faithful : K
     → Type 0) (me members : ℕ)
     (s : Seated B) (machine : M) (keeper : K) (a : Acting B M K) → s.part.me ≡ me → s.part.seen.opened ≡ Never
-    → Opens from content holds is_faithful (record { me = me; members = members; rows = None; failed = None; seat = s }) machine keeper a
+    → Opens steps content holds is_faithful (record { me = me; members = members; rows = None; failed = None; seat = s }) machine keeper a
     → OpensFirst holds me s a
-first_of from content holds is_faithful me members s machine keeper a is never n =
+first_of steps content holds is_faithful me members s machine keeper a is never n =
     let seat : a.seat ≡ renewed n.renews.rows s = n.renews.seat ∙ ap (renewed n.renews.rows) (first_seat n.renews.meant s) in
     record {
       rows = n.renews.rows;

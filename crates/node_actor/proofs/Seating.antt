@@ -9,7 +9,7 @@ use Rattle.std.specs.declared.vec.Vec.{Vec}
 use Rattle.std.specs.declared.alloc.Global.{Global}
 use Rattle.paxos_packets.specs.declared.packet.Packet.{Packet}
 use Rattle.paxos_packets.specs.declared.rows.Rows.{Rows}
-use Rattle.replica_machine.specs.Replay.{Machine}
+use Rattle.replica_machine.specs.Replay.{Steps}
 use Rattle.actor_outboxes.specs.Outboxes.{most_waiting, waiting, to, IsPeer, WaitBehind}
 use Rattle.paxos_node.specs.Adopting.{adopted}
 use Rattle.paxos_node.specs.declared.outcome.Outcome.{Outcome}
@@ -100,8 +100,8 @@ module _ {B M K : Type 0} (same : B → B → Bool) where
       })
 
   -- the parts that took it over
-  module _ {S Y : Type 0} (from : S → Machine B S Y) (content : M → S) where
-    over : (o : Outcome B) (old new : Parted B M K) (result : Result (Vec Y Global) (ActorFault Y)) → TakesIn from content o old new result
+  module _ {S Y : Type 0} (steps : Steps B S Y) (content : M → S) where
+    over : (o : Outcome B) (old new : Parted B M K) (result : Result (Vec Y Global) (ActorFault Y)) → TakesIn steps content o old new result
         → (new.node.state ≡ next_node o old) × WaitBehind o.packets old.waiting new.waiting × (new.failed ≡ old.failed)
     over o old new (Ok says) h = (h.2.node, h.2.waits, h.2.failed)
     over o old new (Err (LostHere says)) h = (h.2.node, h.2.waits, h.2.failed)
@@ -116,7 +116,7 @@ module _ {B M K : Type 0} (same : B → B → Bool) where
     pub seated_on : (holds : K → Rows B → Type 0) (is_failed : K → Bool) (o : Outcome B) (old mid new : Parted B M K) (s t : Seated B)
         → t ≡ advanced o s
         → IsSound same holds is_failed old → Ready holds is_failed o old mid → old.failed ≡ None → StaysWho mid new
-        → (result : Result (Vec Y Global) (ActorFault Y)) → TakesIn from content o mid new result → IsSeated same (acting old s)
+        → (result : Result (Vec Y Global) (ActorFault Y)) → TakesIn steps content o mid new result → IsSeated same (acting old s)
         → IsSeated same (acting new t)
     seated_on holds is_failed o old mid new s t is sound r none who result h seated =
         let did = over o mid new result h in

@@ -7,7 +7,7 @@ use Rattle.paxos_packets.specs.Members.{is_in}
 use Rattle.paxos_packets.specs.declared.packet.Packet.{Packet}
 use Rattle.paxos_packets.specs.declared.rows.Rows.{Rows}
 use Rattle.store_keeper.specs.declared.fault.KeeperFault.{KeeperFault}
-use Rattle.replica_machine.specs.Replay.{Machine}
+use Rattle.replica_machine.specs.Replay.{Steps}
 use Rattle.paxos_node.specs.declared.event.Event.{Event}
 use Rattle.actor_parts.specs.declared.fault.ActorFault.{ActorFault}
 use Rattle.actor_parts.specs.declared.fault.ActorFault.TheVariants.{Failed, Rounds, Full, Keeper, Disagree, LostHere, Worn, Memory}
@@ -50,10 +50,10 @@ module _ {B M K : Type 0} where
 
 -- events
 
-module _ {B S Y M K : Type 0} (same : B → B → Bool) (from : S → Machine B S Y) (content : M → S) (holds : K → Rows B → Type 0)
+module _ {B S Y M K : Type 0} (same : B → B → Bool) (steps : Steps B S Y) (content : M → S) (holds : K → Rows B → Type 0)
     (finds : K → Rows B → Type 0) (failures : K → ℕ) (l : LastTurn) (e : Option (Event B)) (old new : Acting B M K) (v : View B) where
-  goes_since : (said : List Y) → Goes same from content holds finds failures e old new v said
-      → Goes same from content holds finds failures e (since l old) (since l new) v said
+  goes_since : (said : List Y) → Goes same steps content holds finds failures e old new v said
+      → Goes same steps content holds finds failures e (since l old) (since l new) v said
   goes_since said g =
       record {
         next = g.next;
@@ -66,12 +66,12 @@ module _ {B S Y M K : Type 0} (same : B → B → Bool) (from : S → Machine B 
         follows = g.follows;
       }
 
-  stops_since : (f : Option (Event B)) → Stops same from content holds finds failures f old new v
-      → Stops same from content holds finds failures f (since l old) (since l new) v
+  stops_since : (f : Option (Event B)) → Stops same steps content holds finds failures f old new v
+      → Stops same steps content holds finds failures f (since l old) (since l new) v
   stops_since f s = record { next = s.next; stands = stands_since l new s.next s.stands; moved = s.moved; held = s.held }
 
-  fails_since : (fault : KeeperFault) → Fails same from content holds finds failures e old new v fault
-      → Fails same from content holds finds failures e (since l old) (since l new) v fault
+  fails_since : (fault : KeeperFault) → Fails same steps content holds finds failures e old new v fault
+      → Fails same steps content holds finds failures e (since l old) (since l new) v fault
   fails_since fault s =
       record {
         next = s.next;
@@ -82,8 +82,8 @@ module _ {B S Y M K : Type 0} (same : B → B → Bool) (from : S → Machine B 
         cause = s.cause;
       }
 
-  pub acts_since : (result : Result (Vec Y Global) (ActorFault Y)) → Acts same from content holds finds failures e old new v result
-      → Acts same from content holds finds failures e (since l old) (since l new) v result
+  pub acts_since : (result : Result (Vec Y Global) (ActorFault Y)) → Acts same steps content holds finds failures e old new v result
+      → Acts same steps content holds finds failures e (since l old) (since l new) v result
   acts_since (Ok says) h = (h.0, h.1, h.2, h.3, goes_since says.items h.4)
   acts_since (Err Failed) h = (h.0, ap (since l) h.1)
   acts_since (Err Rounds) h = (h.0, h.1, ap (since l) h.2)

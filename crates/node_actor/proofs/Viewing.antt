@@ -12,7 +12,7 @@ use Rattle.paxos_packets.specs.declared.entry.Entry.{Entry}
 use Rattle.paxos_packets.specs.declared.packet.Packet.{Packet}
 use Rattle.paxos_packets.specs.declared.rows.Rows.{Rows}
 use Rattle.paxos_acceptor.specs.Acceptor as accepting
-use Rattle.replica_machine.specs.Replay.{Machine}
+use Rattle.replica_machine.specs.Replay.{Steps}
 use Rattle.actor_outboxes.specs.Outboxes.{most_waiting, waiting, to, IsPeer, HasLimits}
 use Rattle.paxos_node.specs.declared.event.Event.{Event}
 use Rattle.paxos_node.specs.declared.event.Event.TheVariants.{Take, Tick, Start, Suspect, Deliver, Crash, Restart}
@@ -42,6 +42,7 @@ use Rattle.node_actor.specs.Views.{View, seen, is_for, posted_to, received_from,
 use Rattle.node_actor.specs.Calls.{take_event, turn_event, is_own, is_worn, Goes, Stops, IsTaken, IsAgreed, Acts}
 use Rattle.node_actor.proofs.Seating.{peer_of, seated_stands}
 use Rattle.node_actor.proofs.Since.{since, acts_since}
+use Rattle.replica_machine.specs.Log.{machine_from}
 
 keep_short : {A : Type 0} (xs : List A) → length xs ≤ most_waiting → keep_last most_waiting xs ≡ xs
 keep_short xs h = let z : length xs - most_waiting ≡ 0 = omega (arith, h) in ap (λ k. drop k xs) z
@@ -131,7 +132,7 @@ module _ {B M K : Type 0} where
             ∙ ap (keep_last most_waiting) (sym (append-nil (waiting k old.waiting)));
       }
 
-module _ {B S Y M K : Type 0} (same : B → B → Bool) (from : S → Machine B S Y) (content : M → S) (holds : K → Rows B → Type 0)
+module _ {B S Y M K : Type 0} (same : B → B → Bool) (steps : Steps B S Y) (content : M → S) (holds : K → Rows B → Type 0)
     (finds : K → Rows B → Type 0) (failures : K → ℕ) (is_failed : K → Bool) where
   module _ (e : Event B) (o : Outcome B) (old new : Parted B M K) (v s t : Seated B) (sound : IsSound same holds is_failed old)
       (seated : IsSeated same (acting old s)) (behind : IsSeated same (acting new t)) (reach : Reaches old.spoiled (Some e) v s)
@@ -152,8 +153,8 @@ module _ {B S Y M K : Type 0} (same : B → B → Bool) (from : S → Machine B 
         (λ i. adopted (seated.me i) (seated.members i) o (seated.node i)) ∙ next_is in
         ap seen is ∙ (λ i. moved (node i) (packets i) (reach.seen i))
 
-    goes_on : (says : List Y) → TakesOver from content holds finds failures o (acting old s) (acting new t) says
-        → Goes same from content holds finds failures (Some e) (acting old v) (acting new t) v says
+    goes_on : (says : List Y) → TakesOver steps content holds finds failures o (acting old s) (acting new t) says
+        → Goes same steps content holds finds failures (Some e) (acting old v) (acting new t) v says
     goes_on says h =
         record {
           next = t;
@@ -174,18 +175,18 @@ module _ {B S Y M K : Type 0} (same : B → B → Bool) (from : S → Machine B 
         }
       where
         told : (first : S) (under : List (Entry B))
-            → handed_out (from first) old.node.me old.node.state.rows.boot (under ++ old.node.state.applied) o.applied
-            ≡ handed_by same old.node.members (from first) under (Some e) (seen v).node
+            → handed_out (machine_from steps first) old.node.me old.node.state.rows.boot (under ++ old.node.state.applied) o.applied
+            ≡ handed_by same old.node.members (machine_from steps first) under (Some e) (seen v).node
         told first under =
-            ap (λ n. handed_out (from first) n old.node.state.rows.boot (under ++ old.node.state.applied) o.applied)
+            ap (λ n. handed_out (machine_from steps first) n old.node.state.rows.boot (under ++ old.node.state.applied) o.applied)
             (sym (owner_is old.node.me e old.node.state mine))
-            ∙ ap (λ x. handed_out (from first) (owner e) x.rows.boot (under ++ x.applied) o.applied) is_node
-            ∙ ap (handed_out (from first) (owner e) (seen v).node.rows.boot (under ++ (seen v).node.applied))
+            ∙ ap (λ x. handed_out (machine_from steps first) (owner e) x.rows.boot (under ++ x.applied) o.applied) is_node
+            ∙ ap (handed_out (machine_from steps first) (owner e) (seen v).node.rows.boot (under ++ (seen v).node.applied))
             (applied_is same old.node.me old.node.members e old.node.state (seen v).node o planned is_node)
 
     -- what is refused, and what is not
     module _ (no_round : is_round_refused e old.node.state ≡ false) (no_full : is_full_refused same e old.node.state ≡ false) where
-      is_taken : IsTaken same from content holds finds failures (Some e) (acting old v) v
+      is_taken : IsTaken same steps content holds finds failures (Some e) (acting old v) v
       is_taken = (ap (is_round_refused e) (sym is_node) ∙ no_round, ap (is_full_refused same e) (sym is_node) ∙ no_full)
 
       agrees : (outcome_of same old.node.members e (seen v).node).disagrees ≡ false
@@ -194,7 +195,7 @@ module _ {B S Y M K : Type 0} (same : B → B → Bool) (from : S → Machine B 
       worn_by : (b : Bool) → may_advance s ≡ b → is_worn (Some e) v ≡ not b
       worn_by b may = ap (λ n. not (nat_lt n (2 ^ 62))) (sym reach.events) ∙ ap not may
 
-      is_agreed : may_advance s ≡ true → IsAgreed same from content holds finds failures (Some e) (acting old v) v
+      is_agreed : may_advance s ≡ true → IsAgreed same steps content holds finds failures (Some e) (acting old v) v
       is_agreed may = (is_taken, agrees, worn_by true may)
 
       abbrev up_then : Bool
@@ -203,9 +204,9 @@ module _ {B S Y M K : Type 0} (same : B → B → Bool) (from : S → Machine B 
       downs : o.is_down ≡ not up_then
       downs = down_is same old.node.me old.node.members e old.node.state (seen v).node o planned is_node
 
-      stops : StopsBefore from content holds finds failures (acting old s) (acting new t) ⊎ StopsBehind from content holds finds failures o
+      stops : StopsBefore steps content holds finds failures (acting old s) (acting new t) ⊎ StopsBehind steps content holds finds failures o
           (acting old s) (acting new t)
-          → Stops same from content holds finds failures (Some e) (acting old v) (acting new t) v
+          → Stops same steps content holds finds failures (Some e) (acting old v) (acting new t) v
       stops (inl b) =
           record {
             next = t;
@@ -222,9 +223,9 @@ module _ {B S Y M K : Type 0} (same : B → B → Bool) (from : S → Machine B 
           }
 
       pub acts_of : old.spoiled ≡ false → ((k : ℕ) → IsPeer old.node.me old.node.members k → length (waiting k old.waiting) ≤ most_waiting)
-          → (result : Result (Vec Y Global) (ActorFault Y)) → CarriesOut from content holds finds failures o (acting old s) (acting new t)
+          → (result : Result (Vec Y Global) (ActorFault Y)) → CarriesOut steps content holds finds failures o (acting old s) (acting new t)
           result
-          → Acts same from content holds finds failures (Some e) (acting old v) (acting new t) v result
+          → Acts same steps content holds finds failures (Some e) (acting old v) (acting new t) v result
       acts_of fresh short (Ok says) h = (fresh, h.2, is_agreed h.0, not_false up_then (sym downs ∙ h.1), goes_on says.items h.3)
       acts_of fresh short (Err (LostHere says)) h = (fresh, h.2, is_agreed h.0, not_true up_then (sym downs ∙ h.1), goes_on says.items h.3)
       acts_of fresh short (Err (Keeper fault)) h = (
@@ -273,7 +274,7 @@ module _ {B S Y M K : Type 0} (same : B → B → Bool) (from : S → Machine B 
       stays_node = sym seated.node ∙ ap (λ x. x.node) reach.seen
 
       stops_here : IsServing holds is_failed p → (f : Option (Event B)) → IsSeated same (acting (record p { spoiled = true }) s)
-          → Stops same from content holds finds failures f (acting p v) (acting (record p { spoiled = true }) s) v
+          → Stops same steps content holds finds failures f (acting p v) (acting (record p { spoiled = true }) s) v
       stops_here serving f behind =
           record {
             next = s;
@@ -283,7 +284,7 @@ module _ {B S Y M K : Type 0} (same : B → B → Bool) (from : S → Machine B 
           }
 
       taken_here : (is_round_refused e p.node.state ≡ false) × (is_full_refused same e p.node.state ≡ false)
-          → IsTaken same from content holds finds failures (Some e) (acting p v) v
+          → IsTaken same steps content holds finds failures (Some e) (acting p v) v
       taken_here h = (ap (is_round_refused e) (sym stays_node) ∙ h.0, ap (is_full_refused same e) (sym stays_node) ∙ h.1)
 
       agrees_here : (b : Bool) → (outcome_of same p.node.members e p.node.state).disagrees ≡ b
@@ -296,7 +297,7 @@ module _ {B S Y M K : Type 0} (same : B → B → Bool) (from : S → Machine B 
       pub disagree_acts : p.spoiled ≡ false → IsServing holds is_failed p → IsSeated same (acting (record p { spoiled = true }) s)
           → (is_round_refused e p.node.state ≡ false) × (is_full_refused same e p.node.state ≡ false)
           × ((outcome_of same p.node.members e p.node.state).disagrees ≡ true)
-          → Acts same from content holds finds failures (Some e) (acting p v) (acting (record p { spoiled = true }) s) v (Err Disagree)
+          → Acts same steps content holds finds failures (Some e) (acting p v) (acting (record p { spoiled = true }) s) v (Err Disagree)
       disagree_acts fresh serving behind h = (
         fresh,
         refl,
@@ -308,12 +309,12 @@ module _ {B S Y M K : Type 0} (same : B → B → Bool) (from : S → Machine B 
       pub memory_acts : p.spoiled ≡ false → IsServing holds is_failed p → IsSeated same (acting (record p { spoiled = true }) s)
           → (is_round_refused e p.node.state ≡ false) × (is_full_refused same e p.node.state ≡ false)
           → (outcome_of same p.node.members e p.node.state).disagrees ≡ false
-          → Acts same from content holds finds failures (Some e) (acting p v) (acting (record p { spoiled = true }) s) v
+          → Acts same steps content holds finds failures (Some e) (acting p v) (acting (record p { spoiled = true }) s) v
           (Err (fault_without_plan s))
       memory_acts fresh serving behind h agrees = by_word (may_advance s) refl
         where
           by_word : (b : Bool) → may_advance s ≡ b
-              → Acts same from content holds finds failures (Some e) (acting p v) (acting (record p { spoiled = true }) s) v
+              → Acts same steps content holds finds failures (Some e) (acting p v) (acting (record p { spoiled = true }) s) v
               (Err (cond {A = ActorFault Y} b Memory Worn))
           by_word true may = (fresh, refl, (taken_here h, agrees_here false agrees, worn_here true may), stops_here serving (Some e) behind)
           by_word false may = (
@@ -334,23 +335,23 @@ module _ {B S Y M K : Type 0} (same : B → B → Bool) (from : S → Machine B 
       full_alone _ h = refl
 
       pub rounds_act : p.spoiled ≡ false → is_round_refused e p.node.state ≡ true
-          → Acts same from content holds finds failures (Some e) (acting p v) (acting p s) v (Err Rounds)
+          → Acts same steps content holds finds failures (Some e) (acting p v) (acting p s) v (Err Rounds)
       rounds_act fresh h = (fresh, ap (is_round_refused e) (sym stays_node) ∙ h, ap (acting p) (reach.alone e refl (round_alone e h)))
 
       pub full_act : p.spoiled ≡ false → is_full_refused same e p.node.state ≡ true
-          → Acts same from content holds finds failures (Some e) (acting p v) (acting p s) v (Err Full)
+          → Acts same steps content holds finds failures (Some e) (acting p v) (acting p s) v (Err Full)
       full_act fresh h = (fresh, ap (is_full_refused same e) (sym stays_node) ∙ h, ap (acting p) (reach.alone e refl (full_alone e h)))
 
   -- a fault has ended the actor before
   pub failed_acts : (e : Option (Event B)) (p : Parted B M K) (v s : Seated B) → p.spoiled ≡ true → Reaches p.spoiled e v s
-      → Acts same from content holds finds failures e (acting p v) (acting p s) v (Err Failed)
+      → Acts same steps content holds finds failures e (acting p v) (acting p s) v (Err Failed)
   failed_acts e p v s spoiled reach = (spoiled, ap (acting p) (reach.ended spoiled))
 
   -- no event
   pub pass_acts : (p : Parted B M K) (v s : Seated B) (says : Vec Y Global) → says.items ≡ [] → p.spoiled ≡ false
       → IsServing holds is_failed p
       → ((k : ℕ) → IsPeer p.node.me p.node.members k → length (waiting k p.waiting) ≤ most_waiting) → IsSeated same (acting p s)
-      → Reaches p.spoiled None v s → Acts same from content holds finds failures None (acting p v) (acting p s) v (Ok says)
+      → Reaches p.spoiled None v s → Acts same steps content holds finds failures None (acting p v) (acting p s) v (Ok says)
   pass_acts p v s says silent fresh serving short seated reach = (
     fresh,
     fresh,
@@ -441,45 +442,45 @@ reaches_self ended e s none =
       alone = λ x is none. refl;
     }
 
-module _ {B S Y M K : Type 0} (same : B → B → Bool) (from : S → Machine B S Y) (content : M → S) (holds : K → Rows B → Type 0)
+module _ {B S Y M K : Type 0} (same : B → B → Bool) (steps : Steps B S Y) (content : M → S) (holds : K → Rows B → Type 0)
     (finds : K → Rows B → Type 0) (failures : K → ℕ) where
   -- an event that is stated in two ways
   pub acts_by : (e f : Option (Event B)) (p : Parted B M K) (s : Seated B) (new : Acting B M K)
       (result : Result (Vec Y Global) (ActorFault Y))
-      → e ≡ f → ((v : View B) → Reaches p.spoiled f v s → Acts same from content holds finds failures f (acting p v) new v result)
-      → (v : View B) → Reaches p.spoiled e v s → Acts same from content holds finds failures e (acting p v) new v result
+      → e ≡ f → ((v : View B) → Reaches p.spoiled f v s → Acts same steps content holds finds failures f (acting p v) new v result)
+      → (v : View B) → Reaches p.spoiled e v s → Acts same steps content holds finds failures e (acting p v) new v result
   acts_by e f p s new result is h v reach =
-      subst (λ x. Acts same from content holds finds failures x (acting p v) new v result) (sym is)
+      subst (λ x. Acts same steps content holds finds failures x (acting p v) new v result) (sym is)
       (h v (subst (λ x. Reaches p.spoiled x v s) is reach))
 
   -- the event of a call, stated for the value that the actor shows
   pub acts_seen : (E : ℕ → ℕ → Option (Event B)) (e : Option (Event B)) (l : LastTurn) (p : Parted B M K) (s : Seated B)
       (now new : Acting B M K) (result : Result (Vec Y Global) (ActorFault Y)) → E p.node.me p.node.members ≡ e → received_by e ≡ []
       → acting_since l p s ≡ now
-      → ((v : View B) → Reaches p.spoiled e v s → Acts same from content holds finds failures e (acting p v) new v result)
+      → ((v : View B) → Reaches p.spoiled e v s → Acts same steps content holds finds failures e (acting p v) new v result)
       → (v : View B) → StandsFor now v
-      → Acts same from content holds finds failures (E now.node.me now.node.members) now (since l new) v result
+      → Acts same steps content holds finds failures (E now.node.me now.node.members) now (since l new) v result
   acts_seen E e l p s now new result is none same_actor h =
-      subst (λ (x : Acting B M K). (v : View B) → StandsFor x v → Acts same from content holds finds failures (E x.node.me x.node.members)
+      subst (λ (x : Acting B M K). (v : View B) → StandsFor x v → Acts same steps content holds finds failures (E x.node.me x.node.members)
       x (since l new) v result)
-      same_actor (λ v stands. subst (λ x. Acts same from content holds finds failures (E p.node.me p.node.members) (acting_since l p s)
+      same_actor (λ v stands. subst (λ x. Acts same steps content holds finds failures (E p.node.me p.node.members) (acting_since l p s)
       (since l new) x result) stands.seat
-      (subst (λ f. Acts same from content holds finds failures f (acting_since l p s) (since l new) s result) (sym is)
-      (acts_since same from content holds finds failures l e (acting p s) new s result (h s (reaches_self p.spoiled e s none)))))
+      (subst (λ f. Acts same steps content holds finds failures f (acting_since l p s) (since l new) s result) (sym is)
+      (acts_since same steps content holds finds failures l e (acting p s) new s result (h s (reaches_self p.spoiled e s none)))))
 
   -- the same if nothing happens
   pub acts_passed : (E : ℕ → ℕ → Option (Event B)) (l : LastTurn) (p : Parted B M K) (s : Seated B) (now : Acting B M K)
       (result : Result (Vec Y Global) (ActorFault Y))
       → E p.node.me p.node.members ≡ None → acting_since l p s ≡ now
-      → ((v : View B) → Reaches p.spoiled None v s → Acts same from content holds finds failures None (acting p v) (acting p s) v result)
-      → (v : View B) → StandsFor now v → Acts same from content holds finds failures (E now.node.me now.node.members) now now v result
+      → ((v : View B) → Reaches p.spoiled None v s → Acts same steps content holds finds failures None (acting p v) (acting p s) v result)
+      → (v : View B) → StandsFor now v → Acts same steps content holds finds failures (E now.node.me now.node.members) now now v result
   acts_passed E l p s now result is same_actor h =
-      subst (λ (x : Acting B M K). (v : View B) → StandsFor x v → Acts same from content holds finds failures (E x.node.me x.node.members)
+      subst (λ (x : Acting B M K). (v : View B) → StandsFor x v → Acts same steps content holds finds failures (E x.node.me x.node.members)
       x x v result)
-      same_actor (λ v stands. subst (λ x. Acts same from content holds finds failures (E p.node.me p.node.members) (acting_since l p s)
+      same_actor (λ v stands. subst (λ x. Acts same steps content holds finds failures (E p.node.me p.node.members) (acting_since l p s)
       (acting_since l p s) x result) stands.seat
-      (subst (λ f. Acts same from content holds finds failures f (acting_since l p s) (acting_since l p s) s result) (sym is)
-      (acts_since same from content holds finds failures l None (acting p s) (acting p s) s result
+      (subst (λ f. Acts same steps content holds finds failures f (acting_since l p s) (acting_since l p s) s result) (sym is)
+      (acts_since same steps content holds finds failures l None (acting p s) (acting p s) s result
       (h s (reaches_self p.spoiled None s refl)))))
 
 pub take_some : {B : Type 0} (me n number : ℕ) (body : B) → (number ≡ 0 → ⊥) → n ≡ me

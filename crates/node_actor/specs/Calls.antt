@@ -9,8 +9,8 @@ use Rattle.paxos_packets.specs.declared.packet.Packet.{Packet}
 use Rattle.paxos_packets.specs.declared.rows.Rows.{Rows}
 use Rattle.store_keeper.specs.declared.fault.KeeperFault.{KeeperFault}
 use Rattle.store_keeper.specs.declared.fault.KeeperFault.TheVariants as store
-use Rattle.replica_machine.specs.Log.{IsLogOf}
-use Rattle.replica_machine.specs.Replay.{Machine}
+use Rattle.replica_machine.specs.Log.{IsLogOf, machine_from}
+use Rattle.replica_machine.specs.Replay.{Steps}
 use Rattle.actor_outboxes.specs.Outboxes.{IsPeer}
 use Rattle.paxos_node.specs.declared.event.Event.{Event}
 use Rattle.paxos_node.specs.declared.event.Event.TheVariants.{Take, Tick, Start, Suspect, Deliver, Crash, Restart}
@@ -68,7 +68,7 @@ pub record Rests {B Y M K : Type 0} (old new : Acting B M K) (result : Result (V
   pub failed : IfErr result (λ fault. fault ≡ Failed)
   pub spoiled : old.spoiled ≡ is_err result
 
-module _ {B S Y M K : Type 0} (same : B → B → Bool) (from : S → Machine B S Y) (content : M → S) (holds : K → Rows B → Type 0)
+module _ {B S Y M K : Type 0} (same : B → B → Bool) (steps : Steps B S Y) (content : M → S) (holds : K → Rows B → Type 0)
     (finds : K → Rows B → Type 0) (failures : K → ℕ) where
   -- the view goes on by the event, its node's rows are held, its packets wait, and the sayings are what the event hands out
   pub record Goes (e : Option (Event B)) (old new : Acting B M K) (v : View B) (said : List Y) : Type 0 where
@@ -78,9 +78,9 @@ module _ {B S Y M K : Type 0} (same : B → B → Bool) (from : S → Machine B 
     pub received : (k : ℕ) → received_from k next ≡ received_from k v ++ filter (λ p. p.sender == k) (received_by e)
     pub queues : (k : ℕ) → IsPeer old.node.me old.node.members k → Queues k (sent_by same old.node.members e (seen v).node) old new v next
     pub held : holds new.keeper (seen next).node.rows
-    pub says : (first : S) (under : List (Entry B)) → IsLogOf from content first under old.log
-        → said ≡ handed_by same old.node.members (from first) under e (seen v).node
-    pub follows : (first : S) (under : List (Entry B)) → IsLogOf from content first under old.log → IsLogOf from content first under new.log
+    pub says : (first : S) (under : List (Entry B)) → IsLogOf steps content first under old.log
+        → said ≡ handed_by same old.node.members (machine_from steps first) under e (seen v).node
+    pub follows : (first : S) (under : List (Entry B)) → IsLogOf steps content first under old.log → IsLogOf steps content first under new.log
 
   -- the view and what is held went on together, or neither did
   pub record Stops (e : Option (Event B)) (old new : Acting B M K) (v : View B) : Type 0 where

@@ -2,6 +2,8 @@
 use Rattle.std.specs.Prelude.{nat_le, nat_lt, Bool, true, false, ◌&&◌, Option, Some, None, if◌then◌else◌}
 use Rattle.std.specs.Cmp.Lexicographic.{pointwise}
 use Rattle.paxos_packets.specs.Ballot.{same_ballot}
+use Rattle.paxos_packets.specs.Snapshot.{same_snapshot}
+use Rattle.paxos_packets.specs.Snapshot as taken
 use Rattle.paxos_packets.specs.Vote.{same_vote}
 use Rattle.paxos_packets.specs.declared.ballot.Ballot.{Ballot}
 use Rattle.paxos_packets.specs.declared.rows.Rows.{Rows}
@@ -16,9 +18,16 @@ same_promise (Some b) (Some c) = same_ballot b c
 same_promise None (Some c) = false
 same_promise (Some b) None = false
 
+abbrev pub same_base : Option taken.Snapshot → Option taken.Snapshot → Bool
+same_base None None = true
+same_base (Some s) (Some t) = same_snapshot s t
+same_base None (Some t) = false
+same_base (Some s) None = false
+
 -- all but the boot number
 abbrev pub same_but_boot : {B : Type 0} → (B → B → Bool) → Rows B → Rows B → Bool
-same_but_boot same k r = same_promise k.promised r.promised && pointwise (same_vote same) k.votes r.votes
+same_but_boot same k r =
+    same_promise k.promised r.promised && (same_base k.snapshot r.snapshot && pointwise (same_vote same) k.votes r.votes)
 
 -- rows that are these but for a boot number that is not lower
 abbrev pub is_ahead : {B : Type 0} → (B → B → Bool) → Rows B → Rows B → Bool

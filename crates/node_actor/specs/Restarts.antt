@@ -3,7 +3,7 @@ use Rattle.std.specs.Prelude.{◌≡◌, ℕ, Bool, false, List, []}
 use Rattle.paxos_packets.specs.declared.rows.Rows.{Rows}
 use Rattle.actor_outboxes.specs.Outboxes.{waiting}
 use Rattle.replica_machine.specs.Log.{Follows}
-use Rattle.replica_machine.specs.Replay.{Machine}
+use Rattle.replica_machine.specs.Replay.{Steps}
 use Rattle.paxos_node.specs.Applying.{started}
 use Rattle.paxos_node.specs.declared.event.Event.{Event}
 use Rattle.paxos_node.specs.declared.view.Opened.TheVariants.{With}
@@ -16,7 +16,7 @@ use Rattle.node_actor.specs.Views.{View, seen, posted_to, received_from, StandsF
 
 -- an actor begins with the rows of its store, raised by one boot: it stands for a view that was opened with them, or begins anew with them,
 -- nothing waits, and no turn was taken
-module _ {B S Y M K : Type 0} (from : S → Machine B S Y) (content : M → S) (holds : K → Rows B → Type 0) (is_faithful : K → Type 0) where
+module _ {B S Y M K : Type 0} (steps : Steps B S Y) (content : M → S) (holds : K → Rows B → Type 0) (is_faithful : K → Type 0) where
   pub record Opens (p : Posted B) (machine : M) (keeper : K) (a : Acting B M K) : Type 0 where
     pub renews : Renews holds is_faithful p keeper a.keeper a.seat
     pub stands : StandsFor a a.seat
@@ -25,7 +25,7 @@ module _ {B S Y M K : Type 0} (from : S → Machine B S Y) (content : M → S) (
     pub waits : (k : ℕ) → waiting k a.waiting ≡ []
     pub last : a.last ≡ no_turn
     pub fresh : a.spoiled ≡ false
-    pub follows : Follows from content (content machine) a.log
+    pub follows : Follows steps content (content machine) a.log
 
 -- its view was opened with these rows
 pub record OpensFirst {B M K : Type 0} (holds : K → Rows B → Type 0) (me : ℕ) (v : View B) (a : Acting B M K) : Type 0 where

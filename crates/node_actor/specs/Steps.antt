@@ -5,8 +5,8 @@ use Rattle.std.specs.declared.alloc.Global.{Global}
 use Rattle.paxos_packets.specs.declared.rows.Rows.{Rows}
 use Rattle.store_keeper.specs.declared.fault.KeeperFault.{KeeperFault}
 use Rattle.paxos_packets.specs.declared.entry.Entry.{Entry}
-use Rattle.replica_machine.specs.Log.{IsLogOf}
-use Rattle.replica_machine.specs.Replay.{Machine}
+use Rattle.replica_machine.specs.Log.{IsLogOf, machine_from}
+use Rattle.replica_machine.specs.Replay.{Steps}
 use Rattle.actor_outboxes.specs.Outboxes.{WaitBehind}
 use Rattle.paxos_node.specs.declared.outcome.Outcome.{Outcome}
 use Rattle.actor_parts.specs.declared.fault.ActorFault.{ActorFault}
@@ -26,7 +26,7 @@ may_advance s = nat_lt s.part.events (2 ^ 62)
 abbrev pub fault_without_plan : {B Y : Type 0} → Seated B → ActorFault Y
 fault_without_plan s = if may_advance s then Memory else Worn
 
-module _ {B S Y M K : Type 0} (from : S → Machine B S Y) (content : M → S) (holds : K → Rows B → Type 0) (finds : K → Rows B → Type 0)
+module _ {B S Y M K : Type 0} (steps : Steps B S Y) (content : M → S) (holds : K → Rows B → Type 0) (finds : K → Rows B → Type 0)
     (failures : K → ℕ) where
   -- the outcome is committed and adopted, and what it applied is followed
   pub record TakesOver (o : Outcome B) (old new : Acting B M K) (said : List Y) : Type 0 where
@@ -35,9 +35,9 @@ module _ {B S Y M K : Type 0} (from : S → Machine B S Y) (content : M → S) (
     pub waits : WaitBehind o.packets old.waiting new.waiting
     pub failed : new.failed ≡ None
     pub seat : new.seat ≡ advanced o old.seat
-    pub says : (first : S) (under : List (Entry B)) → IsLogOf from content first under old.log
-        → said ≡ handed_out (from first) old.node.me old.node.state.rows.boot (under ++ old.node.state.applied) o.applied
-    pub follows : (first : S) (under : List (Entry B)) → IsLogOf from content first under old.log → IsLogOf from content first under new.log
+    pub says : (first : S) (under : List (Entry B)) → IsLogOf steps content first under old.log
+        → said ≡ handed_out (machine_from steps first) old.node.me old.node.state.rows.boot (under ++ old.node.state.applied) o.applied
+    pub follows : (first : S) (under : List (Entry B)) → IsLogOf steps content first under old.log → IsLogOf steps content first under new.log
 
   -- there was no memory: the outcome is committed and adopted, or neither
   pub record StopsBefore (old new : Acting B M K) : Type 0 where

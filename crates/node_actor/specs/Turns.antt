@@ -12,7 +12,7 @@ use Rattle.paxos_packets.specs.declared.rows.Rows.{Rows}
 use Rattle.actor_outboxes.specs.Outboxes.{IsPeer, waiting}
 use Rattle.paxos_node.specs.declared.event.Event.{Event}
 use Rattle.paxos_node.specs.Events.{packet_in}
-use Rattle.replica_machine.specs.Replay.{Machine}
+use Rattle.replica_machine.specs.Replay.{Steps}
 use Rattle.actor_parts.specs.declared.fault.ActorFault.{ActorFault}
 use Rattle.actor_parts.specs.Steps.{OnlyWaiting}
 use Rattle.mail_table.specs.Seats.{Seated, knows}
@@ -119,7 +119,7 @@ abbrev pub heard_got : {B : Type 0} → Option (ℕ × Packet B) → Option Hear
 heard_got None = None
 heard_got (Some got) = Some (heard_in got.1.kind)
 
-module _ {B S Y M K : Type 0} (same : B → B → Bool) (from : S → Machine B S Y) (content : M → S) (holds : K → Rows B → Type 0)
+module _ {B S Y M K : Type 0} (same : B → B → Bool) (steps : Steps B S Y) (content : M → S) (holds : K → Rows B → Type 0)
     (finds : K → Rows B → Type 0) (failures : K → ℕ) where
   -- what was due was posted, as far as tries won; then it was fetched, from one peer after another, until a try won; what came, if anything
   -- did, is the event that the call makes of the actor that had posted; and the actor shows to which peers it posted, from which one a packet
@@ -134,7 +134,7 @@ module _ {B S Y M K : Type 0} (same : B → B → Bool) (from : S → Machine B 
     pub got : Option (ℕ × Packet B)
     pub behind : Part B
     pub fetches : Fetches old.node.members (round old.node.me old.node.members first) between.part got behind
-    pub acts : Acts same from content holds finds failures (turn_event old.node.me old.node.members (packet_got got)) mid new between result
+    pub acts : Acts same steps content holds finds failures (turn_event old.node.me old.node.members (packet_got got)) mid new between result
     pub tried : new.seat.part.tried ≡ behind.tried
     pub received : new.seat.part.received ≡ behind.received
     pub posted : new.seat.part.posted ≡ behind.posted

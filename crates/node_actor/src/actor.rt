@@ -1,8 +1,9 @@
+// The actor: how it takes events and turns, what it shows, and how it crashes or leaves.
 ghost use Rattle.std.specs.Prelude.{◌≡◌, ℕ, List, [], length, nat_lt, true, false, Some, Err};
 ghost use Rattle.paxos_packets.specs.declared.entry.Entry.{Entry};
 ghost use Rattle.paxos_node.specs.declared.event.Event.TheVariants.{Take, Tick, Start, Suspect};
 ghost use Rattle.paxos_proposer.specs.Proposer.{is_leading};
-ghost use Rattle.replica_machine.specs.Log.{machine_from, IsLogOf};
+ghost use Rattle.replica_machine.specs.Log.{IsLogOf};
 ghost use Rattle.actor_parts.specs.declared.fault.ActorFault.TheVariants.{Failed};
 ghost use Rattle.actor_parts.specs.Parts.{IsPrefixOf, IsSound};
 ghost use Rattle.node_actor.specs.Posts.{LeftOf};
@@ -94,7 +95,7 @@ impl<M: Machine, K: Keeper<M::Body>> Actor<M, K> {
         ensures members { self.new.node.members ≡ self.old.node.members }
         ensures last { self.new.last ≡ self.old.last }
         ensures acts { (view : View M.Body) → StandsFor self.old view →
-            Acts M.Body.same (machine_from M.next M.says M.to) M.content K.holds K.finds K.failures (Some event.now)
+            Acts M.Body.same M.steps M.content K.holds K.finds K.failures (Some event.now)
             self.old self.new view result }
     {
         make_event(mail, &mut self.seat, &mut self.parts, event)
@@ -113,7 +114,7 @@ impl<M: Machine, K: Keeper<M::Body>> Actor<M, K> {
         ensures members { self.new.node.members ≡ self.old.node.members }
         ensures last { self.new.last ≡ self.old.last }
         ensures acts { (view : View M.Body) → StandsFor self.old view →
-            Acts M.Body.same (machine_from M.next M.says M.to) M.content K.holds K.finds K.failures (take_event self.old.node.me number body)
+            Acts M.Body.same M.steps M.content K.holds K.finds K.failures (take_event self.old.node.me number body)
             self.old self.new view result }
         ensures rests { number ≡ 0 → Rests self.old self.new result }
     {
@@ -139,7 +140,7 @@ impl<M: Machine, K: Keeper<M::Body>> Actor<M, K> {
         ensures members { self.new.node.members ≡ self.old.node.members }
         ensures spoiled { self.old.spoiled ≡ true → (self.new ≡ self.old) × (result ≡ Err Failed) }
         ensures turns { (view : View M.Body) → StandsFor self.old view → self.old.spoiled ≡ false →
-            Turns M.Body.same (machine_from M.next M.says M.to) M.content K.holds K.finds K.failures self.old self.new view result }
+            Turns M.Body.same M.steps M.content K.holds K.finds K.failures self.old self.new view result }
     {
         if self.parts.is_spoiled() {
             return Err(ActorFault::Failed);
@@ -161,7 +162,7 @@ impl<M: Machine, K: Keeper<M::Body>> Actor<M, K> {
         ensures members { self.new.node.members ≡ self.old.node.members }
         ensures last { self.new.last ≡ self.old.last }
         ensures acts { (view : View M.Body) → StandsFor self.old view →
-            Acts M.Body.same (machine_from M.next M.says M.to) M.content K.holds K.finds K.failures (Some (Tick self.old.node.me))
+            Acts M.Body.same M.steps M.content K.holds K.finds K.failures (Some (Tick self.old.node.me))
             self.old self.new view result }
     {
         let own = Event::Tick { node: self.me() };
@@ -176,7 +177,7 @@ impl<M: Machine, K: Keeper<M::Body>> Actor<M, K> {
         ensures members { self.new.node.members ≡ self.old.node.members }
         ensures last { self.new.last ≡ self.old.last }
         ensures acts { (view : View M.Body) → StandsFor self.old view →
-            Acts M.Body.same (machine_from M.next M.says M.to) M.content K.holds K.finds K.failures (Some (Start self.old.node.me))
+            Acts M.Body.same M.steps M.content K.holds K.finds K.failures (Some (Start self.old.node.me))
             self.old self.new view result }
     {
         let own = Event::Start { node: self.me() };
@@ -195,7 +196,7 @@ impl<M: Machine, K: Keeper<M::Body>> Actor<M, K> {
         ensures members { self.new.node.members ≡ self.old.node.members }
         ensures last { self.new.last ≡ self.old.last }
         ensures acts { (view : View M.Body) → StandsFor self.old view →
-            Acts M.Body.same (machine_from M.next M.says M.to) M.content K.holds K.finds K.failures (Some (Suspect self.old.node.me node))
+            Acts M.Body.same M.steps M.content K.holds K.finds K.failures (Some (Suspect self.old.node.me node))
             self.old self.new view result }
     {
         let own = Event::Suspect {
@@ -318,8 +319,8 @@ impl<M: Machine, K: Keeper<M::Body> + Drop> Actor<M, K> {
         ensures seat { result.0 ≡ self.seat }
         ensures log { (view : View M.Body) → StandsFor self view → self.spoiled ≡ false → result.1.applied ≡ (seen view).node.applied }
         ensures machine { (first : M.Content) (under : List (Entry M.Body))
-            → IsLogOf (machine_from M.next M.says M.to) M.content first under self.log
-            → IsLogOf (machine_from M.next M.says M.to) M.content first under result.1 }
+            → IsLogOf M.steps M.content first under self.log
+            → IsLogOf M.steps M.content first under result.1 }
     {
         let Actor {
             parts,

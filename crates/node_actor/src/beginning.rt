@@ -1,3 +1,4 @@
+// How a node begins a boot: from its post to the node, its outboxes and its seat.
 ghost use Rattle.std.specs.Prelude.{◌≡◌, IfOk, IfErr};
 ghost use Rattle.mail_table.specs.Seats.{Owns};
 ghost use Rattle.paxos_packets.specs.Rows.{last_boot};

@@ -1,9 +1,13 @@
-ghost use Rattle.std.specs.Prelude.{◌≡◌, false, true, IfOk, OnErr, is_some, option_copied};
+// Whether a store's rows belong to a node: compares them, apart from the boot number.
+ghost use Rattle.std.specs.Prelude.{◌≡◌, false, true, IfOk, OnOk, OnErr, is_some, option_copied};
+ghost use Rattle.std.specs.Option.{option_or};
+ghost use Rattle.paxos_packets.specs.Rows.{kept_votes};
+ghost use Rattle.paxos_packets.specs.Vote.{put_votes};
 ghost use Rattle.paxos_acceptor.specs.Acceptor.{adopted};
-ghost use Rattle.node_actor.specs.Compare.{same_promise, same_but_boot, is_ahead, is_later, fit_of};
+ghost use Rattle.node_actor.specs.Compare.{same_promise, same_base, same_but_boot, is_ahead, is_later, fit_of};
 
 use paxos_node::Outcome;
-use paxos_packets::{Ballot, Body, Memory, Rows};
+use paxos_packets::{Ballot, Body, Change, Memory, Rows, Snapshot};
 use std::alloc::Global;
 
 // What a store has that belongs to a node: the rows that the node had, those that a failed commit was to leave, or others.
@@ -51,11 +55,31 @@ fn is_meant<B: Body>(
     ensures { IfOk result (λ meant. meant ≡ is_ahead B.same (adopted kept.now outcome.now.change) rows.now) }
 {
     let mut meant = kept.copy(alloc)?;
-    meant.votes.put_all(outcome.change.votes.copy(alloc)?)?;
+    put(alloc, &mut meant, &outcome.change)?;
     if outcome.change.promised.is_some() {
         meant.promised = outcome.change.promised;
     }
     Ok(is_ahead(&meant, rows))
+}
+
+// Takes the change's snapshot and votes over into the rows.
+fn put<B: Body>(alloc: Global, rows: &mut Rows<B>, change: &Change<B>) -> Result<(), Memory>
+    ensures { OnOk result (rows.new ≡ record rows.old {
+      snapshot = option_or change.now.snapshot rows.old.snapshot;
+      votes = put_votes change.now.votes (kept_votes change.now.snapshot rows.old.votes);
+    }) }
+{
+    let votes = change.votes.copy(alloc)?;
+    let Some(snapshot) = &change.snapshot else {
+        rows.votes.put_all(votes)?;
+        return Ok(());
+    };
+    let snapshot = snapshot.share()?;
+    let mut kept = rows.votes.copy_from(alloc, snapshot.floor().get() + 1)?;
+    kept.put_all(votes)?;
+    rows.votes = kept;
+    rows.snapshot = Some(snapshot);
+    Ok(())
 }
 
 // Returns whether the rows are these, apart from a boot number that is not lower.
@@ -76,7 +100,9 @@ pub(crate) fn is_later<B: Body>(kept: &Rows<B>, rows: &Rows<B>) -> bool
 fn same_but_boot<B: Body>(kept: &Rows<B>, rows: &Rows<B>) -> bool
     ensures { result ≡ same_but_boot B.same kept.now rows.now }
 {
-    same_promise(kept.promised, rows.promised) && kept.votes.same(&rows.votes)
+    same_promise(kept.promised, rows.promised)
+        && same_base(&kept.snapshot, &rows.snapshot)
+        && kept.votes.same(&rows.votes)
 }
 
 // Returns whether the two promise the same.
@@ -86,6 +112,18 @@ fn same_promise(one: Option<Ballot>, other: Option<Ballot>) -> bool
     match (one, other) {
         (None, None) => true,
         (Some(one), Some(other)) => one == other,
+        (None, Some(_)) => false,
+        (Some(_), None) => false,
+    }
+}
+
+// Returns whether the two have the same snapshot.
+fn same_base(one: &Option<Snapshot>, other: &Option<Snapshot>) -> bool
+    ensures { result ≡ same_base one.now other.now }
+{
+    match (one, other) {
+        (None, None) => true,
+        (Some(one), Some(other)) => one.same(other),
         (None, Some(_)) => false,
         (Some(_), None) => false,
     }

@@ -3,7 +3,6 @@ ghost use Rattle.std.specs.Prelude.{◌≡◌, true, false, Some, None, Ok, Err}
 ghost use Rattle.paxos_node.specs.Adopting.{Fits};
 ghost use Rattle.paxos_node.specs.Held.{HasRoom};
 ghost use Rattle.paxos_node.specs.Plans.{plans};
-ghost use Rattle.replica_machine.specs.Log.{machine_from};
 ghost use Rattle.actor_parts.specs.Parts.{IsPlan, IsSound};
 ghost use Rattle.actor_parts.specs.Steps.{StaysWho, IsAtEnd, TakesIn};
 ghost use Rattle.mail_table.specs.Boxes.{Follows, Received};
@@ -40,7 +39,7 @@ pub(crate) fn make_event<M: Machine, K: Keeper<M::Body>>(
     ensures stays { StaysAt seat.old seat.new }
     ensures who { StaysWho parts.old parts.new }
     ensures acts { (view : View M.Body) → Reaches parts.old.spoiled (Some event.now) view seat.old →
-        Acts M.Body.same (machine_from M.next M.says M.to) M.content K.holds K.finds K.failures (Some event.now)
+        Acts M.Body.same M.steps M.content K.holds K.finds K.failures (Some event.now)
         (acting parts.old view) (acting parts.new seat.new) view result }
 {
     if parts.is_spoiled() {
@@ -82,7 +81,7 @@ pub(crate) fn pass<M: Machine, K: Keeper<M::Body>>(
     requires sound { IsSound M.Body.same K.holds K.is_failed parts.now }
     requires seated { IsSeated M.Body.same (acting parts.now seat.now) }
     ensures acts { (view : View M.Body) → Reaches parts.now.spoiled None view seat.now →
-        Acts M.Body.same (machine_from M.next M.says M.to) M.content K.holds K.finds K.failures None
+        Acts M.Body.same M.steps M.content K.holds K.finds K.failures None
         (acting parts.now view) (acting parts.now seat.now) view result }
     ensures rests { Rests (acting parts.now seat.now) (acting parts.now seat.now) result }
 {
@@ -112,7 +111,7 @@ pub(crate) fn deliver<M: Machine, K: Keeper<M::Body>>(
     ensures who { StaysWho parts.old parts.new }
     ensures acts { (view : View M.Body) →
         Reaches parts.old.spoiled (turn_event parts.old.node.me parts.old.node.members (Some packet)) view seat.old →
-        Acts M.Body.same (machine_from M.next M.says M.to) M.content K.holds K.finds K.failures
+        Acts M.Body.same M.steps M.content K.holds K.finds K.failures
         (turn_event parts.old.node.me parts.old.node.members (Some packet))
         (acting parts.old view) (acting parts.new seat.new) view result }
 {
@@ -164,7 +163,7 @@ fn carry_out<M: Machine, K: Keeper<M::Body>>(
     ensures seated { IsSeated M.Body.same (acting parts.new seat.new) }
     ensures stays { StaysAt seat.old seat.new }
     ensures who { StaysWho parts.old parts.new }
-    ensures did { CarriesOut (machine_from M.next M.says M.to) M.content K.holds K.finds K.failures outcome
+    ensures did { CarriesOut M.steps M.content K.holds K.finds K.failures outcome
         (acting parts.old seat.old) (acting parts.new seat.new) result }
 {
     if !seat.may_advance() {

@@ -19,6 +19,8 @@ pub enum Heard {
     Learned,
     /// It asks for what was learned from this slot on: its sender's log ends before it.
     Ask(u64),
+    /// It brings its sender's log up to this slot.
+    Snapshot(u64),
 }
 
 // Returns what a packet of this kind shows.
@@ -37,5 +39,6 @@ pub(crate) fn heard_in<B>(kind: &Kind<B>) -> Heard
         Kind::Forward { .. } => Heard::Entries,
         Kind::Learned { .. } => Heard::Learned,
         Kind::Ask { first } => Heard::Ask(*first),
+        Kind::Snapshot { snapshot } => Heard::Snapshot(snapshot.floor().get()),
     }
 }

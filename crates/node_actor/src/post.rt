@@ -1,3 +1,4 @@
+// The post of an actor, and its parts.
 ghost use Rattle.std.specs.Prelude.{◌≡◌, option_copied};
 ghost use Rattle.paxos_packets.specs.Members.{IsMember};
 ghost use Rattle.node_actor.specs.Posts.{IsLeft};

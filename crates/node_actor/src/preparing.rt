@@ -1,3 +1,4 @@
+// What comes first as a node begins: judges the rows that its store has, and begins the next boot there.
 ghost use Rattle.std.specs.Prelude.{◌≡◌, None, Some, Ok, Err, false, IfOk, IfErr};
 ghost use Rattle.store_keeper.specs.Keeper.{FindsOr};
 ghost use Rattle.paxos_packets.specs.Rows.{raised};

@@ -1,8 +1,8 @@
+// How an actor opens for the first time, and restarts from its post.
 ghost use Rattle.std.specs.Prelude.{◌≡◌, false, None, IfOk, IfErr};
 ghost use Rattle.paxos_packets.specs.Members.{IsMember};
 ghost use Rattle.paxos_packets.specs.declared.rows.Rows.{Rows};
 ghost use Rattle.paxos_node.specs.declared.view.Opened.TheVariants.{Never};
-ghost use Rattle.replica_machine.specs.Log.{machine_from};
 ghost use Rattle.mail_table.specs.Seats.{Owns};
 ghost use Rattle.node_actor.specs.Posts.{LeftOf};
 ghost use Rattle.node_actor.specs.Preparing.{HasOthers, Refuses};
@@ -38,7 +38,7 @@ impl<M: Machine, K: Keeper<M::Body>> Actor<M, K> {
         requires table { seat.members ≡ members }
         requires fresh { seat.part.seen.opened ≡ Never }
         requires machine { M.has_failed machine ≡ false }
-        ensures opens { IfOk result (λ actor. Opens (machine_from M.next M.says M.to) M.content K.holds K.is_faithful
+        ensures opens { IfOk result (λ actor. Opens M.steps M.content K.holds K.is_faithful
             (record { me = me; members = members; rows = None; failed = None; seat = seat }) machine keeper actor) }
         ensures first { IfOk result (OpensFirst K.holds me seat) }
         ensures refuses { IfErr result (λ left. Refuses M.Body.same K.holds K.finds K.is_faithful K.failures
@@ -71,7 +71,7 @@ impl<M: Machine, K: Keeper<M::Body>> Actor<M, K> {
         requires owned { Owns mail.now post.seat }
         requires machine { M.has_failed machine ≡ false }
         ensures opens { IfOk result (λ actor.
-            Opens (machine_from M.next M.says M.to) M.content K.holds K.is_faithful post machine keeper actor) }
+            Opens M.steps M.content K.holds K.is_faithful post machine keeper actor) }
         ensures resumes { (view : View M.Body) (r : Rows M.Body) → LeftOf M.Body.same post view → K.holds keeper r →
             IfOk result (λ actor. K.is_faithful actor.keeper → Resumes M.Body.same post view r actor) }
         ensures refuses { IfErr result (λ left.

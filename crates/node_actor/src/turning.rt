@@ -1,7 +1,6 @@
 // A turn: posts what is due, and fetches and treats at most one packet.
 ghost use Rattle.std.specs.Prelude.{◌≡◌, true, false, Err};
 ghost use Rattle.paxos_packets.specs.Members.{IsMember};
-ghost use Rattle.replica_machine.specs.Log.{machine_from};
 ghost use Rattle.actor_parts.specs.Parts.{IsSound};
 ghost use Rattle.actor_parts.specs.Steps.{StaysWho};
 ghost use Rattle.mail_table.specs.Seats.{Owns};
@@ -58,7 +57,7 @@ pub(crate) fn turn<M: Machine, K: Keeper<M::Body>>(
     ensures seated { IsSeated M.Body.same (acting parts.new seat.new) }
     ensures first { IsMember parts.new.node.members first.new }
     ensures who { StaysWho parts.old parts.new }
-    ensures turns { Turns M.Body.same (machine_from M.next M.says M.to) M.content K.holds K.finds K.failures
+    ensures turns { Turns M.Body.same M.steps M.content K.holds K.finds K.failures
         (acting_since last.old parts.old seat.old) (acting_since last.new parts.new seat.new) seat.old result }
 {
     let members = parts.members();

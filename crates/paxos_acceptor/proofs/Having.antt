@@ -1,12 +1,13 @@
 -- A change that the rows have leaves them as they are.
-use Rattle.std.proofs.Common.{◌≡◌, ℕ, ◌<◌, ◌≤◌, Bool, true, false, cond, ◌&&◌, ltb, eqb, Option, Some, None, List, [], ◌∷◌, refl, sym, ap, subst, ◌∙◌, eq-eqb, arith}
+use Rattle.std.proofs.Common.{◌≡◌, ℕ, ◌<◌, ◌≤◌, Bool, true, false, cond, ◌&&◌, ltb, eqb, Option, Some, None, is_none, List, [], ◌∷◌, refl, sym, ap, subst, ◌∙◌, eq-eqb, arith}
 use Rattle.std.proofs.lemmas.Bool.{and_parts, eqb-true, ltb-true}
 use Rattle.std.proofs.lemmas.Bool.Decides.{nat_tests}
 use Rattle.std.specs.List.{list_all}
 use Rattle.std.specs.Option.{option_or}
 use Rattle.paxos_packets.specs.Ballot.{same_ballot, ballot_sound}
 use Rattle.paxos_packets.specs.Body.{IsEquality}
-use Rattle.paxos_packets.specs.Rows.{rows_equal}
+use Rattle.paxos_packets.specs.Rows.{rows_equal, kept_votes}
+use Rattle.paxos_packets.specs.Snapshot.{Snapshot}
 use Rattle.paxos_packets.specs.Vote.{IsAscending, put_vote, put_votes, vote_in, same_vote, vote_equality}
 use Rattle.paxos_packets.specs.declared.ballot.Ballot.{Ballot}
 use Rattle.paxos_packets.specs.declared.rows.Change.{Change}
@@ -70,10 +71,24 @@ votes_kept same ok (v ∷ vs) ws h e =
     let k = and_parts (has_vote same ws v) (list_all (has_vote same ws) vs) e in
     rw (vote_kept same ok v ws h k.0) (votes_kept same ok vs ws h k.1)
 
+-- without a snapshot nothing is forgotten
+
+none_new : (new held : Option Snapshot) → is_none new ≡ true → option_or new held ≡ held
+none_new None held h = refl
+none_new (Some s) held h = cc
+
+none_forgotten : {B : Type 0} (new : Option Snapshot) (votes : List (Vote B)) → is_none new ≡ true → kept_votes new votes ≡ votes
+none_forgotten None votes h = refl
+none_forgotten (Some s) votes h = cc
+
 -- the rows have all of the change
 pub adds_nothing : {B : Type 0} (same : B → B → Bool) → IsEquality same → (rows : Rows B) (change : Change B) → IsAscending rows.votes
     → has_all same rows change ≡ true → adopted rows change ≡ rows
 adds_nothing same ok rows change h e =
-    let k = and_parts (has_promise rows.promised change.promised) (list_all (has_vote same rows.votes) change.votes) e in
-    rows_equal (adopted rows change) rows refl (promise_kept rows.promised change.promised k.0)
-    (votes_kept same ok change.votes rows.votes (ascends rows.votes h) k.1)
+    let l =
+    and_parts (is_none change.snapshot)
+    (has_promise rows.promised change.promised && list_all (has_vote same rows.votes) change.votes) e in
+    let k = and_parts (has_promise rows.promised change.promised) (list_all (has_vote same rows.votes) change.votes) l.1 in
+    rows_equal (adopted rows change) rows refl (promise_kept rows.promised change.promised k.0) (none_new change.snapshot rows.snapshot l.0)
+    (ap (λ (vs : List (Vote _)). put_votes change.votes vs) (none_forgotten change.snapshot rows.votes l.0)
+    ∙ votes_kept same ok change.votes rows.votes (ascends rows.votes h) k.1)

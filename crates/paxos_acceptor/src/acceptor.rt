@@ -1,12 +1,18 @@
-ghost use Rattle.std.specs.Prelude.{◌≡◌, ◌≤◌, true, false, length, IfOk, IsErr, OnOk, OnErr};
+// The acceptor's rules: what it commits and sends for a packet, and how it adopts a change.
+ghost use Rattle.std.specs.Prelude.{◌≡◌, ◌≤◌, true, false, length, IfOk, IsErr, OnOk, OnErr, option_copied};
 ghost use Rattle.paxos_packets.specs.Vote.{votes_from};
 ghost use Rattle.std.specs.List.{list_all};
-ghost use Rattle.paxos_acceptor.specs.Acceptor.{adopted, judged, may_promise, may_accept, refused, prepared, voted};
+ghost use Rattle.paxos_acceptor.specs.Acceptor.{adopted, judged, may_promise, may_accept, refused, prepared, voted, cast_or_shown, given_by};
 ghost use Rattle.paxos_acceptor.specs.Acceptor.{has_all, has_promise, has_vote};
+ghost use Rattle.paxos_packets.specs.Rows.{kept_votes};
+ghost use Rattle.paxos_packets.specs.Snapshot.{floor_in};
+ghost use Rattle.std.specs.Option.{option_or};
 
 use crate::fault::Memory;
 use crate::verdict::{Answer, Verdict};
-use paxos_packets::{Ballot, Body, Change, KeptVotes, Kind, Packet, Rows, Vote, Votes};
+use paxos_packets::{
+    Ballot, Body, Change, Floor, KeptVotes, Kind, Packet, Rows, Snapshot, Vote, Votes,
+};
 use std::alloc::Global;
 use std::marker::Model;
 
@@ -16,6 +22,7 @@ pub struct Acceptor<B> {
     alloc: Global,
     boot: u64,
     promised: Option<Ballot>,
+    snapshot: Option<Snapshot>,
     votes: KeptVotes<B>,
     failed: bool,
 }
@@ -26,6 +33,7 @@ impl<B: Drop> Drop for Acceptor<B> {
             alloc: _,
             boot: _,
             promised: _,
+            snapshot: _snapshot,
             votes: _votes,
             failed: _,
         } = self;
@@ -38,7 +46,7 @@ impl<B> Model for Acceptor<B> {
     ghost Value = { State B };
 
     ghost view = { λ a. record {
-      rows = record { boot = a.boot; promised = a.promised; votes = a.votes.votes };
+      rows = record { boot = a.boot; promised = a.promised; snapshot = a.snapshot; votes = a.votes.votes };
       room = a.votes.room;
       failed = a.failed;
     } };
@@ -50,11 +58,18 @@ impl<B> Acceptor<B> {
         ensures rows { result.rows ≡ rows }
         ensures failed { result.failed ≡ false }
     {
+        let Rows {
+            boot,
+            promised,
+            snapshot,
+            votes,
+        } = rows;
         Acceptor {
             alloc,
-            boot: rows.boot,
-            promised: rows.promised,
-            votes: KeptVotes::of(rows.votes),
+            boot,
+            promised,
+            snapshot,
+            votes: KeptVotes::of(votes),
             failed: false,
         }
     }
@@ -67,12 +82,14 @@ impl<B> Acceptor<B> {
             alloc: _,
             boot,
             promised,
+            snapshot,
             votes,
             failed: _,
         } = self;
         Rows {
             boot,
             promised,
+            snapshot,
             votes: votes.into_votes(),
         }
     }
@@ -91,7 +108,34 @@ impl<B> Acceptor<B> {
         self.promised
     }
 
-    /// Returns the votes that the member has cast, by ascending slot.
+    /// Returns what stands for the member's log up to the floor, if any.
+    pub fn snapshot(&self) -> Option<&Snapshot>
+        ensures { option_copied result ≡ self.now.rows.snapshot }
+    {
+        self.snapshot.as_ref()
+    }
+
+    /// Returns the floor, up to which the snapshot gives the member's log.
+    pub fn floor(&self) -> Floor
+        ensures { result ≡ floor_in self.now.rows.snapshot }
+    {
+        match &self.snapshot {
+            Some(snapshot) => Floor::at(snapshot.floor()),
+            None => Floor::none(),
+        }
+    }
+
+    /// Returns the snapshot, if it gives the slot with this number: if that is not above its floor.
+    pub fn gives(&self, slot: u64) -> Option<&Snapshot>
+        ensures { option_copied result ≡ given_by self.now.rows.snapshot slot }
+    {
+        match &self.snapshot {
+            Some(snapshot) if slot <= snapshot.floor().get() => Some(snapshot),
+            _ => None,
+        }
+    }
+
+    /// Returns the votes that the member has cast above its floor, by ascending slot.
     pub fn votes(&self) -> &[Vote<B>]
         ensures { result.now ≡ self.now.rows.votes }
     {
@@ -124,8 +168,9 @@ impl<B> Acceptor<B> {
 impl<B: Body> Acceptor<B> {
     /// Returns what to commit for the packet, and what to answer once it is committed (Lamport 2001, section 2.2, phases 1 (b) and 2 (b)).
     ///
-    /// A Prepare above the promise, or without one, gives its promise and the votes from its slot on; only these are copied. An Accept that
-    /// is not below the promise gives its vote. Any other Prepare or Accept gives a Nack, and any other packet gives nothing. Nothing
+    /// A Prepare above the promise, or without one, gives its promise, the floor, and the votes from its slot on that are above the floor;
+    /// only these are copied. An Accept that is not below the promise gives its vote, or the snapshot, if its slot is not above the floor:
+    /// then nothing is to be committed. Any other Prepare or Accept gives a Nack, and any other packet gives nothing. Nothing
     /// changes until `adopt`. Returns `Memory` if memory for the copies runs out, and always once the acceptor is failed.
     pub fn plan(&self, packet: &Packet<B>) -> Result<Verdict<B>, Memory>
         ensures verdict { IfOk result (λ verdict. verdict ≡ judged self.now.rows packet.now.kind) }
@@ -142,22 +187,25 @@ impl<B: Body> Acceptor<B> {
             | Kind::Nack { .. }
             | Kind::Forward { .. }
             | Kind::Learned { .. }
-            | Kind::Ask { .. } => Ok(Verdict {
+            | Kind::Ask { .. }
+            | Kind::Snapshot { .. } => Ok(Verdict {
                 change: Change::none(self.alloc),
                 answer: Answer::Nothing,
             }),
         }
     }
 
-    /// Returns whether the rows have all of the change, so that adopting it leaves them as they are: it promises nothing or what is promised,
-    /// and each of its votes is the one in its slot. Does not allocate. Looks up each vote's slot, in a number of steps logarithmic in the
+    /// Returns whether the rows have all of the change, so that adopting it leaves them as they are: it has no snapshot, promises nothing or
+    /// what is promised, and each of its votes is the one in its slot. Does not allocate. Looks up each vote's slot, in a number of steps logarithmic in the
     /// number of votes; compares entries only if slot and ballot are the same.
     pub fn has_all(&self, change: &Change<B>) -> bool
         ensures is { result ≡ has_all B.same self.now.rows change.now }
         ensures same { result ≡ true → adopted self.now.rows change.now ≡ self.now.rows }
     {
         let _ = self.votes.as_slice(); // for the proof
-        has_promise(self.promised, change.promised) && self.has_votes(change.votes.as_slice())
+        change.snapshot.is_none()
+            && has_promise(self.promised, change.promised)
+            && self.has_votes(change.votes.as_slice())
     }
 
     // Returns whether each of these votes is the one in its slot.
@@ -189,7 +237,8 @@ impl<B: Body> Acceptor<B> {
         Ok(self.votes.copy_from(self.alloc, first)?)
     }
 
-    /// Takes over what was committed: the promise, and each vote in its slot. On `Memory` the rows stay as they were and the acceptor is
+    /// Takes over what was committed: the promise, the snapshot, with which the votes up to its floor are forgotten, and each vote in its
+    /// slot. On `Memory` the rows stay as they were and the acceptor is
     /// failed: make it anew, by `of`, from the rows that are committed. A failed acceptor returns `Memory`.
     pub fn adopt(&mut self, change: Change<B>) -> Result<(), Memory>
         ensures rows { OnOk result (self.new.rows ≡ adopted self.old.rows change) }
@@ -228,9 +277,30 @@ impl<B: Body> Acceptor<B> {
         ensures rows { self.new.rows ≡ adopted self.old.rows change }
         ensures failed { self.new.failed ≡ self.old.failed }
     {
-        self.votes.put_all_in_room(change.votes);
-        if change.promised.is_some() {
-            self.promised = change.promised;
+        let Change {
+            promised,
+            snapshot,
+            votes,
+        } = change;
+        self.rest_on(snapshot);
+        self.votes.put_all_in_room(votes);
+        if promised.is_some() {
+            self.promised = promised;
+        }
+    }
+
+    // Takes over a new snapshot, if there is one, and forgets the votes up to its floor.
+    fn rest_on(&mut self, snapshot: Option<Snapshot>)
+        ensures boot { self.new.rows.boot ≡ self.old.rows.boot }
+        ensures promised { self.new.rows.promised ≡ self.old.rows.promised }
+        ensures snapshot { self.new.rows.snapshot ≡ option_or snapshot self.old.rows.snapshot }
+        ensures votes { self.new.rows.votes ≡ kept_votes snapshot self.old.rows.votes }
+        ensures room { self.old.room ≤ self.new.room }
+        ensures failed { self.new.failed ≡ self.old.failed }
+    {
+        if let Some(snapshot) = snapshot {
+            self.votes.forget(snapshot.floor());
+            self.snapshot = Some(snapshot);
         }
     }
 
@@ -241,13 +311,20 @@ impl<B: Body> Acceptor<B> {
         if !may_promise(self.promised, ballot) {
             return Ok(self.refuse(ballot));
         }
-        let votes = self.votes.copy_from(self.alloc, first)?;
+        let floor = self.floor();
+        let votes = self
+            .votes
+            .copy_from(self.alloc, first.max(floor.get() + 1))?;
         let mut change = Change::none(self.alloc);
         change.promised = Some(ballot);
         Ok(Verdict {
             change,
             answer: Answer::ToSender {
-                kind: Kind::Promise { ballot, votes },
+                kind: Kind::Promise {
+                    ballot,
+                    floor,
+                    votes,
+                },
             },
         })
     }
@@ -258,6 +335,23 @@ impl<B: Body> Acceptor<B> {
     {
         if !may_accept(self.promised, vote.ballot) {
             return Ok(self.refuse(vote.ballot));
+        }
+        self.cast_or_show(vote)
+    }
+
+    // Plans a vote that the promise allows, or the snapshot instead.
+    fn cast_or_show(&self, vote: &Vote<B>) -> Result<Verdict<B>, Memory>
+        ensures { IfOk result (λ verdict. verdict ≡ cast_or_shown (given_by self.now.rows.snapshot vote.now.slot) vote.now) }
+    {
+        if let Some(snapshot) = self.gives(vote.slot.get()) {
+            return Ok(Verdict {
+                change: Change::none(self.alloc),
+                answer: Answer::ToSender {
+                    kind: Kind::Snapshot {
+                        snapshot: snapshot.share()?,
+                    },
+                },
+            });
         }
         let mut change = Change::none(self.alloc);
         change.promised = Some(vote.ballot);

@@ -1,3 +1,4 @@
+// The fault of an acceptor, and its number.
 ghost use Rattle.std.specs.Prelude.{◌≡◌};
 
 use thiserror::Error;

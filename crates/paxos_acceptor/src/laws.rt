@@ -6,8 +6,9 @@ ghost use Rattle.paxos_packets.specs.declared.ballot.Ballot.{Ballot};
 ghost use Rattle.paxos_packets.specs.declared.packet.Kind.{Kind};
 ghost use Rattle.paxos_packets.specs.declared.rows.Rows.{Rows};
 ghost use Rattle.paxos_packets.specs.declared.vote.Vote.{Vote};
-ghost use Rattle.paxos_acceptor.specs.Acceptor.{adopted, judged, refused};
-ghost use Rattle.paxos_packets.specs.Rows.{no_change, promise_change, vote_change};
+ghost use Rattle.paxos_acceptor.specs.Acceptor.{adopted, judged, refused, with_snapshot};
+ghost use Rattle.paxos_packets.specs.Rows.{no_change, promise_change, vote_change, snapshot_change};
+ghost use Rattle.paxos_packets.specs.Snapshot.{Snapshot};
 ghost use Rattle.paxos_acceptor.specs.Acceptor.{voted, prepared, with_promise, with_vote};
 
 /// No packet lowers a promise: once its change is adopted, the promise is not below the one of before.
@@ -24,9 +25,10 @@ pub fn promises_are_kept<B>()
         → below vote.ballot promised ≡ true → voted rows vote ≡ refused rows vote.ballot }
 {}
 
-/// What each of the three changes makes of the rows.
+/// What each of the four changes makes of the rows.
 pub fn changes_are_adopted<B>()
     ensures nothing { (rows : Rows B) → adopted rows no_change ≡ rows }
     ensures promise { (rows : Rows B) (ballot : Ballot) → adopted rows (promise_change ballot) ≡ with_promise ballot rows }
     ensures vote { (rows : Rows B) (vote : Vote B) → adopted rows (vote_change vote) ≡ with_vote vote rows }
+    ensures snapshot { (rows : Rows B) (snapshot : Snapshot) → adopted rows (snapshot_change snapshot) ≡ with_snapshot snapshot rows }
 {}

@@ -8,5 +8,5 @@ mod verdict;
 
 pub use acceptor::Acceptor;
 pub use fault::Memory;
-pub use paxos_packets::{Ballot, Body, Change, Kind, Packet, Rows, Vote, Votes};
+pub use paxos_packets::{Ballot, Body, Change, Floor, Kind, Packet, Rows, Snapshot, Vote, Votes};
 pub use verdict::{Answer, Verdict};

@@ -1,3 +1,4 @@
+// The verdict of an acceptor on a packet: a change and an answer.
 use paxos_packets::{Change, Kind};
 
 /// An acceptor's answer to a packet.
@@ -5,7 +6,7 @@ use paxos_packets::{Change, Kind};
 pub enum Answer<B> {
     /// Nothing is sent.
     Nothing,
-    /// A Promise or a Nack for the member that sent the packet.
+    /// A Promise, a Nack or a Snapshot for the member that sent the packet.
     ToSender { kind: Kind<B> },
     /// An Accepted for each of the other members.
     ToOthers { kind: Kind<B> },

@@ -1,3 +1,5 @@
+//! What one event changes of a learner's tallies.
+
 ghost use Rattle.std.specs.Prelude.{◌≡◌, ◌<◌, [], OnOk, IsOkUnless};
 ghost use Rattle.std.specs.Map.{lookup};
 ghost use Rattle.paxos_learner.specs.declared.fault.LearnerFault.TheVariants.{Memory};

@@ -1,3 +1,5 @@
+//! The faults of a learner, and their numbers.
+
 ghost use Rattle.std.specs.Prelude.{◌≡◌};
 ghost use Rattle.paxos_learner.specs.Fault.{number_of};
 

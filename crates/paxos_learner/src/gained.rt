@@ -1,3 +1,5 @@
+//! What one event adds to a learner's entries.
+
 ghost use Rattle.std.specs.Prelude.{◌≡◌, [], ◌∷◌, None, OnOk, OnErr, IsOkUnless, option_copied};
 ghost use Rattle.paxos_learner.specs.declared.fault.LearnerFault.TheVariants.{Memory};
 ghost use Rattle.paxos_learner.specs.Gained.{gains_in, StandsApart};

@@ -1,3 +1,5 @@
+//! How an event is planned on a learner: which votes and reports it is to hear, and what it would have learned then.
+
 ghost use Rattle.std.specs.Prelude.{◌≡◌, ◌∷◌, [], ◌++◌, ◌+◌, ◌<◌, ◌≤◌, ◌^◌, ℕ, suc, IfOk, OnOk, OnErr, IsOkUnless, option_copied};
 ghost use Rattle.std.specs.Map.{lookup};
 ghost use Rattle.std.specs.Option.{unwrap_or};

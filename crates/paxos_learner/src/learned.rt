@@ -1,3 +1,5 @@
+//! A table of learned entries by slot, with places for entries that are to come.
+
 ghost use Rattle.std.specs.Prelude.{◌≡◌, ◌<◌, ◌≤◌, ◌^◌, ℕ, suc, true, [], None, length, IsTrue, MatchBool, OnOk, OnErr, IsOkUnless, option_copied};
 ghost use Rattle.paxos_learner.specs.declared.fault.LearnerFault.TheVariants.{Memory};
 ghost use Rattle.paxos_learner.specs.Learned.{has_place, placed, shelf_of, starts_at, AreRising, KeepsPlaces, Rises};

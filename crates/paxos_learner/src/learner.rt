@@ -1,3 +1,5 @@
+//! The learner: how it hears votes and reports, by themselves or in room that was made.
+
 ghost use Rattle.std.specs.Prelude.{◌≡◌, ◌↔◌, ◌+◌, ◌<◌, ◌≤◌, true, Err, OnOk, OnErr, IsOkUnless, option_copied};
 ghost use Rattle.paxos_learner.specs.declared.fault.LearnerFault.TheVariants.{Disagree, Memory};
 ghost use Rattle.paxos_packets.specs.Members.{is_in, is_majority};

@@ -1,3 +1,5 @@
+//! Counts of votes: which members voted in a slot and a ballot.
+
 ghost use Rattle.std.specs.Prelude.{◌≡◌, ◌+◌, ◌<◌, ◌≤◌, [], None, IsOk, OnOk, OnErr, IsOkUnless};
 ghost use Rattle.std.specs.Map.{lookup};
 ghost use Rattle.paxos_learner.specs.declared.fault.LearnerFault.TheVariants.{Memory};

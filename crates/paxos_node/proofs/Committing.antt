@@ -1,31 +1,35 @@
 -- What a node commits in an event is all that changes its rows.
 use Rattle.std.proofs.Common.{◌≡◌, ℕ, suc, Bool, true, false, not, ◌&&◌, refl, sym, ap, ◌∙◌, List, [], ◌∷◌}
 use Rattle.std.proofs.Common.{◌++◌, Option, Some, None}
+use Rattle.std.specs.Option.{option_or}
 use Rattle.std.specs.Prelude.{nat_lt}
 use Rattle.std.proofs.lemmas.Bool.{cond_both, and_parts}
 use Rattle.paxos_packets.specs.Members.{is_majority}
 use Rattle.paxos_packets.specs.Ballot.{same_ballot}
 use Rattle.paxos_packets.proofs.Ascending.{Ascends}
-use Rattle.paxos_packets.specs.Vote.{votes_from}
+use Rattle.paxos_packets.specs.Rows.{kept_votes}
+use Rattle.paxos_packets.specs.Snapshot.{floor_in}
+use Rattle.paxos_packets.specs.Snapshot as taken
 use Rattle.paxos_packets.specs.Packet.{packet}
 use Rattle.paxos_packets.specs.declared.ballot.Ballot.{Ballot}
 use Rattle.paxos_packets.specs.declared.entry.Entry.{Entry}
 use Rattle.paxos_packets.specs.declared.packet.Kind.{Kind}
-use Rattle.paxos_packets.specs.declared.packet.Kind.TheVariants.{Prepare, Promise, Accept, Accepted, Nack, Forward, Ask, Learned}
+use Rattle.paxos_packets.specs.declared.packet.Kind.TheVariants.{Prepare, Promise, Accept, Accepted, Nack, Forward, Ask, Learned, Snapshot}
 use Rattle.paxos_packets.specs.declared.rows.Rows.{Rows}
 use Rattle.paxos_packets.specs.declared.vote.Vote.{Vote}
 use Rattle.paxos_packets.proofs.Placing.{put_ascending}
-use Rattle.paxos_acceptor.specs.Acceptor.{may_promise, may_accept, with_promise, with_vote, adopted}
+use Rattle.paxos_acceptor.specs.Acceptor.{may_promise, may_accept, with_promise, with_vote, adopted, promise_of, given_by}
 use Rattle.paxos_proposer.specs.declared.promises.CountedPromise.{CountedPromise}
 use Rattle.paxos_proposer.specs.Role.{Role, Idle, Preparing, Leading}
 use Rattle.paxos_proposer.specs.Proposer.{slot_end, next_vote, new_ballot, is_leading}
+use Rattle.paxos_proposer.specs.Promises.{lowest}
 use Rattle.paxos_proposer.specs.Reports.{is_counted, reports, called_for}
 use Rattle.paxos_node.specs.declared.event.Event.{Event}
 use Rattle.paxos_node.specs.declared.event.Event.TheVariants.{Take, Tick, Start, Suspect, Deliver, Crash, Restart}
 use Rattle.paxos_planning.specs.Node.{Plan, log_length}
 use Rattle.paxos_planning.specs.Plan.{with_role, with_pending, begun, send, promise, vote, cast}
 use Rattle.paxos_planning.specs.Proposals.{offer, propose_as, propose, propose_all, lead, stands, propose_new, propose_each, forwarded, push}
-use Rattle.paxos_planning.specs.Replies.{saw, refuse, count_promise, on_promise_as, on_packet}
+use Rattle.paxos_planning.specs.Replies.{saw, refuse, cast_or_show, answer_ask, count_promise, on_promise_as, on_packet}
 use Rattle.paxos_node.specs.Applying.{note, ends, go_down, apply_all, settle}
 use Rattle.paxos_packets.specs.Rows.{last_boot}
 use Rattle.paxos_node.specs.Events.{takes, with_item, on_take, has_room, suspected}
@@ -53,7 +57,11 @@ module _ {B : Type 0} (same : B → B → Bool) (members n : ℕ) (rows : Rows B
       record {
         is =
             ap (λ r. with_vote v r) c.is
-            ∙ (λ i. record rows { promised = Some v.ballot; votes = sym (votes_put v t.change.votes rows.votes c.ascends) i });
+            ∙ (λ i. record rows {
+              promised = Some v.ballot;
+              snapshot = option_or t.change.snapshot rows.snapshot;
+              votes = sym (votes_put v t.change.votes (kept_votes t.change.snapshot rows.votes) c.ascends) i;
+            });
         ascends = put_ascending v t.change.votes c.ascends;
       }
 
@@ -95,35 +103,49 @@ module _ {B : Type 0} (same : B → B → Bool) (members n : ℕ) (rows : Rows B
       proposes_all (called_for first vs) (record t { node = with_role (Leading b first []) t.node })
       (record { is = c.is; ascends = c.ascends })
 
-  promises_as : (from : ℕ) (b : Ballot) (votes : List (Vote B)) (r : Role B) (t : Plan B) → C t
-      → C (on_promise_as same members n from b votes r t)
-  promises_as from b votes Idle t c = c
-  promises_as from b votes (Leading d next table) t c = c
-  promises_as from b votes (Preparing d first cs) t c =
-      cond_both (same_ballot b d && not (is_counted cs from)) (count_promise same members n d first more t) t (λ u. C u)
-      (λ e. cond_both (is_majority members (is_counted more)) (push same members n (lead same members n d first (reports more) t))
+  promises_as : (from : ℕ) (b : Ballot) (floor : ℕ) (votes : List (Vote B)) (r : Role B) (t : Plan B) → C t
+      → C (on_promise_as same members n from b floor votes r t)
+  promises_as from b floor votes Idle t c = c
+  promises_as from b floor votes (Leading d next table) t c = c
+  promises_as from b floor votes (Preparing d first cs) t c =
+      cond_both (same_ballot b d && not (is_counted cs from)) (count_promise same members n d first (floor_in t.node.rows.snapshot) more t) t
+      (λ u. C u)
+      (λ e. cond_both (is_majority members (is_counted more)) (push same members n (lead same members n d low (reports more) t))
       (record t { node = with_role (Preparing d first more) t.node }) (λ u. C u)
-      (λ m. pushes (lead same members n d first (reports more) t) (leads d first (reports more) t c))
+      (λ m. pushes (lead same members n d low (reports more) t) (leads d low (reports more) t c))
       (λ m. record { is = c.is; ascends = c.ascends }))
       (λ e. c)
     where
       more : List (CountedPromise B)
-      more = cs ++ record { node = from; votes = votes } ∷ []
+      more = cs ++ record { node = from; floor = floor; votes = votes } ∷ []
+
+      low : ℕ
+      low = lowest first (floor_in t.node.rows.snapshot) more
+
+  shows : (from : ℕ) (s : Option taken.Snapshot) (v : Vote B) (t : Plan B) → C t → C (cast_or_show same members n from s v t)
+  shows from None v t c = casts v t c
+  shows from (Some s) v t c = record { is = c.is; ascends = c.ascends }
+
+  asks : (from first : ℕ) (s : Option taken.Snapshot) (t : Plan B) → C t → C (answer_ask n from first s t)
+  asks from first None t c = record { is = c.is; ascends = c.ascends }
+  asks from first (Some s) t c = record { is = c.is; ascends = c.ascends }
 
   packets : (from : ℕ) (kind : Kind B) (t : Plan B) → C t → C (on_packet same members n from kind t)
   packets from (Prepare b first) t c =
       cond_both (may_promise t.node.rows.promised b)
-      (send (packet n (Promise b (votes_from first t.node.rows.votes)) from ∷ []) (promise b t)) (refuse n from b t) (λ u. C u)
+      (send (packet n (promise_of t.node.rows b first) from ∷ []) (promise b t)) (refuse n from b t) (λ u. C u)
       (λ e. let d = promised b t c in record { is = d.is; ascends = d.ascends }) (λ e. record { is = c.is; ascends = c.ascends })
-  packets from (Promise b votes) t c = promises_as from b votes t.node.proposer.role t c
+  packets from (Promise b floor votes) t c = promises_as from b floor votes t.node.proposer.role t c
   packets from (Accept v) t c =
-      cond_both (may_accept t.node.rows.promised v.ballot) (cast same members n v t) (refuse n from v.ballot t) (λ u. C u)
-      (λ e. casts v t c) (λ e. record { is = c.is; ascends = c.ascends })
+      cond_both (may_accept t.node.rows.promised v.ballot) (cast_or_show same members n from (given_by t.node.rows.snapshot v.slot) v t)
+      (refuse n from v.ballot t) (λ u. C u) (λ e. shows from (given_by t.node.rows.snapshot v.slot) v t c)
+      (λ e. record { is = c.is; ascends = c.ascends })
   packets from (Accepted v) t c = record { is = c.is; ascends = c.ascends }
   packets from (Nack b p) t c = record { is = c.is; ascends = c.ascends }
   packets from (Forward es) t c =
       cond_both (is_leading t.node.proposer.role) (propose_each same members n es t) t (λ u. C u) (λ d. proposes_each es t c) (λ d. c)
-  packets from (Ask first) t c = record { is = c.is; ascends = c.ascends }
+  packets from (Ask first) t c = asks from first (given_by t.node.rows.snapshot first) t c
+  packets from (Snapshot s) t c = c
   packets from (Learned s e) t c = record { is = c.is; ascends = c.ascends }
 
   starting : (t : Plan B) → C t → C (on_start members n t)

@@ -1,22 +1,22 @@
 -- Whether an event disagrees with what was learned: by what its packet brings, or by what the node votes for in it.
 use Rattle.std.proofs.Common.{◌≡◌, ℕ, suc, Bool, true, false, cond, ◌&&◌, Result, Ok, Err, Option, Some, None, [], ◌∷◌, ◌++◌, refl, ap, ◌∙◌}
-use Rattle.std.specs.Prelude.{IfOk}
+use Rattle.std.specs.Prelude.{IfOk, is_none}
 use Rattle.paxos_packets.specs.Body.{IsEquality}
 use Rattle.paxos_packets.specs.declared.entry.Entry.{Entry}
 use Rattle.paxos_packets.specs.declared.packet.Kind.{Kind}
-use Rattle.paxos_packets.specs.declared.packet.Kind.TheVariants.{Prepare, Promise, Accept, Accepted, Nack, Forward, Learned, Ask}
-use Rattle.paxos_packets.specs.Vote.{votes_from}
+use Rattle.paxos_packets.specs.declared.packet.Kind.TheVariants.{Prepare, Promise, Accept, Accepted, Nack, Forward, Learned, Ask, Snapshot}
+use Rattle.paxos_packets.specs.Snapshot as taken
 use Rattle.paxos_packets.specs.Packet.{packet}
 use Rattle.paxos_learner.specs.Learner.{vote_disagrees}
 use Rattle.paxos_planning.specs.Ticking.{again}
-use Rattle.paxos_acceptor.specs.Acceptor.{may_promise, may_accept}
+use Rattle.paxos_acceptor.specs.Acceptor.{may_promise, may_accept, promise_of, given_by}
 use Rattle.paxos_proposer.specs.Proposer.{new_ballot}
 use Rattle.paxos_planning.specs.Node.{NodeState, Plan, log_length}
-use Rattle.paxos_planning.specs.Plan.{begun, send, with_pending, promise, cast}
+use Rattle.paxos_planning.specs.Plan.{begun, send, with_pending, promise}
 use Rattle.paxos_planning.specs.Proposals.{push}
 use Rattle.paxos_planning.specs.Walking.{proposes_other}
 use Rattle.paxos_planning.proofs.LeaderVotes.{push_is, forward_is, promise_is}
-use Rattle.paxos_planning.specs.Replies.{saw, refuse, on_packet, brings_other}
+use Rattle.paxos_planning.specs.Replies.{saw, refuse, cast_or_show, answer_ask, on_packet, brings_other}
 use Rattle.paxos_planning.specs.Starting.{starts, begin}
 use Rattle.paxos_node.specs.declared.event.Event.{Event}
 use Rattle.paxos_node.specs.declared.event.Event.TheVariants.{Take, Tick, Start, Suspect, Deliver, Crash, Restart}
@@ -34,24 +34,36 @@ module _ {B : Type 0} (same : B → B → Bool) (ok : IsEquality same) (members 
       o : Plan B
       o = record (begun x) { node = saw (Prepare b first) x }
 
-      go : (t : Bool) → (cond t (send (packet me (Promise b (votes_from first o.node.rows.votes)) sender ∷ []) (promise b o)) (refuse me sender b o)).disagrees ≡ false
+      go : (t : Bool) → (cond t (send (packet me (promise_of o.node.rows b first) sender ∷ []) (promise b o)) (refuse me sender b o)).disagrees ≡ false
       go true = refl
       go false = refl
-  packet_is me sender (Promise b votes) x =
-      promise_is same ok members me sender b votes x.proposer.role (record (begun x) { node = saw (Promise b votes) x }) refl
+  packet_is me sender (Promise b floor votes) x =
+      promise_is same ok members me sender b floor votes x.proposer.role (record (begun x) { node = saw (Promise b floor votes) x }) refl
   packet_is me sender (Accept v) x = go (may_accept x.rows.promised v.ballot)
     where
       o : Plan B
       o = record (begun x) { node = saw (Accept v) x }
 
-      go : (t : Bool) → (cond t (cast same members me v o) (refuse me sender v.ballot o)).disagrees ≡ t && vote_disagrees same members me v x.learner
-      go true = refl
+      given : (s : Option taken.Snapshot) → (cast_or_show same members me sender s v o).disagrees
+          ≡ is_none s && vote_disagrees same members me v x.learner
+      given None = refl
+      given (Some s) = refl
+
+      go : (t : Bool)
+          → (cond t (cast_or_show same members me sender (given_by x.rows.snapshot v.slot) v o) (refuse me sender v.ballot o)).disagrees
+          ≡ t && (is_none (given_by x.rows.snapshot v.slot) && vote_disagrees same members me v x.learner)
+      go true = given (given_by x.rows.snapshot v.slot)
       go false = refl
   packet_is me sender (Accepted v) x = refl
   packet_is me sender (Nack b q) x = refl
   packet_is me sender (Forward es) x = forward_is same ok members me es (record (begun x) { node = saw (Forward es) x }) refl
   packet_is me sender (Learned s e) x = refl
-  packet_is me sender (Ask first) x = refl
+  packet_is me sender (Ask first) x = go (given_by x.rows.snapshot first)
+    where
+      go : (s : Option taken.Snapshot) → (answer_ask me sender first s (record (begun x) { node = saw (Ask first) x })).disagrees ≡ false
+      go None = refl
+      go (Some s) = refl
+  packet_is me sender (Snapshot s) x = refl
 
   event_is : (e : Event B) (x : NodeState B) → (on_event same members e (begun x)).disagrees ≡ finds_other same members (owner e) e x
   event_is (Take n t body) x = go (takes x)

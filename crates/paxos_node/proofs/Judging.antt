@@ -1,22 +1,22 @@
 -- A node treats Prepare and Accept as its acceptor does: what is applied at the end changes no row, and sends nothing.
-use Rattle.std.proofs.Common.{◌≡◌, ℕ, suc, Bool, true, false, cond, refl, List, [], ◌∷◌}
+use Rattle.std.proofs.Common.{◌≡◌, ℕ, suc, Bool, true, false, cond, refl, Option, Some, None, List, [], ◌∷◌}
 use Rattle.std.proofs.lemmas.Bool.{cond_both}
 use Rattle.paxos_packets.specs.Packet.{packet}
-use Rattle.paxos_packets.specs.Vote.{votes_from}
+use Rattle.paxos_packets.specs.Snapshot.{Snapshot}
 use Rattle.paxos_packets.specs.declared.ballot.Ballot.{Ballot}
 use Rattle.paxos_packets.specs.declared.entry.Entry.{Entry}
-use Rattle.paxos_packets.specs.declared.packet.Kind.TheVariants.{Prepare, Promise, Accept, Accepted}
+use Rattle.paxos_packets.specs.declared.packet.Kind.TheVariants.{Prepare, Accept}
 use Rattle.paxos_packets.specs.declared.packet.Packet.{Packet}
 use Rattle.paxos_packets.specs.declared.rows.Rows.{Rows}
 use Rattle.paxos_packets.specs.declared.vote.Vote.{Vote}
 use Rattle.paxos_acceptor.specs.declared.verdict.Verdict.{Verdict}
-use Rattle.paxos_acceptor.specs.declared.verdict.Answer.TheVariants.{ToSender, ToOthers}
-use Rattle.paxos_acceptor.specs.Acceptor.{may_promise, may_accept, adopted, answers, judged, refused}
-use Rattle.paxos_packets.specs.Rows.{promise_change, vote_change}
+use Rattle.paxos_acceptor.specs.declared.verdict.Answer.TheVariants.{ToSender}
+use Rattle.paxos_acceptor.specs.Acceptor.{may_promise, may_accept, adopted, answers, judged, refused, promise_of, given_by, cast_or_shown}
+use Rattle.paxos_packets.specs.Rows.{promise_change}
 use Rattle.paxos_learner.specs.Learner.{run_from}
 use Rattle.paxos_planning.specs.Node.{NodeState, Plan, log_length}
-use Rattle.paxos_planning.specs.Plan.{begun, send, promise, cast}
-use Rattle.paxos_planning.specs.Replies.{saw, refuse}
+use Rattle.paxos_planning.specs.Plan.{begun, send, promise}
+use Rattle.paxos_planning.specs.Replies.{saw, refuse, cast_or_show}
 use Rattle.paxos_node.specs.Applying.{note, ends, go_down, apply_all, settle}
 use Rattle.paxos_node.specs.Laws.{IsJudged, JudgesAsAnAcceptor}
 
@@ -56,8 +56,8 @@ judges {B} = (prepares, accepts)
         t = at x (packet sender (Prepare b first) me)
 
         of : (c : Bool) → Gives members me sender x.rows
-            (cond c (record { change = promise_change b; answer = ToSender (Promise b (votes_from first x.rows.votes)) }) (refused x.rows b))
-            (cond c (send (packet me (Promise b (votes_from first x.rows.votes)) sender ∷ []) (promise b t)) (refuse me sender b t))
+            (cond c (record { change = promise_change b; answer = ToSender (promise_of x.rows b first) }) (refused x.rows b))
+            (cond c (send (packet me (promise_of x.rows b first) sender ∷ []) (promise b t)) (refuse me sender b t))
         of true = record { change = refl; packets = refl; now = refl }
         of false = record { change = refl; packets = refl; now = refl }
 
@@ -70,8 +70,13 @@ judges {B} = (prepares, accepts)
         t : Plan B
         t = at x (packet sender (Accept v) me)
 
+        given : (s : Option Snapshot)
+            → Gives members me sender x.rows (cast_or_shown s v) (cast_or_show same members me sender s v t)
+        given None = record { change = refl; packets = refl; now = refl }
+        given (Some s) = record { change = refl; packets = refl; now = refl }
+
         of : (c : Bool) → Gives members me sender x.rows
-            (cond c (record { change = vote_change v; answer = ToOthers (Accepted v) }) (refused x.rows v.ballot))
-            (cond c (cast same members me v t) (refuse me sender v.ballot t))
-        of true = record { change = refl; packets = refl; now = refl }
+            (cond c (cast_or_shown (given_by x.rows.snapshot v.slot) v) (refused x.rows v.ballot))
+            (cond c (cast_or_show same members me sender (given_by x.rows.snapshot v.slot) v t) (refuse me sender v.ballot t))
+        of true = given (given_by x.rows.snapshot v.slot)
         of false = record { change = refl; packets = refl; now = refl }

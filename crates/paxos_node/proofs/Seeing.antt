@@ -6,17 +6,19 @@ use Rattle.paxos_packets.specs.Members.{is_majority}
 use Rattle.paxos_packets.specs.Ballot.{below, same_ballot}
 use Rattle.paxos_packets.specs.Packet.{packet}
 use Rattle.paxos_packets.specs.Rows.{raised}
-use Rattle.paxos_packets.specs.Vote.{votes_from}
+use Rattle.paxos_packets.specs.Snapshot.{floor_in}
+use Rattle.paxos_packets.specs.Snapshot as taken
 use Rattle.paxos_packets.specs.declared.ballot.Ballot.{Ballot}
 use Rattle.paxos_packets.specs.declared.entry.Entry.{Entry}
 use Rattle.paxos_packets.specs.declared.packet.Kind.{Kind}
-use Rattle.paxos_packets.specs.declared.packet.Kind.TheVariants.{Prepare, Promise, Accept, Accepted, Nack, Forward, Ask, Learned}
+use Rattle.paxos_packets.specs.declared.packet.Kind.TheVariants.{Prepare, Promise, Accept, Accepted, Nack, Forward, Ask, Learned, Snapshot}
 use Rattle.paxos_packets.specs.declared.rows.Rows.{Rows}
 use Rattle.paxos_packets.specs.declared.vote.Vote.{Vote}
-use Rattle.paxos_acceptor.specs.Acceptor.{may_promise, may_accept}
+use Rattle.paxos_acceptor.specs.Acceptor.{may_promise, may_accept, promise_of, given_by}
 use Rattle.paxos_proposer.specs.declared.promises.CountedPromise.{CountedPromise}
 use Rattle.paxos_proposer.specs.Role.{Role, Idle, Preparing, Leading}
 use Rattle.paxos_proposer.specs.Proposer.{round_of, slot_end, next_vote, new_ballot, is_leading, step_down, nacked}
+use Rattle.paxos_proposer.specs.Promises.{lowest}
 use Rattle.paxos_proposer.specs.Reports.{is_counted, reports, called_for}
 use Rattle.paxos_learner.specs.Learner.{run_from}
 use Rattle.paxos_node.specs.declared.event.Event.{Event}
@@ -24,7 +26,7 @@ use Rattle.paxos_node.specs.declared.event.Event.TheVariants.{Take, Tick, Start,
 use Rattle.paxos_planning.specs.Node.{Plan, log_length}
 use Rattle.paxos_planning.specs.Plan.{with_role, with_pending, begun, send, promise, cast}
 use Rattle.paxos_planning.specs.Proposals.{offer, propose_as, propose, propose_all, lead, stands, propose_new, propose_each, forwarded, push}
-use Rattle.paxos_planning.specs.Replies.{round_in, saw, refuse, count_promise, on_promise_as, on_packet}
+use Rattle.paxos_planning.specs.Replies.{round_in, saw, refuse, cast_or_show, answer_ask, count_promise, on_promise_as, on_packet}
 use Rattle.paxos_node.specs.Applying.{started, note, ends, go_down, apply_all, settle}
 use Rattle.paxos_node.specs.Events.{takes, with_item, on_take, has_room, suspected, new_lost}
 use Rattle.paxos_planning.specs.Ticking.{again, on_tick}
@@ -111,31 +113,45 @@ module _ {B : Type 0} (same : B → B → Bool) (members n : ℕ) where
       proposes_all (called_for first vs) (record t { node = with_role (Leading b first []) t.node })
       (record { promised = s.promised; under_way = l })
 
-  promises_as : (from : ℕ) (b : Ballot) (votes : List (Vote B)) (r : Role B) (t : Plan B) → round_under_way r ≤ t.node.proposer.seen → S t
-      → S (on_promise_as same members n from b votes r t)
-  promises_as from b votes Idle t l s = s
-  promises_as from b votes (Leading d next table) t l s = s
-  promises_as from b votes (Preparing d first cs) t l s =
-      cond_both (same_ballot b d && not (is_counted cs from)) (count_promise same members n d first more t) t (λ u. S u)
-      (λ e. cond_both (is_majority members (is_counted more)) (push same members n (lead same members n d first (reports more) t))
+  promises_as : (from : ℕ) (b : Ballot) (floor : ℕ) (votes : List (Vote B)) (r : Role B) (t : Plan B)
+      → round_under_way r ≤ t.node.proposer.seen → S t → S (on_promise_as same members n from b floor votes r t)
+  promises_as from b floor votes Idle t l s = s
+  promises_as from b floor votes (Leading d next table) t l s = s
+  promises_as from b floor votes (Preparing d first cs) t l s =
+      cond_both (same_ballot b d && not (is_counted cs from)) (count_promise same members n d first (floor_in t.node.rows.snapshot) more t) t
+      (λ u. S u)
+      (λ e. cond_both (is_majority members (is_counted more)) (push same members n (lead same members n d low (reports more) t))
       (record t { node = with_role (Preparing d first more) t.node }) (λ u. S u)
-      (λ m. pushes (lead same members n d first (reports more) t) (leads d first (reports more) t l s))
+      (λ m. pushes (lead same members n d low (reports more) t) (leads d low (reports more) t l s))
       (λ m. record { promised = s.promised; under_way = l }))
       (λ e. s)
     where
       more : List (CountedPromise B)
-      more = cs ++ record { node = from; votes = votes } ∷ []
+      more = cs ++ record { node = from; floor = floor; votes = votes } ∷ []
+
+      low : ℕ
+      low = lowest first (floor_in t.node.rows.snapshot) more
+
+  shows : (from : ℕ) (k : Option taken.Snapshot) (v : Vote B) (t : Plan B) → v.ballot.round ≤ t.node.proposer.seen → S t
+      → S (cast_or_show same members n from k v t)
+  shows from None v t l s = casts v t l s
+  shows from (Some k) v t l s = record { promised = s.promised; under_way = s.under_way }
+
+  asks : (from first : ℕ) (k : Option taken.Snapshot) (t : Plan B) → S t → S (answer_ask n from first k t)
+  asks from first None t s = record { promised = s.promised; under_way = s.under_way }
+  asks from first (Some k) t s = record { promised = s.promised; under_way = s.under_way }
 
   packets : (from : ℕ) (kind : Kind B) (t : Plan B) → round_in kind ≤ t.node.proposer.seen → S t → S (on_packet same members n from kind t)
   packets from (Prepare b first) t l s =
       cond_both (may_promise t.node.rows.promised b)
-      (send (packet n (Promise b (votes_from first t.node.rows.votes)) from ∷ []) (promise b t)) (refuse n from b t) (λ u. S u)
+      (send (packet n (promise_of t.node.rows b first) from ∷ []) (promise b t)) (refuse n from b t) (λ u. S u)
       (λ e. let d = promised b t l s in record { promised = d.promised; under_way = d.under_way })
       (λ e. record { promised = s.promised; under_way = s.under_way })
-  packets from (Promise b votes) t l s = promises_as from b votes t.node.proposer.role t s.under_way s
+  packets from (Promise b floor votes) t l s = promises_as from b floor votes t.node.proposer.role t s.under_way s
   packets from (Accept v) t l s =
-      cond_both (may_accept t.node.rows.promised v.ballot) (cast same members n v t) (refuse n from v.ballot t) (λ u. S u)
-      (λ e. casts v t l s) (λ e. record { promised = s.promised; under_way = s.under_way })
+      cond_both (may_accept t.node.rows.promised v.ballot) (cast_or_show same members n from (given_by t.node.rows.snapshot v.slot) v t)
+      (refuse n from v.ballot t) (λ u. S u)
+      (λ e. shows from (given_by t.node.rows.snapshot v.slot) v t l s) (λ e. record { promised = s.promised; under_way = s.under_way })
   packets from (Accepted v) t l s = record { promised = s.promised; under_way = s.under_way }
   packets from (Nack b p) t l s =
       let d = nacked_le b p t.node.proposer.role in
@@ -143,7 +159,8 @@ module _ {B : Type 0} (same : B → B → Bool) (members n : ℕ) where
       record { promised = s.promised; under_way = omega arith }
   packets from (Forward es) t l s =
       cond_both (is_leading t.node.proposer.role) (propose_each same members n es t) t (λ u. S u) (λ d. proposes_each es t s) (λ d. s)
-  packets from (Ask first) t l s = record { promised = s.promised; under_way = s.under_way }
+  packets from (Ask first) t l s = asks from first (given_by t.node.rows.snapshot first) t s
+  packets from (Snapshot k) t l s = s
   packets from (Learned k e) t l s = record { promised = s.promised; under_way = s.under_way }
 
   starting : (t : Plan B) → S t → S (on_start members n t)

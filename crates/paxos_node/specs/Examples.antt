@@ -38,7 +38,7 @@ abbrev pub asked : Plan ℕ
 asked = after (Start 1) first_node
 
 abbrev pub led : Plan ℕ
-led = after (Deliver (packet 2 (Promise (ballot 1 1) []) 1)) asked.node
+led = after (Deliver (packet 2 (Promise (ballot 1 1) 0 []) 1)) asked.node
 
 -- node 1 with this promise
 abbrev pub promised_to : ℕ → ℕ → NodeState ℕ

@@ -2,7 +2,7 @@ pub mod Applying
 pub mod Events
 pub mod Examples
 pub mod Laws
-pub mod Steps
+pub mod Moved
 pub mod Fault
 pub mod Adopting
 pub mod Outcome

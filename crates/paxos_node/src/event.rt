@@ -1,3 +1,5 @@
+//! The events of nodes, each of which belongs to one of them.
+
 ghost use Rattle.std.specs.Prelude.{◌≡◌, option_map};
 ghost use Rattle.paxos_node.specs.Events.{owner, packet_in};
 

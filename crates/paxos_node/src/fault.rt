@@ -1,3 +1,5 @@
+//! The faults of a node, and their numbers.
+
 ghost use Rattle.std.specs.Prelude.{◌≡◌};
 ghost use Rattle.paxos_node.specs.Fault.{number_of};
 

@@ -1,3 +1,5 @@
+//! The moves of an outcome: the part that is neither committed, sent nor applied.
+
 use paxos_learner::News;
 use paxos_packets::Entry;
 use paxos_proposer::Move;
@@ -17,9 +19,9 @@ pub struct Moves<B> {
 }
 
 impl<B> Model for Moves<B> {
-    ghost use Rattle.paxos_node.specs.Steps.{Steps};
+    ghost use Rattle.paxos_node.specs.Moved.{Moved};
 
-    ghost Value = { Steps B };
+    ghost Value = { Moved B };
 
     ghost view = { λ m. record { proposer = m.proposer.items; news = m.news.items; added = m.added; front = m.front; log = m.log } };
 }

@@ -1,5 +1,8 @@
+//! The node: how it begins with its rows, what it shows, and how it adopts an outcome.
+
 ghost use Rattle.std.specs.Prelude.{◌≡◌, ◌↔◌, ◌<◌, ◌≤◌, ◌+◌, ◌^◌, vec_len, vec_capacity, true, false, nat_lt, length, IsOk, IfOk, IfErr, OnOk, OnErr, IsOkUnless, Err, option_copied};
 ghost use Rattle.paxos_node.specs.declared.fault.NodeFault.TheVariants.{Memory, Rounds};
+ghost use Rattle.paxos_packets.specs.Snapshot.{floor_in};
 ghost use Rattle.paxos_packets.specs.Vote.{votes_from};
 ghost use Rattle.paxos_acceptor.specs.Acceptor as accepting;
 ghost use Rattle.paxos_node.specs.Adopting.{adopted, Fits};
@@ -24,7 +27,7 @@ use crate::packets::Packets;
 use crate::waiting::{apply_all, wait};
 use paxos_acceptor::Acceptor;
 use paxos_learner::Learner;
-use paxos_packets::{Ballot, Body, Change, Entries, Entry, Members, Rows, Vote, Votes};
+use paxos_packets::{Ballot, Body, Change, Entries, Entry, Floor, Members, Rows, Vote, Votes};
 use paxos_planning::{Draft, Parts};
 use paxos_proposer::Proposer;
 use replica_machine::Roll;
@@ -228,6 +231,13 @@ impl<B> Node<B> {
         ensures { result ≡ self.now.state.rows.promised }
     {
         self.acceptor.promised()
+    }
+
+    /// Returns the floor, up to which the node's snapshot gives its log.
+    pub fn floor(&self) -> Floor
+        ensures { result ≡ floor_in self.now.state.rows.snapshot }
+    {
+        self.acceptor.floor()
     }
 
     /// Returns the ballot that a Start would begin, whose round is one above the greatest that it saw, or `Rounds` if no round is left.

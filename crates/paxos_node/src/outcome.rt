@@ -1,3 +1,5 @@
+//! Outcomes: the change, the packets, the applied entries and the moves of one event.
+
 ghost use Rattle.std.specs.Prelude.{◌≡◌, option_copied};
 ghost use Rattle.paxos_node.specs.Outcome.{outcome_with};
 ghost use Rattle.paxos_node.specs.Plans.{unchanged};

@@ -1,3 +1,5 @@
+//! Lists of packets, such as an outcome has.
+
 ghost use Rattle.std.specs.Prelude.{◌≡◌};
 
 use paxos_packets::Packet;

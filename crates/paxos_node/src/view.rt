@@ -1,3 +1,5 @@
+//! The values by which contracts speak of a node: whether it was opened, with which rows, and what it sent.
+
 use crate::node::Node;
 use crate::packets::Packets;
 use paxos_packets::Rows;

@@ -3,3 +3,4 @@ pub mod Meeting
 pub mod Ascending
 pub mod Placing
 pub mod Behind
+pub mod Floors

@@ -6,5 +6,6 @@ pub mod List
 pub mod Members
 pub mod Packet
 pub mod Rows
+pub mod Snapshot
 pub mod Transport
 pub mod Vote

@@ -7,9 +7,10 @@ use Rattle.paxos_packets.specs.Ballot.{same_ballot, ballot_same, ballot_sound}
 use Rattle.paxos_packets.specs.Body.{IsEquality, number_same, numbers_joined}
 use Rattle.paxos_packets.specs.Entry.{same_entry, entry_equality, entries_equality}
 use Rattle.paxos_packets.specs.Members.{others}
+use Rattle.paxos_packets.specs.Snapshot.{same_snapshot, snapshot_same, snapshot_sound}
 use Rattle.paxos_packets.specs.Vote.{same_vote, vote_equality, votes_equality}
 use Rattle.paxos_packets.specs.declared.packet.Kind.{Kind}
-use Rattle.paxos_packets.specs.declared.packet.Kind.TheVariants.{Prepare, Promise, Accept, Accepted, Nack, Forward, Learned, Ask}
+use Rattle.paxos_packets.specs.declared.packet.Kind.TheVariants.{Prepare, Promise, Accept, Accepted, Nack, Forward, Learned, Ask, Snapshot}
 use Rattle.paxos_packets.specs.declared.packet.Packet.{Packet}
 
 abbrev pub packet : {B : Type 0} → ℕ → Kind B → ℕ → Packet B
@@ -23,13 +24,14 @@ to_others members me kind = map (packet me kind) (others me members)
 
 abbrev pub same_kind : {B : Type 0} → (B → B → Bool) → Kind B → Kind B → Bool
 same_kind same (Prepare b f) (Prepare c g) = same_ballot b c && (f == g)
-same_kind same (Promise b vs) (Promise c ws) = same_ballot b c && pointwise (same_vote same) vs ws
+same_kind same (Promise b f vs) (Promise c g ws) = same_ballot b c && ((f == g) && pointwise (same_vote same) vs ws)
 same_kind same (Accept v) (Accept w) = same_vote same v w
 same_kind same (Accepted v) (Accepted w) = same_vote same v w
 same_kind same (Nack b p) (Nack c q) = same_ballot b c && same_ballot p q
 same_kind same (Forward ds) (Forward es) = pointwise (same_entry same) ds es
 same_kind same (Learned s d) (Learned t e) = (s == t) && same_entry same d e
 same_kind same (Ask f) (Ask g) = f == g
+same_kind same (Snapshot s) (Snapshot t) = same_snapshot s t
 same_kind same _ _ = false
 
 abbrev pub same_packet : {B : Type 0} → (B → B → Bool) → Packet B → Packet B → Bool
@@ -41,13 +43,15 @@ kind_equality {B} same ok = record { reflexive = all; sound = equal }
   where
     all : (x : Kind B) → same_kind same x x ≡ true
     all (Prepare b f) = and_from _ _ (ballot_same b) (number_same f)
-    all (Promise b vs) = and_from _ _ (ballot_same b) ((votes_equality same ok).reflexive vs)
+    all (Promise b f vs) =
+        and_from _ _ (ballot_same b) (and_from _ _ (number_same f) ((votes_equality same ok).reflexive vs))
     all (Accept v) = (vote_equality same ok).reflexive v
     all (Accepted v) = (vote_equality same ok).reflexive v
     all (Nack b p) = and_from _ _ (ballot_same b) (ballot_same p)
     all (Forward es) = (entries_equality same ok).reflexive es
     all (Learned s e) = and_from _ _ (number_same s) ((entry_equality same ok).reflexive e)
     all (Ask f) = number_same f
+    all (Snapshot s) = snapshot_same s
 
     equal : (x y : Kind B) → same_kind same x y ≡ true → x ≡ y
     equal (Prepare b f) (Prepare c g) h =
@@ -55,11 +59,12 @@ kind_equality {B} same ok = record { reflexive = all; sound = equal }
         let p = ballot_sound b c k.0 in
         let q = eqb-true f g k.1 in
         λ i. Prepare (p i) (q i)
-    equal (Promise b vs) (Promise c ws) h =
-        let k = and_parts (same_ballot b c) (pointwise (same_vote same) vs ws) h in
+    equal (Promise b f vs) (Promise c g ws) h =
+        let k = and_parts (same_ballot b c) ((f == g) && pointwise (same_vote same) vs ws) h in
         let p = ballot_sound b c k.0 in
-        let q = (votes_equality same ok).sound vs ws k.1 in
-        λ i. Promise (p i) (q i)
+        let l = numbers_joined f g (pointwise (same_vote same) vs ws) k.1 in
+        let q = (votes_equality same ok).sound vs ws l.1 in
+        λ i. Promise (p i) (l.0 i) (q i)
     equal (Accept v) (Accept w) h = let p = (vote_equality same ok).sound v w h in λ i. Accept (p i)
     equal (Accepted v) (Accepted w) h = let p = (vote_equality same ok).sound v w h in λ i. Accepted (p i)
     equal (Nack b p) (Nack c q) h =
@@ -73,6 +78,7 @@ kind_equality {B} same ok = record { reflexive = all; sound = equal }
         let p = (entry_equality same ok).sound d e k.1 in
         λ i. Learned (k.0 i) (p i)
     equal (Ask f) (Ask g) h = let p = eqb-true f g h in λ i. Ask (p i)
+    equal (Snapshot s) (Snapshot t) h = let p = snapshot_sound s t h in λ i. Snapshot (p i)
     equal _ _ h = cc
 
 pub packet_equality : {B : Type 0} (same : B → B → Bool) → IsEquality same → IsEquality (same_packet same)

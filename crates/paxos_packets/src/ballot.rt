@@ -1,3 +1,5 @@
+//! Ballots and their order.
+
 ghost use Rattle.std.specs.Prelude.{◌≡◌};
 ghost use Rattle.paxos_packets.specs.Ballot.{below};
 

@@ -1,3 +1,5 @@
+//! The trait of bodies, and the fault of a copy.
+
 ghost use Rattle.std.specs.Prelude.{◌≡◌, Bool, true, IfOk};
 
 use std::alloc::{AllocError, AllocFailed, Global};

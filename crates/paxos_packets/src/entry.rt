@@ -1,3 +1,5 @@
+//! Entries and lists of them, with their copies and equality.
+
 ghost use Rattle.std.specs.Prelude.{◌≡◌, [], ◌∷◌, ◌++◌, IfOk, OnOk, OnErr};
 ghost use Rattle.paxos_packets.specs.Entry.{same_entry, entry_equality, entries_equality};
 ghost use Rattle.std.specs.Cmp.Lexicographic.{pointwise};

@@ -1,9 +1,11 @@
-ghost use Rattle.std.specs.Prelude.{◌≡◌, ◌≤◌, length, IfOk, OnOk, option_copied};
+//! A table of votes by slot, which has room for votes before they are committed.
+
+ghost use Rattle.std.specs.Prelude.{◌≡◌, ◌≤◌, suc, length, IfOk, OnOk, option_copied};
 ghost use Rattle.paxos_packets.specs.Vote.{IsAscending, vote_in, put_votes, votes_from};
 
 use crate::body::{Body, Memory};
 use crate::slot::Slot;
-use crate::vote::{Vote, Votes, copy_behind, find_in, put_all_in_room};
+use crate::vote::{Vote, Votes, copy_behind, find_in, forget_in, put_all_in_room};
 use std::alloc::Global;
 use std::marker::Model;
 
@@ -82,6 +84,15 @@ impl<B: Drop> KeptVotes<B> {
         ensures { self.new.votes ≡ put_votes votes self.old.votes }
     {
         put_all_in_room(&mut self.list, votes.into_vec());
+    }
+
+    /// Forgets the votes in slots up to this floor, and keeps their memory. Takes a number of steps that grows with the votes. Does not
+    /// allocate.
+    pub fn forget(&mut self, floor: Slot)
+        ensures votes { self.new.votes ≡ votes_from (suc floor) self.old.votes }
+        ensures room { self.old.room ≤ self.new.room }
+    {
+        forget_in(&mut self.list, floor.get());
     }
 }
 

@@ -13,6 +13,7 @@ mod packet;
 mod rows;
 mod shared;
 mod slot;
+mod snapshot;
 mod transport;
 mod vote;
 
@@ -24,6 +25,7 @@ pub use members::{Members, NodeSet};
 pub use packet::{Kind, Packet};
 pub use rows::{Change, Rows};
 pub use shared::Shared;
-pub use slot::Slot;
+pub use slot::{Floor, Slot};
+pub use snapshot::Snapshot;
 pub use transport::Transport;
 pub use vote::{Vote, Votes};

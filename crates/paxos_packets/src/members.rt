@@ -1,3 +1,5 @@
+//! Members of a cluster, sets of nodes, and majorities.
+
 ghost use Rattle.std.specs.Prelude.{◌≡◌, ℕ, ◌<◌, ◌≤◌, [], ◌∷◌, ◌++◌, length, ◌&&◌, ◌||◌, ◌==◌, ◌↔◌, nat_lt, Bool};
 ghost use Rattle.std.specs.Prelude.{false, IsTrue, IsSome, IfSome};
 ghost use Rattle.paxos_packets.specs.Members.{IsMajority, is_majority, is_member, others, is_in, no_nodes, set_with};

@@ -1,9 +1,12 @@
+//! Packets and their kinds, with their copies and equality.
+
 ghost use Rattle.paxos_packets.specs.Packet.{same_kind, same_packet, kind_equality, packet_equality};
 
 use crate::ballot::Ballot;
 use crate::body::{Body, Memory};
 use crate::entry::{Entries, Entry};
-use crate::slot::Slot;
+use crate::slot::{Floor, Slot};
+use crate::snapshot::Snapshot;
 use crate::vote::{Vote, Votes};
 use std::alloc::Global;
 
@@ -11,21 +14,47 @@ use std::alloc::Global;
 #[derive(Debug, Drop)]
 pub enum Kind<B> {
     /// Asks for a promise of the ballot, and for the votes from the slot `first` on (1 to 2^40).
-    Prepare { ballot: Ballot, first: u64 },
-    /// Promises the ballot, and reports votes.
-    Promise { ballot: Ballot, votes: Votes<B> },
+    Prepare {
+        ballot: Ballot,
+        first: u64,
+    },
+    /// Promises the ballot, and reports votes. All of them are for slots above `floor`, up to which the sender's log is in its snapshot; 0
+    /// without one.
+    Promise {
+        ballot: Ballot,
+        floor: Floor,
+        votes: Votes<B>,
+    },
     /// Asks for this vote.
-    Accept { vote: Vote<B> },
+    Accept {
+        vote: Vote<B>,
+    },
     /// This vote was cast.
-    Accepted { vote: Vote<B> },
+    Accepted {
+        vote: Vote<B>,
+    },
     /// Refuses the ballot, since another is promised.
-    Nack { ballot: Ballot, promised: Ballot },
+    Nack {
+        ballot: Ballot,
+        promised: Ballot,
+    },
     /// Pending entries for a leader.
-    Forward { entries: Entries<B> },
+    Forward {
+        entries: Entries<B>,
+    },
     /// The entry was learned in the slot.
-    Learned { slot: Slot, entry: Entry<B> },
+    Learned {
+        slot: Slot,
+        entry: Entry<B>,
+    },
     /// Asks for what was learned from the slot `first` on (1 to 2^40).
-    Ask { first: u64 },
+    Ask {
+        first: u64,
+    },
+    /// The sender's log up to a slot, for a member whose log ends before.
+    Snapshot {
+        snapshot: Snapshot,
+    },
 }
 
 /// What one member sends to another. A packet may be lost, repeated or overtaken, but is never altered.
@@ -58,8 +87,13 @@ impl<B: Body> Body for Kind<B> {
                 ballot: *ballot,
                 first: *first,
             },
-            Kind::Promise { ballot, votes } => Kind::Promise {
+            Kind::Promise {
+                ballot,
+                floor,
+                votes,
+            } => Kind::Promise {
                 ballot: *ballot,
+                floor: *floor,
                 votes: votes.copy(alloc)?,
             },
             Kind::Accept { vote } => Kind::Accept {
@@ -80,6 +114,9 @@ impl<B: Body> Body for Kind<B> {
                 entry: entry.copy(alloc)?,
             },
             Kind::Ask { first } => Kind::Ask { first: *first },
+            Kind::Snapshot { snapshot } => Kind::Snapshot {
+                snapshot: snapshot.copy(alloc)?,
+            },
         })
     }
 
@@ -93,12 +130,17 @@ impl<B: Body> Body for Kind<B> {
                 },
             ) => ballot == b && first == f,
             (
-                Kind::Promise { ballot, votes },
+                Kind::Promise {
+                    ballot,
+                    floor,
+                    votes,
+                },
                 Kind::Promise {
                     ballot: b,
+                    floor: f,
                     votes: v,
                 },
-            ) => ballot == b && votes.same(v),
+            ) => ballot == b && floor == f && votes.same(v),
             (Kind::Accept { vote }, Kind::Accept { vote: v }) => vote.same(v),
             (Kind::Accepted { vote }, Kind::Accepted { vote: v }) => vote.same(v),
             (
@@ -112,6 +154,7 @@ impl<B: Body> Body for Kind<B> {
             (Kind::Learned { slot, entry }, Kind::Learned { slot: s, entry: e }) => slot == s
                 && entry.same(e),
             (Kind::Ask { first }, Kind::Ask { first: f }) => first == f,
+            (Kind::Snapshot { snapshot }, Kind::Snapshot { snapshot: s }) => snapshot.same(s),
             _ => false,
         }
     }

@@ -1,8 +1,11 @@
+//! What a node has committed, and what one event adds to it.
+
 ghost use Rattle.std.specs.Prelude.{◌≡◌, IfOk};
 ghost use Rattle.paxos_packets.specs.Rows.{bare_rows, first_rows, no_change};
 
 use crate::ballot::Ballot;
 use crate::body::{Body, Memory};
+use crate::snapshot::Snapshot;
 use crate::vote::Votes;
 use std::alloc::Global;
 
@@ -11,6 +14,8 @@ use std::alloc::Global;
 pub struct Change<B> {
     /// The new promise, or `None` if the promise stays.
     pub promised: Option<Ballot>,
+    /// The new snapshot, or `None` if there is no new one. With it, votes up to its floor are forgotten before the others are added.
+    pub snapshot: Option<Snapshot>,
     /// The votes that are added; each replaces the vote of its slot, if that has one.
     pub votes: Votes<B>,
 }
@@ -22,6 +27,8 @@ pub struct Rows<B> {
     pub boot: u64,
     /// The greatest ballot that the node has promised, if any.
     pub promised: Option<Ballot>,
+    /// What stands for the log up to a slot, its floor, if any: votes are kept above it only.
+    pub snapshot: Option<Snapshot>,
     /// For each slot, the last vote that the node cast there.
     pub votes: Votes<B>,
 }
@@ -33,6 +40,7 @@ impl<B> Change<B> {
     {
         Change {
             promised: None,
+            snapshot: None,
             votes: Votes::new(alloc),
         }
     }
@@ -53,6 +61,7 @@ impl<B> Rows<B> {
         Rows {
             boot,
             promised: None,
+            snapshot: None,
             votes: Votes::new(alloc),
         }
     }
@@ -63,9 +72,14 @@ impl<B: Body> Change<B> {
     pub fn copy(&self, alloc: Global) -> Result<Change<B>, Memory>
         ensures { IfOk result (λ copy. copy ≡ self.now) }
     {
-        let Change { promised, votes } = self;
+        let Change {
+            promised,
+            snapshot,
+            votes,
+        } = self;
         Ok(Change {
             promised: *promised,
+            snapshot: copy_snapshot(snapshot)?,
             votes: votes.copy(alloc)?,
         })
     }
@@ -79,7 +93,18 @@ impl<B: Body> Rows<B> {
         Ok(Rows {
             boot: self.boot,
             promised: self.promised,
+            snapshot: copy_snapshot(&self.snapshot)?,
             votes: self.votes.copy(alloc)?,
         })
+    }
+}
+
+// Adds a holder to the snapshot, if there is one.
+fn copy_snapshot(snapshot: &Option<Snapshot>) -> Result<Option<Snapshot>, Memory>
+    ensures { IfOk result (λ copy. copy ≡ snapshot.now) }
+{
+    match snapshot {
+        Some(snapshot) => Ok(Some(snapshot.share()?)),
+        None => Ok(None),
     }
 }

@@ -1,3 +1,5 @@
+//! Bodies that their copies share.
+
 ghost use Rattle.std.specs.Prelude.{◌≡◌, IfOk, IfErr};
 
 use crate::body::{Body, Memory};

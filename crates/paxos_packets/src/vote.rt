@@ -1,4 +1,6 @@
-ghost use Rattle.std.specs.Prelude.{◌≡◌, ◌+◌, ◌<◌, ◌≤◌, ℕ, [], ◌∷◌, ◌++◌, length, None, option_copied, is_some, is_ok};
+//! Votes and lists of them by slot: how they are found, put, copied and compared.
+
+ghost use Rattle.std.specs.Prelude.{◌≡◌, ◌+◌, ◌<◌, ◌≤◌, ℕ, suc, [], ◌∷◌, ◌++◌, length, None, option_copied, is_some, is_ok};
 ghost use Rattle.std.specs.Prelude.{IsOk, IsTrue, vec_len, vec_capacity, IfOk, IfErr, OnOk, OnErr};
 ghost use Rattle.std.specs.Cmp.Lexicographic.{pointwise};
 ghost use Rattle.paxos_packets.specs.Vote.{same_vote, vote_equality, votes_equality, IsAscending, place, vote_in};
@@ -270,4 +272,15 @@ pub(crate) fn put_all_in_room<B: Drop>(votes: &mut Vec<Vote<B>>, more: Vec<Vote<
             unreachable!()
         };
     }
+}
+
+// Forgets the votes in slots up to this floor.
+pub(crate) fn forget_in<B: Drop>(votes: &mut Vec<Vote<B>>, floor: u64)
+    requires { IsAscending votes.old.items }
+    ensures votes { votes.new.items ≡ votes_from (suc floor) votes.old.items }
+    ensures ascending { IsAscending votes.new.items }
+    ensures length { vec_len votes.new ≤ vec_len votes.old }
+    ensures capacity { vec_capacity votes.new ≡ vec_capacity votes.old }
+{
+    votes.retain(|vote| floor < vote.slot.get());
 }

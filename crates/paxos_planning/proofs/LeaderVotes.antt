@@ -28,7 +28,8 @@ use Rattle.paxos_planning.specs.Plan.{with_role}
 use Rattle.paxos_planning.specs.Proposals.{propose_all, lead}
 use Rattle.paxos_planning.specs.Replies.{on_promise_as, count_promise, on_forward}
 use Rattle.paxos_proposer.specs.declared.promises.CountedPromise.{CountedPromise}
-use Rattle.paxos_proposer.specs.Promises.{called_by, calls, and_promise_of}
+use Rattle.paxos_proposer.specs.Promises.{promised, called_by, with_promises, calls, and_promise_of, lowest}
+use Rattle.paxos_packets.specs.Snapshot.{floor_in}
 use Rattle.paxos_proposer.specs.Reports.{called_for, reports, is_counted}
 use Rattle.std.proofs.lemmas.List.{append-nil, append_assoc}
 
@@ -457,22 +458,32 @@ module _ {B : Type 0} (same : B → B → Bool) (ok : IsEquality same) (members 
         learned = λ s le. refl;
       })
 
-  pub promise_is : (sender : ℕ) (b : Ballot) (votes : List (Vote B)) (r : Role B) (o : Plan B) → o.disagrees ≡ false
-      → (on_promise_as same members me sender b votes r o).disagrees ≡ called_of same members me (log_length o.node) o.node.learner o.node.pending r (called_by members sender b votes r)
-  promise_is sender b votes Idle o none = none
-  promise_is sender b votes (Leading c next proposed) o none = none
-  promise_is sender b votes (Preparing c first promises) o none = go (same_ballot b c && not (is_counted promises sender))
+  pub promise_is : (sender : ℕ) (b : Ballot) (floor : ℕ) (votes : List (Vote B)) (r : Role B) (o : Plan B) → o.disagrees ≡ false
+      → (on_promise_as same members me sender b floor votes r o).disagrees
+      ≡ called_of same members me (log_length o.node) o.node.learner o.node.pending
+      (promised members sender b floor votes (floor_in o.node.rows.snapshot) r) (called_by members sender b floor votes (floor_in o.node.rows.snapshot) r)
+  promise_is sender b floor votes Idle o none = none
+  promise_is sender b floor votes (Leading c next proposed) o none = none
+  promise_is sender b floor votes (Preparing c first promises) o none = go (same_ballot b c && not (is_counted promises sender))
     where
-      all : List (CountedPromise B)
-      all = and_promise_of sender votes promises
+      own : ℕ
+      own = floor_in o.node.rows.snapshot
 
-      most : (m : Bool) → (cond m (push same members me (lead same members me c first (reports all) o))
+      all : List (CountedPromise B)
+      all = and_promise_of sender floor votes promises
+
+      low : ℕ
+      low = lowest first own all
+
+      most : (m : Bool) → (cond m (push same members me (lead same members me c low (reports all) o))
           (record o { node = with_role (Preparing c first all) o.node })).disagrees
-          ≡ called_of same members me (log_length o.node) o.node.learner o.node.pending (Preparing c first promises) (cond m (Some (called_for first (reports all))) None)
-      most true = lead_is c first (reports all) o none
+          ≡ called_of same members me (log_length o.node) o.node.learner o.node.pending (cond m (Leading c low []) (Preparing c first all))
+          (cond m (Some (called_for low (reports all))) None)
+      most true = lead_is c low (reports all) o none
       most false = none
 
-      go : (t : Bool) → (cond t (count_promise same members me c first all o) o).disagrees
-          ≡ called_of same members me (log_length o.node) o.node.learner o.node.pending (Preparing c first promises) (cond t (calls members first all) None)
+      go : (t : Bool) → (cond t (count_promise same members me c first own all o) o).disagrees
+          ≡ called_of same members me (log_length o.node) o.node.learner o.node.pending
+          (cond t (with_promises members c first own all) (Preparing c first promises)) (cond t (calls members first own all) None)
       go true = most (is_majority members (is_counted all))
       go false = none

@@ -18,7 +18,6 @@ use Rattle.std.specs.List.{list_any}
 use Rattle.paxos_planning.specs.declared.walking.Walk.{Walk}
 use Rattle.paxos_planning.specs.Walking.{Walked, walked_through, proposes_then, differs, walk_by, walk_on, walk_all, walk_from, proposes_other}
 use Rattle.paxos_planning.specs.Walking.{called_votes, slot_after, called_other, called_of}
-use Rattle.paxos_proposer.specs.declared.promises.CountedPromise.{CountedPromise}
 use Rattle.paxos_proposer.specs.Reports.{called_in, called_for, past_reports, entry_or_noop, best}
 
 -- one vote
@@ -173,11 +172,11 @@ module _ {B : Type 0} (votes : List (Vote B)) where
 -- a member that a promise makes lead
 
 pub called_is : {B : Type 0} (same : B → B → Bool) (members me n : ℕ) (l : LearnerState B) (pending : List (Entry B)) (r : Role B)
-    (calls : Option (List (Entry B))) (b : Ballot) (first : ℕ) (votes : List (Vote B)) (promises : List (CountedPromise B)) (next : ℕ) (other : Bool)
-    → Some (called_for first votes) ≡ calls → r ≡ Preparing b first promises → next ≡ slot_after first (called_for first votes)
+    (calls : Option (List (Entry B))) (b : Ballot) (first : ℕ) (votes : List (Vote B)) (next : ℕ) (other : Bool)
+    → Some (called_for first votes) ≡ calls → r ≡ Leading b first [] → next ≡ slot_after first (called_for first votes)
     → other ≡ called_other same members me b l first (called_for first votes)
     → called_of same members me n l pending r calls
     ≡ (walk_all same members me n b (called_votes b first (called_for first votes)) l pending (walk_from next other)).other
-called_is {B} same members me n l pending r calls b first votes promises next other c p q o =
+called_is {B} same members me n l pending r calls b first votes next other c p q o =
     (λ i. called_of same members me n l pending (p i) (sym c i))
     ∙ (λ i. (walk_all same members me n b (called_votes b first (called_for first votes)) l pending (walk_from (sym q i) (sym o i))).other)

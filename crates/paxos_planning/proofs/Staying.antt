@@ -1,7 +1,7 @@
 -- The owner of a proposer and of a learner stays as it is.
 use Rattle.std.proofs.Common.{◌≡◌, List, [], ◌∷◌, ◌∙◌, refl}
 use Rattle.paxos_proposer.specs.declared.moves.Move.{Move}
-use Rattle.paxos_proposer.specs.declared.moves.Move.TheVariants.{Saw, Started, Promised, Nacked, SteppedDown, Submitted}
+use Rattle.paxos_proposer.specs.declared.moves.Move.TheVariants.{Saw, Started, Promised, Nacked, SteppedDown, Submitted, Raised}
 use Rattle.paxos_proposer.specs.Moves.{after_move, after_moves}
 use Rattle.paxos_proposer.specs.State as proposing
 use Rattle.paxos_learner.specs.declared.hearing.News.{News}
@@ -11,11 +11,12 @@ use Rattle.paxos_learner.specs.Learner as learning
 
 me_one : {B : Type 0} (m : Move B) (s : proposing.State B) → (after_move m s).me ≡ s.me
 me_one (Saw round) s = refl
-me_one (Started first votes) s = refl
-me_one (Promised node b votes) s = refl
+me_one (Started first floor votes) s = refl
+me_one (Promised node b floor votes own) s = refl
 me_one (Nacked b p) s = refl
 me_one (SteppedDown b) s = refl
 me_one (Submitted e) s = refl
+me_one (Raised floor) s = refl
 
 pub me_stays : {B : Type 0} (ms : List (Move B)) (s : proposing.State B) → (after_moves ms s).me ≡ s.me
 me_stays [] s = refl
@@ -23,11 +24,12 @@ me_stays (m ∷ ms) s = me_stays ms (after_move m s) ∙ me_one m s
 
 members_one : {B : Type 0} (m : Move B) (s : proposing.State B) → (after_move m s).members ≡ s.members
 members_one (Saw round) s = refl
-members_one (Started first votes) s = refl
-members_one (Promised node b votes) s = refl
+members_one (Started first floor votes) s = refl
+members_one (Promised node b floor votes own) s = refl
 members_one (Nacked b p) s = refl
 members_one (SteppedDown b) s = refl
 members_one (Submitted e) s = refl
+members_one (Raised floor) s = refl
 
 pub members_stay : {B : Type 0} (ms : List (Move B)) (s : proposing.State B) → (after_moves ms s).members ≡ s.members
 members_stay [] s = refl

@@ -93,10 +93,10 @@ plan_with_effects k other e =
       disagrees = other;
     }
 
--- it begins its next ballot, in which it reports these votes
-abbrev pub with_prepared : {B : Type 0} → ℕ → ℕ → List (Vote B) → Plan B → Plan B
-with_prepared me first votes o =
-    record o { node = record o.node { proposer = prepared me (own_ballot me o.node.proposer) first votes o.node.proposer } }
+-- it begins its next ballot, in which it reports its floor and these votes
+abbrev pub with_prepared : {B : Type 0} → ℕ → ℕ → ℕ → List (Vote B) → Plan B → Plan B
+with_prepared me first floor votes o =
+    record o { node = record o.node { proposer = prepared me (own_ballot me o.node.proposer) first floor votes o.node.proposer } }
 
 -- the promise is committed
 abbrev pub committing : {B : Type 0} → Ballot → Plan B → Plan B

@@ -1,6 +1,7 @@
 -- Start: a ballot above all that a node saw, which it has seen then (docs/CONSENSUS.md, "Events"; Lamport 2001, section 2.2, phase 1 (a)).
 use Rattle.std.specs.Prelude.{ℕ, suc, max, Bool, not, ◌++◌, if◌then◌else◌}
 use Rattle.paxos_packets.specs.Packet.{to_others}
+use Rattle.paxos_packets.specs.Snapshot.{floor_in}
 use Rattle.paxos_packets.specs.Vote.{votes_from}
 use Rattle.paxos_packets.specs.declared.ballot.Ballot.{Ballot}
 use Rattle.paxos_packets.specs.declared.packet.Kind.TheVariants.{Prepare}
@@ -14,7 +15,10 @@ begin members me b first o =
     record o {
       node = record o.node {
         rows = with_promise b o.node.rows;
-        proposer = record { role = asking me b first (votes_from first o.node.rows.votes); seen = max o.node.proposer.seen b.round };
+        proposer = record {
+          role = asking me b first (floor_in o.node.rows.snapshot) (votes_from first o.node.rows.votes);
+          seen = max o.node.proposer.seen b.round;
+        };
       };
       change = and_promise b o.change;
       packets = o.packets ++ to_others members me (Prepare b first);

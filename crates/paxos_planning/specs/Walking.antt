@@ -16,7 +16,8 @@ use Rattle.paxos_planning.specs.Parts.{Whole}
 use Rattle.paxos_planning.specs.declared.walking.Lead.{Lead}
 use Rattle.paxos_planning.specs.declared.walking.Earlier.{Earlier}
 use Rattle.paxos_planning.specs.declared.walking.Earlier.TheVariants.{Proposed, Called}
-use Rattle.paxos_proposer.specs.Promises.{called_by}
+use Rattle.paxos_packets.specs.Snapshot.{floor_in}
+use Rattle.paxos_proposer.specs.Promises.{promised, called_by}
 use Rattle.paxos_proposer.specs.Reports.{called_for}
 use Rattle.paxos_planning.specs.Node.{NodeState, log_length}
 use Rattle.paxos_planning.specs.declared.walking.Walk.{Walk}
@@ -81,7 +82,7 @@ proposes_other same members me applied l (Preparing b first promises) es = false
 proposes_other same members me applied l (Leading b next proposed) es =
     (walk_all same members me applied b (behind applied proposed) l es (walk_from next false)).other
 
--- what a promise calls for is proposed first, in the slots from the first one that was asked for on: its votes, the slot after them, and
+-- what a promise calls for is proposed first, in the slots from the one on that it makes the member lead from: its votes, the slot after them, and
 -- whether one disagrees
 
 abbrev pub called_votes : {B : Type 0} → Ballot → ℕ → List (Entry B) → List (Vote B)
@@ -102,16 +103,19 @@ leads_to_other same members me applied l b first called pending =
     (walk_all same members me applied b (called_votes b first called) l pending
     (walk_from (slot_after first called) (called_other same members me b l first called))).other
 
+-- by the role after the promise, and what it calls for
 abbrev pub called_of : {B : Type 0} → (B → B → Bool) → ℕ → ℕ → ℕ → LearnerState B → List (Entry B) → Role B → Option (List (Entry B)) → Bool
 called_of same members me applied l pending r None = false
 called_of same members me applied l pending Idle (Some called) = false
-called_of same members me applied l pending (Preparing b first promises) (Some called) =
-    leads_to_other same members me applied l b first called pending
-called_of same members me applied l pending (Leading b next proposed) (Some called) = false
+called_of same members me applied l pending (Preparing b first promises) (Some called) = false
+called_of same members me applied l pending (Leading b next proposed) (Some called) =
+    leads_to_other same members me applied l b next called pending
 
-abbrev pub promise_other : {B : Type 0} → (B → B → Bool) → ℕ → ℕ → ℕ → Ballot → List (Vote B) → NodeState B → Bool
-promise_other same members me sender b votes x =
-    called_of same members me (log_length x) x.learner x.pending x.proposer.role (called_by members sender b votes x.proposer.role)
+abbrev pub promise_other : {B : Type 0} → (B → B → Bool) → ℕ → ℕ → ℕ → Ballot → ℕ → List (Vote B) → NodeState B → Bool
+promise_other same members me sender b floor votes x =
+    called_of same members me (log_length x) x.learner x.pending
+    (promised members sender b floor votes (floor_in x.rows.snapshot) x.proposer.role)
+    (called_by members sender b floor votes (floor_in x.rows.snapshot) x.proposer.role)
 
 -- what was proposed before the entries that are gone through
 abbrev pub votes_of : {B : Type 0} → Earlier B → List (Vote B)
@@ -132,7 +136,7 @@ Leads {B} same w (Some lead) = (1 ≤ lead.next) × ((es : List (Entry B))
     → proposes_other same w.members w.me (log_length w.state) w.state.learner w.state.proposer.role es
     ≡ (goes_from same w lead es).other)
 
-abbrev pub LeadsBy : {B : Type 0} → (B → B → Bool) → Whole B → ℕ → Ballot → List (Vote B) → Option (Lead B) → Type 0
-LeadsBy same w sender b votes None = promise_other same w.members w.me sender b votes w.state ≡ false
-LeadsBy same w sender b votes (Some lead) = (1 ≤ lead.next)
-    × (promise_other same w.members w.me sender b votes w.state ≡ (goes_from same w lead w.state.pending).other)
+abbrev pub LeadsBy : {B : Type 0} → (B → B → Bool) → Whole B → ℕ → Ballot → ℕ → List (Vote B) → Option (Lead B) → Type 0
+LeadsBy same w sender b floor votes None = promise_other same w.members w.me sender b floor votes w.state ≡ false
+LeadsBy same w sender b floor votes (Some lead) = (1 ≤ lead.next)
+    × (promise_other same w.members w.me sender b floor votes w.state ≡ (goes_from same w lead w.state.pending).other)

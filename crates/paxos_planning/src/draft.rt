@@ -7,7 +7,8 @@ ghost use Rattle.paxos_packets.specs.declared.vote.Vote.{Vote};
 ghost use Rattle.paxos_learner.specs.Hearing.{after, hear_all};
 ghost use Rattle.paxos_learner.specs.Learned.{Begins, Rises};
 ghost use Rattle.paxos_learner.specs.Learner.{run_from, learn, count_vote, disagrees, vote_disagrees};
-ghost use Rattle.paxos_acceptor.specs.Acceptor.{may_promise, may_accept};
+ghost use Rattle.paxos_packets.specs.Snapshot.{floor_in};
+ghost use Rattle.paxos_acceptor.specs.Acceptor.{may_promise, may_accept, given_by};
 ghost use Rattle.paxos_proposer.specs.Moves.{ArePossible};
 ghost use Rattle.paxos_proposer.specs.Proposer.{is_leading};
 ghost use Rattle.paxos_planning.specs.Node.{log_length};
@@ -19,7 +20,7 @@ use crate::effects::Effects;
 use crate::parts::Parts;
 use paxos_learner::Hearing;
 use paxos_packets::{
-    Ballot, Body, Change, Entries, Entry, Kind, Memory, Packet, Slot, Vote, Votes,
+    Ballot, Body, Change, Entries, Entry, Floor, Kind, Memory, Packet, Slot, Snapshot, Vote, Votes,
 };
 use paxos_proposer::Proposing;
 use std::alloc::Global;
@@ -40,7 +41,7 @@ pub struct Draft<'a, B> {
 }
 
 impl<'a, B> Model for Draft<'a, B> {
-    ghost use Rattle.std.specs.Prelude.{◌≡◌, [], option_copied};
+    ghost use Rattle.std.specs.Prelude.{◌≡◌, None, [], option_copied};
     ghost use Rattle.paxos_acceptor.specs.Acceptor.{adopted};
     ghost use Rattle.paxos_learner.specs.Hearing as to_hear;
     ghost use Rattle.paxos_proposer.specs.Proposing as to_do;
@@ -69,7 +70,7 @@ impl<'a, B> Model for Draft<'a, B> {
     } };
 
     ghost invariant = { λ d. (d.proposing.before ≡ proposer_of d.node.me d.node.members d.node.state)
-        × (d.hearing.before ≡ learner_of d.node.members d.node.state) };
+        × (d.hearing.before ≡ learner_of d.node.members d.node.state) × (d.change.snapshot ≡ None) };
 }
 
 impl<'a, B> Draft<'a, B> {
@@ -146,6 +147,20 @@ impl<'a, B> Draft<'a, B> {
         ensures { result ≡ self.now.plan.node.rows.promised }
     {
         self.change.promised.or(self.node.promised())
+    }
+
+    // Returns its floor, up to which its snapshot gives the log.
+    pub(crate) fn floor(&self) -> Floor
+        ensures { result ≡ floor_in self.now.plan.node.rows.snapshot }
+    {
+        self.node.floor()
+    }
+
+    // Returns its snapshot, if that gives the slot with this number.
+    pub(crate) fn gives(&self, slot: u64) -> Option<&'a Snapshot>
+        ensures { option_copied result ≡ given_by self.now.plan.node.rows.snapshot slot }
+    {
+        self.node.gives(slot)
     }
 
     // Returns whether the ballot may be promised.

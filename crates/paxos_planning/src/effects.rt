@@ -1,3 +1,5 @@
+//! The effects of an event, as a draft ends.
+
 use paxos_learner::News;
 use paxos_packets::{Change, Packet};
 use paxos_proposer::Move;

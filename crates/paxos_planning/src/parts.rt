@@ -1,6 +1,11 @@
-ghost use Rattle.std.specs.Prelude.{◌≡◌, ◌<◌, ◌^◌, [], length, IfOk};
+//! A node's parts as a draft reads them, and whether a packet disagrees with what was learned.
+
+ghost use Rattle.std.specs.Prelude.{◌≡◌, ◌<◌, ◌^◌, ◌&&◌, [], length, IfOk, is_none, option_copied};
 ghost use Rattle.paxos_learner.specs.Learned.{Begins};
+ghost use Rattle.paxos_learner.specs.Learner.{vote_disagrees};
+ghost use Rattle.paxos_packets.specs.Snapshot.{floor_in};
 ghost use Rattle.paxos_packets.specs.Vote.{votes_from};
+ghost use Rattle.paxos_acceptor.specs.Acceptor.{may_accept, given_by};
 ghost use Rattle.paxos_planning.specs.Node.{log_length};
 ghost use Rattle.paxos_planning.specs.Parts.{proposer_of, learner_of, first_learned, whole};
 ghost use Rattle.paxos_planning.specs.Replies.{brings_other};
@@ -8,7 +13,7 @@ ghost use Rattle.paxos_planning.specs.Replies.{brings_other};
 use crate::draft::may_accept;
 use paxos_acceptor::Acceptor;
 use paxos_learner::{Hearing, Learner};
-use paxos_packets::{Ballot, Body, Entry, Kind, Members, Memory, Votes};
+use paxos_packets::{Ballot, Body, Entry, Floor, Kind, Members, Memory, Snapshot, Vote, Votes};
 use paxos_proposer::{Proposer, Proposing};
 use std::alloc::Global;
 use std::marker::Model;
@@ -117,6 +122,20 @@ impl<'a, B> Parts<'a, B> {
         self.acceptor.promised()
     }
 
+    // Returns its floor, up to which its snapshot gives the log.
+    pub(crate) fn floor(&self) -> Floor
+        ensures { result ≡ floor_in self.now.state.rows.snapshot }
+    {
+        self.acceptor.floor()
+    }
+
+    // Returns its snapshot, if that gives the slot with this number.
+    pub(crate) fn gives(&self, slot: u64) -> Option<&'a Snapshot>
+        ensures { option_copied result ≡ given_by self.now.state.rows.snapshot slot }
+    {
+        self.acceptor.gives(slot)
+    }
+
     // Returns its proposer.
     pub(crate) fn proposer(&self) -> &'a Proposer<B>
         ensures { result.now.state ≡ proposer_of self.now.me self.now.members self.now.state }
@@ -177,14 +196,28 @@ impl<'a, B: Body> Parts<'a, B> {
         ensures { result ≡ brings_other B.same self.now.members self.now.me sender kind.now self.now.state }
     {
         match kind {
-            Kind::Accept { vote } => may_accept(self.promised(), vote.ballot)
-                && self.learner().vote_disagrees(self.me(), vote),
+            Kind::Accept { vote } => self.casts_other(vote),
             Kind::Accepted { vote } => self.learner().vote_disagrees(sender, vote),
             Kind::Learned { slot, entry } => self.learner().disagrees(*slot, entry),
-            Kind::Promise { ballot, votes } => self.promise_other(sender, *ballot, votes),
+            Kind::Promise {
+                ballot,
+                floor,
+                votes,
+            } => self.promise_other(sender, *ballot, *floor, votes),
             Kind::Forward { entries } => self.proposes_other(entries.as_slice()),
-            Kind::Prepare { .. } | Kind::Nack { .. } | Kind::Ask { .. } => false,
+            Kind::Prepare { .. } | Kind::Nack { .. } | Kind::Ask { .. } | Kind::Snapshot { .. } =>
+                false,
         }
+    }
+
+    // Returns whether it casts this vote, and that disagrees with what was learned.
+    fn casts_other(&self, vote: &Vote<B>) -> bool
+        ensures { result ≡ (may_accept self.now.state.rows.promised vote.now.ballot && (is_none (given_by self.now.state.rows.snapshot vote.now.slot)
+            && vote_disagrees B.same self.now.members self.now.me vote.now self.now.state.learner)) }
+    {
+        may_accept(self.promised(), vote.ballot)
+            && self.gives(vote.slot.get()).is_none()
+            && self.learner().vote_disagrees(self.me(), vote)
     }
 
     // Copies its votes from the slot with this number on.

@@ -1,16 +1,21 @@
 //! What a packet brings about at its addressee.
 
 ghost use Rattle.std.specs.Prelude.{◌≡◌, ◌+◌, ◌∷◌, [], ◌++◌, map, OnOk, IfOk};
+ghost use Rattle.paxos_packets.specs.Snapshot.{floor_in};
+ghost use Rattle.paxos_acceptor.specs.Acceptor.{given_by};
 ghost use Rattle.paxos_learner.specs.Learner.{learned_within};
 ghost use Rattle.paxos_proposer.specs.Promises.{promised, called_by};
 ghost use Rattle.paxos_proposer.specs.Proposer.{nacked};
 ghost use Rattle.paxos_planning.specs.Drafting.{in_role, seeing, told_to};
 ghost use Rattle.paxos_planning.specs.Plan.{send};
-ghost use Rattle.paxos_planning.specs.Replies.{refuse, on_prepare, on_accept, on_promise, on_forward, told_from, on_packet, round_in, round_of_votes};
+ghost use Rattle.paxos_planning.specs.Replies.{refuse, on_prepare, on_accept, cast_or_show, on_promise, on_forward, on_ask, show, told_from};
+ghost use Rattle.paxos_planning.specs.Replies.{on_packet, round_in, round_of_votes};
 
 use crate::draft::Draft;
 use paxos_learner::LearnedEntry;
-use paxos_packets::{Ballot, Body, Entries, Entry, Kind, Memory, Packet, Vote, Votes};
+use paxos_packets::{
+    Ballot, Body, Entries, Entry, Floor, Kind, Memory, Packet, Snapshot, Vote, Votes,
+};
 
 impl<'a, B: Body> Draft<'a, B> {
     /// Plans what the packet brings about, given that nothing happened before it.
@@ -35,14 +40,42 @@ impl<'a, B: Body> Draft<'a, B> {
     {
         match kind {
             Kind::Prepare { ballot, first } => self.on_prepare(sender, *ballot, *first),
-            Kind::Promise { ballot, votes } => self.on_promise(sender, *ballot, votes),
+            Kind::Promise {
+                ballot,
+                floor,
+                votes,
+            } => self.on_promise(sender, *ballot, *floor, votes),
             Kind::Accept { vote } => self.on_accept(sender, vote),
             Kind::Accepted { vote } => self.count(sender, vote),
             Kind::Nack { ballot, promised } => self.on_nack(*ballot, *promised),
             Kind::Forward { entries } => self.on_forward(entries.as_slice()),
             Kind::Learned { slot, entry } => self.hear_learned(*slot, entry),
-            Kind::Ask { first } => self.tell_from(sender, *first),
+            Kind::Ask { first } => self.on_ask(sender, *first),
+            Kind::Snapshot { .. } => Ok(()),
         }
+    }
+
+    // Reports what it learned from the slot on, after its snapshot if that gives the slot.
+    fn on_ask(&mut self, sender: u8, first: u64) -> Result<(), Memory>
+        ensures of { self.new.of ≡ self.old.of }
+        ensures plan { OnOk result (self.new.plan ≡ on_ask self.old.of.me sender first self.old.plan) }
+    {
+        let Some(snapshot) = self.gives(first) else {
+            return self.tell_from(sender, first);
+        };
+        self.show(snapshot, sender)?;
+        self.tell_from(sender, snapshot.floor().get() + 1)
+    }
+
+    // Sends its snapshot to the member.
+    fn show(&mut self, snapshot: &Snapshot, to: u8) -> Result<(), Memory>
+        ensures of { self.new.of ≡ self.old.of }
+        ensures plan { OnOk result (self.new.plan ≡ show self.old.of.me to snapshot.now self.old.plan) }
+    {
+        let Ok(snapshot) = snapshot.share() else {
+            return Err(Memory);
+        };
+        self.send_to(Kind::Snapshot { snapshot }, to)
     }
 
     // Reports what it learned in the slot and the 63 after it.
@@ -82,9 +115,17 @@ impl<'a, B: Body> Draft<'a, B> {
             self.refuse(sender, ballot)?;
             return Ok(());
         }
-        let votes = self.votes_from(first)?;
+        let floor = self.floor();
+        let votes = self.votes_from(first.max(floor.get() + 1))?;
         self.promise(ballot)?;
-        self.send_to(Kind::Promise { ballot, votes }, sender)?;
+        self.send_to(
+            Kind::Promise {
+                ballot,
+                floor,
+                votes,
+            },
+            sender,
+        )?;
         Ok(())
     }
 
@@ -98,8 +139,20 @@ impl<'a, B: Body> Draft<'a, B> {
             self.refuse(sender, vote.ballot)?;
             return Ok(());
         }
-        self.cast(vote)?;
+        self.cast_or_show(sender, vote)?;
         Ok(())
+    }
+
+    // Casts the vote, or sends its snapshot if that gives the slot.
+    fn cast_or_show(&mut self, sender: u8, vote: &Vote<B>) -> Result<(), Memory>
+        ensures of { self.new.of ≡ self.old.of }
+        ensures plan { OnOk result (self.new.plan ≡ cast_or_show B.same self.old.of.members self.old.of.me sender
+            (given_by self.old.plan.node.rows.snapshot vote.now.slot) vote.now self.old.plan) }
+    {
+        let Some(snapshot) = self.gives(vote.slot.get()) else {
+            return self.cast(vote);
+        };
+        self.show(snapshot, sender)
     }
 
     // Counts a promise. With a majority the node leads, and proposes what the reports call for, and then what is pending.
@@ -108,14 +161,15 @@ impl<'a, B: Body> Draft<'a, B> {
         &mut self,
         sender: u8,
         ballot: Ballot,
+        floor: Floor,
         votes: &Votes<B>,
     ) -> Result<(), Memory>
         requires { self.old.plan.node.proposer.role ≡ self.old.of.state.proposer.role }
         ensures of { self.new.of ≡ self.old.of }
         ensures plan { OnOk result (self.new.plan
-            ≡ on_promise B.same self.old.of.members self.old.of.me sender ballot votes.now self.old.plan) }
+            ≡ on_promise B.same self.old.of.members self.old.of.me sender ballot floor votes.now self.old.plan) }
     {
-        let Some(entries) = self.hear_promise(sender, ballot, votes)? else {
+        let Some(entries) = self.hear_promise(sender, ballot, floor, votes)? else {
             return Ok(());
         };
         self.propose_all(entries.as_slice())?;
@@ -152,19 +206,21 @@ impl<'a, B: Body> Draft<'a, B> {
         &mut self,
         sender: u8,
         ballot: Ballot,
+        floor: Floor,
         votes: &Votes<B>,
     ) -> Result<Option<Entries<B>>, Memory>
         requires { self.old.plan.node.proposer.role ≡ self.old.of.state.proposer.role }
         ensures of { self.new.of ≡ self.old.of }
-        ensures plan { OnOk result (self.new.plan
-            ≡ in_role (promised self.old.of.members sender ballot votes.now self.old.plan.node.proposer.role) self.old.plan) }
-        ensures called { IfOk result (λ called. called
-            ≡ called_by self.old.of.members sender ballot votes.now self.old.plan.node.proposer.role) }
+        ensures plan { OnOk result (self.new.plan ≡ in_role (promised self.old.of.members sender ballot floor votes.now
+            (floor_in self.old.plan.node.rows.snapshot) self.old.plan.node.proposer.role) self.old.plan) }
+        ensures called { IfOk result (λ called. called ≡ called_by self.old.of.members sender ballot floor votes.now
+            (floor_in self.old.plan.node.rows.snapshot) self.old.plan.node.proposer.role) }
     {
+        let own = self.floor();
         let Ok(copy) = votes.copy(self.alloc) else {
             return Err(Memory);
         };
-        let Ok(called) = self.proposing.on_promise(sender, ballot, copy) else {
+        let Ok(called) = self.proposing.on_promise(sender, ballot, floor, copy, own) else {
             return Err(Memory);
         };
         Ok(called)
@@ -206,11 +262,11 @@ fn round_in<B>(kind: &Kind<B>) -> u64
 {
     match kind {
         Kind::Prepare { ballot, .. } => ballot.round,
-        Kind::Promise { ballot, votes } => ballot.round.max(round_of_votes(votes.as_slice())),
+        Kind::Promise { ballot, votes, .. } => ballot.round.max(round_of_votes(votes.as_slice())),
         Kind::Accept { vote } => vote.ballot.round,
         Kind::Accepted { vote } => vote.ballot.round,
         Kind::Nack { ballot, promised } => ballot.round.max(promised.round),
-        Kind::Forward { .. } | Kind::Learned { .. } | Kind::Ask { .. } => 0,
+        Kind::Forward { .. } | Kind::Learned { .. } | Kind::Ask { .. } | Kind::Snapshot { .. } => 0,
     }
 }
 

@@ -7,7 +7,7 @@ ghost use Rattle.paxos_planning.specs.Drafting.{next_own, with_prepared, committ
 ghost use Rattle.paxos_planning.specs.Starting.{begin, starts};
 
 use crate::draft::Draft;
-use paxos_packets::{Ballot, Body, Kind, Memory, Votes};
+use paxos_packets::{Ballot, Body, Floor, Kind, Memory, Votes};
 
 // The greatest round.
 const LAST_ROUND: u64 = (1 << 48) - 1;
@@ -35,7 +35,7 @@ impl<'a, B: Body> Draft<'a, B> {
         };
         let first = self.applied() + 1;
         let votes = self.votes_from(first)?;
-        self.prepare(first, votes)?;
+        self.prepare(first, self.floor(), votes)?;
         self.commit_promise(ballot);
         self.send_to_others(&Kind::Prepare { ballot, first })?;
         Ok(())
@@ -51,14 +51,14 @@ impl<'a, B: Body> Draft<'a, B> {
         }
     }
 
-    // Begins its next ballot, in which it reports these votes.
-    fn prepare(&mut self, first: u64, votes: Votes<B>) -> Result<(), Memory>
+    // Begins its next ballot, in which it reports its floor and these votes.
+    fn prepare(&mut self, first: u64, floor: Floor, votes: Votes<B>) -> Result<(), Memory>
         requires first { 1 ≤ first }
         requires round { is_spent self.old.plan.node.proposer ≡ false }
         ensures of { self.new.of ≡ self.old.of }
-        ensures plan { OnOk result (self.new.plan ≡ with_prepared self.old.of.me first votes self.old.plan) }
+        ensures plan { OnOk result (self.new.plan ≡ with_prepared self.old.of.me first floor votes self.old.plan) }
     {
-        let Ok(()) = self.proposing.start(first, votes) else {
+        let Ok(()) = self.proposing.start(first, floor, votes) else {
             return Err(Memory);
         };
         Ok(())

@@ -14,7 +14,7 @@ ghost use Rattle.paxos_planning.specs.Walking.{proposes_other, promise_other, ca
 use crate::parts::Parts;
 use crate::wanted::Wanted;
 use paxos_learner::Learner;
-use paxos_packets::{Ballot, Body, Entry, Slot, Vote, Votes};
+use paxos_packets::{Ballot, Body, Entry, Floor, Slot, Vote, Votes};
 use paxos_proposer::Called;
 
 // How far the entries are gone through: the slot of the next proposal, the first place from which on no equal entry is proposed again, and
@@ -96,10 +96,16 @@ impl<'a, B: Body> Parts<'a, B> {
 
     // Returns whether a vote that the node would cast because of this promise disagrees with what was learned: for an entry that the promise
     // calls for, if it makes the node lead, or then for one that is pending. Does not allocate.
-    pub(crate) fn promise_other(&self, sender: u8, ballot: Ballot, votes: &Votes<B>) -> bool
-        ensures { result ≡ promise_other B.same self.now.members self.now.me sender ballot votes.now self.now.state }
+    pub(crate) fn promise_other(
+        &self,
+        sender: u8,
+        ballot: Ballot,
+        floor: Floor,
+        votes: &Votes<B>,
+    ) -> bool
+        ensures { result ≡ promise_other B.same self.now.members self.now.me sender ballot floor votes.now self.now.state }
     {
-        match self.leads_by(sender, ballot, votes) {
+        match self.leads_by(sender, ballot, floor, votes) {
             None => false,
             Some(lead) => self.walk(&lead, self.pending()).other,
         }
@@ -110,11 +116,15 @@ impl<'a, B: Body> Parts<'a, B> {
         &'b self,
         sender: u8,
         ballot: Ballot,
+        floor: Floor,
         votes: &'b Votes<B>,
     ) -> Option<Lead<'b, B>>
-        ensures { LeadsBy B.same self.now sender ballot votes.now result }
+        ensures { LeadsBy B.same self.now sender ballot floor votes.now result }
     {
-        let Some(called) = self.proposer().calls(sender, ballot, votes) else {
+        let Some(called) = self
+            .proposer()
+            .calls(sender, ballot, floor, votes, self.floor())
+        else {
             return None;
         };
         called.first(); // for the proof

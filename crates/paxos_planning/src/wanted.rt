@@ -1,3 +1,5 @@
+//! Entries to be proposed, compared with others before they are made.
+
 ghost use Rattle.std.specs.Prelude.{◌≡◌};
 ghost use Rattle.paxos_packets.specs.Entry.{same_entry};
 ghost use Rattle.paxos_packets.specs.declared.entry.Entry.TheVariants.{Noop};

@@ -17,12 +17,12 @@ use Rattle.paxos_proposer.specs.declared.moves.Move.{Move}
 use Rattle.paxos_proposer.specs.declared.proposing.Offer.{Offer}
 use Rattle.paxos_proposer.specs.Moves.{after_move, after_moves, IsPossible, ArePossible}
 use Rattle.paxos_proposer.specs.Proposer.{step_down, nacked, submitted, is_below, is_refused, is_leading, slots_spent, next_vote, slot_end, round_end, is_spent}
-use Rattle.paxos_proposer.specs.Promises.{promised, called_by, counts, and_promise_of}
+use Rattle.paxos_proposer.specs.Promises.{promised, called_by, counts, and_promise_of, lowest}
 use Rattle.paxos_proposer.specs.Proposals.{stands, stands_among}
 use Rattle.paxos_proposer.specs.Reports.{is_counted, reports, called_for}
 use Rattle.paxos_proposer.specs.Role.{Role, Idle, Preparing, Leading}
 use Rattle.paxos_proposer.specs.State.{State, role_of, IsAboveNone, with_role, saw, started, after_promise, after_submit}
-use Rattle.paxos_proposer.specs.Proposing.{Draft, after, role_then, and_move, offer_of, promises_of, proposals_of, earlier, led, IsTold}
+use Rattle.paxos_proposer.specs.Proposing.{Draft, after, role_then, and_move, offer_of, promises_of, proposals_of, earlier, led, led_from, IsTold}
 
 -- one is done last
 
@@ -126,10 +126,10 @@ pub stands_either : {B : Type 0} (same : B → B → Bool) (n : ℕ) (e : Entry 
     → stands_among same n e (vs ++ ws) ≡ (stands_among same n e vs || stands_among same n e ws)
 stands_either same n e vs ws = list_any-append (λ v. nat_lt n v.slot && same_entry same v.entry e) vs ws
 
-led_above : (p : Phase) → IsAboveNone p → IsAboveNone (led p)
-led_above Kept.Idle a = tt
-led_above (Kept.Preparing c first) a = a
-led_above (Kept.Leading c next) a = a
+led_above : (slot : ℕ) (p : Phase) → 1 ≤ slot → IsAboveNone p → IsAboveNone (led slot p)
+led_above slot Kept.Idle l a = tt
+led_above slot (Kept.Preparing c first) l a = l
+led_above slot (Kept.Leading c next) l a = a
 
 -- a phase in which a slot is left to propose in
 
@@ -172,10 +172,10 @@ module _ {B : Type 0} where
   told_rest seen phase goes_on votes more old new r t e =
       record { me_is = t.me_is; members_is = t.members_is; seen_is = t.seen_is; promises = []; role_is = e; above = tt }
 
-  pub told_start : (seen node first : ℕ) (phase : Phase) (goes_on : Bool) (votes more : List (Vote B)) (old new : State B) (reported : List (Vote B))
+  pub told_start : (seen node first floor : ℕ) (phase : Phase) (goes_on : Bool) (votes more : List (Vote B)) (old new : State B) (reported : List (Vote B))
       → IsTold seen phase goes_on votes old new → 1 ≤ first → node ≡ old.me
-      → IsTold (seen + 1) (Kept.Preparing (record { round = seen + 1; node = node }) first) false more old (started first reported new)
-  told_start seen node first phase goes_on votes more old new reported t l is =
+      → IsTold (seen + 1) (Kept.Preparing (record { round = seen + 1; node = node }) first) false more old (started first floor reported new)
+  told_start seen node first floor phase goes_on votes more old new reported t l is =
       let s : new.proposer.seen ≡ seen = t.seen_is in
       let m : new.me ≡ node = t.me_is ∙ sym is in
       let n : suc new.proposer.seen ≡ seen + 1 = omega arith in
@@ -183,8 +183,8 @@ module _ {B : Type 0} where
         me_is = t.me_is;
         members_is = t.members_is;
         seen_is = omega arith;
-        promises = record { node = new.me; votes = reported } ∷ [];
-        role_is = λ i. Preparing (record { round = n i; node = m i }) first (record { node = new.me; votes = reported } ∷ []);
+        promises = record { node = new.me; floor = floor; votes = reported } ∷ [];
+        role_is = λ i. Preparing (record { round = n i; node = m i }) first (record { node = new.me; floor = floor; votes = reported } ∷ []);
         above = l;
       }
 
@@ -196,82 +196,88 @@ module _ {B : Type 0} where
 
   -- a promise that calls for nothing leaves the phase as it was
 
-  still : (members node : ℕ) (b : Ballot) (reported : List (Vote B)) (p : Phase) (cs : List (CountedPromise B)) (vs : List (Vote B))
-      → called_by members node b reported (role_of p cs vs) ≡ None
-      → (ds : List (CountedPromise B)) × (promised members node b reported (role_of p cs vs) ≡ role_of p ds vs)
-  still members node b reported Kept.Idle cs vs h = (cs, refl)
-  still members node b reported (Kept.Leading c next) cs vs h = (cs, refl)
-  still members node b reported (Kept.Preparing c first) cs vs h =
-      go (counts node b (Preparing c first cs)) (is_majority members (is_counted (and_promise_of node reported cs))) h
+  still : (members node : ℕ) (b : Ballot) (floor : ℕ) (reported : List (Vote B)) (own : ℕ) (p : Phase) (cs : List (CountedPromise B)) (vs : List (Vote B))
+      → called_by members node b floor reported own (role_of p cs vs) ≡ None
+      → (ds : List (CountedPromise B)) × (promised members node b floor reported own (role_of p cs vs) ≡ role_of p ds vs)
+  still members node b floor reported own Kept.Idle cs vs h = (cs, refl)
+  still members node b floor reported own (Kept.Leading c next) cs vs h = (cs, refl)
+  still members node b floor reported own (Kept.Preparing c first) cs vs h =
+      go (lowest first own (and_promise_of node floor reported cs)) (counts node b (Preparing c first cs))
+      (is_majority members (is_counted (and_promise_of node floor reported cs))) h
     where
-      go : (x y : Bool) → cond x (cond y (Some (called_for first (reports (and_promise_of node reported cs)))) None) None ≡ None
+      go : (low : ℕ) (x y : Bool) → cond x (cond y (Some (called_for low (reports (and_promise_of node floor reported cs)))) None) None ≡ None
           → (ds : List (CountedPromise B))
-          × (cond x (cond y (Leading c first []) (Preparing c first (and_promise_of node reported cs))) (Preparing c first cs) ≡ Preparing c first ds)
-      go true true f = absurd (cc)
-      go true false f = (and_promise_of node reported cs, refl)
-      go false y f = (cs, refl)
+          × (cond x (cond y (Leading c low []) (Preparing c first (and_promise_of node floor reported cs))) (Preparing c first cs) ≡ Preparing c first ds)
+      go low true true f = absurd (cc)
+      go low true false f = (and_promise_of node floor reported cs, refl)
+      go low false y f = (cs, refl)
 
-  pub told_count : (seen node : ℕ) (b : Ballot) (reported : List (Vote B)) (phase : Phase) (goes_on : Bool) (votes : List (Vote B)) (old new : State B)
-      → IsTold seen phase goes_on votes old new → called_by new.members node b reported new.proposer.role ≡ None
-      → IsTold seen phase goes_on votes old (after_promise node b reported new)
-  told_count seen node b reported phase goes_on votes old new t h =
-      let k : called_by new.members node b reported (role_of phase t.promises (earlier goes_on old.proposer.role ++ votes)) ≡ None =
-      subst (λ (r : Role B). called_by new.members node b reported r ≡ None) t.role_is h in
-      let s = still new.members node b reported phase t.promises (earlier goes_on old.proposer.role ++ votes) k in
+  pub told_count : (seen node : ℕ) (b : Ballot) (floor : ℕ) (reported : List (Vote B)) (own : ℕ) (phase : Phase) (goes_on : Bool) (votes : List (Vote B)) (old new : State B)
+      → IsTold seen phase goes_on votes old new → called_by new.members node b floor reported own new.proposer.role ≡ None
+      → IsTold seen phase goes_on votes old (after_promise node b floor reported own new)
+  told_count seen node b floor reported own phase goes_on votes old new t h =
+      let k : called_by new.members node b floor reported own (role_of phase t.promises (earlier goes_on old.proposer.role ++ votes)) ≡ None =
+      subst (λ (r : Role B). called_by new.members node b floor reported own r ≡ None) t.role_is h in
+      let s = still new.members node b floor reported own phase t.promises (earlier goes_on old.proposer.role ++ votes) k in
       record {
         me_is = t.me_is;
         members_is = t.members_is;
         seen_is = t.seen_is;
         promises = s.0;
-        role_is = ap (λ (r : Role B). promised new.members node b reported r) t.role_is ∙ s.1;
+        role_is = ap (λ (r : Role B). promised new.members node b floor reported own r) t.role_is ∙ s.1;
         above = t.above;
       }
 
   -- and one that calls for entries makes the proposer lead
 
-  leads : (members node : ℕ) (b : Ballot) (reported : List (Vote B)) (p : Phase) (cs : List (CountedPromise B)) (vs : List (Vote B)) (es : List (Entry B))
-      → called_by members node b reported (role_of p cs vs) ≡ Some es
-      → promised members node b reported (role_of p cs vs) ≡ role_of (led p) [] []
-  leads members node b reported Kept.Idle cs vs es h = absurd (cc)
-  leads members node b reported (Kept.Leading c next) cs vs es h = absurd (cc)
-  leads members node b reported (Kept.Preparing c first) cs vs es h =
-      go (counts node b (Preparing c first cs)) (is_majority members (is_counted (and_promise_of node reported cs))) h
+  leads : (members node : ℕ) (b : Ballot) (floor : ℕ) (reported : List (Vote B)) (own : ℕ) (p : Phase) (cs : List (CountedPromise B)) (vs : List (Vote B)) (es : List (Entry B))
+      → called_by members node b floor reported own (role_of p cs vs) ≡ Some es
+      → promised members node b floor reported own (role_of p cs vs) ≡ role_of (led (led_from node floor reported own (role_of p cs vs)) p) [] []
+  leads members node b floor reported own Kept.Idle cs vs es h = absurd (cc)
+  leads members node b floor reported own (Kept.Leading c next) cs vs es h = absurd (cc)
+  leads members node b floor reported own (Kept.Preparing c first) cs vs es h =
+      go (lowest first own (and_promise_of node floor reported cs)) (counts node b (Preparing c first cs))
+      (is_majority members (is_counted (and_promise_of node floor reported cs))) h
     where
-      go : (x y : Bool) → cond x (cond y (Some (called_for first (reports (and_promise_of node reported cs)))) None) None ≡ Some es
-          → cond x (cond y (Leading c first []) (Preparing c first (and_promise_of node reported cs))) (Preparing c first cs) ≡ Leading c first []
-      go true true f = refl
-      go true false f = absurd (cc)
-      go false y f = absurd (cc)
+      go : (low : ℕ) (x y : Bool)
+          → cond x (cond y (Some (called_for low (reports (and_promise_of node floor reported cs)))) None) None ≡ Some es
+          → cond x (cond y (Leading c low []) (Preparing c first (and_promise_of node floor reported cs))) (Preparing c first cs) ≡ Leading c low []
+      go low true true f = refl
+      go low true false f = absurd (cc)
+      go low false y f = absurd (cc)
 
   -- what is called for is stated by the proposer as it is, if nothing was done to its role
 
-  pub called_still : (s : State B) (ms : List (Move B)) (d : Draft B) (node : ℕ) (b : Ballot) (reported : List (Vote B)) (called answered : Option (List (Entry B)))
+  pub called_still : (s : State B) (ms : List (Move B)) (d : Draft B) (node : ℕ) (b : Ballot) (floor : ℕ) (reported : List (Vote B)) (own : ℕ) (called answered : Option (List (Entry B)))
       → record { before = s; moves = ms } ≡ d → role_then d ≡ d.before.proposer.role → (after_moves ms s).members ≡ s.members
-      → called ≡ called_by s.members node b reported s.proposer.role → called ≡ answered
-      → answered ≡ called_by (after d).members node b reported (role_then d)
-  called_still s ms d node b reported called answered v same m is as_is =
+      → called ≡ called_by s.members node b floor reported own s.proposer.role → called ≡ answered
+      → answered ≡ called_by (after d).members node b floor reported own (role_then d)
+  called_still s ms d node b floor reported own called answered v same m is as_is =
       let role : s.proposer.role ≡ (after_moves ms s).proposer.role =
       ap (λ (a : Draft B). a.before.proposer.role) v ∙ sym same ∙ sym (ap (λ (a : Draft B). role_then a) v) in
       sym as_is ∙ is
-      ∙ (λ i. called_by (sym m i) node b reported (role i))
-      ∙ ap (λ (a : Draft B). called_by (after a).members node b reported (role_then a)) v
+      ∙ (λ i. called_by (sym m i) node b floor reported own (role i))
+      ∙ ap (λ (a : Draft B). called_by (after a).members node b floor reported own (role_then a)) v
 
-  pub told_lead : (seen node : ℕ) (b : Ballot) (reported : List (Vote B)) (phase : Phase) (goes_on : Bool) (votes more : List (Vote B)) (old new : State B)
-      (es : List (Entry B)) → IsTold seen phase goes_on votes old new → called_by new.members node b reported new.proposer.role ≡ Some es → more ≡ []
-      → IsTold seen (led phase) false more old (after_promise node b reported new)
-  told_lead seen node b reported phase goes_on votes more old new es t h none =
-      let k : called_by new.members node b reported (role_of phase t.promises (earlier goes_on old.proposer.role ++ votes)) ≡ Some es =
-      subst (λ (r : Role B). called_by new.members node b reported r ≡ Some es) t.role_is h in
+  pub told_lead : (seen node : ℕ) (b : Ballot) (floor : ℕ) (reported : List (Vote B)) (own : ℕ) (phase : Phase) (goes_on : Bool) (votes more : List (Vote B)) (old new : State B)
+      (es : List (Entry B)) → IsTold seen phase goes_on votes old new → called_by new.members node b floor reported own new.proposer.role ≡ Some es → more ≡ []
+      → (slot : ℕ) → slot ≡ led_from node floor reported own new.proposer.role → 1 ≤ slot
+      → IsTold seen (led slot phase) false more old (after_promise node b floor reported own new)
+  told_lead seen node b floor reported own phase goes_on votes more old new es t h none slot from least =
+      let k : called_by new.members node b floor reported own (role_of phase t.promises (earlier goes_on old.proposer.role ++ votes)) ≡ Some es =
+      subst (λ (r : Role B). called_by new.members node b floor reported own r ≡ Some es) t.role_is h in
       record {
         me_is = t.me_is;
         members_is = t.members_is;
         seen_is = t.seen_is;
         promises = [];
         role_is =
-            ap (λ (r : Role B). promised new.members node b reported r) t.role_is
-            ∙ leads new.members node b reported phase t.promises (earlier goes_on old.proposer.role ++ votes) es k
-            ∙ ap (λ (vs : List (Vote B)). role_of (led phase) [] vs) (sym none);
-        above = led_above phase t.above;
+            ap (λ (r : Role B). promised new.members node b floor reported own r) t.role_is
+            ∙ leads new.members node b floor reported own phase t.promises (earlier goes_on old.proposer.role ++ votes) es k
+            ∙ ap (λ (n : ℕ). role_of (led n phase) [] [])
+            (sym (from ∙ ap (λ (r : Role B). led_from node floor reported own r) t.role_is))
+            ∙ ap (λ (vs : List (Vote B)). role_of (led slot phase) [] vs) (sym none);
+        above = led_above slot phase least t.above;
       }
 
   -- a proposal

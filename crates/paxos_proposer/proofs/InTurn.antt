@@ -1,6 +1,6 @@
 -- What a leader proposed is in the slots up to the next one, one in each: those after the first n slots are a tail.
-use Rattle.std.proofs.Common.{◌≡◌, ℕ, zero, suc, ◌+◌, ◌-◌, ◌<◌, ◌≤◌, false, Some, List, [], ◌∷◌, ◌++◌, take, drop, length, min, ltb}
-use Rattle.std.proofs.Common.{refl, sym, ap, ◌∙◌, arith, ◌⊎◌, inl, inr}
+use Rattle.std.proofs.Common.{◌≡◌, ℕ, zero, suc, ◌+◌, ◌-◌, ◌<◌, ◌≤◌, false, Some, List, [], ◌∷◌, ◌++◌, take, drop, length, min, max, ltb}
+use Rattle.std.proofs.Common.{refl, sym, ap, subst, ◌∙◌, arith, ◌⊎◌, inl, inr}
 use Rattle.std.proofs.lemmas.Bool.{lt-ltb, cases_lt}
 use Rattle.std.proofs.lemmas.Bool.Decides.{nat_tests}
 use Rattle.std.proofs.lemmas.List.{take_all, drop_min, length-drop}
@@ -53,6 +53,34 @@ tail_of {B} applied passed shown v (w ∷ ws) e p s a =
     let whole : take (length (w ∷ ws) - shown) (drop shown (w ∷ ws)) ≡ drop shown (w ∷ ws) =
     take_all (length (w ∷ ws) - shown) (drop shown (w ∷ ws)) (let k = length-drop shown (w ∷ ws) in omega arith) in
     whole ∙ ap (λ (k : ℕ). drop k (w ∷ ws)) s ∙ drop_min passed (w ∷ ws) ∙ sym (from_first applied passed a.0 w ws q a.1)
+
+-- what is after a floor is in turn, too
+
+none_behind : {B : Type 0} (floor next : ℕ) (vs : List (Vote B)) → next ≤ suc floor → AreUpTo next vs → behind floor vs ≡ []
+none_behind floor next [] l a = refl
+none_behind floor next (v ∷ vs) l a =
+    let h : v.slot + suc (length vs) ≡ next = a.1 in
+    rw (not_lt floor v.slot (omega arith)) (none_behind floor next vs l a.2)
+
+up_to_behind : {B : Type 0} (floor next : ℕ) (vs : List (Vote B)) → AreUpTo next vs → AreUpTo next (behind floor vs)
+up_to_behind floor next [] a = tt
+up_to_behind {B} floor next (v ∷ vs) a = go (cases_lt floor v.slot) (up_to_behind floor next vs a.2)
+  where
+    go : (floor < v.slot) ⊎ (v.slot ≤ floor) → AreUpTo next (behind floor vs) → AreUpTo next (behind floor (v ∷ vs))
+    go (inl l) more =
+        let h : v.slot + suc (length vs) ≡ next = a.1 in
+        subst (λ (ws : List (Vote B)). AreUpTo next ws) (sym (all_behind floor next (v ∷ vs) (omega arith) a)) a
+    go (inr l) more = rw (not_lt floor v.slot l) more
+
+pub raised_in_turn : {B : Type 0} (floor next : ℕ) (vs : List (Vote B)) → AreUpTo next vs → AreUpTo (max next (suc floor)) (behind floor vs)
+raised_in_turn {B} floor next vs a = go (cases_lt floor next)
+  where
+    go : (floor < next) ⊎ (next ≤ floor) → AreUpTo (max next (suc floor)) (behind floor vs)
+    go (inl l) =
+        let same : next ≡ max next (suc floor) = omega arith in
+        subst (λ (n : ℕ). AreUpTo n (behind floor vs)) same (up_to_behind floor next vs a)
+    go (inr l) =
+        subst (λ (ws : List (Vote B)). AreUpTo (max next (suc floor)) ws) (sym (none_behind floor next vs (omega arith) a)) tt
 
 -- and none is in a slot 0
 in_slots : {B : Type 0} (next : ℕ) (vs : List (Vote B)) → AreUpTo next vs → AreInSlots vs

@@ -1,9 +1,9 @@
 -- Proposals are found by identity.
 use Rattle.std.proofs.Common.{◌≡◌, ℕ, zero, suc, ◌<◌, ◌≤◌, Bool, true, false, cond, ◌&&◌, ◌||◌, Option, Some, None, List, [], ◌∷◌, ◌++◌, ltb, length, get_or, drop, ◌+◌}
 use Rattle.std.proofs.Common.{refl, sym, ap, ◌∙◌, subst, arith}
-use Rattle.std.specs.Prelude.{nat_lt}
+use Rattle.std.specs.Prelude.{nat_lt, filter}
 use Rattle.std.proofs.lemmas.List.{at_drop_more}
-use Rattle.std.proofs.lemmas.Bool.{and_from}
+use Rattle.std.proofs.lemmas.Bool.{and_from, ltb-true, lt-ltb}
 use Rattle.std.proofs.lemmas.Bool.Decides.{nat_tests}
 use Rattle.std.proofs.Math.Bool.{beq}
 use Rattle.std.specs.Map.{lookup}
@@ -14,7 +14,7 @@ use Rattle.paxos_packets.specs.declared.entry.Entry.{Entry}
 use Rattle.paxos_packets.specs.declared.vote.Vote.{Vote}
 use Rattle.paxos_proposer.specs.declared.identity.Identity.{Identity}
 use Rattle.paxos_proposer.specs.Identity.{identity_of, same_identity}
-use Rattle.paxos_proposer.specs.Proposals.{stands_among, IsUpTo, AreListed, IsOld}
+use Rattle.paxos_proposer.specs.Proposals.{stands_among, behind, IsUpTo, AreListed, IsOld}
 
 -- the test of identities is equality
 
@@ -165,3 +165,38 @@ stands_behind {B} same applied e vs i v lt is fails =
     sym (at_drop_more (λ ws. stands_among same applied e ws) vs i v lt
     ∙ ap (λ (b : Bool). b || stands_among same applied e (drop (i + 1) vs))
     (subst (λ (w : Vote B). (nat_lt applied w.slot && same_entry same w.entry e) ≡ false) is fails))
+
+-- what is after a floor is still listed, in a table without the slots up to it
+
+pub lookup_kept : (test : Identity → Bool) (floor latest : ℕ) (es : List (Identity × ℕ)) → lookup test es ≡ Some latest → floor < latest
+    → lookup test (filter (λ e. nat_lt floor e.1) es) ≡ Some latest
+lookup_kept test floor latest [] h l = h
+lookup_kept test floor latest (e ∷ es) h l =
+    go (test e.0) (nat_lt floor e.1) refl refl h (λ k. lookup_kept test floor latest es k l)
+  where
+    go : (a b : Bool) → test e.0 ≡ a → nat_lt floor e.1 ≡ b → cond a (Some e.1) (lookup test es) ≡ Some latest
+        → (lookup test es ≡ Some latest → lookup test (filter (λ d. nat_lt floor d.1) es) ≡ Some latest)
+        → lookup test (cond b (e ∷ filter (λ d. nat_lt floor d.1) es) (filter (λ d. nat_lt floor d.1) es)) ≡ Some latest
+    go true true p q k more = rw p k
+    go true false p q k more =
+        let same : e.1 ≡ latest = cc in
+        let above : nat_lt floor e.1 ≡ true = lt-ltb floor e.1 (subst (λ (n : ℕ). floor < n) (sym same) l) in
+        absurd (cc)
+    go false true p q k more = rw p (more k)
+    go false false p q k more = more k
+
+pub listed_after : {B : Type 0} (floor : ℕ) (es : List (Identity × ℕ)) (vs : List (Vote B)) → AreListed es vs
+    → AreListed (filter (λ e. nat_lt floor e.1) es) (behind floor vs)
+listed_after floor es [] h = tt
+listed_after {B} floor es (v ∷ vs) h = go (nat_lt floor v.slot) refl (listed_after floor es vs h.1)
+  where
+    there : (o : Option ℕ) → lookup (same_identity (identity_of v.entry)) es ≡ o → IsUpTo v.slot o → floor < v.slot
+        → IsUpTo v.slot (lookup (same_identity (identity_of v.entry)) (filter (λ e. nat_lt floor e.1) es))
+    there None p u l = absurd u
+    there (Some latest) p u l =
+        rw (lookup_kept (same_identity (identity_of v.entry)) floor latest es p (omega arith)) u
+
+    go : (b : Bool) → nat_lt floor v.slot ≡ b → AreListed (filter (λ e. nat_lt floor e.1) es) (behind floor vs)
+        → AreListed (filter (λ e. nat_lt floor e.1) es) (cond b (v ∷ behind floor vs) (behind floor vs))
+    go true p more = (there (lookup (same_identity (identity_of v.entry)) es) refl h.0 (ltb-true floor v.slot p), more)
+    go false p more = more

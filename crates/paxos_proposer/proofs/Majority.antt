@@ -19,11 +19,11 @@ count_same p q (suc m) h =
 turned : (a b : ℕ) → eqb a b ≡ eqb b a
 turned a b = grind (arith, nat_tests)
 
-pub majority_with : {B : Type 0} (members node : ℕ) (votes : List (Vote B)) (cs : List (CountedPromise B)) (p q : ℕ → Bool) → members ≤ 7
+pub majority_with : {B : Type 0} (members node floor : ℕ) (votes : List (Vote B)) (cs : List (CountedPromise B)) (p q : ℕ → Bool) → members ≤ 7
     → ((n : ℕ) → p n ≡ (is_counted cs n && nat_lt n 8)) → ((n : ℕ) → q n ≡ (p n || ((n == node) && nat_lt n 8)))
-    → is_majority members q ≡ is_majority members (is_counted (and_promise_of node votes cs))
-majority_with {B} members node votes cs p q l f g =
-    ap (λ k. nat_lt members (2 * k)) (count_same q (is_counted (and_promise_of node votes cs)) members each)
+    → is_majority members q ≡ is_majority members (is_counted (and_promise_of node floor votes cs))
+majority_with {B} members node floor votes cs p q l f g =
+    ap (λ k. nat_lt members (2 * k)) (count_same q (is_counted (and_promise_of node floor votes cs)) members each)
   where
     by : (a b c d e : Bool) → c ≡ true → d ≡ (a && c) → e ≡ (d || (b && c)) → e ≡ (a || (b || false))
     by true b true true true i j k = refl
@@ -31,8 +31,8 @@ majority_with {B} members node votes cs p q l f g =
     by false false true false false i j k = refl
     by a b c d e i j k = cc
 
-    each : (n : ℕ) → n ≤ members → q n ≡ is_counted (and_promise_of node votes cs) n
+    each : (n : ℕ) → n ≤ members → q n ≡ is_counted (and_promise_of node floor votes cs) n
     each n m =
         by (is_counted cs n) (eqb n node) (nat_lt n 8) (p n) (q n) (lt-ltb n 8 (omega arith)) (f n) (g n)
         ∙ (ap (λ b. is_counted cs n || (b || false)) (turned n node)
-        ∙ sym (list_any-append (λ (c : CountedPromise B). c.node == n) cs (record { node = node; votes = votes } ∷ [])))
+        ∙ sym (list_any-append (λ (c : CountedPromise B). c.node == n) cs (record { node = node; floor = floor; votes = votes } ∷ [])))

@@ -11,7 +11,7 @@ use Rattle.paxos_packets.specs.Vote.{IsAscending, vote_in}
 use Rattle.paxos_packets.specs.declared.vote.Vote.{Vote}
 use Rattle.paxos_proposer.specs.declared.promises.CountedPromise.{CountedPromise}
 use Rattle.paxos_packets.specs.declared.entry.Entry.{Entry}
-use Rattle.paxos_proposer.specs.Promises.{and_promise_of}
+use Rattle.paxos_proposer.specs.Promises.{and_promise_of, above_floors}
 use Rattle.paxos_proposer.specs.Reports.{reports, best, better, greater, past_reports, entry_or_noop, called_in}
 
 -- the rest of a list
@@ -116,10 +116,10 @@ best_last {B} slot i so_far found o cs last l f h =
     ∙ (ap (λ (ds : List (CountedPromise B)). greater so_far (best slot (reports ds ++ last))) (sym (drop_all cs i l)) ∙ h)
 
 -- reports of a promise more
-pub reports_with : {B : Type 0} (node : ℕ) (votes : List (Vote B)) (cs : List (CountedPromise B))
-    → reports (and_promise_of node votes cs) ≡ reports cs ++ votes
-reports_with node votes [] = append-nil votes
-reports_with node votes (c ∷ cs) = ap (λ vs. c.votes ++ vs) (reports_with node votes cs) ∙ sym (append_assoc c.votes (reports cs) votes)
+pub reports_with : {B : Type 0} (node floor : ℕ) (votes : List (Vote B)) (cs : List (CountedPromise B))
+    → reports (and_promise_of node floor votes cs) ≡ reports cs ++ votes
+reports_with node floor votes [] = append-nil votes
+reports_with node floor votes (c ∷ cs) = ap (λ vs. c.votes ++ vs) (reports_with node floor votes cs) ∙ sym (append_assoc c.votes (reports cs) votes)
 
 -- the greatest slot
 
@@ -143,6 +143,18 @@ pub past_promise : {B : Type 0} (i past o : ℕ) (c : CountedPromise B) (cs : Li
 past_promise {B} i past o c cs l e h =
     let split = ap (λ (ds : List (CountedPromise B)). past_reports past (reports ds)) (rest_is cs i c l e) in
     sym (past_front past c.votes (reports (drop (i + 1) cs))) ∙ (sym split ∙ h)
+
+-- the first slot above each floor
+
+pub above_next : {B : Type 0} (i slot o : ℕ) (c : CountedPromise B) (cs : List (CountedPromise B)) → i < length cs → c ≡ get_or cs i c
+    → above_floors slot (drop i cs) ≡ o → above_floors (max slot (c.floor + 1)) (drop (i + 1) cs) ≡ o
+above_next {B} i slot o c cs l e h =
+    rw add-one (sym (ap (λ (ds : List (CountedPromise B)). above_floors slot ds) (rest_is cs i c l e)) ∙ h)
+
+pub above_with : {B : Type 0} (slot node floor : ℕ) (votes : List (Vote B)) (cs : List (CountedPromise B))
+    → above_floors slot (and_promise_of node floor votes cs) ≡ max (above_floors slot cs) (suc floor)
+above_with slot node floor votes [] = refl
+above_with slot node floor votes (c ∷ cs) = above_with (max slot (suc c.floor)) node floor votes cs
 
 -- the entries called for
 

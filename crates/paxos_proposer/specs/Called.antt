@@ -5,7 +5,7 @@ use Rattle.paxos_packets.specs.declared.entry.Entry.{Entry}
 use Rattle.paxos_packets.specs.declared.vote.Vote.{Vote}
 use Rattle.paxos_proposer.specs.Reports.{best}
 
--- the ballot, the first slot that was asked for, and all votes that were reported
+-- the ballot, the slot from which on it is led, and all votes that were reported
 pub record CalledFor (B : Type 0) : Type 0 where
   pub ballot : Ballot
   pub first : ℕ

@@ -4,6 +4,7 @@ use Rattle.paxos_packets.specs.Ballot.{below, same_ballot}
 use Rattle.paxos_packets.specs.declared.ballot.Ballot.{Ballot}
 use Rattle.paxos_packets.specs.declared.entry.Entry.{Entry}
 use Rattle.paxos_packets.specs.declared.vote.Vote.{Vote}
+use Rattle.paxos_proposer.specs.Proposals.{behind}
 use Rattle.paxos_proposer.specs.Role.{Role, Idle, Preparing, Leading, ProposerState}
 
 -- the limits: rounds and slots are below these
@@ -44,12 +45,12 @@ abbrev pub raise : {B : Type 0} → ℕ → ProposerState B → ProposerState B
 raise round p = record { role = p.role; seen = max p.seen round }
 
 -- it asks for promises, its own counted
-abbrev pub asking : {B : Type 0} → ℕ → Ballot → ℕ → List (Vote B) → Role B
-asking me b first votes = Preparing b first (record { node = me; votes = votes } ∷ [])
+abbrev pub asking : {B : Type 0} → ℕ → Ballot → ℕ → ℕ → List (Vote B) → Role B
+asking me b first floor votes = Preparing b first (record { node = me; floor = floor; votes = votes } ∷ [])
 
 -- it does so in a ballot whose round it then saw
-abbrev pub prepared : {B : Type 0} → ℕ → Ballot → ℕ → List (Vote B) → ProposerState B → ProposerState B
-prepared me b first votes p = record { role = asking me b first votes; seen = max p.seen b.round }
+abbrev pub prepared : {B : Type 0} → ℕ → Ballot → ℕ → ℕ → List (Vote B) → ProposerState B → ProposerState B
+prepared me b first floor votes p = record { role = asking me b first floor votes; seen = max p.seen b.round }
 
 -- a promise above its own ballot makes it idle
 abbrev pub step_down : {B : Type 0} → Ballot → Role B → Role B
@@ -62,6 +63,12 @@ abbrev pub nacked : {B : Type 0} → Ballot → Ballot → Role B → Role B
 nacked b p Idle = Idle
 nacked b p (Preparing c first promises) = if same_ballot b c && below c p then Idle else Preparing c first promises
 nacked b p (Leading c next proposed) = if same_ballot b c && below c p then Idle else Leading c next proposed
+
+-- a leader whose log is given by a snapshot up to this floor proposes above it only, and forgets what it proposed up to it
+abbrev pub raised_above : {B : Type 0} → ℕ → Role B → Role B
+raised_above floor Idle = Idle
+raised_above floor (Preparing c first promises) = Preparing c first promises
+raised_above floor (Leading c next proposed) = Leading c (max next (suc floor)) (behind floor proposed)
 
 -- whether it has a ballot under way that is below this one; and whether it has this one, and it is below the promise
 abbrev pub is_below : {B : Type 0} → Ballot → Role B → Bool

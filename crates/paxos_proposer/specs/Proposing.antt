@@ -7,6 +7,7 @@ use Rattle.paxos_proposer.specs.declared.promises.CountedPromise.{CountedPromise
 use Rattle.paxos_proposer.specs.declared.proposing.Offer.{Offer}
 use Rattle.paxos_proposer.specs.declared.moves.Move.{Move}
 use Rattle.paxos_proposer.specs.declared.moves.Move.TheVariants.{Saw}
+use Rattle.paxos_proposer.specs.Promises.{and_promise_of, lowest}
 use Rattle.paxos_proposer.specs.Proposer.{slot_end}
 use Rattle.paxos_proposer.specs.Role.{Role, Idle, Preparing, Leading}
 use Rattle.paxos_proposer.specs.Moves.{after_moves}
@@ -59,11 +60,17 @@ proposals_of (Leading b next proposed) = proposed
 abbrev pub earlier : {B : Type 0} → Bool → Role B → List (Vote B)
 earlier goes_on r = if goes_on then proposals_of r else []
 
--- a phase in which a majority promised
-abbrev pub led : Phase → Phase
-led Kept.Idle = Kept.Idle
-led (Kept.Preparing b first) = Kept.Leading b first
-led (Kept.Leading b next) = Kept.Leading b next
+-- a phase in which a majority promised, with the slot from which on it leads
+abbrev pub led : ℕ → Phase → Phase
+led slot Kept.Idle = Kept.Idle
+led slot (Kept.Preparing b first) = Kept.Leading b slot
+led slot (Kept.Leading b next) = Kept.Leading b next
+
+-- from which slot on a ballot that is being prepared would be led, if this promise were counted; the first one without such a ballot
+abbrev pub led_from : {B : Type 0} → ℕ → ℕ → List (Vote B) → ℕ → Role B → ℕ
+led_from node floor votes own Idle = 1
+led_from node floor votes own (Preparing b first promises) = lowest first own (and_promise_of node floor votes promises)
+led_from node floor votes own (Leading b next proposed) = 1
 
 -- of a proposer that was and one that is: the round, the phase and the new proposals are what is new
 pub record IsTold {B : Type 0} (seen : ℕ) (phase : Phase) (goes_on : Bool) (votes : List (Vote B)) (old new : State B) : Type 0 where

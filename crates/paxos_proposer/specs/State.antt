@@ -9,7 +9,7 @@ use Rattle.paxos_proposer.specs.declared.phase.Phase.{Phase}
 use Rattle.paxos_proposer.specs.declared.phase.Phase.TheVariants as Kept
 use Rattle.paxos_proposer.specs.Promises.{promised}
 use Rattle.paxos_proposer.specs.Proposals.{AreUpTo}
-use Rattle.paxos_proposer.specs.Proposer.{resting, raise, prepared, own_ballot, step_down, nacked, submitted}
+use Rattle.paxos_proposer.specs.Proposer.{resting, raise, prepared, own_ballot, step_down, nacked, submitted, raised_above}
 use Rattle.paxos_proposer.specs.Role.{Role, Idle, Preparing, Leading, ProposerState}
 
 pub record State (B : Type 0) : Type 0 where
@@ -47,12 +47,12 @@ begun me members = record { me = me; members = members; proposer = resting 0 }
 abbrev pub saw : {B : Type 0} → ℕ → State B → State B
 saw round s = record { me = s.me; members = s.members; proposer = raise round s.proposer }
 
-abbrev pub started : {B : Type 0} → ℕ → List (Vote B) → State B → State B
-started first votes s =
-    record { me = s.me; members = s.members; proposer = prepared s.me (own_ballot s.me s.proposer) first votes s.proposer }
+abbrev pub started : {B : Type 0} → ℕ → ℕ → List (Vote B) → State B → State B
+started first floor votes s =
+    record { me = s.me; members = s.members; proposer = prepared s.me (own_ballot s.me s.proposer) first floor votes s.proposer }
 
-abbrev pub after_promise : {B : Type 0} → ℕ → Ballot → List (Vote B) → State B → State B
-after_promise node b votes s = with_role (promised s.members node b votes s.proposer.role) s
+abbrev pub after_promise : {B : Type 0} → ℕ → Ballot → ℕ → List (Vote B) → ℕ → State B → State B
+after_promise node b floor votes own s = with_role (promised s.members node b floor votes own s.proposer.role) s
 
 abbrev pub after_submit : {B : Type 0} → Entry B → State B → State B
 after_submit e s = with_role (submitted e s.proposer.role) s
@@ -62,6 +62,9 @@ after_nack b p s = with_role (nacked b p s.proposer.role) s
 
 abbrev pub stepped_down : {B : Type 0} → Ballot → State B → State B
 stepped_down b s = with_role (step_down b s.proposer.role) s
+
+abbrev pub after_raise : {B : Type 0} → ℕ → State B → State B
+after_raise floor s = with_role (raised_above floor s.proposer.role) s
 
 -- how a role is kept: what it does, beside the promises and the proposals
 

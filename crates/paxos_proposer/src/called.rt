@@ -1,3 +1,4 @@
+// The entries that a majority's promises call for, found slot by slot without a copy.
 ghost use Rattle.std.specs.Prelude.{◌≡◌, ◌≤◌, ◌^◌, max, option_copied};
 ghost use Rattle.paxos_proposer.specs.Called.{called_at};
 ghost use Rattle.paxos_proposer.specs.Reports.{past_reports};
@@ -7,8 +8,8 @@ use crate::reports::{best, past_in, past_of};
 use paxos_packets::{Ballot, Entry, Slot, Votes};
 use std::marker::Model;
 
-/// What a promise calls for that makes a proposer lead, by reference: for each slot from the first one that was asked for to the greatest
-/// one reported, the entry that was reported with the greatest ballot, or `Noop`. No call of it allocates.
+/// What a promise calls for that makes a proposer lead, by reference: for each slot from its first proposal's to the greatest one
+/// reported, the entry that was reported with the greatest ballot, or `Noop`. No call of it allocates.
 #[derive(Drop)]
 pub struct Called<'a, B> {
     pub(crate) ballot: Ballot,

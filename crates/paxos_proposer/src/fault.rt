@@ -1,3 +1,4 @@
+// The faults of a proposer, and their numbers.
 ghost use Rattle.std.specs.Prelude.{◌≡◌};
 ghost use Rattle.paxos_proposer.specs.Fault.{number_of};
 

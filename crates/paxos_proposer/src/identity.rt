@@ -1,3 +1,4 @@
+// The keys by which a proposer finds what it proposed.
 ghost use Rattle.std.specs.Prelude.{◌≡◌};
 ghost use Rattle.paxos_proposer.specs.Identity.{identity_of};
 

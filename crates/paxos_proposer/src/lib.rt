@@ -19,7 +19,7 @@ pub use called::Called;
 pub use fault::ProposerFault;
 pub use identity::Identity;
 pub use moves::Move;
-pub use paxos_packets::{Ballot, Body, Entries, Entry, Members, Memory, Slot, Vote, Votes};
+pub use paxos_packets::{Ballot, Body, Entries, Entry, Floor, Members, Memory, Slot, Vote, Votes};
 pub use promises::CountedPromise;
 pub use proposals::Proposals;
 pub use proposer::Proposer;

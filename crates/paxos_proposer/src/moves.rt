@@ -1,3 +1,4 @@
+// The moves of a proposer, and how they are made in room that was taken before.
 ghost use Rattle.std.specs.Prelude.{◌≡◌, ◌≤◌, ◌+◌, OnOk, IsOkUnless, if◌then◌else◌};
 ghost use Rattle.paxos_proposer.specs.declared.fault.ProposerFault.TheVariants.{Memory};
 ghost use Rattle.paxos_proposer.specs.Moves.{after_move, after_moves, IsPossible, ArePossible, keeps_promise, keeps_proposal};
@@ -6,7 +7,7 @@ ghost use Rattle.paxos_proposer.specs.State.{HasRoom};
 
 use crate::fault::ProposerFault;
 use crate::proposer::Proposer;
-use paxos_packets::{Ballot, Entry, Votes};
+use paxos_packets::{Ballot, Entry, Floor, Votes};
 
 /// One change of a proposer, by the call that makes it.
 #[derive(Debug, Drop)]
@@ -18,13 +19,16 @@ pub enum Move<B> {
     /// `start`.
     Started {
         first: u64,
+        floor: Floor,
         votes: Votes<B>,
     },
     /// `on_promise`.
     Promised {
         node: u8,
         ballot: Ballot,
+        floor: Floor,
         votes: Votes<B>,
+        own: Floor,
     },
     /// `on_nack`.
     Nacked {
@@ -38,6 +42,10 @@ pub enum Move<B> {
     /// `submit`.
     Submitted {
         entry: Entry<B>,
+    },
+    /// `raise_above`.
+    Raised {
+        floor: Floor,
     },
 }
 
@@ -72,7 +80,8 @@ fn keeps_promise<B>(step: &Move<B>) -> bool
         Move::Saw { .. }
         | Move::Nacked { .. }
         | Move::SteppedDown { .. }
-        | Move::Submitted { .. } => false,
+        | Move::Submitted { .. }
+        | Move::Raised { .. } => false,
     }
 }
 
@@ -85,7 +94,8 @@ fn keeps_proposal<B>(step: &Move<B>) -> bool
         | Move::Started { .. }
         | Move::Promised { .. }
         | Move::Nacked { .. }
-        | Move::SteppedDown { .. } => false,
+        | Move::SteppedDown { .. }
+        | Move::Raised { .. } => false,
     }
 }
 
@@ -109,14 +119,21 @@ fn do_one<B: Drop>(proposer: &mut Proposer<B>, step: Move<B>)
 {
     match step {
         Move::Saw { round } => proposer.saw(round),
-        Move::Started { first, votes } => proposer.start_in_room(first, votes),
+        Move::Started {
+            first,
+            floor,
+            votes,
+        } => proposer.start_in_room(first, floor, votes),
         Move::Promised {
             node,
             ballot,
+            floor,
             votes,
-        } => proposer.on_promise_in_room(node, ballot, votes),
+            own,
+        } => proposer.on_promise_in_room(node, ballot, floor, votes, own),
         Move::Nacked { ballot, promised } => proposer.on_nack(ballot, promised),
         Move::SteppedDown { ballot } => proposer.step_down(ballot),
         Move::Submitted { entry } => proposer.submit_in_room(entry),
+        Move::Raised { floor } => proposer.raise_above(floor),
     }
 }

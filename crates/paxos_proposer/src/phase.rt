@@ -1,3 +1,4 @@
+// The phases of a proposer: idle, preparing and leading.
 use paxos_packets::Ballot;
 
 /// What a member does as a proposer, without the promises and proposals that it keeps for that.

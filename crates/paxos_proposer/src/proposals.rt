@@ -1,3 +1,4 @@
+// The proposals of one ballot, and a table by which an equal entry is found.
 ghost use Rattle.std.specs.Prelude.{◌≡◌, ℕ, ◌≤◌, ◌+◌, [], ◌∷◌, ◌++◌, true, IsTrue, OnOk, OnErr, option_copied};
 ghost use Rattle.std.specs.Map.{lookup};
 ghost use Rattle.paxos_proposer.specs.Identity.{same_identity};
@@ -84,6 +85,15 @@ impl<B: Drop> Proposals<B> {
     {
         self.list.clear();
         self.latest.clear();
+    }
+
+    /// Forgets those in slots up to this one, and keeps their memory. Takes a number of steps that grows with the proposals.
+    pub fn forget(&mut self, floor: u64)
+        ensures votes { self.new.votes ≡ behind floor self.old.votes }
+        ensures room { self.old.room ≤ self.new.room }
+    {
+        self.list.retain(|vote| floor < vote.slot.get());
+        self.latest.retain(|_identity, latest| floor < *latest);
     }
 
     /// Appends the vote as a proposal. Does not allocate, and takes a constant number of steps.

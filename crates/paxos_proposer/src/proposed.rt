@@ -1,3 +1,4 @@
+// What one event adds to a proposer's proposals.
 ghost use Rattle.std.specs.Prelude.{◌≡◌, ◌≤◌, ◌+◌, [], ◌∷◌, ◌++◌, OnOk};
 ghost use Rattle.paxos_proposer.specs.Proposals.{stands_among};
 

@@ -1,23 +1,25 @@
-ghost use Rattle.std.specs.Prelude.{◌≡◌, ◌↔◌, ◌≤◌, ◌+◌, true, false, Some, None, Ok, Err, IsOk, IfOk, OnOk, OnErr, IsOkUnless, option_map};
+// The proposer: how it begins a ballot, counts promises, proposes and steps down.
+ghost use Rattle.std.specs.Prelude.{◌≡◌, ◌↔◌, ℕ, ◌≤◌, ◌+◌, true, false, List, [], Some, None, Ok, Err, IsOk, IfOk, OnOk, OnErr, IsOkUnless, option_map};
 ghost use Rattle.std.specs.Option.{ForSome};
 ghost use Rattle.paxos_proposer.specs.declared.fault.ProposerFault.TheVariants.{Rounds, SlotsFull, NotLeading, Memory};
-ghost use Rattle.paxos_proposer.specs.Promises.{counts, called_by};
+ghost use Rattle.paxos_packets.specs.declared.vote.Vote.{Vote};
+ghost use Rattle.paxos_proposer.specs.Promises.{counts, called_by, promised};
 ghost use Rattle.paxos_proposer.specs.Proposals.{stands, behind, AreInSlots, ProposesInTurn};
 ghost use Rattle.paxos_proposer.specs.Proposer.{own_ballot, is_spent, is_leading, slots_spent, next_slot, ballot_of, is_below, is_refused};
 ghost use Rattle.paxos_proposer.specs.Reports.{is_counted, called_for};
-ghost use Rattle.paxos_proposer.specs.Role.{Idle, Preparing};
-ghost use Rattle.paxos_proposer.specs.Proposing.{first_asked, promises_of, proposals_of};
+ghost use Rattle.paxos_proposer.specs.Role.{Idle, Leading};
+ghost use Rattle.paxos_proposer.specs.Proposing.{first_asked, promises_of, proposals_of, led_from};
 ghost use Rattle.paxos_proposer.specs.State.{role_of, IsAboveNone};
 ghost use Rattle.paxos_proposer.specs.State.{HasRoom, role_in, with_role, begun, saw, started, after_promise, after_submit, after_nack};
-ghost use Rattle.paxos_proposer.specs.State.{stepped_down};
+ghost use Rattle.paxos_proposer.specs.State.{stepped_down, after_raise};
 
 use crate::called::Called;
 use crate::fault::ProposerFault;
 use crate::phase::Phase;
-use crate::promises::{CountedPromise, is_counted, is_majority_with};
+use crate::promises::{CountedPromise, is_counted, is_majority_with, lowest_with};
 use crate::proposals::Proposals;
 use crate::reports::called_for;
-use paxos_packets::{Ballot, Body, Entries, Entry, Members, Slot, Vote, Votes};
+use paxos_packets::{Ballot, Body, Entries, Entry, Floor, Members, Slot, Vote, Votes};
 use std::alloc::Global;
 use std::marker::Model;
 
@@ -204,6 +206,18 @@ impl<B> Proposer<B> {
         self.phase
     }
 
+    // Returns from which slot on the ballot that is being prepared would be led, if a promise with this floor were counted; `own` is the
+    // member's own floor.
+    pub(crate) fn led_from(&self, floor: Floor, own: Floor) -> u64
+        ensures slot { (node : ℕ) (votes : List (Vote B)) → result ≡ led_from node floor votes own (role_in self.now) }
+        ensures least { 1 ≤ result }
+    {
+        match self.phase {
+            Phase::Preparing { first, .. } => lowest_with(first, own, &self.promises, floor),
+            Phase::Idle | Phase::Leading { .. } => 1,
+        }
+    }
+
     // Returns whether a promise of this ballot by this node is to be counted.
     fn counts(&self, node: u8, ballot: Ballot) -> bool
         ensures { result ≡ counts node ballot (role_in self.now) }
@@ -239,11 +253,16 @@ impl<B> Proposer<B> {
 }
 
 impl<B: Drop> Proposer<B> {
-    /// Begins its next ballot with this member's own promise, which reports these votes: those of its rows from the slot `first` on. Drops
-    /// what the ballot before it had. Returns `Rounds` if no round is left. After a fault the proposer is as it was.
-    pub fn start(&mut self, first: u64, votes: Votes<B>) -> Result<Ballot, ProposerFault>
+    /// Begins its next ballot with this member's own promise, which reports its floor, and these votes: those of its rows from the slot
+    /// `first` on. Drops what the ballot before it had. Returns `Rounds` if no round is left. After a fault the proposer is as it was.
+    pub fn start(
+        &mut self,
+        first: u64,
+        floor: Floor,
+        votes: Votes<B>,
+    ) -> Result<Ballot, ProposerFault>
         requires { 1 ≤ first }
-        ensures ok { OnOk result (self.new.state ≡ started first votes self.old.state) }
+        ensures ok { OnOk result (self.new.state ≡ started first floor votes self.old.state) }
         ensures ballot { IfOk result (λ ballot. ballot ≡ own_ballot self.old.state.me self.old.state.proposer) }
         ensures err { OnErr result (self.new.state ≡ self.old.state) }
         ensures rounds { (result ≡ Err Rounds) ↔ (is_spent self.old.state.proposer ≡ true) }
@@ -253,7 +272,7 @@ impl<B: Drop> Proposer<B> {
         if self.promises.reserve(1).is_err() {
             return Err(ProposerFault::Memory);
         }
-        self.start_in_room(first, votes);
+        self.start_in_room(first, floor, votes);
         Ok(ballot)
     }
 
@@ -298,6 +317,23 @@ impl<B: Drop> Proposer<B> {
         }
     }
 
+    /// Notes that a snapshot gives this member's log up to the floor: a leader proposes above it only, and forgets what it proposed up to
+    /// it. Takes a number of steps that grows with its proposals. Does not allocate.
+    pub fn raise_above(&mut self, floor: Floor)
+        ensures state { self.new.state ≡ after_raise floor self.old.state }
+        ensures promises { self.old.room.promises ≤ self.new.room.promises }
+        ensures proposals { self.old.room.proposals ≤ self.new.room.proposals }
+    {
+        let Phase::Leading { ballot, next } = self.phase else {
+            return;
+        };
+        self.proposed.forget(floor.get());
+        self.phase = Phase::Leading {
+            ballot,
+            next: next.max(floor.get() + 1),
+        };
+    }
+
     /// Reserves memory for `promises` further promises and `proposals` further proposals. The proposer stays as it was, with a fault too.
     pub fn make_room(&mut self, promises: usize, proposals: usize) -> Result<(), ProposerFault>
         ensures state { self.new.state ≡ self.old.state }
@@ -312,11 +348,11 @@ impl<B: Drop> Proposer<B> {
 
     /// Does what `start` does, given that a round is left, and room for a promise. Does not allocate.
     #[tactic(auto, unfolding(crate::specs::Proposer::round_end))]
-    pub fn start_in_room(&mut self, first: u64, votes: Votes<B>)
+    pub fn start_in_room(&mut self, first: u64, floor: Floor, votes: Votes<B>)
         requires first { 1 ≤ first }
         requires round { is_spent self.old.state.proposer ≡ false }
         requires room { 1 ≤ self.old.room.promises }
-        ensures state { self.new.state ≡ started first votes self.old.state }
+        ensures state { self.new.state ≡ started first floor votes self.old.state }
         ensures promises { self.old.room.promises ≤ self.new.room.promises + 1 }
         ensures proposals { self.old.room.proposals ≤ self.new.room.proposals }
     {
@@ -329,33 +365,47 @@ impl<B: Drop> Proposer<B> {
         self.proposed.clear();
         self.promises.push_reserved(CountedPromise {
             node: self.me,
+            floor,
             votes,
         });
         self.phase = Phase::Preparing { ballot, first };
     }
 
     /// Does what `on_promise` does, given room for a promise, but does not compute what the reports call for. Does not allocate.
-    pub fn on_promise_in_room(&mut self, node: u8, ballot: Ballot, votes: Votes<B>)
+    pub fn on_promise_in_room(
+        &mut self,
+        node: u8,
+        ballot: Ballot,
+        floor: Floor,
+        votes: Votes<B>,
+        own: Floor,
+    )
         requires { 1 ≤ self.old.room.promises }
-        ensures state { self.new.state ≡ after_promise node ballot votes self.old.state }
+        ensures state { self.new.state ≡ after_promise node ballot floor votes own self.old.state }
         ensures promises { self.old.room.promises ≤ self.new.room.promises + 1 }
         ensures proposals { self.old.room.proposals ≤ self.new.room.proposals }
     {
-        let Phase::Preparing { ballot: own, first } = self.phase else {
+        let Phase::Preparing {
+            ballot: under_way,
+            first,
+        } = self.phase
+        else {
             return;
         };
         if !self.counts(node, ballot) {
             return;
         }
         if !is_majority_with(self.members, &self.promises, node) {
-            self.promises.push_reserved(CountedPromise { node, votes });
+            self.promises
+                .push_reserved(CountedPromise { node, floor, votes });
             return;
         }
+        let next = lowest_with(first, own, &self.promises, floor);
         self.promises.clear();
         self.proposed.clear();
         self.phase = Phase::Leading {
-            ballot: own,
-            next: first,
+            ballot: under_way,
+            next,
         };
     }
 
@@ -406,21 +456,28 @@ impl<B> Proposer<B> {
         &'a self,
         node: u8,
         ballot: Ballot,
+        floor: Floor,
         votes: &'a Votes<B>,
+        own: Floor,
     ) -> Option<Called<'a, B>>
         ensures called { option_map (λ c. called_for c.first c.votes) result
-            ≡ called_by self.now.state.members node ballot votes.now (role_in self.now) }
-        ensures role { ForSome result (λ c. role_in self.now ≡ Preparing c.ballot c.first (promises_of (role_in self.now))) }
+            ≡ called_by self.now.state.members node ballot floor votes.now own (role_in self.now) }
+        ensures role { ForSome result
+            (λ c. promised self.now.state.members node ballot floor votes.now own (role_in self.now) ≡ Leading c.ballot c.first []) }
     {
-        let Phase::Preparing { ballot: own, first } = self.phase else {
+        let Phase::Preparing {
+            ballot: under_way,
+            first,
+        } = self.phase
+        else {
             return None;
         };
         if !self.counts(node, ballot) || !is_majority_with(self.members, &self.promises, node) {
             return None;
         }
         Some(Called {
-            ballot: own,
-            first,
+            ballot: under_way,
+            first: lowest_with(first, own, &self.promises, floor),
             promises: &self.promises,
             last: votes,
         })
@@ -440,14 +497,18 @@ impl<B: Body> Proposer<B> {
     }
 
     /// Returns the entries that this promise calls for, if it makes the proposer lead: for each slot from the first one that was asked for
-    /// to the greatest one reported, the entry that was reported with the greatest ballot, or `Noop`.
+    /// to the greatest one reported, but only above its own floor and each one that was reported, the entry that was reported with the
+    /// greatest ballot, or `Noop`.
     pub fn called_by(
         &self,
         node: u8,
         ballot: Ballot,
+        floor: Floor,
         votes: &Votes<B>,
+        own: Floor,
     ) -> Result<Option<Entries<B>>, ProposerFault>
-        ensures called { IfOk result (λ called. called ≡ called_by self.now.state.members node ballot votes.now (role_in self.now)) }
+        ensures called { IfOk result
+            (λ called. called ≡ called_by self.now.state.members node ballot floor votes.now own (role_in self.now)) }
         ensures memory { IsOkUnless result Memory }
     {
         let Phase::Preparing { first, .. } = self.phase else {
@@ -456,33 +517,36 @@ impl<B: Body> Proposer<B> {
         if !self.counts(node, ballot) || !is_majority_with(self.members, &self.promises, node) {
             return Ok(None);
         }
+        let first = lowest_with(first, own, &self.promises, floor);
         match called_for(self.alloc, first, &self.promises, votes) {
             Ok(entries) => Ok(Some(entries)),
             Err(_) => Err(ProposerFault::Memory),
         }
     }
 
-    /// Counts a member's promise of the ballot, which reported these votes, if the ballot is under way and no promise of that member was
-    /// counted yet. With a majority the proposer leads, and the result is the entries that it has to propose then (`called_by`). After a
-    /// fault the proposer is as it was.
+    /// Counts a member's promise of the ballot, which reported this floor and these votes, if the ballot is under way and no promise of that
+    /// member was counted yet; `own` is the floor of this member now. With a majority the proposer leads, and the result is the entries
+    /// that it has to propose then (`called_by`). After a fault the proposer is as it was.
     pub fn on_promise(
         &mut self,
         node: u8,
         ballot: Ballot,
+        floor: Floor,
         votes: Votes<B>,
+        own: Floor,
     ) -> Result<Option<Entries<B>>, ProposerFault>
-        ensures ok { OnOk result (self.new.state ≡ after_promise node ballot votes self.old.state) }
-        ensures called { IfOk result (λ called. called ≡ called_by self.old.state.members node ballot votes (role_in self.old)) }
+        ensures ok { OnOk result (self.new.state ≡ after_promise node ballot floor votes own self.old.state) }
+        ensures called { IfOk result (λ called. called ≡ called_by self.old.state.members node ballot floor votes own (role_in self.old)) }
         ensures err { OnErr result (self.new.state ≡ self.old.state) }
         ensures memory { IsOkUnless result Memory }
     {
-        let Ok(called) = self.called_by(node, ballot, &votes) else {
+        let Ok(called) = self.called_by(node, ballot, floor, &votes, own) else {
             return Err(ProposerFault::Memory);
         };
         if self.promises.reserve(1).is_err() {
             return Err(ProposerFault::Memory);
         }
-        self.on_promise_in_room(node, ballot, votes);
+        self.on_promise_in_room(node, ballot, floor, votes, own);
         Ok(called)
     }
 }

@@ -1,3 +1,4 @@
+// How an event is planned on a proposer: what is to be done to it, and what it would be then.
 ghost use Rattle.std.specs.Prelude.{◌≡◌, ◌↔◌, ◌≤◌, [], true, false, is_some, Err, IsOk, IfOk, OnOk, OnErr, IsOkUnless};
 ghost use Rattle.paxos_proposer.specs.declared.fault.ProposerFault.TheVariants.{Rounds, Memory};
 ghost use Rattle.paxos_proposer.specs.declared.moves.Move.TheVariants.{Started, Promised, Nacked, SteppedDown, Submitted};
@@ -13,7 +14,7 @@ use crate::moves::Move;
 use crate::phase::Phase;
 use crate::proposed::Proposed;
 use crate::proposer::{LAST_ROUND, Proposer};
-use paxos_packets::{Ballot, Body, Entries, Entry, Slot, Vote, Votes};
+use paxos_packets::{Ballot, Body, Entries, Entry, Floor, Slot, Vote, Votes};
 use std::alloc::Global;
 use std::marker::Model;
 
@@ -161,13 +162,13 @@ impl<'a, B: Drop> Proposing<'a, B> {
         Ok(())
     }
 
-    /// Plans that it begins its next ballot with this member's own promise, which reports these votes.
+    /// Plans that it begins its next ballot with this member's own promise, which reports its floor and these votes.
     #[tactic(auto, unfolding(crate::specs::Proposer::round_end))]
-    pub fn start(&mut self, first: u64, votes: Votes<B>) -> Result<(), ProposerFault>
+    pub fn start(&mut self, first: u64, floor: Floor, votes: Votes<B>) -> Result<(), ProposerFault>
         requires first { 1 ≤ first }
         requires round { is_spent (after self.old).proposer ≡ false }
-        ensures ok { OnOk result (self.new ≡ and_move (Started first votes) self.old) }
-        ensures after { OnOk result (after self.new ≡ started first votes (after self.old)) }
+        ensures ok { OnOk result (self.new ≡ and_move (Started first floor votes) self.old) }
+        ensures after { OnOk result (after self.new ≡ started first floor votes (after self.old)) }
         ensures err { OnErr result (self.new ≡ self.old) }
         ensures memory { IsOkUnless result Memory }
     {
@@ -179,7 +180,11 @@ impl<'a, B: Drop> Proposing<'a, B> {
             round: self.seen,
             node: self.proposer.me(),
         };
-        self.moves.push_reserved(Move::Started { first, votes });
+        self.moves.push_reserved(Move::Started {
+            first,
+            floor,
+            votes,
+        });
         self.proposed.clear();
         self.goes_on = false;
         self.phase = Phase::Preparing { ballot, first };
@@ -239,36 +244,42 @@ impl<'a, B: Body> Proposing<'a, B> {
             || self.proposed.stands(applied, entry)
     }
 
-    /// Plans a member's promise of the ballot, which reported these votes, given that nothing was planned before that ends or begins a
-    /// ballot. With a majority the proposer leads, and the result is the entries that it has to propose then.
+    /// Plans a member's promise of the ballot, which reported this floor and these votes, given that nothing was planned before that ends or
+    /// begins a ballot; `own` is the floor of this member now. With a majority the proposer leads, and the result is the entries that it has to propose then.
     pub fn on_promise(
         &mut self,
         node: u8,
         ballot: Ballot,
+        floor: Floor,
         votes: Votes<B>,
+        own: Floor,
     ) -> Result<Option<Entries<B>>, ProposerFault>
         requires { role_then self.old ≡ self.old.before.proposer.role }
-        ensures ok { OnOk result (self.new ≡ and_move (Promised node ballot votes) self.old) }
-        ensures after { OnOk result (after self.new ≡ after_promise node ballot votes (after self.old)) }
-        ensures called { IfOk result (λ called. called ≡ called_by (after self.old).members node ballot votes (role_then self.old)) }
+        ensures ok { OnOk result (self.new ≡ and_move (Promised node ballot floor votes own) self.old) }
+        ensures after { OnOk result (after self.new ≡ after_promise node ballot floor votes own (after self.old)) }
+        ensures called { IfOk result
+            (λ called. called ≡ called_by (after self.old).members node ballot floor votes own (role_then self.old)) }
         ensures err { OnErr result (self.new ≡ self.old) }
         ensures memory { IsOkUnless result Memory }
     {
-        let called = self.proposer.called_by(node, ballot, &votes)?;
+        let called = self.proposer.called_by(node, ballot, floor, &votes, own)?;
+        let slot = self.proposer.led_from(floor, own);
         if self.moves.reserve(1).is_err() {
             return Err(ProposerFault::Memory);
         }
         self.moves.push_reserved(Move::Promised {
             node,
             ballot,
+            floor,
             votes,
+            own,
         });
         let Some(entries) = called else {
             return Ok(None);
         };
         self.proposed.clear();
         self.goes_on = false;
-        self.phase = led(self.phase);
+        self.phase = led(self.phase, slot);
         Ok(Some(entries))
     }
 
@@ -307,16 +318,13 @@ impl<'a, B: Body> Proposing<'a, B> {
     }
 }
 
-// Returns the phase after a majority's promises.
-fn led(phase: Phase) -> Phase
-    ensures { result ≡ led phase }
+// Returns the phase after a majority's promises, with the slot from which on it leads.
+fn led(phase: Phase, slot: u64) -> Phase
+    ensures { result ≡ led slot phase }
 {
     match phase {
         Phase::Idle => Phase::Idle,
-        Phase::Preparing { ballot, first } => Phase::Leading {
-            ballot,
-            next: first,
-        },
+        Phase::Preparing { ballot, .. } => Phase::Leading { ballot, next: slot },
         Phase::Leading { ballot, next } => Phase::Leading { ballot, next },
     }
 }

@@ -1,3 +1,4 @@
+// What the promises of a majority report, and which entries a new leader has to propose for that.
 ghost use Rattle.std.specs.Prelude.{◌≡◌, ◌<◌, ◌≤◌, ◌^◌, List, [], ◌∷◌, ◌++◌, max, IfOk, OnOk, option_copied};
 ghost use Rattle.paxos_packets.specs.declared.vote.Vote.{Vote};
 ghost use Rattle.paxos_proposer.specs.Reports.{reports, best, greater, past_reports, entry_or_noop, called_for};

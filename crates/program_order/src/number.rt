@@ -1,3 +1,4 @@
+// Numbers on the command line.
 ghost use Rattle.std.specs.Prelude.{◌≡◌, ◌<◌, ◌^◌};
 ghost use Rattle.program_order.specs.Number.{begins_with_digit, number_in};
 

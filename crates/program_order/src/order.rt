@@ -1,3 +1,4 @@
+// From the words of a command line to an order, or to the text of `--help` or `--version`.
 ghost use Rattle.std.specs.Prelude.{◌≡◌, ◌≤◌, true, IfOk, IfSome, MatchResult, Some, codes, is_some, map, option_map};
 ghost use Rattle.std.specs.String.{string_bytes};
 ghost use Rattle.clap.specs.Words.{first_of, found_of, kind_of, rows_of, subcommand_of, subcommand_rows_of, takes};

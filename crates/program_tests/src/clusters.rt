@@ -1,3 +1,4 @@
+// Rows of command lines of `serve`: which order each is, or the status of its fault.
 use crate::order::are_read;
 
 // Command lines of a cluster that serves. Each option comes first and last once, and the five come in many orders.

@@ -1,3 +1,4 @@
+// Rows of command lines: which order each is, the hints of faults, and the texts of help and version.
 use crate::check::Check;
 use cluster_program::{Order, UsageFault, help_of, order_of, unreadable_words};
 use std::alloc::{AllocError, Global};

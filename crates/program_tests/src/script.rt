@@ -1,3 +1,4 @@
+// Rows of scripts and the texts that they write; bad lines, failed reads and writes, and a long text.
 use crate::check::Check;
 use cluster_program::{Members, RunFault, script_run};
 use std::alloc::{AllocError, Global};

@@ -1,7 +1,8 @@
+// A store over SQLite, asked row by row: a new one, changes, those without a place, and disks that are opened after a crash.
 use crate::check::Check;
 use acceptor_store::SqlKeeper;
 use command_codec::Coder;
-use paxos_packets::{Ballot, Body, Change, Entry, Rows, Slot, Vote, Votes};
+use paxos_packets::{Ballot, Body, Change, Entry, Rows, Slot, Snapshot, Vote, Votes};
 use sqlite::{Alter, Connection, FileStore, Files, MemStore, Options};
 use sqlite_disk::{Crash, Memory};
 use std::alloc::Global;
@@ -24,12 +25,14 @@ pub enum Call {
     Commit,
 }
 
-/// What is asked of a store: a commit has its round, its bodies and its slots. `Whole` is a call that commits, or whose rows are compared
-/// with: the promise (1, 1), if the first is true, and the vote in slot 1 and that ballot for Boot (1, 1), if the second is.
+/// What is asked of a store: a commit has its round, its bodies and its slots, and `Cut` commits a snapshot with this floor. `Whole` is a
+/// call that commits, or whose rows are compared with: the promise (1, 1), if the first is true, and the vote in slot 1 and that ballot for
+/// Boot (1, 1), if the second is.
 pub enum Ask<'a> {
     Load,
     Boot,
     Commit(u64, u32, &'a [u64]),
+    Cut(u8),
     Whole(Call, bool, bool),
     Failures,
 }
@@ -148,9 +151,21 @@ fn committed<S: Alter>(
     let ballot = Ballot { round, node: 1 };
     let mut change = Change {
         promised: Some(ballot),
+        snapshot: None,
         votes: Votes::new(alloc),
     };
     put_all(rt, &mut change.votes, ballot, body, slots);
+    let done = commit(keeper, &change);
+    drop(change);
+    done
+}
+
+// Commits a snapshot with this floor.
+fn cut<S: Alter>(rt: &impl Abort, alloc: Global, keeper: &mut Sql<S>, floor: u8) -> Answer {
+    let octets = [0, 0, 0, 0, 0, 0, 0, floor];
+    let octets = Vec::from_slice(alloc, &octets).expect(rt, "room for octets");
+    let mut change: Change<Number> = Change::none(alloc);
+    change.snapshot = Snapshot::of(octets).expect(rt, "room for a snapshot");
     let done = commit(keeper, &change);
     drop(change);
     done
@@ -171,6 +186,7 @@ fn put_boot(rt: &impl Abort, votes: &mut Votes<Number>) {
 fn change(rt: &impl Abort, alloc: Global, promises: bool, votes: bool) -> Change<Number> {
     let mut change = Change {
         promised: if promises { Some(FIRST) } else { None },
+        snapshot: None,
         votes: Votes::new(alloc),
     };
     if votes {
@@ -228,6 +244,7 @@ fn asked<S: Alter>(rt: &impl Abort, alloc: Global, keeper: &mut Sql<S>, ask: &As
         Ask::Load => load(keeper),
         Ask::Boot => boot(keeper),
         Ask::Commit(round, body, slots) => committed(rt, alloc, keeper, *round, *body, slots),
+        Ask::Cut(floor) => cut(rt, alloc, keeper, *floor),
         Ask::Whole(call, promises, votes) => asked_whole(
             rt, alloc, keeper, *call, *promises, *votes,
         ),
@@ -323,6 +340,19 @@ const WITHOUT_A_PLACE_AGAIN: &[Row<'static>] = &[
 #[test]
 fn changes_without_a_place(rt: HostRuntime) {
     two_in_memory(&rt, rt.alloc(), WITHOUT_A_PLACE, WITHOUT_A_PLACE_AGAIN);
+}
+
+const WITH_A_SNAPSHOT: &[Row<'static>] = &[
+    (Ask::Commit(3, 8, &[3]), (0, 0, 0, [0, 0, 0])),
+    (Ask::Cut(2), (62, 0, 0, [0, 0, 0])),
+    (Ask::Load, (65, 0, 0, [0, 0, 0])),
+];
+
+const WITH_A_SNAPSHOT_AGAIN: &[Row<'static>] = &[(Ask::Load, (0, 0, 3, [0, 0, 3]))];
+
+#[test]
+fn a_change_with_a_snapshot_has_no_place(rt: HostRuntime) {
+    two_in_memory(&rt, rt.alloc(), WITH_A_SNAPSHOT, WITH_A_SNAPSHOT_AGAIN);
 }
 
 /// Runs the text in a store, and returns it opened again.

@@ -1,3 +1,4 @@
+// A store over SQLite of clients' acts: they are found again, and one without a spelling is refused.
 use crate::check::Check;
 use crate::sql::{in_memory, opened};
 use acceptor_store::SqlKeeper;
@@ -134,6 +135,7 @@ fn put_all(rt: &impl Abort, alloc: Global, votes: &mut Votes<Act>, words: &[&str
 fn promise(alloc: Global) -> Change<Act> {
     Change {
         promised: Some(Ballot { round: 1, node: 1 }),
+        snapshot: None,
         votes: Votes::new(alloc),
     }
 }

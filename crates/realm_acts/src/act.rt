@@ -1,3 +1,4 @@
+// Acts, with their copy and equality.
 ghost use Rattle.std.specs.Prelude.{◌≡◌};
 ghost use Rattle.realm_acts.specs.Act.{same_read};
 

@@ -1,3 +1,4 @@
+//! A realm's open calls: how they open, how an answer or a cancel ends them, and which end with a session.
 ghost use Rattle.std.specs.Prelude.{◌≡◌, ◌↔◌, ◌+◌, ◌<◌, ◌^◌, [], true, false, OnOk, OnErr, IfOk, IsErrOf, IsOkUnless, find};
 ghost use Rattle.std.specs.Prelude.{filter, option_map, map};
 ghost use Rattle.realm_sessions.specs.declared.fault.RealmFault.TheVariants as fault;

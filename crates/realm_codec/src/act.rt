@@ -1,3 +1,4 @@
+//! The coder of acts.
 ghost use Rattle.std.specs.Prelude.{◌≡◌, ◌≢◌, [], ◌∷◌, Some, Ok, Err, IfOk, IfErr, MatchResult};
 ghost use Rattle.command_codec.specs.Coder.{Puts};
 ghost use Rattle.command_codec.specs.Number.{number_reading};

@@ -1,3 +1,4 @@
+//! The traits of groups of sessions, and of those whose sessions take turns.
 ghost use Rattle.std.specs.Prelude.{◌≡◌, ℕ, List, true, false, OnOk, OnErr, IsOkUnless};
 ghost use Rattle.wamp_ids.specs.Pattern.{PatternValue};
 ghost use Rattle.realm_sessions.specs.Members.{has_member, has_members, joined, others};

@@ -1,3 +1,4 @@
+//! A table of groups: finds them by id, by pattern and by URI, and lets sessions join and leave.
 ghost use Rattle.std.specs.Prelude.{◌≡◌, ◌≤◌, ◌<◌, ◌+◌, ◌∷◌, [], ◌++◌, ℕ, List, true, false, None};
 ghost use Rattle.std.specs.Prelude.{Some, not, ◌&&◌, length, filter, find, map, option_map, option_copied, IfOk, OnOk, OnErr, IsOkUnless};
 ghost use Rattle.wamp_ids.specs.Id.{last_id};

@@ -1,3 +1,4 @@
+//! Sets of ids by sessions: which groups each session is in.
 ghost use Rattle.std.specs.Prelude.{◌≡◌, ℕ, ◌==◌, [], false, true, ◌&&◌, IfSome, IfNone, OnOk, OnErr, length, if◌then◌else◌};
 ghost use Rattle.std.specs.List.Sorted.{IsStrictlySortedBy};
 ghost use Rattle.std.specs.Ordering.{nat_cmp};

@@ -1,3 +1,4 @@
+// A list by places, of which members are appended, replaced and removed.
 ghost use Rattle.std.specs.Prelude.{◌≡◌, ℕ, ◌<◌, ◌^◌, [], ◌∷◌, ◌++◌, length, SomeIff, IfSome, IfOk, OnOk, OnErr, IsSome, option_copied};
 ghost use Rattle.realm_lists.specs.OrderedList.{IsAbove, next_place, member_at, members, members_at, without, with_member};
 ghost use Rattle.realm_lists.specs.Finding.{AreRising};

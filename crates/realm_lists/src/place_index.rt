@@ -1,3 +1,4 @@
+// Places by keys in order, also by the first part of a key.
 ghost use Rattle.std.specs.Prelude.{◌≡◌, ◌+◌, ◌<◌, ◌^◌, [], Some, None, IfOk, OnOk, OnErr, if◌then◌else◌};
 ghost use Rattle.realm_lists.specs.PlaceIndex.{place_at, places_under};
 

@@ -1,3 +1,4 @@
+// Places by keys, each of which is looked up as a whole.
 ghost use Rattle.std.specs.Prelude.{◌≡◌, [], Some, None, OnOk, OnErr, if◌then◌else◌};
 ghost use Rattle.realm_lists.specs.PlaceIndex.{place_at};
 

@@ -1,3 +1,4 @@
+// Counts by numbers, such as the open calls of each caller.
 ghost use Rattle.std.specs.Prelude.{◌≡◌, ℕ, ◌+◌, ◌-◌, ◌<◌, ◌^◌, ◌==◌, [], OnOk, OnErr, if◌then◌else◌};
 ghost use Rattle.realm_lists.specs.Tally.{count_in};
 

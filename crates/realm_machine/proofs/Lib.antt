@@ -1,2 +1,4 @@
 pub mod Unheard
 pub mod Along
+pub mod Limited
+pub mod Filled

@@ -24,6 +24,15 @@ pub record Content : Type 0 where
   pub subscriptions : Subscriptions
   pub calls : Calls
 
+-- what its parts are held to
+abbrev pub limits_in : Content → Limits
+limits_in c = record {
+  sessions = c.sessions.limit;
+  registrations = c.registrations.limit;
+  subscriptions = c.subscriptions.limit;
+  calls = c.calls.limit;
+}
+
 -- nothing, under these limits
 abbrev pub empty : Limits → Content
 empty limits = record {

@@ -11,7 +11,7 @@ use Rattle.realm_machine.specs.declared.sayings.say.Say.{Say}
 use Rattle.realm_machine.specs.Config.{Config}
 use Rattle.realm_machine.specs.Content.{Content}
 use Rattle.realm_machine.specs.Step.{says}
-use Rattle.realm_machine.specs.Machine.{Live, realm_of, begun, next_live, said_live, to}
+use Rattle.realm_machine.specs.Machine.{Live, realm_of, begun, to, live_steps}
 
 -- nothing is said to a transport that hangs up, whatever ends with its session
 abbrev pub HungUpIsToldNothing : Type 0
@@ -22,7 +22,7 @@ HungUpIsToldNothing = (config : Config) (c : Content) (t : Transport)
 
 -- the machine that `Realm` is, begun with this configuration
 abbrev pub live_realm : Config → Machine Act Live Say
-live_realm config = machine_from next_live said_live to (begun config)
+live_realm config = machine_from live_steps (begun config)
 
 -- it has the content of the realm of that configuration, and says the same
 abbrev pub FollowsAsItsRealm : Type 0

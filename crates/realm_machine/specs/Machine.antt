@@ -2,7 +2,7 @@
 use Rattle.std.specs.Prelude.{Bool, true, false, List, Option, None, Some}
 use Rattle.paxos_packets.specs.declared.transport.Transport.{Transport}
 use Rattle.replica_machine.specs.declared.input.Input.{Input}
-use Rattle.replica_machine.specs.Replay.{Machine}
+use Rattle.replica_machine.specs.Replay.{Machine, Steps}
 use Rattle.realm_acts.specs.declared.act.Act.{Act}
 use Rattle.realm_machine.specs.declared.sayings.say.Say.{Say}
 use Rattle.realm_machine.specs.Config.{Config}
@@ -35,6 +35,9 @@ next_live live input = record { config = live.config; content = (realm_of live.c
 
 abbrev pub said_live : Live → Input Act → List Say
 said_live live input = (realm_of live.config).says live.content input
+
+abbrev pub live_steps : Steps Act Live Say
+live_steps = record { next = next_live; says = said_live; to = to }
 
 -- of a failed realm the content is of no meaning
 abbrev pub known : Config → Option Content → Content

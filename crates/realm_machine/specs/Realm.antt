@@ -6,7 +6,7 @@ use Rattle.paxos_packets.specs.declared.transport.Transport.{Transport}
 use Rattle.realm_acts.specs.declared.act.Act.{Act}
 use Rattle.realm_machine.specs.declared.sayings.say.Say.{Say}
 use Rattle.realm_machine.specs.Config.{Config}
-use Rattle.realm_machine.specs.Content.{Content}
+use Rattle.realm_machine.specs.Content.{Content, limits_in}
 use Rattle.realm_machine.specs.Leaving.{gone}
 use Rattle.realm_machine.specs.Step.{next, says}
 
@@ -14,6 +14,11 @@ use Rattle.realm_machine.specs.Step.{next, says}
 pub record State : Type 0 where
   pub config : Config
   pub content : Option Content
+
+-- a content that is there is held to the limits of the configuration
+abbrev pub IsLimited : Config → Option Content → Type 0
+IsLimited config None = Unit {0}
+IsLimited config (Some c) = limits_in c ≡ config.limits
 
 -- what the call `act` returns, and how it leaves the content: it fails only if memory runs out, and the realm has failed then
 abbrev pub Acts : {E : Type 0} → Config → Option Content → Transport → Act → Result (Vec Say Global) E → Option Content → Type 0

@@ -1,3 +1,4 @@
+//! A realm's configuration: its name and its limits.
 ghost use Rattle.std.specs.Prelude.{◌≡◌, bytes_eq};
 
 use std::marker::Model;

@@ -1,3 +1,4 @@
+//! What a realm holds, and the replies and refusals that the cases of its step share.
 ghost use Rattle.std.specs.Prelude.{◌≡◌, IfOk};
 ghost use Rattle.realm_machine.specs.Sayings.{say_to};
 ghost use Rattle.realm_machine.specs.Content.{Does, empty, reply, refuse, refuse_for};

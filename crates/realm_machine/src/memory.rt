@@ -1,3 +1,4 @@
+//! The fault of a step, and which faults of other crates become it.
 use realm_sessions::RealmFault;
 use std::alloc::{AllocError, AllocFailed};
 

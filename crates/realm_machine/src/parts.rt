@@ -118,10 +118,19 @@ impl Realm {
     ) -> Result<Realm, RestoreFault>
         ensures { Restores result (realm_with (record { name = name.now; limits = limits }) lists.now) }
     {
-        let name = Text::new(alloc, name)?;
+        let config = Config {
+            name: Text::new(alloc, name)?,
+            limits,
+        };
         let mut content = Content::new(alloc, limits);
         let done = content.fill(limits, lists);
-        done.and(Ok(Realm::holding(Config { name, limits }, content)))
+        match done.and(Ok((config, content))) {
+            Ok((config, content)) => Ok(Realm {
+                config,
+                content: Some(content),
+            }),
+            Err(fault) => Err(fault),
+        }
     }
 }
 

@@ -1,5 +1,6 @@
-ghost use Rattle.std.specs.Prelude.{◌≡◌, Some, string_bytes};
-ghost use Rattle.realm_machine.specs.Content.{empty};
+//! The realm: how it is made, and how it takes acts and the end of a node.
+ghost use Rattle.std.specs.Prelude.{◌≡◌, Some, string_bytes, IfOk};
+ghost use Rattle.realm_machine.specs.Content.{empty, limits_in};
 ghost use Rattle.realm_machine.specs.Realm.{Acts, Goes};
 ghost use Rattle.realm_machine.specs.Parts.{Shows};
 
@@ -17,9 +18,9 @@ use wamp_ids::Text;
 /// One realm of a router: its sessions, its registrations with their callees, its subscriptions with their members, and its open
 /// calls.
 pub struct Realm {
-    config: Config,
-    // `None` once the realm has failed.
-    content: Option<Content>,
+    pub(crate) config: Config,
+    // `None` once the realm has failed. Its limits are the configuration's.
+    pub(crate) content: Option<Content>,
 }
 
 impl Drop for Realm {
@@ -32,11 +33,13 @@ impl Drop for Realm {
 }
 
 impl Model for Realm {
-    ghost use Rattle.realm_machine.specs.Realm.{State};
+    ghost use Rattle.realm_machine.specs.Realm.{State, IsLimited};
 
     ghost Value = { State };
 
     ghost view = { λ a. record { config = a.config; content = a.content } };
+
+    ghost invariant = { λ a. IsLimited a.config a.content };
 }
 
 impl Realm {
@@ -54,19 +57,10 @@ impl Realm {
         }
     }
 
-    // Returns the realm of this configuration that holds this.
-    pub(crate) fn holding(config: Config, content: Content) -> Realm
-        ensures { result ≡ record { config = config; content = Some content } }
-    {
-        Realm {
-            config,
-            content: Some(content),
-        }
-    }
-
     /// Returns the realm's name and limits, and what it holds. Fails if the realm has failed. Does not allocate.
     pub fn parts(&self) -> Result<Parts<'_>, Failed>
-        ensures { Shows self.now result }
+        ensures shown { Shows self.now result }
+        ensures limits { IfOk result (λ parts. limits_in parts.content ≡ parts.config.limits) }
     {
         let Some(content) = &self.content else {
             return Err(Failed);

@@ -1,3 +1,4 @@
+//! The sender of a request, and the draw for it.
 use paxos_packets::Transport;
 use wamp_ids::Id;
 

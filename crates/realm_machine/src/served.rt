@@ -1,3 +1,4 @@
+//! The limits of the realms of the program's runs.
 use crate::config::Limits;
 
 impl Limits {

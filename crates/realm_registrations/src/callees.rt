@@ -1,3 +1,4 @@
+//! The callees of one registration: how they join, leave and take turns.
 ghost use Rattle.std.specs.Prelude.{◌≡◌, ◌-◌, [], ◌∷◌, length, slice_get, OnOk, OnErr, IfOk, IsOkUnless};
 ghost use Rattle.realm_sessions.specs.declared.fault.RealmFault.TheVariants as fault;
 ghost use Rattle.realm_sessions.specs.Members.{has_member, has_members, joined, others, rotated};

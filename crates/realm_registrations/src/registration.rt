@@ -1,3 +1,4 @@
+//! One registration: which sessions may join it, and which callee is chosen.
 ghost use Rattle.std.specs.Prelude.{◌≡◌};
 ghost use Rattle.realm_registrations.specs.Registration.{has_callee, may_join, is_shared, called, chosen, takes_turns, same_invoke};
 

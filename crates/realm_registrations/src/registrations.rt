@@ -1,3 +1,4 @@
+//! A realm's registrations: how sessions register and unregister, and which callee is chosen for a procedure.
 ghost use Rattle.std.specs.Prelude.{◌≡◌, ◌≤◌, true, false, IfOk, OnOk, OnErr, IsOkUnless, None, map};
 ghost use Rattle.wamp_ids.specs.Id.{last_id};
 ghost use Rattle.realm_sessions.specs.declared.fault.RealmFault.TheVariants as fault;

@@ -1,3 +1,4 @@
+//! Callees that take turns, as a list and a cursor.
 ghost use Rattle.std.specs.Prelude.{◌≡◌, ◌≤◌, ◌+◌, ◌-◌, [], ◌∷◌, length, take, slice_get, OnOk, OnErr, IfOk, IsOkUnless};
 ghost use Rattle.realm_sessions.specs.declared.fault.RealmFault.TheVariants as fault;
 ghost use Rattle.realm_sessions.specs.Members.{has_member, has_members, joined, others, rotated};

@@ -1,3 +1,4 @@
+//! The faults of a realm's parts: their numbers, and the URIs of the ERRORs for them.
 ghost use Rattle.std.specs.Prelude.{◌≡◌, option_map};
 ghost use Rattle.realm_sessions.specs.Fault.{number_of, uri_of};
 

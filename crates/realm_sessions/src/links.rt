@@ -1,3 +1,4 @@
+//! Transports with their sessions, and the ids of invocations to a session.
 ghost use Rattle.std.specs.Prelude.{◌≡◌, false, IfSome};
 ghost use Rattle.realm_sessions.specs.Links.{has_id, has_number, invocation_after, free_invocation, invoked};
 

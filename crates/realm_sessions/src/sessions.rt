@@ -1,3 +1,4 @@
+//! A realm's sessions: how transports come and go, sessions open and close, and invocations get their ids.
 ghost use Rattle.std.specs.Prelude.{◌≡◌, ◌+◌, ◌<◌, ◌^◌, nat_lt, not, [], Some, None, false, IfSome, OnOk, OnErr, IfOk, IsOkUnless};
 ghost use Rattle.realm_sessions.specs.declared.fault.RealmFault.TheVariants as fault;
 ghost use Rattle.realm_sessions.specs.Fault.{Answers};

@@ -73,3 +73,10 @@ its_call = record { caller = 5; request = 7; callee = 5; invocation = 3; progres
 
 abbrev pub its_call_octets : ℕ → List ℕ → List ℕ
 its_call_octets request rest = small 5 ++ (small request ++ (small 5 ++ (small 3 ++ ((1 ∷ []) ++ rest))))
+
+-- the same realm, but its sessions are held to another limit than its configuration has
+abbrev pub unlike : Live
+unlike = record {
+  config = alone.config;
+  content = record alone.content { sessions = record { limit = 7; list = alone.content.sessions.list } };
+}

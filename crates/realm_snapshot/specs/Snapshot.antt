@@ -1,5 +1,5 @@
 -- The realm that octets are, and which realms are saved and loaded (docs/PROTOCOL.md, "Snapshots").
-use Rattle.std.specs.Prelude.{◌≡◌, ℕ, true, List, ◌++◌, All, Option, None, Some, option_map, Result, Ok, Err}
+use Rattle.std.specs.Prelude.{◌≡◌, ℕ, true, List, ◌++◌, All, Option, None, Some, option_map, Result, Ok, Err, IfOk}
 use Rattle.command_codec.specs.declared.fault.CodecFault.{CodecFault}
 use Rattle.command_codec.specs.Entry.{whole}
 use Rattle.command_codec.specs.Number.{Reading}
@@ -38,3 +38,7 @@ IsSavable live = content_of live.config.limits (lists_of live.content) ≡ Some 
 -- a reading takes these octets back, whatever follows
 abbrev pub Backs : {A : Type 0} → (List ℕ → Reading A) → List ℕ → A → Type 0
 Backs reading octets value = (rest : List ℕ) → reading (octets ++ rest) ≡ Ok (value, rest)
+
+-- what a reading takes of these octets, if it takes anything, is this value, and it leaves what follows, whatever that is
+abbrev pub ReadsNoOther : {A : Type 0} → (List ℕ → Reading A) → List ℕ → A → Type 0
+ReadsNoOther reading octets value = (rest : List ℕ) → IfOk (reading (octets ++ rest)) (λ read. read ≡ (value, rest))

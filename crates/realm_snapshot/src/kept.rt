@@ -1,4 +1,5 @@
-ghost use Rattle.std.specs.Prelude.{◌≡◌, ◌↔◌, true, false, Some, IfOk, IsErrOf, IsOkUnless, option_map};
+//! The realm with its saving and loading, as a log's machine needs it.
+ghost use Rattle.std.specs.Prelude.{◌≡◌, ◌↔◌, true, false, Some, IfOk, IfSome, IsErrOf, IsOkUnless, option_map};
 ghost use Rattle.replica_machine.specs.declared.fault.SaveFault.TheVariants as fault;
 ghost use Rattle.realm_machine.specs.Machine.{live_of, has_failed};
 ghost use Rattle.realm_snapshot.specs.Fault.{Loads};
@@ -58,6 +59,7 @@ impl KeptRealm {
         ensures failed { IsErrOf result fault.Failed ↔ (has_failed self.now ≡ true) }
         ensures octets { IfOk result (λ octets. octets.items ≡ saved (live_of self.now)) }
         ensures back { IsSavable (live_of self.now) → IfOk result (λ octets. loaded octets.items ≡ Some (live_of self.now)) }
+        ensures only { IfOk result (λ octets. IfSome (loaded octets.items) (λ made. made ≡ live_of self.now)) }
         ensures fault { has_failed self.now ≡ false → IsOkUnless result fault.Memory }
     {
         save(alloc, &self.realm)

@@ -1,3 +1,4 @@
+//! The realm as a log's machine: what it does at each input.
 use crate::kept::KeptRealm;
 use realm_machine::{Act, Say, Transport};
 use replica_machine::{Failed, Input, LoadFault, Machine, SaveFault};
@@ -9,7 +10,7 @@ impl Machine for KeptRealm {
 
     type Say = Say;
 
-    ghost use Rattle.realm_machine.specs.Machine.{Live, live_of, has_failed, next_live, said_live, to};
+    ghost use Rattle.realm_machine.specs.Machine.{Live, live_of, has_failed, live_steps};
     ghost use Rattle.realm_laws.specs.Kept.{IsKept};
     ghost use Rattle.realm_laws.proofs.Kept.{input_kept};
     ghost use Rattle.realm_snapshot.specs.Writing.{saved};
@@ -21,11 +22,7 @@ impl Machine for KeptRealm {
 
     ghost has_failed = { has_failed };
 
-    ghost next = { next_live };
-
-    ghost says = { said_live };
-
-    ghost to = { to };
+    ghost steps = { live_steps };
 
     ghost saved = { saved };
 

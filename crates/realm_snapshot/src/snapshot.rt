@@ -1,6 +1,7 @@
 //! A realm as octets, and the realm that octets are.
-ghost use Rattle.std.specs.Prelude.{◌≡◌, ◌↔◌, true, false, Some, IfOk, IsErrOf, IsOkUnless, option_map};
+ghost use Rattle.std.specs.Prelude.{◌≡◌, ◌↔◌, true, false, Some, IfOk, IfSome, IsErrOf, IsOkUnless, option_map};
 ghost use Rattle.replica_machine.specs.declared.fault.SaveFault.TheVariants as fault;
+ghost use Rattle.realm_machine.specs.Content.{limits_in};
 ghost use Rattle.realm_machine.specs.Machine.{live_of, has_failed};
 ghost use Rattle.realm_snapshot.specs.Fault.{Loads};
 ghost use Rattle.realm_snapshot.specs.Writing.{saved};
@@ -14,7 +15,7 @@ use replica_machine::{LoadFault, SaveFault};
 use std::alloc::Global;
 
 /// Returns the octets of the realm: what it is made with and what it holds. They are those of an equal realm, if a realm is made of these
-/// lists (`Realm::of_parts`).
+/// lists (`Realm::of_parts`); of no other in any case.
 ///
 /// Fails with `Failed`, exactly if the realm has failed, and with `Memory`.
 ///
@@ -23,6 +24,7 @@ pub fn save(alloc: Global, realm: &Realm) -> Result<Vec<u8>, SaveFault>
     ensures failed { IsErrOf result fault.Failed ↔ (has_failed realm.now ≡ true) }
     ensures octets { IfOk result (λ octets. octets.items ≡ saved (live_of realm.now)) }
     ensures back { IsSavable (live_of realm.now) → IfOk result (λ octets. loaded octets.items ≡ Some (live_of realm.now)) }
+    ensures only { IfOk result (λ octets. IfSome (loaded octets.items) (λ made. made ≡ live_of realm.now)) }
     ensures fault { has_failed realm.now ≡ false → IsOkUnless result fault.Memory }
 {
     match realm.parts() {
@@ -35,6 +37,8 @@ pub fn save(alloc: Global, realm: &Realm) -> Result<Vec<u8>, SaveFault>
 fn written(alloc: Global, parts: &Parts<'_>) -> Result<Vec<u8>, SaveFault>
     ensures octets { IfOk result (λ octets. octets.items ≡ saved parts.now) }
     ensures back { IsSavable parts.now → IfOk result (λ octets. loaded octets.items ≡ Some parts.now) }
+    ensures only { limits_in parts.now.content ≡ parts.now.config.limits
+        → IfOk result (λ octets. IfSome (loaded octets.items) (λ made. made ≡ parts.now)) }
     ensures fault { IsOkUnless result fault.Memory }
 {
     let mut octets = Vec::new(alloc);

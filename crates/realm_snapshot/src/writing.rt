@@ -1,4 +1,5 @@
-//! A realm as octets: its lists. Each `back` says that what was written is read again, whatever follows.
+//! A realm as octets: its lists. Each `back` says that what was written is read again, whatever follows; each `only`, that nothing
+//! else is read of it, also where a number of it is out of its range.
 ghost use Rattle.std.specs.Prelude.{◌≡◌, ◌++◌, map, MatchResult, IsErr, OnOk, IsOkUnless};
 ghost use Rattle.replica_machine.specs.declared.fault.SaveFault.TheVariants as fault;
 ghost use Rattle.realm_snapshot.specs.Writing.{list_octets, link_octets, registration_octets, subscription_octets, call_octets};
@@ -6,7 +7,7 @@ ghost use Rattle.realm_snapshot.specs.Writing.{config_octets, limits_octets, sav
 ghost use Rattle.realm_machine.specs.Parts.{lists_of};
 ghost use Rattle.realm_snapshot.specs.Reading.{list_reading, link_reading, registration_reading, subscription_reading, call_reading};
 ghost use Rattle.realm_snapshot.specs.Reading.{config_reading, limits_reading, made_reading};
-ghost use Rattle.realm_snapshot.specs.Snapshot.{AreNumbered, Backs};
+ghost use Rattle.realm_snapshot.specs.Snapshot.{AreNumbered, Backs, ReadsNoOther};
 
 use crate::writing_parts::{
     Puts, put_call, put_count, put_four, put_link, put_name, put_number, put_one,
@@ -28,6 +29,8 @@ pub(crate) fn put_realm(
     ensures ok { OnOk result (out.new.items ≡ out.old.items ++ saved parts.now) }
     ensures back { OnOk result (AreNumbered parts.now.content.sessions.list
         → Backs made_reading (saved parts.now) (record { config = parts.now.config; lists = lists_of parts.now.content })) }
+    ensures only { OnOk result (ReadsNoOther made_reading (saved parts.now)
+        (record { config = parts.now.config; lists = lists_of parts.now.content })) }
     ensures fault { IsOkUnless result fault.Memory }
 {
     put_config(parts.name, &parts.limits, out)?;
@@ -66,6 +69,8 @@ fn put_sessions(sessions: &Sessions, out: &mut Vec<u8>) -> Result<(), SaveFault>
     ensures ok { OnOk result (out.new.items ≡ out.old.items ++ list_octets link_octets sessions.now.list) }
     ensures back { OnOk result (AreNumbered sessions.now.list
         → Backs (list_reading link_reading) (list_octets link_octets sessions.now.list) sessions.now.list) }
+    ensures only { OnOk result (ReadsNoOther (list_reading link_reading)
+        (list_octets link_octets sessions.now.list) sessions.now.list) }
     ensures fault { IsOkUnless result fault.Memory }
 {
     match sessions.to_vec() {
@@ -78,6 +83,7 @@ fn put_links(links: &[Link], out: &mut Vec<u8>) -> Result<(), SaveFault>
     ensures ok { OnOk result (out.new.items ≡ out.old.items ++ list_octets link_octets links.now) }
     ensures back { OnOk result (AreNumbered links.now
         → Backs (list_reading link_reading) (list_octets link_octets links.now) links.now) }
+    ensures only { OnOk result (ReadsNoOther (list_reading link_reading) (list_octets link_octets links.now) links.now) }
     ensures fault { IsOkUnless result fault.Memory }
 {
     put_count(links.len(), out)?;

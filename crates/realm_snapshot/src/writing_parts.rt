@@ -1,5 +1,6 @@
-//! What a realm holds as octets, one by one. Each `back` says that what was written is read again, whatever follows.
-ghost use Rattle.std.specs.Prelude.{◌≡◌, ◌++◌, ℕ, List, None, Some, true, OnOk, IsOkUnless};
+//! What a realm holds as octets, one by one. Each `back` says that what was written is read again, whatever follows;
+//! each `only`, that nothing else is read of it, also where a number of it is out of its range.
+ghost use Rattle.std.specs.Prelude.{◌≡◌, ◌<◌, ◌^◌, ◌++◌, ℕ, List, None, Some, true, OnOk, IsOkUnless};
 ghost use Rattle.command_codec.specs.Number.{Reading, number_reading};
 ghost use Rattle.realm_sessions.specs.Restoring.{is_numbered};
 ghost use Rattle.replica_machine.specs.declared.fault.SaveFault.TheVariants as fault;
@@ -9,7 +10,7 @@ ghost use Rattle.realm_snapshot.specs.Writing.{link_octets, call_octets};
 ghost use Rattle.realm_snapshot.specs.Forms.{count_form, limit_form};
 ghost use Rattle.realm_snapshot.specs.Reading.{id_reading, option_reading, name_reading, pattern_reading, list_reading, session_reading};
 ghost use Rattle.realm_snapshot.specs.Reading.{transport_reading, link_reading, call_reading};
-ghost use Rattle.realm_snapshot.specs.Snapshot.{Backs};
+ghost use Rattle.realm_snapshot.specs.Snapshot.{Backs, ReadsNoOther};
 
 use crate::forms::{invoke_number, match_number};
 use paxos_packets::Transport;
@@ -25,6 +26,7 @@ use wamp_ids::{Id, Pattern};
 
 pub(crate) fn put_one(number: u8, out: &mut Vec<u8>) -> Result<(), SaveFault>
     ensures ok { OnOk result (out.new.items ≡ out.old.items ++ one_octet number) }
+    ensures fits { number < 2 ^ 8 }
     ensures fault { IsOkUnless result fault.Memory }
 {
     out.extend_from_slice(&number.to_be_bytes())?;
@@ -35,6 +37,7 @@ pub(crate) fn put_one(number: u8, out: &mut Vec<u8>) -> Result<(), SaveFault>
 pub(crate) fn put_four(number: u32, out: &mut Vec<u8>) -> Result<(), SaveFault>
     ensures ok { OnOk result (out.new.items ≡ out.old.items ++ four_octets number) }
     ensures back { Backs (number_reading limit_form) (four_octets number) number }
+    ensures fits { number < 2 ^ 32 }
     ensures fault { IsOkUnless result fault.Memory }
 {
     out.extend_from_slice(&number.to_be_bytes())?;
@@ -44,6 +47,7 @@ pub(crate) fn put_four(number: u32, out: &mut Vec<u8>) -> Result<(), SaveFault>
 #[tactic(auto, unfolding(crate::specs::Writing::eight_octets))]
 pub(crate) fn put_number(number: u64, out: &mut Vec<u8>) -> Result<(), SaveFault>
     ensures ok { OnOk result (out.new.items ≡ out.old.items ++ eight_octets number) }
+    ensures fits { number < 2 ^ 64 }
     ensures fault { IsOkUnless result fault.Memory }
 {
     out.extend_from_slice(&number.to_be_bytes())?;
@@ -138,6 +142,7 @@ fn put_ids(ids: &[Id], out: &mut Vec<u8>) -> Result<(), SaveFault>
 pub(crate) fn put_link(link: &Link, out: &mut Vec<u8>) -> Result<(), SaveFault>
     ensures ok { OnOk result (out.new.items ≡ out.old.items ++ link_octets link.now) }
     ensures back { OnOk result (is_numbered link.now.transport ≡ true → Backs link_reading (link_octets link.now) link.now) }
+    ensures only { OnOk result (ReadsNoOther link_reading (link_octets link.now) link.now) }
     ensures fault { IsOkUnless result fault.Memory }
 {
     put_transport(&link.transport, out)?;
@@ -148,6 +153,7 @@ fn put_transport(transport: &Transport, out: &mut Vec<u8>) -> Result<(), SaveFau
     ensures ok { OnOk result (out.new.items ≡ out.old.items ++ transport_octets transport.now) }
     ensures back { OnOk result (is_numbered transport.now ≡ true
         → Backs transport_reading (transport_octets transport.now) transport.now) }
+    ensures only { OnOk result (ReadsNoOther transport_reading (transport_octets transport.now) transport.now) }
     ensures fault { IsOkUnless result fault.Memory }
 {
     put_one(transport.node, out)?;

@@ -1,3 +1,4 @@
+//! The members of one subscription, apart from the one that is stored inline.
 ghost use Rattle.std.specs.Prelude.{◌≡◌, false, [], OnOk, OnErr, IfOk, IsOkUnless};
 ghost use Rattle.realm_sessions.specs.declared.fault.RealmFault.TheVariants as fault;
 ghost use Rattle.realm_sessions.specs.Members.{has_member, has_members, joined, others};

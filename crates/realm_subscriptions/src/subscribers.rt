@@ -1,3 +1,4 @@
+//! The members of one subscription: how they join and leave.
 ghost use Rattle.std.specs.Prelude.{◌≡◌, false, [], ◌∷◌, OnOk, OnErr, IfOk, IfSome, IsOkUnless};
 ghost use Rattle.realm_sessions.specs.declared.fault.RealmFault.TheVariants as fault;
 ghost use Rattle.realm_sessions.specs.Members.{has_member, has_members, joined, others};

@@ -1,3 +1,4 @@
+//! One subscription, as a group of sessions.
 ghost use Rattle.std.specs.Prelude.{◌≡◌};
 ghost use Rattle.realm_subscriptions.specs.Subscription.{is_member};
 

@@ -1,3 +1,4 @@
+//! A realm's subscriptions: how sessions subscribe, unsubscribe and leave, and who gets an event.
 ghost use Rattle.std.specs.Prelude.{◌≡◌, ◌≤◌, Ok, Err, length, map, true, OnOk, OnErr, IsOk, IfOk, IsOkUnless, MatchBool};
 ghost use Rattle.wamp_ids.specs.Id.{last_id};
 ghost use Rattle.realm_sessions.specs.declared.fault.RealmFault.TheVariants as fault;

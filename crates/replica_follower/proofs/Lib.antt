@@ -1,5 +1,4 @@
 pub mod Handing
-pub mod Slots
-pub mod Logs
-pub mod Keeping
+pub mod Sayings
+pub mod Holding
 pub mod Ordering

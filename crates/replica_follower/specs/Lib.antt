@@ -1,3 +1,2 @@
-pub mod Deferred
 pub mod Handed
 pub mod Following

@@ -1,32 +1,33 @@
-ghost use Rattle.std.specs.Prelude.{◌≡◌, ◌+◌, ◌-◌, ◌<◌, ◌≤◌, ◌^◌, ◌++◌, ℕ, length, take, drop, min, slice_index_or, true, false, IsErr, OnOk, OnErr, []};
-ghost use Rattle.paxos_packets.specs.declared.transport.Transport.{Transport};
-ghost use Rattle.replica_machine.specs.Log.{machine_from};
-ghost use Rattle.replica_machine.specs.Replay.{sayings_by_slot};
-ghost use Rattle.replica_follower.specs.Following.{AgreesWith, Follows, Keeps, handed_to, said_to, said_in_boot, deferred_at, deferred_from};
-ghost use Rattle.replica_follower.specs.Handed.{said_in, room_in, tellings, TellAll};
+//! A machine through the crashes and restarts of its node: how it follows the log, and how its sayings are handed out.
 
-use crate::deferred::Deferred;
+ghost use Rattle.std.specs.Prelude.{◌≡◌, ◌↔◌, ◌<◌, ◌^◌, ◌++◌, ◌||◌, List, length, true, false, Some, None, IsErr, IsErrOf, IsOkUnless, IfOk, IfSome, OnOk, OnErr, IsSomeAnd, []};
+ghost use Rattle.paxos_packets.specs.declared.entry.Entry as log_entries;
+ghost use Rattle.paxos_packets.specs.declared.transport.Transport.{Transport};
+ghost use Rattle.replica_machine.specs.declared.fault.SaveFault.TheVariants as save;
+ghost use Rattle.replica_machine.specs.Given.{AreGiven};
+ghost use Rattle.replica_machine.specs.Log.{machine_from, first_log, length_in, IsLogOf};
+ghost use Rattle.replica_machine.specs.Snapshot.{kept_of, kept_octets, loaded_log, IsLoaded};
+ghost use Rattle.replica_follower.specs.Following.{Follows, handed_to};
+ghost use Rattle.replica_follower.specs.Handed.{said_in, tellings, TellAll};
+
 use crate::handed::Handed;
-use crate::passing::{expect_all, hand_out_all};
 use crate::telling::{Untold, copies, tell};
 use crate::tellings::Tellings;
 use paxos_packets::{Entry, Memory, Transport};
-use replica_machine::{AppliedLog, Machine};
+use replica_machine::{AppliedLog, LoadFault, Machine, SaveFault};
 use std::alloc::Global;
 use std::marker::Model;
 
-/// The machine of one node, and what the transports of that node were handed.
+/// The machine of one node, which stands where its node stands, and what the transports of that node were handed.
 ///
-/// The machine has followed the longest log that the node has had. After a crash the node applies that log again, in a later boot; the
-/// machine is not given it again. What it said there to transports that the node had not had yet was deferred, and is handed out then. What
-/// it says to transports of other nodes, or of earlier boots of this one, is dropped.
+/// The node applies its log anew in each of its boots, and the machine is made anew with it. What the machine says to transports of other
+/// nodes, or of other boots of this one, is dropped.
 pub struct Follower<M: Machine> {
     alloc: Global,
     node: u8,
     applied: AppliedLog<M>,
-    // How many of the applied entries the node has had. More may be applied if the machine is given up.
+    // How many of the applied entries the node has. More may be applied if the machine is given up.
     stands: usize,
-    deferred: Deferred<M::Say>,
     handed: Handed<M::Say>,
     given_up: bool,
 }
@@ -38,7 +39,6 @@ impl<M: Machine> Drop for Follower<M> {
             node: _,
             applied: _applied,
             stands: _,
-            deferred: _deferred,
             handed: _handed,
             given_up: _,
         } = self;
@@ -46,62 +46,51 @@ impl<M: Machine> Drop for Follower<M> {
 }
 
 impl<M: Machine> Model for Follower<M> {
-    ghost use Rattle.std.specs.Prelude.{take};
-    ghost use Rattle.replica_follower.specs.Following.{Followed, IsHeld};
+    ghost use Rattle.replica_follower.specs.Following.{Followed, IsHeld, up_to};
 
     ghost Value = { Followed M.Body M M.Say };
 
-    ghost view = { λ f. record {
-      node = f.node;
-      log = take f.stands f.applied.applied;
-      machine = f.applied.machine;
-      given_up = f.given_up;
-      told = f.handed;
-      deferred = f.deferred;
-    } };
+    ghost view = { λ f. record { node = f.node; log = up_to f.stands f.applied; given_up = f.given_up; told = f.handed } };
 
-    ghost invariant = { λ f. IsHeld f.stands f.applied f.given_up f.deferred };
+    ghost invariant = { λ f. IsHeld f.stands f.applied f.given_up };
 }
 
 impl<M: Machine> Follower<M> {
     /// Returns the machine of this node, which has applied nothing yet. Does not allocate; `follow` will, from `alloc`.
     pub fn new(alloc: Global, node: u8, machine: M) -> Follower<M>
         ensures node { result.node ≡ node }
-        ensures log { result.log ≡ [] }
-        ensures machine { result.machine ≡ machine }
+        ensures log { result.log ≡ first_log machine }
         ensures given_up { result.given_up ≡ false }
         ensures told { result.told ≡ [] }
         ensures follows { (first : M.Content) → M.content machine ≡ first
-            → Follows M.content (machine_from M.next M.says M.to first) result }
-        ensures keeps { (first : M.Content) (boot : ℕ) → Keeps (machine_from M.next M.says M.to first) boot 0 result }
+            → Follows M.content (machine_from M.steps first) [] result }
     {
         Follower {
             alloc,
             node,
             applied: AppliedLog::new(alloc, machine),
             stands: 0,
-            deferred: Deferred::new(alloc),
             handed: Handed::new(alloc),
             given_up: false,
         }
     }
 
-    /// Returns the log that the machine has followed: the longest that the node has had; the node's own is a prefix of it. Does not
-    /// allocate.
+    /// Returns the entries that its node has applied in its boot. Does not allocate.
     pub fn log(&self) -> &[Entry<M::Body>]
-        ensures { result.now ≡ self.now.log }
+        ensures { result.now ≡ self.now.log.applied }
     {
         &self.applied.applied()[..self.stands]
     }
 
     /// Returns the machine. Does not allocate.
     pub fn machine(&self) -> &M
-        ensures { result.now ≡ self.now.machine }
+        ensures { result.now ≡ self.now.log.machine }
     {
         self.applied.machine()
     }
 
-    /// Returns whether the machine is given up: it failed, or memory ran out for what it had said. Does not allocate.
+    /// Returns whether the machine is given up: it failed, memory ran out for what it had said, or it could not be made anew. Does not
+    /// allocate.
     pub fn is_given_up(&self) -> bool
         ensures { result ≡ self.now.given_up }
     {
@@ -125,105 +114,46 @@ impl<M: Machine> Follower<M> {
         self.handed.tellings()
     }
 
-    /// Applies these entries, which the node applies in this boot after the first `from` entries of the log: gives the machine those that
-    /// it has not been given, and hands to each transport of this boot what is said to it at these entries, at those given earlier too.
+    /// Returns the octets of its log, as `AppliedLog::save` does. Fails with `Failed` if the machine is given up, too.
+    pub fn saved(&self) -> Result<Vec<u8>, SaveFault>
+        ensures failed { self.now.given_up ≡ false → (IsErrOf result save.Failed ↔ ((self.now.log.failed || M.has_failed self.now.log.machine) ≡ true)) }
+        ensures given_up { self.now.given_up ≡ true → IsErrOf result save.Failed }
+        ensures octets { IfOk result (λ octets. octets.items ≡ kept_octets M.saved (kept_of M.content self.now.log)) }
+        ensures fault { self.now.given_up ≡ false → (self.now.log.failed || M.has_failed self.now.log.machine) ≡ false → IsOkUnless result save.Memory }
+        ensures back { (first : M.Content) (under : List (log_entries.Entry M.Body))
+            → IsLogOf M.steps M.content first under self.now.log → M.is_sound first
+            → AreGiven (under ++ self.now.log.applied) → length_in self.now.log < 2 ^ 40
+            → IfOk result (λ octets. loaded_log M.loaded octets.items ≡ Some (kept_of M.content self.now.log)) }
+        ensures only { (first : M.Content) (under : List (log_entries.Entry M.Body))
+            → IsLogOf M.steps M.content first under self.now.log → AreGiven (under ++ self.now.log.applied)
+            → length_in self.now.log < 2 ^ 40
+            → IfOk result (λ octets. IfSome (loaded_log M.loaded octets.items) (λ kept. kept ≡ kept_of M.content self.now.log)) }
+    {
+        if self.given_up {
+            return Err(SaveFault::Failed);
+        }
+        self.applied.save()
+    }
+
+    /// Applies these entries, which its node applies after its log in this boot: gives them to the machine, and hands to each transport of
+    /// this boot what is said to it at them.
     ///
     /// On `Memory` nothing was handed out, and the log is as it was. If the machine had been given an entry by then, it is given up: each
-    /// later call that has an entry for it returns `Memory`, and all else goes on. Takes time in the entries and in what is said at them,
-    /// times a logarithm of the number of transports, besides the machine's own; an entry is copied for the machine, a saying never.
-    pub fn follow(
-        &mut self,
-        boot: u64,
-        from: usize,
-        entries: &[Entry<M::Body>],
-    ) -> Result<(), Memory>
-        requires within { from ≤ length self.old.log }
-        requires agrees { AgreesWith (take from self.old.log ++ entries.now) self.old.log }
-        requires slots { from + length entries.now < 2 ^ 40 }
+    /// later call that has an entry for it returns `Memory`, until `renew`. Takes time in the entries and in what is said at them, times a
+    /// logarithm of the number of transports, besides the machine's own; an entry is copied for the machine, a saying never.
+    pub fn follow(&mut self, boot: u64, entries: &[Entry<M::Body>]) -> Result<(), Memory>
         ensures node { self.new.node ≡ self.old.node }
-        ensures ok_log { OnOk result (self.new.log ≡ self.old.log ++ drop (length self.old.log - from) entries.now) }
-        ensures err_log { OnErr result (self.new.log ≡ self.old.log) }
-        ensures follows { (first : M.Content) → Follows M.content (machine_from M.next M.says M.to first) self.old
-            → Follows M.content (machine_from M.next M.says M.to first) self.new }
-        ensures ok_handed { (first : M.Content) → Follows M.content (machine_from M.next M.says M.to first) self.old
-            → Keeps (machine_from M.next M.says M.to first) boot from self.old
+        ensures floor { self.new.log.floor ≡ self.old.log.floor }
+        ensures ok_log { OnOk result (self.new.log.applied ≡ self.old.log.applied ++ entries.now) }
+        ensures err_log { OnErr result (self.new.log.applied ≡ self.old.log.applied) }
+        ensures follows { (first : M.Content) (under : List (log_entries.Entry M.Body))
+            → Follows M.content (machine_from M.steps first) under self.old
+            → Follows M.content (machine_from M.steps first) under self.new }
+        ensures ok_handed { (first : M.Content) (under : List (log_entries.Entry M.Body))
+            → Follows M.content (machine_from M.steps first) under self.old
             → OnOk result ((t : Transport) → said_in t self.new.told ≡ said_in t self.old.told
-            ++ handed_to (machine_from M.next M.says M.to first) t self.old.node boot (take from self.old.log) entries.now) }
+            ++ handed_to (machine_from M.steps first) t self.old.node boot (under ++ self.old.log.applied) entries.now) }
         ensures err_handed { OnErr result ((t : Transport) → said_in t self.new.told ≡ said_in t self.old.told) }
-        ensures ok_keeps { (first : M.Content) → Follows M.content (machine_from M.next M.says M.to first) self.old
-            → Keeps (machine_from M.next M.says M.to first) boot from self.old
-            → OnOk result (Keeps (machine_from M.next M.says M.to first) boot (from + length entries.now) self.new) }
-        ensures err_keeps { (first : M.Content) → Keeps (machine_from M.next M.says M.to first) boot from self.old
-            → OnErr result (Keeps (machine_from M.next M.says M.to first) boot from self.new) }
-        ensures ok_alive { OnOk result (self.new.given_up ≡ self.old.given_up) }
-        ensures spared { from + length entries.now ≤ length self.old.log → self.new.given_up ≡ self.old.given_up }
-        ensures stays_given_up { self.old.given_up ≡ true → self.new.given_up ≡ true }
-        ensures refuses { self.old.given_up ≡ true → length self.old.log < from + length entries.now → IsErr result }
-    {
-        let end = from + entries.len();
-        let known = self.known(end);
-        self.expect(boot, from, known)?;
-        self.tell(boot, &entries[known - from..])?;
-        self.hand_out(boot, from, end);
-        Ok(())
-    }
-
-    // Returns how much of a log of this length the machine was given.
-    fn known(&self, end: usize) -> usize
-        ensures { result ≡ min end (length self.now.log) }
-    {
-        end.min(self.stands)
-    }
-
-    // Reserves memory to hand out what is deferred for the boot from one index of the log to another.
-    fn expect(&mut self, boot: u64, from: usize, end: usize) -> Result<(), Memory>
-        requires { from ≤ end }
-        ensures node { self.new.node ≡ self.old.node }
-        ensures log { self.new.log ≡ self.old.log }
-        ensures machine { self.new.machine ≡ self.old.machine }
-        ensures given_up { self.new.given_up ≡ self.old.given_up }
-        ensures deferred { self.new.deferred ≡ self.old.deferred }
-        ensures said { (t : Transport) → said_in t self.new.told ≡ said_in t self.old.told }
-        ensures room { OnOk result ((t : Transport) → room_in t self.new.told
-            ≡ room_in t self.old.told + length (said_to M.to t (deferred_from boot from (end - from) self.old.deferred))) }
-    {
-        expect_all::<M>(&mut self.handed, &self.deferred, boot, from, end)
-    }
-
-    // Hands that out. Does not allocate.
-    fn hand_out(&mut self, boot: u64, from: usize, end: usize)
-        requires order { from ≤ end }
-        requires log { end ≤ length self.old.log }
-        requires room { (t : Transport)
-            → length (said_to M.to t (deferred_from boot from (end - from) self.old.deferred)) ≤ room_in t self.old.told }
-        ensures node { self.new.node ≡ self.old.node }
-        ensures log { self.new.log ≡ self.old.log }
-        ensures machine { self.new.machine ≡ self.old.machine }
-        ensures given_up { self.new.given_up ≡ self.old.given_up }
-        ensures said { (t : Transport) → said_in t self.new.told
-            ≡ said_in t self.old.told ++ said_to M.to t (deferred_from boot from (end - from) self.old.deferred) }
-        ensures deferred { (b i : ℕ) → (b ≡ boot → end ≤ i) → deferred_at b i self.new.deferred ≡ deferred_at b i self.old.deferred }
-    {
-        hand_out_all::<M>(&mut self.handed, &mut self.deferred, boot, from, end);
-    }
-
-    // Gives the machine these entries after the log that it has followed. Defers what it says, and reserves memory to hand out what is for
-    // this boot.
-    fn tell(&mut self, boot: u64, entries: &[Entry<M::Body>]) -> Result<(), Memory>
-        requires { 0 < length entries.now → length self.old.log + length entries.now < 2 ^ 40 }
-        ensures node { self.new.node ≡ self.old.node }
-        ensures ok_log { OnOk result (self.new.log ≡ self.old.log ++ entries.now) }
-        ensures err_log { OnErr result (self.new.log ≡ self.old.log) }
-        ensures follows { (first : M.Content) → Follows M.content (machine_from M.next M.says M.to first) self.old
-            → Follows M.content (machine_from M.next M.says M.to first) self.new }
-        ensures said { (t : Transport) → said_in t self.new.told ≡ said_in t self.old.told }
-        ensures room { OnOk result ((t : Transport) → room_in t self.new.told ≡ room_in t self.old.told
-            + length (said_to M.to t (deferred_from boot (length self.old.log) (length entries.now) self.new.deferred))) }
-        ensures known { (b i : ℕ) → i < length self.old.log → deferred_at b i self.new.deferred ≡ deferred_at b i self.old.deferred }
-        ensures deferred { (first : M.Content) → Follows M.content (machine_from M.next M.says M.to first) self.old
-            → OnOk result ((b i : ℕ) → boot ≤ b → i < length entries.now → deferred_at b (length self.old.log + i) self.new.deferred
-            ≡ said_in_boot M.to self.old.node b (slice_index_or
-            (sayings_by_slot (machine_from M.next M.says M.to first) self.old.log entries.now) i [])) }
         ensures ok_alive { OnOk result (self.new.given_up ≡ self.old.given_up) }
         ensures spared { length entries.now ≡ 0 → self.new.given_up ≡ self.old.given_up }
         ensures stays_given_up { self.old.given_up ≡ true → self.new.given_up ≡ true }
@@ -237,15 +167,15 @@ impl<M: Machine> Follower<M> {
         }
         let copies = copies(self.alloc, entries)?;
         match tell(
+            self.alloc,
             &mut self.applied,
-            &mut self.deferred,
             &mut self.handed,
             self.node,
             boot,
             copies,
         ) {
             Ok(()) => {
-                self.stands += entries.len();
+                self.stands = self.applied.applied().len();
                 Ok(())
             }
             Err(Untold::Unheard) => Err(Memory),
@@ -253,6 +183,35 @@ impl<M: Machine> Follower<M> {
                 self.given_up = true;
                 Err(Memory)
             }
+        }
+    }
+
+    /// Makes the machine anew from the octets of a log, as its node begins its next boot: no entry is applied after their floor then, and the
+    /// machine is given up no more. What was handed out stays.
+    ///
+    /// If the octets are none that were saved, the machine is given up, with no entry in its log. On `Memory` all is as it was.
+    pub fn renew(&mut self, octets: &[u8]) -> Result<(), Memory>
+        ensures node { self.new.node ≡ self.old.node }
+        ensures told { self.new.told ≡ self.old.told }
+        ensures log { OnOk result (self.new.log.applied ≡ []) }
+        ensures loaded { OnOk result (self.new.given_up ≡ false →
+            IsSomeAnd (loaded_log M.loaded octets.now) (λ kept. IsLoaded M.content kept self.new.log)) }
+        ensures damaged { OnOk result (self.new.given_up ≡ true → loaded_log M.loaded octets.now ≡ None) }
+        ensures err { OnErr result (self.new ≡ self.old) }
+    {
+        match AppliedLog::load(self.alloc, octets) {
+            Ok(applied) => {
+                self.applied = applied;
+                self.stands = 0;
+                self.given_up = false;
+                Ok(())
+            }
+            Err(LoadFault::Damaged) => {
+                self.stands = 0;
+                self.given_up = true;
+                Ok(())
+            }
+            Err(LoadFault::Memory) => Err(Memory),
         }
     }
 }

@@ -1,3 +1,5 @@
+//! A table of what transports were handed, with room for sayings to come.
+
 ghost use Rattle.std.specs.Prelude.{◌≡◌, ◌+◌, ◌<◌, ◌≤◌, zero, [], ◌∷◌, ◌++◌, IsSome, OnOk, if◌then◌else◌};
 ghost use Rattle.paxos_packets.specs.Transport.{same_transport};
 ghost use Rattle.std.specs.Map.{lookup};

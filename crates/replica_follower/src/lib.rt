@@ -1,16 +1,13 @@
-//! One node's machine as it follows its node's log, through crashes and restarts, and what the transports of that node are handed
+//! One node's machine as it follows its node's log, boot by boot, and what the transports of that node are handed
 //! (Lamport, Paxos Made Simple, 2001, section 3: the state machine of one server).
 #![tactic(auto)]
 
-mod deferred;
 mod follower;
 mod handed;
-pub mod laws;
-mod passing;
+mod picking;
 mod telling;
 mod tellings;
 
-pub use deferred::BootSlot;
 pub use follower::Follower;
 pub use handed::Told;
 pub use paxos_packets::{Memory, Transport};

@@ -1,3 +1,5 @@
+//! An iterator over what transports were handed.
+
 ghost use Rattle.std.specs.Prelude.{◌≡◌, ◌≢◌, MatchOption, [], ◌∷◌};
 ghost use Rattle.replica_follower.specs.Handed.{tellings, TellAll};
 

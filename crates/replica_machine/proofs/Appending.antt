@@ -8,7 +8,7 @@ use Rattle.paxos_packets.specs.declared.entry.Entry.{Entry}
 use Rattle.replica_machine.specs.declared.log.LearnFault.{LearnFault}
 use Rattle.replica_machine.specs.declared.log.LearnFault.TheVariants.{Disagree, Memory, Failed}
 use Rattle.replica_machine.specs.Log.{LogState, Begins, IsAt, IsLogOf}
-use Rattle.replica_machine.specs.Replay.{Machine, sayings_behind, sayings_by_slot}
+use Rattle.replica_machine.specs.Replay.{Machine, sayings_behind, sayings_by_slot, Steps}
 use Rattle.replica_machine.specs.Roll.{IsRollOf}
 
 pub rest_applied : {A : Type 0} (old new rest more all : List A) (e : A) → new ≡ old ++ e ∷ [] → rest ≡ e ∷ more → old ++ rest ≡ all
@@ -90,15 +90,15 @@ module _ {B M : Type 0} (now inside : LogState B M) (same : inside ≡ now) wher
       subst (λ l. IsRollOf (under ++ l) inside.roll) (sym h)
       (subst (λ (v : LogState B M). IsRollOf (under ++ v.applied) v.roll) (sym same) rolled)
 
-  pub stands_inside : {S Y : Type 0} (from : S → Machine B S Y) (content : M → S) (first : S) (under applied : List (Entry B))
-      → applied ≡ inside.applied → IsLogOf from content first under now
-      → IsAt from content first (under ++ applied) inside.roll inside.machine
-  stands_inside from content first under applied h stands =
-      subst (λ l. IsAt from content first (under ++ l) inside.roll inside.machine) (sym h)
-      (subst (λ (v : LogState B M). IsAt from content first (under ++ v.applied) v.roll v.machine) (sym same) stands.stands)
+  pub stands_inside : {S Y : Type 0} (steps : Steps B S Y) (content : M → S) (first : S) (under applied : List (Entry B))
+      → applied ≡ inside.applied → IsLogOf steps content first under now
+      → IsAt steps content first (under ++ applied) inside.roll inside.machine
+  stands_inside steps content first under applied h stands =
+      subst (λ l. IsAt steps content first (under ++ l) inside.roll inside.machine) (sym h)
+      (subst (λ (v : LogState B M). IsAt steps content first (under ++ v.applied) v.roll v.machine) (sym same) stands.stands)
 
   -- the log goes on with these, and its floor stays
-  pub log_on : {S Y : Type 0} (from : S → Machine B S Y) (content : M → S) (first : S) (under : List (Entry B)) (new : LogState B M)
-      → new.floor ≡ inside.floor → IsLogOf from content first under now
-      → IsAt from content first (under ++ new.applied) new.roll new.machine → IsLogOf from content first under new
-  log_on from content first under new floor was stands = record { below = was.below ∙ sym (floor ∙ floor_is); stands = stands }
+  pub log_on : {S Y : Type 0} (steps : Steps B S Y) (content : M → S) (first : S) (under : List (Entry B)) (new : LogState B M)
+      → new.floor ≡ inside.floor → IsLogOf steps content first under now
+      → IsAt steps content first (under ++ new.applied) new.roll new.machine → IsLogOf steps content first under new
+  log_on steps content first under new floor was stands = record { below = was.below ∙ sym (floor ∙ floor_is); stands = stands }

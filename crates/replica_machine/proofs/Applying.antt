@@ -12,11 +12,10 @@ use Rattle.std.proofs.lemmas.Option.{slice_get-get_or, slice_get_cases}
 use Rattle.std.proofs.Math.ListN.{get_or-append}
 use Rattle.std.proofs.Math.Seq.{get_or-append_seam}
 use Rattle.paxos_packets.specs.declared.entry.Entry.{Entry}
-use Rattle.paxos_packets.specs.declared.transport.Transport.{Transport}
 use Rattle.replica_machine.specs.declared.roll.Standing.{Standing}
 use Rattle.replica_machine.specs.declared.input.Input.{Input}
 use Rattle.replica_machine.specs.Roll.{takes_effect, IsRollOf}
-use Rattle.replica_machine.specs.Replay.{Machine, input_of, inputs_behind, sayings_from, sayings_behind, state}
+use Rattle.replica_machine.specs.Replay.{Machine, input_of, inputs_behind, sayings_from, sayings_behind, state, Steps}
 use Rattle.replica_machine.specs.Log.{LogState, is_slot, learned_in, length_in, next_slot, cut_log, Learns, Applies, machine_from, next_by, says_by}
 use Rattle.replica_machine.specs.Log.{IsAt, IsLogOf}
 use Rattle.replica_machine.proofs.Places.{effective_is}
@@ -217,39 +216,36 @@ module _ {B S Y : Type 0} where
       ∙ ap (λ is. fold m.next (state m log) is) (sym (inputs_of_one log e (takes_effect log e) refl))
       ∙ sym (state_append m log (e ∷ []))
 
-module _ {B M S Y : Type 0} (next : S → Input B → S) (says : S → Input B → List Y) (to : Y → Transport) (content : M → S) where
-  abbrev from : S → Machine B S Y
-  from first = machine_from next says to first
-
+module _ {B M S Y : Type 0} (steps : Steps B S Y) (content : M → S) where
   -- a machine and a roll that stand where a log leads to go on over one entry more
   pub at_on : (first : S) (log : List (Entry B)) (e : Entry B) (roll more : List Standing) (machine made : M) (took : Bool)
-      → IsAt from content first log roll machine
+      → IsAt steps content first log roll machine
       → ((l : List (Entry B)) → IsRollOf l roll → took ≡ takes_effect l e)
       → ((l : List (Entry B)) → IsRollOf l roll → IsRollOf (l ++ e ∷ []) more)
-      → content made ≡ next_by next took (content machine) (input_of e) → IsAt from content first (log ++ e ∷ []) more made
+      → content made ≡ next_by steps.next took (content machine) (input_of e) → IsAt steps content first (log ++ e ∷ []) more made
   at_on first log e roll more machine made took stands took_is rolls goes = (
     goes
-        ∙ ap (λ t. next_by next t (content machine) (input_of e)) (took_is log stands.1)
-        ∙ ap (λ s. next_by next (takes_effect log e) s (input_of e)) stands.0
-        ∙ state_behind (from first) log e,
+        ∙ ap (λ t. next_by steps.next t (content machine) (input_of e)) (took_is log stands.1)
+        ∙ ap (λ s. next_by steps.next (takes_effect log e) s (input_of e)) stands.0
+        ∙ state_behind (machine_from steps first) log e,
     rolls log stands.1,
   )
 
   pub said_at : (first : S) (log : List (Entry B)) (e : Entry B) (roll : List Standing) (machine : M) (took : Bool) (said : List Y)
-      → IsAt from content first log roll machine
+      → IsAt steps content first log roll machine
       → ((l : List (Entry B)) → IsRollOf l roll → took ≡ takes_effect l e)
-      → said ≡ says_by says took (content machine) (input_of e) → said ≡ sayings_behind (from first) log (e ∷ [])
+      → said ≡ says_by steps.says took (content machine) (input_of e) → said ≡ sayings_behind (machine_from steps first) log (e ∷ [])
   said_at first log e roll machine took said stands took_is said_is =
       said_is
-      ∙ ap (λ t. says_by says t (content machine) (input_of e)) (took_is log stands.1)
-      ∙ ap (λ s. says_by says (takes_effect log e) s (input_of e)) stands.0
-      ∙ said_behind (from first) log e
+      ∙ ap (λ t. says_by steps.says t (content machine) (input_of e)) (took_is log stands.1)
+      ∙ ap (λ s. says_by steps.says (takes_effect log e) s (input_of e)) stands.0
+      ∙ said_behind (machine_from steps first) log e
 
   -- the same after entries that are forgotten
   pub at_longer : (first : S) (under old new : List (Entry B)) (e : Entry B) (roll : List Standing) (machine : M) → new ≡ old ++ e ∷ []
-      → IsAt from content first ((under ++ old) ++ e ∷ []) roll machine → IsAt from content first (under ++ new) roll machine
+      → IsAt steps content first ((under ++ old) ++ e ∷ []) roll machine → IsAt steps content first (under ++ new) roll machine
   at_longer first under old new e roll machine longer stands =
-      subst (λ l. IsAt from content first l roll machine) (append_assoc under old (e ∷ []) ∙ ap (λ l. under ++ l) (sym longer)) stands
+      subst (λ l. IsAt steps content first l roll machine) (append_assoc under old (e ∷ []) ∙ ap (λ l. under ++ l) (sym longer)) stands
 
   applies_inside : (old new : LogState B M) (slot : ℕ) (e : Entry B) (took : Bool) (said : List Y)
       → Some slot ≡ cond (is_slot (next_slot old)) (Some (next_slot old)) None → Some e ≡ lookup (λ s. eqb slot s) old.ahead
@@ -257,8 +253,8 @@ module _ {B M S Y : Type 0} (next : S → Input B → S) (says : S → Input B �
       → new.floor ≡ old.floor → new.applied ≡ old.applied ++ e ∷ [] → new.failed ≡ false
       → ((l : List (Entry B)) → IsRollOf l old.roll → took ≡ takes_effect l e)
       → ((l : List (Entry B)) → IsRollOf l old.roll → IsRollOf (l ++ e ∷ []) new.roll)
-      → content new.machine ≡ next_by next took (content old.machine) (input_of e)
-      → said ≡ says_by says took (content old.machine) (input_of e) → Applies from content old new slot took said
+      → content new.machine ≡ next_by steps.next took (content old.machine) (input_of e)
+      → said ≡ says_by steps.says took (content old.machine) (input_of e) → Applies steps content old new slot took said
   applies_inside old new slot e took said at stands taken floor longer alive took_is rolls goes said_is =
       let here = slot_is (is_slot (next_slot old)) slot (next_slot old) at in
       record {
@@ -290,24 +286,24 @@ module _ {B M S Y : Type 0} (next : S → Input B → S) (says : S → Input B �
       → new.floor ≡ inside.floor → new.applied ≡ inside.applied ++ e ∷ [] → new.failed ≡ false
       → ((l : List (Entry B)) → IsRollOf l inside.roll → took ≡ takes_effect l e)
       → ((l : List (Entry B)) → IsRollOf l inside.roll → IsRollOf (l ++ e ∷ []) new.roll)
-      → content new.machine ≡ next_by next took (content inside.machine) (input_of e)
-      → said ≡ says_by says took (content inside.machine) (input_of e) → Applies from content now new slot took said
+      → content new.machine ≡ next_by steps.next took (content inside.machine) (input_of e)
+      → said ≡ says_by steps.says took (content inside.machine) (input_of e) → Applies steps content now new slot took said
   applies now inside new slot e took said same at stands taken floor longer alive took_is rolls goes said_is =
-      subst (λ (v : LogState B M). Applies from content v new slot took said) same
+      subst (λ (v : LogState B M). Applies steps content v new slot took said) same
       (applies_inside inside new slot e took said
       (subst (λ (v : LogState B M). Some slot ≡ cond (is_slot (next_slot v)) (Some (next_slot v)) None) (sym same) at)
       stands taken floor longer alive took_is rolls goes said_is)
 
   -- a log that is cut stands for the same one
-  cut_at : (b : Bool) (first : S) (under : List (Entry B)) (old : LogState B M) → b ≡ true → IsLogOf from content first under old
-      → IsLogOf from content first (under ++ old.applied) (cond b (record old { floor = length_in old; applied = [] }) old)
+  cut_at : (b : Bool) (first : S) (under : List (Entry B)) (old : LogState B M) → b ≡ true → IsLogOf steps content first under old
+      → IsLogOf steps content first (under ++ old.applied) (cond b (record old { floor = length_in old; applied = [] }) old)
   cut_at true first under old h stands = record {
     below = length-append under old.applied ∙ ap (λ n. n + length old.applied) stands.below;
-    stands = subst (λ l. IsAt from content first l old.roll old.machine) (sym (append-nil (under ++ old.applied))) stands.stands;
+    stands = subst (λ l. IsAt steps content first l old.roll old.machine) (sym (append-nil (under ++ old.applied))) stands.stands;
   }
   cut_at false first under old h stands = absurd (false≢true h)
 
-  pub cut_stands : (first : S) (under : List (Entry B)) (old : LogState B M) → length_in old < 2 ^ 40 → IsLogOf from content first under old
-      → IsLogOf from content first (under ++ old.applied) (cut_log old)
+  pub cut_stands : (first : S) (under : List (Entry B)) (old : LogState B M) → length_in old < 2 ^ 40 → IsLogOf steps content first under old
+      → IsLogOf steps content first (under ++ old.applied) (cut_log old)
   cut_stands first under old within stands =
       cut_at (ltb (length_in old) (2 ^ 40)) first under old (lt-ltb (length_in old) (2 ^ 40) within) stands

@@ -1,6 +1,6 @@
 -- What is kept of a log is read again, and a log that is made of it stands for the same one.
 use Rattle.std.proofs.Common.{◌≡◌, ◌⊎◌, inl, inr, ℕ, zero, suc, ◌+◌, ◌<◌, ◌≤◌, ◌^◌, Bool, true, false, ◌&&◌, cond, eqb, leb, refl, sym, ap}
-use Rattle.std.proofs.Common.{lit<, ◌∙◌, subst, arith, get_or, List, [], ◌∷◌, ◌++◌, length, Option, Some, None, Ok}
+use Rattle.std.proofs.Common.{lit<, ◌∙◌, subst, arith, get_or, List, [], ◌∷◌, ◌++◌, length, Option, Some, None, Ok, IfSome}
 use Rattle.std.specs.Int.{bytes_high_first}
 use Rattle.std.proofs.lemmas.Bool.{false≢true, and_parts, and_from, cond_both, cond-true, cond-false, eqb-true, eqb-false, ne_eqb, le-leb, leb-true, cases_Bool}
 use Rattle.std.proofs.lemmas.Bool.Decides.{leb_tells}
@@ -8,7 +8,6 @@ use Rattle.std.proofs.lemmas.List.Elements.{All-head, All-tail}
 use Rattle.std.proofs.lemmas.List.{append-nil, append_assoc, length-append}
 use Rattle.paxos_packets.specs.declared.entry.Entry.{Entry}
 use Rattle.paxos_packets.specs.declared.entry.Entry.TheVariants.{Noop, Boot, Lost, Item}
-use Rattle.paxos_packets.specs.declared.transport.Transport.{Transport}
 use Rattle.command_codec.specs.declared.number.Form.{Form}
 use Rattle.command_codec.specs.Coder.{and_then}
 use Rattle.command_codec.specs.Number.{Reading, number_octets, number_reading, is_within}
@@ -20,10 +19,10 @@ use Rattle.replica_machine.specs.declared.roll.Standing.TheVariants.{Unknown, Li
 use Rattle.replica_machine.specs.Roll.{is_new_boot, is_live, is_next, gone, live_in, standing_after, standing_from, standing, standing_in, takes_effect, IsRollOf}
 use Rattle.replica_machine.specs.Given.{is_node, is_number, is_given_entry, IsGiven, AreGiven}
 use Rattle.replica_machine.specs.Log.{LogState, length_in, IsAt, IsLogOf, machine_from, next_by}
-use Rattle.replica_machine.specs.Replay.{Machine, input_of, state}
-use Rattle.replica_machine.specs.Snapshot.{floor_form, count_form, flag_form, numbers_octets, standing_octets, standing_of, unless_none}
+use Rattle.replica_machine.specs.Replay.{Machine, input_of, state, Steps}
+use Rattle.replica_machine.specs.Snapshot.{floor_form, count_form, flag_form, numbers_octets, standing_octets, standing_by, unless_none}
 use Rattle.replica_machine.specs.Snapshot.{standing_reading, standings_octets, seven_reading, seven, standing_from_node, head_octets, head_reading}
-use Rattle.replica_machine.specs.Snapshot.{with_content, of_head, loaded_log, kept_of, IsLoaded}
+use Rattle.replica_machine.specs.Snapshot.{Kept, with_content, of_head, loaded_log, kept_of, IsLoaded}
 use Rattle.replica_machine.proofs.Applying.{state_behind}
 
 -- ---- what is written is read, whatever follows
@@ -39,7 +38,7 @@ then_ok r a rest next h = ap (λ q. and_then q next) h
 
 -- a boot or 0, no or yes, and a count are read again
 numbers_again : (boot live taken : ℕ) (rest : List ℕ) (s : Standing) → is_within count_form boot ≡ true → is_within flag_form live ≡ true
-    → is_within count_form taken ≡ true → standing_of boot live taken ≡ Some s
+    → is_within count_form taken ≡ true → standing_by boot live taken ≡ Some s
     → standing_reading (numbers_octets boot live taken ++ rest) ≡ Ok (s, rest)
 numbers_again boot live taken rest s a b c is =
     ap standing_reading (append_assoc (bytes_high_first 8 boot) (bytes_high_first 1 live ++ bytes_high_first 8 taken) rest
@@ -47,14 +46,14 @@ numbers_again boot live taken rest s a b c is =
     ∙ then_ok (number_reading count_form (bytes_high_first 8 boot ++ (bytes_high_first 1 live ++ (bytes_high_first 8 taken ++ rest))))
     boot (bytes_high_first 1 live ++ (bytes_high_first 8 taken ++ rest))
     (λ boot rest. and_then (number_reading flag_form rest) (λ live rest. and_then (number_reading count_form rest)
-    (λ taken rest. unless_none (standing_of boot live taken) rest)))
+    (λ taken rest. unless_none (standing_by boot live taken) rest)))
     (number_here count_form boot (bytes_high_first 1 live ++ (bytes_high_first 8 taken ++ rest)) (lit< tt) a)
     ∙ then_ok (number_reading flag_form (bytes_high_first 1 live ++ (bytes_high_first 8 taken ++ rest))) live
     (bytes_high_first 8 taken ++ rest)
-    (λ live rest. and_then (number_reading count_form rest) (λ taken rest. unless_none (standing_of boot live taken) rest))
+    (λ live rest. and_then (number_reading count_form rest) (λ taken rest. unless_none (standing_by boot live taken) rest))
     (number_here flag_form live (bytes_high_first 8 taken ++ rest) (lit< tt) b)
     ∙ then_ok (number_reading count_form (bytes_high_first 8 taken ++ rest)) taken rest
-    (λ taken rest. unless_none (standing_of boot live taken) rest) (number_here count_form taken rest (lit< tt) c)
+    (λ taken rest. unless_none (standing_by boot live taken) rest) (number_here count_form taken rest (lit< tt) c)
     ∙ ap (λ o. unless_none o rest) is
 
 -- a standing whose numbers are ones of octets
@@ -240,16 +239,16 @@ named_by_one (a ∷ b ∷ c ∷ d ∷ e ∷ f ∷ g ∷ k ∷ rest) n h = absurd
 
 -- ---- a log that is made of what is kept of another stands for the same one
 
-module _ {B S Y M : Type 0} (from : S → Machine B S Y) (content : M → S) where
-  pub loaded_stands : (first : S) (under : List (Entry B)) (old new : LogState B M) → IsLogOf from content first under old
+module _ {B S Y M : Type 0} (steps : Steps B S Y) (content : M → S) where
+  pub loaded_stands : (first : S) (under : List (Entry B)) (old new : LogState B M) → IsLogOf steps content first under old
       → AreGiven (under ++ old.applied) → IsLoaded content (kept_of content old) new
-      → IsLogOf from content first (under ++ old.applied) new
+      → IsLogOf steps content first (under ++ old.applied) new
   loaded_stands first under old new stands given loaded =
       let whole = under ++ old.applied in
       let all : whole ++ new.applied ≡ whole = ap (λ l. whole ++ l) loaded.applied ∙ append-nil whole in
       record {
         below = length-append under old.applied ∙ ap (λ n. n + length old.applied) stands.below ∙ sym loaded.floor;
-        stands = subst (λ l. IsAt from content first l new.roll new.machine) (sym all) (
+        stands = subst (λ l. IsAt steps content first l new.roll new.machine) (sym all) (
           loaded.machine ∙ stands.stands.0,
           λ n within. loaded.roll n within ∙ elim (cases_Bool (is_node n)) [
             | inl t ↦ named_in old.roll 1 7 n (node_within n t).0 (node_within n t).1 ∙ stands.stands.1 n within
@@ -277,6 +276,22 @@ reads_back loaded floor roll s octets within kept is =
     (standing_in roll 5) (standing_in roll 6) (standing_in roll 7) octets within kept)
     ∙ ap (λ o. with_content (record { floor = floor; standings = seven roll }) o) is
 
+-- if the machine's octets are read as its content or as none, those of the log are read as that log or as none
+pub reads_only : {S : Type 0} (loaded : List ℕ → Option S) (floor : ℕ) (roll : List Standing) (s : S) (octets all : List ℕ)
+    → floor < 2 ^ 40 → AreKept (seven roll) → IfSome (loaded octets) (λ made. made ≡ s) → all ≡ head_octets floor (seven roll) ++ octets
+    → IfSome (loaded_log loaded all) (λ kept. kept ≡ record { floor = floor; standings = seven roll; content = s })
+reads_only {S} loaded floor roll s octets all within kept only are =
+    subst (λ (o : Option (Kept S)). IfSome o (λ k. k ≡ record { floor = floor; standings = seven roll; content = s }))
+    (sym (ap (λ l. loaded_log loaded l) are
+    ∙ ap (λ r. of_head loaded r) (head_again floor (standing_in roll 1) (standing_in roll 2) (standing_in roll 3) (standing_in roll 4)
+    (standing_in roll 5) (standing_in roll 6) (standing_in roll 7) octets within kept))) (by (loaded octets) only)
+  where
+    by : (o : Option S) → IfSome o (λ made. made ≡ s)
+        → IfSome (with_content (record { floor = floor; standings = seven roll }) o)
+        (λ k. k ≡ record { floor = floor; standings = seven roll; content = s })
+    by None is = tt
+    by (Some made) is = ap (λ c. record { floor = floor; standings = seven roll; content = c }) is
+
 -- ---- a content stays sound along entries that are ones
 
 module _ {B S Y : Type 0} (m : Machine B S Y) (is_sound : S → Type 0)
@@ -300,16 +315,16 @@ module _ {B S Y : Type 0} (m : Machine B S Y) (is_sound : S → Type 0)
   pub sound_state : (log : List (Entry B)) → AreGiven log → is_sound m.first → is_sound (state m log)
   sound_state log given sound = sound_on [] log given sound
 
-module _ {B S Y M : Type 0} (next : S → Input B → S) (says : S → Input B → List Y) (to : Y → Transport) (content : M → S)
-    (is_sound : S → Type 0) (keeps : (s : S) (input : Input B) → IsGiven input → is_sound s → is_sound (next s input)) where
+module _ {B S Y M : Type 0} (steps : Steps B S Y) (content : M → S)
+    (is_sound : S → Type 0) (keeps : (s : S) (input : Input B) → IsGiven input → is_sound s → is_sound (steps.next s input)) where
   -- the octets of a log whose first content is sound and whose entries are ones load
   pub saves_back : (loaded : List ℕ → Option S) (first : S) (under : List (Entry B)) (log : LogState B M) (machine octets : List ℕ)
-      → IsLogOf (machine_from next says to) content first under log → is_sound first → AreGiven (under ++ log.applied)
+      → IsLogOf steps content first under log → is_sound first → AreGiven (under ++ log.applied)
       → length_in log < 2 ^ 40 → (is_sound (content log.machine) → loaded machine ≡ Some (content log.machine))
       → octets ≡ head_octets (length_in log) (seven log.roll) ++ machine → loaded_log loaded octets ≡ Some (kept_of content log)
   saves_back loaded first under log machine octets stands sound given within back are =
       let whole = under ++ log.applied in
-      let so = subst is_sound (sym stands.stands.0) (sound_state (machine_from next says to first) is_sound keeps whole given sound) in
+      let so = subst is_sound (sym stands.stands.0) (sound_state (machine_from steps first) is_sound keeps whole given sound) in
       ap (λ o. loaded_log loaded o) are
       ∙ reads_back loaded (length_in log) log.roll (content log.machine) machine within (seven_kept whole log.roll given stands.stands.1)
       (back so)

@@ -5,7 +5,8 @@ use Rattle.paxos_packets.specs.declared.entry.Entry.TheVariants.{Noop, Boot, Los
 use Rattle.paxos_packets.specs.declared.transport.Transport.{Transport}
 use Rattle.replica_machine.specs.declared.input.Input.{Input}
 use Rattle.replica_machine.specs.declared.input.Input.TheVariants as Given
-use Rattle.replica_machine.specs.Replay.{Machine}
+use Rattle.replica_machine.specs.Replay.{Machine, Steps}
+use Rattle.replica_machine.specs.Log.{machine_from}
 
 -- a boot, then its Items 1, 1 again, 3, 2 and 3
 abbrev pub items_out_of_order : List (Entry ℕ)
@@ -32,8 +33,11 @@ sum_said sum (Given.Boot n b) = []
 sum_said sum (Given.Lost n b) = []
 sum_said sum (Given.Item t x) = (t, sum + x) ∷ []
 
+abbrev pub adds : Steps ℕ ℕ (Transport × ℕ)
+adds = record { next = added; says = sum_said; to = λ y. y.0 }
+
 abbrev pub adding : Machine ℕ ℕ (Transport × ℕ)
-adding = record { first = 0; next = added; says = sum_said; to = λ y. y.0 }
+adding = machine_from adds 0
 
 abbrev pub transport : ℕ → ℕ → ℕ → Transport
 transport n b number = record { node = n; boot = b; number = number }

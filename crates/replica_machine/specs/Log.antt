@@ -4,15 +4,13 @@ use Rattle.std.specs.Prelude.{[], ◌∷◌, ◌++◌, length, slice_get, replic
 use Rattle.std.specs.Map.{lookup}
 use Rattle.std.specs.Option.{option_map_or}
 use Rattle.paxos_packets.specs.declared.entry.Entry.{Entry}
-use Rattle.paxos_packets.specs.declared.transport.Transport.{Transport}
-use Rattle.replica_machine.specs.declared.input.Input.{Input}
 use Rattle.replica_machine.specs.declared.log.LearnFault.{LearnFault}
 use Rattle.replica_machine.specs.declared.log.LearnFault.TheVariants.{Disagree, Memory, Failed}
 use Rattle.replica_machine.specs.declared.roll.Standing.{Standing}
 use Rattle.replica_machine.specs.declared.roll.Standing.TheVariants.{Unknown}
 use Rattle.replica_machine.specs.Effects.{is_effective}
 use Rattle.replica_machine.specs.Roll.{IsRollOf}
-use Rattle.replica_machine.specs.Replay.{Machine, state, sayings_behind}
+use Rattle.replica_machine.specs.Replay.{Machine, state, sayings_behind, Steps}
 
 -- the number of a fault
 abbrev pub learn_fault_number : LearnFault → ℕ
@@ -42,9 +40,13 @@ first_log machine = record { floor = 0; applied = []; ahead = []; roll = first_r
 abbrev pub is_slot : ℕ → Bool
 is_slot n = nat_le 1 n && nat_lt n (2 ^ 40)
 
--- a machine by its first content
-abbrev pub machine_from : {B S Y : Type 0} → (S → Input B → S) → (S → Input B → List Y) → (Y → Transport) → S → Machine B S Y
-machine_from next says to first = record { first = first; next = next; says = says; to = to }
+-- the machine that takes these steps, by its first content
+abbrev pub machine_from : {B S Y : Type 0} → Steps B S Y → S → Machine B S Y
+machine_from steps first = record { first = first; next = steps.next; says = steps.says; to = steps.to }
+
+-- the steps of a machine
+abbrev pub steps_of : {B S Y : Type 0} → Machine B S Y → Steps B S Y
+steps_of m = record { next = m.next; says = m.says; to = m.to }
 
 -- the next content, and what is said, at an input if it counts
 abbrev pub next_by : {S I : Type 0} → (S → I → S) → Bool → S → Option I → S
@@ -93,10 +95,10 @@ module _ {B M : Type 0} where
     pub machine : new.machine ≡ old.machine
     pub failed : new.failed ≡ old.failed
 
-  module _ {S Y : Type 0} (from : S → Machine B S Y) (content : M → S) where
+  module _ {S Y : Type 0} (steps : Steps B S Y) (content : M → S) where
     -- a machine and a roll stand where this log leads to
     abbrev pub IsAt : S → List (Entry B) → List Standing → M → Type 0
-    IsAt first log roll machine = (content machine ≡ state (from first) log) × IsRollOf log roll
+    IsAt first log roll machine = (content machine ≡ state (machine_from steps first) log) × IsRollOf log roll
 
     -- this is a log whose entries up to the floor are these: its machine has the content, and its roll the standings, that all lead to
     pub record IsLogOf (first : S) (under : List (Entry B)) (log : LogState B M) : Type 0 where
@@ -119,5 +121,5 @@ module _ {B M : Type 0} where
       pub failed : new.failed ≡ false
       pub took_is : (under : List (Entry B)) → IsRollOf (under ++ old.applied) old.roll → took ≡ is_effective (under ++ old.applied) entry
       pub says_is : (first : S) (under : List (Entry B)) → IsLogOf first under old
-          → says ≡ sayings_behind (from first) (under ++ old.applied) (entry ∷ [])
+          → says ≡ sayings_behind (machine_from steps first) (under ++ old.applied) (entry ∷ [])
       pub follows : (first : S) (under : List (Entry B)) → IsLogOf first under old → IsLogOf first under new

@@ -10,6 +10,12 @@ use Rattle.replica_machine.specs.declared.input.Input.TheVariants as Given
 use Rattle.replica_machine.specs.Effects.{effective}
 use Rattle.replica_machine.specs.Roll.{effective_behind}
 
+-- what a machine does at an input: the next content, what it says, and to whom
+pub record Steps (B S Y : Type 0) : Type 0 where
+  pub next : S → Input B → S
+  pub says : S → Input B → List Y
+  pub to : Y → Transport
+
 -- a machine: its content at first, the next content, what it says, and to whom
 pub record Machine (B S Y : Type 0) : Type 0 where
   pub first : S

@@ -39,8 +39,8 @@ standing_octets (Live boot taken) = numbers_octets boot 1 taken
 standing_octets (Gone boot) = numbers_octets boot 0 0
 
 -- the standing of these numbers: no boot is live at 0, and a boot that is not live counts no Items
-abbrev pub standing_of : ℕ → ℕ → ℕ → Option Standing
-standing_of boot live taken =
+abbrev pub standing_by : ℕ → ℕ → ℕ → Option Standing
+standing_by boot live taken =
     if live == 1 then (if boot == 0 then None else Some (Live boot taken))
     else (if taken == 0 then Some (if boot == 0 then Unknown else Gone boot) else None)
 
@@ -52,7 +52,7 @@ abbrev pub standing_reading : List ℕ → Reading Standing
 standing_reading octets =
     and_then (number_reading count_form octets) (λ boot rest.
     and_then (number_reading flag_form rest) (λ live rest.
-    and_then (number_reading count_form rest) (λ taken rest. unless_none (standing_of boot live taken) rest)))
+    and_then (number_reading count_form rest) (λ taken rest. unless_none (standing_by boot live taken) rest)))
 
 -- ---- where the nodes stand, from node 1 to node 7
 
@@ -90,6 +90,14 @@ abbrev pub head_reading : List ℕ → Reading Head
 head_reading octets =
     and_then (number_reading floor_form octets) (λ floor rest.
     and_then (seven_reading rest) (λ standings rest. Ok (record { floor = floor; standings = standings }, rest)))
+
+-- the head that octets begin with, unless they are no log's
+abbrev pub head_in : Reading Head → Option Head
+head_in (Ok read) = Some read.0
+head_in (Err fault) = None
+
+abbrev pub head_at : List ℕ → Option Head
+head_at octets = head_in (head_reading octets)
 
 -- what is kept of a log: its length, where nodes 1 to 7 stand after it, and its machine's content
 pub record Kept (S : Type 0) : Type 0 where

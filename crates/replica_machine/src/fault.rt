@@ -1,3 +1,4 @@
+//! The faults of saving and loading, and their numbers.
 ghost use Rattle.std.specs.Prelude.{◌≡◌};
 ghost use Rattle.replica_machine.specs.Fault.{save_fault_number, load_fault_number};
 

@@ -1,9 +1,9 @@
 //! What is kept of a log in front of its machine's octets: its length, and where nodes 1 to 7 stand after it.
-ghost use Rattle.std.specs.Prelude.{◌≡◌, ◌<◌, ◌^◌, ◌++◌, Ok, Err, None, Some, OnOk, IfOk, IsOkUnless, MatchResult, List, ℕ};
+ghost use Rattle.std.specs.Prelude.{◌≡◌, ◌<◌, ◌^◌, ◌++◌, Ok, Err, None, Some, OnOk, IfOk, IfSome, IsOkUnless, MatchResult, List, ℕ};
 ghost use Rattle.command_codec.specs.declared.fault.CodecFault.{CodecFault};
 ghost use Rattle.replica_machine.specs.declared.fault.SaveFault.TheVariants as save;
-ghost use Rattle.replica_machine.specs.Snapshot.{numbers_octets, standing_octets, standing_of, unless_none, standing_reading};
-ghost use Rattle.replica_machine.specs.Snapshot.{standings_octets, seven_reading, head_octets, head_reading};
+ghost use Rattle.replica_machine.specs.Snapshot.{numbers_octets, standing_octets, standing_by, unless_none, standing_reading};
+ghost use Rattle.replica_machine.specs.Snapshot.{standings_octets, seven_reading, head_octets, head_reading, head_at};
 
 use crate::fault::SaveFault;
 use crate::roll::Standing;
@@ -27,11 +27,27 @@ const FLAG: Form = Form {
     high: 1,
 };
 
-// The length of a log, and where nodes 1 to 7 stand after it.
-#[derive(Clone, Copy)]
-pub(crate) struct Head {
-    pub(crate) floor: u64,
-    pub(crate) standings: [Standing; 7],
+/// What is kept of a log but its machine's content.
+#[derive(Clone, Copy, Debug, PartialEq, Eq)]
+pub struct Head {
+    /// The log's length, below 2^40.
+    pub floor: u64,
+    /// Where nodes 1 to 7 stand after it.
+    pub standings: [Standing; 7],
+}
+
+impl Head {
+    /// Returns the head that these octets begin with, as `AppliedLog::save` writes it, or `None` if they begin with none. Does not look at
+    /// what follows it, and does not allocate.
+    pub fn read(octets: &[u8]) -> Option<Head>
+        ensures head { result ≡ head_at octets.now }
+        ensures within { IfSome result (λ head. head.floor < 2 ^ 40) }
+    {
+        match take_head(octets) {
+            Ok((head, _)) => Some(head),
+            Err(_) => None,
+        }
+    }
 }
 
 // Appends what is kept of a log: its head, then its machine's octets.
@@ -119,15 +135,15 @@ fn take_standing(octets: &[u8]) -> Result<(Standing, &[u8]), CodecFault>
     let (boot, rest) = take_number(COUNT, octets)?;
     let (live, rest) = take_number(FLAG, rest)?;
     let (taken, rest) = take_number(COUNT, rest)?;
-    let Some(standing) = standing_of(boot, live, taken) else {
+    let Some(standing) = standing_by(boot, live, taken) else {
         return Err(CodecFault::Range);
     };
     Ok((standing, rest))
 }
 
 // Returns the standing of these numbers.
-fn standing_of(boot: u64, live: u64, taken: u64) -> Option<Standing>
-    ensures { result ≡ standing_of boot live taken }
+fn standing_by(boot: u64, live: u64, taken: u64) -> Option<Standing>
+    ensures { result ≡ standing_by boot live taken }
 {
     if live == 1 {
         if boot == 0 {

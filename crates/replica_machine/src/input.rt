@@ -1,3 +1,4 @@
+//! The inputs of a machine.
 use paxos_packets::Transport;
 
 /// A machine's input: what an entry that takes effect gives it.

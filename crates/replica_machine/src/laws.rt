@@ -81,7 +81,7 @@ pub fn snapshots<B, S, Y, M>()
 /// Along entries that are ones a machine's content stays sound. Does not allocate.
 pub fn soundness<M: Machine>()
     ensures { (first : M.Content) (log : List (Entry M.Body)) → AreGiven log → M.is_sound first
-        → M.is_sound (state (machine_from M.next M.says M.to first) log) }
+        → M.is_sound (state (machine_from M.steps first) log) }
 {}
 
 /// A small log as octets, computed. Does not allocate.

@@ -12,6 +12,7 @@ mod roll;
 mod steps;
 
 pub use fault::{LoadFault, SaveFault};
+pub use head::Head;
 pub use input::Input;
 pub use log::{AppliedLog, LearnFault, Step};
 pub use machine::{Failed, Machine};

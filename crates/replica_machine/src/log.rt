@@ -1,3 +1,4 @@
+//! The applied log: how it learns entries, applies them slot by slot, and is cut, saved and loaded.
 ghost use Rattle.std.specs.Prelude.{◌≡◌, ◌↔◌, ◌<◌, ◌++◌, [], ◌∷◌, Option, Some, None, true, false, IsErr, IsOk, IsErrOf, IsOkUnless};
 ghost use Rattle.std.specs.Prelude.{IfOk, IfErr, OnOk, OnErr, IfSome, IfNone, IsSomeAnd, if◌then◌else◌, List};
 ghost use Rattle.std.specs.Prelude.{Err, ◌≢◌, ◌+◌, ◌-◌, ◌^◌, ◌≤◌, ◌||◌, min, length, map, vec_len};
@@ -116,7 +117,7 @@ impl<M: Machine> AppliedLog<M> {
     /// `alloc`.
     pub fn new(alloc: Global, machine: M) -> AppliedLog<M>
         ensures empty { result ≡ first_log machine }
-        ensures follows { Follows (machine_from M.next M.says M.to) M.content (M.content machine) result }
+        ensures follows { Follows M.steps M.content (M.content machine) result }
     {
         AppliedLog {
             floor: 0,
@@ -199,7 +200,7 @@ impl<M: Machine> AppliedLog<M> {
         ensures waits { self.old.failed ≡ false → learned_in (next_slot self.old) self.old ≡ None → IsOk result }
         ensures none { IfOk result (λ step. IfNone step ((learned_in (next_slot self.old) self.old ≡ None) × (self.new ≡ self.old))) }
         ensures applies { IfOk result (λ step. IfSome step (λ s.
-            Applies (machine_from M.next M.says M.to) M.content self.old self.new s.slot s.took s.says.items)) }
+            Applies M.steps M.content self.old self.new s.slot s.took s.says.items)) }
         ensures err { OnErr result ((self.new.failed ≡ true) × (self.new.applied ≡ self.old.applied)) }
         ensures floor { self.new.floor ≡ self.old.floor }
         ensures machine { M.has_failed self.old.machine ≡ false → OnOk result (M.has_failed self.new.machine ≡ false) }
@@ -245,20 +246,20 @@ impl<M: Machine> AppliedLog<M> {
         ensures no_other { IfErr result (λ fault. fault ≢ LearnFault.Disagree) }
         ensures err { OnErr result (Begins self.old.applied self.new.applied) }
         ensures front { OnErr result (Begins self.new.applied (self.old.applied ++ entries.items)) }
-        ensures follows { (first : M.Content) → Follows (machine_from M.next M.says M.to) M.content first self.old
-            → OnOk result (Follows (machine_from M.next M.says M.to) M.content first self.new) }
-        ensures says { (first : M.Content) → Follows (machine_from M.next M.says M.to) M.content first self.old
+        ensures follows { (first : M.Content) → Follows M.steps M.content first self.old
+            → OnOk result (Follows M.steps M.content first self.new) }
+        ensures says { (first : M.Content) → Follows M.steps M.content first self.old
             → IfOk result (λ said. map (λ says. says.items) said.items
-            ≡ sayings_by_slot (machine_from M.next M.says M.to first) self.old.applied entries.items) }
+            ≡ sayings_by_slot (machine_from M.steps first) self.old.applied entries.items) }
         ensures rolled { (under : List (Entry M.Body)) → IsRollOf (under ++ self.old.applied) self.old.roll
             → OnOk result (IsRollOf (under ++ self.new.applied) self.new.roll) }
         ensures goes_on { (first : M.Content) (under : List (Entry M.Body))
-            → IsLogOf (machine_from M.next M.says M.to) M.content first under self.old
-            → OnOk result (IsLogOf (machine_from M.next M.says M.to) M.content first under self.new) }
+            → IsLogOf M.steps M.content first under self.old
+            → OnOk result (IsLogOf M.steps M.content first under self.new) }
         ensures told { (first : M.Content) (under : List (Entry M.Body))
-            → IsLogOf (machine_from M.next M.says M.to) M.content first under self.old
+            → IsLogOf M.steps M.content first under self.old
             → IfOk result (λ said. map (λ says. says.items) said.items
-            ≡ sayings_by_slot (machine_from M.next M.says M.to first) (under ++ self.old.applied) entries.items) }
+            ≡ sayings_by_slot (machine_from M.steps first) (under ++ self.old.applied) entries.items) }
     {
         if self.failed {
             return Err(LearnFault::Failed);
@@ -287,8 +288,8 @@ impl<M: Machine> AppliedLog<M> {
     pub fn cut(&mut self)
         ensures cut { self.new ≡ cut_log self.old }
         ensures stands { (first : M.Content) (under : List (Entry M.Body))
-            → IsLogOf (machine_from M.next M.says M.to) M.content first under self.old → length_in self.old < 2 ^ 40
-            → IsLogOf (machine_from M.next M.says M.to) M.content first (under ++ self.old.applied) self.new }
+            → IsLogOf M.steps M.content first under self.old → length_in self.old < 2 ^ 40
+            → IsLogOf M.steps M.content first (under ++ self.old.applied) self.new }
     {
         let length = self.length();
         if length >= 1 << 40 {
@@ -302,7 +303,8 @@ impl<M: Machine> AppliedLog<M> {
     /// nor are those ahead.
     ///
     /// Fails with `Failed`, exactly if the log or its machine has failed, and with `Memory`. `load` of the octets is a log that stands for
-    /// the same one, if the content at first was sound, and the entries name nodes 1 to 7 and boots, Items and transports from 1.
+    /// the same one, if the content at first was sound, and the entries name nodes 1 to 7 and boots, Items and transports from 1. If it was
+    /// not sound, `load` of them may fail, and makes no other log.
     ///
     /// Takes the time of the machine's own `save`, and a copy of its octets.
     pub fn save(&self) -> Result<Vec<u8>, SaveFault>
@@ -310,9 +312,13 @@ impl<M: Machine> AppliedLog<M> {
         ensures octets { IfOk result (λ octets. octets.items ≡ kept_octets M.saved (kept_of M.content self.now)) }
         ensures fault { (self.now.failed || M.has_failed self.now.machine) ≡ false → IsOkUnless result save.Memory }
         ensures back { (first : M.Content) (under : List (Entry M.Body))
-            → IsLogOf (machine_from M.next M.says M.to) M.content first under self.now → M.is_sound first
+            → IsLogOf M.steps M.content first under self.now → M.is_sound first
             → AreGiven (under ++ self.now.applied) → length_in self.now < 2 ^ 40
             → IfOk result (λ octets. loaded_log M.loaded octets.items ≡ Some (kept_of M.content self.now)) }
+        ensures only { (first : M.Content) (under : List (Entry M.Body))
+            → IsLogOf M.steps M.content first under self.now → AreGiven (under ++ self.now.applied)
+            → length_in self.now < 2 ^ 40
+            → IfOk result (λ octets. IfSome (loaded_log M.loaded octets.items) (λ kept. kept ≡ kept_of M.content self.now)) }
     {
         if self.failed {
             return Err(SaveFault::Failed);

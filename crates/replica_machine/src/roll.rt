@@ -1,3 +1,4 @@
+//! The standings of nodes: which entries take effect, and which stay pending.
 ghost use Rattle.std.specs.Prelude.{◌≡◌, ℕ, ◌<◌, ◌&&◌, ◌==◌, List, if◌then◌else◌};
 ghost use Rattle.paxos_packets.specs.declared.entry.Entry.{Entry};
 ghost use Rattle.replica_machine.specs.Roll.{is_new_boot, is_live, is_next, gone, standing_after, standing_in, IsRollOf, takes_effect};
@@ -162,8 +163,8 @@ impl Roll {
         }
     }
 
-    // Returns the roll in which nodes 1 to 7 have these standings, and no other node is known.
-    pub(crate) fn of(standings: [Standing; 7]) -> Roll
+    /// Returns the roll in which nodes 1 to 7 have these standings, and no other node is known. Does not allocate.
+    pub fn of(standings: [Standing; 7]) -> Roll
         ensures { (n : ℕ) → n < 256 → standing_in result n ≡ standing_from_node 1 n standings }
     {
         let [a, b, c, d, e, f, g] = standings;
@@ -178,8 +179,8 @@ impl Roll {
         roll
     }
 
-    // Returns the standings of nodes 1 to 7.
-    pub(crate) fn seven(&self) -> [Standing; 7]
+    /// Returns the standings of nodes 1 to 7. Does not allocate.
+    pub fn seven(&self) -> [Standing; 7]
         ensures { result ≡ seven self.now }
     {
         [

@@ -27,8 +27,8 @@ pub(crate) fn apply<M: Machine>(
     ensures slot { IfOk result (λ step. step.slot ≡ slot) }
     ensures took { (log : List (Entry M.Body)) → IsRollOf log roll.old → IfOk result (λ step. step.took ≡ takes_effect log entry) }
     ensures content { IfOk result (λ step. M.content machine.new
-        ≡ next_by M.next step.took (M.content machine.old) (input_of entry)) }
-    ensures says { IfOk result (λ step. step.says.items ≡ says_by M.says step.took (M.content machine.old) (input_of entry)) }
+        ≡ next_by M.steps.next step.took (M.content machine.old) (input_of entry)) }
+    ensures says { IfOk result (λ step. step.says.items ≡ says_by M.steps.says step.took (M.content machine.old) (input_of entry)) }
     ensures alive { M.has_failed machine.old ≡ false → OnOk result (M.has_failed machine.new ≡ false) }
 {
     applied.reserve(1)?;
@@ -50,8 +50,8 @@ fn apply_in_room<M: Machine>(
     ensures capacity { vec_capacity applied.new ≡ vec_capacity applied.old }
     ensures roll { (log : List (Entry M.Body)) → IsRollOf log roll.old → OnOk result (IsRollOf (log ++ entry ∷ []) roll.new) }
     ensures took { (log : List (Entry M.Body)) → IsRollOf log roll.old → IfOk result (λ did. did.0 ≡ takes_effect log entry) }
-    ensures content { IfOk result (λ did. M.content machine.new ≡ next_by M.next did.0 (M.content machine.old) (input_of entry)) }
-    ensures says { IfOk result (λ did. did.1.items ≡ says_by M.says did.0 (M.content machine.old) (input_of entry)) }
+    ensures content { IfOk result (λ did. M.content machine.new ≡ next_by M.steps.next did.0 (M.content machine.old) (input_of entry)) }
+    ensures says { IfOk result (λ did. did.1.items ≡ says_by M.steps.says did.0 (M.content machine.old) (input_of entry)) }
     ensures alive { M.has_failed machine.old ≡ false → OnOk result (M.has_failed machine.new ≡ false) }
 {
     let took = roll.take(&entry);
@@ -79,12 +79,12 @@ pub(crate) fn apply_all<M: Machine>(
     ensures rolled { (under : List (Entry M.Body)) → IsRollOf (under ++ applied.old.items) roll.old
         → OnOk result (IsRollOf (under ++ applied.new.items) roll.new) }
     ensures stands { (first : M.Content) (under : List (Entry M.Body))
-        → IsAt (machine_from M.next M.says M.to) M.content first (under ++ applied.old.items) roll.old machine.old
-        → OnOk result (IsAt (machine_from M.next M.says M.to) M.content first (under ++ applied.new.items) roll.new machine.new) }
+        → IsAt M.steps M.content first (under ++ applied.old.items) roll.old machine.old
+        → OnOk result (IsAt M.steps M.content first (under ++ applied.new.items) roll.new machine.new) }
     ensures said { (first : M.Content) (under : List (Entry M.Body))
-        → IsAt (machine_from M.next M.says M.to) M.content first (under ++ applied.old.items) roll.old machine.old
+        → IsAt M.steps M.content first (under ++ applied.old.items) roll.old machine.old
         → OnOk result (map (λ says. says.items) said.new.items ≡ map (λ says. says.items) said.old.items
-        ++ sayings_by_slot (machine_from M.next M.says M.to first) (under ++ applied.old.items) entries.items) }
+        ++ sayings_by_slot (machine_from M.steps first) (under ++ applied.old.items) entries.items) }
     ensures alive { M.has_failed machine.old ≡ false → OnOk result (M.has_failed machine.new ≡ false) }
 {
     for entry in entries {
@@ -102,8 +102,8 @@ fn follow<M: Machine>(
     entry: Entry<M::Body>,
 ) -> (Entry<M::Body>, Result<Vec<M::Say>, Failed>)
     ensures entry { result.0 ≡ entry }
-    ensures content { OnOk result.1 (M.content machine.new ≡ next_by M.next took (M.content machine.old) (input_of entry)) }
-    ensures says { IfOk result.1 (λ says. says.items ≡ says_by M.says took (M.content machine.old) (input_of entry)) }
+    ensures content { OnOk result.1 (M.content machine.new ≡ next_by M.steps.next took (M.content machine.old) (input_of entry)) }
+    ensures says { IfOk result.1 (λ says. says.items ≡ says_by M.steps.says took (M.content machine.old) (input_of entry)) }
     ensures alive { M.has_failed machine.old ≡ false → OnOk result.1 (M.has_failed machine.new ≡ false) }
 {
     if took {
@@ -120,8 +120,8 @@ fn lend<M: Machine>(
     entry: Entry<M::Body>,
 ) -> (Entry<M::Body>, Result<Vec<M::Say>, Failed>)
     ensures entry { result.0 ≡ entry }
-    ensures content { OnOk result.1 (M.content machine.new ≡ next_by M.next true (M.content machine.old) (input_of entry)) }
-    ensures says { IfOk result.1 (λ says. says.items ≡ says_by M.says true (M.content machine.old) (input_of entry)) }
+    ensures content { OnOk result.1 (M.content machine.new ≡ next_by M.steps.next true (M.content machine.old) (input_of entry)) }
+    ensures says { IfOk result.1 (λ says. says.items ≡ says_by M.steps.says true (M.content machine.old) (input_of entry)) }
     ensures alive { M.has_failed machine.old ≡ false → OnOk result.1 (M.has_failed machine.new ≡ false) }
 {
     match entry {
@@ -171,8 +171,8 @@ fn lend_body<M: Machine>(
     body: M::Body,
 ) -> (M::Body, Result<Vec<M::Say>, Failed>)
     ensures body { result.0 ≡ body }
-    ensures content { OnOk result.1 (M.content machine.new ≡ M.next (M.content machine.old) (Input.Item transport body)) }
-    ensures says { IfOk result.1 (λ says. says.items ≡ M.says (M.content machine.old) (Input.Item transport body)) }
+    ensures content { OnOk result.1 (M.content machine.new ≡ M.steps.next (M.content machine.old) (Input.Item transport body)) }
+    ensures says { IfOk result.1 (λ says. says.items ≡ M.steps.says (M.content machine.old) (Input.Item transport body)) }
     ensures alive { OnOk result.1 (M.has_failed machine.new ≡ false) }
 {
     let input = Input::Item { transport, body };

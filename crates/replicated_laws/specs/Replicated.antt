@@ -13,8 +13,7 @@ use Rattle.realm_laws.specs.Laws.{IsSound, IsTrace, AreSoundOpenCalls}
 use Rattle.realm_laws.specs.Logs.{at_prefix, log_trace}
 use Rattle.cluster_world.specs.Answers.{IsPresent}
 use Rattle.cluster_world.specs.Headline.{log_in}
-use Rattle.cluster_world.specs.Laws.{IsPrefixOf}
-use Rattle.cluster_world.specs.StandsAt.{Held, handed_in}
+use Rattle.cluster_world.specs.StandsAt.{Held, HasLog, handed_in}
 use Rattle.cluster_world.specs.World.{node_at}
 
 -- a world in code whose machines are realms
@@ -33,11 +32,12 @@ abbrev pub RepliesAnswerCallsAlongLogs : Realms → Type 0
 RepliesAnswerCallsAlongLogs w =
     (config : Config) (node : ℕ) (t : Transport) (request : ℕ) → IsTrace (log_trace config t request (log_in w node))
 
--- each realm that has not been given up is the written one after the log that it has applied, of which its node's log is a prefix
+-- each realm that has not been given up is the written one after the log that it has applied, which is its node's while that is up
 abbrev pub RealmsFollow : Config → Realms → Type 0
 RealmsFollow config w =
     (i : ℕ) (f : Followed Act State Say) → slice_get w.machines i ≡ Some f → f.given_up ≡ false
-    → (live_of f.machine ≡ record { config = config; content = state (realm_of config) f.log }) × IsPrefixOf (log_in w (suc i)) f.log
+    → (live_of f.log.machine ≡ record { config = config; content = state (realm_of config) f.log.applied })
+    × HasLog (node_at w.nodes (suc i)) f
 
 -- a transport of the present boot of a node that is up was handed what the written realm says to it along the node's log
 abbrev pub AnswersAreOfRealms : Config → Realms → Type 0

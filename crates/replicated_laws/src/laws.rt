@@ -6,6 +6,7 @@ ghost use Rattle.realm_acts.specs.Act.{same_act};
 ghost use Rattle.realm_machine.specs.Config.{Config};
 ghost use Rattle.realm_machine.specs.Laws.{live_realm};
 ghost use Rattle.realm_machine.specs.Machine.{live_of};
+ghost use Rattle.realm_snapshot.specs.Snapshot.{loaded};
 ghost use Rattle.cluster_world.specs.StandsAt.{StandsAt};
 ghost use Rattle.replicated_laws.specs.Replicated.{AreSoundAlongLogs, RepliesAnswerCallsAlongLogs, RealmsFollow, AnswersAreOfRealms};
 
@@ -17,13 +18,13 @@ use realm_snapshot::KeptRealm;
 /// For each transport and request, every final reply comes after a CALL that took effect, and no two after the same one.
 ///
 /// If all realms were made with one configuration, each realm that has not been given up has the content of the written realm after the log
-/// that it has applied, of which its node's log is a prefix; and each transport of the present boot of a node that is up was handed what
-/// the written realm says to it along that node's log. Does not allocate.
+/// that it has applied, which is its node's log while that is up; and each transport of the present boot of a node that is up was handed
+/// what the written realm says to it along that node's log. Does not allocate.
 pub fn replicated_realm(world: &World<KeptRealm>)
     ensures sound { AreSoundAlongLogs world.now }
     ensures replies { RepliesAnswerCallsAlongLogs world.now }
     ensures realms { (config : Config) (es : List (Event Act)) →
-        StandsAt same_act live_of (live_realm config) world.now es → RealmsFollow config world.now }
+        StandsAt same_act live_of loaded (live_realm config) world.now es → RealmsFollow config world.now }
     ensures answers { (config : Config) (es : List (Event Act)) →
-        StandsAt same_act live_of (live_realm config) world.now es → AnswersAreOfRealms config world.now }
+        StandsAt same_act live_of loaded (live_realm config) world.now es → AnswersAreOfRealms config world.now }
 {}

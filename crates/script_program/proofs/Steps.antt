@@ -16,6 +16,7 @@ use Rattle.realm_machine.specs.Config.{Config}
 use Rattle.realm_machine.specs.Machine.{live_of}
 use Rattle.realm_machine.specs.Laws.{live_realm}
 use Rattle.cluster_world.specs.Scripts.{Stage, is_delivered, happen}
+use Rattle.realm_snapshot.specs.Snapshot.{loaded}
 use Rattle.cluster_world.specs.StandsAt.{StandsAt}
 use Rattle.cluster_world.specs.World.{World, first_world, next, done, played, was_sent, node_at}
 use Rattle.script_program.specs.declared.player.Player.{Player}
@@ -38,7 +39,7 @@ sends members w e = go (was_sent same_act e w.sent && possible e x)
 -- the player is where the script is after an event, once its world has played it and what was sent waits
 pub happened : (config : Config) (members : ℕ) (old new : Player) (s : Stage Act) (e : Event Act) → IsAt config members old s
     → new.world.members ≡ old.world.members
-    → StandsAt same_act live_of (live_realm config) new.world (s.events ++ e ∷ [])
+    → StandsAt same_act live_of loaded (live_realm config) new.world (s.events ++ e ∷ [])
     → new.waiting ≡ send_all (drop (length old.waiting.sent) (played same_act new.world.members (s.events ++ e ∷ [])).sent) old.waiting
     → IsAt config members new (happen same_act members e s)
 happened config members old new s e at stay stands sent =
@@ -89,7 +90,7 @@ pub has_delivered : (config : Config) (members : ℕ) (old new : Player) (s : St
 has_delivered config members old new s place within at stay marks =
     record {
       members_are = ap (λ w. w.members) stay ∙ at.members_are;
-      stands = subst (λ w. StandsAt same_act live_of (live_realm config) w s.events) (sym stay) at.stands;
+      stands = subst (λ w. StandsAt same_act live_of loaded (live_realm config) w s.events) (sym stay) at.stands;
       is_played = at.is_played;
       few = ap (λ w. w.members) marks ∙ at.few;
       waits = ap (λ w. w.sent) marks ∙ ap (mark_at place) at.waits ∙ marked 1 place s.delivered s.world.sent

@@ -22,6 +22,7 @@ use Rattle.script_program.specs.declared.lines.line.Line.TheVariants as line
 use Rattle.script_program.specs.Waiting as waiting
 use Rattle.cluster_world.specs.Scripts.{Stage, first_stage, first_due, deliver, deliver_no, deliver_first, flush, most_deliveries}
 use Rattle.cluster_world.specs.Scripts.{take_line, stage_behind}
+use Rattle.realm_snapshot.specs.Snapshot.{loaded}
 use Rattle.cluster_world.specs.StandsAt.{HaveContent, StandsAt}
 use Rattle.cluster_world.specs.World.{played}
 use Rattle.script_program.specs.declared.player.Player.{Player}
@@ -45,7 +46,7 @@ put_realm config realms new realm of put named is content all =
 
 -- a player before the first line
 pub begins : (config : Config) (members : ℕ) (p : Player) → p.world.members ≡ members
-    → StandsAt same_act live_of (live_realm config) p.world []
+    → StandsAt same_act live_of loaded (live_realm config) p.world []
     → p.waiting.members ≡ members → p.waiting.sent ≡ [] → IsAt config members p (first_stage members)
 begins config members p are stands few none =
     record { members_are = are; stands = stands; is_played = refl; few = few; waits = none; fresh = λ number l. refl }

@@ -12,6 +12,7 @@ use Rattle.realm_machine.specs.Laws.{live_realm}
 use Rattle.script_program.specs.declared.player.waiting.Sent.{Sent}
 use Rattle.script_program.specs.Waiting.{Packets, with_sent}
 use Rattle.cluster_world.specs.Scripts.{Stage, is_delivered, first_due, deliver, flush}
+use Rattle.realm_snapshot.specs.Snapshot.{loaded}
 use Rattle.cluster_world.specs.StandsAt.{StandsAt}
 use Rattle.cluster_world.specs.World.{played}
 use Rattle.script_program.specs.declared.player.Player.{Player}
@@ -30,7 +31,7 @@ waits_from number delivered sent = map (wait_of delivered) (enumerate_from numbe
 -- the player's world is where the script is, and what waits are the packets that this world has sent
 pub record IsAt (config : Config) (members : ℕ) (p : Player) (s : Stage Act) : Type 0 where
   pub members_are : p.world.members ≡ members
-  pub stands : StandsAt same_act live_of (live_realm config) p.world s.events
+  pub stands : StandsAt same_act live_of loaded (live_realm config) p.world s.events
   pub is_played : s.world ≡ played same_act members s.events
   pub few : p.waiting.members ≡ members
   pub waits : p.waiting.sent ≡ waits_from 1 s.delivered s.world.sent

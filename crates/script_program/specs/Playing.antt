@@ -14,6 +14,7 @@ use Rattle.realm_machine.specs.Laws.{live_realm}
 use Rattle.script_program.specs.declared.lines.line.Line.{Line}
 use Rattle.script_program.specs.declared.lines.line.Line.TheVariants as line
 use Rattle.cluster_world.specs.Scripts as scripts
+use Rattle.realm_snapshot.specs.Snapshot.{loaded}
 use Rattle.cluster_world.specs.StandsAt.{Held, StandsAt}
 use Rattle.cluster_world.specs.World.{World, handed}
 
@@ -38,7 +39,7 @@ events_of members lines = (scripts.run_script same_act members (script_of lines)
 
 -- it is the world that these lines lead to, whose machines are realms of this configuration
 abbrev pub IsPlayed : Config → ℕ → List Line → Held Act State Say → Type 0
-IsPlayed config members lines w = StandsAt same_act live_of (live_realm config) w (events_of members lines)
+IsPlayed config members lines w = StandsAt same_act live_of loaded (live_realm config) w (events_of members lines)
 
 -- transports are handed what the realm says
 abbrev pub HandsOutAsRealm : Type 0

@@ -1,3 +1,4 @@
+// The faults of a script's run, and which faults of other crates become them.
 ghost use Rattle.std.specs.Prelude.{◌≡◌};
 
 use crate::lines::LinesFault;

@@ -9,6 +9,7 @@ ghost use Rattle.realm_machine.specs.Laws.{live_realm};
 ghost use Rattle.realm_machine.specs.Machine.{live_of};
 ghost use Rattle.script_program.specs.declared.lines.line.Line.TheVariants as line;
 ghost use Rattle.cluster_world.specs.Scripts.{Stage, first_stage, happen, deliver_no, flush, most_deliveries, stage_behind};
+ghost use Rattle.realm_snapshot.specs.Snapshot.{loaded};
 ghost use Rattle.cluster_world.specs.StandsAt.{StandsAt};
 ghost use Rattle.cluster_world.specs.World.{played};
 ghost use Rattle.script_program.specs.Playing.{IsPlayed, in_script, script_of};
@@ -208,7 +209,7 @@ fn first_world(
     limits: Limits,
 ) -> Result<World<KeptRealm>, Memory>
     ensures members { IfOk result (λ w. w.members ≡ members) }
-    ensures stands { IfOk result (λ w. StandsAt same_act live_of (live_realm (record { name = realm.now; limits = limits })) w []) }
+    ensures stands { IfOk result (λ w. StandsAt same_act live_of loaded (live_realm (record { name = realm.now; limits = limits })) w []) }
 {
     let realms = realms_of(alloc, members, realm, limits)?;
     World::new(alloc, members, realms)
@@ -217,7 +218,7 @@ fn first_world(
 // Adds the packets that the world has sent since the last call to those that wait.
 fn send_new(world: &World<KeptRealm>, waiting: &mut Waiting) -> Result<(), Memory>
     ensures { (config : Config) (es : List (occurred.Event acted.Act)) →
-        StandsAt same_act live_of (live_realm config) world.now es →
+        StandsAt same_act live_of loaded (live_realm config) world.now es →
         OnOk result (waiting.new ≡ send_all (drop (length waiting.old.sent) (played same_act world.now.members es).sent) waiting.old) }
 {
     for place in waiting.count()..world.sent() {
@@ -229,7 +230,7 @@ fn send_new(world: &World<KeptRealm>, waiting: &mut Waiting) -> Result<(), Memor
 // Returns the packet at this place, counted from 0 over all that were ever sent, or `None`.
 fn packet_at(world: &World<KeptRealm>, place: usize) -> Option<&Packet<Act>>
     ensures { (config : Config) (es : List (occurred.Event acted.Act)) →
-        StandsAt same_act live_of (live_realm config) world.now es →
+        StandsAt same_act live_of loaded (live_realm config) world.now es →
         option_copied result ≡ slice_get (played same_act world.now.members es).sent place }
 {
     if place < world.sent() {

@@ -1,3 +1,4 @@
+// The run of a script, from its octets to the text of a world.
 ghost use Rattle.script_program.specs.Run.{Ends, ReadsLines};
 
 use crate::fault::ScriptFault;

@@ -1,3 +1,4 @@
+// The bell of a porter: its node rings it, and the porter's rest ends.
 use mio::{Registry, Token, Waker};
 use std::io;
 use std::sync::atomic::{AtomicBool, Ordering};

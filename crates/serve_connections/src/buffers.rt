@@ -1,3 +1,4 @@
+// The buffers of a porter, one set for all of its connections.
 use crate::lobby::Lobby;
 use client_listener::Parser;
 use std::alloc::{AllocError, Global};

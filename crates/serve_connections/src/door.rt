@@ -1,3 +1,4 @@
+// A node's port, and the run of its porter on a thread.
 use crate::buffers::Buffers;
 use crate::lobby::Lobby;
 use crate::node_connection::Arrival;

@@ -1,3 +1,4 @@
+// The way in of a connection: from the client's stream into the ring of its requests.
 use crate::buffers::Buffers;
 use crate::requests::RequestSender;
 use crate::shared::SharedConnection;

@@ -1,3 +1,4 @@
+// Where a node's thread rests and is woken, and the permits for its connections.
 use std::alloc::{AllocError, Global};
 use std::sync::atomic::{AtomicBool, AtomicU64, Ordering};
 use std::sync::{Arc, Wait};

@@ -1,3 +1,4 @@
+// The node's end of a client's connection, and the arrival that brings it.
 ghost use Rattle.std.specs.Prelude.{◌≡◌, length};
 ghost use Rattle.serve_connections.specs.Taken.{taken_by};
 

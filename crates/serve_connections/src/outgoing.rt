@@ -1,3 +1,4 @@
+// The way out of a connection: from the ring of sayings to the client's stream.
 use crate::buffers::Buffers;
 use crate::shared::SharedConnection;
 use client_listener::{ListenFault, Outbox, ToClient};

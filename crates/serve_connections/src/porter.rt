@@ -1,3 +1,4 @@
+// The porter: rests until something happens, accepts clients, and goes on with each of its connections.
 use crate::bell::Bell;
 use crate::buffers::Buffers;
 use crate::door::Door;

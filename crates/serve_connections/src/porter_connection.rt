@@ -1,3 +1,4 @@
+// The porter's end of a client's connection, from the handshake to the end.
 use crate::buffers::Buffers;
 use crate::incoming::{Incoming, Inward};
 use crate::lobby::ConnectionPermit;

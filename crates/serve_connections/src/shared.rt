@@ -1,3 +1,4 @@
+// What the two ends of a connection share.
 use crate::bell::Bell;
 use crate::lobby::Lobby;
 use std::alloc::Global;

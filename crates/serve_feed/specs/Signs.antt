@@ -25,6 +25,7 @@ shown (heard.Refusal ballot other) promised before =
 shown heard.Entries promised before = Nothing
 shown heard.Learned promised before = Told
 shown (heard.Ask first) promised before = Nothing
+shown (heard.Snapshot floor) promised before = Nothing
 
 -- before the first packet or promise nothing is shown
 abbrev pub sign_of : Option Heard → Option Ballot → Option Ballot → Sign

@@ -1,3 +1,4 @@
+// The feed of a served node: which event comes next, what is counted in a round, and where sayings go.
 ghost use Rattle.std.specs.Prelude.{◌≡◌, ◌++◌, [], ℕ, List};
 ghost use Rattle.std.specs.Option.{option_to_list};
 ghost use Rattle.paxos_node.specs.declared.event.Event.{Event};

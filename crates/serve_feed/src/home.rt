@@ -1,3 +1,4 @@
+// What the gate and the feed of a served node are made with.
 use crate::pace::Pace;
 use paxos_packets::Members;
 use serve_connections::Lobby;

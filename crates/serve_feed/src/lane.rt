@@ -1,3 +1,4 @@
+// One lane: how sayings go to its client, whether the client keeps up, and how the connection ends.
 ghost use Rattle.std.specs.Prelude.{◌≡◌, ◌∷◌, ◌++◌, [], MatchBool};
 ghost use Rattle.rtrb.specs.Ring.{sent, known_free, SameProducer};
 ghost use Rattle.serve_feed.specs.Hears.{Hears, Stays, Ends};

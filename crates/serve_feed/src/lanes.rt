@@ -1,3 +1,4 @@
+// The lanes of a node: which act of a client comes next, and the sayings for transports.
 ghost use Rattle.std.specs.Prelude.{◌≡◌, ◌∷◌, ℕ, List, [], IfSome, MatchOption};
 ghost use Rattle.realm_acts.specs.declared.act.Act.{Act};
 ghost use Rattle.realm_acts.specs.declared.act.Act.TheVariants.{Said};

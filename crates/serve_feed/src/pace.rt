@@ -1,3 +1,4 @@
+// The gate of a served node and its rests, and what gate and feed share of rounds and beats.
 use crate::home::Home;
 use actor_run::Gate;
 use serve_connections::Lobby;

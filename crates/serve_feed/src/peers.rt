@@ -1,3 +1,4 @@
+// How the other members get on, and whether acts or ticks are held back for one of them.
 use actor_run::Seen;
 use node_actor::Heard;
 use paxos_packets::Members;

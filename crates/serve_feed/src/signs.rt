@@ -49,6 +49,7 @@ fn shown(heard: Heard, promised: Ballot, before: Option<Ballot>) -> Sign
         Heard::Refusal { .. } => Sign::Nothing,
         Heard::Entries => Sign::Nothing,
         Heard::Ask(_) => Sign::Nothing,
+        Heard::Snapshot(_) => Sign::Nothing,
     }
 }
 

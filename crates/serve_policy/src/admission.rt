@@ -1,3 +1,4 @@
+// How many acts a node may have under way, as a leader and otherwise.
 ghost use Rattle.std.specs.Prelude.{◌≡◌};
 ghost use Rattle.serve_policy.specs.Admission.{no_acts, seeing, has_room, giving};
 

@@ -1,3 +1,4 @@
+// When acts are held back for another node that does not keep up.
 ghost use Rattle.std.specs.Prelude.{◌≡◌};
 ghost use Rattle.serve_policy.specs.Backpressure.{backpressure};
 

@@ -1,3 +1,4 @@
+// Beats and ticks by time: which beats are due, and how long a node waits for slow clients.
 ghost use Rattle.std.specs.Prelude.{◌≡◌};
 ghost use Rattle.serve_policy.specs.Clock.{beats_in, passing, waiting_on};
 

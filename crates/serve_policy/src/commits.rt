@@ -1,3 +1,4 @@
+// How long a node's commits take, and how many acts it gives before a turn.
 ghost use Rattle.std.specs.Prelude.{◌≡◌};
 ghost use Rattle.serve_policy.specs.Commits.{taking, noting, beats_of, acts_a_turn};
 

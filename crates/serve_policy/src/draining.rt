@@ -1,3 +1,4 @@
+// When ticks are held back, since many packets wait for another node that takes them.
 ghost use Rattle.std.specs.Prelude.{◌≡◌};
 ghost use Rattle.serve_policy.specs.Draining.{draining, took_at};
 

@@ -1,3 +1,4 @@
+// A node's draws, by ChaCha20.
 ghost use Rattle.std.specs.Prelude.{◌≡◌, ◌<◌, ◌*◌, ◌+◌, ◌^◌};
 ghost use Rattle.serve_policy.specs.Draws.{first_draws, next_draw};
 

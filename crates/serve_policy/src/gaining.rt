@@ -1,3 +1,4 @@
+// When acts are held back for another node that lacks many entries and gains.
 ghost use Rattle.std.specs.Prelude.{◌≡◌};
 ghost use Rattle.serve_policy.specs.Gaining.{asking, lacking, is_marked, is_gaining};
 

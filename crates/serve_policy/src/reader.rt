@@ -1,3 +1,4 @@
+// When a node waits for a client that reads slowly.
 ghost use Rattle.std.specs.Prelude.{◌≡◌};
 ghost use Rattle.serve_policy.specs.Reader.{first_reader, putting, judging, ignoring};
 

@@ -1,3 +1,4 @@
+// When a node ticks, begins a ballot and suspects another, by its turns, beats and packets.
 ghost use Rattle.std.specs.Prelude.{◌≡◌, ◌≤◌, ◌*◌, max};
 ghost use Rattle.serve_policy.specs.Ticks.{first_counts, counting, moving, showing, resting, hearing, treating, is_moving, gained_in};
 ghost use Rattle.serve_policy.specs.Ticks.{working, answering, refusing, has_answered};

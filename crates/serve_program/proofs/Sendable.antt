@@ -35,6 +35,8 @@ use Rattle.wamp_message_types.specs.contracts.read_result.Read as read
 use Rattle.paxos_packets.specs.contracts.entry.Entry as entry
 use Rattle.paxos_packets.specs.contracts.entry.Entries as entries
 use Rattle.paxos_packets.specs.contracts.slot.Slot as slot
+use Rattle.paxos_packets.specs.contracts.slot.Floor as floor
+use Rattle.paxos_packets.specs.contracts.snapshot.Snapshot as snapshot
 use Rattle.paxos_packets.specs.contracts.ballot.Ballot as ballot
 use Rattle.paxos_packets.specs.contracts.vote.Vote as vote
 use Rattle.paxos_packets.specs.contracts.vote.Votes as votes
@@ -177,8 +179,14 @@ votes_send = let a = vote_send in search (sendable, heap.crosses) depth 20
 entries_send : IsSend (entries.the_field act.the_row).row
 entries_send = let a = entry_send in search (sendable, heap.crosses) depth 20
 
+floor_send : IsSend floor.the_field.row
+floor_send = search sendable depth 20
+
+snapshot_send : IsSend snapshot.the_field.row
+snapshot_send = let s = slot_send in search (sendable, heap.crosses) depth 20
+
 kind_send : IsSend (kind.the_field act.the_row).row
-kind_send = enum_send (shape (kind.the_type act.the_row)) ((ballot_send, (search sendable, tt)), ((ballot_send, (votes_send, tt)), ((vote_send, tt), ((vote_send, tt), ((ballot_send, (ballot_send, tt)), ((entries_send, tt), ((slot_send, (entry_send, tt)), ((search sendable, tt), tt))))))))
+kind_send = enum_send (shape (kind.the_type act.the_row)) ((ballot_send, (search sendable, tt)), ((ballot_send, (floor_send, (votes_send, tt))), ((vote_send, tt), ((vote_send, tt), ((ballot_send, (ballot_send, tt)), ((entries_send, tt), ((slot_send, (entry_send, tt)), ((search sendable, tt), ((snapshot_send, tt), tt)))))))))
 
 pub packet_send : IsSend (packet.the_field act.the_row).row
 packet_send = let k = kind_send in search (sendable, heap.crosses) depth 20

@@ -1,3 +1,4 @@
+// The faults of a node on its thread and of the whole cluster, and their numbers.
 ghost use Rattle.std.specs.Prelude.{◌≡◌};
 ghost use Rattle.serve_program.specs.Fault.{number_of, EndsAll, FaultAt, IsEnding};
 

@@ -1,3 +1,4 @@
+// What a node's thread needs: a source of machines, and a feed that notes boots.
 ghost use Rattle.std.specs.Prelude.{◌≡◌, [], false, IfOk};
 
 use actor_run::Feed;

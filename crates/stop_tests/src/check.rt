@@ -1,3 +1,4 @@
+// The functions that `check!` and `check_eq!` call: each ends the process where a check fails.
 use std::fmt::Debug;
 use std::process::Abort;
 

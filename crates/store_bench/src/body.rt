@@ -1,3 +1,4 @@
+// The bodies of the measures, and their coder.
 ghost use Rattle.std.specs.Prelude.{◌≡◌, ◌==◌, ℕ, List, refl, IfOk};
 ghost use Rattle.std.specs.Cmp.Lexicographic.{pointwise, bytes_decides};
 ghost use Rattle.store_bench.specs.Plain.{plain_spelling, plain_reading, plain_again, plain_spelled};

@@ -1,3 +1,4 @@
+// The faults of a measure, and which faults of other crates become them.
 use sqlite::Error as SqliteError;
 use std::alloc::AllocError;
 use std::io;

@@ -68,7 +68,11 @@ fn change(
     } else {
         None
     };
-    Ok(Change { promised, votes })
+    Ok(Change {
+        promised,
+        snapshot: None,
+        votes,
+    })
 }
 
 // One call each, without contracts, so that no function above carries those of the keeper. A connection is handed back with each fault, so
@@ -106,6 +110,7 @@ fn commit<S: Alter>(store: &mut Store<S>, change: &Change<Octets>) -> Result<(),
 fn promise<S: Alter>(alloc: Global, store: &mut Store<S>, round: u64) -> Result<(), BenchFault> {
     let change = Change {
         promised: Some(Ballot { round, node: 1 }),
+        snapshot: None,
         votes: Votes::new(alloc),
     };
     commit(store, &change)

@@ -1,3 +1,4 @@
+// The faults of a keeper, and their numbers.
 ghost use Rattle.std.specs.Prelude.{◌≡◌};
 ghost use Rattle.store_keeper.specs.Fault.{number_of};
 

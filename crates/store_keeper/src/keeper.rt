@@ -1,3 +1,4 @@
+// The trait of keepers, which load rows, commit changes and begin boots.
 ghost use Rattle.std.specs.Prelude.{◌≡◌, ◌≢◌, ◌⊎◌, ◌-◌, ◌^◌, ◌<◌, ◌≤◌, ℕ, Bool, true, false, is_err, IfOk, OnOk, IsErrOf, Err};
 ghost use Rattle.paxos_packets.specs.declared.rows.Rows.{Rows};
 ghost use Rattle.paxos_acceptor.specs.Acceptor.{adopted};

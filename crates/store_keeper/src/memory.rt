@@ -1,5 +1,9 @@
+// The keeper in memory, which may fail at a chosen commit.
 ghost use Rattle.std.specs.Prelude.{◌≡◌, true, false, OnOk, OnErr};
 ghost use Rattle.std.proofs.Common.{sym, ◌∙◌};
+ghost use Rattle.std.specs.Option.{option_or};
+ghost use Rattle.paxos_packets.specs.Rows.{kept_votes};
+ghost use Rattle.paxos_packets.specs.Vote.{put_votes};
 ghost use Rattle.paxos_acceptor.specs.Acceptor.{adopted};
 ghost use Rattle.store_keeper.specs.Keeper.{no_rows};
 ghost use Rattle.store_keeper.specs.Memory.{Commits, BootsIn, Loads};
@@ -171,9 +175,30 @@ fn adopt<B: Body>(alloc: Global, rows: &mut Rows<B>, change: &Change<B>) -> Resu
     ensures ok { OnOk result (rows.new ≡ adopted rows.old change.now) }
     ensures err { OnErr result (rows.new ≡ rows.old) }
 {
-    rows.votes.put_all(change.votes.copy(alloc)?)?;
+    put(alloc, rows, change)?;
     if change.promised.is_some() {
         rows.promised = change.promised;
     }
+    Ok(())
+}
+
+// Takes the change's snapshot and votes over into the rows. After `Memory` they are as they were.
+fn put<B: Body>(alloc: Global, rows: &mut Rows<B>, change: &Change<B>) -> Result<(), Memory>
+    ensures ok { OnOk result (rows.new ≡ record rows.old {
+      snapshot = option_or change.now.snapshot rows.old.snapshot;
+      votes = put_votes change.now.votes (kept_votes change.now.snapshot rows.old.votes);
+    }) }
+    ensures err { OnErr result (rows.new ≡ rows.old) }
+{
+    let votes = change.votes.copy(alloc)?;
+    let Some(snapshot) = &change.snapshot else {
+        rows.votes.put_all(votes)?;
+        return Ok(());
+    };
+    let snapshot = snapshot.share()?;
+    let mut kept = rows.votes.copy_from(alloc, snapshot.floor().get() + 1)?;
+    kept.put_all(votes)?;
+    rows.votes = kept;
+    rows.snapshot = Some(snapshot);
     Ok(())
 }

@@ -1,5 +1,5 @@
 -- Which changes have a place over the numbers that a store has.
-use Rattle.std.specs.Prelude.{Bool, false, ◌&&◌, ◌||◌, not, Option, Some, None, option_and_then, if◌then◌else◌}
+use Rattle.std.specs.Prelude.{Bool, false, ◌&&◌, ◌||◌, not, Option, Some, None, is_some, option_and_then, if◌then◌else◌}
 use Rattle.std.specs.List.{list_all}
 use Rattle.paxos_packets.specs.Ballot.{below}
 use Rattle.paxos_packets.specs.declared.ballot.Ballot.{Ballot}
@@ -23,8 +23,10 @@ abbrev pub promise_after : Option Ballot → Option Ballot → Option (Option Ba
 promise_after promised None = Some promised
 promise_after promised (Some b) = if not (is_ballot b) || is_lower b promised then None else Some (Some b)
 
--- the numbers after a change, if that lowers no promise and has no vote above it
+-- the numbers after a change, if that has no snapshot, which this version of the store does not keep, lowers no promise and has no vote above
+-- it
 abbrev pub numbers_after : {B : Type 0} → Numbers → Change B → Option Numbers
 numbers_after known change =
-    option_and_then (λ promised. if not (list_all (is_placed promised) change.votes) then None
+    if is_some change.snapshot then None
+    else option_and_then (λ promised. if not (list_all (is_placed promised) change.votes) then None
     else Some (record { boot = known.boot; promised = promised })) (promise_after known.promised change.promised)

@@ -1,3 +1,4 @@
+// The boot number of rows: its range, and how it is raised.
 ghost use Rattle.std.specs.Prelude.{◌≡◌, ◌≤◌, ◌↔◌, true, OnOk, IfErr, IsErrOf};
 ghost use Rattle.paxos_packets.specs.Rows.{last_boot, raised};
 ghost use Rattle.store_rows.specs.Numbers.{are_numbers, numbers_in_rows};

@@ -1,3 +1,4 @@
+// Which changes have a place over the numbers of a store, and the numbers after them.
 ghost use Rattle.std.specs.Prelude.{◌≡◌, Some, None};
 ghost use Rattle.std.specs.List.{list_all};
 ghost use Rattle.store_rows.specs.Numbers.{is_ballot};
@@ -48,11 +49,14 @@ fn are_placed<B>(promised: &Option<Ballot>, votes: &[Vote<B>]) -> bool
     true
 }
 
-/// Returns the numbers after a change, or `None` if the change has no place over those that are known: it lowers the promise, or has a vote
-/// above the promise or a ballot out of range.
+/// Returns the numbers after a change, or `None` if the change has no place over those that are known: it has a snapshot, lowers the promise,
+/// or has a vote above the promise or a ballot out of range.
 pub fn numbers_after<B>(known: &Numbers, change: &Change<B>) -> Option<Numbers>
     ensures { result ≡ numbers_after known.now change.now }
 {
+    if change.snapshot.is_some() {
+        return None;
+    }
     let promised = promise_after(&known.promised, &change.promised)?;
     if !are_placed(&promised, change.votes.as_slice()) {
         return None;

@@ -1,3 +1,4 @@
+// From the rows of the two tables to the rows of an acceptor (docs/CONSENSUS.md, "The store").
 ghost use Rattle.std.specs.Prelude.{◌≡◌, ◌≢◌, true, [], Ok, Err, Some, None, option_map, option_and_then, IfOk, IfErr, OnOk};
 ghost use Rattle.sqlite_value.specs.Order.{column};
 ghost use Rattle.store_rows.specs.Rows.{number, octets, within, if_within, slot_in, ballot_in, promise_in, entry_in, vote_of, is_promised, with_row, votes_after, numbers_of, numbers_in, rows_of};
@@ -226,6 +227,7 @@ pub fn read_rows<B: Drop, C: Coder<B>>(
     Ok(Rows {
         boot: numbers.boot,
         promised: numbers.promised,
+        snapshot: None,
         votes,
     })
 }

@@ -1,3 +1,4 @@
+// The faults of the program's runs: their statuses and texts.
 ghost use Rattle.std.specs.Prelude.{◌≡◌};
 ghost use Rattle.stream_program.specs.Fault.{status_of};
 

@@ -1,3 +1,4 @@
+// The replies to the one client of a run, as frames of what its realm says.
 ghost use Rattle.std.specs.Prelude.{◌≡◌, [], length};
 ghost use Rattle.wamp_messages.specs.Writing.{text_of};
 ghost use Rattle.paxos_packets.specs.Transport.{same_transport};

@@ -1,3 +1,4 @@
+// From the octets of one client to acts in its realm, and to the replies.
 ghost use Rattle.std.specs.Prelude.{◌≡◌, ◌<◌, ◌++◌, ℕ, List, [], IfOk, OnOk, IfErr, option_map};
 ghost use Rattle.wamp_ids.specs.Id.{id_after};
 ghost use Rattle.wamp_rawsocket.specs.Splitter.{passed};

@@ -1,3 +1,4 @@
+// The run of one client, from the handshake to the end of its stream.
 ghost use Rattle.stream_program.specs.Stream.{Ends, run_of, opened, config_of};
 
 use crate::fault::RunFault;

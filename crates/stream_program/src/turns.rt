@@ -1,3 +1,4 @@
+// A turn of a run: one read, and the replies to the frames that are whole then.
 ghost use Rattle.std.specs.Prelude.{◌≡◌, ◌<◌, Ok, length};
 ghost use Rattle.stream_program.specs.Service.{held_len};
 ghost use Rattle.stream_program.specs.Turns.{IsIdle, Turns, PerformsOut, AnswersAll, Steps};

@@ -1,3 +1,4 @@
+// A reader in pieces and a writer that keeps all that it is given, which fail where a test wants it.
 use std::alloc::Global;
 use std::io;
 use std::io::{Read, Write};

@@ -1,5 +1,6 @@
+//! A machine whose content is a sum.
 ghost use Rattle.std.specs.Prelude.{◌≡◌, ℕ, Bool, false, IfOk, OnOk};
-ghost use Rattle.replica_machine.specs.Examples.{added, sum_said};
+ghost use Rattle.replica_machine.specs.Examples.{added, sum_said, adds};
 ghost use Rattle.test_machines.specs.Sum.{saved_sum, loaded_sum};
 
 use crate::number::Number;
@@ -68,11 +69,7 @@ impl Machine for Count {
 
     ghost has_failed = { λ c. c.1 };
 
-    ghost next = { added };
-
-    ghost says = { sum_said };
-
-    ghost to = { λ y. y.0 };
+    ghost steps = { adds };
 
     ghost saved = { saved_sum };
 

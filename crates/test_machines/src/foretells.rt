@@ -1,3 +1,4 @@
+//! A machine whose content is a sum, with sayings to transports of a later boot.
 ghost use Rattle.std.specs.Prelude.{◌≡◌, ℕ, Bool, false, IfOk, IfSome, OnOk};
 ghost use Rattle.replica_machine.specs.Examples.{added};
 ghost use Rattle.test_machines.specs.Foretold.{foretold, next_one};
@@ -75,11 +76,7 @@ impl Machine for Foretells {
 
     ghost has_failed = { λ f. f.1 };
 
-    ghost next = { added };
-
-    ghost says = { foretold };
-
-    ghost to = { λ y. y.0 };
+    ghost steps = { record { next = added; says = foretold; to = λ y. y.0 } };
 
     ghost saved = { saved_sum };
 

@@ -1,3 +1,4 @@
+//! Numbers as bodies.
 ghost use Rattle.std.specs.Prelude.{◌≡◌, ℕ, ◌==◌, refl};
 ghost use Rattle.std.proofs.lemmas.Bool.{eq-eqb, eqb-true};
 

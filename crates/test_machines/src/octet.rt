@@ -1,3 +1,4 @@
+//! The coder of numbers.
 ghost use Rattle.test_machines.specs.Octet.{octet_spelling, octet_reading, octet_again, octet_spelled};
 
 use crate::number::Number;

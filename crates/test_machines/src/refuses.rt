@@ -1,3 +1,4 @@
+//! A machine that fails after some inputs.
 ghost use Rattle.std.specs.Prelude.{◌≡◌, ℕ, ◌+◌, Bool, false, [], IfOk, OnOk, OnErr};
 ghost use Rattle.test_machines.specs.Sum.{saved_sum, loaded_sum};
 
@@ -56,11 +57,7 @@ impl Machine for Refuses {
 
     ghost has_failed = { λ r. r.1 };
 
-    ghost next = { λ taken input. taken + 1 };
-
-    ghost says = { λ taken input. [] };
-
-    ghost to = { λ y. y };
+    ghost steps = { record { next = λ taken input. taken + 1; says = λ taken input. []; to = λ y. y } };
 
     ghost saved = { saved_sum };
 

@@ -1,5 +1,5 @@
 //! A sum as octets, and the sum that octets are.
-ghost use Rattle.std.specs.Prelude.{◌≡◌, Some, None, IfOk, IsErrOf, IsOkUnless};
+ghost use Rattle.std.specs.Prelude.{◌≡◌, Some, None, IfOk, IfSome, IsErrOf, IsOkUnless};
 ghost use Rattle.replica_machine.specs.declared.fault.SaveFault.TheVariants as save;
 ghost use Rattle.replica_machine.specs.declared.fault.LoadFault.TheVariants.{Damaged};
 ghost use Rattle.test_machines.specs.Sum.{saved_sum, loaded_sum};
@@ -18,6 +18,7 @@ const SUM: Form = Form {
 pub(crate) fn save(alloc: Global, sum: u64) -> Result<Vec<u8>, SaveFault>
     ensures octets { IfOk result (λ octets. octets.items ≡ saved_sum sum) }
     ensures back { IfOk result (λ octets. loaded_sum octets.items ≡ Some sum) }
+    ensures only { IfOk result (λ octets. IfSome (loaded_sum octets.items) (λ made. made ≡ sum)) }
     ensures fault { IsOkUnless result save.Memory }
 {
     let mut octets = Vec::new(alloc);

@@ -1,3 +1,4 @@
+// Ids and their range.
 ghost use Rattle.std.specs.Prelude.{◌≡◌, ℕ, IsTrue, Some, None, if◌then◌else◌};
 ghost use Rattle.wamp_ids.specs.Id.{is_id, id_after};
 

@@ -1,3 +1,4 @@
+// Patterns: how a text becomes one, its components, and copies.
 ghost use Rattle.std.specs.Prelude.{◌≡◌, IsTrue, ◌↔◌, IfOk, slice_get, option_map};
 ghost use Rattle.std.specs.Str.Iter.{split_text, split_has_more, split_pattern};
 ghost use Rattle.wamp_ids.specs.Uri.{parts, is_reserved, Reads};

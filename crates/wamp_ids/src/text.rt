@@ -1,3 +1,4 @@
+// Texts, with their copy and equality.
 ghost use Rattle.std.specs.Prelude.{◌≡◌, List, ℕ, IfOk, IsTrue, ◌↔◌, string_bytes};
 
 use crate::memory::Memory;

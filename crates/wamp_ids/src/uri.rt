@@ -1,3 +1,4 @@
+// URIs: how a text becomes one, its components, and the faults of a text that is none.
 ghost use Rattle.std.specs.Prelude.{◌≡◌, List, ℕ, IsTrue, ◌↔◌, IfOk, slice_get, option_map, true, false};
 ghost use Rattle.std.specs.Bool.{OnTrue};
 ghost use Rattle.std.specs.Cow.{cow_str_bytes};

@@ -1,3 +1,4 @@
+// The faults of octets that are no message, and their numbers.
 ghost use Rattle.std.specs.Prelude.{◌≡◌};
 ghost use Rattle.wamp_message_types.specs.Fault.{number_of};
 

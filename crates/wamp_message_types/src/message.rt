@@ -1,3 +1,4 @@
+// Messages of any kind, with their copy and comparison.
 ghost use Rattle.std.specs.Prelude.{◌≡◌, ◌↔◌, IfOk, IsTrue};
 
 use crate::call::{Call, CallResult, Cancel, Interrupt, Invocation, Yield};

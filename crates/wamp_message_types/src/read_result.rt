@@ -1,3 +1,4 @@
+// The results of reading: messages, unfit requests and faults.
 ghost use Rattle.std.specs.Prelude.{◌≡◌, ◌↔◌, IfOk, IsTrue};
 
 use crate::fault::MessageFault;

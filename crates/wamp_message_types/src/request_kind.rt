@@ -1,3 +1,4 @@
+// The kinds of requests, and their codes.
 ghost use Rattle.std.specs.Prelude.{◌≡◌};
 ghost use Rattle.wamp_message_types.specs.RequestKind.{code_of, kind_of, is_invocation};
 

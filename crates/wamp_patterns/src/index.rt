@@ -1,3 +1,4 @@
+// An index of the patterns of one match: which of them match a URI, kind by kind.
 ghost use Rattle.std.specs.Prelude.{◌≡◌, ◌≤◌, ◌+◌, ◌++◌, [], None, Some, IfOk, IfErr, OnOk, OnErr, option_copied, length, filter, map};
 ghost use Rattle.std.specs.Map.{keys_of, lookup, remove_entry, values_of};
 ghost use Rattle.std.specs.BTreeMap.{insert_entry};

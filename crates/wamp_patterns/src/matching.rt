@@ -1,3 +1,4 @@
+// Which URIs a pattern matches.
 ghost use Rattle.std.specs.Prelude.{◌≡◌, nat_eq};
 ghost use Rattle.std.specs.List.{starts_with};
 ghost use Rattle.std.specs.Cmp.Lexicographic.{pointwise};

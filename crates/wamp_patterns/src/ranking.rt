@@ -1,3 +1,4 @@
+// Which of two patterns serves a URI that both match.
 ghost use Rattle.std.specs.Prelude.{◌≡◌};
 ghost use Rattle.wamp_patterns.specs.Ranking.{better, is_named_first};
 

@@ -1,3 +1,4 @@
+// A table by patterns: finds the value of a pattern, the one that serves a URI, and all that match it.
 ghost use Rattle.std.specs.Prelude.{◌≡◌, ◌≤◌, [], None, IfOk, IfErr, OnOk, OnErr, false, map, length, option_copied, option_map};
 ghost use Rattle.wamp_ids.specs.Uri.{is_empty, parts};
 ghost use Rattle.std.specs.List.{list_any};

@@ -1,3 +1,4 @@
+// An ordered map by texts.
 ghost use Rattle.std.specs.Prelude.{◌≡◌, ◌<◌, ◌^◌, [], None, Some, false, IfOk, IfErr, OnOk, OnErr, MatchOption, option_copied, length};
 ghost use Rattle.std.specs.Cow.{cow_slice_items};
 ghost use Rattle.std.specs.Map.{lookup, remove_entry};

@@ -1,3 +1,4 @@
+// The faults of frames, and their numbers.
 ghost use Rattle.std.specs.Prelude.{◌≡◌};
 ghost use Rattle.wamp_rawsocket.specs.Fault.{number_of};
 

@@ -1,3 +1,4 @@
+// Frames and their kinds, and how a frame is written.
 ghost use Rattle.std.specs.Prelude.{◌≡◌, ◌<◌, ◌≤◌, ◌++◌, ◌↔◌, length, IfOk, OnOk, OnErr, IsErrOf, IsOkUnless};
 ghost use Rattle.wamp_rawsocket.specs.Frame.{frame_octets, code_of, outbound_limit};
 

@@ -1,3 +1,4 @@
+// How a client's handshake is judged: the terms, and each refusal.
 ghost use Rattle.std.specs.Prelude.{◌≡◌};
 ghost use Rattle.wamp_rawsocket.specs.Handshake.{answer_of, HasFramedLimit};
 

@@ -1,3 +1,4 @@
+// How frames are cut out of a stream, and which headers are refused.
 ghost use Rattle.std.specs.Prelude.{◌≡◌, ◌↔◌, ◌++◌, [], Option, List, ℕ, option_map, MatchOption, OnOk, OnErr, IsOkUnless};
 ghost use Rattle.wamp_rawsocket.specs.Frame.{header_of};
 ghost use Rattle.wamp_rawsocket.specs.Splitter.{Gives, next_of, shown, passed, Measures};

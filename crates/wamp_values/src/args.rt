@@ -1,3 +1,4 @@
+// The arguments of messages: how payloads become arguments, and how copies share them.
 ghost use Rattle.std.specs.Prelude.{◌≡◌, ◌↔◌, IfOk, IsTrue, OnOk, is_some, Some, None, if◌then◌else◌};
 ghost use Rattle.serde_json.specs.View.{view};
 ghost use Rattle.serde_json.specs.Find.{as_array, as_object};

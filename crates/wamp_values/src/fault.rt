@@ -1,3 +1,4 @@
+// The faults of values that are no payload, and their numbers.
 ghost use Rattle.std.specs.Prelude.{◌≡◌};
 ghost use Rattle.wamp_values.specs.Fault.{number_of};
 

@@ -1,3 +1,4 @@
+// Looks up keys of options and details.
 ghost use Rattle.std.specs.Prelude.{◌≡◌, IfOk};
 ghost use Rattle.serde_json.specs.View.{view};
 ghost use Rattle.wamp_values.specs.Found.{text_at, bool_at, found_map};

@@ -1,3 +1,4 @@
+// The fault that memory ran out, and its number.
 ghost use Rattle.std.specs.Prelude.{◌≡◌};
 
 use std::alloc::AllocError;

@@ -1,3 +1,4 @@
+// A member's node, up or down: how it crashes, restarts, plans an event and adopts an outcome.
 ghost use Rattle.std.specs.Prelude.{◌≡◌, ◌<◌, ◌^◌, length, true, false, IfOk, OnOk, OnErr, IfSome, IfNone, is_some, option_copied};
 ghost use Rattle.paxos_packets.specs.Rows.{last_boot, raised, first_rows};
 ghost use Rattle.paxos_node.specs.Adopting.{adopted, Fits, Planned};

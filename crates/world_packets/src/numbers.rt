@@ -1,3 +1,4 @@
+// The numbers of packets, by which sent ones are found.
 ghost use Rattle.std.specs.Prelude.{◌≡◌, slice_get};
 ghost use Rattle.world_packets.specs.Numbers.{plain, no_entry, entry_numbers, forward_numbers, numbers_of};
 
@@ -26,6 +27,8 @@ pub struct Numbers {
     pub is_cast: bool,
     /// The first slot that is asked for.
     pub from: u64,
+    /// The floor of a Promise or a Snapshot.
+    pub floor: u64,
     /// How many entries are forwarded, and the numbers of the first and of the last one.
     pub count: usize,
     pub first: EntryNumbers,
@@ -53,6 +56,7 @@ fn plain(sender: u8, addressee: u8) -> Numbers
         slot: 0,
         is_cast: false,
         from: 0,
+        floor: 0,
         count: 0,
         first: nothing,
         last: nothing,
@@ -114,8 +118,9 @@ impl Numbers {
                 from: *first,
                 ..plain
             },
-            Kind::Promise { ballot, .. } => Numbers {
+            Kind::Promise { ballot, floor, .. } => Numbers {
                 ballot: *ballot,
+                floor: floor.get(),
                 ..plain
             },
             Kind::Accept { vote } => Numbers {
@@ -141,6 +146,10 @@ impl Numbers {
             },
             Kind::Ask { first } => Numbers {
                 from: *first,
+                ..plain
+            },
+            Kind::Snapshot { snapshot } => Numbers {
+                floor: snapshot.floor().get(),
                 ..plain
             },
         }

@@ -1,3 +1,4 @@
+// The packets that were ever sent, and whether an equal one was.
 ghost use Rattle.std.specs.Prelude.{◌≡◌, ◌<◌, ◌≤◌, ◌+◌, [], ◌∷◌, ◌++◌, length, OnOk, vec_len, vec_capacity};
 ghost use Rattle.indexmap.specs.IndexMap.{spare};
 ghost use Rattle.world_packets.specs.Sent.{IsIndex, Seeks, is_among};

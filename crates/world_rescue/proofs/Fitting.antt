@@ -12,7 +12,7 @@ use Rattle.paxos_packets.specs.declared.entry.Entry.{Entry}
 use Rattle.paxos_packets.specs.declared.vote.Vote.{Vote}
 use Rattle.paxos_planning.specs.Node.{log_length}
 use Rattle.paxos_proposer.specs.declared.promises.CountedPromise.{CountedPromise}
-use Rattle.paxos_proposer.specs.Promises.{calls, with_promises, and_promise_of}
+use Rattle.paxos_proposer.specs.Promises.{calls, with_promises, and_promise_of, above_floors, lowest}
 use Rattle.paxos_proposer.specs.Proposals.{stands, behind}
 use Rattle.paxos_proposer.specs.Proposer.{round_of, round_end, slot_end, own_ballot, is_spent, is_leading, slots_spent, asking, next_vote, submitted}
 use Rattle.paxos_proposer.specs.Proposing.{proposals_of}
@@ -21,7 +21,7 @@ use Rattle.paxos_proposer.specs.Role.{Role, Idle, Preparing, Leading, ProposerSt
 use Rattle.paxos_proposer.specs.State.{State, with_role, after_submit}
 use Rattle.replica_machine.specs.declared.roll.Standing.{Standing}
 use Rattle.replica_machine.specs.Roll.{is_wanted_by}
-use Rattle.world_rescue.specs.Course.{Seat, Crew, Act, refused_round, seen_then, votes_then, propose_all, propose_new, proposes, hears, led, first_role}
+use Rattle.world_rescue.specs.Course.{Seat, Crew, Act, floor_of, refused_round, seen_then, votes_then, propose_all, propose_new, proposes, hears, led, first_role}
 use Rattle.world_rescue.specs.Course.{first_votes, ballot_after, seen}
 use Rattle.world_rescue.specs.Room.{has_slots, HoldsUpTo, IsUpTo, LeavesRoom}
 
@@ -73,18 +73,19 @@ module _ {B : Type 0} where
     proposes_back applied pending None r h = h
     proposes_back applied pending (Some es) r h = all_back es r (new_back applied pending (propose_all es r) h)
 
-    pub hears_back : (members applied : ℕ) (pending : List (Entry B)) (b : Ballot) (k : ℕ) (votes : List (Vote B)) (r : Role B)
-        → has_slots (hears same members applied pending b k votes r) ≡ true → has_slots r ≡ true
-    hears_back members applied pending b k votes Idle h = refl
-    hears_back members applied pending b k votes (Preparing c first cs) h = refl
-    hears_back members applied pending b k votes (Leading c next table) h = h
+    pub hears_back : (members applied : ℕ) (pending : List (Entry B)) (b : Ballot) (k floor : ℕ) (votes : List (Vote B)) (own : ℕ) (r : Role B)
+        → has_slots (hears same members applied pending b k floor votes own r) ≡ true → has_slots r ≡ true
+    hears_back members applied pending b k floor votes own Idle h = refl
+    hears_back members applied pending b k floor votes own (Preparing c first cs) h = refl
+    hears_back members applied pending b k floor votes own (Leading c next table) h = h
 
-    pub folds_back : (members applied : ℕ) (pending : List (Entry B)) (b : Ballot) (votes : Seat B → List (Vote B)) (seats : List (Seat B)) (r : Role B)
-        → has_slots (fold (λ r s. hears same members applied pending b s.number (votes s) r) r seats) ≡ true → has_slots r ≡ true
-    folds_back members applied pending b votes [] r h = h
-    folds_back members applied pending b votes (s ∷ seats) r h =
-        hears_back members applied pending b s.number (votes s) r
-        (folds_back members applied pending b votes seats (hears same members applied pending b s.number (votes s) r) h)
+    pub folds_back : (members applied : ℕ) (pending : List (Entry B)) (b : Ballot) (votes : Seat B → List (Vote B)) (own : ℕ) (seats : List (Seat B)) (r : Role B)
+        → has_slots (fold (λ r s. hears same members applied pending b s.number (floor_of s) (votes s) own r) r seats) ≡ true → has_slots r ≡ true
+    folds_back members applied pending b votes own [] r h = h
+    folds_back members applied pending b votes own (s ∷ seats) r h =
+        hears_back members applied pending b s.number (floor_of s) (votes s) own r
+        (folds_back members applied pending b votes own seats
+        (hears same members applied pending b s.number (floor_of s) (votes s) own r) h)
 
 -- ---- in the midst of a list, what is proposed to its end had slots
 
@@ -105,15 +106,16 @@ module _ {B : Type 0} where
         (ap (λ (l : List (Entry B)). has_slots (propose_new same applied l r)) (sym is)
         ∙ (ap (λ (t : State B). has_slots t.proposer.role) so_far ∙ h))
 
-    pub hears_now : (pending : List (Entry B)) (b : Ballot) (votes : Seat B → List (Vote B)) (members0 members : ℕ) (seats rest more : List (Seat B))
+    pub hears_now : (pending : List (Entry B)) (b : Ballot) (votes : Seat B → List (Vote B)) (own members0 members : ℕ) (seats rest more : List (Seat B))
         (x : Seat B) (r0 r : Role B) (s0 s : State B)
-        → with_role (fold (λ r s. hears same members applied pending b s.number (votes s) r) r rest) s
-        ≡ with_role (fold (λ r s. hears same members0 applied pending b s.number (votes s) r) r0 seats) s0
-        → rest ≡ x ∷ more → has_slots (fold (λ r s. hears same members0 applied pending b s.number (votes s) r) r0 seats) ≡ true
-        → has_slots (hears same members applied pending b x.number (votes x) r) ≡ true
-    hears_now pending b votes members0 members seats rest more x r0 r s0 s so_far is h =
-        folds_back same members applied pending b votes more (hears same members applied pending b x.number (votes x) r)
-        (ap (λ (l : List (Seat B)). has_slots (fold (λ r s. hears same members applied pending b s.number (votes s) r) r l)) (sym is)
+        → with_role (fold (λ r s. hears same members applied pending b s.number (floor_of s) (votes s) own r) r rest) s
+        ≡ with_role (fold (λ r s. hears same members0 applied pending b s.number (floor_of s) (votes s) own r) r0 seats) s0
+        → rest ≡ x ∷ more → has_slots (fold (λ r s. hears same members0 applied pending b s.number (floor_of s) (votes s) own r) r0 seats) ≡ true
+        → has_slots (hears same members applied pending b x.number (floor_of x) (votes x) own r) ≡ true
+    hears_now pending b votes own members0 members seats rest more x r0 r s0 s so_far is h =
+        folds_back same members applied pending b votes own more
+        (hears same members applied pending b x.number (floor_of x) (votes x) own r)
+        (ap (λ (l : List (Seat B)). has_slots (fold (λ r s. hears same members applied pending b s.number (floor_of s) (votes s) own r) r l)) (sym is)
         ∙ (ap (λ (t : State B). has_slots t.proposer.role) so_far ∙ h))
 
 pub not_spent : {B : Type 0} (p : ProposerState B) → suc p.seen < round_end → is_spent p ≡ false
@@ -181,12 +183,35 @@ module _ {B : Type 0} where
   called_length votes slot zero = refl
   called_length votes slot (suc k) = ap suc (called_length votes (suc slot) k)
 
+-- floors below a slot
+
+abbrev pub AreFloorsBelow : {B : Type 0} → ℕ → List (CountedPromise B) → Type 0
+AreFloorsBelow {B} past cs = All (λ (c : CountedPromise B). c.floor < past) cs
+
+module _ {B : Type 0} where
+  above_low : (slot past : ℕ) (cs : List (CountedPromise B)) → slot ≤ past → AreFloorsBelow past cs → above_floors slot cs ≤ past
+  above_low slot past [] l h = l
+  above_low slot past (c ∷ cs) l h =
+      above_low (max slot (suc c.floor)) past cs (both c.floor (All-head (λ (d : CountedPromise B). d.floor < past) c cs h))
+      (All-tail (λ (d : CountedPromise B). d.floor < past) c cs h)
+    where
+      both : (a : ℕ) → a < past → max slot (suc a) ≤ past
+      both a g = omega arith
+
+  lowest_low : (first own past : ℕ) (cs : List (CountedPromise B)) → first ≤ past → own < past → AreFloorsBelow past cs
+      → lowest first own cs ≤ past
+  lowest_low first own past cs l g h = above_low (max first (suc own)) past cs (both first own l g) h
+    where
+      both : (a c : ℕ) → a ≤ past → c < past → max a (suc c) ≤ past
+      both a c i j = omega arith
+
 -- ---- a role keeps below a slot
 
--- a leader proposes in a slot up to `most` next, and has proposed before it; who asks for votes asks, and was told, of slots below `past`
+-- a leader proposes in a slot up to `most` next, and has proposed before it; who asks for votes asks, and was told, of slots and floors below
+-- `past`
 abbrev pub Fits : {B : Type 0} → ℕ → ℕ → Role B → Type 0
 Fits past most Idle = Unit {0}
-Fits past most (Preparing b first cs) = (first ≤ past) × AreBelow past (reports cs)
+Fits past most (Preparing b first cs) = (first ≤ past) × AreBelow past (reports cs) × AreFloorsBelow past cs
 Fits past most (Leading b next table) = (next ≤ most) × AreBelow most table
 
 module _ {B : Type 0} where
@@ -243,10 +268,11 @@ module _ {B : Type 0} where
       step : (a : ℕ) → a ≤ suc a
       step a = omega arith
 
-  below_reports : (past k : ℕ) (votes : List (Vote B)) (cs : List (CountedPromise B)) → AreBelow past (reports cs) → AreBelow past votes
-      → AreBelow past (reports (and_promise_of k votes cs))
-  below_reports past k votes [] h l = All-append (λ (v : Vote B). v.slot < past) votes [] l h
-  below_reports past k votes (c ∷ cs) h l = go (reports cs) (reports (and_promise_of k votes cs)) h (λ g. below_reports past k votes cs g l)
+  below_reports : (past k floor : ℕ) (votes : List (Vote B)) (cs : List (CountedPromise B)) → AreBelow past (reports cs) → AreBelow past votes
+      → AreBelow past (reports (and_promise_of k floor votes cs))
+  below_reports past k floor votes [] h l = All-append (λ (v : Vote B). v.slot < past) votes [] l h
+  below_reports past k floor votes (c ∷ cs) h l =
+      go (reports cs) (reports (and_promise_of k floor votes cs)) h (λ g. below_reports past k floor votes cs g l)
     where
       P : Vote B → Type 0
       P v = v.slot < past
@@ -286,50 +312,69 @@ module _ {B : Type 0} where
           go : (a c : ℕ) → c ≡ a - first → first ≤ a → a ≤ past → first + c ≤ past
           go a c e g i = omega arith
 
-  hears_one : (same : B → B → Bool) (members applied past most : ℕ) (pending : List (Entry B)) (b : Ballot) (k : ℕ) (votes : List (Vote B)) (r : Role B)
-      → past + length pending ≤ most → AreBelow past votes → Fits past most r → Fits past most (hears same members applied pending b k votes r)
-  hears_one same members applied past most pending b k votes Idle room v f = f
-  hears_one same members applied past most pending b k votes (Leading c next table) room v f = f
-  hears_one same members applied past most pending b k votes (Preparing c first cs) room v f = go (same_ballot b c && not (is_counted cs k))
+  hears_one : (same : B → B → Bool) (members applied past most : ℕ) (pending : List (Entry B)) (b : Ballot) (k floor : ℕ) (votes : List (Vote B))
+      (own : ℕ) (r : Role B) → past + length pending ≤ most → AreBelow past votes → floor < past → own < past → Fits past most r
+      → Fits past most (hears same members applied pending b k floor votes own r)
+  hears_one same members applied past most pending b k floor votes own Idle room v g o f = f
+  hears_one same members applied past most pending b k floor votes own (Leading c next table) room v g o f = f
+  hears_one same members applied past most pending b k floor votes own (Preparing c first cs) room v g o f =
+      go (same_ballot b c && not (is_counted cs k))
     where
+      one : CountedPromise B
+      one = record { node = k; floor = floor; votes = votes }
+
       more : List (CountedPromise B)
-      more = and_promise_of k votes cs
+      more = and_promise_of k floor votes cs
 
       told : AreBelow past (reports more)
-      told = below_reports past k votes cs f.1 v
+      told = below_reports past k floor votes cs f.1 v
+
+      floors : AreFloorsBelow past more
+      floors =
+          All-append (λ (d : CountedPromise B). d.floor < past) cs (one ∷ []) f.2
+          (All-cons (λ (d : CountedPromise B). d.floor < past) one [] g (All-nil (λ (d : CountedPromise B). d.floor < past)))
+
+      low : ℕ
+      low = lowest first own more
 
       enough : (m : Bool) → Fits past most
-          (proposes same applied pending (if m then Some (called_for first (reports more)) else None) (if m then Leading c first [] else Preparing c first more))
-      enough true = leads same applied past most first pending c more f.0 told room
-      enough false = (f.0, told)
+          (proposes same applied pending (if m then Some (called_for low (reports more)) else None) (if m then Leading c low [] else Preparing c first more))
+      enough true = leads same applied past most low pending c more (lowest_low first own past more f.0 o floors) told room
+      enough false = (f.0, told, floors)
 
       go : (m : Bool) → Fits past most
-          (proposes same applied pending (if m then calls members first more else None)
-          (if m then with_promises members c first more else Preparing c first cs))
+          (proposes same applied pending (if m then calls members first own more else None)
+          (if m then with_promises members c first own more else Preparing c first cs))
       go true = enough (is_majority members (is_counted more))
       go false = f
 
   hears_each : (same : B → B → Bool) (members applied past most : ℕ) (pending : List (Entry B)) (b : Ballot) (votes : Seat B → List (Vote B))
-      (seats : List (Seat B)) (r : Role B) → past + length pending ≤ most → All (λ (s : Seat B). AreBelow past (votes s)) seats → Fits past most r
-      → Fits past most (fold (λ r s. hears same members applied pending b s.number (votes s) r) r seats)
-  hears_each same members applied past most pending b votes [] r room v f = f
-  hears_each same members applied past most pending b votes (s ∷ seats) r room v f =
-      hears_each same members applied past most pending b votes seats (hears same members applied pending b s.number (votes s) r) room
-      (All-tail (λ (s : Seat B). AreBelow past (votes s)) s seats v)
-      (hears_one same members applied past most pending b s.number (votes s) r room (All-head (λ (s : Seat B). AreBelow past (votes s)) s seats v) f)
+      (own : ℕ) (seats : List (Seat B)) (r : Role B) → past + length pending ≤ most → own < past
+      → All (λ (s : Seat B). AreBelow past (votes s)) seats → All (λ (s : Seat B). floor_of s < past) seats → Fits past most r
+      → Fits past most (fold (λ r s. hears same members applied pending b s.number (floor_of s) (votes s) own r) r seats)
+  hears_each same members applied past most pending b votes own [] r room o v g f = f
+  hears_each same members applied past most pending b votes own (s ∷ seats) r room o v g f =
+      hears_each same members applied past most pending b votes own seats
+      (hears same members applied pending b s.number (floor_of s) (votes s) own r) room o
+      (All-tail (λ (s : Seat B). AreBelow past (votes s)) s seats v) (All-tail (λ (s : Seat B). floor_of s < past) s seats g)
+      (hears_one same members applied past most pending b s.number (floor_of s) (votes s) own r room
+      (All-head (λ (s : Seat B). AreBelow past (votes s)) s seats v) (All-head (λ (s : Seat B). floor_of s < past) s seats g) o f)
 
   -- so the node leads in such slots
   pub led_fits : (same : B → B → Bool) (members applied past most first : ℕ) (pending : List (Entry B)) (b : Ballot) (cast : List (Vote B)) (own : Seat B)
       (helpers : List (Seat B)) → first ≤ past → past + length pending ≤ most → AreBelow past cast → AreBelow past own.node.rows.votes
-      → All (λ (s : Seat B). AreBelow past s.node.rows.votes) helpers
+      → floor_of own < past → All (λ (s : Seat B). AreBelow past s.node.rows.votes) helpers → All (λ (s : Seat B). floor_of s < past) helpers
       → Fits past most (led same members applied pending b first cast own helpers)
-  led_fits same members applied past most first pending b cast own helpers low room c o h =
-      hears_each same members applied past most pending b (λ s. votes_then first cast s) helpers (asking own.number b first (votes_then first cast own)) room
+  led_fits same members applied past most first pending b cast own helpers low room c o f h g =
+      hears_each same members applied past most pending b (λ s. votes_then first cast s) (floor_of own) helpers
+      (asking own.number b first (floor_of own) (votes_then first cast own)) room f
       (All-weaker (λ (s : Seat B). AreBelow past s.node.rows.votes) (λ s. AreBelow past (votes_then first cast s)) (λ s g. below_then past first cast s c g)
-      helpers h) (
+      helpers h) g (
         low,
         All-append (λ (v : Vote B). v.slot < past) (votes_then first cast own) [] (below_then past first cast own c o)
             (All-nil (λ (v : Vote B). v.slot < past)),
+        All-cons (λ (d : CountedPromise B). d.floor < past) (record { node = own.number; floor = floor_of own; votes = votes_then first cast own }) []
+            f (All-nil (λ (d : CountedPromise B). d.floor < past)),
       )
 
   pub fits_slots : (past most : ℕ) (r : Role B) → most ≤ slot_end → Fits past most r → has_slots r ≡ true
@@ -409,6 +454,19 @@ module _ {B : Type 0} (same : B → B → Bool) (c : Crew B) (a : Act B) (round 
       All-weaker (λ (s : Seat B). HoldsUpTo round slot s) (λ s. AreBelow (suc slot) s.node.rows.votes) (λ s h. below_up slot s.node.rows.votes h.votes)
       c.helpers low.helpers
 
+  own_low : floor_of c.own < suc slot
+  own_low = step (floor_of c.own) low.floor
+    where
+      step : (k : ℕ) → k ≤ slot → k < suc slot
+      step k l = omega arith
+
+  floors_low : All (λ (s : Seat B). floor_of s < suc slot) c.helpers
+  floors_low =
+      All-weaker (λ (s : Seat B). HoldsUpTo round slot s) (λ s. floor_of s < suc slot) (λ s h. step (floor_of s) h.floor) c.helpers low.helpers
+    where
+      step : (k : ℕ) → k ≤ slot → k < suc slot
+      step k l = omega arith
+
   abbrev top : ℕ
   top = suc slot + most
 
@@ -418,7 +476,7 @@ module _ {B : Type 0} (same : B → B → Bool) (c : Crew B) (a : Act B) (round 
   first_fits b applied is =
       led_fits same c.members applied (suc slot) top (suc applied) c.own.node.pending b [] c.own c.helpers
       (up applied (log_length c.own.node) is low.log) (few (length c.own.node.pending) low.pending) (All-nil (λ (v : Vote B). v.slot < suc slot))
-      (below_up slot c.own.node.rows.votes low.votes) others_low
+      (below_up slot c.own.node.rows.votes low.votes) own_low others_low floors_low
     where
       up : (k l : ℕ) → k ≡ l → l ≤ slot → suc k ≤ suc slot
       up k l e g = omega arith
@@ -473,8 +531,10 @@ module _ {B : Type 0} (same : B → B → Bool) (c : Crew B) (a : Act B) (round 
       (fits_votes (suc slot) top (log_length c.own.node) (first_role same c a)
       (first_fits (ballot_after same c a (seen same c a)) (log_length c.own.node) refl)))
       (below_more (suc slot) top c.own.node.rows.votes (wider slot most) (below_up slot c.own.node.rows.votes low.votes))
+      (further (floor_of c.own) own_low)
       (All-weaker (λ (s : Seat B). AreBelow (suc slot) s.node.rows.votes) (λ s. AreBelow top s.node.rows.votes)
-      (λ s h. below_more (suc slot) top s.node.rows.votes (wider slot most) h) c.helpers others_low))
+      (λ s h. below_more (suc slot) top s.node.rows.votes (wider slot most) h) c.helpers others_low)
+      (All-weaker (λ (s : Seat B). floor_of s < suc slot) (λ s. floor_of s < top) (λ s h. further (floor_of s) h) c.helpers floors_low))
     where
       two : (k : ℕ) → 2 ≤ k + 2
       two k = omega arith
@@ -487,3 +547,6 @@ module _ {B : Type 0} (same : B → B → Bool) (c : Crew B) (a : Act B) (round 
 
       wider : (k l : ℕ) → suc k ≤ suc k + l
       wider k l = omega arith
+
+      further : (k : ℕ) → k < suc slot → k < suc slot + most
+      further k l = omega arith

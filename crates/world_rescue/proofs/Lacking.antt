@@ -14,7 +14,7 @@ use Rattle.paxos_proposer.specs.Role.{Role}
 use Rattle.paxos_proposer.specs.State.{State, begun, saw, started, after_promise, with_role}
 use Rattle.world_rescue.proofs.Fitting.{none_left, new_back, hears_now}
 use Rattle.world_rescue.proofs.Listing.{rest}
-use Rattle.world_rescue.specs.Course.{Seat, votes_then, propose_all, propose_new, proposes, hears, led}
+use Rattle.world_rescue.specs.Course.{Seat, floor_of, votes_then, propose_all, propose_new, proposes, hears, led}
 use Rattle.world_rescue.specs.Room.{has_slots}
 use Rattle.world_rescue.specs.declared.fault.CourseFault.{CourseFault}
 use Rattle.world_rescue.specs.declared.fault.CourseFault.TheVariants as fault
@@ -56,35 +56,38 @@ module _ {B : Type 0} where
         ap (λ (s : State B). has_slots (propose_new same applied pending s.proposer.role)) at
         ∙ (ap (λ (o : Option (List (Entry B))). has_slots (proposes same applied pending o r)) (sym is) ∙ h)
 
-    pub hears_then : (applied : ℕ) (pending : List (Entry B)) (b : Ballot) (k me : ℕ) (votes told : List (Vote B)) (called : Option (List (Entry B)))
-        (old new : State B) → k ≡ me → votes ≡ told → called ≡ called_by old.members k b votes old.proposer.role → new ≡ after_promise k b votes old
-        → has_slots (hears same old.members applied pending b me told old.proposer.role) ≡ true
+    pub hears_then : (applied : ℕ) (pending : List (Entry B)) (b : Ballot) (k me floor at_floor : ℕ) (votes told : List (Vote B)) (own : ℕ)
+        (called : Option (List (Entry B))) (old new : State B) → k ≡ me → floor ≡ at_floor → votes ≡ told
+        → called ≡ called_by old.members k b floor votes own old.proposer.role → new ≡ after_promise k b floor votes own old
+        → has_slots (hears same old.members applied pending b me at_floor told own old.proposer.role) ≡ true
         → has_slots (proposes same applied pending called new.proposer.role) ≡ true
-    hears_then applied pending b k me votes told called old new p q is at h =
+    hears_then applied pending b k me floor at_floor votes told own called old new p f q is at h =
         (λ i. has_slots (proposes same applied pending (is i) (at i).proposer.role))
-        ∙ ((λ i. has_slots (hears same old.members applied pending b (p i) (q i) old.proposer.role)) ∙ h)
+        ∙ ((λ i. has_slots (hears same old.members applied pending b (p i) (f i) (q i) own old.proposer.role)) ∙ h)
 
     -- at one of the helpers
     pub hears_at : {X : Type 0} (xs : List X) (seat : X → Seat B) (index : ℕ) (x : X) (applied : ℕ) (pending : List (Entry B)) (b : Ballot)
-        (votes : Seat B → List (Vote B)) (members0 members : ℕ) (r0 r : Role B) (s0 s : State B) → index < length xs → x ≡ get_or xs index x
-        → with_role (fold (λ r s. hears same members applied pending b s.number (votes s) r) r (map seat (drop index xs))) s
-        ≡ with_role (fold (λ r s. hears same members0 applied pending b s.number (votes s) r) r0 (map seat xs)) s0
-        → has_slots (fold (λ r s. hears same members0 applied pending b s.number (votes s) r) r0 (map seat xs)) ≡ true
-        → has_slots (hears same members applied pending b (seat x).number (votes (seat x)) r) ≡ true
-    hears_at {X} xs seat index x applied pending b votes members0 members r0 r s0 s l is so_far h =
-        hears_now same applied pending b votes members0 members (map seat xs) (map seat (drop index xs)) (map seat (drop (index + 1) xs)) (seat x) r0 r s0 s
-        so_far (ap (λ (ys : List X). map seat ys) (rest xs index x l is)) h
+        (votes : Seat B → List (Vote B)) (own members0 members : ℕ) (r0 r : Role B) (s0 s : State B) → index < length xs → x ≡ get_or xs index x
+        → with_role (fold (λ r s. hears same members applied pending b s.number (floor_of s) (votes s) own r) r (map seat (drop index xs))) s
+        ≡ with_role (fold (λ r s. hears same members0 applied pending b s.number (floor_of s) (votes s) own r) r0 (map seat xs)) s0
+        → has_slots (fold (λ r s. hears same members0 applied pending b s.number (floor_of s) (votes s) own r) r0 (map seat xs)) ≡ true
+        → has_slots (hears same members applied pending b (seat x).number (floor_of (seat x)) (votes (seat x)) own r) ≡ true
+    hears_at {X} xs seat index x applied pending b votes own members0 members r0 r s0 s l is so_far h =
+        hears_now same applied pending b votes own members0 members (map seat xs) (map seat (drop index xs)) (map seat (drop (index + 1) xs)) (seat x) r0 r
+        s0 s so_far (ap (λ (ys : List X). map seat ys) (rest xs index x l is)) h
 
     pub led_then : (applied : ℕ) (pending : List (Entry B)) (b : Ballot) (first : ℕ) (cast : List (Vote B)) (own : Seat B) (helpers : List (Seat B))
-        (votes : List (Vote B)) (old new : State B) → old.me ≡ own.number → b ≡ own_ballot old.me old.proposer → votes ≡ votes_then first cast own
-        → new ≡ started first votes old
+        (floor again : ℕ) (votes : List (Vote B)) (old new : State B) → old.me ≡ own.number → b ≡ own_ballot old.me old.proposer
+        → floor ≡ floor_of own → again ≡ floor_of own → votes ≡ votes_then first cast own → new ≡ started first floor votes old
         → has_slots (led same old.members applied pending (own_ballot own.number old.proposer) first cast own helpers) ≡ true
-        → has_slots (fold (λ r s. hears same new.members applied pending b s.number (votes_then first cast s) r) new.proposer.role helpers) ≡ true
-    led_then applied pending b first cast own helpers votes old new me is told at h =
-        (λ i. has_slots (fold (λ r s. hears same (at i).members applied pending (is i) s.number (votes_then first cast s) r) (at i).proposer.role helpers))
+        → has_slots (fold (λ r s. hears same new.members applied pending b s.number (floor_of s) (votes_then first cast s) again r)
+        new.proposer.role helpers) ≡ true
+    led_then applied pending b first cast own helpers floor again votes old new me is low same_floor told at h =
+        (λ i. has_slots (fold (λ r s. hears same (at i).members applied pending (is i) s.number (floor_of s) (votes_then first cast s) (same_floor i) r)
+        (at i).proposer.role helpers))
         ∙ ((λ i. has_slots (fold
-        (λ r s. hears same old.members applied pending (own_ballot (me i) old.proposer) s.number (votes_then first cast s) r)
-        (asking (me i) (own_ballot (me i) old.proposer) first (told i)) helpers))
+        (λ r s. hears same old.members applied pending (own_ballot (me i) old.proposer) s.number (floor_of s) (votes_then first cast s) (floor_of own) r)
+        (asking (me i) (own_ballot (me i) old.proposer) first (low i) (told i)) helpers))
         ∙ h)
 
     -- what the node leads by, as its caller knows it

@@ -3,6 +3,7 @@ use Rattle.std.specs.Prelude.{ℕ, suc, max, Bool, Option, Some, None, List, [],
 use Rattle.std.specs.List.{flat_map}
 use Rattle.paxos_packets.specs.Ballot.{below}
 use Rattle.paxos_packets.specs.Packet.{packet}
+use Rattle.paxos_packets.specs.Snapshot.{floor_in}
 use Rattle.paxos_packets.specs.Vote.{put_votes, votes_from}
 use Rattle.paxos_packets.specs.declared.ballot.Ballot.{Ballot}
 use Rattle.paxos_packets.specs.declared.entry.Entry.{Entry}
@@ -40,6 +41,10 @@ pub record Crew (B : Type 0) : Type 0 where
 abbrev pub delivered : {B : Type 0} → ℕ → Kind B → ℕ → Event B
 delivered from kind to = Deliver (packet from kind to)
 
+-- its floor, up to which its snapshot gives the log
+abbrev pub floor_of : {B : Type 0} → Seat B → ℕ
+floor_of s = floor_in s.node.rows.snapshot
+
 -- ---- the node sees the rounds that the helpers promised: each is asked for a promise, and what refuses it comes back
 
 abbrev pub refusal : {B : Type 0} → Ballot → ℕ → Option Ballot → List (Event B)
@@ -67,7 +72,7 @@ votes_then first cast s = votes_from first (put_votes cast s.node.rows.votes)
 
 abbrev pub promises : {B : Type 0} → Ballot → ℕ → List (Vote B) → Seat B → List (Event B)
 promises b first cast s =
-    delivered b.node (Prepare b first) s.number ∷ delivered s.number (Promise b (votes_then first cast s)) b.node ∷ []
+    delivered b.node (Prepare b first) s.number ∷ delivered s.number (Promise b (floor_of s) (votes_then first cast s)) b.node ∷ []
 
 abbrev pub lead : {B : Type 0} → Ballot → ℕ → List (Vote B) → List (Seat B) → List (Event B)
 lead b first cast seats = Start b.node ∷ flat_map (promises b first cast) seats
@@ -84,15 +89,15 @@ abbrev pub proposes : {B : Type 0} → (B → B → Bool) → ℕ → List (Entr
 proposes same applied pending None r = r
 proposes same applied pending (Some es) r = propose_new same applied pending (propose_all es r)
 
-abbrev pub hears : {B : Type 0} → (B → B → Bool) → ℕ → ℕ → List (Entry B) → Ballot → ℕ → List (Vote B) → Role B → Role B
-hears same members applied pending b k votes r =
-    proposes same applied pending (called_by members k b votes r) (promised members k b votes r)
+abbrev pub hears : {B : Type 0} → (B → B → Bool) → ℕ → ℕ → List (Entry B) → Ballot → ℕ → ℕ → List (Vote B) → ℕ → Role B → Role B
+hears same members applied pending b k floor votes own r =
+    proposes same applied pending (called_by members k b floor votes own r) (promised members k b floor votes own r)
 
 -- its role after the promises
 abbrev pub led : {B : Type 0} → (B → B → Bool) → ℕ → ℕ → List (Entry B) → Ballot → ℕ → List (Vote B) → Seat B → List (Seat B) → Role B
 led same members applied pending b first cast own helpers =
-    fold (λ r s. hears same members applied pending b s.number (votes_then first cast s) r)
-    (asking own.number b first (votes_then first cast own))
+    fold (λ r s. hears same members applied pending b s.number (floor_of s) (votes_then first cast s) (floor_of own) r)
+    (asking own.number b first (floor_of own) (votes_then first cast own))
     helpers
 
 -- ---- each helper casts each of these votes, in order

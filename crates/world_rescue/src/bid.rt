@@ -4,14 +4,15 @@ ghost use Rattle.std.specs.Prelude.{◌≡◌, ◌<◌, ◌≤◌, ◌++◌, ◌
 ghost use Rattle.std.specs.List.{flat_map};
 ghost use Rattle.paxos_proposer.specs.Proposer.{own_ballot, round_end, submitted};
 ghost use Rattle.paxos_proposer.specs.State.{role_in, with_role, after_submit};
-ghost use Rattle.world_rescue.specs.Course.{seat_of, propose_all, propose_new, proposes, hears, votes_then, promises, lead, led};
+ghost use Rattle.world_rescue.specs.Course.{seat_of, floor_of, propose_all, propose_new, proposes, hears};
+ghost use Rattle.world_rescue.specs.Course.{votes_then, promises, lead, led};
 ghost use Rattle.world_rescue.specs.Room.{has_slots};
 ghost use Rattle.world_rescue.specs.declared.fault.CourseFault.TheVariants as fault;
 
 use crate::fault::CourseFault;
 use crate::visits::{happen, promise, votes_then};
 use paxos_node::{Event, Node};
-use paxos_packets::{Ballot, Body, Entries, Entry, Vote};
+use paxos_packets::{Ballot, Body, Entries, Entry, Floor, Vote};
 use paxos_proposer::Proposer;
 use std::alloc::Global;
 
@@ -109,7 +110,7 @@ fn proposes<B: Body>(
     propose_new(alloc, proposer, applied, pending)
 }
 
-// Has the helper promise the ballot, and hears its promise.
+// Has the helper promise the ballot, and hears its promise, at a node with this floor of its own.
 fn hear<B: Body>(
     alloc: Global,
     events: &mut Vec<Event<B>>,
@@ -117,22 +118,24 @@ fn hear<B: Body>(
     helper: &Node<B>,
     ballot: Ballot,
     bid: &Bid<'_, B>,
+    own: Floor,
 ) -> Result<(), CourseFault>
     ensures events { OnOk result (events.new.items
         ≡ events.old.items ++ promises ballot bid.now.first bid.now.cast.now (seat_of helper.now)) }
     ensures state { OnOk result (proposer.new.state ≡ with_role (hears B.same proposer.old.state.members bid.now.applied bid.now.pending.now ballot
-        helper.now.me (votes_then bid.now.first bid.now.cast.now (seat_of helper.now)) (role_in proposer.old)) proposer.old.state) }
+        helper.now.me (floor_of (seat_of helper.now)) (votes_then bid.now.first bid.now.cast.now (seat_of helper.now)) own (role_in proposer.old))
+        proposer.old.state) }
     ensures room { has_slots (hears B.same proposer.old.state.members bid.now.applied bid.now.pending.now ballot helper.now.me
-        (votes_then bid.now.first bid.now.cast.now (seat_of helper.now)) (role_in proposer.old)) ≡ true → IsOkUnless result fault.Memory }
+        (floor_of (seat_of helper.now)) (votes_then bid.now.first bid.now.cast.now (seat_of helper.now)) own (role_in proposer.old)) ≡ true → IsOkUnless result fault.Memory }
 {
     let votes = promise(alloc, events, helper, ballot, bid.first, bid.cast)?;
-    let Ok(called) = proposer.on_promise(helper.me(), ballot, votes) else {
+    let Ok(called) = proposer.on_promise(helper.me(), ballot, helper.floor(), votes, own) else {
         return Err(CourseFault::Memory);
     };
     proposes(alloc, proposer, bid.applied, bid.pending, called)
 }
 
-// Has each helper promise the ballot, and hears the promises.
+// Has each helper promise the ballot, and hears the promises, at a node with this floor of its own.
 fn hear_all<B: Body>(
     alloc: Global,
     events: &mut Vec<Event<B>>,
@@ -140,18 +143,19 @@ fn hear_all<B: Body>(
     helpers: &[&Node<B>],
     ballot: Ballot,
     bid: &Bid<'_, B>,
+    own: Floor,
 ) -> Result<(), CourseFault>
     ensures events { OnOk result (events.new.items ≡ events.old.items
         ++ flat_map (promises ballot bid.now.first bid.now.cast.now) (map (λ h. seat_of h.now) helpers.now)) }
     ensures state { OnOk result (proposer.new.state ≡ with_role (fold (λ r s. hears B.same proposer.old.state.members bid.now.applied
-        bid.now.pending.now ballot s.number (votes_then bid.now.first bid.now.cast.now s) r) (role_in proposer.old)
+        bid.now.pending.now ballot s.number (floor_of s) (votes_then bid.now.first bid.now.cast.now s) own r) (role_in proposer.old)
         (map (λ h. seat_of h.now) helpers.now)) proposer.old.state) }
     ensures room { has_slots (fold (λ r s. hears B.same proposer.old.state.members bid.now.applied bid.now.pending.now ballot s.number
-        (votes_then bid.now.first bid.now.cast.now s) r) (role_in proposer.old) (map (λ h. seat_of h.now) helpers.now)) ≡ true →
+        (floor_of s) (votes_then bid.now.first bid.now.cast.now s) own r) (role_in proposer.old) (map (λ h. seat_of h.now) helpers.now)) ≡ true →
         IsOkUnless result fault.Memory }
 {
     for helper in helpers {
-        hear(alloc, events, proposer, helper, ballot, bid)?;
+        hear(alloc, events, proposer, helper, ballot, bid, own)?;
     }
     Ok(())
 }
@@ -182,9 +186,9 @@ pub(crate) fn lead<B: Body>(
     };
     happen(events, Event::Start { node: own.me() })?;
     let votes = votes_then(alloc, own, bid.first, bid.cast)?;
-    let Ok(ballot) = proposer.start(bid.first, votes) else {
+    let Ok(ballot) = proposer.start(bid.first, own.floor(), votes) else {
         return Err(CourseFault::Memory);
     };
-    hear_all(alloc, events, proposer, helpers, ballot, bid)?;
+    hear_all(alloc, events, proposer, helpers, ballot, bid, own.floor())?;
     Ok(ballot)
 }

@@ -1,3 +1,5 @@
+//! The crew of a rescue, and the course of events by which its node applies an act.
+
 ghost use Rattle.std.specs.Prelude.{◌≡◌, ◌<◌, ◌^◌, ℕ, suc, true, ◌++◌, ◌∷◌, [], filter, map, IfOk, OnOk, IsOkUnless};
 ghost use Rattle.paxos_node.specs.Events.{last_number};
 ghost use Rattle.paxos_packets.specs.Rows.{last_boot};

@@ -1,3 +1,5 @@
+//! The faults of a rescue's course.
+
 ghost use Rattle.std.specs.Prelude.{◌≡◌};
 
 use paxos_packets::Memory;

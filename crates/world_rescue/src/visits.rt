@@ -112,6 +112,7 @@ pub(crate) fn promise<B: Body>(
         helper.me(),
         Kind::Promise {
             ballot,
+            floor: helper.floor(),
             votes: copy,
         },
         ballot.node,

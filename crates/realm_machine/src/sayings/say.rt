@@ -1,3 +1,4 @@
+//! Sayings, each with its transport.
 use paxos_packets::Transport;
 use wamp_message_types::Message;
 

@@ -1,3 +1,4 @@
+// Numbers in the lines of a script.
 ghost use Rattle.std.specs.Prelude.{◌≡◌, ◌<◌, ◌^◌};
 ghost use Rattle.script_program.specs.Number.{begins_with_digit, number_in};
 

@@ -65,7 +65,7 @@ fn print_nodes<M: Machine, W: Write>(
     world: &World<M>,
 ) -> Result<(), ScriptFault>
     ensures { (first : M.Content) (es : List (occurred.Event M.Body)) →
-        StandsAt M.Body.same M.content (machine_from M.next M.says M.to first) world.now es →
+        StandsAt M.Body.same M.content M.loaded (machine_from M.steps first) world.now es →
         Prints result (W.contents writer.old) (W.contents writer.new) out.old.items out.new.items
         (nodes_text members (played M.Body.same world.now.members es)) }
 {

@@ -8,16 +8,16 @@ use Rattle.actor_parts.proofs.following.apply_all.Goals as goal
 
 pub returns-clause-ok : goal.returns-clause-ok
 returns-clause-ok g c =
-    let from = machine_from g.M.Machine.next g.M.Machine.says g.M.Machine.to in
+    let steps = g.M.Machine.steps in
     let done = c.in-Ok.ensures in
     let node = c.args.node in
     let boot = c.args.boot in
-    IfOk-weaker c.collect_own.result (λ says. says.items ≡ own_in g.M.Machine.to node boot c.in-Ok.said.items)
-    (λ says. Applied from g.M.Machine.content node boot c.args.entries.items c.args.log.now c.append.new.self says.items)
+    IfOk-weaker c.collect_own.result (λ says. says.items ≡ own_in g.M.Machine.steps.to node boot c.in-Ok.said.items)
+    (λ says. Applied steps g.M.Machine.content node boot c.args.entries.items c.args.log.now c.append.new.self says.items)
     (λ says kept. record {
       applied = done.applied;
       alive = done.alive;
-      says = λ first under l. own_is (from first) node boot (under ++ c.args.log.now.applied) c.args.entries.items
+      says = λ first under l. own_is (machine_from steps first) node boot (under ++ c.args.log.now.applied) c.args.entries.items
           (map (λ more. more.items) c.in-Ok.said.items) says.items kept (done.told first under l);
       follows = done.goes_on;
     })

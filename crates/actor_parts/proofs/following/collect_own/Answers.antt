@@ -7,4 +7,5 @@ pub loop-more-preserved : goal.loop-more-preserved
 loop-more-preserved g c =
     let rest = into_iter_items c.next.new.self in
     let step : into_iter_items c.loop-more.more-iterator ≡ c.in-Some.more ∷ rest = search rules in
-    own_more g.M.Machine.to c.args.node c.args.boot c.loop-more.says.items _ _ rest c.in-Some.more _ c.in_ok-retain_own.ensures step c.loop-more.invariant
+    own_more g.M.Machine.steps.to c.args.node c.args.boot c.loop-more.says.items _ _ rest c.in-Some.more _ c.in_ok-retain_own.ensures step
+    c.loop-more.invariant

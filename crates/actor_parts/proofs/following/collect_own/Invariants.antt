@@ -5,4 +5,5 @@ use Rattle.actor_parts.proofs.following.collect_own.Given as goal
 
 abbrev pub invariant-loop-more : goal.invariant-loop-more
 invariant-loop-more g l =
-    l.says.items ++ own_in g.M.Machine.to l.node l.boot (into_iter_items l.more-iterator) ≡ own_in g.M.Machine.to l.node l.boot l.fn.said.items
+    l.says.items ++ own_in g.M.Machine.steps.to l.node l.boot (into_iter_items l.more-iterator)
+    ≡ own_in g.M.Machine.steps.to l.node l.boot l.fn.said.items

@@ -6,5 +6,5 @@ use Rattle.actor_parts.proofs.following.retain_own.Given as goal
 
 abbrev pub invariant-loop-say : goal.invariant-loop-say
 invariant-loop-say g l =
-    l.says.items ++ filter (λ y. is_of l.node l.boot (g.M.Machine.to y)) (into_iter_items l.say-iterator)
-    ≡ l.initial.says.items ++ filter (λ y. is_of l.node l.boot (g.M.Machine.to y)) l.fn.more.items
+    l.says.items ++ filter (λ y. is_of l.node l.boot (g.M.Machine.steps.to y)) (into_iter_items l.say-iterator)
+    ≡ l.initial.says.items ++ filter (λ y. is_of l.node l.boot (g.M.Machine.steps.to y)) l.fn.more.items

@@ -1,5 +1,4 @@
 use Rattle.std.proofs.Common.{List}
-use Rattle.replica_machine.specs.Log.{machine_from}
 use Rattle.paxos_node.specs.declared.event.Event.{Event}
 use Rattle.node_actor.specs.Views.{View}
 use Rattle.actor_run.specs.Runs.{Outset}
@@ -11,7 +10,7 @@ returns-then-not-pass-clause-runs g c = λ view gave got stands told.
     let o : Outset g.row.M-Body.Denot g.row.M-Say.Denot g.row.M.Denot g.row.K.Denot =
     record { actor = c.args.actor.now; view = view; gave = gave; got = got } in (
       c.loop-turn.held,
-      c.loop-turn.invariant.1 o (sets_out g.M.Body.Body.same (machine_from g.M.Machine.next g.M.Machine.says g.M.Machine.to)
+      c.loop-turn.invariant.1 o (sets_out g.M.Body.Body.same g.M.Machine.steps
           g.M.Machine.content g.F.Feed.saw o c.args.feed.now stands told),
     )
 
@@ -19,15 +18,15 @@ pub returns-in-Err-clause-runs : goal.returns-in-Err-clause-runs
 returns-in-Err-clause-runs g c = λ view gave got stands told.
     let o : Outset g.row.M-Body.Denot g.row.M-Say.Denot g.row.M.Denot g.row.K.Denot =
     record { actor = c.args.actor.now; view = view; gave = gave; got = got } in
-    c.in-Err.ensures.makes o (c.loop-turn.invariant.1 o (sets_out g.M.Body.Body.same (machine_from g.M.Machine.next g.M.Machine.says
-    g.M.Machine.to) g.M.Machine.content g.F.Feed.saw o c.args.feed.now stands told))
+    c.in-Err.ensures.makes o (c.loop-turn.invariant.1 o (sets_out g.M.Body.Body.same g.M.Machine.steps g.M.Machine.content g.F.Feed.saw o
+    c.args.feed.now stands told))
 
 pub returns-clause-runs : goal.returns-clause-runs
 returns-clause-runs g c = λ view gave got stands told.
     let o : Outset g.row.M-Body.Denot g.row.M-Say.Denot g.row.M.Denot g.row.K.Denot =
     record { actor = c.args.actor.now; view = view; gave = gave; got = got } in (
       c.loop-turn.held,
-      c.loop-turn.invariant.1 o (sets_out g.M.Body.Body.same (machine_from g.M.Machine.next g.M.Machine.says g.M.Machine.to)
+      c.loop-turn.invariant.1 o (sets_out g.M.Body.Body.same g.M.Machine.steps
           g.M.Machine.content g.F.Feed.saw o c.args.feed.now stands told),
     )
 

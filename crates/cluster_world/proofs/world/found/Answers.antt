@@ -2,9 +2,9 @@
 use Rattle.std.proofs.Common.{◌≡◌, suc, ◌+◌, sym, ◌∙◌, subst, arith, List, length}
 use Rattle.paxos_packets.specs.declared.entry.Entry.{Entry}
 use Rattle.replica_machine.specs.Log.{machine_from}
-use Rattle.cluster_world.specs.Founding.{AreFounded, AllAttend}
+use Rattle.cluster_world.specs.Founding.{AreFounded, AllFollow}
 use Rattle.cluster_world.specs.Members.{MemberState}
-use Rattle.cluster_world.proofs.Founding.{founded_more, attend_more}
+use Rattle.cluster_world.proofs.Founding.{founded_more, follow_more}
 use Rattle.cluster_world.proofs.world.found.Goals as goal
 
 pub returns-clause-founded : goal.returns-clause-founded
@@ -23,8 +23,8 @@ returns-clause-founded g c =
       alive = c.in-Ok.ensures.given_up;
     }))
 
-pub returns-clause-attends : goal.returns-clause-attends
-returns-clause-attends g c = λ first is all.
-    let m = machine_from g.M.Machine.next g.M.Machine.says g.M.Machine.to first in
-    subst (λ (z : List (MemberState _ _ _)). AllAttend g.M.Machine.content m z) (sym c.push_reserved.ensures.items)
-    (attend_more g.M.Machine.content m c.args.list.now.items c.in-Ok.member all (c.in-Ok.ensures.attends first is))
+pub returns-clause-follows : goal.returns-clause-follows
+returns-clause-follows g c = λ first is all.
+    let m = machine_from g.M.Machine.steps first in
+    subst (λ (z : List (MemberState _ _ _)). AllFollow g.M.Machine.content m z) (sym c.push_reserved.ensures.items)
+    (follow_more g.M.Machine.content m c.args.list.now.items c.in-Ok.member all (c.in-Ok.ensures.follows first is))

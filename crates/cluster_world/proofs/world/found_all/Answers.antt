@@ -26,7 +26,7 @@ loop-machine-preserved g c =
       omega (arith, p, z),
       omega (arith, q, w),
       rest,
-      λ first h. c.in_ok-found.ensures.attends first
+      λ first h. c.in_ok-found.ensures.follows first
           (h (length c.loop-machine.yielded) c.in-Some.machine
           (ap (λ l. slice_get l (length c.loop-machine.yielded)) (sym whole) ∙ get_seam c.loop-machine.yielded c.in-Some.machine c.next.new.self.rest.items))
           (i.6 first h),

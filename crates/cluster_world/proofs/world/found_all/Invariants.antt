@@ -1,7 +1,7 @@
 -- The members that are put in so far, for the machines that were taken out so far.
 use Rattle.std.proofs.Common.{◌≡◌, ◌≤◌, ◌++◌, length, vec_len, vec_capacity}
 use Rattle.replica_machine.specs.Log.{machine_from}
-use Rattle.cluster_world.specs.Founding.{AreFounded, AllAttend}
+use Rattle.cluster_world.specs.Founding.{AreFounded, AllFollow}
 use Rattle.cluster_world.specs.StandsAt.{HaveContent}
 use Rattle.cluster_world.proofs.world.found_all.Given as goal
 
@@ -14,4 +14,4 @@ invariant-loop-machine g l =
     × (l.fn.members ≤ vec_capacity l.made)
     × (l.yielded ++ l.machine-iterator.rest.items ≡ l.fn.machines.items)
     × ((first : g.M.Machine.Content) → HaveContent g.M.Machine.content first l.fn.machines.items
-    → AllAttend g.M.Machine.content (machine_from g.M.Machine.next g.M.Machine.says g.M.Machine.to first) l.list.items)
+    → AllFollow g.M.Machine.content (machine_from g.M.Machine.steps first) l.list.items)

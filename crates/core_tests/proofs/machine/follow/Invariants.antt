@@ -6,4 +6,4 @@ use Rattle.core_tests.proofs.machine.follow.Given as goal
 abbrev pub invariant-loop-input : goal.invariant-loop-input
 invariant-loop-input g l =
     let m = g.M.Machine in
-    fold m.next (m.content l.machine) (drop l.input-index l.inputs) ≡ fold m.next (m.content l.fn.machine) l.inputs
+    fold m.steps.next (m.content l.machine) (drop l.input-index l.inputs) ≡ fold m.steps.next (m.content l.fn.machine) l.inputs

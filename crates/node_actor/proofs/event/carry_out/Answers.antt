@@ -1,5 +1,5 @@
 use Rattle.std.proofs.Common.{◌≡◌, true, false, sym, subst, ◌∙◌, rules}
-use Rattle.replica_machine.specs.Log.{LogState, machine_from}
+use Rattle.replica_machine.specs.Log.{LogState}
 use Rattle.actor_parts.specs.Steps.{IsAtEnd}
 use Rattle.actor_parts.proofs.Carrying.{Roomed, Ready, stopped_sound, fallen_sound, spoiled_sound, ready}
 use Rattle.node_actor.specs.Steps.{may_advance}
@@ -110,7 +110,7 @@ returns-in-Ok-commit-clause-sound g c =
     ready g.K.Keeper.holds g.K.Keeper.is_failed c.args.outcome c.args.parts.now c.make_room.new.self c.commit.new.self room
     c.commit.ensures.rest serving.held
     serving.whole c.in-Ok-commit.ensures.ok c.in-Ok-commit.ensures.whole in
-    sound_on (machine_from g.M.Machine.next g.M.Machine.says g.M.Machine.to) g.M.Machine.content g.K.Keeper.holds g.K.Keeper.finds
+    sound_on g.M.Machine.steps g.M.Machine.content g.K.Keeper.holds g.K.Keeper.finds
     g.K.Keeper.failures g.K.Keeper.is_failed
     g.M.Body.Body.same c.args.outcome c.args.parts.now c.commit.new.self c.take_over.new.self c.args.seat.now c.requires.sound serving
     is_ready
@@ -129,7 +129,7 @@ returns-in-Ok-commit-clause-seated g c =
     ready g.K.Keeper.holds g.K.Keeper.is_failed c.args.outcome c.args.parts.now c.make_room.new.self c.commit.new.self room
     c.commit.ensures.rest serving.held
     serving.whole c.in-Ok-commit.ensures.ok c.in-Ok-commit.ensures.whole in
-    seated_on g.M.Body.Body.same (machine_from g.M.Machine.next g.M.Machine.says g.M.Machine.to) g.M.Machine.content g.K.Keeper.holds
+    seated_on g.M.Body.Body.same g.M.Machine.steps g.M.Machine.content g.K.Keeper.holds
     g.K.Keeper.is_failed
     c.args.outcome c.args.parts.now c.commit.new.self c.take_over.new.self c.args.seat.now c.step.new.seat c.step.ensures.advanced
     c.requires.sound is_ready
@@ -149,7 +149,7 @@ returns-in-Ok-commit-clause-did g c =
     c.commit.ensures.rest serving.held
     serving.whole c.in-Ok-commit.ensures.ok c.in-Ok-commit.ensures.whole in
     let may : may_advance c.args.seat.now ≡ true = search rules in
-    carried_on (machine_from g.M.Machine.next g.M.Machine.says g.M.Machine.to) g.M.Machine.content g.K.Keeper.holds g.K.Keeper.finds
+    carried_on g.M.Machine.steps g.M.Machine.content g.K.Keeper.holds g.K.Keeper.finds
     g.K.Keeper.failures g.K.Keeper.is_failed
     g.M.Body.Body.same c.args.outcome c.args.parts.now c.commit.new.self c.take_over.new.self c.args.seat.now c.step.new.seat
     c.step.ensures.advanced may

@@ -1,5 +1,4 @@
 use Rattle.std.proofs.Common.{◌≡◌, true, false, Some, Err, ap, rules, subst, sym}
-use Rattle.replica_machine.specs.Log.{machine_from}
 use Rattle.node_actor.specs.Actor.{acting}
 use Rattle.node_actor.specs.Calls.{Acts}
 use Rattle.paxos_node.specs.Adopting.{Planned}
@@ -61,13 +60,13 @@ returns-in-Err-Memory-clause-acts g c = λ view reach.
     (λ outcome. Planned g.M.Body.Body.same c.args.parts.now.node.members c.args.event.now c.args.parts.now.node.state outcome)
     c.in-Err-Memory.field-0 fault c.in-Err-Memory.ensures.planned in
     let agrees = c.in-Err-Memory.ensures.memory (ap Err fault) in
-    let told = memory_acts g.M.Body.Body.same (machine_from g.M.Machine.next g.M.Machine.says g.M.Machine.to) g.M.Machine.content g.K.Keeper.holds
+    let told = memory_acts g.M.Body.Body.same g.M.Machine.steps g.M.Machine.content g.K.Keeper.holds
     g.K.Keeper.finds g.K.Keeper.failures g.K.Keeper.is_failed c.args.event.now c.args.parts.now view c.args.seat.now c.requires.seated reach
     fresh (c.requires.sound.serves fresh) (seated_spoiled g.M.Body.Body.same c.args.parts.now c.args.seat.now c.requires.seated) refused
     agrees in
-    subst (λ p. Acts g.M.Body.Body.same (machine_from g.M.Machine.next g.M.Machine.says g.M.Machine.to) g.M.Machine.content
+    subst (λ p. Acts g.M.Body.Body.same g.M.Machine.steps g.M.Machine.content
     g.K.Keeper.holds g.K.Keeper.finds g.K.Keeper.failures (Some c.args.event.now) (acting c.args.parts.now view)
     (acting p c.args.seat.now) view (Err c.fault_without_plan-fault.result)) (sym c.spoil-in-Err-Memory.ensures)
-    (subst (λ f. Acts g.M.Body.Body.same (machine_from g.M.Machine.next g.M.Machine.says g.M.Machine.to) g.M.Machine.content
+    (subst (λ f. Acts g.M.Body.Body.same g.M.Machine.steps g.M.Machine.content
     g.K.Keeper.holds g.K.Keeper.finds g.K.Keeper.failures (Some c.args.event.now) (acting c.args.parts.now view)
     (acting (record c.args.parts.now { spoiled = true }) c.args.seat.now) view (Err f)) (sym c.fault_without_plan-fault.ensures) told)

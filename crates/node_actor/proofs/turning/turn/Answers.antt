@@ -1,7 +1,6 @@
 use Rattle.std.proofs.Common.{◌≡◌, ℕ, false, Option, Some, None, sym, ap, subst, ◌∙◌, refl}
 use Rattle.paxos_packets.specs.Members.{IsMember}
 use Rattle.paxos_packets.specs.declared.packet.Packet.{Packet}
-use Rattle.replica_machine.specs.Log.{machine_from}
 use Rattle.mail_table.specs.Seats.{Seated}
 use Rattle.node_actor.specs.Turns.{Fetches, round}
 use Rattle.node_actor.proofs.Rounds.{received_got}
@@ -90,7 +89,7 @@ returns-in-None-clause-turns g c =
     c.fetch_round.new.seat.part)
     members c.in-None.ensures.fetches in
     let fresh : c.send_waiting-posted.new.parts.spoiled ≡ false = c.send_waiting-posted.ensures.posts.beside.only.spoiled ∙ c.requires.serving in
-    turns g.M.Body.Body.same (machine_from g.M.Machine.next g.M.Machine.says g.M.Machine.to) g.M.Machine.content g.K.Keeper.holds
+    turns g.M.Body.Body.same g.M.Machine.steps g.M.Machine.content g.K.Keeper.holds
     g.K.Keeper.finds g.K.Keeper.failures c.args.last.now
     (record { from = None; heard = None; posted = c.send_waiting-posted.result })
     c.args.parts.now c.send_waiting-posted.new.parts c.send_waiting-posted.new.parts c.args.seat.now
@@ -114,7 +113,7 @@ returns-in-Some-clause-turns g c =
     c.fetch_round.new.seat.part)
     members c.in-Some.ensures.fetches in
     let fresh : c.send_waiting-posted.new.parts.spoiled ≡ false = c.send_waiting-posted.ensures.posts.beside.only.spoiled ∙ c.requires.serving in
-    turns g.M.Body.Body.same (machine_from g.M.Machine.next g.M.Machine.says g.M.Machine.to) g.M.Machine.content g.K.Keeper.holds
+    turns g.M.Body.Body.same g.M.Machine.steps g.M.Machine.content g.K.Keeper.holds
     g.K.Keeper.finds g.K.Keeper.failures c.args.last.now
     (record { from = Some c.in-Some.from; heard = Some c.heard_in-heard.result; posted = c.send_waiting-posted.result })
     c.args.parts.now c.send_waiting-posted.new.parts c.deliver.new.parts c.args.seat.now

@@ -36,3 +36,7 @@ returns-clause-short c = refl
 pub returns-clause-none : goal.returns-clause-none
 unfolding number_reading
 returns-clause-none c = refl
+
+pub returns-clause-other : goal.returns-clause-other
+unfolding two_octets four_octets eight_octets number_reading is_utf8 chars encode
+returns-clause-other c = refl

@@ -5,10 +5,11 @@ use Rattle.realm_machine.specs.Parts.{lists_of}
 use Rattle.realm_snapshot.specs.Writing.{eight_octets, list_octets, config_octets, link_octets, registration_octets, subscription_octets}
 use Rattle.realm_snapshot.specs.Writing.{call_octets, lists_octets, saved}
 use Rattle.realm_snapshot.specs.Reading.{made_reading}
-use Rattle.realm_snapshot.specs.Snapshot.{AreNumbered, Backs}
+use Rattle.realm_snapshot.specs.Snapshot.{AreNumbered, Backs, ReadsNoOther}
 use Rattle.realm_snapshot.proofs.Listing.{last_put, on_ok_more}
 use Rattle.realm_snapshot.proofs.RoundTrip.{last_back}
 use Rattle.realm_snapshot.proofs.RealmBack.{lists_back, made_back}
+use Rattle.realm_snapshot.proofs.Only.{lists_only, made_only}
 use Rattle.realm_snapshot.proofs.writing.put_realm.Goals as goal
 
 pub returns-clause-ok : goal.returns-clause-ok
@@ -67,4 +68,26 @@ returns-clause-back c =
     (last_back live.content.registrations.last (subst (λ n. n ≤ 9007199254740992) c.last.ensures.last c.last.ensures.within))
     (last_back live.content.subscriptions.last (subst (λ n. n ≤ 9007199254740992) c.last-2.ensures.last c.last-2.ensures.within))
     (c.in_ok-put_sessions.ensures.back numbered) c.in_ok-put_registered.ensures.back c.in_ok-put_subscribed.ensures.back calls))
+    c.put_open.ensures.back)
+
+pub returns-clause-only : goal.returns-clause-only
+returns-clause-only c =
+    let live : Live = record {
+      config = record { name = c.parts.inside.name.now; limits = c.parts.inside.limits };
+      content = record {
+        sessions = c.parts.inside.sessions.now;
+        registrations = c.parts.inside.registrations.now;
+        subscriptions = c.parts.inside.subscriptions.now;
+        calls = c.parts.inside.calls.now;
+      };
+    } in
+    subst
+    (λ (v : Live). OnOk c.put_open.result
+    (ReadsNoOther made_reading (saved v) (record { config = v.config; lists = lists_of v.content }))) c.parts.view_is
+    (on_ok_more c.put_open.result
+    (λ calls. made_only live c.in_ok-put_config.ensures.back
+    (lists_only (lists_of live.content)
+    (last_back live.content.registrations.last (subst (λ n. n ≤ 9007199254740992) c.last.ensures.last c.last.ensures.within))
+    (last_back live.content.subscriptions.last (subst (λ n. n ≤ 9007199254740992) c.last-2.ensures.last c.last-2.ensures.within))
+    c.in_ok-put_sessions.ensures.only c.in_ok-put_registered.ensures.back c.in_ok-put_subscribed.ensures.back calls))
     c.put_open.ensures.back)

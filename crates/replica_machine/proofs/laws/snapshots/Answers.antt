@@ -1,11 +1,10 @@
-use Rattle.replica_machine.specs.Log.{machine_from}
 use Rattle.replica_machine.proofs.Applying.{cut_stands}
 use Rattle.replica_machine.proofs.Snapshots.{loaded_stands}
 use Rattle.replica_machine.proofs.laws.snapshots.Goals as goal
 
 pub returns-clause-loaded : goal.returns-clause-loaded
-returns-clause-loaded g c = λ next says to content first under old new stands given loaded.
-    loaded_stands (machine_from next says to) content first under old new stands given loaded
+returns-clause-loaded g c = λ steps content first under old new stands given loaded.
+    loaded_stands steps content first under old new stands given loaded
 
 pub returns-clause-cut : goal.returns-clause-cut
-returns-clause-cut g c = λ next says to content first under old within stands. cut_stands next says to content first under old within stands
+returns-clause-cut g c = λ steps content first under old within stands. cut_stands steps content first under old within stands

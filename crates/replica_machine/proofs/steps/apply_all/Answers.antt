@@ -21,7 +21,7 @@ loop-entry-init g c =
       ([], append-nil applied),
       λ under rolled. rolled,
       λ first under stands.
-          let m = machine_from g.M.Machine.next g.M.Machine.says g.M.Machine.to first in
+          let m = machine_from g.M.Machine.steps first in
           (stands, ap (λ l. map (λ says. says.items) c.args.said.now.items ++ sayings_by_slot m (under ++ applied) l) rest),
       λ alive. alive,
     )
@@ -32,9 +32,7 @@ loop-entry-preserved g c =
     let did = c.in_ok-_took.ensures in
     let old = c.loop-entry.applied.items in
     let new = c.apply_in_room.new.applied.items in
-    let next = g.M.Machine.next in
-    let says = g.M.Machine.says in
-    let to = g.M.Machine.to in
+    let steps = g.M.Machine.steps in
     let content = g.M.Machine.content in
     let more : List (Entry g.row.M-Body.Denot) = into_iter_items c.next.new.self in
     let rest : into_iter_items c.loop-entry.entry-iterator ≡ c.in-Some.entry ∷ more = search rules in
@@ -47,11 +45,11 @@ loop-entry-preserved g c =
       λ under rolled. rolled_longer under old new c.in-Some.entry c.apply_in_room.new.roll did.ok (did.roll (under ++ old) (so_far.5 under rolled)),
       λ first under stands.
           let was = so_far.6 first under stands in (
-            at_longer next says to content first under old new c.in-Some.entry c.apply_in_room.new.roll c.apply_in_room.new.machine did.ok
-                (at_on next says to content first (under ++ old) c.in-Some.entry c.loop-entry.roll c.apply_in_room.new.roll
+            at_longer steps content first under old new c.in-Some.entry c.apply_in_room.new.roll c.apply_in_room.new.machine did.ok
+                (at_on steps content first (under ++ old) c.in-Some.entry c.loop-entry.roll c.apply_in_room.new.roll
                 c.loop-entry.machine c.apply_in_room.new.machine c.in_ok-_took._took was.0 did.took did.roll did.content),
-            said_on (machine_from next says to first) under old new _ more c.in-Some.entry _ _ _ _ did.ok rest
-                (said_at next says to content first (under ++ old) c.in-Some.entry c.loop-entry.roll c.loop-entry.machine
+            said_on (machine_from steps first) under old new _ more c.in-Some.entry _ _ _ _ did.ok rest
+                (said_at steps content first (under ++ old) c.in-Some.entry c.loop-entry.roll c.loop-entry.machine
                 c.in_ok-_took._took _ was.0 did.took did.says)
                 (ap (λ l. map (λ says. says.items) l) c.push_reserved.ensures.items
                 ∙ map-append (λ says. says.items) c.loop-entry.said.items (c.in_ok-_took.says ∷ []))

@@ -12,12 +12,13 @@ use Rattle.cluster_world.proofs.world.World.handed.Goals as goal
 
 pub returns : goal.returns
 returns g c = λ first es h.
-    let m = machine_from g.M.Machine.next g.M.Machine.says g.M.Machine.to first in
-    let k = subst (λ (w : Held _ _ _). StandsAt g.M.Body.Body.same g.M.Machine.content m w es) (sym c.self.view_is) h in
+    let m = machine_from g.M.Machine.steps first in
+    let k = subst (λ (w : Held _ _ _). StandsAt g.M.Body.Body.same g.M.Machine.content g.M.Machine.loaded m w es) (sym c.self.view_is) h in
     let told = subst (λ (l : List (MemberState _ _ _)). (i : ℕ) (s : MemberState _ _ _) → slice_get l i ≡ Some s
     → TellAll s.machine.told (tellings s.machine.told)) c.deref.ensures.value c.all_tell.ensures in
     subst (λ (w : Held _ _ _). WereHanded m (played g.M.Body.Body.same w.members es) c.of.result) c.self.view_is
     (subst (λ l. WereHanded m (played g.M.Body.Body.same c.self.inside.members es) l)
     (sym (c.of.ensures.are ∙ ap (λ l. tell_members l) c.deref-2.ensures.value))
-    (were_handed g.M.Machine.content m c.self.inside.members c.self.inside.list.items c.self.inside.sent.packets c.self.inside.made.items
+    (were_handed g.M.Machine.content g.M.Machine.loaded m c.self.inside.members c.self.inside.list.items c.self.inside.sent.packets
+    c.self.inside.made.items c.self.inside.first.items
     (played g.M.Body.Body.same c.self.inside.members es) k told))

@@ -2,16 +2,18 @@
 use Rattle.std.proofs.Common.{◌≡◌, ◌≤◌, ◌++◌, List, take, length}
 use Rattle.paxos_node.specs.declared.event.Event.{Event}
 use Rattle.replica_machine.specs.Log.{machine_from}
-use Rattle.cluster_world.specs.Members.{GivenUpStay}
-use Rattle.cluster_world.specs.StandsAt.{StandsAt}
+use Rattle.cluster_world.specs.Members.{GivenUpStay, AreLater}
+use Rattle.cluster_world.specs.StandsAt.{ShowsAt, StandsAt}
 use Rattle.cluster_world.proofs.world.World.run_all.Given as goal
 
 abbrev pub invariant-loop-index : goal.invariant-loop-index
 invariant-loop-index g l =
     (l.self.members ≡ l.initial.self.members)
     × (l.index ≤ length l.fn.events)
-    × ((first : g.M.Machine.Content) (es : List (Event _)) →
-    StandsAt g.M.Body.Body.same g.M.Machine.content (machine_from g.M.Machine.next g.M.Machine.says g.M.Machine.to first) l.initial.self es
-    → StandsAt g.M.Body.Body.same g.M.Machine.content (machine_from g.M.Machine.next g.M.Machine.says g.M.Machine.to first) l.self
-    (es ++ take l.index l.fn.events))
-    × GivenUpStay l.initial.self.machines l.self.machines
+    × ((es : List (Event _)) → ShowsAt g.M.Body.Body.same l.initial.self es → ShowsAt g.M.Body.Body.same l.self (es ++ take l.index l.fn.events))
+    × ((first : g.M.Machine.Content) (es : List (Event _)) → StandsAt g.M.Body.Body.same g.M.Machine.content g.M.Machine.loaded
+    (machine_from g.M.Machine.steps first) l.initial.self es
+    → StandsAt g.M.Body.Body.same g.M.Machine.content g.M.Machine.loaded
+    (machine_from g.M.Machine.steps first) l.self (es ++ take l.index l.fn.events))
+    × AreLater l.initial.self l.self
+    × GivenUpStay l.initial.self l.self

@@ -1,5 +1,5 @@
 use Rattle.std.proofs.Common.{subst}
-use Rattle.replica_machine.specs.Log.{machine_from, Follows}
+use Rattle.replica_machine.specs.Log.{Follows}
 use Rattle.actor_parts.specs.Parts.{Parted}
 use Rattle.node_actor.proofs.Restarting.{exact_of, starts_of}
 use Rattle.node_actor.proofs.Sound.{sound_first}
@@ -37,27 +37,27 @@ returns-in-Err-clause-shuts g c =
 pub returns-in-Ok-clause-opens : goal.returns-in-Ok-clause-opens
 returns-in-Ok-clause-opens g c =
     let follows = subst (λ (p : Parted g.row.M-Body.Denot g.row.M.Denot g.row.K.Denot).
-    Follows (machine_from g.M.Machine.next g.M.Machine.says g.M.Machine.to) g.M.Machine.content (g.M.Machine.content c.args.machine) p.log)
+    Follows g.M.Machine.steps g.M.Machine.content (g.M.Machine.content c.args.machine) p.log)
     c.of.ensures.is c.of.ensures.follows in
     rw (c.of-in-Ok.ensures, c.of.ensures.is) (opens_first g.M.Body.Body.same g.K.Keeper.holds g.K.Keeper.is_faithful g.K.Keeper.is_failed
     c.args.post c.args.keeper
     c.begin.new.keeper c.in-Ok.field-0.node c.in-Ok.field-0.outboxes c.in-Ok.field-0.seat c.args.machine c.begin.ensures.left
     c.in-Ok.ensures.ok
-    (machine_from g.M.Machine.next g.M.Machine.says g.M.Machine.to) g.M.Machine.content follows)
+    g.M.Machine.steps g.M.Machine.content follows)
 
 pub returns-in-Ok-clause-resumes : goal.returns-in-Ok-clause-resumes
 returns-in-Ok-clause-resumes g c = λ view r of held true_to.
     let follows = subst (λ (p : Parted g.row.M-Body.Denot g.row.M.Denot g.row.K.Denot).
-    Follows (machine_from g.M.Machine.next g.M.Machine.says g.M.Machine.to) g.M.Machine.content (g.M.Machine.content c.args.machine) p.log)
+    Follows g.M.Machine.steps g.M.Machine.content (g.M.Machine.content c.args.machine) p.log)
     c.of.ensures.is c.of.ensures.follows in
-    let opens : Opens (machine_from g.M.Machine.next g.M.Machine.says g.M.Machine.to) g.M.Machine.content g.K.Keeper.holds
+    let opens : Opens g.M.Machine.steps g.M.Machine.content g.K.Keeper.holds
     g.K.Keeper.is_faithful c.args.post
     c.args.machine c.args.keeper c.of-in-Ok.result = rw (c.of-in-Ok.ensures, c.of.ensures.is)
     (opens_first g.M.Body.Body.same g.K.Keeper.holds
     g.K.Keeper.is_faithful g.K.Keeper.is_failed c.args.post c.args.keeper c.begin.new.keeper c.in-Ok.field-0.node c.in-Ok.field-0.outboxes
     c.in-Ok.field-0.seat
-    c.args.machine c.begin.ensures.left c.in-Ok.ensures.ok (machine_from g.M.Machine.next g.M.Machine.says g.M.Machine.to)
+    c.args.machine c.begin.ensures.left c.in-Ok.ensures.ok g.M.Machine.steps
     g.M.Machine.content follows) in
-    resumes_of g.M.Body.Body.same c.args.post view r c.of-in-Ok.result (machine_from g.M.Machine.next g.M.Machine.says g.M.Machine.to)
+    resumes_of g.M.Body.Body.same c.args.post view r c.of-in-Ok.result g.M.Machine.steps
     g.M.Machine.content
     g.K.Keeper.holds g.K.Keeper.is_faithful c.args.machine c.args.keeper c.begin.ensures.left of opens held true_to

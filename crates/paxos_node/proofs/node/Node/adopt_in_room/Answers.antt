@@ -9,7 +9,7 @@ use Rattle.paxos_learner.specs.Learner as learning
 use Rattle.replica_machine.specs.Roll.{IsRollOf, HasStandings, standings, standings_from}
 use Rattle.paxos_planning.specs.Node.{NodeState, log_length}
 use Rattle.paxos_planning.specs.Front.{IsFront}
-use Rattle.paxos_node.specs.Steps.{Steps}
+use Rattle.paxos_node.specs.Moved.{Moved}
 use Rattle.paxos_node.specs.Held.{Held, learner_in}
 use Rattle.paxos_planning.specs.Parts.{proposer_of, learner_of, pending_with, counted_with, first_learned}
 use Rattle.paxos_node.specs.Applying.{standing_of}
@@ -23,7 +23,7 @@ use Rattle.paxos_node.proofs.node.Node.adopt_in_room.Goals as goal
 pub move_in_room-requires-clause-possible : goal.move_in_room-requires-clause-possible
 move_in_room-requires-clause-possible g c =
     let of_steps : ArePossible c.moves.inside.proposer.items (proposer_of c.args.self.now.me c.args.self.now.members c.args.self.now.state) =
-    subst (λ (m : Steps g.row.B.Denot). ArePossible m.proposer (proposer_of c.args.self.now.me c.args.self.now.members c.args.self.now.state))
+    subst (λ (m : Moved g.row.B.Denot). ArePossible m.proposer (proposer_of c.args.self.now.me c.args.self.now.members c.args.self.now.state))
     (sym c.moves.view_is) c.requires.fits.moves in
     subst (λ (s : proposing.State g.row.B.Denot). ArePossible c.moves.inside.proposer.items s)
     (sym (proposer_is c.self.inside.proposer.state c.self.inside.me c.self.inside.members c.self.invariant.0 c.self.invariant.1))
@@ -32,7 +32,7 @@ move_in_room-requires-clause-possible g c =
 pub hear_in_room-requires : goal.hear_in_room-requires
 hear_in_room-requires g c =
     let of_steps : HasRoomFor c.moves.inside.news.items (learner_in c.args.self.now) =
-    subst (λ (m : Steps g.row.B.Denot). HasRoomFor m.news (learner_in c.args.self.now)) (sym c.moves.view_is) c.requires.room.learner in
+    subst (λ (m : Moved g.row.B.Denot). HasRoomFor m.news (learner_in c.args.self.now)) (sym c.moves.view_is) c.requires.room.learner in
     subst (λ (l : learning.Held g.row.B.Denot). HasRoomFor c.moves.inside.news.items l) (sym (held_is c.self.inside.learner c.self.inside.members c.self.invariant.2))
     (subst (λ (h : Held g.row.B.Denot). HasRoomFor c.moves.inside.news.items (learner_in h)) (sym c.self.view_is) of_steps)
 
@@ -46,7 +46,7 @@ invariant_of-self-2 g c =
     let begun : Begins (log ++ more) (hear_all c.moves.inside.news.items (record { members = c.self.inside.members; learner = c.self.inside.learner.state.learner })).learner.learned =
     subst (λ (h : Held g.row.B.Denot). Begins (h.state.applied ++ more)
     (hear_all c.moves.inside.news.items (learner_of h.members h.state)).learner.learned) (sym c.self.view_is)
-    (subst (λ (m : Steps g.row.B.Denot). Begins (c.args.self.now.state.applied ++ more)
+    (subst (λ (m : Moved g.row.B.Denot). Begins (c.args.self.now.state.applied ++ more)
     (hear_all m.news (learner_of c.args.self.now.members c.args.self.now.state)).learner.learned)
     (sym c.moves.view_is) c.requires.fits.applied) in
     let within : length log + length more < 2 ^ 40 =
@@ -72,7 +72,7 @@ invariant_of-self-2 g c =
     let of_steps : IsFront c.moves.inside.front (length (c.args.self.now.state.applied ++ more))
     (after_moves c.moves.inside.proposer.items (proposer_of c.args.self.now.me c.args.self.now.members c.args.self.now.state)).proposer.role
     (pending_behind (standing_of c.args.self.now.state) more (pending_with c.moves.inside.added c.args.self.now.state.pending)) =
-    subst (λ (m : Steps g.row.B.Denot). IsFront m.front (length (c.args.self.now.state.applied ++ more))
+    subst (λ (m : Moved g.row.B.Denot). IsFront m.front (length (c.args.self.now.state.applied ++ more))
     (after_moves m.proposer (proposer_of c.args.self.now.me c.args.self.now.members c.args.self.now.state)).proposer.role
     (pending_behind (standing_of c.args.self.now.state) more (pending_with m.added c.args.self.now.state.pending))) (sym c.moves.view_is) c.requires.fits.front in
     let of_parts : IsFront c.moves.inside.front (length (log ++ more))
@@ -134,19 +134,19 @@ returns-clause-state g c =
     c.move_in_room.ensures
     ∙ ap (λ (s : proposing.State g.row.B.Denot). after_moves c.moves.inside.proposer.items s)
     (proposer_is c.self.inside.proposer.state c.self.inside.me c.self.inside.members c.self.invariant.0 c.self.invariant.1)
-    ∙ ap (λ (m : Steps g.row.B.Denot). after_moves m.proposer (proposer_of c.self.inside.me c.self.inside.members x)) c.moves.view_is in
+    ∙ ap (λ (m : Moved g.row.B.Denot). after_moves m.proposer (proposer_of c.self.inside.me c.self.inside.members x)) c.moves.view_is in
     let heard : c.hear_in_room.new.self.state ≡ hear_all c.args.outcome.moves.news (learner_of c.self.inside.members x) =
     c.hear_in_room.ensures
     ∙ ap (λ (s : learning.State g.row.B.Denot). hear_all c.moves.inside.news.items s) (learner_is c.self.inside.learner.state c.self.inside.members c.self.invariant.2)
-    ∙ ap (λ (m : Steps g.row.B.Denot). hear_all m.news (learner_of c.self.inside.members x)) c.moves.view_is in
+    ∙ ap (λ (m : Moved g.row.B.Denot). hear_all m.news (learner_of c.self.inside.members x)) c.moves.view_is in
     let now : first_learned (c.self.inside.applied + length c.as_slice-2.result.now) c.hear_in_room.new.self.state.learner.learned ≡ log ++ more =
     (λ i. first_learned (sym counted i + length (same i)) (heard i).learner.learned) ∙ learned in
     let waits : c.wait.new.pending.items ≡ pending_with c.args.outcome.moves.added c.self.inside.pending.items =
-    c.wait.ensures.pending ∙ ap (λ (m : Steps g.row.B.Denot). pending_with m.added c.self.inside.pending.items) c.moves.view_is in
+    c.wait.ensures.pending ∙ ap (λ (m : Moved g.row.B.Denot). pending_with m.added c.self.inside.pending.items) c.moves.view_is in
     let pending : c.apply_all.new.pending.items ≡ pending_behind (standings log) more (pending_with c.args.outcome.moves.added c.self.inside.pending.items) =
     c.apply_all.ensures.pending (standings log) c.self.invariant.4 ∙ (λ i. pending_behind (standings log) (first i) (waits i)) in
     let taken : c.wait.new.taken ≡ counted_with c.args.outcome.moves.added c.self.inside.taken =
-    c.wait.ensures.taken ∙ ap (λ (m : Steps g.row.B.Denot). counted_with m.added c.self.inside.taken) c.moves.view_is in
+    c.wait.ensures.taken ∙ ap (λ (m : Moved g.row.B.Denot). counted_with m.added c.self.inside.taken) c.moves.view_is in
     let rows : c.adopt_in_room.new.self.rows ≡ accepting.adopted c.self.inside.acceptor.rows c.args.outcome.change = c.adopt_in_room.ensures.rows in
     (λ i. record {
       rows = rows i;

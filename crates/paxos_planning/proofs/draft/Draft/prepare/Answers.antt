@@ -22,6 +22,6 @@ returns-clause-plan g c =
     ∙ (λ i. whole (record {
       me = p.me;
       members = p.members;
-      proposer = prepared (me i) (own_ballot (me i) p.proposer) c.args.first c.args.votes p.proposer;
+      proposer = prepared (me i) (own_ballot (me i) p.proposer) c.args.first c.args.floor c.args.votes p.proposer;
     }))
-    ∙ ap (λ (d : Drafted g.row.B.Denot). with_prepared d.of.me c.args.first c.args.votes d.plan) c.self.view_is
+    ∙ ap (λ (d : Drafted g.row.B.Denot). with_prepared d.of.me c.args.first c.args.floor c.args.votes d.plan) c.self.view_is

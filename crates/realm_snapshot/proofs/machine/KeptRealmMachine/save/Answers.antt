@@ -6,5 +6,6 @@ returns c = record {
   failed = c.save.ensures.failed;
   octets = c.save.ensures.octets;
   back = λ sound. c.save.ensures.back (comes_back _ _ sound);
+  only = c.save.ensures.only;
   fault = c.save.ensures.fault;
 }

@@ -16,6 +16,6 @@ returns-clause-applies g c =
     let removed = c.in-Some-swap_remove.ensures in
     let done = c.in-Ok.ensures in
     rw done.slot
-    (applies g.M.Machine.next g.M.Machine.says g.M.Machine.to g.M.Machine.content c.args.self.now _ _ c.in-Some.slot entry
+    (applies g.M.Machine.steps g.M.Machine.content c.args.self.now _ _ c.in-Some.slot entry
     c.in-Ok.step.took c.in-Ok.step.says.items c.self.view_is c.in-Some.ensures removed.value removed.updates.0
     refl done.ok c.if-self.false done.took done.roll done.content done.says)

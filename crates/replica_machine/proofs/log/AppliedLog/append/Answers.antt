@@ -92,19 +92,21 @@ returns g c =
     let none = c.in-Ok.ensures.len in
     let count = done.count in
     let content = g.M.Machine.content in
-    let from = machine_from g.M.Machine.next g.M.Machine.says g.M.Machine.to in
-    let stands : (first : g.M.Machine.Content) (under : List (Entry g.row.M-Body.Denot)) → IsLogOf from content first under now
-    → IsAt from content first (under ++ c.reserve.new.self.items) c.self.inside.roll c.self.inside.machine =
-    λ first under was. stands_inside now _ c.self.view_is from content first under c.reserve.new.self.items stood was in
-    let on : (first : g.M.Machine.Content) (under : List (Entry g.row.M-Body.Denot)) → IsLogOf from content first under now
-    → IsLogOf from content first under _ =
-    λ first under was. log_on now _ c.self.view_is from content first under _ refl was (done.stands first under (stands first under was)) in
-    let told : (first : g.M.Machine.Content) (under : List (Entry g.row.M-Body.Denot)) → IsLogOf from content first under now
-    → map (λ says. says.items) c.apply_all.new.said.items ≡ sayings_by_slot (from first) (under ++ now.applied) c.args.entries.items =
+    let steps = g.M.Machine.steps in
+    let stands : (first : g.M.Machine.Content) (under : List (Entry g.row.M-Body.Denot)) → IsLogOf steps content first under now
+    → IsAt steps content first (under ++ c.reserve.new.self.items) c.self.inside.roll c.self.inside.machine =
+    λ first under was. stands_inside now _ c.self.view_is steps content first under c.reserve.new.self.items stood was in
+    let on : (first : g.M.Machine.Content) (under : List (Entry g.row.M-Body.Denot)) → IsLogOf steps content first under now
+    → IsLogOf steps content first under _ =
+    λ first under was. log_on now _ c.self.view_is steps content first under _ refl was (done.stands first under (stands first under was)) in
+    let told : (first : g.M.Machine.Content) (under : List (Entry g.row.M-Body.Denot)) → IsLogOf steps content first under now
+    → map (λ says. says.items) c.apply_all.new.said.items ≡ sayings_by_slot (machine_from steps first) (under
+    ++ now.applied) c.args.entries.items =
     λ first under was. done.said first under (stands first under was)
-    ∙ ap (λ l. map (λ says. says.items) l ++ sayings_by_slot (from first) (under ++ c.reserve.new.self.items) c.args.entries.items)
+    ∙ ap (λ l. map (λ says. says.items) l ++ sayings_by_slot (machine_from steps first) (under
+    ++ c.reserve.new.self.items) c.args.entries.items)
     c.in-Ok.ensures.items
-    ∙ ap (λ l. sayings_by_slot (from first) (under ++ l) c.args.entries.items) before in
+    ∙ ap (λ l. sayings_by_slot (machine_from steps first) (under ++ l) c.args.entries.items) before in
     record {
       applied = done.applied ∙ ap (λ l. l ++ c.args.entries.items) before;
       count = omega arith;

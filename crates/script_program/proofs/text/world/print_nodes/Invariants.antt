@@ -9,7 +9,7 @@ use Rattle.script_program.proofs.text.world.print_nodes.Given as goal
 abbrev pub invariant-loop-below : goal.invariant-loop-below
 invariant-loop-below g l =
     (first : g.M.Machine.Content) (es : List (Event _)) →
-    StandsAt g.M.Body.Body.same g.M.Machine.content (machine_from g.M.Machine.next g.M.Machine.says g.M.Machine.to first) l.world es →
+    StandsAt g.M.Body.Body.same g.M.Machine.content g.M.Machine.loaded (machine_from g.M.Machine.steps first) l.world es →
     NodesLeft (played g.M.Body.Body.same l.world.members es) l.fn.members l.below (g.W.Write.contents l.fn.writer)
     (g.W.Write.contents l.writer)
     l.fn.out.items l.out.items
