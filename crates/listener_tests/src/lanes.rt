@@ -151,6 +151,47 @@ fn fills<R: Clock>(rt: &R, arrival: &mut Guest) -> usize {
     arrival.requests.count_waiting()
 }
 
+// A client sends PINGs of 2^16 octets.
+fn sends_long_pings(rt: &impl Abort, alloc: Global, client: &mut TcpStream, times: u32) {
+    let payload = vec![in alloc; b'x'; 1 << 16].expect(rt, "room for a payload");
+    for _ in 0..times {
+        sends(rt, client, &[1, 1, 0, 0], 1);
+        sends(rt, client, payload.as_slice(), 1);
+    }
+    drop(payload);
+}
+
+// Waits until so many items are in a client's ring, ten seconds at the most, and then for as long as more could come. Returns how many are
+// there.
+fn stops_at<R: Clock>(rt: &R, arrival: &mut Guest, least: usize) -> usize {
+    for _ in 0..1_000 {
+        if arrival.requests.count_waiting() >= least {
+            break;
+        }
+        thread::sleep(rt, Duration::from_millis(10));
+    }
+    thread::sleep(rt, Duration::from_millis(300));
+    arrival.requests.count_waiting()
+}
+
+#[test]
+fn a_reader_stops_once_a_mebibyte_waits_and_goes_on(rt: HostRuntime) {
+    let mut house = House::open(&rt, rt.alloc());
+    let (mut client, mut arrival) = house.client(&rt);
+    sends_long_pings(&rt, rt.alloc(), &mut client, 20);
+    // `Connect`, and the PINGs of which the last octet is among the first 2^20 and one read more.
+    let waiting = stops_at(&rt, &mut arrival, 16);
+    check!(&rt; waiting == 16 || waiting == 17, waiting);
+    comes(&rt, &mut arrival, "C");
+    for _ in 0..20 {
+        comes(&rt, &mut arrival, "P");
+    }
+    drop(arrival);
+    drop(client);
+    check!(&rt; house.is_empty_soon(&rt));
+    house.close(&rt);
+}
+
 #[test]
 fn a_reader_at_a_full_ring_ends_with_its_node(rt: HostRuntime) {
     let mut house = House::open(&rt, rt.alloc());
@@ -160,6 +201,26 @@ fn a_reader_at_a_full_ring_ends_with_its_node(rt: HostRuntime) {
     drop(arrival);
     check!(&rt; house.is_empty_soon(&rt));
     drop(client);
+    house.close(&rt);
+}
+
+#[test]
+fn a_client_without_a_message_is_closed(rt: HostRuntime) {
+    let mut house = House::open(&rt, rt.alloc());
+    let (mut client, mut arrival) = house.client(&rt);
+    let (mut other, mut greeted) = house.client(&rt);
+    sends(&rt, &mut client, PING, 1);
+    sends(&rt, &mut other, HELLO, 1);
+    thread::sleep(&rt, Duration::from_secs(5));
+    check!(&rt; reads_the_end(&mut client));
+    comes(&rt, &mut arrival, "CPHE");
+    sends(&rt, &mut other, PING, 1);
+    comes(&rt, &mut greeted, "CRP");
+    drop(client);
+    drop(arrival);
+    drop(other);
+    drop(greeted);
+    check!(&rt; house.is_empty_soon(&rt));
     house.close(&rt);
 }
 

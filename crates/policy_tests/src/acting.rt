@@ -1,8 +1,8 @@
-// Clients act as fast as they can at three nodes that go by the real rules of time, and nothing disturbs them: what commits cost is all that
-// slows them down, few packets are sent again, and one node leads throughout.
+// Clients act as fast as they can at three, five and seven nodes that go by the real rules of time, and nothing disturbs them: what commits
+// cost is all that slows them down, few packets are sent again, and one node leads throughout.
 use crate::check::Check;
 use crate::cluster::Found;
-use crate::schedules::{commits_of, draw_calm};
+use crate::schedules::{Each, commits_of, draw_calm};
 use paxos_packets::Members;
 use std::alloc::Global;
 use std::panic::Expect;
@@ -12,33 +12,44 @@ use test_checks::check;
 // How many acts come first, one at a time at each node: they show how long a commit takes.
 const FIRST: u8 = 8;
 
-// How many commits the start and these acts take over many schedules. The ballot takes three, and eleven entries at most two each, one after the
-// other; what is sent again before it is known how long a commit takes costs a few more.
-const COMMITS_FIRST: u64 = 30;
+// How many commits the start and these acts take at the most over many schedules, beside two for each node's start and for each act. The ballot
+// takes three; what is sent again before it is known how long a commit takes costs a few more.
+const COMMITS_MORE: u64 = 8;
 
 // How long the nodes take to start, and the turns of the first acts.
 const STARTING: u64 = 50_000;
 
-// How many acts come then.
-const ACTS: u8 = 50;
+// How many acts come then. With those before and the starts of seven nodes they have room in the log.
+const ACTS: u8 = 48;
 
 // How many microseconds either may take at the most.
 const LONGEST: u64 = 60_000_000;
 
 // How many acts each node has under way, and how many commits an act takes over many schedules. Of one act at a time it is two, one after the
-// other: the leader's, and that of the node that votes first. Of many it is one, the leader's. A commit takes 1.09 times as long as it mostly
-// does, and now and then a packet waits for one that is under way.
-const LOADS: &[([u8; 3], u64)] = &[
-    ([1, 0, 0], 3),
-    ([0, 1, 0], 3),
-    ([1, 1, 1], 3),
-    ([40, 0, 0], 2),
-    ([12, 12, 12], 2),
-    ([24, 4, 4], 2),
+// other: the leader's, and that of the node whose vote makes a majority. Of many it is one, the leader's. A commit takes 1.09 times as long as
+// it mostly does, and now and then a packet waits for one that is under way.
+const LOADS: &[(Each<u8>, u64)] = &[
+    ([1, 0, 0, 0, 0, 0, 0], 3),
+    ([0, 1, 0, 0, 0, 0, 0], 3),
+    ([1, 1, 1, 0, 0, 0, 0], 3),
+    ([40, 0, 0, 0, 0, 0, 0], 2),
+    ([12, 12, 12, 0, 0, 0, 0], 2),
+    ([24, 4, 4, 0, 0, 0, 0], 2),
 ];
 
-// How long the turns of an act take that commit nothing.
+// The same for more than three nodes.
+const LOADS_OF_MORE: &[(Each<u8>, u64)] = &[
+    ([1, 0, 0, 0, 0, 0, 0], 3),
+    ([0, 0, 0, 0, 1, 0, 0], 3),
+    ([1, 1, 1, 1, 1, 1, 1], 3),
+    ([40, 0, 0, 0, 0, 0, 0], 2),
+    ([8, 8, 8, 8, 8, 8, 8], 2),
+];
+
+// How long the turns of an act take at three nodes that commit nothing, and how much longer with each further node, since a turn takes one packet.
 const TURNS: u64 = 1_000;
+
+const TURNS_MORE: u64 = 200;
 
 // How long a node may stand still.
 const STILL: u64 = 500_000;
@@ -96,8 +107,8 @@ fn play(
     alloc: Global,
     members: Members,
     seed: u64,
-    commits: [u64; 3],
-    under_way: [u8; 3],
+    commits: Each<u64>,
+    under_way: Each<u8>,
 ) -> [Found; 2] {
     let mut cluster = draw_calm(alloc, members, seed, commits, FIRST);
     let first = cluster.play_acts(LONGEST);
@@ -107,11 +118,13 @@ fn play(
     [first, last]
 }
 
-// How many microseconds the acts take at the most, if each takes this many commits.
-fn bound_of(commit: u64, count: u64) -> u64 {
+// How many microseconds the acts take at the most at this many nodes, if each takes this many commits.
+fn bound_of(count: u8, commit: u64, commits: u64) -> u64 {
+    let turns = TURNS_MORE.saturating_mul(u64::from(count.saturating_sub(3)));
     commit
-        .saturating_mul(count)
+        .saturating_mul(commits)
         .saturating_add(TURNS)
+        .saturating_add(turns)
         .saturating_mul(u64::from(ACTS))
 }
 
@@ -119,12 +132,13 @@ fn bound_of(commit: u64, count: u64) -> u64 {
 fn acts(
     rt: &impl Abort,
     alloc: Global,
+    count: u8,
     seed: u64,
-    commits: [u64; 3],
-    under_way: [u8; 3],
+    commits: Each<u64>,
+    under_way: Each<u8>,
     bound: u64,
 ) -> [Took; 2] {
-    let members = Members::new(3).expect(rt, "three members");
+    let members = Members::new(count).expect(rt, "three to seven members");
     let found = play(alloc, members, seed, commits, under_way);
     for found in found {
         check!(rt; found.is_level && found.leaders == 1 && found.ballots == 1, (seed, found));
@@ -135,22 +149,24 @@ fn acts(
     [first, took]
 }
 
-// Clients act in each of these schedules, where a commit takes this long at each node.
-fn acts_at(rt: &impl Abort, alloc: Global, commit: u64, seeds: u64) {
-    for load in LOADS {
-        let (under_way, count) = *load;
-        let bound = bound_of(commit, count);
+// Clients act at this many nodes in each of these schedules, where a commit takes this long at each node.
+fn acts_at(rt: &impl Abort, alloc: Global, count: u8, commit: u64, seeds: u64) {
+    let loads = if count == 3 { LOADS } else { LOADS_OF_MORE };
+    for load in loads {
+        let (under_way, most_commits) = *load;
+        let bound = bound_of(count, commit, most_commits);
         let mut first = NOTHING;
         let mut all = NOTHING;
         for seed in 0..seeds {
             let most = bound.saturating_mul(2).saturating_add(STILL);
-            let [began, took] = acts(rt, alloc, seed, [commit; 3], under_way, most);
+            let [began, took] = acts(rt, alloc, count, seed, [commit; 7], under_way, most);
             check!(rt; took.repeats_at_most(2, 3), (seed, took));
             first = first.and(began);
             all = all.and(took);
         }
+        let entries = u64::from(count.saturating_add(FIRST));
         let start = commit
-            .saturating_mul(COMMITS_FIRST)
+            .saturating_mul(entries.saturating_mul(2).saturating_add(COMMITS_MORE))
             .saturating_add(STARTING);
         check!(rt; first.micros <= start.saturating_mul(seeds), (*load, first));
         check!(rt; all.micros <= bound.saturating_mul(seeds), (*load, all));
@@ -160,35 +176,55 @@ fn acts_at(rt: &impl Abort, alloc: Global, commit: u64, seeds: u64) {
 
 #[test]
 fn clients_act_where_a_commit_takes_a_tenth_of_a_millisecond(rt: HostRuntime) {
-    acts_at(&rt, rt.alloc(), 100, 100);
+    acts_at(&rt, rt.alloc(), 3, 100, 100);
 }
 
 #[test]
 fn clients_act_where_a_commit_takes_3_milliseconds(rt: HostRuntime) {
-    acts_at(&rt, rt.alloc(), 3_000, 100);
+    acts_at(&rt, rt.alloc(), 3, 3_000, 100);
 }
 
 #[test]
 fn clients_act_where_a_commit_takes_10_milliseconds(rt: HostRuntime) {
-    acts_at(&rt, rt.alloc(), 10_000, 100);
+    acts_at(&rt, rt.alloc(), 3, 10_000, 100);
 }
 
 #[test]
 fn clients_act_where_a_commit_takes_50_milliseconds(rt: HostRuntime) {
-    acts_at(&rt, rt.alloc(), 50_000, 100);
+    acts_at(&rt, rt.alloc(), 3, 50_000, 100);
+}
+
+#[test]
+fn clients_act_at_five_nodes_where_a_commit_takes_a_tenth_of_a_millisecond(rt: HostRuntime) {
+    acts_at(&rt, rt.alloc(), 5, 100, 30);
+}
+
+#[test]
+fn clients_act_at_five_nodes_where_a_commit_takes_10_milliseconds(rt: HostRuntime) {
+    acts_at(&rt, rt.alloc(), 5, 10_000, 30);
+}
+
+#[test]
+fn clients_act_at_seven_nodes_where_a_commit_takes_a_tenth_of_a_millisecond(rt: HostRuntime) {
+    acts_at(&rt, rt.alloc(), 7, 100, 30);
+}
+
+#[test]
+fn clients_act_at_seven_nodes_where_a_commit_takes_10_milliseconds(rt: HostRuntime) {
+    acts_at(&rt, rt.alloc(), 7, 10_000, 30);
 }
 
 // Clients act in each of these schedules, where commits take longer at one node than at another: the slowest sets the pace. A leader goes by
 // its own commits, so it sends more again if both others are slower than it is.
 fn acts_at_each(rt: &impl Abort, alloc: Global, first: u64, last: u64) {
     for seed in first..last {
-        let commits = commits_of(seed);
-        let [own, second, third] = commits;
+        let commits = commits_of(seed, 3);
+        let [own, second, third, _, _, _, _] = commits;
         for load in LOADS {
             let (under_way, count) = *load;
-            let bound = bound_of(own.max(second).max(third), count);
+            let bound = bound_of(3, own.max(second).max(third), count);
             let most = bound.saturating_mul(2).saturating_add(STILL);
-            let [_, took] = acts(rt, alloc, seed, commits, under_way, most);
+            let [_, took] = acts(rt, alloc, 3, seed, commits, under_way, most);
             if own >= second.min(third) {
                 check!(rt; took.repeats_at_most(2, 3), (seed, took));
             }

@@ -1,8 +1,8 @@
-// Three nodes that play a schedule: how long each turn takes, when a node stands still or starts anew, which packets are lost, and when
+// Three to seven nodes that play a schedule: how long each turn takes, when a node stands still or starts anew, which packets are lost, and when
 // clients act. Times are in microseconds.
 use crate::draws::Draws;
 use crate::timed::{Costs, EVENTS_A_TURN, Node};
-use crate::voter::{Accepts, Log, Role, Voter, empty_log};
+use crate::voter::{Accepts, Log, Role, Voter, empty_log, majority_of};
 use paxos_packets::{Ballot, Members};
 use std::alloc::Global;
 
@@ -51,12 +51,12 @@ pub struct Clients {
     // In how many rounds of a million one acts.
     pub load: u64,
     // How many acts each node has under way, if clients act at it as fast as they can; else 0.
-    pub under_way: [u8; 3],
+    pub under_way: [u8; 7],
 }
 
 #[derive(Drop)]
 pub struct Cluster {
-    nodes: [Node; 3],
+    nodes: Vec<Node>,
     members: Members,
     log: Log,
     draws: Draws,
@@ -77,9 +77,9 @@ fn place(node: u8) -> usize {
 }
 
 impl Cluster {
-    // Three nodes before the first turn.
+    // Nodes before the first turn, all of the members.
     pub fn new(
-        nodes: [Node; 3],
+        nodes: Vec<Node>,
         members: Members,
         draws: Draws,
         schedule: Schedule,
@@ -103,7 +103,7 @@ impl Cluster {
     // The node whose turn is next, and when it is.
     fn next(&self) -> (u8, u64) {
         let mut next = (1, u64::MAX);
-        for (node, with) in (1u8..4).zip(self.nodes.iter()) {
+        for (node, with) in (1u8..8).zip(self.nodes.iter()) {
             let at = with.at.max(with.still);
             if at < next.1 {
                 next = (node, at);
@@ -163,8 +163,11 @@ impl Cluster {
 
     // Whether a node lacks an entry: an Ask brings nothing otherwise, and is left out.
     fn asks(&self) -> bool {
-        let [one, two, three] = &self.nodes;
-        one.voter.applied != two.voter.applied || two.voter.applied != three.voter.applied
+        let first = match self.nodes.first() {
+            Some(node) => node.voter.applied,
+            None => 0,
+        };
+        self.nodes.iter().any(|node| node.voter.applied != first)
     }
 
     // Whether a node leads.
@@ -283,7 +286,7 @@ impl Cluster {
     fn turn(&mut self, me: u8, had_events: bool) {
         let mut is_idle = !had_events;
         let mut cost = self.draw_turn();
-        for to in 1..4 {
+        for to in 1..self.members.count().saturating_add(1) {
             is_idle = !self.post_of(me, to) && is_idle;
         }
         if let Some((from, micros)) = self.treat(me) {
@@ -342,8 +345,8 @@ impl Cluster {
             1_500_000
         };
         let still = now.saturating_add(self.draws.below(most)).min(calm);
-        let at = self.draws.pick();
-        let Some(node) = self.nodes.get_mut(at) else {
+        let at = self.draws.pick(members.count());
+        let Some(node) = self.nodes.get_mut(usize::from(at)) else {
             return;
         };
         if !anew {
@@ -356,6 +359,7 @@ impl Cluster {
         }
         let voter = Voter::new(
             voter.me,
+            voter.count,
             voter.history,
             voter.promised,
             voter.votes,
@@ -384,7 +388,7 @@ impl Cluster {
     }
 
     // From now on clients do this many acts more, this many at a time at each node.
-    pub fn act_on(&mut self, acts: u8, under_way: [u8; 3]) {
+    pub fn act_on(&mut self, acts: u8, under_way: [u8; 7]) {
         self.clients.acts = acts;
         self.clients.under_way = under_way;
     }
@@ -410,7 +414,7 @@ impl Cluster {
                 count = count.saturating_add(1);
             }
         }
-        count >= 2
+        count >= majority_of(self.members.count())
     }
 
     fn found(&self) -> Found {

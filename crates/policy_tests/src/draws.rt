@@ -32,13 +32,9 @@ impl Draws {
         (self.word >> 32) % bound.max(1)
     }
 
-    // One of three, from 0.
-    pub fn pick(&mut self) -> usize {
-        match self.below(3) {
-            0 => 0,
-            1 => 1,
-            _ => 2,
-        }
+    // One of this many, at most 255, from 0.
+    pub fn pick(&mut self, count: u8) -> u8 {
+        u8::try_from(self.below(u64::from(count))).unwrap_or(0)
     }
 
     // True once in this number of draws.

@@ -1,5 +1,5 @@
-//! Tests of the rules by which a served node counts time, over public calls: rows worked out by hand, and three nodes that go by these rules
-//! under drawn delays.
+//! Tests of the rules by which a served node counts time, over public calls: rows worked out by hand, and three to seven nodes that go by these
+//! rules under drawn delays.
 #![tactic(auto)]
 
 #[cfg(test)]

@@ -2,7 +2,7 @@
 use crate::cluster::{Clients, Cluster, Schedule};
 use crate::draws::Draws;
 use crate::timed::{Costs, Node};
-use crate::voter::{NO_BALLOT, Voter, bit};
+use crate::voter::{NO_BALLOT, Voter, bit, majority_of};
 use paxos_packets::{Ballot, Members};
 use std::alloc::Global;
 
@@ -15,29 +15,30 @@ const UNDER_WAY: [u8; 4] = [1, 4, 12, 30];
 // How long a takeover takes at the most, in this schedule.
 const TAKEOVERS: [u64; 5] = [1_000, 50_000, 300_000, 1_000_000, 3_000_000];
 
+// What holds for each node of a schedule, by place; there are at most seven.
+pub type Each<T> = [T; 7];
+
 // A promise of an earlier boot, or none.
-fn draw_promise(draws: &mut Draws) -> Ballot {
+fn draw_promise(draws: &mut Draws, count: u8) -> Ballot {
     if draws.is_one_in(3) {
         return NO_BALLOT;
     }
     let rounds = if draws.is_one_in(2) { 4 } else { 1000 };
-    let nodes: [u8; 3] = [1, 2, 3];
-    let node = nodes.get(draws.pick()).copied().unwrap_or(1);
+    let node = draws.pick(count).saturating_add(1);
     Ballot {
         round: draws.below(rounds).saturating_add(1),
         node,
     }
 }
 
-// What three nodes have promised: the owner of a ballot has promised it, or a greater one.
-fn draw_promises(draws: &mut Draws) -> [Ballot; 3] {
-    let drawn = [
-        draw_promise(draws),
-        draw_promise(draws),
-        draw_promise(draws),
-    ];
+// What the nodes have promised: the owner of a ballot has promised it, or a greater one.
+fn draw_promises(draws: &mut Draws, count: u8) -> Each<Ballot> {
+    let mut drawn = [NO_BALLOT; 7];
+    for promise in drawn.iter_mut().take(usize::from(count)) {
+        *promise = draw_promise(draws, count);
+    }
     let mut promises = drawn;
-    for (node, promise) in (1u8..4).zip(promises.iter_mut()) {
+    for (node, promise) in (1u8..8).zip(promises.iter_mut()) {
         for other in drawn {
             if other.node == node {
                 *promise = (*promise).max(other);
@@ -47,13 +48,22 @@ fn draw_promises(draws: &mut Draws) -> [Ballot; 3] {
     promises
 }
 
-// Which slots each node has voted for, of this number: two nodes for each.
-fn draw_votes(draws: &mut Draws, slots: u8) -> [u64; 3] {
-    let mut votes: [u64; 3] = [0; 3];
+// The places of some nodes, as bits, that leave a majority of the others.
+fn draw_minority(draws: &mut Draws, count: u8) -> u64 {
+    let mut places: u64 = 0;
+    for _ in majority_of(count)..count {
+        places |= bit(draws.pick(count));
+    }
+    places
+}
+
+// Which slots each node has voted for, of this number: for each slot a majority has.
+fn draw_votes(draws: &mut Draws, count: u8, slots: u8) -> Each<u64> {
+    let mut votes: Each<u64> = [0; 7];
     for slot in 0..slots {
-        let left_out = draws.pick();
-        for (node, voted) in votes.iter_mut().enumerate() {
-            if node != left_out {
+        let left_out = draw_minority(draws, count);
+        for (place, voted) in (0u8..7).zip(votes.iter_mut()) {
+            if left_out & bit(place) == 0 {
                 *voted |= bit(slot);
             }
         }
@@ -74,13 +84,13 @@ fn draw_node(
 }
 
 // What a node has that filled slots of a history: whoever voted has promised a ballot.
-fn voter_of(alloc: Global, me: u8, history: u8, promised: Ballot, votes: u64) -> Voter {
+fn voter_of(alloc: Global, me: u8, count: u8, history: u8, promised: Ballot, votes: u64) -> Voter {
     let promised = if votes == 0 {
         promised
     } else {
         promised.max(Ballot { round: 1, node: 1 })
     };
-    Voter::new(me, history, promised, votes, 0, Vec::new(alloc))
+    Voter::new(me, count, history, promised, votes, 0, Vec::new(alloc))
 }
 
 // How many packets stand for one: a power of two, up to 128.
@@ -92,7 +102,7 @@ fn draw_weight(draws: &mut Draws) -> usize {
 
 // The schedule of a seed, in which a commit takes 0.2 to 3.2 milliseconds and is not timed.
 pub fn draw_cluster(alloc: Global, members: Members, seed: u64) -> Cluster {
-    draw_with(alloc, members, Draws::new(seed), [0; 3], [0; 3])
+    draw_with(alloc, members, Draws::new(seed), [0; 7], [0; 7])
 }
 
 // One of these times.
@@ -102,8 +112,12 @@ fn draw_commit(draws: &mut Draws) -> u64 {
 }
 
 // How long a commit takes at each node: each time drawn by itself.
-fn draw_commits(draws: &mut Draws) -> [u64; 3] {
-    [draw_commit(draws), draw_commit(draws), draw_commit(draws)]
+fn draw_commits(draws: &mut Draws, count: u8) -> Each<u64> {
+    let mut commits: Each<u64> = [0; 7];
+    for commit in commits.iter_mut().take(usize::from(count)) {
+        *commit = draw_commit(draws);
+    }
+    commits
 }
 
 fn draw_under_way(draws: &mut Draws) -> u8 {
@@ -111,22 +125,28 @@ fn draw_under_way(draws: &mut Draws) -> u8 {
     UNDER_WAY.get(drawn).copied().unwrap_or(1)
 }
 
+// How many acts each node has under way: each number drawn by itself.
+fn draw_loads(draws: &mut Draws, count: u8) -> Each<u8> {
+    let mut under_way: Each<u8> = [0; 7];
+    for acts in under_way.iter_mut().take(usize::from(count)) {
+        *acts = draw_under_way(draws);
+    }
+    under_way
+}
+
 // The schedule of a seed with slow commits, in every other one as slow at each node. In every other one clients act as fast as they can.
 pub fn draw_slow(alloc: Global, members: Members, seed: u64) -> Cluster {
     let mut draws = Draws::new(seed);
+    let count = members.count();
     let commits = if draws.is_one_in(2) {
-        [draw_commit(&mut draws); 3]
+        [draw_commit(&mut draws); 7]
     } else {
-        draw_commits(&mut draws)
+        draw_commits(&mut draws, count)
     };
     let under_way = if draws.is_one_in(2) {
-        [0; 3]
+        [0; 7]
     } else {
-        [
-            draw_under_way(&mut draws),
-            draw_under_way(&mut draws),
-            draw_under_way(&mut draws),
-        ]
+        draw_loads(&mut draws, count)
     };
     draw_with(alloc, members, draws, commits, under_way)
 }
@@ -136,29 +156,33 @@ fn draw_nodes(
     draws: &mut Draws,
     members: Members,
     history: u8,
-    commits: [u64; 3],
-    promises: [Ballot; 3],
-) -> [Node; 3] {
-    let [first, second, third] = draw_votes(draws, history);
-    let one = voter_of(alloc, 1, history, promises[0], first);
-    let two = voter_of(alloc, 2, history, promises[1], second);
-    let three = voter_of(alloc, 3, history, promises[2], third);
-    [
-        draw_node(alloc, draws, members, one, commits[0]),
-        draw_node(alloc, draws, members, two, commits[1]),
-        draw_node(alloc, draws, members, three, commits[2]),
-    ]
+    commits: Each<u64>,
+    promises: Each<Ballot>,
+) -> Vec<Node> {
+    let count = members.count();
+    let mut nodes = Vec::new(alloc);
+    let votes = draw_votes(draws, count, history);
+    for (((me, voted), promised), commit) in (1u8..count.saturating_add(1))
+        .zip(votes)
+        .zip(promises)
+        .zip(commits)
+    {
+        let voter = voter_of(alloc, me, count, history, promised, voted);
+        let node = draw_node(alloc, draws, members, voter, commit);
+        let _is_put = nodes.push(node).is_ok();
+    }
+    nodes
 }
 
 fn draw_with(
     alloc: Global,
     members: Members,
     drawn: Draws,
-    commits: [u64; 3],
-    under_way: [u8; 3],
+    commits: Each<u64>,
+    under_way: Each<u8>,
 ) -> Cluster {
     let mut draws = drawn;
-    let promises = draw_promises(&mut draws);
+    let promises = draw_promises(&mut draws, members.count());
     let slots = draws.below(8).saturating_add(1);
     let history = u8::try_from(slots).unwrap_or(1);
     let nodes = draw_nodes(alloc, &mut draws, members, history, commits, promises);
@@ -189,7 +213,7 @@ fn draw_with(
 
 // A node without a history, that starts within ten milliseconds.
 fn draw_new(alloc: Global, draws: &mut Draws, members: Members, me: u8, commit: u64) -> Node {
-    let voter = Voter::new(me, 0, NO_BALLOT, 0, 0, Vec::new(alloc));
+    let voter = Voter::new(me, members.count(), 0, NO_BALLOT, 0, 0, Vec::new(alloc));
     Node::new(alloc, members, voter, commit, draws.below(10_000), true)
 }
 
@@ -199,15 +223,15 @@ pub fn draw_calm(
     alloc: Global,
     members: Members,
     seed: u64,
-    commits: [u64; 3],
+    commits: Each<u64>,
     acts: u8,
 ) -> Cluster {
     let mut draws = Draws::new(seed);
-    let nodes = [
-        draw_new(alloc, &mut draws, members, 1, commits[0]),
-        draw_new(alloc, &mut draws, members, 2, commits[1]),
-        draw_new(alloc, &mut draws, members, 3, commits[2]),
-    ];
+    let mut nodes = Vec::new(alloc);
+    for (me, commit) in (1u8..members.count().saturating_add(1)).zip(commits) {
+        let node = draw_new(alloc, &mut draws, members, me, commit);
+        let _is_put = nodes.push(node).is_ok();
+    }
     let schedule = Schedule {
         costs: Costs {
             takeover: 1_000,
@@ -221,12 +245,12 @@ pub fn draw_calm(
     let clients = Clients {
         acts,
         load: 0,
-        under_way: [1; 3],
+        under_way: [1; 7],
     };
     Cluster::new(nodes, members, draws, schedule, clients)
 }
 
 // Times of commits for the nodes of a calm schedule, each drawn by itself from this seed.
-pub fn commits_of(seed: u64) -> [u64; 3] {
-    draw_commits(&mut Draws::new(seed))
+pub fn commits_of(seed: u64, count: u8) -> Each<u64> {
+    draw_commits(&mut Draws::new(seed), count)
 }

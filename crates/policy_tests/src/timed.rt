@@ -37,15 +37,15 @@ pub struct Costs {
 pub struct Node {
     pub voter: Voter,
     ticks: Ticks,
-    waits: [VecDeque<Packet>; 4],
+    waits: [VecDeque<Packet>; 8],
     // The packet of each other that it may fetch, and the one from which it fetches first.
-    pub boxes: [Option<Packet>; 4],
+    pub boxes: [Option<Packet>; 8],
     first: u8,
     // What the last turn brought.
     from: Option<u8>,
     sign: Sign,
-    pub posted: [bool; 4],
-    draining: [Draining; 4],
+    pub posted: [bool; 8],
+    draining: [Draining; 8],
     may_tick: bool,
     admission: Admission,
     // How long a commit takes here, 0 if rounds are not timed; and how long its rounds have shown that one takes.
@@ -86,13 +86,21 @@ impl Node {
                 VecDeque::new(alloc),
                 VecDeque::new(alloc),
                 VecDeque::new(alloc),
+                VecDeque::new(alloc),
+                VecDeque::new(alloc),
+                VecDeque::new(alloc),
+                VecDeque::new(alloc),
             ],
-            boxes: [None; 4],
+            boxes: [None; 8],
             first: 1,
             from: None,
             sign: Sign::Nothing,
-            posted: [false; 4],
+            posted: [false; 8],
             draining: [
+                Draining::new(),
+                Draining::new(),
+                Draining::new(),
+                Draining::new(),
                 Draining::new(),
                 Draining::new(),
                 Draining::new(),
@@ -214,7 +222,7 @@ impl Node {
             drains = draining.holds(beat, waiting, posted, commit) || drains;
         }
         self.may_tick = !drains;
-        self.posted = [false; 4];
+        self.posted = [false; 8];
     }
 
     // What time has brought; how long it took, if it brought anything; and whether a ballot was begun.
@@ -274,9 +282,10 @@ impl Node {
 
     // What the node sent waits for the others, at most a limited number of packets for each.
     pub fn sort(&mut self, most: usize) {
+        let (me, count) = (self.voter.me, self.voter.count);
         for (to, packet) in self.voter.posts.drain(..) {
-            for (node, waits) in (0u8..4).zip(self.waits.iter_mut()) {
-                if node == to || to == 0 && node != 0 && node != self.voter.me {
+            for (node, waits) in (0u8..8).zip(self.waits.iter_mut()) {
+                if node == to || to == 0 && node != 0 && node != me && node <= count {
                     if waits.len() >= most {
                         let _oldest = waits.pop_front();
                     }
@@ -304,16 +313,17 @@ impl Node {
 
     // Fetches a packet; from whom it was.
     fn fetch(&mut self) -> Option<(u8, Packet)> {
-        for step in 0..3u8 {
-            let from = self.first.saturating_add(step).saturating_sub(1) % 3 + 1;
+        let count = self.voter.count.max(1);
+        for step in 0..count {
+            let from = self.first.saturating_add(step).saturating_sub(1) % count + 1;
             if let Some(place) = self.boxes.get_mut(usize::from(from))
                 && let Some(packet) = place.take()
             {
-                self.first = from % 3 + 1;
+                self.first = from % count + 1;
                 return Some((from, packet));
             }
         }
-        self.first = self.first % 3 + 1;
+        self.first = self.first % count + 1;
         None
     }
 

@@ -64,10 +64,10 @@ pub enum Cost {
     Takeover,
 }
 
-// To whom a packet goes: a node, or 0 for both others.
+// To whom a packet goes: a node, or 0 for all others.
 pub type Post = (u8, Packet);
 
-// How many Accepts a node has sent to both others, and how many of these it had sent before.
+// How many Accepts a node has sent to all others, and how many of these it had sent before.
 #[derive(Clone, Copy, Debug, PartialEq, Eq)]
 pub struct Accepts {
     pub sent: u64,
@@ -78,6 +78,8 @@ pub struct Accepts {
 #[derive(Drop)]
 pub struct Voter {
     pub me: u8,
+    // How many nodes there are.
+    pub count: u8,
     // How many slots the runs before have filled.
     pub history: u8,
     pub promised: Ballot,
@@ -85,12 +87,14 @@ pub struct Voter {
     pub role: Role,
     pub ballot: Ballot,
     seen: u64,
-    counted: u8,
+    // Of its own ballot the nodes that have promised it, and how many these are with itself.
+    counted: u64,
+    promises: u8,
     reports: u64,
     proposed: u64,
     next: u8,
-    covered: [u8; 4],
-    heard: [(Ballot, u64); 4],
+    covered: [u8; 8],
+    heard: [(Ballot, u64); 8],
     learned: u64,
     pub applied: u8,
     pub taken: u8,
@@ -104,10 +108,16 @@ pub fn bit(slot: u8) -> u64 {
     if slot < 64 { 1 << slot } else { 0 }
 }
 
+// How many of this many nodes are a majority.
+pub fn majority_of(count: u8) -> u8 {
+    (count / 2).saturating_add(1)
+}
+
 impl Voter {
     // A node that starts, with what it has promised and voted for; its own start is pending.
     pub fn new(
         me: u8,
+        count: u8,
         history: u8,
         promised: Ballot,
         votes: u64,
@@ -116,6 +126,7 @@ impl Voter {
     ) -> Voter {
         Voter {
             me,
+            count,
             history,
             promised,
             votes,
@@ -123,11 +134,12 @@ impl Voter {
             ballot: NO_BALLOT,
             seen: promised.round,
             counted: 0,
+            promises: 0,
             reports: 0,
             proposed: 0,
             next: 0,
-            covered: [0; 4],
-            heard: [(NO_BALLOT, 0); 4],
+            covered: [0; 8],
+            heard: [(NO_BALLOT, 0); 8],
             learned: 0,
             applied: 0,
             taken: taken.saturating_add(1),
@@ -162,6 +174,7 @@ impl Voter {
         self.promised = self.ballot;
         self.role = Role::Preparing;
         self.counted = 0;
+        self.promises = 1;
         self.reports = self.votes;
         self.send(
             0,
@@ -283,7 +296,7 @@ impl Voter {
                 self.next = slot.saturating_add(1);
             }
         }
-        self.covered = [0; 4];
+        self.covered = [0; 8];
         for place in log.iter().take(usize::from(self.next)) {
             if let Some(covered) = self.covered.get_mut(usize::from(place.node)) {
                 *covered = (*covered).max(place.number);
@@ -306,17 +319,29 @@ impl Voter {
         if heard.0 == ballot {
             heard.1 |= slots;
         }
-        self.learn();
+        self.learn(ballot);
     }
 
-    // What two have voted for in one ballot is learned.
-    fn learn(&mut self) {
-        let [_, one, two, three] = self.heard;
-        for (first, second) in [(one, two), (one, three), (two, three)] {
-            if first.0 == second.0 {
-                self.learned |= first.1 & second.1;
+    // What a majority has voted for in this ballot is learned.
+    fn learn(&mut self, ballot: Ballot) {
+        // The slots that at least one node has voted for, at least two, three and four.
+        let mut one: u64 = 0;
+        let mut two: u64 = 0;
+        let mut three: u64 = 0;
+        let mut four: u64 = 0;
+        for (of, slots) in self.heard {
+            if of == ballot {
+                four |= three & slots;
+                three |= two & slots;
+                two |= one & slots;
+                one |= slots;
             }
         }
+        self.learned |= match majority_of(self.count) {
+            2 => two,
+            3 => three,
+            _ => four,
+        };
     }
 
     // What is learned is applied, slot by slot.
@@ -381,11 +406,15 @@ impl Voter {
     }
 
     fn on_promise(&mut self, log: &mut Log, from: u8, ballot: Ballot, votes: u64) -> Cost {
-        if self.role != Role::Preparing || self.ballot != ballot || self.counted == from {
+        if self.role != Role::Preparing || self.ballot != ballot || self.counted & bit(from) != 0 {
             return Cost::Little;
         }
-        self.counted = from;
+        self.counted |= bit(from);
+        self.promises = self.promises.saturating_add(1);
         self.reports |= votes;
+        if self.promises < majority_of(self.count) {
+            return Cost::Little;
+        }
         self.lead(log);
         Cost::Takeover
     }

@@ -7,14 +7,15 @@ use std::sync::Arc;
 /// The largest number of octets that one read takes.
 const ROOM: usize = 1 << 16;
 
-// What all connections of a porter share: a buffer to read into, a parser of messages, how many octets wait for their streams, and where their
-// node rests.
+// What all connections of a porter share: a buffer to read into, a parser of messages, how many octets wait for their streams, how many of
+// their requests wait for the node, and where the node rests.
 #[derive(Drop)]
 pub(crate) struct Buffers {
     pub alloc: Global,
     pub room: Vec<u8>,
     pub parser: Parser,
     pub waiting: usize,
+    pub requested: usize,
     pub lobby: Arc<Lobby, Global>,
 }
 
@@ -29,6 +30,7 @@ impl Buffers {
             room,
             parser: Parser::new(alloc),
             waiting: 0,
+            requested: 0,
             lobby,
         })
     }

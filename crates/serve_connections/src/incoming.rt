@@ -1,5 +1,8 @@
 // The way in of a connection: from the client's stream into the ring of its requests.
+use crate::backlog::{count, has_room};
 use crate::buffers::Buffers;
+use crate::due::{Course, ticks_left};
+use crate::lines::Cause;
 use crate::requests::RequestSender;
 use crate::shared::SharedConnection;
 use client_listener::{Inlet, ListenFault};
@@ -19,6 +22,11 @@ pub(crate) enum Inward {
 pub(crate) struct Incoming {
     inlet: Inlet,
     requests: RequestSender,
+    // How many octets were read since the ring was found empty.
+    octets: usize,
+    // How far what came has come in frames, and whether octets came since the ticks were counted last.
+    course: Course,
+    has_come: bool,
     // Whether something waits for room in the ring. At first that is `Connect`.
     is_full: bool,
     // Whether nothing more is read, and whether memory ran out, so that nothing more is put either.
@@ -33,6 +41,9 @@ impl Incoming {
         Incoming {
             inlet: Inlet::new(alloc),
             requests,
+            octets: 0,
+            course: Course::new(),
+            has_come: false,
             is_full: true,
             is_ended: false,
             is_lost: false,
@@ -43,6 +54,43 @@ impl Incoming {
     // Returns why nothing more comes, if the stream did not simply end.
     pub fn fault(&self) -> Option<ListenFault> {
         self.fault
+    }
+
+    // Returns how many octets are counted as waiting for the node.
+    pub fn octets(&self) -> usize {
+        self.octets
+    }
+
+    // Returns how many ticks are left to the client, which had so many.
+    pub fn ticks_left(&mut self, ticks: Option<u32>) -> Option<u32> {
+        let came = self.has_come;
+        self.has_come = false;
+        ticks_left(
+            self.course.has_spoken(),
+            self.course.is_within(),
+            came,
+            ticks,
+        )
+    }
+
+    // Returns what a client that is served owes if it has no ticks left: its first message, or the rest of a frame.
+    pub fn late(&self) -> Cause {
+        if self.course.has_spoken() {
+            Cause::NoMore
+        } else {
+            Cause::NoHello
+        }
+    }
+
+    // Counts the octets that wait, by whether the node has taken all that is in the ring.
+    pub fn count_waiting(&mut self, buffers: &mut Buffers) {
+        if self.octets > 0 {
+            let left = count(self.octets, self.requests.count_waiting());
+            buffers.requested = buffers
+                .requested
+                .saturating_sub(self.octets.saturating_sub(left));
+            self.octets = left;
+        }
     }
 
     // Returns whether something waits for room in the ring.
@@ -64,6 +112,9 @@ impl Incoming {
             self.is_ended = true;
         }
         if !self.is_ended && *is_readable {
+            if !has_room(self.octets, buffers.requested) {
+                return self.wait();
+            }
             *is_readable = self.read(shared, buffers);
             if !self.put(buffers) {
                 return self.wait();
@@ -115,6 +166,10 @@ impl Incoming {
                 false
             }
             Ok(count) => {
+                self.octets = self.octets.saturating_add(count);
+                self.has_come = true;
+                self.course.pass(&buffers.room.as_slice()[..count]);
+                buffers.requested = buffers.requested.saturating_add(count);
                 if let Err(fault) = self.inlet.feed(&buffers.room.as_slice()[..count]) {
                     self.fail(fault);
                 }

@@ -1,10 +1,13 @@
 //! The clients' TCP connections of a node: one thread, the porter, serves all of them, and each has two rings to and from the node's thread.
 #![tactic(auto)]
 
+mod backlog;
 mod bell;
 mod buffers;
 mod door;
+mod due;
 mod incoming;
+mod lines;
 mod lobby;
 mod node_connection;
 mod outgoing;

@@ -1,15 +1,16 @@
 // The porter: rests until something happens, accepts clients, and goes on with each of its connections.
+use crate::backlog::is_crowded;
 use crate::bell::Bell;
 use crate::buffers::Buffers;
 use crate::door::Door;
 use crate::incoming::Incoming;
+use crate::lines::{Cause, Lines};
 use crate::lobby::ConnectionPermit;
 use crate::node_connection::{Arrival, NodeConnection, SAYINGS_WAITING};
 use crate::outgoing::Outgoing;
 use crate::porter_connection::{Next, PorterConnection};
 use crate::requests::open_requests;
 use crate::shared::SharedConnection;
-use client_listener::ListenFault;
 use mio::event::Event;
 use mio::unix::SourceFd;
 use mio::{Events, Interest, Poll, Token};
@@ -17,7 +18,7 @@ use rtrb::{Producer, RingBuffer};
 use std::alloc::{AllocError, Global};
 use std::io;
 use std::io::ErrorKind;
-use std::net::{TcpListener, TcpStream};
+use std::net::{SocketAddr, TcpListener, TcpStream};
 use std::os::fd::AsRawFd;
 use std::sync::Arc;
 use std::time::{Clock, Duration, Instant};
@@ -45,7 +46,7 @@ const FULL_MILLIS: u64 = 1;
 // A node's porter: what one thread has of all of the node's connections.
 #[derive(Drop)]
 pub(crate) struct Porter {
-    node: u8,
+    lines: Lines,
     poll: Poll,
     events: Events,
     bell: Arc<Bell, Global>,
@@ -89,7 +90,7 @@ impl Porter {
         let events = Events::with_capacity(buffers.alloc, EVENTS).map_err(no_memory)?;
         let connections = Vec::new(buffers.alloc);
         Ok(Porter {
-            node,
+            lines: Lines::new(node),
             poll,
             events,
             bell,
@@ -137,7 +138,7 @@ impl Porter {
     }
 
     // Counts a tick, if ticks are counted and one has passed since the last.
-    fn tick<R: Clock>(&mut self, rt: &R) {
+    fn tick<R: Clock + Eprint>(&mut self, rt: &R) {
         if !self.is_timed {
             self.ticked = None;
             return;
@@ -158,6 +159,7 @@ impl Porter {
         for connection in &mut self.connections {
             connection.tick();
         }
+        self.lines.tick(rt);
     }
 
     // Accepts the clients that have connected, as long as there is room in the ring of arrivals.
@@ -167,12 +169,9 @@ impl Porter {
                 return;
             }
             match self.listener.accept() {
-                Ok((stream, _address)) => {
-                    if self.admit(stream).is_err() {
-                        let _told = eprintln!(rt;
-                            "node {}: a client was refused: out of memory",
-                            self.node
-                        );
+                Ok((stream, client)) => {
+                    if self.admit(stream, client).is_err() {
+                        self.lines.tell(rt, Cause::NoRoom, client);
                     }
                 }
                 Err(error) => {
@@ -184,10 +183,12 @@ impl Porter {
     }
 
     // Admits a client that has connected. If no permit is left, the client is refused once it has sent its handshake.
-    fn admit(&mut self, stream: TcpStream) -> io::Result<()> {
+    fn admit(&mut self, stream: TcpStream, client: SocketAddr) -> io::Result<()> {
         if self.arrivals.is_abandoned() || self.connections.len() >= MOST_PORTER_CONNECTIONS {
             return Ok(());
         }
+        // Once the node has its end, the connection must find its place: a client whose porter dropped it would wait in vain.
+        self.connections.reserve(1).map_err(no_memory)?;
         stream.set_nodelay(true)?;
         stream.set_nonblocking(true)?;
         let number = self.number;
@@ -197,7 +198,9 @@ impl Porter {
             .registry()
             .register(&mut SourceFd(&fd), Token(number), both)?;
         self.number = number.saturating_add(1);
-        let connection = self.open_connection(stream, number).map_err(no_memory)?;
+        let connection = self
+            .open_connection(stream, number, client)
+            .map_err(no_memory)?;
         self.connections.push(connection).map_err(no_memory)
     }
 
@@ -206,13 +209,14 @@ impl Porter {
         &mut self,
         stream: TcpStream,
         number: usize,
+        client: SocketAddr,
     ) -> Result<PorterConnection, AllocError> {
         let alloc = self.buffers.alloc;
         let bell = Arc::try_clone(&self.bell)?;
         let held = NodeConnection::over_shared(alloc, SharedConnection::new(stream, Some(bell)))?;
         let shared = held.shared()?;
         let Some(permit) = ConnectionPermit::take(&self.buffers.lobby)? else {
-            return Ok(PorterConnection::new(number, None, shared, None, None));
+            return Ok(PorterConnection::new(number, client, None, shared, None, None));
         };
         let (sender, requests) = open_requests(alloc)?;
         let (sayings, from_sayings) = RingBuffer::new(alloc, SAYINGS_WAITING)?;
@@ -227,20 +231,29 @@ impl Porter {
         self.buffers.lobby.stir();
         let incoming = Incoming::new(alloc, sender);
         let outgoing = Outgoing::new(alloc, from_sayings);
-        Ok(PorterConnection::new(number, Some(permit), shared, Some(incoming), Some(outgoing)))
+        Ok(PorterConnection::new(
+            number,
+            client,
+            Some(permit),
+            shared,
+            Some(incoming),
+            Some(outgoing),
+        ))
     }
 
-    // Goes on with each connection that something has happened to; with all of them if the node has rung.
+    // Goes on with each connection that something has happened to; with all of them if the node has rung, or as many octets of requests wait as
+    // may, so that those which the node has taken are no longer counted.
     fn advance_all<R: Eprint>(&mut self, rt: &R, is_rung: bool) {
         self.is_busy = self.is_called && !self.arrivals.is_full();
         self.is_soon = self.is_called;
-        self.is_timed = self.is_refused;
+        self.is_timed = self.is_refused || self.lines.is_timed();
+        let concerns_all = is_rung || is_crowded(self.buffers.requested);
         let mut at = 0;
         for _ in 0..self.connections.len() {
             let Some(connection) = self.connections.get_mut(at) else {
                 return;
             };
-            let next = if is_rung || connection.is_due() {
+            let next = if concerns_all || connection.is_due() {
                 connection.advance(&mut self.buffers)
             } else {
                 Next::Rest
@@ -257,7 +270,8 @@ impl Porter {
                     at = at.saturating_add(1);
                 }
                 Next::Gone => {
-                    report(rt, self.node, connection);
+                    report(rt, &mut self.lines, connection);
+                    self.is_timed = self.is_timed || self.lines.is_timed();
                     drop(self.connections.remove(at));
                 }
             }
@@ -294,20 +308,9 @@ fn note(connections: &mut Vec<PorterConnection>, number: usize, event: &Event) {
     }
 }
 
-// Reports why a client was refused or closed. A stream that failed is no such cause: the client is gone, or the node has released it.
-fn report<R: Eprint>(rt: &R, node: u8, connection: &PorterConnection) {
-    if connection.is_surplus() {
-        let _told = eprintln!(rt; "node {node}: a client was refused: 256 connections are open");
-        return;
+// Says why a client was refused or closed, if that is to be said.
+fn report<R: Eprint>(rt: &R, lines: &mut Lines, connection: &PorterConnection) {
+    if let Some(cause) = connection.cause() {
+        lines.tell(rt, cause, connection.client());
     }
-    let _told = match connection.fault() {
-        None | Some(ListenFault::Read | ListenFault::Write) => return,
-        Some(ListenFault::Handshake) => {
-            eprintln!(rt;
-                "node {node}: a client was refused: {}",
-                ListenFault::Handshake
-            )
-        }
-        Some(fault) => eprintln!(rt; "node {node}: a client is closed: {fault}"),
-    };
 }

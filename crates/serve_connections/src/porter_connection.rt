@@ -1,12 +1,14 @@
 // The porter's end of a client's connection, from the handshake to the end.
 use crate::buffers::Buffers;
 use crate::incoming::{Incoming, Inward};
+use crate::lines::Cause;
 use crate::lobby::ConnectionPermit;
 use crate::outgoing::{Outgoing, Outward};
 use crate::shared::SharedConnection;
 use client_listener::{ListenFault, answer_handshake};
 use std::alloc::Global;
 use std::io::{ErrorKind, Read};
+use std::net::SocketAddr;
 use std::sync::Arc;
 
 /// How many ticks of 100 ms a client has for its handshake; a client that was refused, to end the connection; and a client that is closed.
@@ -40,17 +42,22 @@ pub(crate) enum Next {
 #[derive(Drop)]
 pub(crate) struct PorterConnection {
     number: usize,
+    client: SocketAddr,
     permit: Option<ConnectionPermit>,
     shared: Arc<SharedConnection, Global>,
     stage: Stage,
     incoming: Option<Incoming>,
     outgoing: Option<Outgoing>,
     fault: Option<ListenFault>,
+    // Why it ran out of ticks, if it did once its client was served.
+    late: Option<Cause>,
     is_readable: bool,
     is_writable: bool,
     // Whether the stream has reported its end, which it may do before all that was sent is read.
     is_ending: bool,
     is_due: bool,
+    // How many octets of its requests are counted as waiting, once nothing more comes.
+    left_behind: usize,
     // How many ticks are left, if they are counted.
     ticks: Option<u32>,
 }
@@ -59,6 +66,7 @@ impl PorterConnection {
     // Returns a connection that came, with the ends of its rings if it got a permit.
     pub fn new(
         number: usize,
+        client: SocketAddr,
         permit: Option<ConnectionPermit>,
         shared: Arc<SharedConnection, Global>,
         incoming: Option<Incoming>,
@@ -66,6 +74,7 @@ impl PorterConnection {
     ) -> PorterConnection {
         PorterConnection {
             number,
+            client,
             permit,
             shared,
             stage: Stage::Greeting {
@@ -75,10 +84,12 @@ impl PorterConnection {
             incoming,
             outgoing,
             fault: None,
+            late: None,
             is_readable: true,
             is_writable: true,
             is_ending: false,
             is_due: true,
+            left_behind: 0,
             ticks: Some(GREETING_TICKS),
         }
     }
@@ -97,14 +108,23 @@ impl PorterConnection {
         self.ticks.is_some()
     }
 
-    // Returns whether it was refused because no permit was left.
-    pub fn is_surplus(&self) -> bool {
-        self.permit.is_none()
+    // Returns where its client is.
+    pub fn client(&self) -> SocketAddr {
+        self.client
     }
 
-    // Returns why it ended, if that is to be reported.
-    pub fn fault(&self) -> Option<ListenFault> {
-        self.fault
+    // Returns why it ended, if that is to be said. Without a permit it was refused.
+    pub fn cause(&self) -> Option<Cause> {
+        if self.permit.is_none() {
+            return Some(Cause::Full);
+        }
+        if self.late.is_some() {
+            return self.late;
+        }
+        match self.fault {
+            Some(fault) => Cause::of(fault),
+            None => None,
+        }
     }
 
     // Notes that the stream may have something to read, or room to write, or has reported its end.
@@ -125,6 +145,12 @@ impl PorterConnection {
             return;
         }
         self.ticks = None;
+        if matches!(self.stage, Stage::Open)
+            && self.outgoing.is_some()
+            && let Some(incoming) = &self.incoming
+        {
+            self.late = Some(incoming.late());
+        }
         self.shared.shut();
         self.on_ready(true, true, true);
     }
@@ -224,6 +250,7 @@ impl PorterConnection {
             self.shared.clear_slow(&buffers.lobby);
         }
         if self.incoming.is_none() && self.outgoing.is_none() {
+            buffers.requested = buffers.requested.saturating_sub(self.left_behind);
             return self.leave();
         }
         match (sent, received) {
@@ -262,11 +289,19 @@ impl PorterConnection {
         let Some(incoming) = &mut self.incoming else {
             return Next::Rest;
         };
+        incoming.count_waiting(buffers);
         if !self.is_readable && !incoming.is_full() && !self.shared.is_released() {
             return Next::Rest;
         }
         let came = incoming.advance(&self.shared, &mut self.is_readable, buffers);
         self.is_readable = self.is_readable || self.is_ending;
+        // A client that is closed has ticks of its own.
+        if self.outgoing.is_some() {
+            self.ticks = match came {
+                Inward::Put => incoming.ticks_left(self.ticks),
+                Inward::Full | Inward::Done => None,
+            };
+        }
         let next = match came {
             Inward::Put if self.is_readable => Next::Again,
             Inward::Put => Next::Rest,
@@ -276,6 +311,7 @@ impl PorterConnection {
             }
             Inward::Done => {
                 self.fault = incoming.fault().or(self.fault);
+                self.left_behind = incoming.octets();
                 drop(self.incoming.take());
                 Next::Rest
             }

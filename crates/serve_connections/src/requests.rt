@@ -1,5 +1,5 @@
 // The ring of a client's requests, and a second ring by which the porter shows the node which one was the last.
-ghost use Rattle.std.specs.Prelude.{◌≡◌, ◌++◌, ◌∷◌, [], ℕ, List, length, Ok, Some, false, IfOk, IfErr};
+ghost use Rattle.std.specs.Prelude.{◌≡◌, ◌<◌, ◌-◌, ◌++◌, ◌∷◌, [], ℕ, List, length, Ok, Some, false, IfOk, IfErr, MatchBool, MatchOption};
 ghost use Rattle.std.specs.Option.{ForSome};
 ghost use Rattle.std.specs.Bool.{OnTrue};
 ghost use Rattle.std.specs.declared.alloc.Global.{Global};
@@ -7,11 +7,11 @@ ghost use Rattle.rtrb.specs.declared.consumer.Consumer.{Consumer};
 ghost use Rattle.rtrb.specs.declared.AnyItems.{AnyItems};
 ghost use Rattle.rtrb.specs.Ring.{sent, received, known_free, known_items, IsPair, IsFinishedOf, SameProducer, SameConsumer};
 ghost use Rattle.client_listener.specs.Inlet.{Inflow, PutsOn};
-ghost use Rattle.client_listener.specs.declared.items.FromClient.TheVariants.{Hung};
+ghost use Rattle.client_listener.specs.declared.items.FromClient.TheVariants.{Connect, Ping, Hung};
 ghost use Rattle.serve_connections.specs.Handing.{MayCome};
 ghost use Rattle.serve_connections.specs.Requests.{HandsOver, IsHanded, Finds};
 
-use client_listener::{FromClient, Inlet, ListenFault, Parser};
+use client_listener::{Bytes, FromClient, Inlet, ListenFault, Parser};
 use rtrb::{Consumer, Finished, Producer, Protocol, RingBuffer};
 use std::alloc::{AllocError, Global};
 
@@ -102,6 +102,15 @@ impl RequestSender {
         inlet.hang(&mut self.ring)
     }
 
+    /// Returns how many requests wait in the ring.
+    pub fn count_waiting(&mut self) -> usize
+        ensures count { result ≡ 64 - known_free self.new.ring }
+        ensures sent { sent self.new.ring ≡ sent self.old.ring }
+        ensures ring { SameProducer self.old.ring self.new.ring }
+    {
+        REQUESTS_WAITING.saturating_sub(self.ring.slots())
+    }
+
     /// Returns whether the node's end was dropped.
     pub fn is_abandoned(&mut self) -> bool
         ensures sent { sent self.new.ring ≡ sent self.old.ring }
@@ -153,6 +162,44 @@ impl RequestReceiver {
         Found::Request(self.ring.pop_known())
     }
 
+    /// Returns whether the porter's end was dropped: nothing comes any more but what is in the ring.
+    pub fn is_abandoned(&mut self) -> bool
+        ensures received { received self.new.ring ≡ received self.old.ring }
+        ensures ring { SameConsumer self.old.ring self.new.ring }
+    {
+        self.ring.is_abandoned()
+    }
+
+    /// Takes the next request if it is there and is a Connect. Returns whether it is.
+    pub fn take_connect(&mut self) -> bool
+        ensures takes { MatchBool result (received self.new.ring ≡ received self.old.ring ++ Connect ∷ [])
+            (received self.new.ring ≡ received self.old.ring) }
+        ensures ring { SameConsumer self.old.ring self.new.ring }
+    {
+        if !is_connect_next(&mut self.ring) {
+            return false;
+        }
+        let FromClient::Connect = self.ring.pop_known() else {
+            unreachable!()
+        };
+        true
+    }
+
+    /// Takes the next request if it is there and is a PING. Returns its octets.
+    pub fn take_ping(&mut self) -> Option<Bytes>
+        ensures takes { MatchOption result (received self.new.ring ≡ received self.old.ring)
+            (λ payload. received self.new.ring ≡ received self.old.ring ++ Ping payload ∷ []) }
+        ensures ring { SameConsumer self.old.ring self.new.ring }
+    {
+        if !is_ping_next(&mut self.ring) {
+            return None;
+        }
+        let FromClient::Ping(payload) = self.ring.pop_known() else {
+            unreachable!()
+        };
+        Some(payload)
+    }
+
     // Takes what shows all that was put, if the porter has handed it over.
     fn take_last(&mut self)
         ensures { self.new.ring ≡ self.old.ring }
@@ -160,6 +207,38 @@ impl RequestReceiver {
         if self.last.is_none() {
             self.last = pop_last(&mut self.handed);
         }
+    }
+}
+
+// Returns whether the next request is there and is a Connect.
+fn is_connect_next(ring: &mut Consumer<FromClient>) -> bool
+    ensures some { OnTrue result (0 < length (known_items ring.new)) }
+    ensures next { OnTrue result ((rest : List FromClient) × (known_items ring.new ≡ Connect ∷ rest)) }
+    ensures received { received ring.new ≡ received ring.old }
+    ensures ring { SameConsumer ring.old ring.new }
+{
+    if ring.slots() == 0 {
+        return false;
+    }
+    match ring.peek_known() {
+        FromClient::Connect => true,
+        FromClient::Read(_) | FromClient::Ping(_) | FromClient::Hung => false,
+    }
+}
+
+// Returns whether the next request is there and is a PING.
+fn is_ping_next(ring: &mut Consumer<FromClient>) -> bool
+    ensures some { OnTrue result (0 < length (known_items ring.new)) }
+    ensures next { OnTrue result ((payload : List ℕ) × (rest : List FromClient) × (known_items ring.new ≡ Ping payload ∷ rest)) }
+    ensures received { received ring.new ≡ received ring.old }
+    ensures ring { SameConsumer ring.old ring.new }
+{
+    if ring.slots() == 0 {
+        return false;
+    }
+    match ring.peek_known() {
+        FromClient::Ping(_) => true,
+        FromClient::Connect | FromClient::Read(_) | FromClient::Hung => false,
     }
 }
 
