@@ -23,7 +23,9 @@ import time
 
 HERE = os.path.dirname(os.path.abspath(__file__))
 PROGRAM = os.environ.get("WAMPD", os.path.join(HERE, "..", "crates", "wampd", "out", "wampd"))
+# How many nodes a cluster has if no other number is given, and how many it has at the most.
 NODES = 3
+MOST_NODES = 7
 # Seconds to wait for one answer, and for a program to be up or to end.
 PATIENCE = 30
 PATIENCE_OF_RUNS = 60
@@ -36,6 +38,8 @@ NOTE = 0.01
 NAP = 0.002
 GREETING = bytes([0x7F, 0xF1, 0, 0])
 ANSWER = bytes([0x7F, 0xB1, 0, 0])
+# The answer of a node that has no room for one more connection.
+REFUSAL = bytes([0x7F, 0x40, 0, 0])
 # What may wait for a client at its node: octets, and then messages.
 OCTETS_WAITING = 1 << 20
 SAYINGS_WAITING = 1024
@@ -44,6 +48,14 @@ ROLES = {"publisher": {}, "subscriber": {}, "caller": {}, "callee": {}}
 
 class Fault(Exception):
     """What a test found."""
+
+
+class Refused(Fault):
+    """A node has no room for one more connection."""
+
+
+class Closed(Fault):
+    """A connection ended where more was due."""
 
 
 def hold(holds, what):
@@ -100,6 +112,9 @@ class Client:
         self.stream = opened(port, receive_buffer, patience)
         self.stream.sendall(greeting)
         answer = self.octets(4)
+        if answer == REFUSAL:
+            self.stream.close()
+            raise Refused("a node has no room for one more connection")
         hold(answer == ANSWER, f"the handshake is answered by {answer.hex(' ')}")
         self.request = 0
 
@@ -212,17 +227,25 @@ class Client:
 
 def welcomed(port, limit, begin=None):
     """Waits until a client is welcomed at this port. Returns the seconds from `begin` (by default now) until then, or None after `limit`
-    seconds. If a connection is refused or ends before, tries another one."""
+    seconds. Where nobody listens yet, or the node has no room, tries again; whatever else keeps a client from its WELCOME is a fault, and
+    Closed if its connection ends."""
     begin = begin or time.monotonic()
     while (left := begin + limit - time.monotonic()) > 0:
+        client = None
         try:
             client = Client(port, patience=left)
             client.stream.settimeout(max(0.001, begin + limit - time.monotonic()))
             client.join()
-            client.close()
             return time.monotonic() - begin
-        except (OSError, EOFError, Fault):
+        except (ConnectionRefusedError, Refused):
             time.sleep(0.005)
+        except TimeoutError:
+            break
+        except (OSError, EOFError) as error:
+            raise Closed(f"a client that waits for its WELCOME is closed: {error}") from None
+        finally:
+            if client:
+                client.close()
     return None
 
 
@@ -234,17 +257,17 @@ GIVEN_OUT = collections.deque(maxlen=64)
 GIVING_OUT = threading.Lock()
 
 
-def free_port():
+def free_port(nodes=NODES):
     """Returns the first of as many free ports as there are nodes, below those that the system hands out. Threads that call it at the same
-    time get different ones."""
+    time get ports that are not each other's."""
     for _ in range(1000):
-        port = random.randrange(10000, 32000, NODES)
+        port = random.randrange(10000, 32000, MOST_NODES)
         with GIVING_OUT:
             if port in GIVEN_OUT:
                 continue
             GIVEN_OUT.append(port)
         try:
-            for below in range(NODES):
+            for below in range(nodes):
                 with socket.socket() as probe:
                     probe.bind(("127.0.0.1", port + below))
             return port
@@ -258,17 +281,18 @@ class Cluster:
 
     running = []
 
-    def __init__(self, *options, port=None, words=None, environment=None):
-        self.port = port or free_port()
+    def __init__(self, *options, nodes=NODES, port=None, words=None, environment=None):
+        self.nodes = nodes
+        self.port = port or free_port(nodes)
         self.errors = tempfile.NamedTemporaryFile("a")
-        words = words or [PROGRAM, "serve", "--nodes", str(NODES), "--port", str(self.port), "--key", "1", *options]
+        words = words or [PROGRAM, "serve", "--nodes", str(nodes), "--port", str(self.port), "--key", "1", *options]
         given = {**os.environ, **(environment or {})}
         self.child = subprocess.Popen(words, stdin=subprocess.PIPE, stdout=subprocess.PIPE, stderr=self.errors, env=given)
         Cluster.running.append(self)
 
     def up(self):
         """Waits until each node has said that it listens."""
-        want = "".join(f"node {node + 1} listens on 127.0.0.1:{self.port + node}\n" for node in range(NODES))
+        want = "".join(f"node {node + 1} listens on 127.0.0.1:{self.port + node}\n" for node in range(self.nodes))
         got = b""
         until = time.monotonic() + PATIENCE_OF_RUNS
         while len(got) < len(want) and time.monotonic() < until:
@@ -296,7 +320,7 @@ class Cluster:
         up = None
         while time.monotonic() < until:
             lines = self.told()
-            if up is None and len(re.findall(r"^node \d is up in boot", lines, re.M)) == NODES:
+            if up is None and len(re.findall(r"^node \d is up in boot", lines, re.M)) == self.nodes:
                 up = time.monotonic()
             if up is not None and " leads\n" in lines:
                 return time.monotonic() - up
@@ -308,19 +332,20 @@ class Cluster:
 
     def clients(self):
         """Returns a client of each node, all of them joined."""
-        clients = [self.client(node + 1) for node in range(NODES)]
+        clients = [self.client(node + 1) for node in range(self.nodes)]
         for client in clients:
             client.join()
         return clients
 
-    def ports(self, count, nodes=range(1, NODES + 1)):
-        """Returns the ports for this many clients, spread over these nodes."""
+    def ports(self, count, nodes=None):
+        """Returns the ports for this many clients, spread over these nodes, or over all."""
+        nodes = nodes or range(1, self.nodes + 1)
         return [self.port + nodes[at % len(nodes)] - 1 for at in range(count)]
 
     def welcomes(self, limit, begin=None):
         """Returns for each node the seconds from `begin` until a client is welcomed at it, or None after `limit` seconds."""
         begin = begin or time.monotonic()
-        answers = [in_thread(welcomed, self.port + node, limit, begin) for node in range(NODES)]
+        answers = [in_thread(welcomed, self.port + node, limit, begin) for node in range(self.nodes)]
         return [answer(2 * limit) for answer in answers]
 
     def node_threads(self):
@@ -329,10 +354,10 @@ class Cluster:
         node answers no PING and its porter answers a handshake, and the other nodes answer."""
         folder = f"/proc/{self.child.pid}/task"
         until = time.monotonic() + PATIENCE
-        while len(os.listdir(folder)) < 2 * NODES + 2:
+        while len(os.listdir(folder)) < 2 * self.nodes + 2:
             hold(time.monotonic() < until, f"it has {len(os.listdir(folder))} threads")
             time.sleep(0.01)
-        threads = dict(enumerate(map(int, os.listdir(folder)[: -NODES - 1 : -1]), 1))
+        threads = dict(enumerate(map(int, os.listdir(folder)[: -self.nodes - 1 : -1]), 1))
         clients = self.clients()
         for node, thread in threads.items():
             with held(thread):
@@ -770,9 +795,9 @@ class Reader:
         return all(self.counts[publisher] >= total for publisher, total in enumerate(totals))
 
 
-def work_read(port, topic="test.topic", limit=PATIENCE):
-    """Runs a Reader. A line on its input gives the number of publications of each publisher. It says what it saw once it has had them all,
-    or after `limit` seconds, or at once if it is closed."""
+def work_read(port, topic="test.topic", limit=PATIENCE, nap=NAP):
+    """Runs a Reader, which rests for `nap` seconds after each read. A line on its input gives the number of publications of each publisher. It
+    says what it saw once it has had them all, or after `limit` seconds, or at once if it is closed."""
     reader = Reader(port, topic)
     say("ready")
     totals, until, is_closed = None, None, False
@@ -786,11 +811,36 @@ def work_read(port, topic="test.topic", limit=PATIENCE):
         if reader.stream in ready and not reader.take():
             is_closed = True
             break
-        time.sleep(NAP)
+        time.sleep(nap)
     say({"counts": reader.counts, "wrong": reader.wrong, "closed": is_closed})
 
 
-WORKS = {"publish": work_publish, "read": work_read}
+def work_call(callers, callees, octets=32, pause=0, limit=PATIENCE):
+    """Has a caller at each of the first ports call a callee at the second one in its place, one after another, from the first line on until
+    the next. Each call has a number and `octets` letters, which its result has to have, too. It says how many calls were made, and how long
+    each took."""
+    pairs = []
+    for at, (from_port, to_port) in enumerate(zip(callers, callees)):
+        caller, callee = Client(from_port, patience=limit), Client(to_port, patience=limit)
+        caller.join()
+        callee.join()
+        callee.register(f"test.called{at}")
+        pairs.append((caller, callee, f"test.called{at}"))
+    say("ready")
+    if not sys.stdin.buffer.readline():
+        return
+    took = []
+    while not select.select([sys.stdin], [], [], pause)[0]:
+        for caller, callee, procedure in pairs:
+            begin, args = time.monotonic(), [len(took), "x" * octets]
+            request = caller.call(procedure, *args)
+            callee.answer_calls(1)
+            caller.hear(50, request, {}, args)
+            took.append(time.monotonic() - begin)
+    say({"done": len(took), "took": took})
+
+
+WORKS = {"publish": work_publish, "read": work_read, "call": work_call}
 
 
 # ---- programs
