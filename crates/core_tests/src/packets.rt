@@ -182,7 +182,7 @@ fn promise_above<B>(rt: &impl Abort, alloc: Global, floor: u64) -> Kind<B> {
     }
 }
 
-// A Snapshot with this floor, and one octet behind it.
+// A Snapshot with this floor, and one octet after it.
 fn snapshot_with<B>(rt: &impl Abort, alloc: Global, floor: u8, octet: u8) -> Kind<B> {
     let octets = [0, 0, 0, 0, 0, 0, 0, floor, octet];
     Kind::Snapshot {

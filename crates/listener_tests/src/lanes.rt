@@ -140,7 +140,7 @@ fn a_reader_waits_for_room_and_goes_on(rt: HostRuntime) {
     house.close(&rt);
 }
 
-// Waits until a client's ring is full, ten seconds at the most. Returns how many items are there.
+// Waits until a client's ring is full, at most ten seconds. Returns how many items are there.
 fn fills<R: Clock>(rt: &R, arrival: &mut Guest) -> usize {
     for _ in 0..1_000 {
         if arrival.requests.count_waiting() == REQUESTS_WAITING {
@@ -161,7 +161,7 @@ fn sends_long_pings(rt: &impl Abort, alloc: Global, client: &mut TcpStream, time
     drop(payload);
 }
 
-// Waits until so many items are in a client's ring, ten seconds at the most, and then for as long as more could come. Returns how many are
+// Waits until so many items are in a client's ring, at most ten seconds, and then for as long as more could come. Returns how many are
 // there.
 fn stops_at<R: Clock>(rt: &R, arrival: &mut Guest, least: usize) -> usize {
     for _ in 0..1_000 {

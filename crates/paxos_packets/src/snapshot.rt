@@ -1,3 +1,5 @@
+//! Snapshots: octets that stand for a log up to the floor that they begin with.
+
 ghost use Rattle.std.specs.Prelude.{◌≡◌, IfOk, IfSome};
 ghost use Rattle.paxos_packets.specs.Snapshot.{floor_at, snapshot_of, Begins, same_snapshot, snapshot_same, snapshot_sound};
 
