@@ -1,11 +1,12 @@
 -- What an actor is made of, as callers see it (docs/CONSENSUS.md, "A node with its store").
-use Rattle.std.specs.Prelude.{◌≡◌, ℕ, Bool, true, false, Option, Some, None, List, [], ◌++◌}
+use Rattle.std.specs.Prelude.{◌≡◌, ℕ, ◌-◌, Bool, true, false, Option, Some, None, List, [], ◌++◌, length, slice_get}
 use Rattle.paxos_packets.specs.Members.{IsMember}
 use Rattle.paxos_packets.specs.declared.rows.Rows.{Rows}
 use Rattle.replica_machine.specs.Log.{LogState, first_log}
 use Rattle.paxos_node.specs.declared.event.Event.{Event}
 use Rattle.paxos_node.specs.declared.outcome.Outcome.{Outcome}
-use Rattle.paxos_planning.specs.Node.{NodeState}
+use Rattle.paxos_packets.specs.declared.vote.Vote.{Vote}
+use Rattle.paxos_planning.specs.Node.{NodeState, log_length}
 use Rattle.paxos_node.specs.Held.{Held}
 use Rattle.paxos_node.specs.Plans.{plans}
 use Rattle.paxos_node.specs.Adopting.{Planned}
@@ -33,6 +34,18 @@ first_parts h keeper w machine =
       failed = None;
       spoiled = false;
     }
+
+-- the slot of the last of these votes, 0 if there is none
+abbrev pub slot_of : {B : Type 0} → Option (Vote B) → ℕ
+slot_of None = 0
+slot_of (Some vote) = vote.slot
+
+abbrev pub last_slot : {B : Type 0} → List (Vote B) → ℕ
+last_slot votes = slot_of (slice_get votes (length votes - 1))
+
+-- how many slots there are after a node's log up to the last one that it voted in
+abbrev pub open_slots : {B : Type 0} → NodeState B → ℕ
+open_slots x = last_slot x.rows.votes - log_length x
 
 -- the list begins with these
 abbrev pub IsPrefixOf : {A : Type 0} → List A → List A → Type 0

@@ -10,7 +10,7 @@ ghost use Rattle.paxos_node.specs.Plans.{plans, unchanged, Answers};
 ghost use Rattle.paxos_proposer.specs.Proposer.{is_leading};
 ghost use Rattle.actor_outboxes.specs.Outboxes.{HasLimits, IsPeer, TakenFor, WaitsFirst, most_waiting, waiting};
 ghost use Rattle.replica_machine.specs.Log.{Follows};
-ghost use Rattle.actor_parts.specs.Parts.{Parted, IsPrefixOf, first_parts};
+ghost use Rattle.actor_parts.specs.Parts.{Parted, IsPrefixOf, first_parts, open_slots};
 ghost use Rattle.actor_parts.specs.Steps.{IsAtEnd, Applied, Falls, OnlyNode, OnlyKeeper, OnlyLog, OnlyWaiting, Adopts};
 ghost use Rattle.paxos_planning.specs.Node.{log_length};
 
@@ -148,6 +148,17 @@ impl<M: Machine, K: Keeper<M::Body>> Parts<M, K> {
         ensures { result ≡ self.now.node.state.rows.promised }
     {
         self.node.promised()
+    }
+
+    /// Returns how many slots there are after its node's log up to the last one that the node voted in. Takes constant time.
+    pub fn open_slots(&self) -> u64
+        ensures { result ≡ open_slots self.now.node.state }
+    {
+        let applied = self.node.applied();
+        match self.node.votes().last() {
+            Some(vote) => vote.slot.get().saturating_sub(applied),
+            None => 0,
+        }
     }
 
     /// Returns how many commits were made.

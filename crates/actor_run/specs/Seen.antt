@@ -2,6 +2,7 @@
 use Rattle.std.specs.Prelude.{◌≡◌, ℕ, nat_lt, min, List, [], ◌∷◌, length}
 use Rattle.paxos_proposer.specs.Proposer.{is_leading}
 use Rattle.actor_outboxes.specs.Outboxes.{Waiting, waiting}
+use Rattle.actor_parts.specs.Parts.{open_slots}
 use Rattle.node_actor.specs.Actor.{Acting}
 use Rattle.actor_run.specs.declared.feed.Seen.{Seen}
 use Rattle.paxos_planning.specs.Node.{log_length}
@@ -24,3 +25,4 @@ pub record Shows {B M K : Type 0} (a : Acting B M K) (s : Seen) : Type 0 where
   pub waits : s.waiting ≡ counts a.waiting
   pub leads : s.leads ≡ is_leading a.node.state.proposer.role
   pub promised : s.promised ≡ a.node.state.rows.promised
+  pub slots : s.open_slots ≡ open_slots a.node.state

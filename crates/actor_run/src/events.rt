@@ -51,6 +51,7 @@ fn seen_by<M: Machine, K: Keeper<M::Body>>(actor: &Actor<M, K>) -> Seen
         commits: actor.commits(),
         leads: actor.is_leading(),
         promised: actor.promised(),
+        open_slots: actor.open_slots(),
     }
 }
 

@@ -28,6 +28,8 @@ pub struct Seen {
     pub leads: bool,
     /// The greatest ballot that the node has promised, if any.
     pub promised: Option<Ballot>,
+    /// How many slots there are after the node's log up to the last one that it voted in.
+    pub open_slots: u64,
 }
 
 /// Where the events of a node come from, and its sayings go.

@@ -5,7 +5,7 @@ ghost use Rattle.paxos_node.specs.declared.event.Event.TheVariants.{Take, Tick, 
 ghost use Rattle.paxos_proposer.specs.Proposer.{is_leading};
 ghost use Rattle.replica_machine.specs.Log.{IsLogOf};
 ghost use Rattle.actor_parts.specs.declared.fault.ActorFault.TheVariants.{Failed};
-ghost use Rattle.actor_parts.specs.Parts.{IsPrefixOf, IsSound};
+ghost use Rattle.actor_parts.specs.Parts.{IsPrefixOf, IsSound, open_slots};
 ghost use Rattle.node_actor.specs.Posts.{LeftOf};
 ghost use Rattle.actor_outboxes.specs.Outboxes.{waiting};
 ghost use Rattle.mail_table.specs.Seats.{Owns};
@@ -246,6 +246,14 @@ impl<M: Machine, K: Keeper<M::Body>> Actor<M, K> {
         ensures { result ≡ self.now.node.state.rows.promised }
     {
         self.parts.promised()
+    }
+
+    /// Returns how many slots there are after its node's log up to the last one that the node voted in: as many as a ballot takes over that
+    /// the node promises, if its owner's log is as long. Takes constant time.
+    pub fn open_slots(&self) -> u64
+        ensures { result ≡ open_slots self.now.node.state }
+    {
+        self.parts.open_slots()
     }
 
     /// Returns how many commits the node has made in its store in this boot.

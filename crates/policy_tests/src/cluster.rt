@@ -387,6 +387,38 @@ impl Cluster {
         self.found()
     }
 
+    // Plays until a ballot is begun, for this long at the most. Returns whose it is.
+    pub fn play_to_ballot(&mut self, longest: u64) -> Option<u8> {
+        let (ballots, end) = (self.ballots, self.now.saturating_add(longest));
+        for _ in 0..u64::MAX {
+            let (node, at) = self.next();
+            if at > end {
+                return None;
+            }
+            self.now = self.now.max(at);
+            self.round(node);
+            if self.ballots != ballots {
+                return Some(node);
+            }
+        }
+        None
+    }
+
+    // Plays until the node has taken its next turn, in which it posts what waits. Then it stands still for good.
+    pub fn halt(&mut self, node: u8) {
+        for _ in 0..u64::MAX {
+            let (next, at) = self.next();
+            self.now = self.now.max(at);
+            self.round(next);
+            if next == node {
+                break;
+            }
+        }
+        if let Some(node) = self.nodes.get_mut(place(node)) {
+            node.still = u64::MAX;
+        }
+    }
+
     // From now on clients do this many acts more, this many at a time at each node.
     pub fn act_on(&mut self, acts: u8, under_way: [u8; 7]) {
         self.clients.acts = acts;

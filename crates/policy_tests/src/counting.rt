@@ -141,6 +141,19 @@ fn sixty_four_entries_that_were_told_make_a_tick_due(rt: HostRuntime) {
     }
 }
 
+#[test]
+fn a_full_answer_is_followed_up_while_another_node_takes_packets_unless_the_node_leads(
+    rt: HostRuntime,
+) {
+    for owner in [1, 2] {
+        let mut ticks = Ticks::new(2, three(&rt), true);
+        ticks.count(packet_of(1, Sign::AtWork { owner }, 0));
+        ticks.count(packet_of(1, Sign::Told, 64));
+        check_eq!(&rt; ticks.next(false, 0) == Some(Due::Tick), owner == 1, owner);
+        check_eq!(&rt; ticks.next(true, 0) == Some(Due::Tick), owner == 2, owner);
+    }
+}
+
 // A node, and after how many beats its ballots come while nothing moves.
 const PATIENCE: &[(u8, [u64; 5])] = &[
     (2, [608, 1216, 2432, 4864, 4864]),
@@ -176,7 +189,31 @@ const MOVES: &[(bool, Sign, Option<u64>)] = &[
     (true, Sign::Told, Some(108)),
     (true, Sign::AtWork { owner: 3 }, Some(608)),
     (true, Sign::AtWork { owner: 2 }, Some(608)),
-    (true, Sign::Prepared { owner: 3 }, Some(4864)),
+    (
+        true,
+        Sign::Prepared {
+            owner: 3,
+            slots: 31,
+        },
+        Some(608),
+    ),
+    (
+        true,
+        Sign::Prepared {
+            owner: 3,
+            slots: 32,
+        },
+        Some(609),
+    ),
+    // Two seconds and a half of patience are enough for 20,000 slots, which take up to half a second.
+    (
+        true,
+        Sign::Prepared {
+            owner: 3,
+            slots: 20_000,
+        },
+        Some(1233),
+    ),
     (false, Sign::Nothing, None),
 ];
 
@@ -190,6 +227,26 @@ fn a_ballot_at_work_puts_patience_off(rt: HostRuntime) {
         ticks.count(packet_of(3, sign, 0));
         check_eq!(&rt; beats_to_start(&rt, &mut ticks, 6000, turn), wait, *row);
     }
+}
+
+// After how many times five beats the ballots of node 2 come, if another node's ballot that takes over 64 slots is prepared each time.
+const PREPARED: &[u64] = &[122, 244, 488, 976, 1952, 3904, 7808, 15_616, 31_232, 31_232];
+
+#[test]
+fn patience_with_a_takeover_doubles_eight_times(rt: HostRuntime) {
+    let mut ticks = Ticks::new(2, three(&rt), true);
+    let mut turn = rest_of(0, true);
+    turn.beats = 5;
+    let prepared = Sign::Prepared {
+        owner: 3,
+        slots: 64,
+    };
+    for wait in PREPARED {
+        ticks.count(packet_of(3, prepared, 0));
+        check_eq!(&rt; beats_to_start(&rt, &mut ticks, 100_000, turn), Some(*wait));
+    }
+    // The node's own ballots are not waited for as long.
+    check_eq!(&rt; beats_to_start(&rt, &mut ticks, 100_000, rest_of(0, true)), Some(4864));
 }
 
 // Whether a ballot is due as soon as one of this owner has refused the node's own.

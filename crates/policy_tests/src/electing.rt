@@ -1,7 +1,8 @@
 // Three, five and seven nodes that go by the real rules of time, over schedules that are drawn from seeds: after the last disturbance one of
 // them comes to lead, for good.
 use crate::check::Check;
-use crate::schedules::{draw_cluster, draw_slow};
+use crate::schedules::{LONG_HISTORY, draw_calm, draw_cluster, draw_long, draw_slow};
+use crate::voter::majority_of;
 use paxos_packets::Members;
 use std::alloc::Global;
 use std::panic::Expect;
@@ -10,7 +11,7 @@ use test_checks::check;
 
 // Within how many microseconds after the last disturbance one node leads: 12,000 beats. A takeover and the votes for what it proposes take 3,000
 // beats together at the most, and where commits are slow a dozen commits more, which are 500 beats. A patience is longer than that after two
-// ballots in vain, and while a ballot is prepared, so few are cut short.
+// ballots in vain, and mostly while a ballot is prepared, so few are cut short.
 const BOUND: u64 = 24_000_000;
 
 // How long a schedule may go on after the last disturbance: the bound, and what follows it.
@@ -146,4 +147,77 @@ fn one_of_seven_nodes_leads_for_good_with_slow_commits_from_schedule_0(rt: HostR
 #[test]
 fn one_of_seven_nodes_leads_for_good_with_slow_commits_from_schedule_150(rt: HostRuntime) {
     settles(&rt, rt.alloc(), 7, true, 150, 300);
+}
+
+// How long a takeover takes at the least, of as many entries as take 20 microseconds each where nothing else runs.
+const SECONDS: [u64; 3] = [10, 30, 100];
+
+// After how many ballots one leads that way: each is waited for, but old promises refuse some, after a takeover in vain.
+const FEW_BALLOTS: u64 = 8;
+
+// The same where the count says nothing, since a machine is far slower than others: each node doubles its patience, from one second until
+// it is longer than a takeover.
+const MANY_BALLOTS: u64 = 48;
+
+// How many times as long as the shortest takeover a play may take.
+const LONG_PLAY: u64 = 60;
+
+// One node leads for good after at most this many ballots, where a takeover takes this long and a node counts all entries of it or none.
+fn leads_after(rt: &impl Abort, alloc: Global, seconds: u64, is_counted: bool, most: u64) {
+    let members = Members::new(3).expect(rt, "three members");
+    let takeover = seconds.saturating_mul(1_000_000);
+    let entries = if is_counted {
+        u32::try_from(takeover / 20 / u64::from(LONG_HISTORY)).unwrap_or(u32::MAX)
+    } else {
+        0
+    };
+    for seed in 0..10u64 {
+        let mut cluster = draw_long(alloc, members, seed, takeover, entries);
+        let found = cluster.play(alloc, takeover.saturating_mul(LONG_PLAY));
+        drop(cluster);
+        check!(rt; found.ballots <= most, (seed, seconds, found));
+        check!(rt; found.leaders == 1 && found.is_level, (seed, seconds, found));
+    }
+}
+
+#[test]
+fn one_node_leads_after_few_ballots_where_a_takeover_takes_10_seconds_and_more(rt: HostRuntime) {
+    for seconds in SECONDS {
+        leads_after(&rt, rt.alloc(), seconds, true, FEW_BALLOTS);
+    }
+}
+
+#[test]
+fn one_node_leads_where_a_takeover_is_far_longer_than_its_count_says(rt: HostRuntime) {
+    for seconds in SECONDS {
+        leads_after(&rt, rt.alloc(), seconds, false, MANY_BALLOTS);
+    }
+}
+
+// Within how many microseconds after the Prepare of a node that then stands still another one begins a ballot, where logs are short.
+const SOON: u64 = 2_000_000;
+
+// As many nodes as leave a majority of the others stand still, each after its Prepare; another one begins a ballot soon.
+fn begins_soon(rt: &impl Abort, alloc: Global, count: u8) {
+    let members = Members::new(count).expect(rt, "three to seven members");
+    for seed in 0..20u64 {
+        let mut cluster = draw_calm(alloc, members, seed, [0; 7], 0);
+        let mut owner = cluster.play_to_ballot(SOON);
+        for _ in majority_of(count)..count {
+            let Some(node) = owner else {
+                break;
+            };
+            cluster.halt(node);
+            owner = cluster.play_to_ballot(SOON);
+        }
+        drop(cluster);
+        check!(rt; owner.is_some(), (count, seed));
+    }
+}
+
+#[test]
+fn a_ballot_is_begun_soon_after_nodes_stand_still_that_prepared_one(rt: HostRuntime) {
+    for count in [3, 5, 7] {
+        begins_soon(&rt, rt.alloc(), count);
+    }
 }

@@ -1,6 +1,8 @@
 // For how many beats acts and ticks are held back for another node.
 use crate::check::Check;
-use serve_policy::{Backpressure, Draining, Gaining};
+use paxos_packets::Members;
+use serve_policy::{Backpressure, Draining, Due, Gaining, Sign, Ticks, Turn};
+use std::panic::Expect;
 use std::process::Abort;
 use test_checks::check_eq;
 
@@ -68,6 +70,54 @@ fn ticks_wait_40_beats_after_the_last_packet_that_a_node_took(rt: HostRuntime) {
 #[test]
 fn ticks_wait_four_commits_more_where_commits_are_slow(rt: HostRuntime) {
     drains(&rt, SLOW_DRAINING, 25);
+}
+
+// How many beats a commit takes; each how many beats a node takes one of many packets that wait for it; and how many ticks come in 5,000
+// beats.
+const CRAWLING: &[(u8, u64, u64)] = &[
+    // It takes packets, slowly or fast.
+    (0, 1, 9),
+    (0, 39, 9),
+    (25, 39, 3),
+    // In the 40 beats after each packet no tick comes, and then four do.
+    (0, 60, 332),
+];
+
+// How many turns without a packet end the beats that are due.
+const TURNS: u64 = 64;
+
+// A beat of a node that has nothing to do ends.
+fn pass(ticks: &mut Ticks) {
+    let turn = Turn {
+        from: None,
+        sign: Sign::Nothing,
+        applied: 0,
+        is_pending: false,
+        beats: 1,
+    };
+    for _ in 0..TURNS {
+        ticks.count(turn);
+    }
+}
+
+#[test]
+fn a_node_that_crawls_holds_no_tick_back_for_longer_than_512_beats(rt: HostRuntime) {
+    for row in CRAWLING {
+        let (commit, each, wanted) = *row;
+        let members = Members::new(3).expect(&rt, "three members");
+        let mut ticks = Ticks::new(2, members, true);
+        let mut draining = Draining::new();
+        let mut count: u64 = 0;
+        for _ in 0..5_000u64 {
+            pass(&mut ticks);
+            let beat = ticks.beats();
+            let holds = draining.holds(beat, 4096, beat % each == 0, commit);
+            if ticks.next(!holds, commit) == Some(Due::Tick) {
+                count = count.saturating_add(1);
+            }
+        }
+        check_eq!(&rt; count, wanted, *row);
+    }
 }
 
 // From which slot on a node asks, of one whose log is how long, if it asks; at which beat; and whether acts are held back then.

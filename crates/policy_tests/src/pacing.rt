@@ -1,6 +1,6 @@
 // How time becomes beats, how many acts a node gives, and which of its clients it waits for.
 use crate::check::Check;
-use serve_policy::{Admission, Passed, Reader, beats_due, left_to_wait};
+use serve_policy::{Admission, Passed, Reader, beats_due, left_of_waits, left_to_wait};
 use test_checks::{check, check_eq};
 
 // Beats that are due, of which none was skipped.
@@ -85,6 +85,56 @@ fn waits_for_slow_clients_for_80_milliseconds(rt: HostRuntime) {
     check_eq!(&rt; left_to_wait(u64::MAX), 0);
 }
 
+// How many microseconds have passed since the last wait, for how many the node has waited, and how many of these count.
+const WAITS: &[(u64, u64, u64)] = &[
+    (0, 80_000, 80_000),
+    (24, 80_000, 80_000),
+    (25, 80_000, 79_998),
+    (500_000, 80_000, 40_000),
+    (999_999, 80_000, 2),
+    (1_000_000, 80_000, 0),
+    (u64::MAX, 80_000, 0),
+];
+
+#[test]
+fn waits_for_80_milliseconds_of_a_second(rt: HostRuntime) {
+    for row in WAITS {
+        let (passed, waited, wanted) = *row;
+        check_eq!(&rt; left_of_waits(passed, waited), wanted, *row);
+    }
+}
+
+// How long a wait takes at the least if a client slows its node down for as long as it may.
+const WAIT: u64 = 1_000;
+
+// Of how many microseconds of ten seconds a node waits, if a client is slow again this long after each wait.
+fn waits_in_all(between: u64) -> u64 {
+    let mut now: u64 = 0;
+    let mut counts: u64 = 0;
+    let mut waited: u64 = 0;
+    let mut passed: u64 = 0;
+    for _ in 0..20_000u64 {
+        if now >= 10_000_000 {
+            break;
+        }
+        counts = left_of_waits(passed, counts);
+        let micros = left_to_wait(counts);
+        counts = counts.saturating_add(micros);
+        waited = waited.saturating_add(micros);
+        passed = between.max(WAIT);
+        now = now.saturating_add(micros).saturating_add(passed);
+    }
+    waited
+}
+
+#[test]
+fn a_client_that_reads_in_bursts_costs_at_most_a_twelfth_of_the_time(rt: HostRuntime) {
+    for between in [0u64, 1_000, 20_000, 100_000, 920_000, 2_000_000] {
+        let waited = waits_in_all(between);
+        check!(&rt; waited <= 880_000, (between, waited));
+    }
+}
+
 // Whether the node leads, how many beats a commit takes, and how many acts may be under way.
 const ACTS: &[(bool, u8, u32)] = &[
     (true, 0, 1000),
@@ -119,9 +169,11 @@ const ROOM: &[(usize, bool, bool)] = &[
     (256, true, false),
     (0, true, true),
     (0, false, false),
-    (511, false, false),
-    (256, false, false),
     (512, false, false),
+    (256, false, false),
+    (959, false, false),
+    (256, false, false),
+    (960, false, false),
     (256, true, false),
 ];
 

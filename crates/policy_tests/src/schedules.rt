@@ -18,6 +18,15 @@ const TAKEOVERS: [u64; 5] = [1_000, 50_000, 300_000, 1_000_000, 3_000_000];
 // What holds for each node of a schedule, by place; there are at most seven.
 pub type Each<T> = [T; 7];
 
+// How many microseconds an entry of the history takes: where nothing else runs it is 20, and each is waited for as if it were 62.
+const ENTRIES: [u64; 4] = [10, 20, 60, 200];
+
+// How many slots a long history has.
+pub const LONG_HISTORY: u8 = 4;
+
+// How long the votes for the entries of a long history take that a slot of it stands for: they come one by one, so no other is waited for.
+const LONG_VOTE: u64 = 100_000;
+
 // A promise of an earlier boot, or none.
 fn draw_promise(draws: &mut Draws, count: u8) -> Ballot {
     if draws.is_one_in(3) {
@@ -98,6 +107,13 @@ fn draw_weight(draws: &mut Draws) -> usize {
     let weights: [usize; 8] = [1, 2, 4, 8, 16, 32, 64, 128];
     let drawn = usize::try_from(draws.below(8)).unwrap_or(0);
     weights.get(drawn).copied().unwrap_or(1)
+}
+
+// How many entries a slot stands for, if all of these take so long together and each takes one of the times above.
+fn draw_entries(draws: &mut Draws, slots: u64, takeover: u64) -> u32 {
+    let drawn = usize::try_from(draws.below(4)).unwrap_or(0);
+    let micros = ENTRIES.get(drawn).copied().unwrap_or(20);
+    u32::try_from(takeover / micros / slots.max(1)).unwrap_or(u32::MAX)
 }
 
 // The schedule of a seed, in which a commit takes 0.2 to 3.2 milliseconds and is not timed.
@@ -195,6 +211,7 @@ fn draw_with(
         costs: Costs {
             takeover,
             vote: takeover / slots.max(1),
+            entries: draw_entries(&mut draws, slots, takeover),
         },
         weight: draw_weight(&mut draws),
         loss: draws
@@ -236,6 +253,7 @@ pub fn draw_calm(
         costs: Costs {
             takeover: 1_000,
             vote: 1_000,
+            entries: 1,
         },
         weight: 1,
         loss: 0,
@@ -246,6 +264,44 @@ pub fn draw_calm(
         acts,
         load: 0,
         under_way: [1; 7],
+    };
+    Cluster::new(nodes, members, draws, schedule, clients)
+}
+
+// The schedule of a seed with a long history, for which all nodes have voted, and without a disturbance. A takeover takes this long at the
+// least, and twice as long at the most. A slot of the history stands for so many entries, by what a node counts of a takeover.
+pub fn draw_long(
+    alloc: Global,
+    members: Members,
+    seed: u64,
+    takeover: u64,
+    entries: u32,
+) -> Cluster {
+    let mut draws = Draws::new(seed);
+    let count = members.count();
+    let promises = draw_promises(&mut draws, count);
+    let votes = bit(LONG_HISTORY).saturating_sub(1);
+    let mut nodes = Vec::new(alloc);
+    for (me, promised) in (1u8..count.saturating_add(1)).zip(promises) {
+        let voter = voter_of(alloc, me, count, LONG_HISTORY, promised, votes);
+        let node = draw_node(alloc, &mut draws, members, voter, 0);
+        let _is_put = nodes.push(node).is_ok();
+    }
+    let schedule = Schedule {
+        costs: Costs {
+            takeover: takeover.saturating_mul(2),
+            vote: LONG_VOTE,
+            entries,
+        },
+        weight: 1,
+        loss: 0,
+        calm: 0,
+        turns_a_stall: 64,
+    };
+    let clients = Clients {
+        acts: 0,
+        load: 0,
+        under_way: [0; 7],
     };
     Cluster::new(nodes, members, draws, schedule, clients)
 }

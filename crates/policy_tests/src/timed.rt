@@ -30,6 +30,8 @@ pub struct Costs {
     pub takeover: u64,
     // A vote for an old entry likewise.
     pub vote: u64,
+    // How many entries a slot of the history stands for, by what a node counts of a takeover.
+    pub entries: u32,
 }
 
 // A node. What is kept by node has it at its number.
@@ -332,7 +334,7 @@ impl Node {
         let (from, packet) = self.fetch()?;
         let cost = self.voter.treat(log, from, packet);
         self.from = Some(from);
-        self.sign = self.voter.sign_of(packet, cost);
+        self.sign = self.voter.sign_of(packet, cost, costs.entries);
         let micros = match cost {
             Cost::Little | Cost::Commit => self.draw_cost(draws, cost, 60),
             Cost::Vote => self.draw_votes(draws, costs.vote),

@@ -471,8 +471,19 @@ impl Voter {
         Cost::Little
     }
 
-    // What the packet that was treated at this cost shows, by the rules of a served node's feed.
-    pub fn sign_of(&self, packet: Packet, cost: Cost) -> Sign {
+    // How many entries its votes reach after its log, if a slot stands for so many.
+    fn ahead(&self, entries: u32) -> u32 {
+        let mut ahead: u32 = 0;
+        for slot in self.applied..64 {
+            if self.votes & bit(slot) != 0 {
+                ahead = u32::from(slot.saturating_sub(self.applied)).saturating_add(1);
+            }
+        }
+        ahead.saturating_mul(entries)
+    }
+
+    // What the packet that was treated at this cost shows, by the rules of a served node's feed. A slot stands for so many entries.
+    pub fn sign_of(&self, packet: Packet, cost: Cost, entries: u32) -> Sign {
         match packet.says {
             Says::Prepare { .. } => {
                 if cost == Cost::Little {
@@ -480,6 +491,7 @@ impl Voter {
                 }
                 Sign::Prepared {
                     owner: packet.ballot.node,
+                    slots: self.ahead(entries),
                 }
             },
             Says::Promise { .. } | Says::Accept { .. } | Says::Accepted { .. } => {

@@ -20,3 +20,8 @@ passing micros beat is_quick =
 -- for how many microseconds more a node waits for slow clients: 80 milliseconds in all
 abbrev pub waiting_on : ℕ → ℕ
 waiting_on waited = 80000 - waited
+
+-- how many microseconds of its waits still count, so many microseconds after the last one: 80 milliseconds are forgotten in each second, so
+-- in the long run no more than that goes into waits
+abbrev pub forgetting : ℕ → ℕ → ℕ
+forgetting passed waited = waited - 2 * (passed / 25)

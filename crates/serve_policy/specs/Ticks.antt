@@ -1,6 +1,6 @@
 -- When a node ticks, begins a ballot and suspects another. Time is counted in beats, and those in turns; the rules are this project's
 -- (docs/THREADS.md). Nothing that is claimed of a cluster rests on them.
-use Rattle.std.specs.Prelude.{ℕ, ◌+◌, ◌-◌, ◌*◌, ◌^◌, ◌==◌, ◌&&◌, ◌||◌, suc, nat_lt, nat_le, max, not, Bool, true, false, Option, Some, None, List}
+use Rattle.std.specs.Prelude.{ℕ, ◌+◌, ◌-◌, ◌*◌, ◌/◌, ◌^◌, ◌==◌, ◌&&◌, ◌||◌, suc, nat_lt, nat_le, max, min, not, Bool, true, false, Option, Some, None, List}
 use Rattle.std.specs.Prelude.{replicate, slice_index_or, slice_set, if◌then◌else◌}
 use Rattle.std.specs.List.{find}
 use Rattle.paxos_packets.specs.Members.{others}
@@ -30,8 +30,10 @@ pub record Counts : Type 0 where
   pub moved : ℕ
   -- how many ballots of its own it began since an entry was applied, at most 8
   pub tries : ℕ
-  -- whether the ballot that was at work last is one that its owner only prepared
-  pub is_prepared : Bool
+  -- how many slots are to be taken over, if the ballot that was at work last is one that its owner only prepared
+  pub prepared : Option ℕ
+  -- whether the ballot that was at work or begun last is the node's own
+  pub is_own : Bool
   -- for each number from 0 to 7, whether a ballot of that node was at work in this boot, whether it answered the ballot that this node
   -- began last, and at which beat it was heard last
   pub worked : List Bool
@@ -56,7 +58,8 @@ first_counts node members is_first = record {
   gained = 0;
   moved = 0;
   tries = 0;
-  is_prepared = false;
+  prepared = None;
+  is_own = false;
   worked = replicate 8 false;
   answered = replicate 8 false;
   heard = replicate 8 0;
@@ -101,9 +104,13 @@ abbrev pub refusing : Option ℕ → ℕ → Counts → Counts
 refusing None owner c = c
 refusing (Some peer) owner c = record c { is_owed = c.is_owed || may_begin_again peer owner c }
 
--- a ballot of this owner is at work, which is only prepared or not
-abbrev pub working : ℕ → Bool → Counts → Counts
-working owner is_prepared c = record c { is_prepared = is_prepared; worked = slice_set c.worked owner true }
+-- a ballot of this owner is at work; it is only prepared if the number of slots is given that are to be taken over
+abbrev pub working : ℕ → Option ℕ → Counts → Counts
+working owner prepared c = record c {
+  prepared = prepared;
+  is_own = owner == c.me;
+  worked = slice_set c.worked owner true;
+}
 
 -- a node answers a ballot of this owner
 abbrev pub answering : Option ℕ → ℕ → Counts → Counts
@@ -113,8 +120,8 @@ answering (Some peer) owner c = if owner == c.me then record c { answered = slic
 -- what the packet showed that came from this node
 abbrev pub showing : Option ℕ → Sign → Counts → Counts
 showing from Nothing c = c
-showing from (Prepared owner) c = working owner true c
-showing from (AtWork owner) c = answering from owner (working owner false c)
+showing from (Prepared owner slots) c = working owner (Some slots) c
+showing from (AtWork owner) c = answering from owner (working owner None c)
 showing from (Refused owner) c = refusing from owner c
 showing from Told c = c
 
@@ -133,18 +140,23 @@ treating None due c = resting due c
 abbrev pub counting : Turn → Counts → Bool × Counts
 counting t c = treating t.from t.beats (showing t.from t.sign (moving t c))
 
--- for how many beats a node with pending entries waits in which nothing moves: each node has its share, which doubles with each ballot of
--- its own that brought no entry, three times. It is as long as that while another prepares a ballot: to take over many votes takes time.
--- Where a commit takes many beats, it is 16 commits
+-- for how many beats a node with pending entries waits in which nothing moves: each node has its share. Where a commit takes many beats, it
+-- has 16 commits
+abbrev pub share : ℕ → Counts → ℕ
+share commit c = max 416 (16 * commit) + 96 * c.me
+
+-- twice as much, this number of times, at most eight
 abbrev pub doubled : ℕ → ℕ → ℕ
-doubled tries share =
-    if tries == 0 then share
-    else if tries == 1 then 2 * share
-    else if tries == 2 then 4 * share
-    else 8 * share
+doubled times wait = 2 ^ min times 8 * wait
+
+-- the wait doubles with each ballot of the node's own that brought no entry, three times. While another prepares a ballot it is a beat
+-- longer for each 32 slots that this one takes over, and doubles eight times: in the end it is longer than any takeover
+abbrev pub waited : Option ℕ → ℕ → ℕ → ℕ
+waited None tries share = doubled (min tries 3) share
+waited (Some slots) tries share = doubled tries (share + slots / 32)
 
 abbrev pub patience : ℕ → Counts → ℕ
-patience commit c = doubled (if c.is_prepared then 3 else c.tries) (max 416 (16 * commit) + 96 * c.me)
+patience commit c = waited c.prepared c.tries (share commit c)
 
 -- whether no packet came of the node in 20,480 beats; and the first such node
 abbrev pub is_silent : Counts → ℕ → Bool
@@ -159,7 +171,8 @@ starting c = record c {
   is_owed = false;
   moved = c.beats;
   tries = capped 8 (suc c.tries);
-  is_prepared = false;
+  prepared = None;
+  is_own = true;
   answered = replicate 8 false;
 }
 
@@ -175,6 +188,16 @@ is_time_over commit c = nat_le (10 * between_ticks commit) (c.beats - c.ticked)
 abbrev pub is_tick_due : ℕ → Counts → Bool
 is_tick_due commit c = nat_le 64 c.gained || is_time_over commit c
 
+-- ticks are held back for at most 512 beats and 40 commits after the last one: then one is due in any case, and what was lost is sent
+-- again though another node takes packets slowly
+abbrev pub is_overdue : ℕ → Counts → Bool
+is_overdue commit c = nat_le (512 + 40 * commit) (c.beats - c.ticked)
+
+-- a node that got all 64 entries of an answer asks for more at once, whatever waits for others, unless it leads: the tick of another node
+-- sends little besides
+abbrev pub asks_on : Counts → Bool
+asks_on c = nat_le 64 c.gained && not c.is_own
+
 abbrev pub ticking : Counts → Counts
 ticking c = record c { ticked = c.beats; gained = 0 }
 
@@ -183,11 +206,11 @@ abbrev pub suspecting : Option ℕ → Counts → Option Due × Counts
 suspecting (Some peer) c = (Some (Suspect peer), hearing peer c)
 suspecting None c = (None, c)
 
--- what is due next, and what is counted then: a ballot that is due at once; a tick, if the node may tick; a ballot, if the node's patience
--- has ended; a suspicion. A commit takes this many beats
+-- what is due next, and what is counted then: a ballot that is due at once; a tick, if the node may tick, asks on or is overdue; a ballot,
+-- if the node's patience has ended; a suspicion. A commit takes this many beats
 abbrev pub next_due : Bool → ℕ → Counts → Option Due × Counts
 next_due may_tick commit c =
     if c.is_owed then (Some Start, starting c)
-    else if may_tick && is_tick_due commit c then (Some Tick, ticking c)
+    else if (may_tick && is_tick_due commit c) || asks_on c || is_overdue commit c then (Some Tick, ticking c)
     else if nat_le (patience commit c) (c.beats - c.moved) then (Some Start, starting c)
     else suspecting (silent_peer c) c

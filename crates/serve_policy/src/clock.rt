@@ -1,6 +1,6 @@
 // Beats and ticks by time: which beats are due, and how long a node waits for slow clients.
 ghost use Rattle.std.specs.Prelude.{◌≡◌};
-ghost use Rattle.serve_policy.specs.Clock.{beats_in, passing, waiting_on};
+ghost use Rattle.serve_policy.specs.Clock.{beats_in, passing, waiting_on, forgetting};
 
 /// The length of a beat in microseconds.
 pub const BEAT_MICROS: u64 = 2_000;
@@ -54,6 +54,14 @@ const fn beats_in(micros: u64) -> u64
     ensures { result ≡ beats_in micros }
 {
     (micros / QUARTER_MICROS + 1) / 4
+}
+
+/// Returns how many of the microseconds for which a node has waited for slow clients still count, if `passed` have passed since the last
+/// wait: of each second 80 ms are forgotten.
+pub const fn left_of_waits(passed: u64, waited: u64) -> u64
+    ensures { result ≡ forgetting passed waited }
+{
+    waited.saturating_sub(2 * (passed / 25))
 }
 
 /// Returns for how many microseconds more a node waits for slow clients after it has waited for `waited`: at most 80 ms in all.

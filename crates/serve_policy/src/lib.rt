@@ -17,7 +17,7 @@ mod turn;
 
 pub use admission::Admission;
 pub use backpressure::Backpressure;
-pub use clock::{BEAT_MICROS, BEATS_A_TICK, Passed, beats_due, left_to_wait};
+pub use clock::{BEAT_MICROS, BEATS_A_TICK, Passed, beats_due, left_of_waits, left_to_wait};
 pub use commits::Commits;
 pub use draining::Draining;
 pub use draws::Draws;

@@ -7,8 +7,8 @@ use std::marker::Model;
 /// A client is slow if its ring of 1,024 sayings has room for at most this many.
 const LITTLE_ROOM: usize = 256;
 
-/// A client has caught up if its ring has room for at least this many.
-const MUCH_ROOM: usize = 512;
+/// A client has caught up if its ring has room for at least this many: all was taken that had been put before the last look.
+const MUCH_ROOM: usize = 960;
 
 /// After how many sayings the room in the ring is looked at.
 const SAYINGS_A_LOOK: u8 = 64;
@@ -55,8 +55,9 @@ impl Reader {
         true
     }
 
-    /// Judges the client by the room in its ring. Returns whether the client is slow, so that the node waits for it: there is room for at most
-    /// 256 sayings, and the node does not ignore the client. With room for 512 or more the node no longer ignores it.
+    /// Judges the client by the room in its ring. Returns whether the client is slow, so that the node waits for it: there is room for at
+    /// most 256 sayings, and the node does not ignore the client. With room for 960 or more the node no longer ignores it: the client has
+    /// taken all but the last 64.
     pub fn judge(&mut self, room: usize) -> bool
         ensures { (result, self.new) ≡ judging room self.old }
     {

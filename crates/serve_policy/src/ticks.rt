@@ -1,8 +1,8 @@
 // When a node ticks, begins a ballot and suspects another, by its turns, beats and packets.
-ghost use Rattle.std.specs.Prelude.{◌≡◌, ◌≤◌, ◌*◌, max};
+ghost use Rattle.std.specs.Prelude.{◌≡◌, ◌<◌, ◌≤◌, ◌*◌, ◌^◌, max};
 ghost use Rattle.serve_policy.specs.Ticks.{first_counts, counting, moving, showing, resting, hearing, treating, is_moving, gained_in};
-ghost use Rattle.serve_policy.specs.Ticks.{working, answering, refusing, has_answered};
-ghost use Rattle.serve_policy.specs.Ticks.{may_begin_again, has_worked, next_due, starting, ticking, is_tick_due, is_time_over, between_ticks, patience, doubled, capped};
+ghost use Rattle.serve_policy.specs.Ticks.{working, answering, refusing, has_answered, doubled};
+ghost use Rattle.serve_policy.specs.Ticks.{may_begin_again, has_worked, next_due, starting, ticking, is_tick_due, is_time_over, asks_on, is_overdue, between_ticks, share, patience, capped};
 ghost use Rattle.serve_policy.specs.Ticks.{suspecting, silent_peer, is_silent};
 
 use crate::clock::BEATS_A_TICK;
@@ -20,6 +20,11 @@ const COMMITS_A_TICK: u64 = 4;
 /// How many times as long it is to the next tick while the log grows: what is not lost need not be sent again.
 const TIMES_GROWING: u64 = 10;
 
+/// For how many beats and commits after a tick the next one is held back at most.
+const BEATS_HELD: u64 = 512;
+
+const COMMITS_HELD: u64 = 40;
+
 /// For how many beats without a move a node with pending entries waits: the first number, plus the second times the node's number.
 const BEATS_TO_START: u64 = 416;
 
@@ -30,6 +35,12 @@ const COMMITS_TO_START: u64 = 16;
 
 /// How many ballots of its own without an applied entry a node counts.
 const MOST_TRIES: u64 = 8;
+
+/// How often the wait doubles, at most, while no other node prepares a ballot.
+const MOST_DOUBLINGS: u64 = 3;
+
+/// How many slots another node takes over in a beat, at least: it takes some 20 microseconds for each if nothing else runs.
+const SLOTS_A_BEAT: u64 = 32;
 
 /// After how many beats without a packet from another node that node is suspected.
 const BEATS_TO_SUSPECT: u64 = 20_480;
@@ -63,7 +74,8 @@ pub struct Ticks {
     gained: u64,
     moved: u64,
     tries: u64,
-    is_prepared: bool,
+    prepared: Option<u32>,
+    is_own: bool,
     worked: [bool; 8],
     answered: [bool; 8],
     heard: [u64; 8],
@@ -86,7 +98,8 @@ impl Model for Ticks {
       gained = t.gained;
       moved = t.moved;
       tries = t.tries;
-      is_prepared = t.is_prepared;
+      prepared = t.prepared;
+      is_own = t.is_own;
       worked = t.worked;
       answered = t.answered;
       heard = t.heard;
@@ -111,7 +124,8 @@ impl Ticks {
             gained: 0,
             moved: 0,
             tries: 0,
-            is_prepared: false,
+            prepared: None,
+            is_own: false,
             worked: [false; 8],
             answered: [false; 8],
             heard: [0; 8],
@@ -181,9 +195,9 @@ impl Ticks {
     {
         match sign {
             Sign::Nothing => {}
-            Sign::Prepared { owner } => self.work(owner, true),
+            Sign::Prepared { owner, slots } => self.work(owner, Some(slots)),
             Sign::AtWork { owner } => {
-                self.work(owner, false);
+                self.work(owner, None);
                 self.answer(from, owner);
             }
             Sign::Refused { owner } => self.refuse(from, owner),
@@ -191,11 +205,12 @@ impl Ticks {
         }
     }
 
-    // Notes that a ballot of this owner is at work, and whether it is only prepared.
-    fn work(&mut self, owner: u8, is_prepared: bool)
-        ensures { self.new ≡ working owner is_prepared self.old }
+    // Notes that a ballot of this owner is at work, and how many slots are to be taken over if it is only prepared.
+    fn work(&mut self, owner: u8, prepared: Option<u32>)
+        ensures { self.new ≡ working owner prepared self.old }
     {
-        self.is_prepared = is_prepared;
+        self.prepared = prepared;
+        self.is_own = owner == self.me;
         if owner < 8 {
             self.worked[usize::from(owner)] = true;
         }
@@ -269,9 +284,10 @@ impl Ticks {
         }
     }
 
-    /// Returns what is due next, which is then no longer due: a ballot that is due at once, a tick if the node may tick, a ballot if nothing
-    /// moved for long while entries are pending, and the other nodes that were silent for long, by ascending number. A commit takes `commit`
-    /// beats ([`Commits::beats`](crate::Commits::beats)): ticks, and the patience with another's ballot, go by it. Takes constant time.
+    /// Returns what is due next, which is then no longer due: a ballot that is due at once, a tick if the node may tick or did not for
+    /// long, a ballot if nothing moved for long while entries are pending, and the other nodes that were silent for long, by ascending
+    /// number. A commit takes `commit` beats ([`Commits::beats`](crate::Commits::beats)): ticks, and the patience with another's ballot, go
+    /// by it. Takes constant time.
     pub fn next(&mut self, may_tick: bool, commit: u8) -> Option<Due>
         ensures { (result, self.new) ≡ next_due may_tick commit self.old }
     {
@@ -279,7 +295,7 @@ impl Ticks {
             self.start();
             return Some(Due::Start);
         }
-        if may_tick && self.is_tick_due(commit) {
+        if may_tick && self.is_tick_due(commit) || self.asks_on() || self.is_overdue(commit) {
             self.ticked = self.beats;
             self.gained = 0;
             return Some(Due::Tick);
@@ -298,7 +314,8 @@ impl Ticks {
         self.is_owed = false;
         self.moved = self.beats;
         self.tries = capped(MOST_TRIES, self.tries.saturating_add(1));
-        self.is_prepared = false;
+        self.prepared = None;
+        self.is_own = true;
         self.answered = [false; 8];
     }
 
@@ -319,18 +336,38 @@ impl Ticks {
         since >= TIMES_GROWING * wanted || since >= wanted && idle >= wanted
     }
 
+    // Returns whether the node asks for more entries at once, though another node takes packets: it got all of an answer, and does not lead,
+    // so a tick sends little besides.
+    fn asks_on(&self) -> bool
+        ensures { result ≡ asks_on self.now }
+    {
+        self.gained >= FULL_ANSWER && !self.is_own
+    }
+
+    // Returns whether the last tick is so long ago that none is held back.
+    fn is_overdue(&self, commit: u8) -> bool
+        ensures { result ≡ is_overdue commit self.now }
+    {
+        self.beats.saturating_sub(self.ticked) >= BEATS_HELD + COMMITS_HELD * u64::from(commit)
+    }
+
     // Returns for how many beats in which nothing moves it waits.
     fn patience(&self, commit: u8) -> u64
         ensures { result ≡ patience commit self.now }
     {
-        let share = least_patience(commit) + BEATS_APART * u64::from(self.me);
-        let doublings = if self.is_prepared { 3 } else { self.tries };
-        match doublings {
-            0 => share,
-            1 => 2 * share,
-            2 => 4 * share,
-            _ => 8 * share,
+        let share = self.share(commit);
+        match self.prepared {
+            None => doubled(self.tries.min(MOST_DOUBLINGS), share),
+            Some(slots) => doubled(self.tries, share + u64::from(slots) / SLOTS_A_BEAT),
         }
+    }
+
+    // Returns the node's share of patience.
+    fn share(&self, commit: u8) -> u64
+        ensures is { result ≡ share commit self.now }
+        ensures few { result ≤ 28560 }
+    {
+        least_patience(commit) + BEATS_APART * u64::from(self.me)
     }
 
     // Suspects the first other node that was silent for long.
@@ -385,4 +422,22 @@ fn least_patience(commit: u8) -> u64
     ensures few { result ≤ 4080 }
 {
     BEATS_TO_START.max(COMMITS_TO_START * u64::from(commit))
+}
+
+// Returns twice as much, this number of times, at most eight.
+fn doubled(times: u64, wait: u64) -> u64
+    requires { wait < 2 ^ 32 }
+    ensures { result ≡ doubled times wait }
+{
+    match times {
+        0 => wait,
+        1 => 2 * wait,
+        2 => 4 * wait,
+        3 => 8 * wait,
+        4 => 16 * wait,
+        5 => 32 * wait,
+        6 => 64 * wait,
+        7 => 128 * wait,
+        _ => 256 * wait,
+    }
 }

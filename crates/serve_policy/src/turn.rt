@@ -7,8 +7,8 @@ ghost use Rattle.serve_policy.specs.Signs.{is_at_work, is_told};
 pub enum Sign {
     /// Nothing by which time is counted, or there was no packet.
     Nothing,
-    /// This owner asks for promises of a ballot, and the node has promised it now.
-    Prepared { owner: u8 },
+    /// This owner asks for promises of a ballot, and the node has promised it now: its votes are for so many slots after its log.
+    Prepared { owner: u8, slots: u32 },
     /// A vote is asked for, or a vote or a promise is reported, in a ballot of this owner that is not below the one that the node has promised.
     AtWork { owner: u8 },
     /// The node's own ballot was refused, since one of this owner is promised.

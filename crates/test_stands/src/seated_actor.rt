@@ -150,6 +150,11 @@ impl<'a, M: Machine, K: Keeper<M::Body>> SeatedActor<'a, M, K> {
         self.actor.posted()
     }
 
+    /// Returns how many slots there are after its node's log up to the last one that the node voted in.
+    pub fn open_slots(&self) -> u64 {
+        self.actor.open_slots()
+    }
+
     /// Returns whether its last turn treated a packet.
     pub fn has_treated(&self) -> bool {
         self.from().is_some()
