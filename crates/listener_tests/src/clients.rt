@@ -126,7 +126,27 @@ pub fn is_told(rt: &impl Abort, client: &mut Client, letters: &str) {
 
 // Whether the stream has ended.
 pub fn has_ended(rt: &impl Abort, client: &mut Client) -> bool {
+    is_closed(rt, &mut client.stream)
+}
+
+pub fn is_closed(rt: &impl Abort, stream: &mut TcpStream) -> bool {
     let mut buffer = [0; 4];
-    let count = client.stream.read(&mut buffer).expect(rt, "a read");
+    let count = stream.read(&mut buffer).expect(rt, "a read");
     count == 0
+}
+
+// A client has gone, and its porter puts nothing more. Returns its end of the stream.
+pub fn leave(client: Client) -> TcpStream {
+    let Client {
+        inlet,
+        parser,
+        requests,
+        replies,
+        stream,
+    } = client;
+    drop(inlet);
+    drop(parser);
+    drop(requests);
+    drop(replies);
+    stream
 }

@@ -2,7 +2,7 @@
 // owns the gate and the feed, and lends them to what happens there. What cannot be had, as memory or a socket, ends the test at once, so that
 // no other way out drops what a test has.
 use crate::check::Check;
-use crate::clients::{Client, connect, has_ended, is_told, send};
+use crate::clients::{Client, connect, has_ended, is_closed, is_told, leave, send};
 use crate::rounds::{NODE, comes, gives, next_letter, quiet};
 use actor_run::{Feed, Gate};
 use paxos_packets::{Members, Transport};
@@ -203,6 +203,41 @@ fn holds_back<F: Feed<Act, Say>, G: Gate>(
     gives(rt, alloc, gate, feed, &seen, "1S1S1S");
 }
 
+// While no act may be given a PING is answered if no message comes before it; a client that has gone before anything of it was given is gone
+// without an act; and what waits is given in order once acts may be given again.
+fn waits<F: Feed<Act, Say>, G: Gate>(
+    rt: &impl Abort,
+    alloc: Global,
+    gate: &G,
+    feed: &mut F,
+    lobby: &Lobby,
+    one: &mut Client,
+    two: &mut Client,
+    three: Client,
+) {
+    let mut three = three;
+    let mut seen = quiet();
+    seen.pending = true;
+    send(rt, one, "CSSSSP");
+    send(rt, two, "CPP");
+    send(rt, &mut three, "CSP");
+    lobby.stir();
+    gives(rt, alloc, gate, feed, &seen, "1C1S1S1S");
+    is_told(rt, one, "");
+    is_told(rt, two, "pp");
+    is_told(rt, &mut three, "");
+    send(rt, two, "SP");
+    let mut gone = leave(three);
+    lobby.stir();
+    gives(rt, alloc, gate, feed, &seen, "");
+    check!(rt; is_closed(rt, &mut gone));
+    is_told(rt, two, "");
+    drop::<TcpStream>(gone);
+    gives(rt, alloc, gate, feed, &quiet(), "1S2C2S");
+    is_told(rt, one, "p");
+    is_told(rt, two, "p");
+}
+
 // A client for whom more than 1,024 sayings wait is closed, and nobody else; in another boot all are.
 fn closes(
     rt: &impl Abort,
@@ -266,6 +301,8 @@ enum Happens {
     Closes,
     // A client for whom many sayings wait leaves.
     Leaves,
+    // Three clients come while acts are held back, and one of them goes.
+    Waits,
     // Time passes.
     Ticks,
 }
@@ -342,6 +379,23 @@ fn one_leaves<R: Abort + Net<Listener = TcpListener, Stream = TcpStream>>(
     drop::<Client>(client);
 }
 
+// Three clients arrive, and wait.
+fn three_wait<R: Abort + Net<Listener = TcpListener, Stream = TcpStream>>(
+    rt: &R,
+    alloc: Global,
+    gate: &impl Gate,
+    feed: &mut ClientFeed<'_>,
+    lobby: &Lobby,
+    arrivals: &mut Producer<Arrival>,
+) {
+    let mut one = connect(rt, alloc, arrivals);
+    let mut two = connect(rt, alloc, arrivals);
+    let three = connect(rt, alloc, arrivals);
+    waits(rt, alloc, gate, feed, lobby, &mut one, &mut two, three);
+    drop::<Client>(one);
+    drop::<Client>(two);
+}
+
 // This happens at a node.
 fn happen<R: Abort + Net<Listener = TcpListener, Stream = TcpStream>>(
     rt: &R,
@@ -360,6 +414,7 @@ fn happen<R: Abort + Net<Listener = TcpListener, Stream = TcpStream>>(
             one_more_comes(rt, alloc, gate, feed, lobby, arrivals);
         }
         Happens::Leaves => one_leaves(rt, alloc, gate, feed, lobby, arrivals),
+        Happens::Waits => three_wait(rt, alloc, gate, feed, lobby, arrivals),
         Happens::Ticks => ticks(rt, alloc, gate, feed, node == 1),
     }
 }
@@ -444,6 +499,11 @@ fn closes_a_client_that_takes_nothing_and_begins_anew(rt: HostRuntime) {
 #[test]
 fn does_not_wait_for_a_slow_client_that_has_hung_up(rt: HostRuntime) {
     at_node(&rt, rt.alloc(), NODE, Happens::Leaves);
+}
+
+#[test]
+fn answers_pings_and_lets_clients_go_while_acts_are_held_back(rt: HostRuntime) {
+    at_node(&rt, rt.alloc(), NODE, Happens::Waits);
 }
 
 #[test]

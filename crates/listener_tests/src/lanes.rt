@@ -3,10 +3,13 @@ use crate::check::Check;
 use crate::house::{
     Guest, House, comes, hand_close, hand_message, hand_pong, reads, reads_the_end,
 };
-use serve_connections::REQUESTS_WAITING;
+use crate::writing::hand;
+use bytes::Bytes;
+use client_listener::ToClient;
+use serve_connections::{REQUESTS_WAITING, SAYINGS_WAITING};
 use std::alloc::Global;
-use std::io::Write;
-use std::net::{Shutdown, TcpStream};
+use std::io::{Read, Write};
+use std::net::{Net, Shutdown, TcpListener, TcpStream};
 use std::panic::Expect;
 use std::process::Abort;
 use std::thread;
@@ -220,6 +223,142 @@ fn a_client_without_a_message_is_closed(rt: HostRuntime) {
     drop(arrival);
     drop(other);
     drop(greeted);
+    check!(&rt; house.is_empty_soon(&rt));
+    house.close(&rt);
+}
+
+// How many PONGs of 2^16 octets are handed to a client: 32 MiB, which are more than may wait and than the kernel keeps of a stream; or 12 MiB, so
+// that more than 1 MiB waits.
+const LONG_PONGS: usize = 512;
+
+const SOME_LONG_PONGS: usize = 192;
+
+// Hands a client's porter so many PONGs of 2^16 octets, which share them.
+fn hand_long_pongs(rt: &impl Abort, alloc: Global, arrival: &mut Guest, times: usize) {
+    let octets = vec![in alloc; b'x'; 1 << 16].expect(rt, "room for a payload");
+    let payload = Bytes::copy_from_slice(alloc, octets.as_slice()).expect(rt, "a payload");
+    drop(octets);
+    for at in 0..times {
+        let again = payload.clone().expect(rt, "the payload again");
+        check!(rt; hand(&mut arrival.sayings, Some(ToClient::Pong(again))), at);
+    }
+    drop(payload);
+    arrival.connection.announce_sayings();
+}
+
+// How many of 512 long PONGs a client's porter has taken.
+fn count_taken(arrival: &mut Guest) -> usize {
+    let left = SAYINGS_WAITING.saturating_sub(arrival.sayings.slots());
+    LONG_PONGS.saturating_sub(left)
+}
+
+// Waits until a client's porter has taken this many long PONGs, at most ten seconds, and then for as long as it could take more. Returns how
+// many it has taken.
+fn takes<R: Clock>(rt: &R, arrival: &mut Guest, least: usize) -> usize {
+    for _ in 0..1_000 {
+        if count_taken(arrival) >= least {
+            break;
+        }
+        thread::sleep(rt, Duration::from_millis(10));
+    }
+    thread::sleep(rt, Duration::from_millis(300));
+    count_taken(arrival)
+}
+
+// A client whose HELLO its node has.
+fn greeted<R: Net<Listener = TcpListener, Stream = TcpStream> + Clock + Abort>(
+    rt: &R,
+    house: &mut House,
+) -> (TcpStream, Guest) {
+    let (mut client, mut arrival) = house.client(rt);
+    sends(rt, &mut client, HELLO, 1);
+    comes(rt, &mut arrival, "CR");
+    (client, arrival)
+}
+
+#[test]
+fn sixteen_mebibytes_wait_for_a_client_and_one_where_many_wait_for_all(rt: HostRuntime) {
+    let mut house = House::open(&rt, rt.alloc());
+    let (one, mut first) = greeted(&rt, &mut house);
+    let (two, mut second) = greeted(&rt, &mut house);
+    let (three, mut third) = greeted(&rt, &mut house);
+    hand_long_pongs(&rt, rt.alloc(), &mut first, LONG_PONGS);
+    let taken = takes(&rt, &mut first, 256);
+    check!(&rt; taken >= 256 && taken < LONG_PONGS, taken);
+    hand_long_pongs(&rt, rt.alloc(), &mut second, LONG_PONGS);
+    let taken = takes(&rt, &mut second, 255);
+    check!(&rt; taken >= 255 && taken < LONG_PONGS, taken);
+    // Now more than 32 MiB wait for all.
+    hand_long_pongs(&rt, rt.alloc(), &mut third, LONG_PONGS);
+    let taken = takes(&rt, &mut third, 16);
+    check!(&rt; taken >= 16 && taken < 240, taken);
+    drop(one);
+    drop(two);
+    drop(three);
+    drop(first);
+    drop(second);
+    drop(third);
+    check!(&rt; house.is_empty_soon(&rt));
+    house.close(&rt);
+}
+
+// A second passes for clients for whom much waits, one that takes nothing but sends PINGs, and one that takes a little; and for one that
+// says nothing and is told something.
+fn a_second_passes<R: Clock + Abort>(
+    rt: &R,
+    alloc: Global,
+    stuck: &mut TcpStream,
+    stuck_arrival: &mut Guest,
+    slow: &mut TcpStream,
+    silent_arrival: &mut Guest,
+) {
+    thread::sleep(rt, Duration::from_secs(1));
+    sends(rt, stuck, PING, 1);
+    comes(rt, stuck_arrival, "P");
+    read_some(rt, alloc, slow);
+    check!(rt; hand_pong(rt, alloc, &mut silent_arrival.sayings, b"hi"));
+    silent_arrival.connection.announce_sayings();
+}
+
+// A client reads 2^18 octets.
+fn read_some(rt: &impl Abort, alloc: Global, client: &mut TcpStream) {
+    let mut came = vec![in alloc; 0; 1 << 18].expect(rt, "room for the octets");
+    client
+        .read_exact(came.as_mut_slice())
+        .expect(rt, "the octets come");
+    drop(came);
+}
+
+#[test]
+fn a_client_that_takes_nothing_is_closed_and_a_slow_one_is_not(rt: HostRuntime) {
+    let mut house = House::open(&rt, rt.alloc());
+    let (mut stuck, mut stuck_arrival) = greeted(&rt, &mut house);
+    let (mut slow, mut slow_arrival) = greeted(&rt, &mut house);
+    let (silent, mut silent_arrival) = house.client(&rt);
+    hand_long_pongs(&rt, rt.alloc(), &mut stuck_arrival, SOME_LONG_PONGS);
+    hand_long_pongs(&rt, rt.alloc(), &mut slow_arrival, SOME_LONG_PONGS);
+    for _ in 0..6 {
+        a_second_passes(
+            &rt,
+            rt.alloc(),
+            &mut stuck,
+            &mut stuck_arrival,
+            &mut slow,
+            &mut silent_arrival,
+        );
+    }
+    thread::sleep(&rt, Duration::from_secs(3));
+    comes(&rt, &mut stuck_arrival, "HE");
+    comes(&rt, &mut silent_arrival, "CHE");
+    read_some(&rt, rt.alloc(), &mut slow);
+    sends(&rt, &mut slow, PING, 1);
+    comes(&rt, &mut slow_arrival, "P");
+    drop(stuck);
+    drop(stuck_arrival);
+    drop(slow);
+    drop(slow_arrival);
+    drop(silent);
+    drop(silent_arrival);
     check!(&rt; house.is_empty_soon(&rt));
     house.close(&rt);
 }

@@ -23,6 +23,7 @@ pub fn quiet() -> Seen {
         commits: 0,
         leads: false,
         promised: None,
+        open_slots: 0,
     }
 }
 

@@ -1,3 +1,4 @@
+pub mod Allowance
 pub mod Backlog
 pub mod Due
 pub mod Handing

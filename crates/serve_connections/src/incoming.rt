@@ -1,7 +1,7 @@
 // The way in of a connection: from the client's stream into the ring of its requests.
 use crate::backlog::{count, has_room};
 use crate::buffers::Buffers;
-use crate::due::{Course, ticks_left};
+use crate::due::{Course, Ticks};
 use crate::lines::Cause;
 use crate::requests::RequestSender;
 use crate::shared::SharedConnection;
@@ -61,16 +61,11 @@ impl Incoming {
         self.octets
     }
 
-    // Returns how many ticks are left to the client, which had so many.
-    pub fn ticks_left(&mut self, ticks: Option<u32>) -> Option<u32> {
+    // Notes what the client owes, all that came of it being read.
+    pub fn note_read(&mut self, ticks: &mut Ticks) {
         let came = self.has_come;
         self.has_come = false;
-        ticks_left(
-            self.course.has_spoken(),
-            self.course.is_within(),
-            came,
-            ticks,
-        )
+        ticks.read(self.course.has_spoken(), self.course.is_within(), came);
     }
 
     // Returns what a client that is served owes if it has no ticks left: its first message, or the rest of a frame.

@@ -1,6 +1,7 @@
 //! The clients' TCP connections of a node: one thread, the porter, serves all of them, and each has two rings to and from the node's thread.
 #![tactic(auto)]
 
+mod allowance;
 mod backlog;
 mod bell;
 mod buffers;

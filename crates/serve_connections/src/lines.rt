@@ -12,7 +12,7 @@ const MOST_LINES: u32 = 10;
 const TICKS: u32 = 10;
 
 /// How many causes there are.
-const CAUSES: usize = 8;
+const CAUSES: usize = 9;
 
 // Why a client was refused or closed, if that is to be said.
 #[derive(Clone, Copy, Drop)]
@@ -21,9 +21,11 @@ pub(crate) enum Cause {
     Full,
     NoRoom,
     Handshake,
-    // It is closed: it sent no message, or a part of a frame; what it sent is no frame; memory ran out; or it takes no message so long.
+    // It is closed: it sent no message, or a part of a frame; it took nothing; what it sent is no frame; memory ran out; or it takes no message
+    // so long.
     NoHello,
     NoMore,
+    Untaken,
     Frame,
     Memory,
     Wide,
@@ -49,9 +51,10 @@ impl Cause {
             Cause::Handshake => 2,
             Cause::NoHello => 3,
             Cause::NoMore => 4,
-            Cause::Frame => 5,
-            Cause::Memory => 6,
-            Cause::Wide => 7,
+            Cause::Untaken => 5,
+            Cause::Frame => 6,
+            Cause::Memory => 7,
+            Cause::Wide => 8,
         }
     }
 
@@ -64,6 +67,7 @@ impl Cause {
                 "a client was refused: the handshake is refused, not answered or cut short",
             Cause::NoHello => "a client is closed: no message came within 10 seconds",
             Cause::NoMore => "a client is closed: a frame did not go on for 60 seconds",
+            Cause::Untaken => "a client is closed: it took nothing for 10 seconds",
             Cause::Frame => "a client is closed: the client sent what is no frame",
             Cause::Memory => "a client is closed: out of memory",
             Cause::Wide => "a client is closed: a message or PONG is longer than the client takes",

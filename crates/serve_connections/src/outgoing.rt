@@ -1,4 +1,5 @@
 // The way out of a connection: from the ring of sayings to the client's stream.
+use crate::allowance::may_take;
 use crate::buffers::Buffers;
 use crate::shared::SharedConnection;
 use client_listener::{ListenFault, Outbox, ToClient};
@@ -7,17 +8,13 @@ use std::alloc::Global;
 use std::collections::VecDeque;
 use std::io::ErrorKind;
 
-/// How many octets may wait for one client's stream, and for the streams of all clients of a node, while more sayings are taken.
-const MOST_WAITING: usize = 1 << 20;
-
-const MOST_WAITING_IN_ALL: usize = 64 << 20;
-
 /// How many times sayings are taken in a row at most, and after how many octets an outbox is full.
 const MOST_GATHERED: u8 = 32;
 
 const FULL: usize = 1 << 16;
 
-// How far the way out has come: what can be written is, or more can be at once, or all is written up to a `Close`, or nothing more is written.
+// How far the way out has come: what can be written is, or more can be at once, or all is written up to a `Close`, or nothing more is
+// written.
 #[derive(Clone, Copy, Drop)]
 pub(crate) enum Outward {
     Written,
@@ -39,6 +36,8 @@ pub(crate) struct Outgoing {
     // Whether a `Close` was taken, and whether nothing more is taken for a fault.
     is_closed: bool,
     fault: Option<ListenFault>,
+    // Whether the stream took something when that was tried last.
+    has_written: bool,
 }
 
 impl Outgoing {
@@ -53,6 +52,7 @@ impl Outgoing {
             sayings,
             is_closed: false,
             fault: None,
+            has_written: false,
         }
     }
 
@@ -72,6 +72,11 @@ impl Outgoing {
         self.waiting
     }
 
+    // Returns whether the client took something as it was written to last.
+    pub fn has_written(&self) -> bool {
+        self.has_written
+    }
+
     // Takes the sayings that are there, as far as they may wait, and writes once if the stream has room. Notes whether it still has.
     pub fn advance(
         &mut self,
@@ -82,7 +87,7 @@ impl Outgoing {
         // After it has released the connection the node puts nothing more.
         let is_released = shared.is_released();
         let before = self.waiting;
-        self.gather_all(buffers.waiting);
+        self.gather_all(buffers.waiting.saturating_sub(before));
         let written = self.write(shared, is_writable);
         buffers.waiting = buffers
             .waiting
@@ -127,10 +132,11 @@ impl Outgoing {
         }
     }
 
-    // Takes the sayings that are there, as far as they may wait.
-    fn gather_all(&mut self, in_all: usize) {
+    // Takes the sayings that are there, as far as they may wait while `others` octets wait for the other clients.
+    fn gather_all(&mut self, others: usize) {
         for _ in 0..MOST_GATHERED {
-            if self.is_closed || self.fault.is_some() || !self.has_room(in_all) {
+            let in_all = others.saturating_add(self.waiting);
+            if self.is_closed || self.fault.is_some() || !may_take(self.waiting, in_all) {
                 return;
             }
             if let Err(fault) = self.gather() {
@@ -141,11 +147,6 @@ impl Outgoing {
                 return;
             }
         }
-    }
-
-    // Returns whether more may wait if `in_all` octets wait for all clients.
-    fn has_room(&self, in_all: usize) -> bool {
-        self.waiting == 0 || self.waiting < MOST_WAITING && in_all < MOST_WAITING_IN_ALL
     }
 
     // Takes sayings into the last outbox, or into one more if that is full.
@@ -181,6 +182,7 @@ impl Outgoing {
         shared: &SharedConnection,
         is_writable: &mut bool,
     ) -> Result<(), ErrorKind> {
+        self.has_written = false;
         if self.waiting == 0 || !*is_writable {
             return Ok(());
         }
@@ -195,6 +197,7 @@ impl Outgoing {
             Err(error) => return Err(error.kind()),
         }
         let left = self.outbox.len();
+        self.has_written = left < before;
         self.waiting = self.waiting.saturating_sub(before.saturating_sub(left));
         *is_writable = left == 0;
         if left == 0

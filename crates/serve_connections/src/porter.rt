@@ -273,6 +273,8 @@ impl Porter {
                     report(rt, &mut self.lines, connection);
                     self.is_timed = self.is_timed || self.lines.is_timed();
                     drop(self.connections.remove(at));
+                    // The node lets its end go.
+                    self.buffers.lobby.stir();
                 }
             }
         }

@@ -1,5 +1,6 @@
 // The porter's end of a client's connection, from the handshake to the end.
 use crate::buffers::Buffers;
+use crate::due::Ticks;
 use crate::incoming::{Incoming, Inward};
 use crate::lines::Cause;
 use crate::lobby::ConnectionPermit;
@@ -58,8 +59,8 @@ pub(crate) struct PorterConnection {
     is_due: bool,
     // How many octets of its requests are counted as waiting, once nothing more comes.
     left_behind: usize,
-    // How many ticks are left, if they are counted.
-    ticks: Option<u32>,
+    // The ticks that are left.
+    ticks: Ticks,
 }
 
 impl PorterConnection {
@@ -90,7 +91,7 @@ impl PorterConnection {
             is_ending: false,
             is_due: true,
             left_behind: 0,
-            ticks: Some(GREETING_TICKS),
+            ticks: Ticks::of_stage(GREETING_TICKS),
         }
     }
 
@@ -105,7 +106,7 @@ impl PorterConnection {
 
     // Returns whether ticks are counted.
     pub fn is_timed(&self) -> bool {
-        self.ticks.is_some()
+        self.ticks.left().is_some()
     }
 
     // Returns where its client is.
@@ -135,24 +136,35 @@ impl PorterConnection {
         self.is_due = true;
     }
 
-    // Counts a tick. After the last one the stream ends.
+    // Counts a tick. After the last one the stream ends. If much waits for the client a write is tried at each: the kernel reports room only
+    // once a part of its buffer is free.
     pub fn tick(&mut self) {
-        let Some(ticks) = self.ticks else {
+        let Some(left) = self.ticks.left() else {
             return;
         };
-        if ticks > 0 {
-            self.ticks = Some(ticks - 1);
+        if left > 0 {
+            self.ticks.pass();
+            if self.ticks.counts_untaken() {
+                self.on_ready(false, true, false);
+            }
             return;
         }
-        self.ticks = None;
-        if matches!(self.stage, Stage::Open)
-            && self.outgoing.is_some()
-            && let Some(incoming) = &self.incoming
-        {
-            self.late = Some(incoming.late());
-        }
+        let late = self.lateness();
+        self.late = self.late.or(late);
+        self.ticks = Ticks::of_nothing();
         self.shared.shut();
         self.on_ready(true, true, true);
+    }
+
+    // Returns why a client has no ticks left, if it is served.
+    fn lateness(&self) -> Option<Cause> {
+        if self.ticks.is_untaken_over() {
+            return Some(Cause::Untaken);
+        }
+        match &self.incoming {
+            Some(incoming) if self.ticks.is_owed_over() => Some(incoming.late()),
+            _ => None,
+        }
     }
 
     // Goes on as far as it can without waiting.
@@ -208,7 +220,7 @@ impl PorterConnection {
             outgoing.open(limit);
         }
         self.stage = Stage::Open;
-        self.ticks = None;
+        self.ticks = Ticks::of_nothing();
         self.serve(buffers)
     }
 
@@ -220,7 +232,7 @@ impl PorterConnection {
         buffers.lobby.stir();
         self.shared.end_writing();
         self.stage = Stage::Refused;
-        self.ticks = Some(REFUSED_TICKS);
+        self.ticks = Ticks::of_stage(REFUSED_TICKS);
         Next::Again
     }
 
@@ -264,19 +276,22 @@ impl PorterConnection {
         let Some(outgoing) = &mut self.outgoing else {
             return Next::Rest;
         };
-        match outgoing.advance(&self.shared, &mut self.is_writable, buffers) {
+        let course = outgoing.advance(&self.shared, &mut self.is_writable, buffers);
+        self.ticks.write(outgoing.waiting(), outgoing.has_written());
+        match course {
             Outward::Written => Next::Rest,
             Outward::More => Next::Again,
             Outward::Closed => {
                 drop(self.outgoing.take());
                 self.shared.end_writing();
-                self.ticks = Some(CLOSING_TICKS);
+                self.ticks = Ticks::of_stage(CLOSING_TICKS);
                 Next::Rest
             }
             Outward::Over => {
                 self.fault = self.fault.or(outgoing.fault());
                 buffers.waiting = buffers.waiting.saturating_sub(outgoing.waiting());
                 drop(self.outgoing.take());
+                self.ticks = Ticks::of_nothing();
                 self.shared.shut();
                 self.on_ready(true, true, true);
                 Next::Again
@@ -297,10 +312,10 @@ impl PorterConnection {
         self.is_readable = self.is_readable || self.is_ending;
         // A client that is closed has ticks of its own.
         if self.outgoing.is_some() {
-            self.ticks = match came {
-                Inward::Put => incoming.ticks_left(self.ticks),
-                Inward::Full | Inward::Done => None,
-            };
+            match came {
+                Inward::Put => incoming.note_read(&mut self.ticks),
+                Inward::Full | Inward::Done => self.ticks.pause(),
+            }
         }
         let next = match came {
             Inward::Put if self.is_readable => Next::Again,

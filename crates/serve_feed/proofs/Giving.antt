@@ -1,7 +1,7 @@
 -- What is told stays told: a client comes, one goes, a request is taken and its act is given.
 use Rattle.std.proofs.Common.{arith, ◌≡◌, ◌⊎◌, inl, inr, ℕ, zero, suc, ◌+◌, Bool, true, false, ◌||◌, List, [], ◌∷◌, ◌++◌, Some, refl, sym, ap, subst}
 use Rattle.std.proofs.Common.{◌∙◌, length, take, drop, set, get_or}
-use Rattle.std.specs.Prelude.{◌<◌, ◌≤◌}
+use Rattle.std.specs.Prelude.{◌<◌, ◌≤◌, if◌then◌else◌}
 use Rattle.std.specs.List.{All, AllPairs, list_any, remove}
 use Rattle.std.proofs.lemmas.Bool.{cases_eq, cases_lt, cases_order, ne_eqb, eq-eqb, lt-ltb}
 use Rattle.std.proofs.lemmas.List.{append-nil, nil_from_length, length-append, get_or_append_left, get_or-set_same, get_or-set_other, length-set, take-set, drop-set-lt}
@@ -19,12 +19,15 @@ use Rattle.realm_acts.specs.declared.act.Act.TheVariants as done
 use Rattle.client_listener.specs.declared.items.FromClient.{FromClient}
 use Rattle.client_listener.specs.declared.items.FromClient.TheVariants as put
 use Rattle.serve_connections.specs.Taken.{taken_by}
+use Rattle.serve_connections.specs.declared.requests.RequestReceiver.{RequestReceiver}
 use Rattle.serve_feed.specs.declared.sources.Source.{Source}
 use Rattle.serve_feed.specs.declared.sources.Sources.{Sources}
+use Rattle.serve_feed.specs.declared.sources.Aside.{Aside}
+use Rattle.serve_feed.specs.declared.sources.Aside.TheVariants as aside
 use Rattle.serve_feed.specs.declared.sources.Next.{Next}
 use Rattle.serve_feed.specs.declared.sources.Next.TheVariants as next
-use Rattle.serve_feed.specs.Tells.{request_of, act_of, acts_of, is_under, under, is_connect, is_hung, known_with, IsTold, AreEnded, HungUp, NeverCame}
-use Rattle.serve_feed.specs.Tells.{AreNumbered, IsGone, TellsOf, Tells, knows, known_at, Closes, TellsWithout, Owes, Finds, known_after, Takes}
+use Rattle.serve_feed.specs.Tells.{request_of, act_of, acts_of, is_under, under, is_connect, is_hung, known_with, held, IsGiven, IsTold, AreEnded, HungUp, NeverCame}
+use Rattle.serve_feed.specs.Tells.{AreNumbered, IsGone, TellsOf, Tells, knows, known_at, Closes, TellsWithout, Owes, Finds, FindsAside, Forgets, known_after, Takes}
 use Rattle.serve_feed.specs.Steps.{Adds}
 use Rattle.serve_feed.specs.Saw.{Saw}
 
@@ -62,19 +65,61 @@ hung_more : (acts : List FromClient) (act : FromClient) → is_hung act ≡ fals
 hung_more acts act off =
     list_any-append is_hung acts (act ∷ []) ∙ ap (λ b. list_any is_hung acts || (b || false)) off ∙ or_false (list_any is_hung acts)
 
+-- ---- what is held
+
+held_none : (source : Source) → source.is_held ≡ false → held source ≡ []
+held_none source off = ap (λ (b : Bool). if b then put.Connect ∷ [] else []) off
+
+held_one : (source : Source) → source.is_held ≡ true → held source ≡ put.Connect ∷ []
+held_one source on = ap (λ (b : Bool). if b then put.Connect ∷ [] else []) on
+
+-- nothing is taken
+pub given_still : (old : Source) (requests : RequestReceiver) → taken_by requests ≡ taken_by old.requests → (acts : List FromClient)
+    → IsGiven acts old → acts ++ held old ≡ acts_of (taken_by requests)
+given_still old requests taken acts is = is ∙ ap acts_of (sym taken)
+
+-- the next request is taken, while none is held
+pub given_next : (old : Source) (requests : RequestReceiver) (request : FromClient) → old.is_held ≡ false
+    → taken_by requests ≡ taken_by old.requests ++ request ∷ [] → (acts : List FromClient) → IsGiven acts old
+    → (acts ++ act_of request) ++ held old ≡ acts_of (taken_by requests)
+given_next old requests request before taken acts is =
+    let bare : acts ≡ acts_of (taken_by old.requests) = sym (append-nil acts) ∙ ap (λ l. acts ++ l) (sym (held_none old before)) ∙ is in
+    ap (λ l. (acts ++ act_of request) ++ l) (held_none old before) ∙ append-nil (acts ++ act_of request)
+    ∙ ap (λ l. l ++ act_of request) bare ∙ sym (acts_more (taken_by old.requests) request) ∙ ap acts_of (sym taken)
+
+-- what is held is given
+pub given_held : (old : Source) → old.is_held ≡ true → (acts : List FromClient) → IsGiven acts old
+    → (acts ++ put.Connect ∷ []) ++ [] ≡ acts_of (taken_by old.requests)
+given_held old before acts is = append-nil (acts ++ put.Connect ∷ []) ∙ ap (λ l. acts ++ l) (sym (held_one old before)) ∙ is
+
+-- a Connect is held from now on
+pub given_holds : (old : Source) (requests : RequestReceiver) → old.is_held ≡ false
+    → taken_by requests ≡ taken_by old.requests ++ put.Connect ∷ [] → (acts : List FromClient) → IsGiven acts old
+    → acts ++ put.Connect ∷ [] ≡ acts_of (taken_by requests)
+given_holds old requests before taken acts is =
+    let bare : acts ≡ acts_of (taken_by old.requests) = sym (append-nil acts) ∙ ap (λ l. acts ++ l) (sym (held_none old before)) ∙ is in
+    ap (λ l. l ++ put.Connect ∷ []) bare ∙ sym (acts_more (taken_by old.requests) put.Connect) ∙ ap acts_of (sym taken)
+
+-- a PING is taken
+pub given_ping : (old : Source) (requests : RequestReceiver) (payload : List ℕ)
+    → taken_by requests ≡ taken_by old.requests ++ put.Ping payload ∷ [] → (acts : List FromClient) → IsGiven acts old
+    → acts ++ held old ≡ acts_of (taken_by requests)
+given_ping old requests payload taken acts is =
+    is ∙ sym (append-nil (acts_of (taken_by old.requests))) ∙ sym (acts_more (taken_by old.requests) (put.Ping payload))
+    ∙ ap acts_of (sym taken)
+
 -- a request is taken, and its act is given
 told_more : (given : List (ℕ × Act)) (old new : Source) (act : Act) → new.number ≡ old.number
-    → taken_by new.requests ≡ taken_by old.requests ++ request_of act ∷ [] → act_of (request_of act) ≡ request_of act ∷ []
+    → IsGiven (under old.number given ++ act_of (request_of act)) new → act_of (request_of act) ≡ request_of act ∷ []
     → new.is_known ≡ known_with (request_of act) old.is_known → is_hung (request_of act) ≡ false
     → IsTold given old → IsTold (given ++ (old.number, act) ∷ []) new
-told_more given old new act number taken same known off told =
+told_more given old new act number gives same known off told =
     let request = request_of act in
     let before = under old.number given in
     let more : under new.number (given ++ (old.number, act) ∷ []) ≡ before ++ request ∷ [] =
     ap (λ n. under n (given ++ (old.number, act) ∷ [])) number ∙ under_same old.number given act in
     record {
-      acts = more ∙ ap (λ l. l ++ request ∷ []) told.acts ∙ ap (λ l. acts_of (taken_by old.requests) ++ l) (sym same)
-          ∙ sym (acts_more (taken_by old.requests) request) ∙ ap acts_of (sym taken);
+      acts = ap (λ l. l ++ held new) (more ∙ ap (λ l. before ++ l) (sym same)) ∙ gives;
       known = known ∙ ap (known_with request) told.known ∙ sym (connect_more before request) ∙ ap (list_any is_connect) (sym more);
       none = ap (list_any is_hung) more ∙ hung_more before request off ∙ told.none;
     }
@@ -83,7 +128,7 @@ told_more given old new act number taken same known off told =
 told_still : (given given' : List (ℕ × Act)) (source : Source) → under source.number given' ≡ under source.number given
     → IsTold given source → IsTold given' source
 told_still given given' source same told = record {
-  acts = same ∙ told.acts;
+  acts = ap (λ l. l ++ held source) same ∙ told.acts;
   known = told.known ∙ ap (list_any is_connect) (sym same);
   none = ap (list_any is_hung) same ∙ told.none;
 }
@@ -273,9 +318,10 @@ none_tells sources empty = record {
     none_below k l = omega (arith, l, ap length empty)
 
 pub came : (old new : Sources) (source : Source) (given : List (ℕ × Act)) → new.list.items ≡ old.list.items ++ source ∷ []
-    → new.last ≡ old.last + 1 → source.number ≡ old.last + 1 → source.is_known ≡ false → length (taken_by source.requests) ≡ 0
+    → new.last ≡ old.last + 1 → source.number ≡ old.last + 1 → source.is_known ≡ false → source.is_held ≡ false
+    → length (taken_by source.requests) ≡ 0
     → Tells old given → Tells new given
-came old new source given list last number known untouched tells =
+came old new source given list last number known unheld untouched tells =
     subst (λ l. TellsOf l new.last given) (sym list) (subst (λ n. TellsOf (old.list.items ++ source ∷ []) n given) (sym last)
     (record {
       numbers = record {
@@ -289,7 +335,8 @@ came old new source given list last number known untouched tells =
       told = All-push (IsTold given) old.list.items source tells.told
           (let none : under source.number given ≡ [] = tells.none source.number (omega (arith, number)) in
           record {
-            acts = none ∙ sym (ap acts_of (nil_from_length (taken_by source.requests) untouched));
+            acts = ap (λ l. l ++ held source) none ∙ held_none source unheld
+                ∙ sym (ap acts_of (nil_from_length (taken_by source.requests) untouched));
             known = known ∙ sym (ap (list_any is_connect) none);
             none = ap (list_any is_hung) none;
           });
@@ -318,7 +365,7 @@ passed old new given list last tells =
 -- what is found at a place where a source is
 pub found : (result : Next) (before now : Sources) (place : ℕ) (given : List (ℕ × Act)) (old new : Source) → place < length before.list.items
     → ((d : Source) → get_or before.list.items place d ≡ old) → now.list.items ≡ set before.list.items place new → now.last ≡ before.last
-    → new.number ≡ old.number → Takes result old.number (taken_by old.requests) (taken_by new.requests)
+    → new.number ≡ old.number → Takes result old new
     → new.is_known ≡ known_after result old.is_known → Tells before given
     → Finds place result now given
 found result before now place given old new within at list last number takes known tells =
@@ -331,20 +378,20 @@ found result before now place given old new within at list last number takes kno
         subst (λ l. TellsOf l now.last after) (sym list) (subst (λ n. TellsOf (set before.list.items place new) n after) (sym last)
         (set_tells before.list.items before.last place given after old new within at number others own tells))
 
-    give : (act : Act) → taken_by new.requests ≡ taken_by old.requests ++ request_of act ∷ []
+    give : (act : Act) → ((acts : List FromClient) → IsGiven acts old → IsGiven (acts ++ act_of (request_of act)) new)
         → act_of (request_of act) ≡ request_of act ∷ [] → new.is_known ≡ known_with (request_of act) old.is_known
         → is_hung (request_of act) ≡ false → IsTold given old → Tells now (given ++ (old.number, act) ∷ [])
-    give act taken same known off told =
+    give act gives same known off told =
         put_in (given ++ (old.number, act) ∷ []) (λ n off. under_other n old.number given act (λ e. off (sym e)))
-        (told_more given old new act number taken same known off told)
+        (told_more given old new act number (gives (under old.number given) told.acts) same known off told)
 
-    keep : acts_of (taken_by new.requests) ≡ acts_of (taken_by old.requests) → new.is_known ≡ old.is_known → IsTold given old
+    keep : ((acts : List FromClient) → IsGiven acts old → IsGiven acts new) → new.is_known ≡ old.is_known → IsTold given old
         → Tells now given
-    keep same known told =
+    keep gives known told =
         put_in given (λ n off. refl)
         (let here : under new.number given ≡ under old.number given = ap (λ n. under n given) number in
         record {
-          acts = here ∙ told.acts ∙ sym same;
+          acts = ap (λ l. l ++ held new) here ∙ gives (under old.number given) told.acts;
           known = known ∙ told.known ∙ ap (list_any is_connect) (sym here);
           none = ap (list_any is_hung) here ∙ told.none;
         })
@@ -371,10 +418,10 @@ found result before now place given old new within at list last number takes kno
     first : 0 < old.number
     first = subst (λ (s : Source). 0 < s.number) (at old) (tells.numbers.first place old within)
 
-    go : (r : Next) → Takes r old.number (taken_by old.requests) (taken_by new.requests) → new.is_known ≡ known_after r old.is_known
+    go : (r : Next) → Takes r old new → new.is_known ≡ known_after r old.is_known
         → IsTold given old
         → (new.is_known ≡ old.is_known → TellsWithout place old.number now given) → Finds place r now given
-    go next.Nothing same known told without = keep (ap acts_of same) known told
+    go next.Nothing gives known told without = keep gives known told
     go (next.End other) both known told without = subst (λ n. TellsWithout place n now given) (sym both.0) (without known)
     go (next.Request other put.Connect) both known told without =
         subst (λ n. Owes place n put.Connect now given) (sym both.0) (first, give done.Connect both.1 refl known refl told)
@@ -382,9 +429,39 @@ found result before now place given old new within at list last number takes kno
         subst (λ n. Owes place n (put.Read read) now given) (sym both.0)
         (without known, λ draw. give (done.Said draw read) both.1 refl known refl told)
     go (next.Request other (put.Ping payload)) both known told without =
-        keep (ap acts_of both.1 ∙ acts_more (taken_by old.requests) (put.Ping payload) ∙ append-nil (acts_of (taken_by old.requests))) known told
+        keep (λ acts is. ap (λ l. l ++ held new) (sym (append-nil acts)) ∙ both.1 acts is) known told
     go (next.Request other put.Hung) both known told without =
         subst (λ n. TellsWithout place n now given) (sym both.0) (without known)
+
+-- what is found at a place where a source is, while no act may be given
+pub found_aside : (result : Aside) (before now : Sources) (place : ℕ) (given : List (ℕ × Act)) (old new : Source)
+    → place < length before.list.items → ((d : Source) → get_or before.list.items place d ≡ old)
+    → now.list.items ≡ set before.list.items place new → now.last ≡ before.last → new.number ≡ old.number
+    → ((acts : List FromClient) → IsGiven acts old → IsGiven acts new) → new.is_known ≡ old.is_known
+    → Forgets result old.is_known → Tells before given → FindsAside place result now given
+found_aside result before now place given old new within at list last number gives known none tells = go result none
+  where
+    kept : Tells now given
+    kept = found next.Nothing before now place given old new within at list last number gives known tells
+
+    inside : place < length now.list.items
+    inside = subst (λ l. place < length l) (sym list) (subst (λ n. place < n) (sym (length-set before.list.items place new)) within)
+
+    there : (d : Source) → get_or now.list.items place d ≡ new
+    there d = ap (λ l. get_or l place d) list ∙ get_or-set_same before.list.items place new d within
+
+    go : (r : Aside) → Forgets r old.is_known → FindsAside place r now given
+    go aside.Nothing none = kept
+    go (aside.Ping payload) none = kept
+    go aside.Gone none =
+        subst (λ b. Closes b new.number (remove now.list.items place) now.last given) (known ∙ none)
+        (gone now.list.items now.last place given new inside there kept).1
+
+-- the connection at a place went, and nothing of it was given
+pub left : (old new : Sources) (place : ℕ) (given : List (ℕ × Act)) → new.list.items ≡ remove old.list.items place → new.last ≡ old.last
+    → TellsOf (remove old.list.items place) old.last given → Tells new given
+left old new place given list last tells =
+    subst (λ l. TellsOf l new.last given) (sym list) (subst (λ n. TellsOf (remove old.list.items place) n given) (sym last) tells)
 
 -- the connection at a place went
 pub closed : (known : Bool) (old new : Sources) (place number : ℕ) (given : List (ℕ × Act)) → known ≡ known_at old.list.items place

@@ -1,5 +1,5 @@
 -- What a turn of a node shows of the cluster's work (docs/THREADS.md). Nothing that is claimed of a cluster rests on it.
-use Rattle.std.specs.Prelude.{ℕ, ◌&&◌, not, Bool, true, false, Option, Some, None, if◌then◌else◌}
+use Rattle.std.specs.Prelude.{ℕ, ◌^◌, ◌-◌, min, ◌&&◌, not, Bool, true, false, Option, Some, None, if◌then◌else◌}
 use Rattle.paxos_packets.specs.Ballot.{below, same_ballot}
 use Rattle.paxos_packets.specs.declared.ballot.Ballot.{Ballot}
 use Rattle.node_actor.specs.declared.heard.Heard.{Heard}
@@ -14,30 +14,35 @@ abbrev pub is_promised : Option Ballot → Ballot → Bool
 is_promised None ballot = false
 is_promised (Some other) ballot = same_ballot other ballot
 
--- what a packet shows to a node that has promised a ballot, and had promised another or none before the packet: a Prepare only if it brought
--- the promise, so that a repeated one shows nothing; work in a ballot that is not below the promise; and a refusal of the node's own ballot
-abbrev pub shown : Heard → Ballot → Option Ballot → Sign
-shown (heard.Prepare ballot) promised before =
-    if same_ballot ballot promised && not (is_promised before promised) then Prepared ballot.node else Nothing
-shown (heard.Ballot ballot) promised before = if below ballot promised then Nothing else AtWork ballot.node
-shown (heard.Refusal ballot other) promised before =
+-- a number as far as 32 bits count
+abbrev pub counted : ℕ → ℕ
+counted n = min n (2 ^ 32 - 1)
+
+-- what a packet shows to a node that has promised a ballot, and had promised another or none before the packet, and whose votes are for so
+-- many slots after its log: a Prepare only if it brought the promise, so that a repeated one shows nothing, with these slots, since its
+-- owner takes them over; work in a ballot that is not below the promise; and a refusal of the node's own ballot
+abbrev pub shown : Heard → Ballot → Option Ballot → ℕ → Sign
+shown (heard.Prepare ballot) promised before slots =
+    if same_ballot ballot promised && not (is_promised before promised) then Prepared ballot.node (counted slots) else Nothing
+shown (heard.Ballot ballot) promised before slots = if below ballot promised then Nothing else AtWork ballot.node
+shown (heard.Refusal ballot other) promised before slots =
     if same_ballot ballot promised && below ballot other then Refused other.node else Nothing
-shown heard.Entries promised before = Nothing
-shown heard.Learned promised before = Told
-shown (heard.Ask first) promised before = Nothing
-shown (heard.Snapshot floor) promised before = Nothing
+shown heard.Entries promised before slots = Nothing
+shown heard.Learned promised before slots = Told
+shown (heard.Ask first) promised before slots = Nothing
+shown (heard.Snapshot floor) promised before slots = Nothing
 
 -- before the first packet or promise nothing is shown
-abbrev pub sign_of : Option Heard → Option Ballot → Option Ballot → Sign
-sign_of (Some packet) (Some promised) before = shown packet promised before
-sign_of (Some packet) None before = Nothing
-sign_of None promised before = Nothing
+abbrev pub sign_of : Option Heard → Option Ballot → Option Ballot → ℕ → Sign
+sign_of (Some packet) (Some promised) before slots = shown packet promised before slots
+sign_of (Some packet) None before slots = Nothing
+sign_of None promised before slots = Nothing
 
 -- what a turn brought while this many beats are due, if this ballot was promised before it
 abbrev pub turn_of : Seen → Option Ballot → ℕ → Turn
 turn_of seen before beats = record {
   from = seen.from;
-  sign = sign_of seen.heard seen.promised before;
+  sign = sign_of seen.heard seen.promised before seen.open_slots;
   applied = seen.applied;
   is_pending = seen.pending;
   beats = beats;

@@ -1,6 +1,7 @@
 -- What the feed of a node has given of its clients: the acts under the number of each connection that is there are the requests that were
--- taken from it, in order; a connection that is gone has ended with a Hung exactly if its Connect was taken.
-use Rattle.std.specs.Prelude.{◌≡◌, ◌<◌, ◌≤◌, ◌==◌, ℕ, Bool, true, false, List, [], ◌∷◌, ◌++◌, Option, None, Some, slice_get, if◌then◌else◌}
+-- taken from it, in order, but for a Connect that is held until an act may be given; a connection that is gone has ended with a Hung exactly
+-- if its Connect was given.
+use Rattle.std.specs.Prelude.{◌≡◌, ◌<◌, ◌≤◌, ◌==◌, ℕ, Bool, true, false, List, [], ◌∷◌, ◌++◌, Option, None, Some, slice_get, if◌then◌else◌, ⊤}
 use Rattle.std.specs.List.{All, AllPairs, flat_map, list_any, remove}
 use Rattle.wamp_message_types.specs.declared.read_result.Read.{Read}
 use Rattle.realm_acts.specs.declared.act.Act.{Act}
@@ -10,6 +11,8 @@ use Rattle.client_listener.specs.declared.items.FromClient.TheVariants as put
 use Rattle.serve_connections.specs.Taken.{taken_by}
 use Rattle.serve_feed.specs.declared.sources.Source.{Source}
 use Rattle.serve_feed.specs.declared.sources.Sources.{Sources}
+use Rattle.serve_feed.specs.declared.sources.Aside.{Aside}
+use Rattle.serve_feed.specs.declared.sources.Aside.TheVariants as aside
 use Rattle.serve_feed.specs.declared.sources.Next.{Next}
 use Rattle.serve_feed.specs.declared.sources.Next.TheVariants as next
 
@@ -56,10 +59,18 @@ known_with (put.Read read) known = known
 known_with (put.Ping payload) known = known
 known_with put.Hung known = known
 
--- the acts under the number of this connection are the requests that were taken from it, in order; it is known if a Connect is among them,
--- and no Hung is
+-- what was taken from a connection and waits until an act may be given
+abbrev pub held : Source → List FromClient
+held source = if source.is_held then put.Connect ∷ [] else []
+
+-- these acts, and then what is held, are the requests that were taken from a connection
+abbrev pub IsGiven : List FromClient → Source → Type 0
+IsGiven acts source = acts ++ held source ≡ acts_of (taken_by source.requests)
+
+-- the acts under the number of this connection are the requests that were taken from it, in order, but for what is held; it is known if a
+-- Connect is among them, and no Hung is
 pub record IsTold (given : List (ℕ × Act)) (source : Source) : Type 0 where
-  pub acts : under source.number given ≡ acts_of (taken_by source.requests)
+  pub acts : IsGiven (under source.number given) source
   pub known : source.is_known ≡ list_any is_connect (under source.number given)
   pub none : list_any is_hung (under source.number given) ≡ false
 
@@ -126,8 +137,21 @@ known_after next.Nothing known = known
 known_after (next.End number) known = known
 known_after (next.Request number request) known = known_with request known
 
--- a connection's next request, or that there is none
-abbrev pub Takes : Next → ℕ → List FromClient → List FromClient → Type 0
-Takes next.Nothing number old new = new ≡ old
-Takes (next.End other) number old new = (other ≡ number) × (new ≡ old)
-Takes (next.Request other request) number old new = (other ≡ number) × (new ≡ old ++ request ∷ [])
+-- a connection's next request, or that there is none; if it is given, all that was taken is
+abbrev pub Takes : Next → Source → Source → Type 0
+Takes next.Nothing old new = (acts : List FromClient) → IsGiven acts old → IsGiven acts new
+Takes (next.End number) old new = (number ≡ old.number) × ((acts : List FromClient) → IsGiven acts old → IsGiven acts new)
+Takes (next.Request number request) old new =
+    (number ≡ old.number) × ((acts : List FromClient) → IsGiven acts old → IsGiven (acts ++ act_of request) new)
+
+-- what is found at a place while no act may be given: the connection may go if nothing of it was given
+abbrev pub FindsAside : ℕ → Aside → Sources → List (ℕ × Act) → Type 0
+FindsAside place aside.Nothing sources given = Tells sources given
+FindsAside place (aside.Ping payload) sources given = Tells sources given
+FindsAside place aside.Gone sources given = TellsOf (remove sources.list.items place) sources.last given
+
+-- a connection is found gone only if nothing of it was given
+abbrev pub Forgets : Aside → Bool → Type 0
+Forgets aside.Nothing known = ⊤
+Forgets (aside.Ping payload) known = ⊤
+Forgets aside.Gone known = known ≡ false

@@ -10,6 +10,7 @@ ghost use Rattle.serve_feed.specs.Saw.{Saw};
 ghost use Rattle.serve_feed.specs.Hears.{Hear};
 ghost use Rattle.serve_feed.specs.Says.{item_of, said_one, said_to};
 
+use crate::held::Held;
 use crate::home::Home;
 use crate::lanes::Lanes;
 use crate::pace::Pace;
@@ -187,6 +188,24 @@ impl<'a> ClientFeed<'a> {
         self.lanes.end_all(self.lobby);
     }
 
+    /// Returns how many connections the node has, of those that it has seen.
+    pub fn connections(&self) -> usize {
+        self.lanes.count()
+    }
+
+    /// Returns why the node holds its clients' acts back, if it does.
+    pub fn held(&self) -> Option<Held> {
+        if self.boot.peers.holds_acts() {
+            Some(Held::Peer)
+        } else if !self.boot.admission.has_room() {
+            Some(Held::UnderWay)
+        } else if self.round.given >= self.round.most {
+            Some(Held::Commits)
+        } else {
+            None
+        }
+    }
+
     // Gives lanes to the connections that came.
     fn take_arrivals(&mut self)
         ensures node { self.new.node ≡ self.old.node }
@@ -230,7 +249,7 @@ impl<'a> ClientFeed<'a> {
         }
         self.round.applied = seen.applied;
         let is_still = !moved || seen.from.is_none() && seen.waiting == [0; 7];
-        let is_idle = is_still && !self.round.is_busy && !self.may_act();
+        let is_idle = is_still && !self.round.is_busy && !self.may_act() && !self.may_tend();
         self.pace.judge(is_idle && !self.is_woken_soon());
         self.round.is_busy = false;
     }
@@ -351,12 +370,31 @@ impl<'a> ClientFeed<'a> {
         }
     }
 
+    // Returns whether the node may give acts.
+    fn has_room(&self) -> bool {
+        !self.boot.peers.holds_acts() && self.boot.admission.has_room()
+    }
+
     // Returns whether a client may do something next, and may have done it.
     fn may_act(&self) -> bool {
-        !self.boot.peers.holds_acts()
-            && self.boot.admission.has_room()
-            && self.round.given < self.round.most
-            && self.lanes.is_on()
+        self.has_room() && self.round.given < self.round.most && self.lanes.is_on()
+    }
+
+    // Returns whether a client may have done what wants no act, while none may be given.
+    fn may_tend(&self) -> bool {
+        !self.has_room() && self.lanes.is_on_aside()
+    }
+
+    // Does for the clients what wants no act, if none may be given.
+    fn tend(&mut self)
+        ensures node { self.new.node ≡ self.old.node }
+        ensures tells { (given : List (ℕ × Act)) → Tells self.old.lanes.sources given → Tells self.new.lanes.sources given }
+    {
+        if !self.may_tend() {
+            return;
+        }
+        self.lanes.tend(self.lobby);
+        self.lanes.wake_told();
     }
 
     // Returns what a client does next.
@@ -415,6 +453,7 @@ impl Feed<Act, Say> for ClientFeed<'_> {
         }
         self.round.may_be_due = false;
         if !self.may_act() {
+            self.tend();
             return None;
         }
         self.act()

@@ -2,14 +2,15 @@
 ghost use Rattle.std.specs.Prelude.{◌≡◌, ◌∷◌, ℕ, List, [], IfSome, MatchOption};
 ghost use Rattle.realm_acts.specs.declared.act.Act.{Act};
 ghost use Rattle.realm_acts.specs.declared.act.Act.TheVariants.{Said};
-ghost use Rattle.serve_feed.specs.Tells.{Tells, TellsWithout, Owes};
+ghost use Rattle.std.specs.List.{remove};
+ghost use Rattle.serve_feed.specs.Tells.{Tells, TellsOf, TellsWithout, Owes};
 ghost use Rattle.serve_feed.specs.Steps.{Steps, Looks};
 ghost use Rattle.serve_feed.specs.Hears.{AreLined, Hears, Hear, nothing, one, IsAt, IsNowhere, Stays};
 
 use crate::lane::Lane;
 use crate::look::Look;
-use crate::sources::{Next, Sources};
-use client_listener::{FromClient, ToClient};
+use crate::sources::{Aside, Next, Sources};
+use client_listener::{Bytes, FromClient, ToClient};
 use paxos_packets::Shared;
 use realm_acts::Act;
 use serve_connections::{Arrival, Lobby};
@@ -20,6 +21,9 @@ use wamp_message_types::Read;
 /// How many lanes are looked at for one act, at most.
 const MOST_LOOKS: u16 = 512;
 
+/// How many lanes are looked at before a turn, at most, while no act may be given.
+const LOOKS_ASIDE: u8 = 8;
+
 // The connections of a node, by ascending number of their transports.
 #[derive(Drop)]
 pub(crate) struct Lanes {
@@ -27,7 +31,9 @@ pub(crate) struct Lanes {
     // What comes of each of them, at the same places.
     sources: Sources,
     lanes: Vec<Lane>,
+    // Which lane is looked at for an act, and which one while no act may be given.
     look: Look,
+    aside: Look,
     // The lanes whose porter is to be told of sayings.
     told: Vec<u32>,
     ghost lined: { AreLined lanes.items sources.last },
@@ -51,6 +57,7 @@ impl Lanes {
             sources: Sources::new(alloc),
             lanes: Vec::new(alloc),
             look: Look::new(),
+            aside: Look::new(),
             told: Vec::new(alloc),
         }
     }
@@ -60,11 +67,22 @@ impl Lanes {
         ensures sources { self.new.sources ≡ self.old.sources }
     {
         self.look.stir();
+        self.aside.stir();
     }
 
-    // Returns whether a lane is left to be looked at.
+    // Returns how many there are.
+    pub fn count(&self) -> usize {
+        self.lanes.len()
+    }
+
+    // Returns whether a lane is left to be looked at for an act.
     pub fn is_on(&self) -> bool {
         self.look.is_on()
+    }
+
+    // Returns whether a lane is left to be looked at while no act may be given.
+    pub fn is_on_aside(&self) -> bool {
+        self.aside.is_on()
     }
 
     // Gives the next number to a connection that came. If no number or no memory is left, the connection ends.
@@ -146,6 +164,8 @@ impl Lanes {
     {
         let known = self.sources.remove(place);
         self.drop_lane(lobby, place);
+        self.look.removed();
+        self.aside.passed_over(place);
         if known {
             Step::Act(number, Act::Hung)
         } else {
@@ -158,11 +178,87 @@ impl Lanes {
         ensures sources { self.new.sources ≡ self.old.sources }
     {
         if place < self.lanes.len() {
-            self.look.removed();
             let lane = self.lanes.remove(place);
             lane.forget_slow(lobby);
             drop(lane);
         }
+    }
+
+    // Does what wants no act, at some lanes: answers the PINGs that come next, and removes each lane of which nothing was given and whose client
+    // is gone.
+    pub fn tend(&mut self, lobby: &Lobby)
+        ensures tells { (given : List (ℕ × Act)) → Tells self.old.sources given → Tells self.new.sources given }
+    {
+        for _ in 0..LOOKS_ASIDE {
+            if !self.step_aside(lobby) {
+                return;
+            }
+        }
+    }
+
+    // Looks at the lane that is next while no act may be given. Returns whether there was one.
+    fn step_aside(&mut self, lobby: &Lobby) -> bool
+        ensures tells { (given : List (ℕ × Act)) → Tells self.old.sources given → Tells self.new.sources given }
+    {
+        let Some(place) = self.aside.place(self.lanes.len()) else {
+            return false;
+        };
+        let is_ended = self.is_ended(place);
+        match self.sources.next_aside(place, is_ended) {
+            Aside::Nothing => {
+                self.leave_aside(place);
+                true
+            },
+            Aside::Ping(payload) => {
+                self.answer_aside(lobby, place, payload);
+                true
+            },
+            Aside::Gone => {
+                self.forget(lobby, place);
+                true
+            },
+        }
+    }
+
+    // Leaves the lane. Its porter may wait for the room of what was taken.
+    fn leave_aside(&mut self, place: usize)
+        ensures sources { self.new.sources ≡ self.old.sources }
+    {
+        if self.aside.leave()
+            && let Some(lane) = self.lanes.get(place)
+        {
+            lane.announce_room();
+        }
+    }
+
+    // Answers a PING of the lane.
+    fn answer_aside(&mut self, lobby: &Lobby, place: usize, payload: Bytes)
+        ensures sources { self.new.sources ≡ self.old.sources }
+    {
+        self.put_at(lobby, place, ToClient::Pong(payload));
+        self.took_aside(place);
+    }
+
+    // Notes that a request of the lane was taken. The lane is left after some.
+    fn took_aside(&mut self, place: usize)
+        ensures sources { self.new.sources ≡ self.old.sources }
+    {
+        if self.aside.took()
+            && let Some(lane) = self.lanes.get(place)
+        {
+            lane.announce_room();
+        }
+    }
+
+    // Removes the lane, of which nothing was given.
+    fn forget(&mut self, lobby: &Lobby, place: usize)
+        ensures forgets { (given : List (ℕ × Act)) → TellsOf (remove self.old.sources.list.items place) self.old.sources.last given
+            → Tells self.new.sources given }
+    {
+        let _known = self.sources.remove(place);
+        self.drop_lane(lobby, place);
+        self.aside.removed();
+        self.look.passed_over(place);
     }
 
     // Treats a request of the lane, whose transport has this number.
@@ -282,6 +378,7 @@ impl Lanes {
         self.lanes.clear();
         self.told.clear();
         self.look = Look::new();
+        self.aside = Look::new();
     }
 }
 

@@ -17,6 +17,7 @@
 #![tactic(auto)]
 
 mod feed;
+mod held;
 mod home;
 mod lane;
 mod lanes;
@@ -28,6 +29,7 @@ mod sources;
 
 pub use actor_run::{Feed, Gate, Seen};
 pub use feed::ClientFeed;
+pub use held::Held;
 pub use home::Home;
 pub use pace::{Pace, Paced};
 pub use paxos_packets::Members;

@@ -78,4 +78,13 @@ impl Look {
         self.taken = 0;
         self.left = self.left.saturating_sub(1);
     }
+
+    // Notes that the lane at this place was removed by another look: those after it have moved.
+    pub fn passed_over(&mut self, place: usize) {
+        if place < self.place {
+            self.place = self.place.saturating_sub(1);
+        } else if place == self.place {
+            self.taken = 0;
+        }
+    }
 }

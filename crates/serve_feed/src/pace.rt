@@ -2,7 +2,7 @@
 use crate::home::Home;
 use actor_run::Gate;
 use serve_connections::Lobby;
-use serve_policy::{BEAT_MICROS, BEATS_A_TICK, Passed, beats_due, left_to_wait};
+use serve_policy::{BEAT_MICROS, BEATS_A_TICK, Passed, beats_due, left_of_waits, left_to_wait};
 use std::cell::Cell;
 use std::sync::Wait;
 use std::time::{Clock, Duration, Instant};
@@ -79,8 +79,8 @@ impl Pace {
         self.is_rested.set(true);
     }
 
-    // Returns whether the node is likely to be woken before beats are due: entries or many packets moved since the last tick. The first turn
-    // after a rest comes before any look.
+    // Returns whether the node is likely to be woken before beats are due: entries or many packets moved since the last tick. The first
+    // turn after a rest comes before any look.
     pub(crate) fn expects_more(&self) -> bool {
         self.is_moving() && self.due.get() == 0 && !self.is_rested.get()
     }
@@ -133,15 +133,16 @@ impl Pace {
     }
 }
 
-/// The gate of a node's thread. If a turn since the last rest was idle and no beats are due, it rests until another thread wakes the node or
-/// the next beats are due; then it asks the caller's gate. One more turn comes between the idle one and the rest: what that turn may take was
-/// put there after the idle one, and the thread that put it there wakes the node. If entries or many packets moved since the last tick, the
-/// feed first looks, between the two, whether the node is woken.
+/// The gate of a node's thread. If a turn since the last rest was idle and no beats are due, it rests until another thread wakes the node
+/// or the next beats are due; then it asks the caller's gate. One more turn comes between the idle one and the rest: what that turn may
+/// take was put there after the idle one, and the thread that put it there wakes the node. If entries or many packets moved since the last
+/// tick, the feed first looks, between the two, whether the node is woken.
 ///
-/// While a client of the node is slow the gate rests for at most 80 ms, so that the porter takes what waits for the client.
+/// While a client of the node is slow the gate rests, so that the porter takes what waits for the client: for at most 80 ms, and 80 ms of
+/// each second for all clients together.
 ///
-/// A round costs some loads, and each 64th one a look at the clock; where the node's store is files two looks, since the rounds with a commit
-/// are timed. If the clock cannot be read a tick is always due.
+/// A round costs some loads, and each 64th one a look at the clock; where the node's store is files two looks, since the rounds with a
+/// commit are timed. If the clock cannot be read a tick is always due.
 #[derive(Drop)]
 pub struct Paced<'a, R: Wait + Clock, G: Gate> {
     rt: &'a R,
@@ -151,14 +152,17 @@ pub struct Paced<'a, R: Wait + Clock, G: Gate> {
     // When the last counted beat ended, and its number since the cluster began.
     last: Cell<Option<Instant>>,
     beat: Cell<u64>,
+    // For how many microseconds of late it has waited for slow clients, and when the last wait ended.
+    waited: Cell<u64>,
+    wait_ended: Cell<Option<Instant>>,
     // Whether rounds are timed, and when the present one began.
     is_timed: bool,
     began: Cell<Option<Instant>>,
 }
 
 impl<'a, R: Wait + Clock, G: Gate> Paced<'a, R, G> {
-    /// Returns a gate that rests before it asks the caller's gate. Beats of 2 ms are counted from the cluster's beginning, or from now if that is
-    /// not known: nodes that tick together wake each other less often.
+    /// Returns a gate that rests before it asks the caller's gate. Beats of 2 ms are counted from the cluster's beginning, or from now if
+    /// that is not known: nodes that tick together wake each other less often.
     pub fn new(rt: &'a R, home: Home<'a>, gate: &'a G) -> Paced<'a, R, G> {
         Paced {
             rt,
@@ -167,6 +171,8 @@ impl<'a, R: Wait + Clock, G: Gate> Paced<'a, R, G> {
             gate,
             last: Cell::new(home.began.or(Instant::now(rt).ok())),
             beat: Cell::new(0),
+            waited: Cell::new(0),
+            wait_ended: Cell::new(None),
             is_timed: home.is_on_disk,
             began: Cell::new(None),
         }
@@ -237,9 +243,10 @@ impl<'a, R: Wait + Clock, G: Gate> Paced<'a, R, G> {
         self.pace.rested();
     }
 
-    // Rests until no client is slow, for 80 ms at the most.
+    // Rests until no client is slow: for at most 80 ms, and 80 ms of each second.
     fn wait_for_slow(&self) {
         let began = Instant::now(self.rt).ok();
+        self.forget_waits(began);
         for _ in 0..u64::MAX {
             let left = self.left_of_wait(began);
             if left.is_zero() {
@@ -251,7 +258,27 @@ impl<'a, R: Wait + Clock, G: Gate> Paced<'a, R, G> {
                 break;
             }
         }
+        self.note_wait(began);
         self.pace.rested();
+    }
+
+    // Forgets earlier waits, by the time that has passed since the last one.
+    fn forget_waits(&self, now: Option<Instant>) {
+        let passed = match (self.wait_ended.get(), now) {
+            (Some(ended), Some(now)) => micros_of(now.saturating_duration_since(ended)),
+            _ => 0,
+        };
+        self.waited.set(left_of_waits(passed, self.waited.get()));
+    }
+
+    // Notes a wait that began then and ends now.
+    fn note_wait(&self, began: Option<Instant>) {
+        let (Some(began), Ok(now)) = (began, Instant::now(self.rt)) else {
+            return;
+        };
+        let micros = micros_of(now.saturating_duration_since(began));
+        self.waited.set(self.waited.get().saturating_add(micros));
+        self.wait_ended.set(Some(now));
     }
 
     // Returns how long a wait that began then may go on: not at all if the clock cannot be read.
@@ -259,7 +286,8 @@ impl<'a, R: Wait + Clock, G: Gate> Paced<'a, R, G> {
         let (Some(began), Ok(now)) = (began, Instant::now(self.rt)) else {
             return Duration::ZERO;
         };
-        Duration::from_micros(left_to_wait(micros_of(now.saturating_duration_since(began))))
+        let micros = micros_of(now.saturating_duration_since(began));
+        Duration::from_micros(left_to_wait(self.waited.get().saturating_add(micros)))
     }
 }
 

@@ -1,6 +1,6 @@
 // What a turn of a node shows of the cluster's work.
 ghost use Rattle.std.specs.Prelude.{◌≡◌};
-ghost use Rattle.serve_feed.specs.Signs.{turn_of, sign_of, shown, is_promised};
+ghost use Rattle.serve_feed.specs.Signs.{turn_of, sign_of, shown, counted, is_promised};
 
 use actor_run::Seen;
 use node_actor::Heard;
@@ -13,7 +13,7 @@ pub(crate) fn turn_of(seen: &Seen, before: Option<Ballot>, beats: u64) -> Turn
 {
     Turn {
         from: seen.from,
-        sign: sign_of(seen.heard, seen.promised, before),
+        sign: sign_of(seen.heard, seen.promised, before, seen.open_slots),
         applied: seen.applied,
         is_pending: seen.pending,
         beats,
@@ -21,22 +21,30 @@ pub(crate) fn turn_of(seen: &Seen, before: Option<Ballot>, beats: u64) -> Turn
 }
 
 // Returns what the packet of a turn showed.
-fn sign_of(heard: Option<Heard>, promised: Option<Ballot>, before: Option<Ballot>) -> Sign
-    ensures { result ≡ sign_of heard promised before }
+fn sign_of(
+    heard: Option<Heard>,
+    promised: Option<Ballot>,
+    before: Option<Ballot>,
+    slots: u64,
+) -> Sign
+    ensures { result ≡ sign_of heard promised before slots }
 {
     match (heard, promised) {
-        (Some(heard), Some(promised)) => shown(heard, promised, before),
+        (Some(heard), Some(promised)) => shown(heard, promised, before, slots),
         _ => Sign::Nothing,
     }
 }
 
-// Returns what a packet showed to a node that has promised a ballot.
-fn shown(heard: Heard, promised: Ballot, before: Option<Ballot>) -> Sign
-    ensures { result ≡ shown heard promised before }
+// Returns what a packet showed to a node that has promised a ballot, and whose votes are for so many slots after its log.
+fn shown(heard: Heard, promised: Ballot, before: Option<Ballot>, slots: u64) -> Sign
+    ensures { result ≡ shown heard promised before slots }
 {
     match heard {
         Heard::Prepare(ballot) if ballot == promised && !is_promised(before, promised) => {
-            Sign::Prepared { owner: ballot.node }
+            Sign::Prepared {
+                owner: ballot.node,
+                slots: counted(slots),
+            }
         }
         Heard::Ballot(ballot) if !ballot.is_below(&promised) => Sign::AtWork { owner: ballot.node },
         Heard::Refusal {
@@ -51,6 +59,13 @@ fn shown(heard: Heard, promised: Ballot, before: Option<Ballot>) -> Sign
         Heard::Ask(_) => Sign::Nothing,
         Heard::Snapshot(_) => Sign::Nothing,
     }
+}
+
+// Returns the number as far as 32 bits count.
+fn counted(number: u64) -> u32
+    ensures { result ≡ counted number }
+{
+    number.min(4_294_967_295) as u32
 }
 
 // Returns whether the node had promised this ballot before.

@@ -3,17 +3,20 @@ ghost use Rattle.std.specs.Prelude.{◌≡◌, ◌<◌, ◌≤◌, ℕ, List, []
 ghost use Rattle.std.specs.List.{remove};
 ghost use Rattle.realm_acts.specs.declared.act.Act.{Act};
 ghost use Rattle.serve_connections.specs.Taken.{taken_by};
-ghost use Rattle.serve_feed.specs.Tells.{known_with, known_at, known_after, Tells, Finds, Takes};
+ghost use Rattle.serve_feed.specs.Tells.{known_with, known_at, known_after, IsGiven, Tells, Finds, FindsAside, Forgets, Takes};
+ghost use Rattle.client_listener.specs.declared.items.FromClient.{FromClient};
 
-use client_listener::FromClient;
+use client_listener::{Bytes, FromClient};
 use serve_connections::{Found, RequestReceiver};
 use std::alloc::Global;
 
-// The requests of a client, the number of its transport, and whether a Connect was taken, so that a Hung is due at the end.
+// The requests of a client, the number of its transport, whether a Connect was given, so that a Hung is due at the end, and whether a Connect
+// was taken that is not given yet.
 #[derive(Drop)]
 pub(crate) struct Source {
     number: u32,
     is_known: bool,
+    is_held: bool,
     requests: RequestReceiver,
 }
 
@@ -25,15 +28,28 @@ pub(crate) enum Next {
     Request(u32, FromClient),
 }
 
+// What is found at a place while no act may be given: nothing, the octets of a PING, or a client that is gone and of which nothing was given.
+#[derive(Drop)]
+pub(crate) enum Aside {
+    Nothing,
+    Ping(Bytes),
+    Gone,
+}
+
 impl Source {
     // Takes the next request, unless the node has ended the connection.
     fn next(&mut self, is_ended: bool) -> Next
         ensures number { self.new.number ≡ self.old.number }
-        ensures takes { Takes result self.old.number (taken_by self.old.requests) (taken_by self.new.requests) }
+        ensures takes { Takes result self.old self.new }
         ensures known { self.new.is_known ≡ known_after result self.old.is_known }
     {
         if is_ended {
             return Next::End(self.number);
+        }
+        if self.is_held {
+            self.is_held = false;
+            self.is_known = true;
+            return Next::Request(self.number, FromClient::Connect);
         }
         match self.requests.next() {
             Found::Nothing => Next::Nothing,
@@ -43,6 +59,60 @@ impl Source {
                 Next::Request(self.number, request)
             },
         }
+    }
+
+    // Takes the next request if it is a PING; a Connect before it is held. Finds a client that is gone if nothing of it was given.
+    fn next_aside(&mut self, is_ended: bool) -> Aside
+        ensures number { self.new.number ≡ self.old.number }
+        ensures keeps { (acts : List FromClient) → IsGiven acts self.old → IsGiven acts self.new }
+        ensures known { self.new.is_known ≡ self.old.is_known }
+        ensures forgets { Forgets result self.old.is_known }
+    {
+        let is_abandoned = self.requests.is_abandoned();
+        if is_ended || is_abandoned {
+            return gone(self.is_known);
+        }
+        self.hold();
+        self.take_ping()
+    }
+
+    // Takes the next request if it is a Connect, and holds it, unless one is held.
+    fn hold(&mut self)
+        ensures number { self.new.number ≡ self.old.number }
+        ensures keeps { (acts : List FromClient) → IsGiven acts self.old → IsGiven acts self.new }
+        ensures known { self.new.is_known ≡ self.old.is_known }
+    {
+        if self.is_held {
+            return;
+        }
+        if !self.requests.take_connect() {
+            return;
+        }
+        self.is_held = true;
+    }
+
+    // Takes the next request if it is a PING.
+    fn take_ping(&mut self) -> Aside
+        ensures number { self.new.number ≡ self.old.number }
+        ensures keeps { (acts : List FromClient) → IsGiven acts self.old → IsGiven acts self.new }
+        ensures known { self.new.is_known ≡ self.old.is_known }
+        ensures forgets { Forgets result self.old.is_known }
+    {
+        match self.requests.take_ping() {
+            Some(payload) => Aside::Ping(payload),
+            None => Aside::Nothing,
+        }
+    }
+}
+
+// Returns what is found of a client that is gone: nothing if a Connect of it was given, since a Hung is due then.
+fn gone(is_known: bool) -> Aside
+    ensures { Forgets result is_known }
+{
+    if is_known {
+        Aside::Nothing
+    } else {
+        Aside::Gone
     }
 }
 
@@ -92,6 +162,7 @@ impl Sources {
         let pushed = self.list.push(Source {
             number,
             is_known: false,
+            is_held: false,
             requests,
         });
         let is_there = pushed.is_ok();
@@ -107,6 +178,18 @@ impl Sources {
         match self.list.get_mut(place) {
             Some(source) => source.next(is_ended),
             None => Next::Nothing,
+        }
+    }
+
+    // Takes the next request at a place if it is a PING, while no act may be given; finds a client that is gone if nothing of it was given. It is
+    // gone, too, if the node has ended its connection.
+    pub fn next_aside(&mut self, place: usize, is_ended: bool) -> Aside
+        ensures finds { (given : List (ℕ × Act)) → Tells self.old given → FindsAside place result self.new given }
+        ensures last { self.new.last ≡ self.old.last }
+    {
+        match self.list.get_mut(place) {
+            Some(source) => source.next_aside(is_ended),
+            None => Aside::Nothing,
         }
     }
 

@@ -28,8 +28,12 @@ returns-then-not-may_act c =
     ] in
     λ given got saw.
     let tells = c.see.ensures.tells (asked_in c.args.self.now.node given) saw in
-    gives_none here.node here.lanes.sources given
-    (carried c.args.self.now.node here.node now.lanes.sources here.lanes.sources given (sym c.see.ensures.node ∙ sym node) (sym sources) tells)
+    let saw_here =
+    carried c.args.self.now.node here.node now.lanes.sources here.lanes.sources given (sym c.see.ensures.node ∙ sym node) (sym sources) tells in
+    let after = c.tend.new.self in
+    gives_none after.node after.lanes.sources given
+    (carried here.node after.node after.lanes.sources after.lanes.sources given (sym c.tend.ensures.node) refl
+    (c.tend.ensures.tells (asked_in here.node given) saw_here))
 
 pub returns-2 : goal.returns-2
 returns-2 c =

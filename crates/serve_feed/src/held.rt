@@ -1,0 +1,12 @@
+// Why a node holds its clients' acts back.
+
+/// Why a node holds its clients' acts back.
+#[derive(Clone, Copy, Debug, PartialEq, Eq)]
+pub enum Held {
+    /// Another node falls behind, or catches up.
+    Peer,
+    /// As many acts are under way as may be.
+    UnderWay,
+    /// As many acts were given since the last turn as the time of a commit allows.
+    Commits,
+}
