@@ -29,6 +29,7 @@ of_node node.Disagree ends = refl
 of_node node.Lost ends = absurd (false≢true ends)
 of_node node.Worn ends = refl
 of_node node.NoMember ends = refl
+of_node node.OtherCluster ends = refl
 of_node node.Memory ends = refl
 
 pub ends_all : (f : ServeFault) → EndsAll f → ends_nothing (serve_fault_of f) ≡ false

@@ -23,7 +23,10 @@ const SERVE: &str =
 // How to run a cluster, for the help of its subcommand.
 const EXAMPLE: &str = "\
 Example: three nodes at 127.0.0.1:9000, 127.0.0.1:9001 and 127.0.0.1:9002, whose rows are kept in the folder data.
-They run until standard input ends (Ctrl-D); started again in the same way, they go on from their rows.
+They run until standard input ends (Ctrl-D); started again in the same way, they go on from their rows. The folder
+stays with the --nodes and the --realm that it was made with.
+
+A line `status` on standard input is answered by a line of each node on standard error.
 
   mkdir data
   wampd serve --nodes 3 --port 9000 --key 7 --dir data";
@@ -34,7 +37,7 @@ Exit status:
   0  the client ended, or was told goodbye; the script was played; the cluster's standard input ended
   2  the command line is wrong
   3  a line of the script is not an event
-  4  a node of the cluster failed, or its store
+  4  a node of the cluster failed, or its store; or the folder is of another cluster
   5  no memory is left
   6  the transport failed, or nothing can be written
 

@@ -1,5 +1,5 @@
-//! Tests of the program's calls over the public surface of `cluster_program`: the command line, scripts, a served cluster; and of the
-//! acceptor's store over SQLite, by its public calls. A crate with tests is proved twice, so they are here.
+//! Tests of the program's calls over the public surface of `cluster_program`: the command line, scripts, a served cluster, the texts of its
+//! folder and its input; and of the acceptor's store over SQLite, by its public calls. A crate with tests is proved twice, so they are here.
 #![tactic(auto)]
 
 #[cfg(test)]
@@ -7,7 +7,11 @@ mod check;
 #[cfg(test)]
 mod clusters;
 #[cfg(test)]
+mod commands;
+#[cfg(test)]
 mod damages;
+#[cfg(test)]
+mod folder;
 #[cfg(test)]
 mod order;
 #[cfg(test)]

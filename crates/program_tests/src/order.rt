@@ -203,10 +203,14 @@ const TEXTS: &[(&str, &str)] = &[
         "serve --help",
         "wampd serve --nodes 3 --port 9000 --key 7 --dir data",
     ),
+    (
+        "serve --help",
+        "A line `status` on standard input is answered",
+    ),
     ("--help", "\n  serve "),
     (
         "--help",
-        "\n  4  a node of the cluster failed, or its store\n",
+        "\n  4  a node of the cluster failed, or its store; or the folder is of another cluster\n",
     ),
     ("--help", "\ndocs/OPERATING.md explains each status"),
 ];

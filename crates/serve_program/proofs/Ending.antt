@@ -34,6 +34,7 @@ by_number node.Disagree e = refl
 by_number node.Lost e = refl
 by_number node.Worn e = refl
 by_number node.NoMember e = refl
+by_number node.OtherCluster e = refl
 by_number node.Memory e = refl
 
 ends_by_number : (f : NodeFault) → ends_by (number_of f) ≡ true → IsEnding f
@@ -45,6 +46,7 @@ ends_by_number node.Disagree e = refl
 ends_by_number node.Lost e = e
 ends_by_number node.Worn e = refl
 ends_by_number node.NoMember e = refl
+ends_by_number node.OtherCluster e = refl
 ends_by_number node.Memory e = refl
 
 pub ends_unless_lost : (f : NodeFault) → is_fatal f ≡ true → (f ≡ node.Lost → ⊥) → IsEnding f
@@ -56,6 +58,7 @@ ends_unless_lost node.Disagree fatal h = refl
 ends_unless_lost node.Lost fatal h = absurd (h refl)
 ends_unless_lost node.Worn fatal h = refl
 ends_unless_lost node.NoMember fatal h = refl
+ends_unless_lost node.OtherCluster fatal h = refl
 ends_unless_lost node.Memory fatal h = refl
 
 -- the faults of a store, of a boot that does not begin, and of a restart that is refused

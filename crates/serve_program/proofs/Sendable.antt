@@ -1,5 +1,6 @@
--- Acts are held by several nodes at a time, and go through boxes in packets. The check looks for this by itself, but gives up at the 22 kinds
--- of a message, whose arguments hold one another; so a kind is shown from its fields, a message from its kinds, a packet from its entries.
+-- Acts are held by several nodes at a time, and go through boxes in packets. The check looks for this by itself, but gives up at the
+-- 22 kinds of a message, whose arguments hold one another; so a kind is shown from its fields, a message from its kinds, a packet from
+-- its entries.
 use denote.Param.Send.{IsSend, IsSync, sendable, enum_send, enum_sync}
 use denote.Enum.Declared.{shape}
 use Rattle.std.proofs.Crossing as heap
@@ -148,7 +149,73 @@ yield_sync = let t = text_sync in let a = args_sync in search sendable depth 20
 -- ---- messages
 
 message_sync : IsSync message.the_field.row
-message_sync = enum_sync (shape message.the_type) ((hello_sync, tt), ((welcome_sync, tt), ((abort_sync, tt), ((goodbye_sync, tt), ((error_sync, tt), ((publish_sync, tt), ((published_sync, tt), ((subscribe_sync, tt), ((subscribed_sync, tt), ((event_sync, tt), ((unsubscribe_sync, tt), ((unsubscribed_sync, tt), ((register_sync, tt), ((registered_sync, tt), ((unregister_sync, tt), ((unregistered_sync, tt), ((call_sync, tt), ((cancel_sync, tt), ((reply_sync, tt), ((invocation_sync, tt), ((interrupt_sync, tt), ((yield_sync, tt), tt))))))))))))))))))))))
+message_sync = enum_sync (shape message.the_type) (
+  (hello_sync, tt),
+  (
+    (welcome_sync, tt),
+    (
+      (abort_sync, tt),
+      (
+        (goodbye_sync, tt),
+        (
+          (error_sync, tt),
+          (
+            (publish_sync, tt),
+            (
+              (published_sync, tt),
+              (
+                (subscribe_sync, tt),
+                (
+                  (subscribed_sync, tt),
+                  (
+                    (event_sync, tt),
+                    (
+                      (unsubscribe_sync, tt),
+                      (
+                        (unsubscribed_sync, tt),
+                        (
+                          (register_sync, tt),
+                          (
+                            (registered_sync, tt),
+                            (
+                              (unregister_sync, tt),
+                              (
+                                (unregistered_sync, tt),
+                                (
+                                  (call_sync, tt),
+                                  (
+                                    (cancel_sync, tt),
+                                    (
+                                      (reply_sync, tt),
+                                      (
+                                        (invocation_sync, tt),
+                                        (
+                                          (interrupt_sync, tt),
+                                          (
+                                            (yield_sync, tt),
+                                            tt,
+                                          ),
+                                        ),
+                                      ),
+                                    ),
+                                  ),
+                                ),
+                              ),
+                            ),
+                          ),
+                        ),
+                      ),
+                    ),
+                  ),
+                ),
+              ),
+            ),
+          ),
+        ),
+      ),
+    ),
+  ),
+)
 
 read_sync : IsSync read.the_field.row
 read_sync = let m = message_sync in search sendable depth 20
@@ -186,7 +253,34 @@ snapshot_send : IsSend snapshot.the_field.row
 snapshot_send = let s = slot_send in search (sendable, heap.crosses) depth 20
 
 kind_send : IsSend (kind.the_field act.the_row).row
-kind_send = enum_send (shape (kind.the_type act.the_row)) ((ballot_send, (search sendable, tt)), ((ballot_send, (floor_send, (votes_send, tt))), ((vote_send, tt), ((vote_send, tt), ((ballot_send, (ballot_send, tt)), ((entries_send, tt), ((slot_send, (entry_send, tt)), ((search sendable, tt), ((snapshot_send, tt), tt)))))))))
+kind_send = enum_send (shape (kind.the_type act.the_row)) (
+  (ballot_send, (search sendable, tt)),
+  (
+    (ballot_send, (floor_send, (votes_send, tt))),
+    (
+      (vote_send, tt),
+      (
+        (vote_send, tt),
+        (
+          (ballot_send, (ballot_send, tt)),
+          (
+            (entries_send, tt),
+            (
+              (slot_send, (entry_send, tt)),
+              (
+                (search sendable, tt),
+                (
+                  (snapshot_send, tt),
+                  tt,
+                ),
+              ),
+            ),
+          ),
+        ),
+      ),
+    ),
+  ),
+)
 
 pub packet_send : IsSend (packet.the_field act.the_row).row
 packet_send = let k = kind_send in search (sendable, heap.crosses) depth 20

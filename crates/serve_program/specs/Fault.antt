@@ -2,7 +2,7 @@
 use Rattle.std.specs.Prelude.{◌≡◌, ◌⊎◌, ℕ, Bool, true, false}
 use Rattle.store_keeper.specs.Fault as keeping
 use Rattle.serve_program.specs.declared.fault.NodeFault.{NodeFault}
-use Rattle.serve_program.specs.declared.fault.NodeFault.TheVariants.{Store, Failed, Rounds, Full, Disagree, Lost, Worn, NoMember, Memory}
+use Rattle.serve_program.specs.declared.fault.NodeFault.TheVariants.{Store, Failed, Rounds, Full, Disagree, Lost, Worn, NoMember, OtherCluster, Memory}
 use Rattle.serve_program.specs.declared.fault.ServeFault.{ServeFault}
 use Rattle.serve_program.specs.declared.fault.ServeFault.TheVariants as cluster
 
@@ -16,6 +16,7 @@ number_of Disagree = 72
 number_of Lost = 73
 number_of Worn = 75
 number_of NoMember = 77
+number_of OtherCluster = 78
 number_of Memory = 76
 
 -- the fault ends a boot: an event for which no round or no room is left ends nothing
@@ -28,6 +29,7 @@ is_fatal Disagree = true
 is_fatal Lost = true
 is_fatal Worn = true
 is_fatal NoMember = true
+is_fatal OtherCluster = true
 is_fatal Memory = true
 
 -- the fault ends a node: one that is lost in its boot begins its next one
@@ -40,6 +42,7 @@ is_ending Disagree = true
 is_ending Lost = false
 is_ending Worn = true
 is_ending NoMember = true
+is_ending OtherCluster = true
 is_ending Memory = true
 
 abbrev pub IsEnding : NodeFault → Type 0

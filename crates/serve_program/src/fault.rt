@@ -33,13 +33,17 @@ pub enum NodeFault {
     /// The node is none of the cluster's members.
     #[error("the node is none of the cluster's members")]
     NoMember,
+    /// The folder is of another cluster.
+    #[error("the folder is of another cluster")]
+    OtherCluster,
     /// Memory ran out.
     #[error("no memory for the node")]
     Memory,
 }
 
 impl NodeFault {
-    /// Returns the fault's number: the store's 61 to 66, 51, 71 to 76 as those of an actor, and 77 for a node that is no member.
+    /// Returns the fault's number: the store's 61 to 66, 51, 71 to 76 as those of an actor, 77 for a node that is no member, and 78 for a folder
+    /// of another cluster.
     pub fn number(self) -> u8
         ensures { result ≡ number_of self }
     {
@@ -52,6 +56,7 @@ impl NodeFault {
             NodeFault::Lost => 73,
             NodeFault::Worn => 75,
             NodeFault::NoMember => 77,
+            NodeFault::OtherCluster => 78,
             NodeFault::Memory => 76,
         }
     }
@@ -139,7 +144,7 @@ fn fault_at(node: u8, fault: NodeFault) -> ServeFault
 }
 
 // Returns the fault of a cluster in which a node ended so.
-fn fault_of(end: NodeEnd) -> ServeFault
+pub(crate) fn fault_of(end: NodeEnd) -> ServeFault
     ensures at { FaultAt end.node end.fault result }
     ensures ends { EndsAll result }
 {

@@ -3,12 +3,17 @@
 
 mod cluster;
 mod cluster_end;
+mod counted;
+mod desk;
 mod fault;
+mod folder;
 mod lives;
 mod nodes;
+mod report;
 mod serve;
 mod source;
 mod station;
+mod status;
 mod stores;
 
 pub use actor_run::Gate;

@@ -4,7 +4,9 @@ ghost use Rattle.serve_program.specs.ClusterEnd.{AgreesAtEnd};
 ghost use Rattle.serve_program.specs.Fault.{EndsAll};
 
 use crate::cluster_end::{ClusterEnd, gather_seats};
-use crate::fault::{NodeFault, ServeFault};
+use crate::desk::Desk;
+use crate::fault::{NodeEnd, NodeFault, ServeFault, fault_of};
+use crate::folder::claim_folder;
 use crate::nodes::{End, FoundedCluster, run_cluster};
 use crate::station::Site;
 use crate::stores::{Stores, find_stray};
@@ -14,11 +16,12 @@ use mail_table::{Office, found};
 use node_actor::Members;
 use rtrb::{Consumer, Producer, RingBuffer};
 use serve_connections::{Arrival, Door, Lobby, run_porter};
+use serve_lines::{Lined, Lines, start_writer};
 use std::alloc::Global;
-use std::io::{Eprint, ErrorKind, Read, Write};
+use std::io::{Eprint, Read, Write};
 use std::marker::Brand;
 use std::net::{Ipv4Addr, Net, TcpListener, TcpStream};
-use std::sync::atomic::AtomicBool;
+use std::sync::atomic::{AtomicBool, AtomicU64};
 use std::sync::{Arc, Wait};
 use std::thread;
 use std::thread::Threads;
@@ -180,23 +183,28 @@ fn start_porters<R: Threads + Wait + Clock + Eprint + Clone + Drop + Send + 'sta
     Ok(())
 }
 
-// Reads to the end of the input, or to a read that fails.
-fn read_to_end<I: Read>(reader: &mut I) {
-    let mut octets = [0u8; 512];
-    for _ in 0..u64::MAX {
-        match reader.read(&mut octets) {
-            Ok(0) => return,
-            Ok(_) => {}
-            Err(error) if error.kind() == ErrorKind::Interrupted => {}
-            Err(_) => return,
-        }
+// Makes the desk at which the nodes with these lobbies are asked for their status.
+fn make_desk(
+    alloc: Global,
+    asked: &Arc<AtomicU64>,
+    lobbies: &[Arc<Lobby>],
+) -> Result<Desk, ServeFault>
+    ensures { IfErr result EndsAll }
+{
+    let mut theirs = Vec::new(alloc);
+    for lobby in lobbies {
+        theirs.push(Arc::try_clone(lobby)?)?;
     }
+    Ok(Desk {
+        asked: Arc::try_clone(asked)?,
+        lobbies: theirs,
+    })
 }
 
-// Starts the thread that waits for the end of the input.
-fn watch_input<R, I>(rt: &R, reader: I, ends: &Sender<End>) -> Result<(), ServeFault>
+// Starts the thread that does what the input asks for, and waits for its end.
+fn watch_input<R, I>(rt: &R, reader: I, desk: Desk, ends: &Sender<End>) -> Result<(), ServeFault>
 where
-    R: Threads + Wait + Clone + Drop + Send + 'static,
+    R: Threads + Wait + Eprint + Clone + Drop + Send + 'static,
     I: Read + Drop + Send + 'static,
     ensures { IfErr result EndsAll }
 {
@@ -204,7 +212,7 @@ where
     let ends = ends.clone()?;
     let spawned = thread::spawn(rt, move || {
         let mut reader = reader;
-        read_to_end(&mut reader);
+        desk.run(&theirs, &mut reader);
         let _ = ends.send(&theirs, End::Input);
     });
     match spawned {
@@ -237,12 +245,13 @@ fn refuse_stray<R: Eprint>(
     })
 }
 
-// Returns where the nodes' rows are kept. Refuses a folder with the database of a node above the members.
+// Returns where the nodes' rows are kept. Refuses a folder with the database of a node above the members, and one of another cluster.
 fn stores_of<'a, R: Eprint>(
     rt: &R,
     host: &'a HostRuntime,
     dir: Option<&'a str>,
     members: Members,
+    realm: &str,
 ) -> Result<Stores<'a>, ServeFault>
     ensures { IfErr result EndsAll }
 {
@@ -250,19 +259,16 @@ fn stores_of<'a, R: Eprint>(
         return Ok(Stores::Memory);
     };
     refuse_stray(rt, host, folder, members)?;
+    if let Err(fault) = claim_folder(rt, host, folder, members, realm) {
+        return Err(fault_of(NodeEnd { node: 1, fault }));
+    }
     Ok(Stores::Folder { host, folder })
 }
 
-/// Runs this cluster, each node on a thread under this gate, and serves its clients. Writes where each node listens before that.
-///
-/// Returns when the reader ends, with what the nodes' seats knew, if every node was still running then. An error is the fault that ended the
-/// cluster before; that a node is lost in its boot is none: it begins its next boot, without its clients. A folder that has the database of a
-/// node above the members is refused with `NoMember`, and a line on standard error names the file: nothing is opened or changed then.
-///
-/// Writes each boot, each node that begins to lead, and the fault by which a node ends, in a line on standard error. Threads that wait for a
-/// connection, for a client or for the reader are left.
-pub fn serve_run<R, I, W, G>(
+// Runs this cluster, whose threads say their lines to this runtime.
+fn serve_lined<R, I, W, G>(
     rt: &R,
+    lined: &Lined<R>,
     host: &HostRuntime,
     reader: I,
     writer: &mut W,
@@ -294,7 +300,7 @@ where
         realm,
     } = config;
     let alloc = host.alloc();
-    let stores = stores_of(rt, host, dir, members)?;
+    let stores = stores_of(lined, host, dir, members, realm)?;
     let mut doors = open_doors(rt, alloc, members, port)?;
     print_ports(writer, members, port)?;
     let lobbies = make_lobbies(alloc, members)?;
@@ -305,13 +311,16 @@ where
     };
     let mut porters = Vec::new(alloc);
     let arrivals = make_arrivals(alloc, members, &mut porters)?;
-    start_porters(rt, alloc, &lobbies, &mut doors, porters)?;
-    watch_input(rt, reader, &sender)?;
+    start_porters(lined, alloc, &lobbies, &mut doors, porters)?;
+    let asked = Arc::new(alloc, AtomicU64::new(0))?;
+    let desk = make_desk(alloc, &asked, &lobbies)?;
+    watch_input(lined, reader, desk, &sender)?;
     let open = AtomicBool::new(true);
     let site = Site {
         stores,
         gate,
         open: &open,
+        asked: &asked,
         lobbies: &lobbies,
         key,
         realm,
@@ -324,6 +333,65 @@ where
         arrivals,
     };
     let ends = (&sender, &receiver);
-    let seats = run_cluster::<R, G, Brand>(rt, alloc, founded, &site, ends)?;
+    let seats = run_cluster::<Lined<R>, G, Brand>(lined, alloc, founded, &site, ends)?;
     Ok(gather_seats(mail, seats))
+}
+
+/// Runs this cluster, each node on a thread under this gate, and serves its clients. Writes where each node listens before that.
+///
+/// Returns when the reader ends, with what the nodes' seats knew, if every node was still running then. An error is the fault that ended the
+/// cluster before; that a node is lost in its boot is none: it begins its next boot, without its clients. A folder that has the database of a
+/// node above the members is refused with `NoMember`, and one whose file `cluster` is of other members or of another realm with `OtherCluster`,
+/// by a line on standard error that names the file: nothing is opened or changed then. A folder without that file gets it.
+///
+/// Writes each boot, each node that begins to lead or to serve, how far a long start is, and the fault by which a node ends, in a line on standard
+/// error; a line `status` from the reader is answered by one of each node. A thread of its own writes the lines, so that nobody waits for a
+/// write; at the end all of them have a second to be written. Threads that wait for a connection, for a client or for the reader are left.
+pub fn serve_run<R, I, W, G>(
+    rt: &R,
+    host: &HostRuntime,
+    reader: I,
+    writer: &mut W,
+    config: ClusterConfig<'_>,
+    gate: &G,
+) -> Result<Option<ClusterEnd>, ServeFault>
+where
+    R: Net<Listener = TcpListener, Stream = TcpStream>
+        + Threads
+        + Wait
+        + Clock
+        + Eprint
+        + Clone
+        + Drop
+        + Send
+        + Sync
+        + 'static,
+    I: Read + Drop + Send + 'static,
+    W: Write,
+    G: Gate + Sync,
+    ensures agrees { IfOk result (λ end. IfSome end (AgreesAtEnd config.entry.members)) }
+    ensures ends { IfErr result EndsAll }
+{
+    // Taken apart until nothing fails before the run: no exit is to hold it.
+    let ClusterConfig {
+        members,
+        port,
+        key,
+        dir,
+        realm,
+    } = config;
+    let alloc = host.alloc();
+    let lines = Arc::new(alloc, Lines::new(alloc)?)?;
+    start_writer(rt, &lines)?;
+    let lined = Lined::new(rt.clone()?, Arc::try_clone(&lines)?);
+    let config = ClusterConfig {
+        members,
+        port,
+        key,
+        dir,
+        realm,
+    };
+    let end = serve_lined(rt, &lined, host, reader, writer, config, gate);
+    lines.settle(rt);
+    end
 }

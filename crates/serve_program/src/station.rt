@@ -1,40 +1,39 @@
 // A node's thread.
-ghost use Rattle.std.specs.Prelude.{◌≡◌, ◌++◌, [], false, List, IfOk};
-ghost use Rattle.std.specs.Option.{option_to_list};
+ghost use Rattle.std.specs.Prelude.{◌≡◌, false, IfOk};
 ghost use Rattle.mail_table.specs.Seats.{Owns};
 ghost use Rattle.realm_machine.specs.Machine.{has_failed};
-ghost use Rattle.paxos_node.specs.declared.event.Event.{Event};
-ghost use Rattle.realm_acts.specs.declared.act.Act.{Act};
-ghost use Rattle.realm_machine.specs.declared.sayings.say.Say.{Say};
-ghost use Rattle.serve_feed.specs.Feeds.{HasGiven};
 
 use crate::cluster::{Cluster, FreshSeat, Left};
+use crate::counted::CountedStore;
 use crate::fault::{NodeEnd, NodeFault};
 use crate::lives::run_lives;
-use crate::source::{Boots, Source};
+use crate::report::{Reporter, ReportingFeed};
+use crate::source::Source;
 use crate::stores::{MemoryStore, Stores, open_node_store};
-use actor_run::{Feed, Gate, Seen};
-use node_actor::{Event, Keeper, KeeperFault, Mail, Members, NodeSeat};
-use realm_machine::{Act, Limits, Realm, Say};
+use actor_run::Gate;
+use node_actor::{Keeper, KeeperFault, Mail, Members, NodeSeat};
+use realm_machine::{Act, Limits, Realm};
 use realm_snapshot::KeptRealm;
 use rtrb::Consumer;
 use serve_connections::{Arrival, Lobby};
 use serve_feed::{ClientFeed, Home, Pace, Paced};
 use sqlite_disk::Unknown;
 use std::alloc::{AllocError, Global};
+use std::cell::Cell;
 use std::io::Eprint;
 use std::marker::PhantomData;
-use std::sync::atomic::{AtomicBool, Ordering};
+use std::sync::atomic::{AtomicBool, AtomicU64, Ordering};
 use std::sync::{Arc, Wait};
 use std::time::{Clock, Instant};
 
-/// What all nodes' threads share: the stores, the gate that each turn asks, whether the cluster is still to run, where each node is woken, the
-/// key of its draws, the realm's name, and when the cluster began.
+/// What all nodes' threads share: the stores, the gate that each turn asks, whether the cluster is still to run, how often the nodes were asked
+/// for their status, where each node is woken, the key of its draws, the realm's name, and when the cluster began.
 #[derive(Drop)]
 pub(crate) struct Site<'a, G> {
     pub stores: Stores<'a>,
     pub gate: &'a G,
     pub open: &'a AtomicBool,
+    pub asked: &'a AtomicU64,
     pub lobbies: &'a [Arc<Lobby>],
     pub key: u64,
     pub realm: &'a str,
@@ -53,56 +52,6 @@ impl<R: Wait + Clock, G: Gate> Gate for ShutGate<'_, R, G> {
         self.open.load(Ordering::SeqCst)
             && self.paced.pass(node, turn)
             && self.open.load(Ordering::SeqCst)
-    }
-}
-
-// The feed of a node's clients. It reports each boot, and each time that the node begins to lead, on standard error.
-#[derive(Drop)]
-struct ReportingFeed<'a, R> {
-    rt: &'a R,
-    node: u8,
-    leads: bool,
-    clients: ClientFeed<'a>,
-}
-
-impl<R: Eprint> Feed<Act, Say> for ReportingFeed<'_, R> {
-    ghost use Rattle.serve_feed.specs.Feeds.{HasGiven};
-
-    ghost saw = { λ feed given got. HasGiven feed.clients given };
-
-    fn next(&mut self, seen: Seen) -> Option<Event<Act>>
-        ensures { (given : List (Event Act)) (got : List Say) → HasGiven self.old.clients given
-            → HasGiven self.new.clients (given ++ option_to_list result) }
-    {
-        if seen.leads && !self.leads {
-            let _ = eprintln!(self.rt; "node {} leads", self.node);
-        }
-        self.leads = seen.leads;
-        self.clients.next(seen)
-    }
-
-    fn hand(&mut self, says: Vec<Say>)
-        ensures { (given : List (Event Act)) (got : List Say) → HasGiven self.old.clients given → HasGiven self.new.clients given }
-    {
-        self.clients.hand(says)
-    }
-}
-
-impl<R: Eprint> Boots<Act, Say> for ReportingFeed<'_, R> {
-    fn up(&mut self, node: u8, boot: u64)
-        ensures { HasGiven self.new.clients [] }
-    {
-        self.clients.begin(boot);
-        let _ = eprintln!(self.rt; "node {node} is up in boot {boot}");
-    }
-
-    fn up_again(&mut self, node: u8, boot: u64)
-        ensures { HasGiven self.new.clients [] }
-    {
-        self.clients.restart(boot);
-        let _ = eprintln!(self.rt;
-            "node {node} is restarted in boot {boot}: it was taken to be lost"
-        );
     }
 }
 
@@ -172,10 +121,10 @@ impl<'a, C: Cluster> Station<'a, C> {
             paced: Paced::new(rt, home, site.gate),
         };
         let again = home_of(node, fresh.members, site, lobby, &pace);
+        let last = Cell::new(0);
+        let keeper = CountedStore::new(keeper, &last);
         let mut feed = ReportingFeed {
-            rt,
-            node,
-            leads: false,
+            reporter: Reporter::new(rt, node, fresh.members, &last, site.asked),
             clients: ClientFeed::new(alloc, again, 0, arrivals),
         };
         let source = Realms { name: site.realm };

@@ -3,7 +3,7 @@
 #![tactic(auto)]
 
 use cluster_program::{
-    Gate, Members, Order, RunFault, UsageFault, help_of, order_of, script_run, serve_run,
+    Gate, Members, Order, RunFault, UsageFault, help_of, order_of, say_last, script_run, serve_run,
     stream_run, unreadable_words,
 };
 use std::env;
@@ -103,8 +103,18 @@ where
         &Always,
     ) {
         Ok(()) => ExitCode::SUCCESS,
-        Err(fault) => failure(rt, fault),
+        Err(fault) => last_failure(rt, threads, fault),
     }
+}
+
+// Says the fault that ended a cluster on standard error, for which nobody waits long, and returns its status.
+fn last_failure<R>(rt: &HostRuntime, threads: &R, fault: RunFault) -> ExitCode
+where
+    R: Threads + Wait + Clock + Eprint + Clone + Drop + Send + 'static,
+{
+    let status = fault.status();
+    say_last(threads, rt.alloc(), fault);
+    ExitCode::from(status)
 }
 
 // Says the fault on standard error, and returns its status.

@@ -1,4 +1,4 @@
-use Rattle.serve_program.proofs.serve.serve_run.Given as goal
+use Rattle.serve_program.proofs.serve.serve_lined.Given as goal
 
 -- the cluster's table is the one that was founded
 abbrev pub ghosts-run_cluster : goal.ghosts-run_cluster
