@@ -10,6 +10,8 @@ mod commits;
 #[cfg(test)]
 mod disks;
 #[cfg(test)]
+mod kept;
+#[cfg(test)]
 mod session;
 #[cfg(test)]
 mod store_actors;

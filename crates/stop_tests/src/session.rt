@@ -5,9 +5,10 @@ ghost use Rattle.std.specs.Prelude.{◌≡◌, All};
 ghost use Rattle.test_stands.specs.Fresh.{IsFresh};
 
 use crate::check::Check;
+use crate::kept::{are_same, is_all_kept};
 use mail_table::{Mail, NodeSeat, Office, found};
 use node_actor::{Entry, Keeper, KeeperFault, Members};
-use paxos_packets::{Ballot, Body, Rows, Slot};
+use paxos_packets::{Body, Rows};
 use std::alloc::Global;
 use std::process::Abort;
 use store_keeper::MemKeeper;
@@ -194,42 +195,6 @@ fn stop_of<K: Keeper<Number>>(rt: &impl Abort, two: &Second<'_, K>, heard: Heard
 }
 
 // What node 2 finds again.
-
-// Whether the ballot of a promise or of a vote is found, or a later one in its place.
-fn is_kept(known: Option<Ballot>, found: Option<Ballot>) -> bool {
-    match (known, found) {
-        (None, _) => true,
-        (Some(_), None) => false,
-        (Some(known), Some(found)) => !found.is_below(&known),
-    }
-}
-
-fn ballot_in(rows: &Rows<Number>, slot: Slot) -> Option<Ballot> {
-    match rows.votes.find(slot) {
-        Some(vote) => Some(vote.ballot),
-        None => None,
-    }
-}
-
-fn are_votes_kept(known: &Rows<Number>, found: &Rows<Number>) -> bool {
-    for vote in known.votes.as_slice() {
-        if !is_kept(Some(vote.ballot), ballot_in(found, vote.slot)) {
-            return false;
-        }
-    }
-    true
-}
-
-// Whether all that was promised is found: the boot, the promise, and the votes, each of them or a later one in its place.
-fn is_all_kept(known: &Rows<Number>, found: &Rows<Number>) -> bool {
-    known.boot <= found.boot
-        && is_kept(known.promised, found.promised)
-        && are_votes_kept(known, found)
-}
-
-fn are_same(known: &Rows<Number>, found: &Rows<Number>) -> bool {
-    known.boot == found.boot && known.promised == found.promised && known.votes.same(&found.votes)
-}
 
 // Returns whether these are new rows. A node that was never opened had none.
 fn are_new(rt: &impl Abort, known: Option<&Rows<Number>>, found: &Rows<Number>) -> bool {
