@@ -1,8 +1,8 @@
 """What the tests of a served cluster share: a client, a cluster of the built program, publishers and subscribers at full speed, threads
 that stand still, and processors that are busy. Every wait is bounded, and end_all ends what was started.
 
-It is a module, and also the program of its own helper processes (class Helper): clusters.py WORK OPTIONS, where WORK is `publish` or
-`read`. WAMPD names a program to use in place of crates/wampd/out/wampd.
+It is a module, and also the program of its own helper processes (class Helper): clusters.py WORK OPTIONS, where WORK is `publish`,
+`read`, `call` or `crawl`. WAMPD names a program to use in place of crates/wampd/out/wampd.
 """
 import atexit
 import collections
@@ -23,7 +23,7 @@ import time
 
 HERE = os.path.dirname(os.path.abspath(__file__))
 PROGRAM = os.environ.get("WAMPD", os.path.join(HERE, "..", "crates", "wampd", "out", "wampd"))
-# How many nodes a cluster has if no other number is given, and how many it has at the most.
+# How many nodes a cluster has if no other number is given, and how many it has at most.
 NODES = 3
 MOST_NODES = 7
 # Seconds to wait for one answer, and for a program to be up or to end.
@@ -41,7 +41,7 @@ ANSWER = bytes([0x7F, 0xB1, 0, 0])
 # The answer of a node that has no room for one more connection.
 REFUSAL = bytes([0x7F, 0x40, 0, 0])
 # What may wait for a client at its node: octets, and then messages.
-OCTETS_WAITING = 1 << 20
+OCTETS_WAITING = 16 << 20
 SAYINGS_WAITING = 1024
 ROLES = {"publisher": {}, "subscriber": {}, "caller": {}, "callee": {}}
 
@@ -313,6 +313,14 @@ class Cluster:
         """Returns the nodes that have said that they lead, in that order."""
         return [int(node) for node in re.findall(r"^node (\d) leads$", self.told(), re.M)]
 
+    def leader(self):
+        """Returns the node that has said last that it leads. Waits until one has: a thread of its own writes the lines."""
+        until = time.monotonic() + PATIENCE
+        while not (leaders := self.leaders()):
+            hold(time.monotonic() < until, f"no node says that it leads: {self.told()!r}")
+            time.sleep(0.01)
+        return leaders[-1]
+
     def takes_over(self, limit):
         """Returns the seconds from the moment at which the last node is up until one leads: the time to prepare a ballot, and to take over
         all votes that are reported. Returns None if that takes more than `limit` seconds."""
@@ -350,11 +358,11 @@ class Cluster:
 
     def node_threads(self):
         """Returns the system's numbers of the nodes' threads, by node. In the order of their start the program's threads are the first one,
-        the porters', the input's, and the nodes', the last node's first. Shows that each thread is its node's: while it stands still, its
-        node answers no PING and its porter answers a handshake, and the other nodes answer."""
+        that of the lines, the porters', the input's, and the nodes', the last node's first. Shows that each thread is its node's: while it
+        stands still, its node answers no PING and its porter answers a handshake, and the other nodes answer."""
         folder = f"/proc/{self.child.pid}/task"
         until = time.monotonic() + PATIENCE
-        while len(os.listdir(folder)) < 2 * self.nodes + 2:
+        while len(os.listdir(folder)) < 2 * self.nodes + 3:
             hold(time.monotonic() < until, f"it has {len(os.listdir(folder))} threads")
             time.sleep(0.01)
         threads = dict(enumerate(map(int, os.listdir(folder)[: -self.nodes - 1 : -1]), 1))
@@ -840,7 +848,40 @@ def work_call(callers, callees, octets=32, pause=0, limit=PATIENCE):
     say({"done": len(took), "took": took})
 
 
-WORKS = {"publish": work_publish, "read": work_read, "call": work_call}
+def work_crawl(port, topic, rate, nap):
+    """Runs a Reader that reads this number of events a second, so much at a time that it can nap for so many seconds between. A line on its
+    input ends it. It says whether it was closed, and how many octets it read."""
+    reader = Reader(port, topic)
+    say("ready")
+    first = b""
+    while len(first) < 1 << 16 and not is_told():
+        more = reader.stream.recv(1 << 12)
+        if not more:
+            break
+        first += more
+    octets, begin, is_closed = len(first), time.monotonic(), len(first) < 1 << 16
+    size = len(first) / max(1, len(frames(first)[0]))
+    while not is_told():
+        due = int(rate * size * (time.monotonic() - begin)) + (1 << 16) - octets
+        while due > 0 and not is_closed and not is_told():
+            if not select.select([reader.stream], [], [], 0.1)[0]:
+                break
+            try:
+                more = reader.stream.recv(min(due, 1 << 16))
+            except ConnectionError:
+                more = b""
+            is_closed = not more
+            octets, due = octets + len(more), due - len(more)
+        time.sleep(nap)
+    say({"closed": is_closed, "octets": octets})
+
+
+def is_told():
+    """Returns whether a line, or the end, is on the input."""
+    return bool(select.select([sys.stdin], [], [], 0)[0])
+
+
+WORKS = {"publish": work_publish, "read": work_read, "call": work_call, "crawl": work_crawl}
 
 
 # ---- programs
