@@ -1,17 +1,18 @@
--- The places of a run and those ahead of it: where an entry is found, where one is put, and which slots have a place.
+-- The places of a run after a floor and those ahead of it: where an entry is found, where one is put, and which slots have a place.
 use Rattle.std.proofs.Common.{◌≡◌, ℕ, zero, suc, ◌+◌, ◌<◌, ◌≤◌, Bool, true, false, cond, ◌||◌, Option, Some, None, List, [], ◌∷◌, ◌++◌}
 use Rattle.std.proofs.Common.{Ordering, Less, Equal, Greater, length, get_or, set, ltb, eqb, refl, ap, sym, ◌∙◌, subst, lt-ltb, eq-eqb, arith, is_some}
 use Rattle.std.proofs.lemmas.Bool.{ltb-true, eqb-true}
 use Rattle.std.proofs.lemmas.Bool.Decides.{nat_tests}
 use Rattle.std.specs.Ordering.{nat_cmp, is_eq, match_ordering}
-use Rattle.std.specs.Prelude.{option_map, ◌==◌, ◌^◌}
+use Rattle.std.specs.Prelude.{option_map, ◌==◌, ◌^◌, nat_le}
 use Rattle.std.specs.Option.{option_flatten}
 use Rattle.std.specs.List.{find, list_any}
 use Rattle.std.specs.Map.{lookup, keys_of}
 use Rattle.std.specs.BTreeMap.{insert_entry, is_at}
 use Rattle.paxos_packets.specs.declared.entry.Entry.{Entry}
 use Rattle.paxos_learner.specs.declared.learned.LearnedEntry.{LearnedEntry}
-use Rattle.paxos_learner.specs.Learned.{placed, placed_in, places_from, all_places, shelf_with, shelf_of, starts_at, AreRising, is_learned, has_place, KeepsPlaces}
+use Rattle.paxos_learner.specs.Learned.{placed, placed_in, places_from, all_places, shelf_with, shelf_of, starts_at, AreRising, is_learned, has_place}
+use Rattle.paxos_learner.specs.Learned.{is_closed, has_room_on, KeepsPlaces}
 use Rattle.paxos_learner.specs.Learner.{learned_at, put_learned}
 
 abbrev Places : Type 0 → Type 0
@@ -148,8 +149,9 @@ pub all_rise : {B : Type 0} (n : ℕ) (run : List (Option (Entry B))) (ps : Plac
 all_rise n [] ps a = lower n (n + 0) ps (omega arith) a
 all_rise n (o ∷ os) ps a = (omega arith, all_rise (suc n) os ps (lower (suc n + length os) (n + suc (length os)) ps (omega arith) a))
 
-pub whole_rises : {B : Type 0} (run : List (Option (Entry B))) (ps : Places B) → AreRising (length run) ps → AreRising 0 (all_places run ps)
-whole_rises run ps a = all_rise 0 run ps (lower (0 + length run) (length run) ps (omega arith) a)
+pub whole_rises : {B : Type 0} (floor : ℕ) (run : List (Option (Entry B))) (ps : Places B) → AreRising (floor + length run) ps
+    → AreRising floor (all_places floor run ps)
+whole_rises floor run ps a = all_rise floor run ps a
 
 pub look_run : {B : Type 0} (n slot i : ℕ) (run : List (Option (Entry B))) (rest : Places B) (d : Option (Entry B)) → slot ≡ n + i
     → i < length run → lookup (is_at (nat_cmp slot)) (places_from n run ++ rest) ≡ Some (get_or run i d)
@@ -185,16 +187,17 @@ put_behind {B} n slot x (o ∷ os) rest l =
 
 -- an entry is found in the run, or after it
 
-pub in_run : {B : Type 0} (slot i : ℕ) (run : List (Option (Entry B))) (ps : Places B) (o : Option (Entry B)) → slot ≡ 1 + i → i < length run
-    → o ≡ get_or run i o → AreRising (length run) ps → o ≡ learned_at slot (placed (all_places run ps))
-in_run slot i run ps o p l q a =
-    ap option_flatten (ap Some q ∙ sym (look_run 1 slot i run ps o p l)) ∙ in_ahead slot 0 (all_places run ps) (whole_rises run ps a)
+pub in_run : {B : Type 0} (floor slot i : ℕ) (run : List (Option (Entry B))) (ps : Places B) (o : Option (Entry B)) → slot ≡ suc floor + i
+    → i < length run → o ≡ get_or run i o → AreRising (floor + length run) ps → o ≡ learned_at slot (placed (all_places floor run ps))
+in_run floor slot i run ps o p l q a =
+    ap option_flatten (ap Some q ∙ sym (look_run (suc floor) slot i run ps o p l))
+    ∙ in_ahead slot floor (all_places floor run ps) (whole_rises floor run ps a)
 
-pub past_run : {B : Type 0} (slot : ℕ) (run : List (Option (Entry B))) (ps : Places B) → 1 + length run ≤ slot → AreRising (length run) ps
-    → learned_at slot (placed ps) ≡ learned_at slot (placed (all_places run ps))
-past_run slot run ps l a =
-    sym (in_ahead slot 0 ps (lower 0 (length run) ps (omega arith) a)) ∙ ap option_flatten (sym (look_behind 1 slot run ps l))
-    ∙ in_ahead slot 0 (all_places run ps) (whole_rises run ps a)
+pub past_run : {B : Type 0} (floor slot : ℕ) (run : List (Option (Entry B))) (ps : Places B) → suc floor + length run ≤ slot
+    → AreRising (floor + length run) ps → learned_at slot (placed ps) ≡ learned_at slot (placed (all_places floor run ps))
+past_run floor slot run ps l a =
+    sym (in_ahead slot (floor + length run) ps a) ∙ ap option_flatten (sym (look_behind (suc floor) slot run ps l))
+    ∙ in_ahead slot floor (all_places floor run ps) (whole_rises floor run ps a)
 
 -- the run goes on by a place
 
@@ -272,31 +275,39 @@ pub place_kept : {B : Type 0} (slot : ℕ) (ps : Places B)
     → has_place slot (placed (insert_entry nat_cmp ps slot None)) (keys_of (insert_entry nat_cmp ps slot None)) ≡ true
 place_kept slot ps = or_right (is_learned slot (placed (insert_entry nat_cmp ps slot None))) _ (key_put slot None ps)
 
-pub keeps_kept : {B : Type 0} (slot : ℕ) (ps : Places B) → lookup (is_at (nat_cmp slot)) ps ≡ None
-    → KeepsPlaces (shelf_with ps) (shelf_with (insert_entry nat_cmp ps slot None))
-keeps_kept {B} slot ps h other =
-    or_both (is_learned other (placed ps)) _ _ _
-    (λ g. subst (λ (ls : List (LearnedEntry B)). is_learned other ls ≡ true) (sym (kept_among slot ps h)) g)
-    (λ g. key_stays other slot None ps g)
+-- a closed slot has room, and others have theirs by their places
+closed_or : (floor slot : ℕ) (a b : Bool) → (a ≡ true → b ≡ true) → (is_closed floor slot || a) ≡ true → (is_closed floor slot || b) ≡ true
+closed_or floor slot a b f h = or_then (is_closed floor slot) a b h f
 
-pub keeps_put : {B : Type 0} (slot : ℕ) (e : Entry B) (ps : Places B)
+pub keeps_kept : {B : Type 0} (floor slot : ℕ) (ps : Places B) → lookup (is_at (nat_cmp slot)) ps ≡ None
+    → KeepsPlaces (shelf_with floor ps) (shelf_with floor (insert_entry nat_cmp ps slot None))
+keeps_kept {B} floor slot ps h other =
+    closed_or floor other _ _
+    (or_both (is_learned other (placed ps)) _ _ _
+    (λ g. subst (λ (ls : List (LearnedEntry B)). is_learned other ls ≡ true) (sym (kept_among slot ps h)) g)
+    (λ g. key_stays other slot None ps g))
+
+pub keeps_put : {B : Type 0} (floor slot : ℕ) (e : Entry B) (ps : Places B)
     → placed (insert_entry nat_cmp ps slot (Some e)) ≡ put_learned (record { slot = slot; entry = e }) (placed ps)
-    → KeepsPlaces (shelf_with ps) (shelf_with (insert_entry nat_cmp ps slot (Some e)))
-keeps_put {B} slot e ps q other =
-    or_both (is_learned other (placed ps)) _ _ _
+    → KeepsPlaces (shelf_with floor ps) (shelf_with floor (insert_entry nat_cmp ps slot (Some e)))
+keeps_put {B} floor slot e ps q other =
+    closed_or floor other _ _
+    (or_both (is_learned other (placed ps)) _ _ _
     (λ g. subst (λ (ls : List (LearnedEntry B)). is_learned other ls ≡ true) (sym q) (learned_stays other (record { slot = slot; entry = e }) _ g))
-    (λ g. key_stays other slot (Some e) ps g)
+    (λ g. key_stays other slot (Some e) ps g))
 
 key_beside : {X : Type 0} (other : ℕ) (p : ℕ × X) (xs ys : List (ℕ × X)) → list_any (λ k. k == other) (keys_of (xs ++ ys)) ≡ true
     → list_any (λ k. k == other) (keys_of (xs ++ p ∷ ys)) ≡ true
 key_beside other p [] ys h = or_right (eqb p.0 other) _ h
 key_beside other p (x ∷ xs) ys h = or_then (eqb x.0 other) _ _ h (key_beside other p xs ys)
 
-pub keeps_free : {B : Type 0} (k : ℕ) (xs ys : Places B) → KeepsPlaces (shelf_with (xs ++ ys)) (shelf_with (xs ++ (k, None) ∷ ys))
-keeps_free {B} k xs ys other =
-    or_both (is_learned other (placed (xs ++ ys))) _ _ _
+pub keeps_free : {B : Type 0} (floor k : ℕ) (xs ys : Places B)
+    → KeepsPlaces (shelf_with floor (xs ++ ys)) (shelf_with floor (xs ++ (k, None) ∷ ys))
+keeps_free {B} floor k xs ys other =
+    closed_or floor other _ _
+    (or_both (is_learned other (placed (xs ++ ys))) _ _ _
     (λ g. subst (λ (ls : List (LearnedEntry B)). is_learned other ls ≡ true) (sym (free_placed k xs ys)) g)
-    (key_beside other (k, None) xs ys)
+    (key_beside other (k, None) xs ys))
 
 pub has_kept : {B : Type 0} (slot : ℕ) (ls : List (LearnedEntry B)) (ps : Places B) → is_some (lookup (is_at (nat_cmp slot)) ps) ≡ true
     → has_place slot ls (keys_of ps) ≡ true
@@ -304,58 +315,71 @@ has_kept slot ls ps h = or_right (is_learned slot ls) _ (sym (key_is slot ps) �
 
 -- a place is kept after the run
 
-pub kept_behind : {B : Type 0} (slot : ℕ) (run : List (Option (Entry B))) (ps : Places B) → 1 + length run ≤ slot
-    → lookup (is_at (nat_cmp slot)) ps ≡ None → placed (all_places run (insert_entry nat_cmp ps slot None)) ≡ placed (all_places run ps)
-kept_behind slot run ps l h = ap placed (put_behind 1 slot None run ps l) ∙ kept_among slot (all_places run ps) (look_behind 1 slot run ps l ∙ h)
+pub kept_behind : {B : Type 0} (floor slot : ℕ) (run : List (Option (Entry B))) (ps : Places B) → suc floor + length run ≤ slot
+    → lookup (is_at (nat_cmp slot)) ps ≡ None
+    → placed (all_places floor run (insert_entry nat_cmp ps slot None)) ≡ placed (all_places floor run ps)
+kept_behind floor slot run ps l h =
+    ap placed (put_behind (suc floor) slot None run ps l) ∙ kept_among slot (all_places floor run ps) (look_behind (suc floor) slot run ps l ∙ h)
 
-pub keeps_behind : {B : Type 0} (slot : ℕ) (run : List (Option (Entry B))) (ps : Places B) → 1 + length run ≤ slot
-    → lookup (is_at (nat_cmp slot)) ps ≡ None → KeepsPlaces (shelf_of run ps) (shelf_of run (insert_entry nat_cmp ps slot None))
-keeps_behind {B} slot run ps l h =
-    subst (λ (qs : Places B). KeepsPlaces (shelf_of run ps) (shelf_with qs)) (sym (put_behind 1 slot None run ps l))
-    (keeps_kept slot (all_places run ps) (look_behind 1 slot run ps l ∙ h))
+pub keeps_behind : {B : Type 0} (floor slot : ℕ) (run : List (Option (Entry B))) (ps : Places B) → suc floor + length run ≤ slot
+    → lookup (is_at (nat_cmp slot)) ps ≡ None → KeepsPlaces (shelf_of floor run ps) (shelf_of floor run (insert_entry nat_cmp ps slot None))
+keeps_behind {B} floor slot run ps l h =
+    subst (λ (qs : Places B). KeepsPlaces (shelf_of floor run ps) (shelf_with floor qs)) (sym (put_behind (suc floor) slot None run ps l))
+    (keeps_kept floor slot (all_places floor run ps) (look_behind (suc floor) slot run ps l ∙ h))
 
-pub has_behind : {B : Type 0} (slot : ℕ) (run : List (Option (Entry B))) (ps : Places B) → 1 + length run ≤ slot
-    → is_some (lookup (is_at (nat_cmp slot)) ps) ≡ true → has_place slot (placed (all_places run ps)) (keys_of (all_places run ps)) ≡ true
-has_behind slot run ps l h = has_kept slot (placed (all_places run ps)) (all_places run ps) (ap is_some (look_behind 1 slot run ps l) ∙ h)
+pub has_behind : {B : Type 0} (floor slot : ℕ) (run : List (Option (Entry B))) (ps : Places B) → suc floor + length run ≤ slot
+    → is_some (lookup (is_at (nat_cmp slot)) ps) ≡ true → has_room_on slot (shelf_of floor run ps) ≡ true
+has_behind floor slot run ps l h =
+    or_right (is_closed floor slot) _
+    (has_kept slot (placed (all_places floor run ps)) (all_places floor run ps) (ap is_some (look_behind (suc floor) slot run ps l) ∙ h))
 
-pub has_put : {B : Type 0} (slot : ℕ) (run : List (Option (Entry B))) (ps : Places B) → 1 + length run ≤ slot
-    → has_place slot (placed (all_places run (insert_entry nat_cmp ps slot None))) (keys_of (all_places run (insert_entry nat_cmp ps slot None))) ≡ true
-has_put {B} slot run ps l =
-    subst (λ (qs : Places B). has_place slot (placed qs) (keys_of qs) ≡ true) (sym (put_behind 1 slot None run ps l))
-    (place_kept slot (all_places run ps))
+pub has_put : {B : Type 0} (floor slot : ℕ) (run : List (Option (Entry B))) (ps : Places B) → suc floor + length run ≤ slot
+    → has_room_on slot (shelf_of floor run (insert_entry nat_cmp ps slot None)) ≡ true
+has_put {B} floor slot run ps l =
+    or_right (is_closed floor slot) _
+    (subst (λ (qs : Places B). has_place slot (placed qs) (keys_of qs) ≡ true) (sym (put_behind (suc floor) slot None run ps l))
+    (place_kept slot (all_places floor run ps)))
 
-pub has_near : {B : Type 0} (slot i : ℕ) (run : List (Option (Entry B))) (ps : Places B) → slot ≡ 1 + i → i < length run
-    → has_place slot (placed (all_places run ps)) (keys_of (all_places run ps)) ≡ true
-has_near slot i run ps p l =
-    has_kept slot (placed (all_places run ps)) (all_places run ps) (ap is_some (look_run 1 slot i run ps None p l))
+pub has_near : {B : Type 0} (floor slot i : ℕ) (run : List (Option (Entry B))) (ps : Places B) → slot ≡ suc floor + i → i < length run
+    → has_room_on slot (shelf_of floor run ps) ≡ true
+has_near floor slot i run ps p l =
+    or_right (is_closed floor slot) _
+    (has_kept slot (placed (all_places floor run ps)) (all_places floor run ps) (ap is_some (look_run (suc floor) slot i run ps None p l)))
 
 -- an entry is put into its place, in the run or after it
 
-pub put_near : {B : Type 0} (slot i : ℕ) (e : Entry B) (run : List (Option (Entry B))) (ps : Places B) → slot ≡ 1 + i → i < length run
-    → AreRising (length run) ps → learned_at slot (placed (all_places run ps)) ≡ None
-    → placed (all_places (set run i (Some e)) ps) ≡ put_learned (record { slot = slot; entry = e }) (placed (all_places run ps))
-put_near slot i e run ps p l a h =
-    ap placed (set_run 1 slot i (Some e) run ps p l) ∙ put_among slot 0 e (all_places run ps) (whole_rises run ps a) h
+pub put_near : {B : Type 0} (floor slot i : ℕ) (e : Entry B) (run : List (Option (Entry B))) (ps : Places B) → slot ≡ suc floor + i → i < length run
+    → AreRising (floor + length run) ps → learned_at slot (placed (all_places floor run ps)) ≡ None
+    → placed (all_places floor (set run i (Some e)) ps) ≡ put_learned (record { slot = slot; entry = e }) (placed (all_places floor run ps))
+put_near floor slot i e run ps p l a h =
+    ap placed (set_run (suc floor) slot i (Some e) run ps p l)
+    ∙ put_among slot floor e (all_places floor run ps) (whole_rises floor run ps a) h
 
-pub keeps_near : {B : Type 0} (slot i : ℕ) (e : Entry B) (run : List (Option (Entry B))) (ps : Places B) → slot ≡ 1 + i → i < length run
-    → AreRising (length run) ps → learned_at slot (placed (all_places run ps)) ≡ None
-    → KeepsPlaces (shelf_of run ps) (shelf_of (set run i (Some e)) ps)
-keeps_near {B} slot i e run ps p l a h =
-    subst (λ (qs : Places B). KeepsPlaces (shelf_of run ps) (shelf_with qs)) (sym (set_run 1 slot i (Some e) run ps p l))
-    (keeps_put slot e (all_places run ps) (put_among slot 0 e (all_places run ps) (whole_rises run ps a) h))
+pub keeps_near : {B : Type 0} (floor slot i : ℕ) (e : Entry B) (run : List (Option (Entry B))) (ps : Places B) → slot ≡ suc floor + i → i < length run
+    → AreRising (floor + length run) ps → learned_at slot (placed (all_places floor run ps)) ≡ None
+    → KeepsPlaces (shelf_of floor run ps) (shelf_of floor (set run i (Some e)) ps)
+keeps_near {B} floor slot i e run ps p l a h =
+    subst (λ (qs : Places B). KeepsPlaces (shelf_of floor run ps) (shelf_with floor qs)) (sym (set_run (suc floor) slot i (Some e) run ps p l))
+    (keeps_put floor slot e (all_places floor run ps) (put_among slot floor e (all_places floor run ps) (whole_rises floor run ps a) h))
 
-pub put_far : {B : Type 0} (slot : ℕ) (e : Entry B) (run : List (Option (Entry B))) (ps : Places B) → 1 + length run ≤ slot
-    → AreRising (length run) ps → learned_at slot (placed (all_places run ps)) ≡ None
-    → placed (all_places run (insert_entry nat_cmp ps slot (Some e))) ≡ put_learned (record { slot = slot; entry = e }) (placed (all_places run ps))
-put_far slot e run ps l a h =
-    ap placed (put_behind 1 slot (Some e) run ps l) ∙ put_among slot 0 e (all_places run ps) (whole_rises run ps a) h
+pub put_far : {B : Type 0} (floor slot : ℕ) (e : Entry B) (run : List (Option (Entry B))) (ps : Places B) → suc floor + length run ≤ slot
+    → AreRising (floor + length run) ps → learned_at slot (placed (all_places floor run ps)) ≡ None
+    → placed (all_places floor run (insert_entry nat_cmp ps slot (Some e)))
+    ≡ put_learned (record { slot = slot; entry = e }) (placed (all_places floor run ps))
+put_far floor slot e run ps l a h =
+    ap placed (put_behind (suc floor) slot (Some e) run ps l)
+    ∙ put_among slot floor e (all_places floor run ps) (whole_rises floor run ps a) h
 
-pub keeps_far : {B : Type 0} (slot : ℕ) (e : Entry B) (run : List (Option (Entry B))) (ps : Places B) → 1 + length run ≤ slot
-    → AreRising (length run) ps → learned_at slot (placed (all_places run ps)) ≡ None
-    → KeepsPlaces (shelf_of run ps) (shelf_of run (insert_entry nat_cmp ps slot (Some e)))
-keeps_far {B} slot e run ps l a h =
-    subst (λ (qs : Places B). KeepsPlaces (shelf_of run ps) (shelf_with qs)) (sym (put_behind 1 slot (Some e) run ps l))
-    (keeps_put slot e (all_places run ps) (put_among slot 0 e (all_places run ps) (whole_rises run ps a) h))
+pub keeps_far : {B : Type 0} (floor slot : ℕ) (e : Entry B) (run : List (Option (Entry B))) (ps : Places B) → suc floor + length run ≤ slot
+    → AreRising (floor + length run) ps → learned_at slot (placed (all_places floor run ps)) ≡ None
+    → KeepsPlaces (shelf_of floor run ps) (shelf_of floor run (insert_entry nat_cmp ps slot (Some e)))
+keeps_far {B} floor slot e run ps l a h =
+    subst (λ (qs : Places B). KeepsPlaces (shelf_of floor run ps) (shelf_with floor qs)) (sym (put_behind (suc floor) slot (Some e) run ps l))
+    (keeps_put floor slot e (all_places floor run ps) (put_among slot floor e (all_places floor run ps) (whole_rises floor run ps a) h))
+
+-- a slot above the floor with room has a place
+pub open_place : (floor slot : ℕ) (b : Bool) → floor < slot → (is_closed floor slot || b) ≡ true → b ≡ true
+open_place floor slot b l h = let k : nat_le slot floor ≡ false = grind (arith, nat_tests) in let m = rw k at h in m
 
 -- a slot that was not learned and has a place is ahead
 pub has_key : {B : Type 0} (slot : ℕ) (learned : List (LearnedEntry B)) (ps : Places B) → learned_at slot learned ≡ None

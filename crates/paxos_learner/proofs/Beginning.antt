@@ -1,7 +1,7 @@
--- A log that what was learned begins with goes on as more is learned.
-use Rattle.std.proofs.Common.{◌≡◌, ℕ, zero, suc, ◌+◌, ◌<◌, ◌≤◌, Bool, true, false, cond, Option, Some, None, List, [], ◌∷◌, ◌++◌, length, take, ltb, eqb}
+-- A log above a floor that what was learned begins with goes on as more is learned.
+use Rattle.std.proofs.Common.{◌≡◌, ℕ, zero, suc, ◌+◌, ◌<◌, ◌≤◌, Bool, true, false, cond, ◌||◌, Option, Some, None, List, [], ◌∷◌, ◌++◌, length, take, ltb, eqb}
 use Rattle.std.proofs.Common.{refl, sym, ap, subst, ◌∙◌, arith, eq-eqb, is_some}
-use Rattle.std.proofs.lemmas.Bool.{eqb-true, ltb-true}
+use Rattle.std.proofs.lemmas.Bool.{eqb-true, ltb-true, or_parts}
 use Rattle.std.proofs.lemmas.Bool.Decides.{nat_tests}
 use Rattle.std.specs.Prelude.{option_map, map, ◌==◌}
 use Rattle.std.specs.List.{find}
@@ -10,7 +10,7 @@ use Rattle.paxos_learner.specs.declared.hearing.News.{News}
 use Rattle.paxos_learner.specs.declared.hearing.News.TheVariants.{Cast, Told}
 use Rattle.paxos_learner.specs.declared.learned.LearnedEntry.{LearnedEntry}
 use Rattle.paxos_learner.specs.Hearing.{hear_news, hear_all}
-use Rattle.paxos_learner.specs.Learned.{numbered, Rises, Begins, is_learned}
+use Rattle.paxos_learner.specs.Learned.{numbered, is_closed, Rises, Begins, is_learned}
 use Rattle.paxos_learner.specs.Learner.{State, LearnerState, learned_at, put_learned, learn, run_from, run_with, has_most, hears}
 use Rattle.paxos_learner.proofs.Ahead.{learned_is}
 use Rattle.paxos_learner.proofs.Overlay.{at_put}
@@ -114,21 +114,28 @@ none_learned {B} slot ls h = go (learned_at slot ls) (sym (learned_is slot ls) �
 
 learn_stays : {B : Type 0} (s slot : ℕ) (d e : Entry B) (l : LearnerState B) → learned_at s l.learned ≡ Some e
     → learned_at s (learn slot d l).learned ≡ Some e
-learn_stays {B} s slot d e l h = go (is_learned slot l.learned) refl
+learn_stays {B} s slot d e l h = go (is_closed l.floor slot || is_learned slot l.learned) refl
   where
-    go : (b : Bool) → is_learned slot l.learned ≡ b
-        → learned_at s (cond b l (record { heard = l.heard; learned = put_learned (record { slot = slot; entry = d }) l.learned })).learned ≡ Some e
+    put : LearnerState B
+    put = record { floor = l.floor; heard = l.heard; learned = put_learned (record { slot = slot; entry = d }) l.learned }
+
+    go : (b : Bool) → (is_closed l.floor slot || is_learned slot l.learned) ≡ b → learned_at s (cond b l put).learned ≡ Some e
     go true q = h
-    go false q = put_stays s slot d e l.learned (none_learned slot l.learned q) h
+    go false q =
+        put_stays s slot d e l.learned (none_learned slot l.learned (or_parts (is_closed l.floor slot) (is_learned slot l.learned) q).1) h
 
 one_stays : {B : Type 0} (n : News B) (st : State B) (s : ℕ) (e : Entry B) → learned_at s st.learner.learned ≡ Some e
     → learned_at s (hear_news n st).learner.learned ≡ Some e
 one_stays (Told slot d) st s e h = learn_stays s slot d e st.learner h
-one_stays {B} (Cast node v) st s e h = go (has_most st.members v (hears node v st.learner))
+one_stays {B} (Cast node v) st s e h = go (is_closed st.learner.floor v.slot) (has_most st.members v (hears node v st.learner))
   where
-    go : (b : Bool) → learned_at s (cond b (learn v.slot v.entry (hears node v st.learner)) (hears node v st.learner)).learned ≡ Some e
-    go true = learn_stays s v.slot v.entry e (hears node v st.learner) h
-    go false = h
+    heard : LearnerState B
+    heard = hears node v st.learner
+
+    go : (a b : Bool) → learned_at s (cond a st.learner (cond b (learn v.slot v.entry heard) heard)).learned ≡ Some e
+    go true b = h
+    go false true = learn_stays s v.slot v.entry e heard h
+    go false false = h
 
 pub all_stay : {B : Type 0} (news : List (News B)) (st : State B) (s : ℕ) (e : Entry B) → learned_at s st.learner.learned ≡ Some e
     → learned_at s (hear_all news st).learner.learned ≡ Some e
@@ -142,17 +149,18 @@ entries_stay n (e ∷ es) news st a = (all_stay news st n e a.0, entries_stay (s
 
 -- so it begins with the log and as much of the run after it
 
-pub goes_on : {B : Type 0} (log : List (Entry B)) (news : List (News B)) (st : State B) (m : ℕ) → Begins log st.learner.learned
-    → Rises 0 (hear_all news st).learner.learned
-    → Begins (log ++ take m (run_from (suc (length log)) (hear_all news st).learner.learned)) (hear_all news st).learner.learned
-goes_on {B} log news st m h r =
+pub goes_on : {B : Type 0} (floor : ℕ) (log : List (Entry B)) (news : List (News B)) (st : State B) (m : ℕ)
+    → Begins floor log st.learner.learned → Rises floor (hear_all news st).learner.learned
+    → Begins floor (log ++ take m (run_from (suc (floor + length log)) (hear_all news st).learner.learned)) (hear_all news st).learner.learned
+goes_on {B} floor log news st m h r =
     let ls : List (LearnedEntry B) = (hear_all news st).learner.learned in
-    let p : suc (length log) ≡ 1 + length log = omega arith in
-    let more : AreLearned (1 + length log) (take m (run_from (suc (length log)) ls)) ls =
-    subst (λ (s : ℕ). AreLearned s (take m (run_from (suc (length log)) ls)) ls) p
-    (first_ones (suc (length log)) m (run_from (suc (length log)) ls) ls (run_learned (suc (length log)) ls)) in
-    learned_begins 0 (log ++ take m (run_from (suc (length log)) ls)) ls r
-    (joined 1 log (take m (run_from (suc (length log)) ls)) ls (entries_stay 1 log news st (begun_learned 1 log st.learner.learned h)) more)
+    let next : ℕ = suc (floor + length log) in
+    let run : List (Entry B) = take m (run_from next ls) in
+    let p : next ≡ suc floor + length log = omega arith in
+    let more : AreLearned (suc floor + length log) run ls =
+    subst (λ (s : ℕ). AreLearned s run ls) p (first_ones next m (run_from next ls) ls (run_learned next ls)) in
+    learned_begins floor (log ++ run) ls r
+    (joined (suc floor) log run ls (entries_stay (suc floor) log news st (begun_learned (suc floor) log st.learner.learned h)) more)
 
 -- what was learned in the log's slots
 
@@ -165,9 +173,10 @@ among {B} n slot (e ∷ es) ls a l h = go (eqb n slot) refl (λ k. among (suc n)
     go true q more = subst (λ (s : ℕ). is_learned s ls ≡ true) (eqb-true n slot q) (learned_is n ls ∙ ap is_some a.0)
     go false q more = let d : n < slot = grind (arith, nat_tests) in more (omega arith)
 
-pub log_is_learned : {B : Type 0} (log : List (Entry B)) (ls : List (LearnedEntry B)) (slot : ℕ) → Begins log ls → 1 ≤ slot → slot ≤ length log
-    → is_learned slot ls ≡ true
-log_is_learned log ls slot h l m = among 1 slot log ls (begun_learned 1 log ls h) l (omega arith)
+pub log_is_learned : {B : Type 0} (floor : ℕ) (log : List (Entry B)) (ls : List (LearnedEntry B)) (slot : ℕ) → Begins floor log ls → floor < slot
+    → slot ≤ floor + length log → is_learned slot ls ≡ true
+log_is_learned floor log ls slot h l m =
+    among (suc floor) slot log ls (begun_learned (suc floor) log ls h) (omega arith) (omega arith)
 
 -- the entries of the log
 

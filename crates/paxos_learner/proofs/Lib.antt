@@ -2,6 +2,7 @@ pub mod Ahead
 pub mod Beginning
 pub mod Counting
 pub mod Drafting
+pub mod Forgetting
 pub mod Keeping
 pub mod Overlay
 pub mod Rising

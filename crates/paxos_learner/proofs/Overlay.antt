@@ -1,7 +1,7 @@
 -- What a learner would be that hears more, stated by the sets that change and the entries that are gained.
 use Rattle.std.proofs.Common.{◌≡◌, ℕ, ltb, eqb, Bool, true, false, cond, Option, Some, None, is_some, List, [], ◌∷◌, ◌++◌}
 use Rattle.std.proofs.Common.{refl, sym, ap, ◌∙◌, subst, eq-eqb}
-use Rattle.std.specs.Prelude.{option_map, ◌==◌, ◌≤◌, ◌<◌, ◌^◌}
+use Rattle.std.specs.Prelude.{option_map, ◌==◌, ◌<◌, ◌^◌}
 use Rattle.std.specs.Option.{option_or, unwrap_or}
 use Rattle.std.specs.List.{find}
 use Rattle.std.specs.Map.{lookup}
@@ -15,11 +15,11 @@ use Rattle.paxos_learner.specs.declared.hearing.News.TheVariants.{Cast, Told}
 use Rattle.paxos_learner.specs.declared.learned.LearnedEntry.{LearnedEntry}
 use Rattle.paxos_learner.specs.declared.tallies.SlotBallot.{SlotBallot}
 use Rattle.paxos_learner.specs.Tallies.{Heard, same_place, place_of, nodes_heard, hear, insert_entry}
-use Rattle.paxos_learner.specs.Learner.{LearnerState, State, learned_at, is_learned, put_learned, learn, learn_among, hears, has_most, count_vote}
+use Rattle.paxos_learner.specs.Learner.{LearnerState, State, learned_at, is_learned, is_known, put_learned, learn, learn_among, hears, has_most, count_vote}
 use Rattle.paxos_learner.specs.Hearing.{hear_news, hear_all, over, gain, IsOver}
 use Rattle.paxos_learner.proofs.Ahead.{learned_is}
-use Rattle.paxos_learner.specs.Learned.{Rises}
-use Rattle.paxos_learner.proofs.Counting.{place_same, most_then, learn_parts}
+use Rattle.paxos_learner.specs.Learned.{is_closed, Rises}
+use Rattle.paxos_learner.proofs.Counting.{place_same, few_voted, most_voted, learn_parts, learn_closed, closed_voted, open_above}
 use Rattle.paxos_learner.proofs.Rising.{learn_rises}
 
 -- one more is heard last
@@ -35,6 +35,29 @@ members_one (Told slot e) s = refl
 pub members_stay : {B : Type 0} (news : List (News B)) (s : State B) → (hear_all news s).members ≡ s.members
 members_stay [] s = refl
 members_stay (m ∷ ms) s = members_stay ms (hear_news m s) ∙ members_one m s
+
+floor_one : {B : Type 0} (n : News B) (s : State B) → (hear_news n s).learner.floor ≡ s.learner.floor
+floor_one {B} (Cast node v) s = go (is_closed s.learner.floor v.slot) (has_most s.members v (hears node v s.learner)) (is_known v.slot s.learner)
+  where
+    heard : LearnerState B
+    heard = hears node v s.learner
+
+    go : (c t u : Bool) → (cond c s.learner (cond t (cond u heard (record heard { learned = put_learned (record { slot = v.slot; entry = v.entry }) heard.learned })) heard)).floor
+        ≡ s.learner.floor
+    go true t u = refl
+    go false true true = refl
+    go false true false = refl
+    go false false u = refl
+floor_one {B} (Told slot e) s = go (is_known slot s.learner)
+  where
+    go : (u : Bool) → (cond u s.learner (record s.learner { learned = put_learned (record { slot = slot; entry = e }) s.learner.learned })).floor
+        ≡ s.learner.floor
+    go true = refl
+    go false = refl
+
+pub floor_stays : {B : Type 0} (news : List (News B)) (s : State B) → (hear_all news s).learner.floor ≡ s.learner.floor
+floor_stays [] s = refl
+floor_stays (m ∷ ms) s = floor_stays ms (hear_news m s) ∙ floor_one m s
 
 -- sets at their places
 
@@ -147,45 +170,61 @@ over_gain {B} changed gained old new slot e is s = go (over slot gained old.lear
 
 -- a learner that hears one more
 
-pub over_none : {B : Type 0} (l : LearnerState B) → Rises 0 l.learned → IsOver [] [] l l
-over_none l r = record { heard = λ p. refl; learned = λ s. refl; rises = r }
+pub over_none : {B : Type 0} (l : LearnerState B) → Rises l.floor l.learned → IsOver [] [] l l
+over_none l r = record { floor = refl; heard = λ p. refl; learned = λ s. refl; rises = r }
 
 pub over_few : {B : Type 0} (members node : ℕ) (v : Vote B) (changed : Heard) (gained : List (LearnedEntry B)) (old new : LearnerState B) (nodes : List Bool)
-    → IsOver changed gained old new → nodes ≡ set_with (nodes_heard (place_of v) new.heard) node → is_majority members (is_in nodes) ≡ false
+    → IsOver changed gained old new → is_closed new.floor v.slot ≡ false → nodes ≡ set_with (nodes_heard (place_of v) new.heard) node
+    → is_majority members (is_in nodes) ≡ false
     → IsOver (insert_entry same_place changed (place_of v) nodes) gained old (count_vote members node v new)
-over_few {B} members node v changed gained old new nodes is e few =
-    let k : has_most members v (hears node v new) ≡ false =
-    most_then members node v new ∙ ap (λ (set : List Bool). is_majority members (is_in set)) (sym e) ∙ few in
-    subst (λ (l : LearnerState B). IsOver (insert_entry same_place changed (place_of v) nodes) gained old l) (rw k refl)
-    (record { heard = over_heard changed gained old new node (place_of v) nodes is e; learned = is.learned; rises = is.rises })
+over_few {B} members node v changed gained old new nodes is o e few =
+    let q = few_voted members node v new o (ap (λ (set : List Bool). is_majority members (is_in set)) (sym e) ∙ few) in
+    subst (λ (l : LearnerState B). IsOver (insert_entry same_place changed (place_of v) nodes) gained old l) q
+    (record {
+      floor = is.floor;
+      heard = over_heard changed gained old new node (place_of v) nodes is e;
+      learned = is.learned;
+      rises = is.rises;
+    })
 
 pub over_most : {B : Type 0} (members node : ℕ) (v : Vote B) (changed : Heard) (gained : List (LearnedEntry B)) (old new : LearnerState B) (nodes : List Bool)
-    → IsOver changed gained old new → nodes ≡ set_with (nodes_heard (place_of v) new.heard) node → is_majority members (is_in nodes) ≡ true
-    → 1 ≤ v.slot → v.slot < 2 ^ 40
+    → IsOver changed gained old new → is_closed new.floor v.slot ≡ false → nodes ≡ set_with (nodes_heard (place_of v) new.heard) node
+    → is_majority members (is_in nodes) ≡ true → v.slot < 2 ^ 40
     → IsOver (insert_entry same_place changed (place_of v) nodes) (gain v.slot v.entry (over v.slot gained old.learned) gained) old (count_vote members node v new)
-over_most {B} members node v changed gained old new nodes is e most low high =
-    let k : has_most members v (hears node v new) ≡ true =
-    most_then members node v new ∙ ap (λ (set : List Bool). is_majority members (is_in set)) (sym e) ∙ most in
-    let q : record { heard = hear node (place_of v) new.heard; learned = learn_among v.slot v.entry new.learned } ≡ count_vote members node v new =
-    rw k (sym (learn_parts v.slot v.entry (hears node v new))) in
+over_most {B} members node v changed gained old new nodes is o e most high =
+    let q = most_voted members node v new o (ap (λ (set : List Bool). is_majority members (is_in set)) (sym e) ∙ most) in
     subst (λ (l : LearnerState B).
     IsOver (insert_entry same_place changed (place_of v) nodes) (gain v.slot v.entry (over v.slot gained old.learned) gained) old l) q
     (record {
+      floor = is.floor;
       heard = over_heard changed gained old new node (place_of v) nodes is e;
       learned = over_gain changed gained old new v.slot v.entry is;
-      rises = learn_rises v.slot v.entry new.learned low high is.rises;
+      rises = learn_rises new.floor v.slot v.entry new.learned (open_above new.floor v.slot o) high is.rises;
     })
 
 pub over_told : {B : Type 0} (changed : Heard) (gained : List (LearnedEntry B)) (old new : LearnerState B) (slot : ℕ) (e : Entry B)
-    → IsOver changed gained old new → 1 ≤ slot → slot < 2 ^ 40
+    → IsOver changed gained old new → is_closed new.floor slot ≡ false → slot < 2 ^ 40
     → IsOver changed (gain slot e (over slot gained old.learned) gained) old (learn slot e new)
-over_told {B} changed gained old new slot e is low high =
-    subst (λ (l : LearnerState B). IsOver changed (gain slot e (over slot gained old.learned) gained) old l) (sym (learn_parts slot e new))
+over_told {B} changed gained old new slot e is o high =
+    subst (λ (l : LearnerState B). IsOver changed (gain slot e (over slot gained old.learned) gained) old l) (sym (learn_parts slot e new o))
     (record {
+      floor = is.floor;
       heard = is.heard;
       learned = over_gain changed gained old new slot e is;
-      rises = learn_rises slot e new.learned low high is.rises;
+      rises = learn_rises new.floor slot e new.learned (open_above new.floor slot o) high is.rises;
     })
+
+-- what is heard of a closed slot changes nothing
+
+pub over_closed : {B : Type 0} (changed : Heard) (gained : List (LearnedEntry B)) (old new : LearnerState B) (members node : ℕ) (v : Vote B)
+    → IsOver changed gained old new → is_closed new.floor v.slot ≡ true → IsOver changed gained old (count_vote members node v new)
+over_closed {B} changed gained old new members node v is o =
+    subst (λ (l : LearnerState B). IsOver changed gained old l) (closed_voted members node v new o) is
+
+pub over_untold : {B : Type 0} (changed : Heard) (gained : List (LearnedEntry B)) (old new : LearnerState B) (slot : ℕ) (e : Entry B)
+    → IsOver changed gained old new → is_closed new.floor slot ≡ true → IsOver changed gained old (learn slot e new)
+over_untold {B} changed gained old new slot e is o =
+    subst (λ (l : LearnerState B). IsOver changed gained old l) (learn_closed slot e new o) is
 
 -- what is stated of equal parts
 

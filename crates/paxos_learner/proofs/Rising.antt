@@ -1,5 +1,5 @@
--- What was learned ascends by slot, each slot from 1 to 2^40 - 1.
-use Rattle.std.proofs.Common.{◌≡◌, ℕ, ◌<◌, ◌≤◌, Bool, true, false, cond, ◌||◌, Option, Some, None, List, [], ◌∷◌, length, ltb, eqb}
+-- What was learned ascends by slot, each slot from above the floor to 2^40 - 1.
+use Rattle.std.proofs.Common.{◌≡◌, ℕ, ◌+◌, ◌<◌, ◌≤◌, Bool, true, false, cond, ◌||◌, Option, Some, None, List, [], ◌∷◌, length, ltb, eqb}
 use Rattle.std.proofs.Common.{refl, arith}
 use Rattle.std.proofs.lemmas.Bool.{ltb-true, eqb-true}
 use Rattle.std.proofs.lemmas.Bool.Decides.{nat_tests}
@@ -29,9 +29,9 @@ placed_rises {B} n (p ∷ ps) a = go p.1 (placed_rises p.0 ps a.1)
     go None r = let k : n < p.0 = a.0 in rises_lower n p.0 (placed ps) (omega arith) r
     go (Some e) r = (a.0, r)
 
-pub shelf_rises : {B : Type 0} (run : List (Option (Entry B))) (ps : List (ℕ × Option (Entry B))) → AreRising (length run) ps
-    → Rises 0 (placed (all_places run ps))
-shelf_rises run ps a = placed_rises 0 (all_places run ps) (whole_rises run ps a)
+pub shelf_rises : {B : Type 0} (floor : ℕ) (run : List (Option (Entry B))) (ps : List (ℕ × Option (Entry B)))
+    → AreRising (floor + length run) ps → Rises floor (placed (all_places floor run ps))
+shelf_rises floor run ps a = placed_rises floor (all_places floor run ps) (whole_rises floor run ps a)
 
 -- where an entry was learned
 
@@ -55,12 +55,16 @@ above {B} n slot (x ∷ xs) e r h = go (eqb x.slot slot) refl h (above x.slot sl
         (omega arith, m.1)
 
 -- no entry is outside these slots
-pub none_outside : {B : Type 0} (slot : ℕ) (ls : List (LearnedEntry B)) → Rises 0 ls → ((1 ≤ slot) × (slot < 2 ^ 40) → ⊥) → None ≡ learned_at slot ls
-none_outside {B} slot ls r out = go (learned_at slot ls) refl
+pub none_outside : {B : Type 0} (floor slot : ℕ) (ls : List (LearnedEntry B)) → Rises floor ls → ((1 ≤ slot) × (slot < 2 ^ 40) → ⊥)
+    → None ≡ learned_at slot ls
+none_outside {B} floor slot ls r out = go (learned_at slot ls) refl
   where
     go : (o : Option (Entry B)) → learned_at slot ls ≡ o → None ≡ o
     go None h = refl
-    go (Some e) h = absurd (out (above 0 slot ls e r h))
+    go (Some e) h =
+        let k = above floor slot ls e r h in
+        let l : floor < slot = k.0 in
+        absurd (out (omega arith, k.1))
 
 -- and where one is put
 
@@ -77,10 +81,10 @@ put_rises {B} n slot e (x ∷ xs) l m r h =
     go true false p q f more = (r.0, more (ltb-true x.slot slot p) f)
     go false false p q f more = (l, (grind (arith, nat_tests), r.1))
 
-pub learn_rises : {B : Type 0} (slot : ℕ) (e : Entry B) (ls : List (LearnedEntry B)) → 1 ≤ slot → slot < 2 ^ 40 → Rises 0 ls
-    → Rises 0 (learn_among slot e ls)
-learn_rises {B} slot e ls l m r = go (is_learned slot ls) refl
+pub learn_rises : {B : Type 0} (floor slot : ℕ) (e : Entry B) (ls : List (LearnedEntry B)) → floor < slot → slot < 2 ^ 40 → Rises floor ls
+    → Rises floor (learn_among slot e ls)
+learn_rises {B} floor slot e ls l m r = go (is_learned slot ls) refl
   where
-    go : (b : Bool) → is_learned slot ls ≡ b → Rises 0 (cond b ls (put_learned (record { slot = slot; entry = e }) ls))
+    go : (b : Bool) → is_learned slot ls ≡ b → Rises floor (cond b ls (put_learned (record { slot = slot; entry = e }) ls))
     go true h = r
-    go false h = put_rises 0 slot e ls (omega arith) m r h
+    go false h = put_rises floor slot e ls l m r h

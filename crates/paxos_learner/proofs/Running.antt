@@ -59,11 +59,12 @@ run_over {B} n slot found whole ls p h is =
     let none : learned_at (suc n) ls ≡ None = subst (λ (s : ℕ). learned_at s ls ≡ None) p h in
     sym (append-nil found) ∙ ap (λ (es : List (Entry B)). found ++ es) (sym (run_none (suc n) ls none)) ∙ is
 
-pub run_more : {B : Type 0} (n slot : ℕ) (found more whole : List (Entry B)) (e : Entry B) (ls : List (LearnedEntry B)) → slot ≡ suc n
-    → Rises 0 ls → learned_at slot ls ≡ Some e → more ≡ found ++ e ∷ [] → found ++ run_from (suc n) ls ≡ whole → more ++ run_from (suc slot) ls ≡ whole
-run_more {B} n slot found more whole e ls p r h k is =
+pub run_more : {B : Type 0} (floor n slot : ℕ) (found more whole : List (Entry B)) (e : Entry B) (ls : List (LearnedEntry B)) → slot ≡ suc n
+    → Rises floor ls → learned_at slot ls ≡ Some e → more ≡ found ++ e ∷ [] → found ++ run_from (suc n) ls ≡ whole
+    → more ++ run_from (suc slot) ls ≡ whole
+run_more {B} floor n slot found more whole e ls p r h k is =
     let next : run_from (suc n) ls ≡ e ∷ run_from (suc slot) ls =
-    ap (λ (s : ℕ). run_from s ls) (sym p) ∙ run_some 0 slot ls e r h in
+    ap (λ (s : ℕ). run_from s ls) (sym p) ∙ run_some floor slot ls e r h in
     ap (λ (es : List (Entry B)). es ++ run_from (suc slot) ls) k ∙ append_assoc found (e ∷ []) (run_from (suc slot) ls)
     ∙ ap (λ (es : List (Entry B)). found ++ es) (sym next) ∙ is
 
@@ -164,13 +165,13 @@ pub within_over : {B : Type 0} (n m : ℕ) (found whole ls : List (LearnedEntry 
 within_over {B} n m found whole ls l is =
     sym (append-nil found) ∙ ap (λ (es : List (LearnedEntry B)). found ++ es) (sym (within_nothing n m ls l)) ∙ is
 
-pub within_more : {B : Type 0} (n next m : ℕ) (found more whole ls : List (LearnedEntry B)) → next ≡ suc n → n < m → Rises 0 ls
+pub within_more : {B : Type 0} (floor n next m : ℕ) (found more whole ls : List (LearnedEntry B)) → next ≡ suc n → n < m → Rises floor ls
     → more ≡ found ++ learned_within n (suc n) ls → found ++ learned_within n m ls ≡ whole → more ++ learned_within next m ls ≡ whole
-within_more {B} n next m found more whole ls p l r k is =
+within_more {B} floor n next m found more whole ls p l r k is =
     ap (λ (s : ℕ). more ++ learned_within s m ls) p
     ∙ ap (λ (es : List (LearnedEntry B)). es ++ learned_within (suc n) m ls) k
     ∙ append_assoc found (learned_within n (suc n) ls) (learned_within (suc n) m ls)
-    ∙ ap (λ (es : List (LearnedEntry B)). found ++ es) (within_both 0 n (suc n) m ls (omega arith) (omega arith) r) ∙ is
+    ∙ ap (λ (es : List (LearnedEntry B)). found ++ es) (within_both floor n (suc n) m ls (omega arith) (omega arith) r) ∙ is
 
 pub within_same : {B : Type 0} (n : ℕ) (found more ls : List (LearnedEntry B)) → more ≡ found → learned_at n ls ≡ None
     → more ≡ found ++ learned_within n (suc n) ls

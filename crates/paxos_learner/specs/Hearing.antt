@@ -41,11 +41,12 @@ gain slot e (Some d) gained = gained
 gain slot e None gained = put_learned (record { slot = slot; entry = e }) gained
 
 -- of a learner that was and one that is: the sets that changed, and the entries that were gained, are what is new; and what it learned
--- ascends by slot
+-- ascends by slot from above its floor
 pub record IsOver {B : Type 0} (changed : Heard) (gained : List (LearnedEntry B)) (old new : LearnerState B) : Type 0 where
+  pub floor : new.floor ≡ old.floor
   pub heard : (p : SlotBallot) → nodes_heard p new.heard ≡ unwrap_or (lookup (same_place p) changed) (nodes_heard p old.heard)
   pub learned : (slot : ℕ) → learned_at slot new.learned ≡ over slot gained old.learned
-  pub rises : Rises 0 new.learned
+  pub rises : Rises new.floor new.learned
 
 -- room for it
 

@@ -1,12 +1,19 @@
--- How what was learned is kept: the places of a run of slots from 1 on, and those of slots further ahead, of which some are still free.
-use Rattle.std.specs.Prelude.{ℕ, suc, Bool, true, ◌||◌, ◌==◌, Option, Some, None, List, [], ◌∷◌, ◌++◌, ◌≡◌, ◌<◌, ◌^◌, length, take}
+-- How what was learned above a floor is kept: the places of a run of slots after it, and those of slots further ahead, of which some are
+-- still free.
+use Rattle.std.specs.Prelude.{ℕ, suc, Bool, true, ◌||◌, ◌==◌, nat_lt, nat_le, Option, Some, None, List, [], ◌∷◌, ◌++◌, ◌≡◌, ◌<◌, ◌^◌, length, take}
+use Rattle.std.specs.Prelude.{filter}
 use Rattle.std.specs.List.{list_any}
 use Rattle.std.specs.Map.{keys_of}
 use Rattle.paxos_packets.specs.declared.entry.Entry.{Entry}
 use Rattle.paxos_learner.specs.declared.learned.LearnedEntry.{LearnedEntry}
 
--- what callers see: the entries, by ascending slot, and the slots that have a place
+-- a snapshot gives the slot of a log: it is not above the floor
+abbrev pub is_closed : ℕ → ℕ → Bool
+is_closed floor slot = nat_le slot floor
+
+-- what callers see: the floor; the entries above it, by ascending slot; and the slots that have a place
 pub record Shelf (B : Type 0) : Type 0 where
+  pub floor : ℕ
   pub learned : List (LearnedEntry B)
   pub places : List ℕ
 
@@ -29,15 +36,15 @@ abbrev pub places_from : {B : Type 0} → ℕ → List (Option (Entry B)) → Li
 places_from slot [] = []
 places_from slot (o ∷ os) = (slot, o) ∷ places_from (suc slot) os
 
--- the run's, then those ahead of it
-abbrev pub all_places : {B : Type 0} → List (Option (Entry B)) → List (ℕ × Option (Entry B)) → List (ℕ × Option (Entry B))
-all_places run ahead = places_from 1 run ++ ahead
+-- the run's, right after the floor, then those ahead of it
+abbrev pub all_places : {B : Type 0} → ℕ → List (Option (Entry B)) → List (ℕ × Option (Entry B)) → List (ℕ × Option (Entry B))
+all_places floor run ahead = places_from (suc floor) run ++ ahead
 
-abbrev pub shelf_with : {B : Type 0} → List (ℕ × Option (Entry B)) → Shelf B
-shelf_with places = record { learned = placed places; places = keys_of places }
+abbrev pub shelf_with : {B : Type 0} → ℕ → List (ℕ × Option (Entry B)) → Shelf B
+shelf_with floor places = record { floor = floor; learned = placed places; places = keys_of places }
 
-abbrev pub shelf_of : {B : Type 0} → List (Option (Entry B)) → List (ℕ × Option (Entry B)) → Shelf B
-shelf_of run ahead = shelf_with (all_places run ahead)
+abbrev pub shelf_of : {B : Type 0} → ℕ → List (Option (Entry B)) → List (ℕ × Option (Entry B)) → Shelf B
+shelf_of floor run ahead = shelf_with floor (all_places floor run ahead)
 
 -- the first of these places is that of the slot
 abbrev pub starts_at : {X : Type 0} → ℕ → List (ℕ × X) → Type 0
@@ -54,9 +61,16 @@ abbrev pub Rises : {B : Type 0} → ℕ → List (LearnedEntry B) → Type 0
 Rises slot [] = slot < 2 ^ 40
 Rises slot (l ∷ ls) = (slot < l.slot) × Rises l.slot ls
 
--- what was learned begins with this log: its entries in the slots from 1 on
-abbrev pub Begins : {B : Type 0} → List (Entry B) → List (LearnedEntry B) → Type 0
-Begins log learned = take (length log) learned ≡ numbered 1 log
+-- what was learned above the floor begins with these entries, in the slots right after it
+abbrev pub Begins : {B : Type 0} → ℕ → List (Entry B) → List (LearnedEntry B) → Type 0
+Begins floor log learned = take (length log) learned ≡ numbered (suc floor) log
+
+-- what is left above a floor
+abbrev pub learned_above : {B : Type 0} → ℕ → List (LearnedEntry B) → List (LearnedEntry B)
+learned_above floor learned = filter (λ l. nat_lt floor l.slot) learned
+
+abbrev pub slots_above : ℕ → List ℕ → List ℕ
+slots_above floor slots = filter (λ k. nat_lt floor k) slots
 
 -- an entry was learned in the slot, or it has a place for one
 abbrev pub is_learned : {B : Type 0} → ℕ → List (LearnedEntry B) → Bool
@@ -65,6 +79,10 @@ is_learned slot learned = list_any (λ l. l.slot == slot) learned
 abbrev pub has_place : {B : Type 0} → ℕ → List (LearnedEntry B) → List ℕ → Bool
 has_place slot learned places = is_learned slot learned || list_any (λ k. k == slot) places
 
--- no slot loses its place
+-- there is room for what is learned in the slot: a closed one needs none
+abbrev pub has_room_on : {B : Type 0} → ℕ → Shelf B → Bool
+has_room_on slot shelf = is_closed shelf.floor slot || has_place slot shelf.learned shelf.places
+
+-- no slot loses its room
 abbrev pub KeepsPlaces : {B : Type 0} → Shelf B → Shelf B → Type 0
-KeepsPlaces old new = (slot : ℕ) → has_place slot old.learned old.places ≡ true → has_place slot new.learned new.places ≡ true
+KeepsPlaces old new = (slot : ℕ) → has_room_on slot old ≡ true → has_room_on slot new ≡ true

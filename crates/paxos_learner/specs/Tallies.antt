@@ -1,6 +1,6 @@
 -- Votes that were heard, counted for each ballot in each slot: which nodes cast one there.
 use Rattle.std.proofs.Common.{ℕ, Bool, ◌&&◌, List}
-use Rattle.std.specs.Prelude.{◌==◌}
+use Rattle.std.specs.Prelude.{◌==◌, nat_lt, filter}
 use Rattle.std.specs.Option.{unwrap_or}
 use Rattle.std.specs.Map.{lookup}
 pub use Rattle.indexmap.specs.IndexMap.{insert_entry}
@@ -28,6 +28,10 @@ place_of v = record { slot = v.slot; ballot = v.ballot }
 -- the nodes that were heard there
 abbrev pub nodes_heard : SlotBallot → Heard → List Bool
 nodes_heard place heard = unwrap_or (lookup (same_place place) heard) no_nodes
+
+-- what is left above a floor
+abbrev pub heard_above : ℕ → Heard → Heard
+heard_above floor heard = filter (λ t. nat_lt floor t.0.slot) heard
 
 -- one more is heard
 abbrev pub hear : ℕ → SlotBallot → Heard → Heard

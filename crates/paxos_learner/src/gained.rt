@@ -7,7 +7,7 @@ ghost use Rattle.paxos_learner.specs.Learner.{learned_at, put_learned};
 
 use crate::fault::LearnerFault;
 use crate::learned::{LearnedEntries, LearnedEntry};
-use paxos_packets::{Entry, Slot};
+use paxos_packets::{Entry, Floor, Slot};
 use std::alloc::Global;
 use std::marker::Model;
 
@@ -19,13 +19,14 @@ pub(crate) struct Gained<B> {
 }
 
 impl<B> Model for Gained<B> {
+    ghost use Rattle.std.specs.Prelude.{◌≡◌};
     ghost use Rattle.paxos_learner.specs.Gained.{Gains, gains_in, StandsApart};
 
     ghost Value = { Gains B };
 
     ghost view = { λ g. gains_in g.one g.more };
 
-    ghost invariant = { λ g. StandsApart g.one g.more };
+    ghost invariant = { λ g. (g.more.floor ≡ 0) × StandsApart g.one g.more };
 }
 
 impl<B> Gained<B> {
@@ -35,7 +36,7 @@ impl<B> Gained<B> {
     {
         Gained {
             one: None,
-            more: LearnedEntries::new(alloc),
+            more: LearnedEntries::new(alloc, Floor::none()),
         }
     }
 
@@ -62,6 +63,7 @@ impl<B: Drop> Gained<B> {
             self.one = Some(LearnedEntry { slot, entry });
             return Ok(());
         }
+        let _number = slot.get();
         join(&mut self.one, &mut self.more)?;
         self.more.put(slot, entry)
     }
@@ -72,7 +74,9 @@ fn join<B: Drop>(
     one: &mut Option<LearnedEntry<B>>,
     more: &mut LearnedEntries<B>,
 ) -> Result<(), LearnerFault>
-    requires { StandsApart one.old more.old }
+    requires floor { more.old.floor ≡ 0 }
+    requires apart { StandsApart one.old more.old }
+    ensures floor { more.new.floor ≡ 0 }
     ensures ok { OnOk result (one.new ≡ None) }
     ensures learned { OnOk result (more.new.learned ≡ (gains_in one.old more.old).learned) }
     ensures err { OnErr result (one.new ≡ one.old) }
@@ -82,6 +86,7 @@ fn join<B: Drop>(
     let Some(known) = one else {
         return Ok(());
     };
+    let _number = known.slot.get();
     more.keep_place(known.slot)?;
     if let Some(LearnedEntry { slot, entry }) = one.take() {
         more.put_in_place(slot, entry);

@@ -89,19 +89,19 @@ impl<'a, B> Hearing<'a, B> {
         }
     }
 
-    // What would be learned ascends by slot.
+    // What would be learned ascends by slot, from above the floor.
     fn ascends(&self)
-        ensures { Rises 0 (after self.now).learner.learned }
+        ensures { Rises (after self.now).learner.floor (after self.now).learner.learned }
     {
         let _ = &self.gained;
     }
 }
 
 impl<'a, B: Drop> Hearing<'a, B> {
-    /// Returns what is to be heard, in order: after it, what is learned ascends by slot.
+    /// Returns what is to be heard, in order: after it, what is learned ascends by slot, from above the floor.
     pub fn into_news(self) -> Vec<News<B>>
         ensures news { result.items ≡ self.entry.news }
-        ensures rises { Rises 0 (after self.entry).learner.learned }
+        ensures rises { Rises (after self.entry).learner.floor (after self.entry).learner.learned }
     {
         let Hearing { news, .. } = self;
         news
@@ -128,6 +128,10 @@ impl<'a, B: Body> Hearing<'a, B> {
         };
         if self.news.reserve(1).is_err() {
             return Err(LearnerFault::Memory);
+        }
+        if self.learner.is_closed(vote.slot) {
+            self.news.push_reserved(News::Cast { node, vote: copy });
+            return Ok(false);
         }
         self.changed.make_room()?;
         if !self.learner.has_majority(nodes) {
@@ -160,6 +164,10 @@ impl<'a, B: Body> Hearing<'a, B> {
         };
         if self.news.reserve(1).is_err() {
             return Err(LearnerFault::Memory);
+        }
+        if self.learner.is_closed(slot) {
+            self.news.push_reserved(News::Told { slot, entry: copy });
+            return Ok(false);
         }
         let other = gain(self.alloc, self.learner, &mut self.gained, slot, entry)?;
         self.news.push_reserved(News::Told { slot, entry: copy });

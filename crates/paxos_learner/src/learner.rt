@@ -3,19 +3,20 @@
 ghost use Rattle.std.specs.Prelude.{◌≡◌, ◌↔◌, ◌+◌, ◌<◌, ◌≤◌, true, Err, OnOk, OnErr, IsOkUnless, option_copied};
 ghost use Rattle.paxos_learner.specs.declared.fault.LearnerFault.TheVariants.{Disagree, Memory};
 ghost use Rattle.paxos_packets.specs.Members.{is_in, is_majority};
-ghost use Rattle.paxos_learner.specs.Learned.{has_place, KeepsPlaces, Rises};
+ghost use Rattle.paxos_learner.specs.Learned.{has_room_on, is_closed, KeepsPlaces, Rises};
 ghost use Rattle.paxos_learner.specs.Tallies.{nodes_heard};
-ghost use Rattle.paxos_learner.specs.Learner.{learned_at, learn_among, is_other, begun, told, voted, disagrees, vote_disagrees};
+ghost use Rattle.paxos_learner.specs.Learner.{learned_at, learn_among, is_other, begun, forgot, told, voted, disagrees, vote_disagrees};
 ghost use Rattle.paxos_learner.specs.Learner.{has_room_at, KeepsRoom, makes_majority};
 
 use crate::fault::LearnerFault;
 use crate::learned::LearnedEntries;
 use crate::tallies::{SlotBallot, Tallies};
-use paxos_packets::{Ballot, Body, Entry, Members, NodeSet, Slot, Vote};
+use paxos_packets::{Ballot, Body, Entry, Floor, Members, NodeSet, Slot, Vote};
 use std::alloc::Global;
 use std::marker::Model;
 
-/// One member as a learner: what it heard of the members' votes, and the entries that it learned (Lamport 2001, section 2.3).
+/// One member as a learner: what it heard of the members' votes, and the entries that it learned (Lamport 2001, section 2.3), both above a
+/// floor, up to which a snapshot gives the log: what it hears of a slot that is not above the floor changes nothing.
 ///
 /// Its calls come in pairs. `vote` and `tell` hear one thing by itself: they may allocate, and return `Disagree` or `Memory`.
 /// `vote_in_room` and `tell_in_room` carry out what an event planned by a `Hearing`: the plan has found disagreement already, and
@@ -47,20 +48,28 @@ impl<B> Model for Learner<B> {
 }
 
 impl<B> Learner<B> {
-    /// Returns a learner of these members that heard and learned nothing. Does not allocate; the other calls will, from `alloc`.
-    pub fn new(alloc: Global, members: Members) -> Learner<B>
-        ensures { result.state ≡ begun members }
+    /// Returns a learner of these members that heard and learned nothing above the floor. Does not allocate; the other calls will, from
+    /// `alloc`.
+    pub fn new(alloc: Global, members: Members, floor: Floor) -> Learner<B>
+        ensures { result.state ≡ begun members floor }
     {
         Learner {
             alloc,
             members,
             heard: Tallies::new(alloc),
-            learned: LearnedEntries::new(alloc),
+            learned: LearnedEntries::new(alloc, floor),
         }
     }
 
-    /// Returns the entry that was learned in the slot. Does not allocate. Takes a constant number of steps if all slots before it are
-    /// learned; above a gap, a number logarithmic in the number of entries above it.
+    /// Returns whether the slot is closed: not above the floor. Does not allocate.
+    pub fn is_closed(&self, slot: Slot) -> bool
+        ensures { result ≡ is_closed self.now.state.learner.floor slot }
+    {
+        self.learned.is_closed(slot)
+    }
+
+    /// Returns the entry that was learned in the slot; in a closed one none is. Does not allocate. Takes a constant number of steps if all
+    /// slots between the floor and it are learned; above a gap, a number logarithmic in the number of entries above it.
     pub fn learned(&self, slot: Slot) -> Option<&Entry<B>>
         ensures { option_copied result ≡ learned_at slot self.now.state.learner.learned }
     {
@@ -78,9 +87,9 @@ impl<B> Learner<B> {
 }
 
 impl<B> Learner<B> {
-    // What was learned ascends by slot.
+    // What was learned ascends by slot, from above the floor.
     pub(crate) fn ascends(&self)
-        ensures { Rises 0 self.now.state.learner.learned }
+        ensures { Rises self.now.state.learner.floor self.now.state.learner.learned }
     {
         self.learned.ascends();
     }
@@ -115,6 +124,9 @@ impl<B: Body> Learner<B> {
         ensures disagree { (result ≡ Err Disagree) ↔ (vote_disagrees B.same self.old.state.members node
             (record { slot = slot; ballot = ballot; entry = entry.now }) self.old.state.learner ≡ true) }
     {
+        if self.is_closed(slot) {
+            return Ok(());
+        }
         let place = SlotBallot { slot, ballot };
         let nodes = self.heard.nodes(&place).with(node);
         if !self.members.majority(nodes) {
@@ -136,6 +148,9 @@ impl<B: Body> Learner<B> {
         ensures err { OnErr result (self.new.state ≡ self.old.state) }
         ensures disagree { (result ≡ Err Disagree) ↔ (disagrees B.same slot entry.now self.old.state.learner ≡ true) }
     {
+        if self.is_closed(slot) {
+            return Ok(());
+        }
         learn(self.alloc, &mut self.learned, slot, entry)
     }
 }
@@ -145,6 +160,9 @@ impl<B: Body> Learner<B> {
     pub fn disagrees(&self, slot: Slot, entry: &Entry<B>) -> bool
         ensures { result ≡ disagrees B.same slot entry.now self.now.state.learner }
     {
+        if self.is_closed(slot) {
+            return false;
+        }
         match self.learned(slot) {
             Some(known) => !known.same(entry),
             None => false,
@@ -205,6 +223,9 @@ impl<B: Drop> Learner<B> {
             ballot,
             entry,
         } = vote;
+        if self.learned.is_closed(slot) {
+            return;
+        }
         let place = SlotBallot { slot, ballot };
         let voters = self.heard.nodes(&place).with(node);
         let Ok(()) = self.heard.hear(node, &place) else {
@@ -224,17 +245,34 @@ impl<B: Drop> Learner<B> {
         ensures votes { self.new.room.votes ≡ self.old.room.votes }
         ensures places { KeepsRoom self.old self.new }
     {
+        if self.learned.is_closed(slot) {
+            return;
+        }
         learn_in_place(&mut self.learned, slot, entry);
+    }
+
+    /// Notes that a snapshot gives the log up to this floor, which is not below the one before: what was heard and learned up to it is
+    /// forgotten. No slot loses its room. Takes a number of steps that grows with what was heard and learned above the floor before.
+    pub fn forget(&mut self, floor: Floor)
+        requires { self.old.state.learner.floor ≤ floor }
+        ensures state { self.new.state ≡ forgot floor self.old.state }
+        ensures votes { self.old.room.votes ≤ self.new.room.votes }
+        ensures places { KeepsRoom self.old self.new }
+    {
+        self.heard.forget(floor);
+        self.learned.forget(floor);
     }
 }
 
-// Learns the entry, unless one was learned in the slot.
+// Learns the entry in a slot above the floor, unless one was learned there.
 fn learn<B: Body>(
     alloc: Global,
     learned: &mut LearnedEntries<B>,
     slot: Slot,
     entry: &Entry<B>,
 ) -> Result<(), LearnerFault>
+    requires { learned.old.floor < slot }
+    ensures floor { learned.new.floor ≡ learned.old.floor }
     ensures ok { OnOk result (learned.new.learned ≡ learn_among slot entry.now learned.old.learned) }
     ensures err { OnErr result (learned.new.learned ≡ learned.old.learned) }
     ensures disagree { (result ≡ Err Disagree) ↔ (is_other B.same entry.now (learned_at slot learned.old.learned) ≡ true) }
@@ -251,9 +289,11 @@ fn learn<B: Body>(
     learned.put(slot, copy)
 }
 
-// Learns the entry in its place, unless one was learned in the slot.
+// Learns the entry in its place above the floor, unless one was learned in the slot.
 fn learn_in_place<B: Drop>(learned: &mut LearnedEntries<B>, slot: Slot, entry: Entry<B>)
-    requires { has_place slot learned.old.learned learned.old.places ≡ true }
+    requires above { learned.old.floor < slot }
+    requires place { has_room_on slot learned.old ≡ true }
+    ensures floor { learned.new.floor ≡ learned.old.floor }
     ensures learned { learned.new.learned ≡ learn_among slot entry learned.old.learned }
     ensures places { KeepsPlaces learned.old learned.new }
 {

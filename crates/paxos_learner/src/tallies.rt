@@ -3,11 +3,11 @@
 ghost use Rattle.std.specs.Prelude.{◌≡◌, ◌+◌, ◌<◌, ◌≤◌, [], None, IsOk, OnOk, OnErr, IsOkUnless};
 ghost use Rattle.std.specs.Map.{lookup};
 ghost use Rattle.paxos_learner.specs.declared.fault.LearnerFault.TheVariants.{Memory};
-ghost use Rattle.paxos_learner.specs.Tallies.{hear, nodes_heard, insert_entry, same_place};
+ghost use Rattle.paxos_learner.specs.Tallies.{hear, heard_above, nodes_heard, insert_entry, same_place};
 
 use crate::fault::LearnerFault;
 use indexmap::IndexMap;
-use paxos_packets::{Ballot, NodeSet, Slot};
+use paxos_packets::{Ballot, Floor, NodeSet, Slot};
 use std::alloc::Global;
 use std::marker::Model;
 
@@ -93,6 +93,15 @@ impl Tallies {
     {
         let nodes = self.nodes(place).with(node);
         self.put(*place, nodes)
+    }
+
+    /// Forgets the votes in slots up to this floor, and keeps their memory. Takes a number of steps that grows with the places.
+    pub fn forget(&mut self, floor: Floor)
+        ensures heard { self.new.heard ≡ heard_above floor self.old.heard }
+        ensures room { self.old.room ≤ self.new.room }
+    {
+        let floor = floor.get();
+        self.table.retain(|place, _nodes| floor < place.slot.get());
     }
 
     // Notes these members as those that voted at the place, given room for one more place.

@@ -2,7 +2,7 @@
 use Rattle.std.proofs.Common.{◌≡◌, ◌≤◌, ◌<◌, ℕ, suc, Bool, true, false, cond, not, ◌&&◌, ◌||◌, Option, Some, None, is_some, List, [], ◌∷◌, ◌++◌, refl, ap, sym, ◌∙◌, subst, arith}
 use Rattle.std.specs.Prelude.{nat_lt, nat_le, ◌==◌}
 use Rattle.std.specs.List.{list_any}
-use Rattle.std.proofs.lemmas.Bool.{lt-ltb, le-ltb, ltb-true, ltb-false, leb-true, leb-false, eqb-true, or_right}
+use Rattle.std.proofs.lemmas.Bool.{lt-ltb, le-ltb, ltb-true, ltb-false, leb-true, leb-false, eqb-true, or_parts, or_right}
 use Rattle.paxos_packets.specs.Ballot.{below, same_ballot}
 use Rattle.paxos_packets.specs.Body.{IsEquality}
 use Rattle.paxos_packets.specs.Members.{is_majority, is_in, set_with}
@@ -15,7 +15,8 @@ use Rattle.paxos_proposer.specs.Proposer.{slot_end, next_vote, is_leading}
 use Rattle.paxos_proposer.specs.Proposals.{stands_among, behind}
 use Rattle.paxos_learner.specs.declared.tallies.SlotBallot.{SlotBallot}
 use Rattle.paxos_learner.specs.Tallies.{nodes_heard, hear, place_of, same_place}
-use Rattle.paxos_learner.specs.Learner.{LearnerState, learned_at, is_learned, put_learned, hears, has_most, is_other, vote_disagrees, count_vote}
+use Rattle.paxos_learner.specs.Learned.{is_closed}
+use Rattle.paxos_learner.specs.Learner.{LearnerState, learned_at, is_learned, is_known, put_learned, hears, has_most, is_other, disagrees, vote_disagrees, count_vote}
 use Rattle.paxos_learner.proofs.Ahead.{learned_is}
 use Rattle.paxos_learner.proofs.Counting.{most_then}
 use Rattle.paxos_learner.proofs.Overlay.{at_put, nodes_put}
@@ -89,53 +90,71 @@ among_behind {B} same n e (v ∷ vs) = go (nat_lt n v.slot) refl (among_behind s
 -- a learner that counts one vote
 
 module _ {B : Type 0} (members me : ℕ) (v : Vote B) (m : LearnerState B) where
-  counted_heard : (count_vote members me v m).heard ≡ hear me (place_of v) m.heard
-  counted_heard = go (has_most members v (hears me v m)) (is_learned v.slot m.learned)
+  -- by whether its slot is closed, a majority voted for it, and it is known what the slot holds
+  abbrev counted : Bool → Bool → Bool → LearnerState B
+  counted c t u = cond c m (cond t (cond u (hears me v m) (record {
+    floor = m.floor;
+    heard = hear me (place_of v) m.heard;
+    learned = put_learned (record { slot = v.slot; entry = v.entry }) m.learned;
+  })) (hears me v m))
+
+  counted_floor : (count_vote members me v m).floor ≡ m.floor
+  counted_floor = go (is_closed m.floor v.slot) (has_most members v (hears me v m)) (is_known v.slot m)
     where
-      go : (t u : Bool) → (cond t (cond u (hears me v m) (record {
-        heard = hear me (place_of v) m.heard;
-        learned = put_learned (record { slot = v.slot; entry = v.entry }) m.learned;
-      })) (hears me v m)).heard ≡ hear me (place_of v) m.heard
-      go true true = refl
-      go true false = refl
-      go false u = refl
+      go : (c t u : Bool) → (counted c t u).floor ≡ m.floor
+      go true t u = refl
+      go false true true = refl
+      go false true false = refl
+      go false false u = refl
+
+  counted_heard : (count_vote members me v m).heard ≡ cond (is_closed m.floor v.slot) m.heard (hear me (place_of v) m.heard)
+  counted_heard = go (is_closed m.floor v.slot) (has_most members v (hears me v m)) (is_known v.slot m)
+    where
+      go : (c t u : Bool) → (counted c t u).heard ≡ cond c m.heard (hear me (place_of v) m.heard)
+      go true t u = refl
+      go false true true = refl
+      go false true false = refl
+      go false false u = refl
 
   free : (o : Option (Entry B)) → is_some o ≡ false → o ≡ None
   free None h = refl
   free (Some e) h = absurd (cc)
 
   counted_learned : (s : ℕ) → v.slot == s ≡ false → learned_at s (count_vote members me v m).learned ≡ learned_at s m.learned
-  counted_learned s other = go (has_most members v (hears me v m)) (is_learned v.slot m.learned) refl
+  counted_learned s other = go (is_closed m.floor v.slot) (has_most members v (hears me v m)) (is_known v.slot m) refl
     where
-      go : (t u : Bool) → is_learned v.slot m.learned ≡ u → learned_at s (cond t (cond u (hears me v m) (record {
-        heard = hear me (place_of v) m.heard;
-        learned = put_learned (record { slot = v.slot; entry = v.entry }) m.learned;
-      })) (hears me v m)).learned ≡ learned_at s m.learned
-      go true true p = refl
-      go true false p =
-          at_put s v.slot v.entry m.learned (free (learned_at v.slot m.learned) (sym (learned_is v.slot m.learned) ∙ p))
+      go : (c t u : Bool) → is_known v.slot m ≡ u → learned_at s (counted c t u).learned ≡ learned_at s m.learned
+      go true t u p = refl
+      go false true true p = refl
+      go false true false p =
+          let q : is_learned v.slot m.learned ≡ false = (or_parts (is_closed m.floor v.slot) (is_learned v.slot m.learned) p).1 in
+          at_put s v.slot v.entry m.learned (free (learned_at v.slot m.learned) (sym (learned_is v.slot m.learned) ∙ q))
           ∙ ap (λ (t : Bool). cond t (Some v.entry) (learned_at s m.learned)) other
-      go false u p = refl
+      go false false u p = refl
 
   heard_elsewhere : (p : SlotBallot) → same_place p (place_of v) ≡ false
       → nodes_heard p (count_vote members me v m).heard ≡ nodes_heard p m.heard
-  heard_elsewhere p other =
-      ap (λ h. nodes_heard p h) counted_heard
-      ∙ nodes_put p (place_of v) (set_with (nodes_heard (place_of v) m.heard) me) m.heard
-      ∙ ap (λ (t : Bool). cond t (set_with (nodes_heard (place_of v) m.heard) me) (nodes_heard p m.heard)) other
+  heard_elsewhere p other = ap (λ h. nodes_heard p h) counted_heard ∙ go (is_closed m.floor v.slot)
+    where
+      go : (c : Bool) → nodes_heard p (cond c m.heard (hear me (place_of v) m.heard)) ≡ nodes_heard p m.heard
+      go true = refl
+      go false =
+          nodes_put p (place_of v) (set_with (nodes_heard (place_of v) m.heard) me) m.heard
+          ∙ ap (λ (t : Bool). cond t (set_with (nodes_heard (place_of v) m.heard) me) (nodes_heard p m.heard)) other
 
 module _ {B : Type 0} (same : B → B → Bool) (ok : IsEquality same) (members me n : ℕ) (b : Ballot) (l : LearnerState B) where
   -- a vote by what was heard and learned
 
   vote_parts : (v : Vote B) (m : LearnerState B) → vote_disagrees same members me v m
-      ≡ is_majority members (is_in (set_with (nodes_heard (place_of v) m.heard) me)) && is_other same v.entry (learned_at v.slot m.learned)
-  vote_parts v m = ap (λ (t : Bool). t && is_other same v.entry (learned_at v.slot m.learned)) (most_then members me v m)
+      ≡ is_majority members (is_in (set_with (nodes_heard (place_of v) m.heard) me))
+      && (not (is_closed m.floor v.slot) && is_other same v.entry (learned_at v.slot m.learned))
+  vote_parts v m = ap (λ (t : Bool). t && disagrees same v.slot v.entry m) (most_then members me v m)
 
-  votes_alike : (v : Vote B) (m : LearnerState B) → nodes_heard (place_of v) m.heard ≡ nodes_heard (place_of v) l.heard
+  votes_alike : (v : Vote B) (m : LearnerState B) → m.floor ≡ l.floor → nodes_heard (place_of v) m.heard ≡ nodes_heard (place_of v) l.heard
       → learned_at v.slot m.learned ≡ learned_at v.slot l.learned → vote_disagrees same members me v m ≡ vote_disagrees same members me v l
-  votes_alike v m h k =
+  votes_alike v m f h k =
       vote_parts v m
-      ∙ (λ i. is_majority members (is_in (set_with (h i) me)) && is_other same v.entry (k i))
+      ∙ (λ i. is_majority members (is_in (set_with (h i) me)) && (not (is_closed (f i) v.slot) && is_other same v.entry (k i)))
       ∙ sym (vote_parts v l)
 
   -- a leader at this slot, which proposed these in its ballot; of this slot and later ones its learner knows what the first one does
@@ -143,6 +162,7 @@ module _ {B : Type 0} (same : B → B → Bool) (ok : IsEquality same) (members 
     leads : o.node.proposer.role ≡ Leading b next proposed
     length_is : log_length o.node ≡ n
     other_is : o.disagrees ≡ other
+    floor : o.node.learner.floor ≡ l.floor
     heard : (s : ℕ) → next ≤ s → nodes_heard (record { slot = s; ballot = b }) o.node.learner.heard ≡ nodes_heard (record { slot = s; ballot = b }) l.heard
     learned : (s : ℕ) → next ≤ s → learned_at s o.node.learner.learned ≡ learned_at s l.learned
 
@@ -156,7 +176,8 @@ module _ {B : Type 0} (same : B → B → Bool) (ok : IsEquality same) (members 
         leads = ap (λ (t : Bool). cond {A = Role B} t Idle (Leading b (suc next) (proposed ++ v ∷ []))) (below_self b);
         length_is = a.length_is;
         other_is = (λ i. a.other_is i || vote_disagrees same members me v o.node.learner)
-            ∙ ap (λ (t : Bool). other || t) (votes_alike v o.node.learner (a.heard next (omega arith)) (a.learned next (omega arith)));
+            ∙ ap (λ (t : Bool). other || t) (votes_alike v o.node.learner a.floor (a.heard next (omega arith)) (a.learned next (omega arith)));
+        floor = counted_floor members me v o.node.learner ∙ a.floor;
         heard = λ s le. heard_elsewhere members me v o.node.learner (record { slot = s; ballot = b })
             (ap (λ (t : Bool). t && same_ballot b b) (apart next s le)) ∙ a.heard s (omega arith);
         learned = λ s le. counted_learned members me v o.node.learner s (apart_back next s le) ∙ a.learned s (omega arith);
@@ -317,7 +338,7 @@ module _ {B : Type 0} (same : B → B → Bool) (ok : IsEquality same) (members 
       go (Preparing b first promises) p q = absurd (cc)
       go (Leading b next proposed) p q =
           each_walked same ok members me (log_length o.node) b o.node.learner (behind (log_length o.node) proposed) es (walk_from next false) proposed o
-          (record { leads = p; length_is = refl; other_is = none; heard = λ s le. refl; learned = λ s le. refl })
+          (record { leads = p; length_is = refl; other_is = none; floor = refl; heard = λ s le. refl; learned = λ s le. refl })
           (record {
             stand = λ r d. among_behind same (log_length o.node) d proposed
                 ∙ sym (or_false (stands_among same (log_length o.node) d (behind (log_length o.node) proposed)));
@@ -454,6 +475,7 @@ module _ {B : Type 0} (same : B → B → Bool) (ok : IsEquality same) (members 
         leads = refl;
         length_is = refl;
         other_is = none;
+        floor = refl;
         heard = λ s le. refl;
         learned = λ s le. refl;
       })

@@ -1,14 +1,15 @@
 -- What a leader would propose, gone through: one vote, one entry, and all of them.
 use Rattle.std.proofs.Common.{◌≡◌, ◌≤◌, ◌<◌, ℕ, zero, suc, ◌+◌, ◌-◌, ◌^◌, max, Bool, true, false, cond, not, ◌&&◌, ◌||◌, Option, Some, None, List, [], ◌∷◌, ◌++◌, take, drop, length, get_or, refl, ap, sym, ◌∙◌, arith}
 use Rattle.std.specs.Prelude.{nat_lt}
-use Rattle.std.proofs.lemmas.Bool.{lt-ltb, ltb-true, ltb-false}
+use Rattle.std.proofs.lemmas.Bool.{lt-ltb, ltb-true, ltb-false, and_right}
 use Rattle.std.proofs.lemmas.List.{take_more}
 use Rattle.paxos_packets.specs.declared.ballot.Ballot.{Ballot}
 use Rattle.paxos_packets.specs.declared.entry.Entry.{Entry}
 use Rattle.paxos_packets.specs.declared.vote.Vote.{Vote}
 use Rattle.paxos_packets.specs.Entry.{same_entry}
 use Rattle.paxos_proposer.specs.Proposer.{slot_end, next_vote}
-use Rattle.paxos_learner.specs.Learner.{LearnerState, learned_at, hears, has_most, is_other, vote_disagrees, makes_majority}
+use Rattle.paxos_learner.specs.Learned.{is_closed}
+use Rattle.paxos_learner.specs.Learner.{LearnerState, learned_at, hears, has_most, is_other, disagrees, vote_disagrees, makes_majority}
 use Rattle.paxos_learner.proofs.Counting.{most_then}
 use Rattle.paxos_proposer.proofs.Reporting.{rest_is}
 use Rattle.paxos_proposer.specs.Role.{Role, Idle, Preparing, Leading}
@@ -23,11 +24,19 @@ use Rattle.paxos_proposer.specs.Reports.{called_in, called_for, past_reports, en
 -- one vote
 
 module _ {B : Type 0} (same : B → B → Bool) (members me : ℕ) (b : Ballot) (l : LearnerState B) (slot : ℕ) (e : Entry B) where
-  pub differs_if : (o : Option (Entry B)) → slot < slot_end → makes_majority members me b slot l ≡ true → o ≡ learned_at slot l.learned
-      → is_other same e o ≡ differs same members me b l slot e
-  differs_if o lt m at =
+  pub differs_if : (o : Option (Entry B)) → slot < slot_end → is_closed l.floor slot ≡ false → makes_majority members me b slot l ≡ true
+      → o ≡ learned_at slot l.learned → is_other same e o ≡ differs same members me b l slot e
+  differs_if o lt above m at =
       let k : has_most members (next_vote b slot e) (hears me (next_vote b slot e) l) ≡ true = most_then members me (next_vote b slot e) l ∙ m in
-      rw (lt-ltb slot slot_end lt, k, at) refl
+      rw (lt-ltb slot slot_end lt, k, above, at) refl
+
+  pub closed_differ : is_closed l.floor slot ≡ true → false ≡ differs same members me b l slot e
+  closed_differ closed = go (nat_lt slot slot_end) (has_most members (next_vote b slot e) (hears me (next_vote b slot e) l))
+    where
+      go : (t m : Bool) → false ≡ t && (m && disagrees same slot e l)
+      go true true = rw closed refl
+      go true false = refl
+      go false m = refl
 
   pub few_differ : makes_majority members me b slot l ≡ false → false ≡ differs same members me b l slot e
   few_differ m =
@@ -42,8 +51,8 @@ module _ {B : Type 0} (same : B → B → Bool) (members me : ℕ) (b : Ballot) 
   pub none_differ : None ≡ learned_at slot l.learned → false ≡ differs same members me b l slot e
   none_differ at = go (nat_lt slot slot_end) (has_most members (next_vote b slot e) (hears me (next_vote b slot e) l))
     where
-      go : (t m : Bool) → false ≡ t && (m && is_other same e (learned_at slot l.learned))
-      go true true = rw (sym at) refl
+      go : (t m : Bool) → false ≡ t && (m && disagrees same slot e l)
+      go true true = rw (sym at) (sym (and_right (not (is_closed l.floor slot)) false refl))
       go true false = refl
       go false m = refl
 

@@ -10,7 +10,7 @@ use Rattle.paxos_packets.specs.declared.ballot.Ballot.{Ballot}
 use Rattle.paxos_packets.specs.declared.packet.Kind.TheVariants.{Prepare, Accept, Learned}
 use Rattle.paxos_packets.specs.declared.packet.Packet.{Packet}
 use Rattle.paxos_learner.specs.declared.learned.LearnedEntry.{LearnedEntry}
-use Rattle.paxos_learner.specs.Learned.{is_learned}
+use Rattle.paxos_learner.specs.Learner.{LearnerState, is_known}
 use Rattle.paxos_proposer.specs.Proposer.{prepared, own_ballot, is_spent}
 use Rattle.paxos_proposer.specs.declared.promises.CountedPromise.{CountedPromise}
 use Rattle.paxos_proposer.specs.Reports.{is_counted}
@@ -106,9 +106,9 @@ committing b o = record o { node = record o.node { rows = with_promise b o.node.
 abbrev pub next_own : {B : Type 0} → ℕ → ProposerState B → Option Ballot
 next_own me p = if is_spent p then None else Some (own_ballot me p)
 
--- the others are asked again for a vote, unless its slot is learned
-abbrev pub asked_again : {B : Type 0} → ℕ → List ℕ → List (LearnedEntry B) → Vote B → List (Packet B)
-asked_again me others learned v = if is_learned v.slot learned then [] else map (packet me (Accept v)) others
+-- the others are asked again for a vote, unless it is known what its slot holds
+abbrev pub asked_again : {B : Type 0} → ℕ → List ℕ → LearnerState B → Vote B → List (Packet B)
+asked_again me others l v = if is_known v.slot l then [] else map (packet me (Accept v)) others
 
 -- what was learned is reported to a member
 abbrev pub told_to : {B : Type 0} → ℕ → ℕ → LearnedEntry B → Packet B

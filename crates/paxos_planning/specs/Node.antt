@@ -1,5 +1,6 @@
 -- One node between two events, and what an event makes of it (docs/CONSENSUS.md, "One node").
-use Rattle.std.specs.Prelude.{ℕ, Bool, List, length}
+use Rattle.std.specs.Prelude.{ℕ, ◌+◌, Bool, List, length, if◌then◌else◌}
+use Rattle.paxos_packets.specs.Snapshot.{floor_in}
 use Rattle.paxos_packets.specs.declared.entry.Entry.{Entry}
 use Rattle.paxos_packets.specs.declared.packet.Packet.{Packet}
 use Rattle.paxos_packets.specs.declared.rows.Change.{Change}
@@ -14,7 +15,7 @@ pub record NodeState (B : Type 0) : Type 0 where
   pub up : Bool
   pub proposer : ProposerState B
   pub learner : LearnerState B
-  -- its log: what it has applied, slot 1 first
+  -- its log above the floor, up to which its snapshot gives the log: what it has applied, lowest slot first
   pub applied : List (Entry B)
   -- the entries that it wants to see in the log
   pub pending : List (Entry B)
@@ -23,7 +24,11 @@ pub record NodeState (B : Type 0) : Type 0 where
 
 -- the length of its log, which is the slot of its last entry
 abbrev pub log_length : {B : Type 0} → NodeState B → ℕ
-log_length x = length x.applied
+log_length x = floor_in x.rows.snapshot + length x.applied
+
+-- as it is told to others: a node that is down tells of no log
+abbrev pub told_length : {B : Type 0} → NodeState B → ℕ
+told_length x = if x.up then log_length x else 0
 
 -- what an event makes of a node, so far or at its end; no code makes one
 pub record Plan (B : Type 0) : Type 0 where

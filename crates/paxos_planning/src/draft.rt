@@ -1,6 +1,6 @@
 //! What an event makes of a node, so far.
 
-ghost use Rattle.std.specs.Prelude.{◌≡◌, ◌<◌, ◌^◌, suc, List, ◌∷◌, [], ◌++◌, length, map, OnOk, IfOk, option_copied};
+ghost use Rattle.std.specs.Prelude.{◌≡◌, ◌<◌, ◌^◌, suc, None, List, ◌∷◌, [], ◌++◌, length, map, OnOk, IfOk, option_copied};
 ghost use Rattle.paxos_packets.specs.Packet.{packet, to_others};
 ghost use Rattle.paxos_packets.specs.Vote.{put_vote, put_votes, votes_from};
 ghost use Rattle.paxos_packets.specs.declared.vote.Vote.{Vote};
@@ -112,9 +112,10 @@ impl<'a, B> Draft<'a, B> {
         self.node.boot()
     }
 
-    /// What its node learned begins with its log.
+    /// What its node learned above its floor begins with its log there.
     pub fn begins(&self)
-        ensures { Begins self.now.of.state.applied self.now.of.state.learner.learned }
+        ensures floor { self.now.of.state.learner.floor ≡ floor_in self.now.of.state.rows.snapshot }
+        ensures begins { Begins (floor_in self.now.of.state.rows.snapshot) self.now.of.state.applied self.now.of.state.learner.learned }
     {
         self.node.begins();
     }
@@ -126,7 +127,7 @@ impl<'a, B> Draft<'a, B> {
         self.disagrees
     }
 
-    /// Returns how many entries are applied.
+    /// Returns the length of its log.
     pub fn applied(&self) -> u64
         ensures length { result ≡ log_length self.now.of.state }
         ensures plan { result ≡ log_length self.now.plan.node }
@@ -186,7 +187,9 @@ impl<'a, B: Drop> Draft<'a, B> {
     pub fn into_effects(self) -> Effects<B>
         ensures plan { self.entry.plan ≡ plan_with_effects self.entry.of self.entry.plan.disagrees result }
         ensures moves { ArePossible result.moves.items (proposer_of self.entry.of.me self.entry.of.members self.entry.of.state) }
-        ensures rises { Rises 0 (hear_all result.news.items (learner_of self.entry.of.members self.entry.of.state)).learner.learned }
+        ensures plain { result.change.snapshot ≡ None }
+        ensures rises { Rises self.entry.of.state.learner.floor
+            (hear_all result.news.items (learner_of self.entry.of.members self.entry.of.state)).learner.learned }
     {
         let Draft {
             change,

@@ -1,6 +1,6 @@
 //! A node's parts as a draft reads them, and whether a packet disagrees with what was learned.
 
-ghost use Rattle.std.specs.Prelude.{◌≡◌, ◌<◌, ◌^◌, ◌&&◌, [], length, IfOk, is_none, option_copied};
+ghost use Rattle.std.specs.Prelude.{◌≡◌, ◌+◌, ◌<◌, ◌^◌, ◌&&◌, [], length, IfOk, is_none, option_copied};
 ghost use Rattle.paxos_learner.specs.Learned.{Begins};
 ghost use Rattle.paxos_learner.specs.Learner.{vote_disagrees};
 ghost use Rattle.paxos_packets.specs.Snapshot.{floor_in};
@@ -26,14 +26,15 @@ pub struct Parts<'a, B> {
     acceptor: &'a Acceptor<B>,
     proposer: &'a Proposer<B>,
     learner: &'a Learner<B>,
-    // How many of the first slots that the learner learned are applied.
+    // How many of the first entries that the learner learned above its floor are applied.
     applied: usize,
     pending: &'a [Entry<B>],
     taken: u64,
 }
 
 impl<'a, B> Model for Parts<'a, B> {
-    ghost use Rattle.std.specs.Prelude.{◌≡◌, ◌<◌, ◌^◌, true, length};
+    ghost use Rattle.std.specs.Prelude.{◌≡◌, ◌+◌, ◌<◌, ◌^◌, true, length};
+    ghost use Rattle.paxos_packets.specs.Snapshot.{floor_in};
     ghost use Rattle.paxos_learner.specs.Learned.{Begins};
     ghost use Rattle.paxos_planning.specs.Parts.{Whole, first_learned};
 
@@ -55,14 +56,15 @@ impl<'a, B> Model for Parts<'a, B> {
 
     ghost invariant = { λ p. (p.proposer.now.state.me ≡ p.me) × (p.proposer.now.state.members ≡ p.members)
         × (p.learner.now.state.members ≡ p.members)
+        × (p.learner.now.state.learner.floor ≡ floor_in p.acceptor.now.rows.snapshot)
         × (length (first_learned p.applied p.learner.now.state.learner.learned) ≡ p.applied)
-        × Begins (first_learned p.applied p.learner.now.state.learner.learned) p.learner.now.state.learner.learned
-        × (p.applied < 2 ^ 40) };
+        × Begins (floor_in p.acceptor.now.rows.snapshot) (first_learned p.applied p.learner.now.state.learner.learned) p.learner.now.state.learner.learned
+        × (floor_in p.acceptor.now.rows.snapshot + p.applied < 2 ^ 40) };
 }
 
 impl<'a, B> Parts<'a, B> {
     /// Returns the parts of the node with this number, of these members, that has applied what its learner learned in the first `applied`
-    /// slots.
+    /// slots above the floor.
     pub fn of(
         me: u8,
         members: Members,
@@ -76,9 +78,10 @@ impl<'a, B> Parts<'a, B> {
         requires me { proposer.now.state.me ≡ me }
         requires members { proposer.now.state.members ≡ members }
         requires learner_members { learner.now.state.members ≡ members }
+        requires floor { learner.now.state.learner.floor ≡ floor_in acceptor.now.rows.snapshot }
         requires length { length (first_learned applied learner.now.state.learner.learned) ≡ applied }
-        requires begins { Begins (first_learned applied learner.now.state.learner.learned) learner.now.state.learner.learned }
-        requires within { applied < 2 ^ 40 }
+        requires begins { Begins (floor_in acceptor.now.rows.snapshot) (first_learned applied learner.now.state.learner.learned) learner.now.state.learner.learned }
+        requires within { floor_in acceptor.now.rows.snapshot + applied < 2 ^ 40 }
         ensures { result ≡ whole me members acceptor.now.rows proposer.now.state.proposer learner.now.state.learner
             (first_learned applied learner.now.state.learner.learned) pending.now taken }
     {
@@ -150,17 +153,18 @@ impl<'a, B> Parts<'a, B> {
         self.learner
     }
 
-    // Returns how many entries it has applied.
+    // Returns the length of its log.
     pub(crate) fn applied(&self) -> u64
         ensures length { result ≡ log_length self.now.state }
         ensures within { result < 2 ^ 40 }
     {
-        self.applied as u64
+        self.acceptor.floor().get() + self.applied as u64
     }
 
-    // What it learned begins with its log.
+    // What it learned above its floor begins with its log there.
     pub(crate) fn begins(&self)
-        ensures { Begins self.now.state.applied self.now.state.learner.learned }
+        ensures floor { self.now.state.learner.floor ≡ floor_in self.now.state.rows.snapshot }
+        ensures begins { Begins (floor_in self.now.state.rows.snapshot) self.now.state.applied self.now.state.learner.learned }
     {
         let _ = &self.learner;
     }

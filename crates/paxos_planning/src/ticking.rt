@@ -4,7 +4,7 @@ ghost use Rattle.std.specs.Prelude.{◌≡◌, ◌++◌, map, filter, not, OnOk}
 ghost use Rattle.std.specs.List.{flat_map};
 ghost use Rattle.paxos_packets.specs.Packet.{packet};
 ghost use Rattle.paxos_packets.specs.declared.packet.Kind.TheVariants.{Prepare, Accept};
-ghost use Rattle.paxos_learner.specs.Learner.{is_learned};
+ghost use Rattle.paxos_learner.specs.Learner.{is_known};
 ghost use Rattle.paxos_proposer.specs.Proposer.{ballot_of};
 ghost use Rattle.paxos_proposer.specs.Proposing.{first_asked, promises_of, proposals_of};
 ghost use Rattle.paxos_proposer.specs.Reports.{is_counted};
@@ -41,7 +41,7 @@ impl<'a, B: Body> Draft<'a, B> {
         requires learner { self.old.plan.node.learner ≡ self.old.of.state.learner }
         ensures of { self.new.of ≡ self.old.of }
         ensures plan { OnOk result (self.new.plan ≡ send (again self.old.of.members self.old.of.me
-            self.old.plan.node.proposer.role self.old.plan.node.learner.learned) self.old.plan) }
+            self.old.plan.node.proposer.role self.old.plan.node.learner) self.old.plan) }
     {
         let Some(first) = self.preparing() else {
             self.accept_again()?;
@@ -87,11 +87,11 @@ impl<'a, B: Body> Draft<'a, B> {
         put_prepares_again(&mut self.packets, &self.node, ballot, first)
     }
 
-    // Asks the others again for the votes that it proposed, except in slots that are learned.
+    // Asks the others again for the votes that it proposed, except in slots of which it is known what they hold.
     fn accept_again(&mut self) -> Result<(), Memory>
         ensures of { self.new.of ≡ self.old.of }
         ensures plan { OnOk result (self.new.plan ≡ send (accepts_again self.old.of.members self.old.of.me
-            self.old.of.state.learner.learned (proposals_of self.old.of.state.proposer.role)) self.old.plan) }
+            self.old.of.state.learner (proposals_of self.old.of.state.proposer.role)) self.old.plan) }
     {
         put_accepts_again(self.alloc, &mut self.packets, &self.node)
     }
@@ -124,7 +124,7 @@ fn put_accepts_again<B: Body>(
     node: &Parts<'_, B>,
 ) -> Result<(), Memory>
     ensures ok { OnOk result (packets.new.items ≡ packets.old.items
-        ++ accepts_again node.now.members node.now.me node.now.state.learner.learned (proposals_of node.now.state.proposer.role)) }
+        ++ accepts_again node.now.members node.now.me node.now.state.learner (proposals_of node.now.state.proposer.role)) }
 {
     let me = node.me();
     let others = node.members().others(me);
@@ -162,7 +162,7 @@ fn put_prepares<B: Body>(
     Ok(())
 }
 
-// Appends requests for these votes to the others, except in slots that are learned.
+// Appends requests for these votes to the others, except in slots of which it is known what they hold.
 fn put_accepts<B: Body>(
     alloc: Global,
     packets: &mut Vec<Packet<B>>,
@@ -172,7 +172,7 @@ fn put_accepts<B: Body>(
     others: &[u8],
 ) -> Result<(), Memory>
     ensures ok { OnOk result (packets.new.items ≡ packets.old.items
-        ++ flat_map (asked_again me others.now learner.now.state.learner.learned) votes.now) }
+        ++ flat_map (asked_again me others.now learner.now.state.learner) votes.now) }
 {
     for vote in votes {
         put_accept(alloc, packets, me, learner, vote, others)?;
@@ -180,7 +180,7 @@ fn put_accepts<B: Body>(
     Ok(())
 }
 
-// Appends requests for the vote to the others, unless its slot is learned.
+// Appends requests for the vote to the others, unless it is known what its slot holds.
 fn put_accept<B: Body>(
     alloc: Global,
     packets: &mut Vec<Packet<B>>,
@@ -189,9 +189,9 @@ fn put_accept<B: Body>(
     vote: &Vote<B>,
     others: &[u8],
 ) -> Result<(), Memory>
-    ensures ok { OnOk result (packets.new.items ≡ packets.old.items ++ asked_again me others.now learner.now.state.learner.learned vote.now) }
+    ensures ok { OnOk result (packets.new.items ≡ packets.old.items ++ asked_again me others.now learner.now.state.learner vote.now) }
 {
-    if is_learned(learner, vote.slot) {
+    if is_known(learner, vote.slot) {
         return Ok(());
     }
     let Ok(copy) = vote.copy(alloc) else {
@@ -201,8 +201,8 @@ fn put_accept<B: Body>(
 }
 
 #[tactic(auto, using(paxos_learner::proofs::Ahead::learned_is))]
-fn is_learned<B>(learner: &Learner<B>, slot: Slot) -> bool
-    ensures { result ≡ is_learned slot learner.now.state.learner.learned }
+fn is_known<B>(learner: &Learner<B>, slot: Slot) -> bool
+    ensures { result ≡ is_known slot learner.now.state.learner }
 {
-    learner.learned(slot).is_some()
+    learner.is_closed(slot) || learner.learned(slot).is_some()
 }

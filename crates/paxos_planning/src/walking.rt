@@ -257,6 +257,9 @@ fn differs<B: Body>(
     let Some(slot) = Slot::new(slot) else {
         return false;
     };
+    if learner.is_closed(slot) {
+        return false;
+    }
     if !learner.makes_majority(me, ballot, slot) {
         return false;
     }

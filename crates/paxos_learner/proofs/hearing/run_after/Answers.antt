@@ -13,12 +13,12 @@ returns-in_default-clause-run g c =
 
 pub loop-number-preserved : goal.loop-number-preserved
 loop-number-preserved g c =
-    run_more c.loop-number.number (c.loop-number.number + 1) c.loop-number.run c.push_copy.new.entries _ c.in-Some.entry.now
+    run_more (after c.args.hearing.now).learner.floor c.loop-number.number (c.loop-number.number + 1) c.loop-number.run c.push_copy.new.entries _ c.in-Some.entry.now
     (after c.args.hearing.now).learner.learned (omega arith) c.ascends.ensures (sym c.in-Some.ensures) c.in_ok-push_copy.ensures.ok c.loop-number.invariant
 
 pub returns-clause-run : goal.returns-clause-run
 returns-clause-run g c =
     let none : None ≡ learned_at (c.loop-number.number + 1) (after c.args.hearing.now).learner.learned =
-    none_outside (c.loop-number.number + 1) (after c.args.hearing.now).learner.learned c.ascends.ensures
+    none_outside (after c.args.hearing.now).learner.floor (c.loop-number.number + 1) (after c.args.hearing.now).learner.learned c.ascends.ensures
     (λ h. absurd (let k : c.loop-number.number + 1 < 1099511627776 = h.1 in omega (arith, c.loop-number-test.false))) in
     run_over c.loop-number.number (c.loop-number.number + 1) _ _ _ (omega arith) (sym none) c.loop-number.invariant

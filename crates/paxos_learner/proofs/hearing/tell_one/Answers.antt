@@ -9,7 +9,7 @@ use Rattle.paxos_learner.proofs.hearing.tell_one.Goals as goal
 pub returns-in_default-clause-ok : goal.returns-in_default-clause-ok
 returns-in_default-clause-ok g c =
     within_same c.args.number c.args.told.now.items c.args.told.now.items (after c.args.hearing.now).learner.learned refl
-    (sym (none_outside c.args.number (after c.args.hearing.now).learner.learned c.ascends.ensures
+    (sym (none_outside (after c.args.hearing.now).learner.floor c.args.number (after c.args.hearing.now).learner.learned c.ascends.ensures
     (λ h. absurd (let k : false ≡ true = c.in_default.ensures.valid.1 h in cc))))
 
 pub returns-in_default-learned-clause-ok : goal.returns-in_default-learned-clause-ok
@@ -26,5 +26,5 @@ returns-clause-ok g c =
     ap (λ s. learned_at s ls) (sym c.in-Some.ensures.value) ∙ sym c.in-Some-learned.ensures in
     let put : record { slot = c.in-Some.slot; entry = c.in-Ok.entry } ∷ [] ≡ learned_within c.args.number (suc c.args.number) ls =
     (λ i. record { slot = c.in-Some.ensures.value i; entry = c.in-Ok.ensures i } ∷ [])
-    ∙ sym (within_some 0 c.args.number ls c.in-Some-learned.entry.now c.ascends.ensures some) in
+    ∙ sym (within_some (after c.args.hearing.now).learner.floor c.args.number ls c.in-Some-learned.entry.now c.ascends.ensures some) in
     c.in-Ok-push.ensures.items ∙ ap (λ (es : List (LearnedEntry g.row.B.Denot)). c.args.told.now.items ++ es) put

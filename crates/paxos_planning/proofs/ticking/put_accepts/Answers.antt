@@ -7,7 +7,7 @@ use Rattle.paxos_planning.proofs.ticking.put_accepts.Goals as goal
 
 pub loop-vote-preserved : goal.loop-vote-preserved
 loop-vote-preserved g c =
-    let f = asked_again c.args.me c.args.others.now c.args.learner.now.state.learner.learned in
+    let f = asked_again c.args.me c.args.others.now c.args.learner.now.state.learner in
     sent_on c.loop-vote.packets.items (flat_map f (drop c.loop-vote.vote-index c.args.votes.now)) (c.args.packets.now.items ++ flat_map f c.args.votes.now)
     c.loop-vote.invariant
     c.put_accept.new.packets.items (f c.vote-item.result) (flat_map f (drop (c.loop-vote.vote-index + 1) c.args.votes.now))
@@ -16,7 +16,7 @@ loop-vote-preserved g c =
 
 pub returns : goal.returns
 returns g c =
-    let f = asked_again c.args.me c.args.others.now c.args.learner.now.state.learner.learned in
+    let f = asked_again c.args.me c.args.others.now c.args.learner.now.state.learner in
     record {
       ok = sent_all c.loop-vote.packets.items (flat_map f (drop c.loop-vote.vote-index c.args.votes.now))
           (c.args.packets.now.items ++ flat_map f c.args.votes.now) c.loop-vote.invariant

@@ -5,5 +5,5 @@ use Rattle.paxos_learner.proofs.learned.LearnedEntries.ascends.Goals as goal
 
 pub returns : goal.returns
 returns g c =
-    subst (λ (s : Shelf g.row.B.Denot). Rises 0 s.learned) c.self.view_is
-    (shelf_rises c.self.inside.run.items c.self.inside.ahead.entries c.self.invariant)
+    subst (λ (s : Shelf g.row.B.Denot). Rises s.floor s.learned) c.self.view_is
+    (shelf_rises c.self.inside.floor c.self.inside.run.items c.self.inside.ahead.entries c.self.invariant)

@@ -3,7 +3,7 @@ use Rattle.paxos_packets.specs.Members.{is_majority, is_in, set_with}
 use Rattle.paxos_packets.specs.declared.vote.Vote.{Vote}
 use Rattle.paxos_learner.specs.Tallies.{place_of, nodes_heard}
 use Rattle.paxos_learner.specs.Learner.{LearnerState}
-use Rattle.paxos_learner.proofs.Counting.{few_agree, most_agree}
+use Rattle.paxos_learner.proofs.Counting.{few_agree, most_disagree}
 use Rattle.paxos_learner.proofs.learner.Learner.vote_disagrees.Goals as goal
 
 pub returns-then-not-has_majority : goal.returns-then-not-has_majority
@@ -26,5 +26,5 @@ returns g c =
     let set : c.with-nodes.result ≡ set_with (nodes_heard (place_of v) l.heard) c.args.node =
     c.with-nodes.ensures ∙ ap (λ (s : List Bool). set_with s c.args.node) c.nodes.ensures in
     c.disagrees.ensures
-    ∙ most_agree g.B.Body.same members c.args.node v l
+    ∙ most_disagree g.B.Body.same members c.args.node v l
     (ap (λ (s : List Bool). is_majority members (is_in s)) (sym set) ∙ sym c.has_majority.ensures ∙ f)
