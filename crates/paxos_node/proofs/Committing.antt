@@ -2,7 +2,7 @@
 use Rattle.std.proofs.Common.{◌≡◌, ℕ, suc, Bool, true, false, not, ◌&&◌, refl, sym, ap, ◌∙◌, List, [], ◌∷◌}
 use Rattle.std.proofs.Common.{◌++◌, Option, Some, None}
 use Rattle.std.specs.Option.{option_or}
-use Rattle.std.specs.Prelude.{nat_lt}
+use Rattle.std.specs.Prelude.{nat_lt, nat_le}
 use Rattle.std.proofs.lemmas.Bool.{cond_both, and_parts}
 use Rattle.paxos_packets.specs.Members.{is_majority}
 use Rattle.paxos_packets.specs.Ballot.{same_ballot}
@@ -25,8 +25,10 @@ use Rattle.paxos_proposer.specs.Proposer.{slot_end, next_vote, new_ballot, is_le
 use Rattle.paxos_proposer.specs.Promises.{lowest}
 use Rattle.paxos_proposer.specs.Reports.{is_counted, reports, called_for}
 use Rattle.paxos_node.specs.declared.event.Event.{Event}
-use Rattle.paxos_node.specs.declared.event.Event.TheVariants.{Take, Tick, Start, Suspect, Deliver, Crash, Restart}
-use Rattle.paxos_planning.specs.Node.{Plan, log_length}
+use Rattle.paxos_node.specs.declared.event.Event.TheVariants.{Take, Tick, Start, Suspect, Deliver, Cut, Crash, Restart}
+use Rattle.replica_machine.specs.declared.head.Head.{Head}
+use Rattle.replica_machine.specs.Snapshot.{head_at}
+use Rattle.paxos_planning.specs.Node.{NodeState, Plan, log_length}
 use Rattle.paxos_planning.specs.Plan.{with_role, with_pending, begun, send, promise, vote, cast}
 use Rattle.paxos_planning.specs.Proposals.{offer, propose_as, propose, propose_all, lead, stands, propose_new, propose_each, forwarded, push}
 use Rattle.paxos_planning.specs.Replies.{saw, refuse, cast_or_show, answer_ask, count_promise, on_promise_as, on_packet}
@@ -35,7 +37,8 @@ use Rattle.paxos_packets.specs.Rows.{last_boot}
 use Rattle.paxos_node.specs.Events.{takes, with_item, on_take, has_room, suspected}
 use Rattle.paxos_planning.specs.Ticking.{again, on_tick}
 use Rattle.paxos_planning.specs.Starting.{begin, starts, on_start}
-use Rattle.paxos_node.specs.Events.{new_lost, possible, outcome_of}
+use Rattle.paxos_node.specs.Events.{new_lost, possible, deliver, outcome_of}
+use Rattle.paxos_node.specs.Snapshots.{rest_on, on_cut, has_boot, take_in}
 use Rattle.paxos_learner.specs.Learner.{run_from}
 use Rattle.paxos_planning.proofs.Putting.{votes_put}
 use Rattle.paxos_node.specs.Laws.{CommitsItsChange}
@@ -156,7 +159,7 @@ module _ {B : Type 0} (same : B → B → Bool) (members n : ℕ) (rows : Rows B
 
   ticking : (t : Plan B) → C t → C (on_tick same members n t)
   ticking t c =
-      let d = pushes (send (again members n t.node.proposer.role t.node.learner.learned) t) (record { is = c.is; ascends = c.ascends }) in
+      let d = pushes (send (again members n t.node.proposer.role t.node.learner) t) (record { is = c.is; ascends = c.ascends }) in
       record { is = d.is; ascends = d.ascends }
 
   taking : (transport : ℕ) (body : B) (t : Plan B) → C t → C (on_take same members n transport body t)
@@ -180,6 +183,28 @@ module _ {B : Type 0} (same : B → B → Bool) (members n : ℕ) (rows : Rows B
   settling : (t : Plan B) → C t → C (settle n t)
   settling t c = applying (run_from (suc (log_length t.node)) t.node.learner.learned) t c
 
+-- a snapshot, its own or another's
+
+rests : {B : Type 0} (over : Bool) (s : taken.Snapshot) (x : NodeState B) → Commits x.rows (rest_on over s (begun x))
+rests true s x = record { is = refl; ascends = tt }
+rests false s x = record { is = refl; ascends = tt }
+
+cuts : {B : Type 0} (s : Option taken.Snapshot) (x : NodeState B) → Commits x.rows (on_cut s (begun x))
+cuts None x = record { is = refl; ascends = tt }
+cuts (Some s) x = rests false s x
+
+takes_in : {B : Type 0} (me : ℕ) (s : taken.Snapshot) (head : Option Head) (x : NodeState B) → Commits x.rows (take_in me s head (begun x))
+takes_in me s None x = record { is = refl; ascends = tt }
+takes_in me s (Some head) x =
+    cond_both (has_boot me x head) (begun x) (rest_on true s (begun x)) (λ u. Commits x.rows u) (λ h. record { is = refl; ascends = tt }) (λ h. rests true s x)
+
+delivers : {B : Type 0} (same : B → B → Bool) (members me from : ℕ) (kind : Kind B) (x : NodeState B)
+    → Commits x.rows (deliver same members me from kind (begun x))
+delivers same members me from (Snapshot s) x =
+    cond_both (nat_le s.floor (log_length x)) (begun x) (take_in me s (head_at s.octets) (begun x)) (λ u. Commits x.rows u)
+    (λ h. record { is = refl; ascends = tt }) (λ h. takes_in me s (head_at s.octets) x)
+delivers same members me from kind x = packets same members me x.rows from kind (begun x) (record { is = refl; ascends = tt })
+
 pub commits_its_change : {B : Type 0} → CommitsItsChange B
 commits_its_change {B} same members e x up p = (of e p).is
   where
@@ -195,8 +220,7 @@ commits_its_change {B} same members e x up p = (of e p).is
     of (Start n) h = settling same members n x.rows _ (starting same members n x.rows (begun x) start)
     of (Suspect n other) h = settling same members n x.rows _ (suspecting same members n x.rows (new_lost same n other x) (begun x) start)
     of (Deliver q) h =
-        settling same members q.addressee x.rows _
-        (packets same members q.addressee x.rows q.sender q.kind (record (begun x) { node = saw q.kind x })
-        (record { is = refl; ascends = tt }))
+        settling same members q.addressee x.rows _ (delivers same members q.addressee q.sender q.kind (saw q.kind x))
+    of (Cut n s) h = settling same members n x.rows _ (cuts s x)
     of (Crash n) h = record { is = refl; ascends = tt }
     of (Restart n) h = absurd (off (sym (ap not up) ∙ (and_parts (not x.up) (nat_lt x.rows.boot last_boot) h).0))

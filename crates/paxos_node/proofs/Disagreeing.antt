@@ -1,6 +1,6 @@
 -- Whether an event disagrees with what was learned: by what its packet brings, or by what the node votes for in it.
-use Rattle.std.proofs.Common.{◌≡◌, ℕ, suc, Bool, true, false, cond, ◌&&◌, Result, Ok, Err, Option, Some, None, [], ◌∷◌, ◌++◌, refl, ap, ◌∙◌}
-use Rattle.std.specs.Prelude.{IfOk, is_none}
+use Rattle.std.proofs.Common.{◌≡◌, ℕ, suc, Bool, true, false, cond, not, ◌&&◌, ◌||◌, Result, Ok, Err, Option, Some, None, [], ◌∷◌, ◌++◌, refl, ap, ◌∙◌}
+use Rattle.std.specs.Prelude.{IfOk, is_none, nat_le}
 use Rattle.paxos_packets.specs.Body.{IsEquality}
 use Rattle.paxos_packets.specs.declared.entry.Entry.{Entry}
 use Rattle.paxos_packets.specs.declared.packet.Kind.{Kind}
@@ -11,6 +11,8 @@ use Rattle.paxos_learner.specs.Learner.{vote_disagrees}
 use Rattle.paxos_planning.specs.Ticking.{again}
 use Rattle.paxos_acceptor.specs.Acceptor.{may_promise, may_accept, promise_of, given_by}
 use Rattle.paxos_proposer.specs.Proposer.{new_ballot}
+use Rattle.replica_machine.specs.declared.head.Head.{Head}
+use Rattle.replica_machine.specs.Snapshot.{head_at}
 use Rattle.paxos_planning.specs.Node.{NodeState, Plan, log_length}
 use Rattle.paxos_planning.specs.Plan.{begun, send, with_pending, promise}
 use Rattle.paxos_planning.specs.Proposals.{push}
@@ -19,12 +21,17 @@ use Rattle.paxos_planning.proofs.LeaderVotes.{push_is, forward_is, promise_is}
 use Rattle.paxos_planning.specs.Replies.{saw, refuse, cast_or_show, answer_ask, on_packet, brings_other}
 use Rattle.paxos_planning.specs.Starting.{starts, begin}
 use Rattle.paxos_node.specs.declared.event.Event.{Event}
-use Rattle.paxos_node.specs.declared.event.Event.TheVariants.{Take, Tick, Start, Suspect, Deliver, Crash, Restart}
+use Rattle.paxos_node.specs.declared.event.Event.TheVariants.{Take, Tick, Start, Suspect, Deliver, Cut, Crash, Restart}
 use Rattle.paxos_node.specs.declared.fault.NodeFault.{NodeFault}
 use Rattle.paxos_node.specs.declared.fault.NodeFault.TheVariants.{Rounds, Full, Disagree, Memory}
-use Rattle.paxos_node.specs.Events.{owner, on_event, outcome_of, takes, new_item, with_item, has_room, new_lost, suspected}
-use Rattle.paxos_node.specs.Plans.{Answers, finds_other, suspects_other, is_memory}
+use Rattle.paxos_node.specs.Snapshots.{rest_on, has_boot, take_in}
+use Rattle.paxos_node.specs.Events.{owner, deliver, on_event, outcome_of, takes, new_item, with_item, has_room, new_lost, suspected}
+use Rattle.paxos_node.specs.Plans.{Answers, finds_other, delivers_other, suspects_other, is_memory}
 use Rattle.paxos_node.proofs.Ending.{settled_disagrees}
+
+or_false : (b : Bool) → (b || false) ≡ b
+or_false true = refl
+or_false false = refl
 
 module _ {B : Type 0} (same : B → B → Bool) (ok : IsEquality same) (members : ℕ) where
   packet_is : (me sender : ℕ) (k : Kind B) (x : NodeState B)
@@ -65,6 +72,26 @@ module _ {B : Type 0} (same : B → B → Bool) (ok : IsEquality same) (members 
       go (Some s) = refl
   packet_is me sender (Snapshot s) x = refl
 
+  taken_is : (me : ℕ) (s : taken.Snapshot) (head : Option Head) (o : Plan B) → (take_in me s head o).disagrees ≡ (is_none head || o.disagrees)
+  taken_is me s None o = refl
+  taken_is me s (Some head) o = go (has_boot me o.node head)
+    where
+      go : (b : Bool) → (cond b o (rest_on true s o)).disagrees ≡ o.disagrees
+      go true = refl
+      go false = refl
+
+  deliver_is : (me sender : ℕ) (k : Kind B) (x : NodeState B)
+      → (deliver same members me sender k (record (begun x) { node = saw k x })).disagrees ≡ delivers_other same members me sender k x
+  deliver_is me sender (Snapshot s) x = go (nat_le s.floor (log_length x))
+    where
+      o : Plan B
+      o = record (begun x) { node = saw (Snapshot s) x }
+
+      go : (b : Bool) → (cond b o (take_in me s (head_at s.octets) o)).disagrees ≡ (not b && is_none (head_at s.octets))
+      go true = refl
+      go false = taken_is me s (head_at s.octets) o ∙ or_false (is_none (head_at s.octets))
+  deliver_is me sender k x = packet_is me sender k x
+
   event_is : (e : Event B) (x : NodeState B) → (on_event same members e (begun x)).disagrees ≡ finds_other same members (owner e) e x
   event_is (Take n t body) x = go (takes x)
     where
@@ -75,7 +102,7 @@ module _ {B : Type 0} (same : B → B → Bool) (ok : IsEquality same) (members 
           ≡ cond b (proposes_other same members n (log_length x) x.learner x.proposer.role (x.pending ++ new_item n t body x ∷ [])) false
       go true = push_is same ok members n o refl
       go false = refl
-  event_is (Tick n) x = push_is same ok members n (send (again members n x.proposer.role x.learner.learned) (begun x)) refl
+  event_is (Tick n) x = push_is same ok members n (send (again members n x.proposer.role x.learner) (begun x)) refl
   event_is (Start n) x = go (starts n x)
     where
       go : (b : Bool) → (cond b (begin members n (new_ballot n x.rows.promised x.proposer) (suc (log_length x)) (begun x)) (begun x)).disagrees ≡ false
@@ -92,7 +119,9 @@ module _ {B : Type 0} (same : B → B → Bool) (ok : IsEquality same) (members 
       go : (l : Option (Entry B)) → (suspected same members n l (begun x)).disagrees ≡ suspects_other same members n l x
       go None = refl
       go (Some lost) = room lost (has_room x)
-  event_is (Deliver q) x = packet_is q.addressee q.sender q.kind x
+  event_is (Deliver q) x = deliver_is q.addressee q.sender q.kind x
+  event_is (Cut n None) x = refl
+  event_is (Cut n (Some s)) x = refl
   event_is (Crash n) x = refl
   event_is (Restart n) x = refl
 

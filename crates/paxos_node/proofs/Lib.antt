@@ -5,6 +5,7 @@ pub mod Parts
 pub mod Rolling
 pub mod Seeing
 pub mod Ending
+pub mod Resting
 pub mod Answering
 pub mod Making
 pub mod Done

@@ -3,9 +3,8 @@ use Rattle.std.proofs.Common.{◌≡◌, ℕ, zero, suc, ◌+◌, ◌<◌, ◌�
 use Rattle.std.specs.Prelude.{filter}
 use Rattle.paxos_packets.specs.declared.entry.Entry.{Entry}
 use Rattle.replica_machine.specs.declared.roll.Standing.{Standing}
-use Rattle.replica_machine.specs.declared.roll.Standing.TheVariants.{Unknown}
-use Rattle.replica_machine.specs.Roll.{standings, standing_after, standing_from, standings_after, standings_from, standing_in}
-use Rattle.replica_machine.specs.Roll.{HasStandings, IsRollOf, is_wanted, is_wanted_by}
+use Rattle.replica_machine.specs.Roll.{standing_after, standing_from, standings_after, standings_from, standing_in}
+use Rattle.replica_machine.specs.Roll.{HasStandings, is_wanted_by}
 use Rattle.paxos_node.specs.Adopting.{pending_behind}
 
 pub from_last : {B : Type 0} (n : ℕ) (s : Standing) (log : List (Entry B)) (e : Entry B)
@@ -19,17 +18,21 @@ from_both n s (d ∷ ds) es = from_both n (standing_after n s d) ds es
 
 -- where the nodes stand after a log that goes on
 
-pub one_longer : {B : Type 0} (log : List (Entry B)) (e : Entry B) → standings_after (standings log) e ≡ standings (log ++ e ∷ [])
-one_longer log e = λ i. λ n. sym (from_last n Unknown log e) i
+pub one_longer : {B : Type 0} (stands : ℕ → Standing) (log : List (Entry B)) (e : Entry B)
+    → standings_after (standings_from stands log) e ≡ standings_from stands (log ++ e ∷ [])
+one_longer stands log e = λ i. λ n. sym (from_last n (stands n) log e) i
 
-pub some_longer : {B : Type 0} (log es : List (Entry B)) → standings_from (standings log) es ≡ standings (log ++ es)
-some_longer log es = λ i. λ n. sym (from_both n Unknown log es) i
+pub some_longer : {B : Type 0} (stands : ℕ → Standing) (log es : List (Entry B))
+    → standings_from (standings_from stands log) es ≡ standings_from stands (log ++ es)
+some_longer stands log es = λ i. λ n. sym (from_both n (stands n) log es) i
 
 -- what is pending after some more entries, by the log
 
-pub one_behind : {B : Type 0} (log : List (Entry B)) (e : Entry B) (es pending : List (Entry B))
-    → pending_behind (standings log) (e ∷ es) pending ≡ pending_behind (standings (log ++ e ∷ [])) es (filter (is_wanted (log ++ e ∷ [])) pending)
-one_behind log e es pending = λ i. pending_behind (one_longer log e i) es (filter (is_wanted_by (one_longer log e i)) pending)
+pub one_behind : {B : Type 0} (stands : ℕ → Standing) (log : List (Entry B)) (e : Entry B) (es pending : List (Entry B))
+    → pending_behind (standings_from stands log) (e ∷ es) pending
+    ≡ pending_behind (standings_from stands (log ++ e ∷ [])) es (filter (is_wanted_by (standings_from stands (log ++ e ∷ []))) pending)
+one_behind stands log e es pending =
+    λ i. pending_behind (one_longer stands log e i) es (filter (is_wanted_by (one_longer stands log e i)) pending)
 
 -- a roll goes on
 
@@ -37,9 +40,9 @@ pub rolls_on : {B : Type 0} (stands : ℕ → Standing) (e : Entry B) (old new :
     → ((n : ℕ) → n < 256 → standing_in new n ≡ standing_after n (standing_in old n) e) → HasStandings (standings_after stands e) new
 rolls_on stands e old new is step n l = step n l ∙ ap (λ (s : Standing). standing_after n s e) (is n l)
 
-pub roll_of : {B : Type 0} (log es : List (Entry B)) (roll : List Standing) → HasStandings (standings_from (standings log) es) roll
-    → IsRollOf (log ++ es) roll
-roll_of log es roll is n l = is n l ∙ sym (from_both n Unknown log es)
+pub roll_of : {B : Type 0} (stands : ℕ → Standing) (log es : List (Entry B)) (roll : List Standing)
+    → HasStandings (standings_from (standings_from stands log) es) roll → HasStandings (standings_from stands (log ++ es)) roll
+roll_of stands log es roll is n l = is n l ∙ sym (from_both n (stands n) log es)
 
 -- the rest of a list
 

@@ -1,6 +1,6 @@
 -- A node that is up has seen the rounds that it promised, and that of its own ballot.
-use Rattle.std.proofs.Common.{◌≡◌, ℕ, suc, ◌≤◌, Bool, true, false, cond, not, ◌&&◌, max, refl, arith, List, [], ◌∷◌, ◌++◌, Option, Some, None}
-use Rattle.std.specs.Prelude.{nat_lt}
+use Rattle.std.proofs.Common.{◌≡◌, ℕ, suc, ◌≤◌, Bool, true, false, cond, not, ◌&&◌, max, refl, sym, subst, arith, List, [], ◌∷◌, ◌++◌, Option, Some, None}
+use Rattle.std.specs.Prelude.{nat_lt, nat_le}
 use Rattle.std.proofs.lemmas.Bool.{cond_both}
 use Rattle.paxos_packets.specs.Members.{is_majority}
 use Rattle.paxos_packets.specs.Ballot.{below, same_ballot}
@@ -17,12 +17,14 @@ use Rattle.paxos_packets.specs.declared.vote.Vote.{Vote}
 use Rattle.paxos_acceptor.specs.Acceptor.{may_promise, may_accept, promise_of, given_by}
 use Rattle.paxos_proposer.specs.declared.promises.CountedPromise.{CountedPromise}
 use Rattle.paxos_proposer.specs.Role.{Role, Idle, Preparing, Leading}
-use Rattle.paxos_proposer.specs.Proposer.{round_of, slot_end, next_vote, new_ballot, is_leading, step_down, nacked}
+use Rattle.paxos_proposer.specs.Proposer.{round_of, slot_end, next_vote, new_ballot, is_leading, step_down, nacked, raised_above}
 use Rattle.paxos_proposer.specs.Promises.{lowest}
 use Rattle.paxos_proposer.specs.Reports.{is_counted, reports, called_for}
 use Rattle.paxos_learner.specs.Learner.{run_from}
 use Rattle.paxos_node.specs.declared.event.Event.{Event}
-use Rattle.paxos_node.specs.declared.event.Event.TheVariants.{Take, Tick, Start, Suspect, Deliver, Crash, Restart}
+use Rattle.paxos_node.specs.declared.event.Event.TheVariants.{Take, Tick, Start, Suspect, Deliver, Cut, Crash, Restart}
+use Rattle.replica_machine.specs.declared.head.Head.{Head}
+use Rattle.replica_machine.specs.Snapshot.{head_at}
 use Rattle.paxos_planning.specs.Node.{Plan, log_length}
 use Rattle.paxos_planning.specs.Plan.{with_role, with_pending, begun, send, promise, cast}
 use Rattle.paxos_planning.specs.Proposals.{offer, propose_as, propose, propose_all, lead, stands, propose_new, propose_each, forwarded, push}
@@ -31,7 +33,8 @@ use Rattle.paxos_node.specs.Applying.{started, note, ends, go_down, apply_all, s
 use Rattle.paxos_node.specs.Events.{takes, with_item, on_take, has_room, suspected, new_lost}
 use Rattle.paxos_planning.specs.Ticking.{again, on_tick}
 use Rattle.paxos_planning.specs.Starting.{begin, starts, on_start}
-use Rattle.paxos_node.specs.Events.{possible, outcome_of}
+use Rattle.paxos_node.specs.Events.{possible, deliver, outcome_of}
+use Rattle.paxos_node.specs.Snapshots.{may_cut, rest_on, on_cut, has_boot, take_in}
 use Rattle.paxos_node.specs.Laws.{round_under_way, Sees, SeesItsBallots, StaysSeen}
 
 pub sees_started : {B : Type 0} (me : ℕ) (rows : Rows B) → SeesItsBallots (started me rows)
@@ -63,6 +66,12 @@ nacked_le {B} b p (Leading c next table) = go (same_ballot b c && below c p)
     go : (t : Bool) → round_under_way (cond {A = Role B} t Idle (Leading c next table)) ≤ c.round
     go true = omega arith
     go false = omega arith
+
+-- nor does a snapshot
+raised_round : {B : Type 0} (floor : ℕ) (r : Role B) → round_under_way (raised_above floor r) ≡ round_under_way r
+raised_round floor Idle = refl
+raised_round floor (Preparing b first promises) = refl
+raised_round floor (Leading b next proposed) = refl
 
 module _ {B : Type 0} (same : B → B → Bool) (members n : ℕ) where
   abbrev S : Plan B → Type 0
@@ -163,6 +172,25 @@ module _ {B : Type 0} (same : B → B → Bool) (members n : ℕ) where
   packets from (Snapshot k) t l s = s
   packets from (Learned k e) t l s = record { promised = s.promised; under_way = s.under_way }
 
+  -- a snapshot raises a leader's next slot, and no round
+
+  rests : (over : Bool) (k : taken.Snapshot) (t : Plan B) → S t → S (rest_on over k t)
+  rests true k t s = let r = raised_round k.floor t.node.proposer.role in record { promised = s.promised; under_way = subst (λ (u : ℕ). u ≤ t.node.proposer.seen) (sym r) s.under_way }
+  rests false k t s = let r = raised_round k.floor t.node.proposer.role in record { promised = s.promised; under_way = subst (λ (u : ℕ). u ≤ t.node.proposer.seen) (sym r) s.under_way }
+
+  cuts : (k : Option taken.Snapshot) (t : Plan B) → S t → S (on_cut k t)
+  cuts None t s = s
+  cuts (Some k) t s = rests false k t s
+
+  takes_in : (k : taken.Snapshot) (head : Option Head) (t : Plan B) → S t → S (take_in n k head t)
+  takes_in k None t s = record { promised = s.promised; under_way = s.under_way }
+  takes_in k (Some head) t s = cond_both (has_boot n t.node head) t (rest_on true k t) (λ u. S u) (λ d. s) (λ d. rests true k t s)
+
+  delivers : (from : ℕ) (kind : Kind B) (t : Plan B) → round_in kind ≤ t.node.proposer.seen → S t → S (deliver same members n from kind t)
+  delivers from (Snapshot k) t l s =
+      cond_both (nat_le k.floor (log_length t.node)) t (take_in n k (head_at k.octets) t) (λ u. S u) (λ d. s) (λ d. takes_in k (head_at k.octets) t s)
+  delivers from kind t l s = packets from kind t l s
+
   starting : (t : Plan B) → S t → S (on_start members n t)
   starting t s =
       cond_both (starts n t.node) (begin members n b (suc (log_length t.node)) t) t (λ u. S u)
@@ -173,7 +201,7 @@ module _ {B : Type 0} (same : B → B → Bool) (members n : ℕ) where
 
   ticking : (t : Plan B) → S t → S (on_tick same members n t)
   ticking t s =
-      let d = pushes (send (again members n t.node.proposer.role t.node.learner.learned) t) (record { promised = s.promised; under_way = s.under_way }) in
+      let d = pushes (send (again members n t.node.proposer.role t.node.learner) t) (record { promised = s.promised; under_way = s.under_way }) in
       record { promised = d.promised; under_way = d.under_way }
 
   taking : (transport : ℕ) (body : B) (t : Plan B) → S t → S (on_take same members n transport body t)
@@ -224,11 +252,14 @@ stays_seen {B} same members e x before p = of e p
     of (Suspect n other) h = settling same members n (suspected same members n (new_lost same n other x) (begun x)) (λ up. suspecting same members n (new_lost same n other x) (begun x) (before h))
     of (Deliver q) h =
         let s = before h in
-        settling same members q.addressee (on_packet same members q.addressee q.sender q.kind (record (begun x) { node = saw q.kind x }))
-        (λ up. packets same members q.addressee q.sender q.kind (record (begun x) { node = saw q.kind x }) (omega arith)
+        settling same members q.addressee (deliver same members q.addressee q.sender q.kind (record (begun x) { node = saw q.kind x }))
+        (λ up. delivers same members q.addressee q.sender q.kind (record (begun x) { node = saw q.kind x }) (omega arith)
         (record {
           promised = raised_seen (round_of x.rows.promised) x.proposer.seen (round_in q.kind) s.promised;
           under_way = raised_seen (round_under_way x.proposer.role) x.proposer.seen (round_in q.kind) s.under_way;
         }))
+    of (Cut n c) h =
+        let s = before (first x.up (may_cut c x) h) in
+        settling same members n (on_cut c (begun x)) (λ up. cuts same members n c (begun x) s)
     of (Crash n) h = off same members n
     of (Restart n) h = settling same members n (record (begun x) { node = started n (raised x.rows) }) (sees_started n (raised x.rows))

@@ -1,31 +1,56 @@
 -- Learned entries are applied in the order of slots, none skipped; and a node that is down, or that has just begun
 -- (docs/CONSENSUS.md, "One node" and "Events").
-use Rattle.std.specs.Prelude.{ℕ, suc, Bool, true, false, ◌&&◌, ◌||◌, ◌==◌, List, [], ◌∷◌, ◌++◌, filter, if◌then◌else◌}
+use Rattle.std.specs.Prelude.{ℕ, suc, Bool, true, false, ◌&&◌, ◌||◌, ◌==◌, Option, Some, None, List, [], ◌∷◌, ◌++◌, filter, if◌then◌else◌}
 use Rattle.paxos_packets.specs.declared.entry.Entry.{Entry}
 use Rattle.paxos_packets.specs.declared.entry.Entry.TheVariants.{Noop, Boot, Lost, Item}
 use Rattle.paxos_packets.specs.declared.rows.Rows.{Rows}
+use Rattle.paxos_packets.specs.Snapshot.{Snapshot, floor_in}
 use Rattle.paxos_proposer.specs.Proposer.{round_of, resting}
 use Rattle.paxos_learner.specs.Learner.{unheard, run_from}
+use Rattle.replica_machine.specs.declared.head.Head.{Head}
 use Rattle.replica_machine.specs.declared.roll.Standing.{Standing}
-use Rattle.replica_machine.specs.Roll.{takes_by, is_wanted_by, is_live, standings, standing_after}
+use Rattle.replica_machine.specs.declared.roll.Standing.TheVariants.{Unknown}
+use Rattle.replica_machine.specs.Roll.{takes_by, is_wanted_by, is_live, standing_after, standings_from}
+use Rattle.replica_machine.specs.Snapshot.{head_at, standing_from_node}
 use Rattle.paxos_planning.specs.Node.{NodeState, Plan, log_length}
 
--- where each node stands after the node's log
+-- where each node stands at the floor, by the head of the snapshot: all are unknown without one, or if the octets begin with no head
+abbrev pub stands_by : Option Head → ℕ → Standing
+stands_by None n = Unknown
+stands_by (Some head) n = standing_from_node 1 n head.standings
+
+abbrev pub stands_at : Option Snapshot → ℕ → Standing
+stands_at None n = Unknown
+stands_at (Some s) n = stands_by (head_at s.octets) n
+
+abbrev pub base : {B : Type 0} → Rows B → ℕ → Standing
+base rows = stands_at rows.snapshot
+
+-- and after the node's log
 abbrev pub standing_of : {B : Type 0} → NodeState B → ℕ → Standing
-standing_of x = standings x.applied
+standing_of x = standings_from (base x.rows) x.applied
 
 -- a node that has only its rows
 abbrev pub down : {B : Type 0} → Rows B → NodeState B
-down rows = record { rows = rows; up = false; proposer = resting 0; learner = unheard; applied = []; pending = []; taken = 0 }
+down rows =
+    record {
+      rows = rows;
+      up = false;
+      proposer = resting 0;
+      learner = unheard (floor_in rows.snapshot);
+      applied = [];
+      pending = [];
+      taken = 0;
+    }
 
--- a node that begins with these rows
+-- a node that begins with these rows: its log is that of its snapshot
 abbrev pub started : {B : Type 0} → ℕ → Rows B → NodeState B
 started me rows =
     record {
       rows = rows;
       up = true;
       proposer = resting (round_of rows.promised);
-      learner = unheard;
+      learner = unheard (floor_in rows.snapshot);
       applied = [];
       pending = Boot me rows.boot ∷ [];
       taken = 0;

@@ -6,6 +6,8 @@ use Rattle.paxos_packets.specs.Entry.{same_entry}
 use Rattle.paxos_packets.specs.Rows.{last_boot, raised}
 use Rattle.paxos_packets.specs.declared.entry.Entry.{Entry}
 use Rattle.paxos_packets.specs.declared.entry.Entry.TheVariants.{Boot, Lost, Item}
+use Rattle.paxos_packets.specs.declared.packet.Kind.{Kind}
+use Rattle.paxos_packets.specs.declared.packet.Kind.TheVariants.{Snapshot}
 use Rattle.paxos_packets.specs.declared.packet.Packet.{Packet}
 use Rattle.replica_machine.specs.Roll.{live_in}
 use Rattle.paxos_planning.specs.Node.{NodeState, Plan}
@@ -15,8 +17,9 @@ use Rattle.paxos_planning.specs.Replies.{saw, on_packet}
 use Rattle.paxos_planning.specs.Starting.{starts, on_start}
 use Rattle.paxos_planning.specs.Ticking.{on_tick}
 use Rattle.paxos_node.specs.declared.event.Event.{Event}
-use Rattle.paxos_node.specs.declared.event.Event.TheVariants.{Take, Tick, Start, Suspect, Deliver, Crash, Restart}
+use Rattle.paxos_node.specs.declared.event.Event.TheVariants.{Take, Tick, Start, Suspect, Deliver, Cut, Crash, Restart}
 use Rattle.paxos_node.specs.Applying.{standing_of, started, go_down, settle}
+use Rattle.paxos_node.specs.Snapshots.{may_cut, on_cut, on_snapshot}
 
 -- the greatest number of an act, and how many entries may be pending
 unfoldable pub last_number : ℕ
@@ -73,6 +76,7 @@ owner (Tick n) = n
 owner (Start n) = n
 owner (Suspect n other) = n
 owner (Deliver p) = p.addressee
+owner (Cut n snapshot) = n
 owner (Crash n) = n
 owner (Restart n) = n
 
@@ -84,8 +88,14 @@ packet_in _ = None
 -- whether it is possible at the node; what isn't changes nothing
 abbrev pub possible : {B : Type 0} → Event B → NodeState B → Bool
 possible (Take n t body) x = x.up && nat_lt 0 t
+possible (Cut n snapshot) x = x.up && may_cut snapshot x
 possible (Restart n) x = not x.up && nat_lt x.rows.boot last_boot
 possible _ x = x.up
+
+-- a packet: a snapshot is taken by the node as a whole
+abbrev pub deliver : {B : Type 0} → (B → B → Bool) → ℕ → ℕ → ℕ → Kind B → Plan B → Plan B
+deliver same members me sender (Snapshot s) o = on_snapshot me s o
+deliver same members me sender kind o = on_packet same members me sender kind o
 
 -- the node's part of an event, before what was learned is applied
 abbrev pub on_event : {B : Type 0} → (B → B → Bool) → ℕ → Event B → Plan B → Plan B
@@ -93,7 +103,8 @@ on_event same members (Take n t body) o = on_take same members n t body o
 on_event same members (Tick n) o = on_tick same members n o
 on_event same members (Start n) o = on_start members n o
 on_event same members (Suspect n other) o = on_suspect same members n other o
-on_event same members (Deliver p) o = on_packet same members p.addressee p.sender p.kind (record o { node = saw p.kind o.node })
+on_event same members (Deliver p) o = deliver same members p.addressee p.sender p.kind (record o { node = saw p.kind o.node })
+on_event same members (Cut n snapshot) o = on_cut snapshot o
 on_event same members (Crash n) o = go_down o
 on_event same members (Restart n) o = record o { node = started n (raised o.node.rows) }
 

@@ -1,8 +1,9 @@
 -- What the module `laws` states of the definitions beside it.
-use Rattle.std.specs.Prelude.{◌≡◌, ◌≤◌, ℕ, Bool, true}
+use Rattle.std.specs.Prelude.{◌≡◌, ◌≤◌, ℕ, suc, Bool, true, Some, []}
 use Rattle.paxos_packets.specs.Packet.{packet}
 use Rattle.paxos_packets.specs.declared.ballot.Ballot.{Ballot}
-use Rattle.paxos_packets.specs.declared.packet.Kind.TheVariants.{Prepare, Accept}
+use Rattle.paxos_packets.specs.declared.packet.Kind.TheVariants.{Prepare, Accept, Snapshot}
+use Rattle.paxos_packets.specs.Snapshot as taken
 use Rattle.paxos_packets.specs.declared.packet.Packet.{Packet}
 use Rattle.paxos_packets.specs.declared.vote.Vote.{Vote}
 use Rattle.paxos_acceptor.specs.Acceptor.{adopted, answers, judged}
@@ -10,8 +11,14 @@ use Rattle.paxos_proposer.specs.Role.{Role, Idle, Preparing, Leading}
 use Rattle.paxos_proposer.specs.Proposer.{round_of}
 use Rattle.paxos_node.specs.declared.event.Event.{Event}
 use Rattle.paxos_node.specs.declared.event.Event.TheVariants.{Deliver}
-use Rattle.paxos_planning.specs.Node.{NodeState}
+use Rattle.paxos_learner.specs.Learner.{run_from}
+use Rattle.replica_machine.specs.declared.head.Head.{Head}
+use Rattle.replica_machine.specs.Snapshot.{head_at}
+use Rattle.paxos_planning.specs.Node.{NodeState, log_length}
+use Rattle.paxos_planning.specs.Plan.{begun}
+use Rattle.paxos_planning.specs.Replies.{saw}
 use Rattle.paxos_node.specs.Events.{possible, outcome_of}
+use Rattle.paxos_node.specs.Snapshots.{has_boot}
 
 -- what a node that is up commits in an event is all that changes its rows
 abbrev pub CommitsItsChange : Type 0 → Type 0
@@ -52,3 +59,10 @@ abbrev pub StaysSeen : Type 0 → Type 0
 StaysSeen B =
     (same : B → B → Bool) (members : ℕ) (e : Event B) (x : NodeState B) → SeesItsBallots x → possible e x ≡ true →
     SeesItsBallots (outcome_of same members e x).node
+
+-- a snapshot that has a node's present boot changes nothing of it but what it saw, if it has applied what it learned
+abbrev pub KeepsItsBoot : Type 0 → Type 0
+KeepsItsBoot B =
+    (same : B → B → Bool) (members me sender : ℕ) (s : taken.Snapshot) (head : Head) (x : NodeState B) → head_at s.octets ≡ Some head
+    → has_boot me x head ≡ true → run_from (suc (log_length x)) x.learner.learned ≡ []
+    → outcome_of same members (Deliver (packet sender (Snapshot s) me)) x ≡ begun (saw (Snapshot s) x)

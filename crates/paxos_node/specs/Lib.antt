@@ -1,4 +1,5 @@
 pub mod Applying
+pub mod Snapshots
 pub mod Events
 pub mod Examples
 pub mod Laws

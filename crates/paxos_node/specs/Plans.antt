@@ -1,6 +1,8 @@
 -- What a node plans, and what it returns (docs/CONSENSUS.md, "One node").
 use Rattle.std.specs.Prelude.{◌≡◌, ℕ, Bool, true, false, ◌&&◌, ◌==◌, Option, Some, None, [], ◌∷◌, ◌++◌, Result, Ok, Err, if◌then◌else◌}
 use Rattle.paxos_packets.specs.Rows.{no_change}
+use Rattle.paxos_packets.specs.declared.packet.Kind.{Kind}
+use Rattle.paxos_packets.specs.declared.packet.Kind.TheVariants.{Snapshot}
 use Rattle.paxos_node.specs.declared.event.Event.{Event}
 use Rattle.paxos_node.specs.declared.event.Event.TheVariants.{Take, Tick, Suspect, Deliver, Crash, Restart}
 use Rattle.paxos_node.specs.declared.fault.NodeFault.{NodeFault}
@@ -13,6 +15,7 @@ use Rattle.paxos_planning.specs.Walking.{proposes_other}
 use Rattle.paxos_node.specs.Adopting.{Settled}
 use Rattle.paxos_node.specs.Applying.{settle}
 use Rattle.paxos_node.specs.Events.{owner, possible, takes, has_room, new_item, new_lost}
+use Rattle.paxos_node.specs.Snapshots.{is_damaged}
 
 -- a crash and a restart are not planned: they lose what a node holds
 abbrev pub is_planned : {B : Type 0} → Event B → Bool
@@ -32,10 +35,11 @@ unchanged log =
       packets = [];
       applied = [];
       is_down = false;
-      moves = record { proposer = []; news = []; added = None; front = 0; log = log };
+      moves = record { proposer = []; news = []; added = None; over = false; front = 0; log = log };
     }
 
--- the event disagrees with what this node learned: its packet brings another entry, or the node, as a leader, votes for another
+-- the event disagrees with what this node learned: its packet brings another entry, or a snapshot that is none, or the node, as a leader,
+-- votes for another entry
 
 abbrev pub takes_other : {B : Type 0} → (B → B → Bool) → ℕ → ℕ → ℕ → B → NodeState B → Bool
 takes_other same members me t body x =
@@ -48,11 +52,15 @@ suspects_other same members me (Some lost) x =
     if has_room x then proposes_other same members me (log_length x) x.learner x.proposer.role (x.pending ++ lost ∷ [])
     else false
 
+abbrev pub delivers_other : {B : Type 0} → (B → B → Bool) → ℕ → ℕ → ℕ → Kind B → NodeState B → Bool
+delivers_other same members me sender (Snapshot s) x = is_damaged s x
+delivers_other same members me sender kind x = brings_other same members me sender kind x
+
 abbrev pub finds_other : {B : Type 0} → (B → B → Bool) → ℕ → ℕ → Event B → NodeState B → Bool
 finds_other same members me (Take n t body) x = takes_other same members me t body x
 finds_other same members me (Tick n) x = proposes_other same members me (log_length x) x.learner x.proposer.role x.pending
 finds_other same members me (Suspect n other) x = suspects_other same members me (new_lost same me other x) x
-finds_other same members me (Deliver p) x = brings_other same members me p.sender p.kind x
+finds_other same members me (Deliver p) x = delivers_other same members me p.sender p.kind x
 finds_other same members me _ x = false
 
 -- it is the fault of memory

@@ -1,17 +1,18 @@
 //! What an event makes of a node.
 
-ghost use Rattle.std.specs.Prelude.{◌≡◌, true, false, not, ◌&&◌, is_some, Some, None, Ok, Err, IfOk, if◌then◌else◌};
+ghost use Rattle.std.specs.Prelude.{◌≡◌, ◌<◌, true, false, not, ◌&&◌, is_some, Some, None, Ok, Err, IfOk, if◌then◌else◌};
 ghost use Rattle.paxos_node.specs.declared.fault.NodeFault.TheVariants.{Disagree as Other, Memory as NoMemory};
 ghost use Rattle.paxos_node.specs.Adopting.{Fits, Settled, Planned};
 ghost use Rattle.paxos_node.specs.Applying.{standing_of, settle};
 ghost use Rattle.paxos_planning.specs.Node.{log_length};
 ghost use Rattle.paxos_planning.specs.Drafting.{with_pending_entry, seeing, listed};
 ghost use Rattle.paxos_node.specs.Outcome.{with_added, added_in};
-ghost use Rattle.paxos_node.specs.Events.{owner, possible, on_event, on_take, on_suspect, outcome_of, has_room, takes, new_lost, is_pending};
+ghost use Rattle.paxos_node.specs.Events.{owner, possible, on_event, on_take, on_suspect, deliver, outcome_of, has_room, takes, new_lost, is_pending};
 ghost use Rattle.paxos_planning.specs.Ticking.{on_tick};
 ghost use Rattle.paxos_planning.specs.Starting.{on_start, starts};
 ghost use Rattle.paxos_node.specs.Events.{is_round_refused, is_full_refused, made_by, taken_by, suspected_by};
-ghost use Rattle.paxos_node.specs.Plans.{is_planned, plans, unchanged, finds_other, takes_other, suspects_other, is_memory, Answers, Answered};
+ghost use Rattle.paxos_node.specs.Plans.{is_planned, plans, unchanged, finds_other, delivers_other, takes_other, suspects_other, is_memory};
+ghost use Rattle.paxos_node.specs.Plans.{Answers, Answered};
 ghost use Rattle.paxos_planning.specs.Proposals.{push};
 ghost use Rattle.paxos_planning.specs.Replies.{on_packet, round_in};
 ghost use Rattle.paxos_planning.specs.Plan.{begun};
@@ -21,7 +22,7 @@ use crate::event::Event;
 use crate::fault::NodeFault;
 use crate::node::Node;
 use crate::outcome::Outcome;
-use paxos_packets::{Body, Entry, Packet};
+use paxos_packets::{Body, Entry, Kind, Packet};
 use paxos_planning::Wanted;
 
 // The greatest number of an act, and how many entries may be pending.
@@ -69,7 +70,7 @@ impl<B: Body> Node<B> {
         ensures { result ≡ finds_other B.same self.now.members self.now.me event.now self.now.state }
     {
         match event {
-            Event::Deliver { packet } => self.parts().brings_other(packet.sender, &packet.kind),
+            Event::Deliver { packet } => self.delivers_other(packet.sender, &packet.kind),
             Event::Take {
                 transport,
                 body,
@@ -77,7 +78,19 @@ impl<B: Body> Node<B> {
             } => self.takes_other(*transport, body),
             Event::Tick { .. } => self.parts().proposes_other(self.pending()),
             Event::Suspect { other, .. } => self.suspects_other(*other),
-            Event::Start { .. } | Event::Crash { .. } | Event::Restart { .. } => false,
+            Event::Start { .. } | Event::Cut { .. } | Event::Crash { .. } | Event::Restart { .. } =>
+                false,
+        }
+    }
+
+    // Returns whether the packet brings another entry, or a snapshot that is none.
+    fn delivers_other(&self, sender: u8, kind: &Kind<B>) -> bool
+        requires { self.now.state.up ≡ true }
+        ensures { result ≡ delivers_other B.same self.now.members self.now.me sender kind.now self.now.state }
+    {
+        match kind {
+            Kind::Snapshot { snapshot } => self.is_damaged(snapshot),
+            _ => self.parts().brings_other(sender, kind),
         }
     }
 
@@ -120,6 +133,7 @@ impl<B: Body> Node<B> {
         requires up { self.now.state.up ≡ true }
         requires own { owner event.now ≡ self.now.me }
         requires planned { is_planned event.now ≡ true }
+        requires possible { possible event.now self.now.state ≡ true }
         ensures answered { Answered self.now.me self.now.members self.now.state (is_round_refused event.now self.now.state)
             (is_full_refused B.same event.now self.now.state) (on_event B.same self.now.members event.now (begun self.now.state)) result }
         ensures made { IfOk result (λ outcome. listed outcome.moves.added ≡ made_by B.same event.now self.now.state) }
@@ -134,6 +148,7 @@ impl<B: Body> Node<B> {
             Event::Start { .. } => self.plan_start(),
             Event::Suspect { other, .. } => self.plan_suspect(*other),
             Event::Deliver { packet } => self.plan_packet(packet),
+            Event::Cut { snapshot, .. } => self.plan_own_cut(snapshot),
             Event::Crash { .. } => unreachable!(),
             Event::Restart { .. } => unreachable!(),
         }
@@ -156,6 +171,7 @@ impl<B: Body> Node<B> {
             Event::Start { .. } => self.is_up(),
             Event::Suspect { .. } => self.is_up(),
             Event::Deliver { .. } => self.is_up(),
+            Event::Cut { snapshot, .. } => self.is_up() && self.may_cut(snapshot.as_ref()),
             Event::Crash { .. } => false,
             Event::Restart { .. } => false,
         }
@@ -305,6 +321,20 @@ impl<B: Body> Node<B> {
 
     // Plans what the packet does.
     fn plan_packet(&self, packet: &Packet<B>) -> Result<Outcome<B>, NodeFault>
+        requires { self.now.state.up ≡ true }
+        ensures answered { Answered self.now.me self.now.members self.now.state false false
+            (deliver B.same self.now.members self.now.me packet.now.sender packet.now.kind
+            (seeing (round_in packet.now.kind) (begun self.now.state))) result }
+        ensures added { IfOk result (λ outcome. outcome.moves.added ≡ None) }
+    {
+        match &packet.kind {
+            Kind::Snapshot { snapshot } => self.plan_snapshot(packet, snapshot),
+            _ => self.plan_drafted(packet),
+        }
+    }
+
+    // Plans what the packet does but for a snapshot that the node rests on.
+    pub(crate) fn plan_drafted(&self, packet: &Packet<B>) -> Result<Outcome<B>, NodeFault>
         requires { self.now.state.up ≡ true }
         ensures answered { Answered self.now.me self.now.members self.now.state false false
             (on_packet B.same self.now.members self.now.me packet.now.sender packet.now.kind

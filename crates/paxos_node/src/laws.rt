@@ -5,7 +5,7 @@ ghost use Rattle.paxos_packets.specs.declared.entry.Entry.TheVariants.{Item};
 ghost use Rattle.paxos_node.specs.declared.event.Event.TheVariants.{Take, Tick, Start};
 ghost use Rattle.paxos_packets.specs.declared.packet.Kind.TheVariants.{Prepare, Accept, Accepted, Ask};
 ghost use Rattle.paxos_node.specs.Events.{is_round_refused};
-ghost use Rattle.paxos_node.specs.Laws.{CommitsItsChange, JudgesAsAnAcceptor, SeesItsBallots, StaysSeen};
+ghost use Rattle.paxos_node.specs.Laws.{CommitsItsChange, JudgesAsAnAcceptor, SeesItsBallots, StaysSeen, KeepsItsBoot};
 ghost use Rattle.paxos_packets.specs.declared.rows.Rows.{Rows};
 ghost use Rattle.paxos_node.specs.Applying.{started};
 ghost use Rattle.paxos_node.specs.Examples.{after, ballot, boot_vote, change, first_node, asked, led, promised_to};
@@ -58,4 +58,9 @@ pub fn acceptor_judges<B>()
 pub fn ballots_are_seen<B>()
     ensures started { (me : ℕ) (rows : Rows B) → SeesItsBallots (started me rows) }
     ensures kept { StaysSeen B }
+{}
+
+/// A snapshot that has a node's present boot changes nothing of a node that has applied what it learned, but what it saw.
+pub fn present_boots_stay<B>()
+    ensures { KeepsItsBoot B }
 {}

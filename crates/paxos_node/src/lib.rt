@@ -2,6 +2,7 @@
 //! for a slot (docs/CONSENSUS.md).
 #![tactic(auto)]
 
+mod adopting;
 mod event;
 mod events;
 mod fault;
@@ -11,6 +12,7 @@ mod node;
 mod outcome;
 mod packets;
 mod settling;
+mod snapshots;
 mod view;
 mod waiting;
 
@@ -21,4 +23,5 @@ pub use outcome::Outcome;
 pub use packets::Packets;
 pub use paxos_packets::{Ballot, Body, Change, Entries, Entry, Members, Packet, Rows, Vote, Votes};
 pub use replica_machine::Roll;
+pub use snapshots::roll_at;
 pub use view::{NodeView, Opened};

@@ -12,6 +12,8 @@ pub struct Moves<B> {
     pub(crate) proposer: Vec<Move<B>>,
     pub(crate) news: Vec<News<B>>,
     pub(crate) added: Option<Entry<B>>,
+    // Whether the snapshot that is committed came in a packet.
+    pub(crate) over: bool,
     // How many of the first pending entries stand after the event.
     pub(crate) front: usize,
     // The length of the log after the event, or 0 if the node is down then.
@@ -23,5 +25,5 @@ impl<B> Model for Moves<B> {
 
     ghost Value = { Moved B };
 
-    ghost view = { λ m. record { proposer = m.proposer.items; news = m.news.items; added = m.added; front = m.front; log = m.log } };
+    ghost view = { λ m. record { proposer = m.proposer.items; news = m.news.items; added = m.added; over = m.over; front = m.front; log = m.log } };
 }

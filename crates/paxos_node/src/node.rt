@@ -1,19 +1,15 @@
-//! The node: how it begins with its rows, what it shows, and how it adopts an outcome.
+//! The node: how it begins with its rows, and what it shows.
 
-ghost use Rattle.std.specs.Prelude.{◌≡◌, ◌↔◌, ◌<◌, ◌≤◌, ◌+◌, ◌^◌, vec_len, vec_capacity, true, false, nat_lt, length, IsOk, IfOk, IfErr, OnOk, OnErr, IsOkUnless, Err, option_copied};
+ghost use Rattle.std.specs.Prelude.{◌≡◌, ◌↔◌, ◌<◌, ◌+◌, ◌^◌, vec_len, vec_capacity, true, false, nat_lt, length, Some, IsOk, IfOk, IfErr, IsOkUnless, Err, option_copied, if◌then◌else◌};
 ghost use Rattle.paxos_node.specs.declared.fault.NodeFault.TheVariants.{Memory, Rounds};
 ghost use Rattle.paxos_packets.specs.Snapshot.{floor_in};
 ghost use Rattle.paxos_packets.specs.Vote.{votes_from};
 ghost use Rattle.paxos_acceptor.specs.Acceptor as accepting;
-ghost use Rattle.paxos_node.specs.Adopting.{adopted, Fits};
+ghost use Rattle.paxos_node.specs.Adopting.{adopted};
 ghost use Rattle.paxos_planning.specs.Node.{log_length};
-ghost use Rattle.paxos_planning.specs.Parts.{proposer_of, learner_of};
-ghost use Rattle.paxos_node.specs.Applying.{standing_of, down, started};
-ghost use Rattle.paxos_node.specs.Held.{HasRoom};
+ghost use Rattle.paxos_planning.specs.Parts.{learner_of};
+ghost use Rattle.paxos_node.specs.Applying.{standing_of, started};
 ghost use Rattle.paxos_learner.specs.Learned.{Begins};
-ghost use Rattle.paxos_learner.specs.Hearing.{HasRoomFor};
-ghost use Rattle.paxos_proposer.specs.Moves.{promises_in, proposals_in};
-ghost use Rattle.paxos_proposer.specs.State.{HasRoom as HasRoomToPropose};
 ghost use Rattle.paxos_proposer.specs.Proposer.{round_of, is_leading, own_ballot, is_spent};
 ghost use Rattle.paxos_planning.specs.Drafting.{known, with_pending_entry};
 ghost use Rattle.paxos_planning.specs.Front.{IsFront};
@@ -21,13 +17,10 @@ ghost use Rattle.paxos_planning.specs.Plan.{begun};
 ghost use Rattle.replica_machine.specs.Roll.{HasStandings};
 
 use crate::fault::NodeFault;
-use crate::moves::Moves;
-use crate::outcome::Outcome;
-use crate::packets::Packets;
-use crate::waiting::{apply_all, wait};
+use crate::snapshots::roll_at;
 use paxos_acceptor::Acceptor;
 use paxos_learner::Learner;
-use paxos_packets::{Ballot, Body, Change, Entries, Entry, Floor, Members, Rows, Vote, Votes};
+use paxos_packets::{Ballot, Body, Change, Entry, Floor, Members, Rows, Snapshot, Vote, Votes};
 use paxos_planning::{Draft, Parts};
 use paxos_proposer::Proposer;
 use replica_machine::Roll;
@@ -36,22 +29,22 @@ use std::marker::Model;
 
 /// One node of the cluster: acceptor, proposer and learner, with the log that it applies and the entries that wait for a slot.
 pub struct Node<B> {
-    alloc: Global,
-    me: u8,
-    members: Members,
-    acceptor: Acceptor<B>,
-    is_up: bool,
-    proposer: Proposer<B>,
-    learner: Learner<B>,
-    // How many of the first slots that the learner learned are applied, and the standing of each node after them.
-    applied: usize,
-    roll: Roll,
-    pending: Vec<Entry<B>>,
+    pub(crate) alloc: Global,
+    pub(crate) me: u8,
+    pub(crate) members: Members,
+    pub(crate) acceptor: Acceptor<B>,
+    pub(crate) is_up: bool,
+    pub(crate) proposer: Proposer<B>,
+    pub(crate) learner: Learner<B>,
+    // How many of the first entries that the learner learned above its floor are applied, and the standing of each node after them.
+    pub(crate) applied: usize,
+    pub(crate) roll: Roll,
+    pub(crate) pending: Vec<Entry<B>>,
     // How many of the first pending entries are known to stand: an equal entry is among what this node proposed as a leader.
-    front: usize,
-    taken: u64,
+    pub(crate) front: usize,
+    pub(crate) taken: u64,
     // Whether `adopt` has failed with `Memory`.
-    failed: bool,
+    pub(crate) failed: bool,
 }
 
 impl<B: Drop> Drop for Node<B> {
@@ -75,9 +68,11 @@ impl<B: Drop> Drop for Node<B> {
 }
 
 impl<B> Model for Node<B> {
-    ghost use Rattle.std.specs.Prelude.{◌≡◌, ◌-◌, ◌<◌, ◌^◌, false, length, vec_len, vec_capacity};
+    ghost use Rattle.std.specs.Prelude.{◌≡◌, ◌+◌, ◌-◌, ◌<◌, ◌^◌, false, length, vec_len, vec_capacity};
+    ghost use Rattle.paxos_packets.specs.Snapshot.{floor_in};
     ghost use Rattle.paxos_learner.specs.Learned.{Begins};
-    ghost use Rattle.replica_machine.specs.Roll.{IsRollOf};
+    ghost use Rattle.replica_machine.specs.Roll.{HasStandings, standings_from};
+    ghost use Rattle.paxos_node.specs.Applying.{base};
     ghost use Rattle.paxos_planning.specs.Parts.{first_learned};
     ghost use Rattle.paxos_planning.specs.Front.{IsFront};
     ghost use Rattle.paxos_node.specs.Held.{Held};
@@ -106,11 +101,12 @@ impl<B> Model for Node<B> {
     } };
 
     ghost invariant = { λ n. (n.proposer.state.me ≡ n.me) × (n.proposer.state.members ≡ n.members) × (n.learner.state.members ≡ n.members)
+        × (n.learner.state.learner.floor ≡ floor_in n.acceptor.rows.snapshot)
         × (length (first_learned n.applied n.learner.state.learner.learned) ≡ n.applied)
-        × IsRollOf (first_learned n.applied n.learner.state.learner.learned) n.roll
-        × Begins (first_learned n.applied n.learner.state.learner.learned) n.learner.state.learner.learned
-        × (n.applied < 2 ^ 40)
-        × IsFront n.front (length (first_learned n.applied n.learner.state.learner.learned)) n.proposer.state.proposer.role n.pending.items
+        × HasStandings (standings_from (base n.acceptor.rows) (first_learned n.applied n.learner.state.learner.learned)) n.roll
+        × Begins (floor_in n.acceptor.rows.snapshot) (first_learned n.applied n.learner.state.learner.learned) n.learner.state.learner.learned
+        × (floor_in n.acceptor.rows.snapshot + n.applied < 2 ^ 40)
+        × IsFront n.front (floor_in n.acceptor.rows.snapshot + n.applied) n.proposer.state.proposer.role n.pending.items
         × (n.acceptor.failed ≡ false) };
 }
 
@@ -134,9 +130,10 @@ impl<B> Node<B> {
         &self.roll
     }
 
-    // What it learned begins with its log.
+    // What it learned above its floor begins with its log there.
     pub(crate) fn begins(&self)
-        ensures { Begins self.now.state.applied self.now.state.learner.learned }
+        ensures floor { self.now.state.learner.floor ≡ floor_in self.now.state.rows.snapshot }
+        ensures begins { Begins (floor_in self.now.state.rows.snapshot) self.now.state.applied self.now.state.learner.learned }
     {
         let _ = &self.learner;
     }
@@ -197,12 +194,33 @@ impl<B> Node<B> {
         self.is_up
     }
 
-    /// Returns how many entries it has applied.
+    /// Returns the length of its log: how many entries it has applied, with those that its snapshot stands for.
     pub fn applied(&self) -> u64
         ensures length { result ≡ log_length self.now.state }
         ensures within { result < 2 ^ 40 }
     {
-        self.applied as u64
+        self.acceptor.floor().get() + self.applied as u64
+    }
+
+    // Returns whether it has applied entries above its floor.
+    pub(crate) fn has_applied(&self) -> bool
+        ensures { result ≡ nat_lt 0 (length self.now.state.applied) }
+    {
+        0 < self.applied
+    }
+
+    // Returns its learner.
+    pub(crate) fn learner(&self) -> &Learner<B>
+        ensures { result.now.state ≡ learner_of self.now.members self.now.state }
+    {
+        &self.learner
+    }
+
+    /// Returns the snapshot that it rests on, if any.
+    pub fn snapshot(&self) -> Option<&Snapshot>
+        ensures { option_copied result ≡ self.now.state.rows.snapshot }
+    {
+        self.acceptor.snapshot()
     }
 
     /// Returns whether entries of its own wait for a slot.
@@ -314,16 +332,20 @@ impl<B: Drop> Node<B> {
         pending.push_reserved(Entry::Boot { node: me, boot });
         let mut proposer = Proposer::new(alloc, me, members);
         proposer.saw(round_of(rows.promised));
+        let acceptor = Acceptor::of(alloc, rows);
+        let floor = acceptor.floor();
+        let _number = floor.get();
+        let roll = roll_at(acceptor.snapshot());
         Ok(Node {
             alloc,
             me,
             members,
-            acceptor: Acceptor::of(alloc, rows),
+            acceptor,
             is_up: true,
             proposer,
-            learner: Learner::new(alloc, members),
+            learner: Learner::new(alloc, members, floor),
             applied: 0,
-            roll: Roll::new(),
+            roll,
             pending,
             front: 0,
             taken: 0,
@@ -352,144 +374,6 @@ impl<B: Body> Node<B> {
             Err(_) => Err(paxos_packets::Memory),
         }
     }
-
-    /// Reserves all memory that adopting this outcome needs. The node stays as it was, with `Memory` too. A failed node returns `Memory`.
-    pub fn make_room(&mut self, outcome: &Outcome<B>) -> Result<(), NodeFault>
-        ensures ok { OnOk result (HasRoom outcome.now self.new) }
-        ensures state { self.new.state ≡ self.old.state }
-        ensures me { self.new.me ≡ self.old.me }
-        ensures members { self.new.members ≡ self.old.members }
-        ensures failed { self.new.failed ≡ self.old.failed }
-        ensures memory { IsOkUnless result Memory }
-    {
-        if self.failed {
-            return Err(NodeFault::Memory);
-        }
-        let Ok(()) = make_room_in(
-            &mut self.acceptor,
-            &mut self.proposer,
-            &mut self.learner,
-            &mut self.pending,
-            outcome,
-        ) else {
-            return Err(NodeFault::Memory);
-        };
-        Ok(())
-    }
-
-    /// Becomes what was planned, once that is committed, given room for it, and that the node has not failed (`HasRoom` says both); returns
-    /// the packets to send, and the entries that it applied. Does not allocate, and copies nothing.
-    pub fn adopt_in_room(&mut self, outcome: Outcome<B>) -> (Packets<B>, Entries<B>)
-        requires room { HasRoom outcome self.old }
-        requires fits { Fits self.old.me self.old.members outcome self.old.state }
-        ensures state { self.new.state ≡ adopted self.old.me self.old.members outcome self.old.state }
-        ensures me { self.new.me ≡ self.old.me }
-        ensures members { self.new.members ≡ self.old.members }
-        ensures failed { self.new.failed ≡ self.old.failed }
-        ensures packets { result.0 ≡ outcome.packets }
-        ensures applied { result.1 ≡ outcome.applied }
-    {
-        let Outcome {
-            change,
-            packets,
-            applied,
-            is_down,
-            moves,
-        } = outcome;
-        self.acceptor.adopt_in_room(change);
-        if is_down {
-            self.go_down();
-            return (packets, applied);
-        }
-        let Moves {
-            proposer,
-            news,
-            added,
-            front,
-            ..
-        } = moves;
-        self.proposer.move_in_room(proposer);
-        self.learner.hear_in_room(news);
-        wait(&mut self.pending, &mut self.taken, added);
-        apply_all(&mut self.roll, &mut self.pending, applied.as_slice());
-        self.applied += applied.as_slice().len();
-        self.front = front;
-        (packets, applied)
-    }
-
-    /// Makes room, and adopts the outcome. On `Memory` the node is as it was, and failed: make it anew, by `of`, from the rows that are
-    /// committed. A failed node returns `Memory`.
-    pub fn adopt(&mut self, outcome: Outcome<B>) -> Result<(Packets<B>, Entries<B>), NodeFault>
-        requires { Fits self.old.me self.old.members outcome self.old.state }
-        ensures ok { OnOk result (self.new.state ≡ adopted self.old.me self.old.members outcome self.old.state) }
-        ensures packets { IfOk result (λ sent. sent.0 ≡ outcome.packets) }
-        ensures applied { IfOk result (λ sent. sent.1 ≡ outcome.applied) }
-        ensures ok_failed { OnOk result (self.new.failed ≡ false) }
-        ensures me { self.new.me ≡ self.old.me }
-        ensures members { self.new.members ≡ self.old.members }
-        ensures err { OnErr result (self.new.state ≡ self.old.state) }
-        ensures err_failed { OnErr result (self.new.failed ≡ true) }
-        ensures failed { self.old.failed ≡ true → result ≡ Err Memory }
-        ensures memory { IsOkUnless result Memory }
-    {
-        let Ok(()) = self.make_room(&outcome) else {
-            self.failed = true;
-            return Err(NodeFault::Memory);
-        };
-        Ok(self.adopt_in_room(outcome))
-    }
-
-    // Drops all but its rows.
-    #[tactic(auto, using(paxos_planning::proofs::Standing::no_front))]
-    fn go_down(&mut self)
-        ensures state { self.new.state ≡ down self.old.state.rows }
-        ensures me { self.new.me ≡ self.old.me }
-        ensures members { self.new.members ≡ self.old.members }
-        ensures failed { self.new.failed ≡ self.old.failed }
-    {
-        self.is_up = false;
-        self.proposer = Proposer::new(self.alloc, self.me, self.members);
-        self.learner = Learner::new(self.alloc, self.members);
-        self.applied = 0;
-        self.roll = Roll::new();
-        self.pending.clear();
-        self.front = 0;
-        self.taken = 0;
-    }
-}
-
-// Reserves memory for the outcome in each part.
-fn make_room_in<B: Body>(
-    acceptor: &mut Acceptor<B>,
-    proposer: &mut Proposer<B>,
-    learner: &mut Learner<B>,
-    pending: &mut Vec<Entry<B>>,
-    outcome: &Outcome<B>,
-) -> Result<(), NodeFault>
-    ensures votes { OnOk result (length outcome.now.change.votes ≤ acceptor.new.room) }
-    ensures proposer { OnOk result (HasRoomToPropose (promises_in outcome.now.moves.proposer) (proposals_in outcome.now.moves.proposer) proposer.new.room) }
-    ensures learner { OnOk result (HasRoomFor outcome.now.moves.news learner.new) }
-    ensures pending { OnOk result (vec_len pending.new + 1 ≤ vec_capacity pending.new) }
-    ensures rows { acceptor.new.rows ≡ acceptor.old.rows }
-    ensures stands { acceptor.new.failed ≡ acceptor.old.failed }
-    ensures moved { proposer.new.state ≡ proposer.old.state }
-    ensures heard { learner.new.state ≡ learner.old.state }
-    ensures items { pending.new.items ≡ pending.old.items }
-{
-    let votes = outcome.change.votes.as_slice().len();
-    let Ok(()) = acceptor.make_room(votes) else {
-        return Err(NodeFault::Memory);
-    };
-    let Ok(()) = proposer.make_room_for(&outcome.moves.proposer) else {
-        return Err(NodeFault::Memory);
-    };
-    let Ok(()) = learner.make_room_for(&outcome.moves.news) else {
-        return Err(NodeFault::Memory);
-    };
-    let Ok(()) = pending.reserve(1) else {
-        return Err(NodeFault::Memory);
-    };
-    Ok(())
 }
 
 // Returns the round of a promise.

@@ -1,13 +1,15 @@
 //! Outcomes: the change, the packets, the applied entries and the moves of one event.
 
 ghost use Rattle.std.specs.Prelude.{◌≡◌, option_copied};
-ghost use Rattle.paxos_node.specs.Outcome.{outcome_with};
+ghost use Rattle.paxos_node.specs.Outcome.{outcome_with, resting_with};
 ghost use Rattle.paxos_node.specs.Plans.{unchanged};
 
 use crate::moves::Moves;
 use crate::packets::Packets;
-use paxos_packets::{Change, Entries, Entry};
+use paxos_learner::News;
+use paxos_packets::{Change, Entries, Entry, Snapshot, Votes};
 use paxos_planning::Effects;
+use paxos_proposer::Move;
 use std::alloc::Global;
 
 /// What an event is to make of a node: it is committed first, and adopted then.
@@ -38,6 +40,41 @@ impl<B> Outcome<B> {
                 proposer: Vec::new(alloc),
                 news: Vec::new(alloc),
                 added: None,
+                over: false,
+                front: 0,
+                log,
+            },
+        }
+    }
+
+    // Returns the outcome of resting on the snapshot, which came in a packet or not, with these moves and this news, and of applying these
+    // entries; after them the log has this length.
+    pub(crate) fn resting(
+        alloc: Global,
+        snapshot: Snapshot,
+        over: bool,
+        moves: Vec<Move<B>>,
+        news: Vec<News<B>>,
+        applied: Entries<B>,
+        is_down: bool,
+        log: u64,
+    ) -> Outcome<B>
+        ensures { result ≡ resting_with snapshot over moves.items news.items applied is_down log }
+    {
+        Outcome {
+            change: Change {
+                promised: None,
+                snapshot: Some(snapshot),
+                votes: Votes::new(alloc),
+            },
+            packets: Packets::of(Vec::new(alloc)),
+            applied,
+            is_down,
+            moves: Moves {
+                proposer: moves,
+                news,
+                added: None,
+                over,
                 front: 0,
                 log,
             },
@@ -70,6 +107,7 @@ impl<B> Outcome<B> {
                 proposer: moves,
                 news,
                 added: None,
+                over: false,
                 front,
                 log,
             },

@@ -122,7 +122,7 @@ fn standing_in<B>(draft: &Draft<'_, B>, roll: &Roll) -> Standing
 }
 
 // Returns the length of a log with what is applied to it, or 0 if the node is down.
-fn log_behind<B>(log: u64, applied: &[Entry<B>], is_down: bool) -> u64
+pub(crate) fn log_behind<B>(log: u64, applied: &[Entry<B>], is_down: bool) -> u64
     requires { log < 2 ^ 40 }
     ensures { result ≡ (if is_down then 0 else log + length applied.now) }
 {
@@ -133,7 +133,7 @@ fn log_behind<B>(log: u64, applied: &[Entry<B>], is_down: bool) -> u64
 }
 
 // Returns the first `count` entries.
-fn first_of<B: Drop>(entries: Entries<B>, count: usize) -> Entries<B>
+pub(crate) fn first_of<B: Drop>(entries: Entries<B>, count: usize) -> Entries<B>
     ensures { result ≡ take count entries }
 {
     let mut list = entries.into_vec();
@@ -142,7 +142,12 @@ fn first_of<B: Drop>(entries: Entries<B>, count: usize) -> Entries<B>
 }
 
 // Returns how many of the entries a node with this standing applies, and whether the last of them is the loss of its boot.
-fn until_lost<B>(standing: Standing, me: u8, boot: u64, entries: &[Entry<B>]) -> (usize, bool)
+pub(crate) fn until_lost<B>(
+    standing: Standing,
+    me: u8,
+    boot: u64,
+    entries: &[Entry<B>],
+) -> (usize, bool)
     ensures count { result.0 ≡ count_to_end me boot standing entries.now }
     ensures is_down { result.1 ≡ has_end me boot standing entries.now }
 {

@@ -1,4 +1,6 @@
-use Rattle.std.proofs.Common.{◌≡◌, ℕ, suc, cond, ◌+◌, List, take, length, ap, sym, ◌∙◌, subst}
+use Rattle.std.proofs.Common.{◌≡◌, ℕ, suc, cond, ◌+◌, Option, List, take, length, ap, sym, ◌∙◌, subst}
+use Rattle.std.specs.Option.{option_or}
+use Rattle.paxos_packets.specs.Snapshot.{Snapshot, floor_in}
 use Rattle.paxos_packets.specs.declared.entry.Entry.{Entry}
 use Rattle.paxos_proposer.specs.Moves.{after_moves}
 use Rattle.paxos_learner.specs.Hearing.{hear_all}
@@ -36,14 +38,16 @@ returns-clause-settled g c =
     let log : c.log_behind-log.result ≡ cond c.until_lost-count.result.1 0 (log_length k.state + length c.first_of-applied.result) =
     c.log_behind-log.ensures ∙ (λ i. cond c.until_lost-count.result.1 0 (c.applied.ensures.length i + length (c.as_slice-2.ensures i))) in
     let front : IsFront c.args.front (log_length k.state) (after_moves e.moves.items (proposer_of k.me k.members k.state)).proposer.role k.state.pending =
-    subst (λ (u : Plan g.row.B.Denot). IsFront c.args.front (log_length u.node) u.node.proposer.role k.state.pending) c.into_effects.ensures.plan
-    c.requires.front in
+    subst (λ (s : Option Snapshot). IsFront c.args.front (floor_in (option_or s k.state.rows.snapshot) + length k.state.applied)
+    (after_moves e.moves.items (proposer_of k.me k.members k.state)).proposer.role k.state.pending) c.into_effects.ensures.plain
+    (subst (λ (u : Plan g.row.B.Denot). IsFront c.args.front (log_length u.node) u.node.proposer.role k.state.pending) c.into_effects.ensures.plan
+    c.requires.front) in
     let stand : c.front_behind-stand.result ≡ front_behind c.args.front c.first_of-applied.result =
     c.front_behind-stand.ensures ∙ ap (λ (es : List (Entry g.row.B.Denot)). front_behind c.args.front es) c.as_slice-3.ensures in
     let planned : c.with.result ≡ o =
     c.with.ensures ∙ ap (λ (n : ℕ). outcome_with e c.first_of-applied.result c.until_lost-count.result.1 c.log_behind-log.result n) stand in
     let plan : Settled k.me k.members k.state t (with_added k.added o) =
     subst (λ (u : Plan g.row.B.Denot). Settled k.me k.members k.state u (with_added k.added o)) (sym c.into_effects.ensures.plan)
-    (settled k t.disagrees e run c.first_of-applied.result c.until_lost-count.result.1 c.log_behind-log.result c.args.front c.requires.agrees c.requires.up run_is applied down log
-    c.into_effects.ensures.moves c.begins.ensures c.into_effects.ensures.rises front c.requires.most) in
+    (settled k t.disagrees e run c.first_of-applied.result c.until_lost-count.result.1 c.log_behind-log.result c.args.front c.requires.agrees c.requires.up
+    c.into_effects.ensures.plain c.begins.ensures.floor run_is applied down log c.into_effects.ensures.moves c.begins.ensures.begins c.into_effects.ensures.rises front c.requires.most) in
     subst (λ (p : Outcome g.row.B.Denot). Settled k.me k.members k.state t (with_added k.added p)) (sym planned) plan

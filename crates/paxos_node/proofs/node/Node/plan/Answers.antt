@@ -12,7 +12,7 @@ use Rattle.paxos_planning.specs.Node.{NodeState}
 use Rattle.paxos_planning.specs.Plan.{begun}
 use Rattle.paxos_node.specs.Applying.{settle}
 use Rattle.paxos_node.specs.Events.{owner, on_event, outcome_of, made_by, is_round_refused, is_full_refused}
-use Rattle.paxos_node.proofs.Answering.{is_own, is_one_planned, is_then_up, owner_answers, planned_fits}
+use Rattle.paxos_node.proofs.Answering.{is_own, is_one_planned, is_then_possible, is_then_up, owner_answers, planned_fits}
 use Rattle.paxos_node.proofs.node.Node.plan.Goals as goal
 
 pub plan_own-planned-requires-clause-up : goal.plan_own-planned-requires-clause-up
@@ -26,6 +26,10 @@ plan_own-planned-requires-clause-own g c =
 pub plan_own-planned-requires-clause-planned : goal.plan_own-planned-requires-clause-planned
 plan_own-planned-requires-clause-planned g c =
     is_one_planned c.args.self.now.me c.args.event.now c.args.self.now.state (sym c.plans.ensures ∙ c.if-not-plans.false)
+
+pub plan_own-planned-requires-clause-possible : goal.plan_own-planned-requires-clause-possible
+plan_own-planned-requires-clause-possible g c =
+    is_then_possible c.args.self.now.me c.args.event.now c.args.self.now.state (sym c.plans.ensures ∙ c.if-not-plans.false)
 
 pub finds_other-other-requires : goal.finds_other-other-requires
 finds_other-other-requires g c =

@@ -1,5 +1,5 @@
 use Rattle.std.proofs.Common.{ap}
-use Rattle.paxos_node.proofs.Answering.{of_take, of_tick, of_start, of_suspect, of_packet}
+use Rattle.paxos_node.proofs.Answering.{of_take, of_tick, of_start, of_suspect, of_packet, of_cut, cut_may}
 use Rattle.paxos_node.proofs.Making.{makes_nothing, makes_act, makes_lost}
 use Rattle.paxos_node.specs.Events.{made_by}
 use Rattle.paxos_node.specs.declared.event.Event.{Event}
@@ -30,6 +30,15 @@ returns-in-Deliver-clause-answered g c =
     of_packet g.B.Body.same c.args.self.now.me c.args.self.now.members c.args.self.now.state c.plan_packet.result c.args.event.now c.in-Deliver.packet
     c.in-Deliver.is c.requires.own c.plan_packet.ensures.answered
 
+pub plan_own_cut-requires-clause-cuts : goal.plan_own_cut-requires-clause-cuts
+plan_own_cut-requires-clause-cuts g c =
+    cut_may c.args.event.now c.in-Cut.node c.in-Cut.snapshot c.args.self.now.state c.in-Cut.is c.requires.possible
+
+pub returns-in-Cut-clause-answered : goal.returns-in-Cut-clause-answered
+returns-in-Cut-clause-answered g c =
+    of_cut g.B.Body.same c.args.self.now.me c.args.self.now.members c.args.self.now.state c.plan_own_cut.result c.args.event.now c.in-Cut.node
+    c.in-Cut.snapshot c.in-Cut.is c.plan_own_cut.ensures.answered
+
 pub returns-in-Take-clause-made : goal.returns-in-Take-clause-made
 returns-in-Take-clause-made g c =
     makes_act g.B.Body.same c.args.self.now.me c.args.self.now.state c.plan_take.result c.args.event.now c.in-Take.node c.in-Take.transport
@@ -54,3 +63,8 @@ pub returns-in-Deliver-clause-made : goal.returns-in-Deliver-clause-made
 returns-in-Deliver-clause-made g c =
     makes_nothing g.B.Body.same c.args.self.now.me c.args.self.now.state c.plan_packet.result c.args.event.now
     (ap (λ (e : Event g.row.B.Denot). made_by g.B.Body.same e c.args.self.now.state) c.in-Deliver.is) c.plan_packet.ensures.added
+
+pub returns-in-Cut-clause-made : goal.returns-in-Cut-clause-made
+returns-in-Cut-clause-made g c =
+    makes_nothing g.B.Body.same c.args.self.now.me c.args.self.now.state c.plan_own_cut.result c.args.event.now
+    (ap (λ (e : Event g.row.B.Denot). made_by g.B.Body.same e c.args.self.now.state) c.in-Cut.is) c.plan_own_cut.ensures.added

@@ -1,34 +1,29 @@
-use Rattle.std.proofs.Common.{◌≡◌, ℕ, sym, ◌∙◌}
-use Rattle.std.proofs.lemmas.Result.{on_ok_weaker}
-use Rattle.std.specs.Prelude.{OnOk}
-use Rattle.paxos_planning.specs.Node.{NodeState, Plan}
-use Rattle.paxos_planning.specs.Plan.{begun}
+use Rattle.std.proofs.Common.{ℕ, false, sym, subst}
 use Rattle.paxos_packets.specs.declared.packet.Kind.{Kind}
 use Rattle.paxos_planning.specs.Drafting.{seeing}
-use Rattle.paxos_planning.specs.Replies.{on_packet, round_in}
-use Rattle.paxos_node.proofs.Done.{done_plan}
+use Rattle.paxos_planning.specs.Node.{NodeState, Plan}
+use Rattle.paxos_planning.specs.Plan.{begun}
+use Rattle.paxos_planning.specs.Replies.{round_in}
+use Rattle.paxos_node.specs.Events.{deliver}
+use Rattle.paxos_node.specs.Plans.{Answered}
+use Rattle.paxos_node.proofs.Answering.{is_drafted}
 use Rattle.paxos_node.proofs.node.Node.plan_packet.Goals as goal
 
-pub on_packet-done-requires-clause-role : goal.on_packet-done-requires-clause-role
-on_packet-done-requires-clause-role g c = (λ i. (c.draft-draft.ensures.plan i).node.proposer.role) ∙ (λ i. (sym c.draft-draft.ensures.of i).state.proposer.role)
-
-pub on_packet-done-requires-clause-votes : goal.on_packet-done-requires-clause-votes
-on_packet-done-requires-clause-votes g c = (λ i. (c.draft-draft.ensures.plan i).change.votes)
-
-pub finish-requires-clause-of : goal.finish-requires-clause-of
-finish-requires-clause-of g c = c.on_packet-done.ensures.of ∙ c.draft-draft.ensures.of
-
-pub returns-clause-answered : goal.returns-clause-answered
-returns-clause-answered g c =
+pub returns-in-Snapshot-clause-answered : goal.returns-in-Snapshot-clause-answered
+returns-in-Snapshot-clause-answered g c =
     let me : ℕ = c.args.self.now.me in
     let members : ℕ = c.args.self.now.members in
     let x : NodeState g.row.B.Denot = c.args.self.now.state in
-    let from : ℕ = c.args.packet.now.sender in
-    let kind : Kind g.row.B.Denot = c.args.packet.now.kind in
-    let t : Plan g.row.B.Denot = on_packet g.B.Body.same members me from kind (seeing (round_in kind) (begun x)) in
-    let plan : OnOk c.on_packet-done.result (c.on_packet-done.new.self.plan ≡ t) =
-    on_ok_weaker c.on_packet-done.result
-    (λ p. p
-    ∙ (λ i. on_packet g.B.Body.same (c.draft-draft.ensures.of i).members (c.draft-draft.ensures.of i).me from kind
-    (seeing (round_in kind) (c.draft-draft.ensures.plan i)))) c.on_packet-done.ensures.plan in
-    done_plan me members x c.on_packet-done.new.self.plan t c.on_packet-done.result c.finish.result plan c.finish.ensures.answered c.finish.ensures.memory
+    subst (λ (k : Kind g.row.B.Denot). Answered me members x false false
+    (deliver g.B.Body.same members me c.args.packet.now.sender k (seeing (round_in k) (begun x))) c.plan_snapshot.result) (sym c.in-Snapshot.is)
+    c.plan_snapshot.ensures.answered
+
+pub returns-in_default-clause-answered : goal.returns-in_default-clause-answered
+returns-in_default-clause-answered g c =
+    let me : ℕ = c.args.self.now.me in
+    let members : ℕ = c.args.self.now.members in
+    let x : NodeState g.row.B.Denot = c.args.self.now.state in
+    subst (λ (t : Plan g.row.B.Denot). Answered me members x false false t c.plan_drafted.result)
+    (is_drafted g.B.Body.same members me c.args.packet.now.sender c.args.packet.now.kind (seeing (round_in c.args.packet.now.kind) (begun x))
+    c.in_default.not-Snapshot)
+    c.plan_drafted.ensures.answered
